@@ -1,0 +1,149 @@
+//! Why a call is refused.
+ghost use Rattle.std.specs.Prelude.{◌≡◌};
+ghost use Rattle.ir_types.specs.Refusals.{number_of, word_of};
+
+use std::alloc::{AllocError, AllocFailed};
+use std::fmt;
+
+
+/// Why a call is refused. Every refusal of the workbench has a number and a word.
+#[derive(Clone, Copy, Debug, PartialEq, Eq)]
+pub enum Refusal {
+    /// What stands there begins no token.
+    BadToken = 1,
+    /// A token that does not fit.
+    Unexpected = 2,
+    /// A name that is not bound, or an operand that is not visible.
+    UnknownValue = 3,
+    /// A name that is bound already.
+    Redefined = 4,
+    /// The number or the types of operands or results differ from what is written.
+    TypeMismatch = 5,
+    /// A width outside the integer types.
+    BadWidth = 6,
+    /// A value outside the range of its type.
+    BadValue = 7,
+    /// A second block in a region.
+    MultipleBlocks = 8,
+    /// An operation with successors.
+    Successors = 9,
+    /// A nesting deeper than its limit.
+    TooDeep = 10,
+    /// A count past its limit.
+    TooMany = 11,
+    /// A key twice in one dictionary.
+    DuplicateKey = 12,
+    /// A part of the language that is left out.
+    LeftOut = 13,
+    /// A text that is not UTF-8.
+    NotUtf8 = 14,
+    /// No such operation in the module.
+    NoSuchOp = 20,
+    /// No such value in the module.
+    NoSuchValue = 21,
+    /// A result or argument that is still used.
+    HasUses = 22,
+    /// An operand would not be visible.
+    NotVisible = 23,
+    /// The types of two values differ.
+    TypeDiffers = 24,
+    /// No such operand, region or block, or no such place in it.
+    NoSuchIndex = 25,
+    /// No entry with the key.
+    NoSuchKey = 26,
+    /// An operation would stand within itself.
+    IntoItself = 27,
+    /// An operation would leave its symbol table.
+    OtherTable = 28,
+    /// The root can be neither moved nor removed.
+    IsRoot = 29,
+    /// A block still holds operations.
+    NotEmpty = 30,
+    /// A count of the module would pass its limit.
+    Full = 31,
+    /// No operation id is left.
+    IdsExhausted = 32,
+    /// An operation would stand in too many others.
+    TooDeepHere = 33,
+    /// Too many marks are open.
+    TooManyMarks = 34,
+    /// No mark is open.
+    NoMark = 35,
+    /// Memory was refused.
+    Memory = 36,
+    /// The analysis no longer follows the module.
+    Stale = 40,
+    /// No analysis of the kind is attached.
+    NoSuchKind = 41,
+    /// An analysis of the kind is attached already.
+    KindTaken = 42,
+    /// A limit outside its range.
+    BadLimit = 50,
+    /// An operation that no rule makes legal.
+    NotLegalised = 51,
+    /// A chain of rules past its depth.
+    ChainTooDeep = 52,
+    /// A cast that is left and cannot be lowered.
+    Unreconciled = 53,
+    /// A conversion target that contradicts itself.
+    BadTarget = 54,
+    /// A line that is no command.
+    BadCommand = 60,
+}
+
+impl Refusal {
+    /// The number of the refusal.
+    pub fn number(self) -> u32
+        ensures { result ≡ number_of self }
+    {
+        self as u32
+    }
+
+    /// The word of the refusal.
+    pub fn word(self) -> &'static str
+        ensures { result.now ≡ word_of self }
+    {
+        match self {
+            Refusal::BadToken => "BadToken",
+            Refusal::Unexpected => "Unexpected",
+            Refusal::UnknownValue => "UnknownValue",
+            Refusal::Redefined => "Redefined",
+            Refusal::TypeMismatch => "TypeMismatch",
+            Refusal::BadWidth => "BadWidth",
+            Refusal::BadValue => "BadValue",
+            Refusal::MultipleBlocks => "MultipleBlocks",
+            Refusal::Successors => "Successors",
+            Refusal::TooDeep => "TooDeep",
+            Refusal::TooMany => "TooMany",
+            Refusal::DuplicateKey => "DuplicateKey",
+            Refusal::LeftOut => "LeftOut",
+            Refusal::NotUtf8 => "NotUtf8",
+            Refusal::NoSuchOp => "NoSuchOp",
+            Refusal::NoSuchValue => "NoSuchValue",
+            Refusal::HasUses => "HasUses",
+            Refusal::NotVisible => "NotVisible",
+            Refusal::TypeDiffers => "TypeDiffers",
+            Refusal::NoSuchIndex => "NoSuchIndex",
+            Refusal::NoSuchKey => "NoSuchKey",
+            Refusal::IntoItself => "IntoItself",
+            Refusal::OtherTable => "OtherTable",
+            Refusal::IsRoot => "IsRoot",
+            Refusal::NotEmpty => "NotEmpty",
+            Refusal::Full => "Full",
+            Refusal::IdsExhausted => "IdsExhausted",
+            Refusal::TooDeepHere => "TooDeepHere",
+            Refusal::TooManyMarks => "TooManyMarks",
+            Refusal::NoMark => "NoMark",
+            Refusal::Memory => "Memory",
+            Refusal::Stale => "Stale",
+            Refusal::NoSuchKind => "NoSuchKind",
+            Refusal::KindTaken => "KindTaken",
+            Refusal::BadLimit => "BadLimit",
+            Refusal::NotLegalised => "NotLegalised",
+            Refusal::ChainTooDeep => "ChainTooDeep",
+            Refusal::Unreconciled => "Unreconciled",
+            Refusal::BadTarget => "BadTarget",
+            Refusal::BadCommand => "BadCommand",
+        }
+    }
+}
