@@ -1,1 +1,11 @@
 pub mod Refusals
+pub mod Things
+pub mod Terms
+pub mod Same
+pub mod Depths
+pub mod Ranges
+pub mod Dictionaries
+pub mod Interning
+pub mod Reasons
+pub mod Words
+pub mod Sound

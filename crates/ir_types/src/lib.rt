@@ -2,4 +2,7 @@
 #![tactic(auto)]
 
 pub mod ids;
+pub mod node;
 pub mod refusal;
+
+pub use ir_types_base::lists::Items;

@@ -5,7 +5,6 @@ ghost use Rattle.ir_types.specs.Refusals.{number_of, word_of};
 use std::alloc::{AllocError, AllocFailed};
 use std::fmt;
 
-
 /// Why a call is refused. Every refusal of the workbench has a number and a word.
 #[derive(Clone, Copy, Debug, PartialEq, Eq)]
 pub enum Refusal {

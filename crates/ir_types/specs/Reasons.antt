@@ -1,0 +1,83 @@
+-- Why a thing is refused: the first reason in the order of the numbers, if there is one.
+use Rattle.std.specs.Prelude.{◌≡◌, ℕ, ℤ, Bool, true, false, nat_lt, nat_le, ◌==◌, ◌||◌, ◌&&◌, not, List, map, length, Option, Some, None, Result, Err, IfErr, if◌then◌else◌}
+use Rattle.std.specs.List.{list_any, list_all}
+use Rattle.std.specs.Str.{bytes_eq}
+use Rattle.ir_types.specs.declared.node.TypeNode.{TypeNode}
+use Rattle.ir_types.specs.declared.node.AttrNode.{AttrNode}
+use Rattle.ir_types.specs.declared.node.AttrNode.TheVariants as attr
+use Rattle.ir_types.specs.declared.refusal.Refusal.{Refusal}
+use Rattle.ir_types.specs.declared.refusal.Refusal.TheVariants.{BadWidth, BadValue, TooDeep, TooMany, DuplicateKey, Memory}
+use Rattle.ir_types.specs.Things.{Things}
+use Rattle.ir_types.specs.Terms.{TypeTerm, Integer, Index, Function, Memref, AttrTerm, IntegerOf, DenseArray, type_node_term, attr_node_term}
+use Rattle.ir_types.specs.Depths.{type_depth, attr_depth}
+use Rattle.ir_types.specs.Ranges.{is_value_number}
+use Rattle.ir_types.specs.Same.{same_type, same_attr}
+use Rattle.ir_types.specs.Dictionaries.{kept, has_twin}
+
+-- the first of two reasons
+abbrev pub first_reason : Option Refusal → Option Refusal → Option Refusal
+first_reason None next = next
+first_reason (Some refusal) next = Some refusal
+
+-- a call answers its reason, where there is one; else it is accepted, or memory was refused
+abbrev pub IsRefusedFor : {A : Type 0} → Option Refusal → Result A Refusal → Type 0
+IsRefusedFor (Some refusal) result = result ≡ Err refusal
+IsRefusedFor None result = IfErr result (λ refusal. refusal ≡ Memory)
+
+-- 16,777,216 things are there already, and this one isn't
+abbrev pub full_reason : {A : Type 0} → (A → Bool) → List A → Option Refusal
+full_reason is things = if not (list_any is things) && nat_le 16777216 (length things) then Some TooMany else None
+
+abbrev pub name_reason : List ℕ → Things → Option Refusal
+name_reason bytes c = full_reason (bytes_eq bytes) c.names
+
+-- a width is 1 to 64, and a dimension at most 2^63 - 1
+abbrev pub is_width : ℕ → Bool
+is_width w = nat_lt 0 w && nat_le w 64
+
+abbrev pub is_dimension : Option ℕ → Bool
+is_dimension None = true
+is_dimension (Some size) = nat_le size 9223372036854775807
+
+abbrev pub size_reason : TypeTerm → Option Refusal
+size_reason (Integer sign width) = if is_width width then None else Some BadWidth
+size_reason (Memref dims elem) = if list_all is_dimension dims then None else Some BadValue
+size_reason _ = None
+
+-- no type and no attribute is deeper than 32
+abbrev pub depth_reason : ℕ → Option Refusal
+depth_reason depth = if nat_le depth 32 then None else Some TooDeep
+
+-- why a type is none
+abbrev pub type_fault : TypeTerm → Option Refusal
+type_fault ty = first_reason (size_reason ty) (depth_reason (type_depth ty))
+
+abbrev pub type_reason : TypeNode → Things → Option Refusal
+type_reason node c = first_reason (type_fault (type_node_term c node)) (full_reason (same_type node) c.types)
+
+-- an integer is one of its type's values, as it is printed, and so are the items of a dense array
+abbrev pub value_reason : AttrTerm → Option Refusal
+value_reason (IntegerOf ty value) = if is_value_number ty value then None else Some BadValue
+value_reason (DenseArray elem values) = if list_all (is_value_number elem) values then None else Some BadValue
+value_reason _ = None
+
+-- why an attribute is none
+abbrev pub attr_fault : AttrTerm → Option Refusal
+attr_fault a = first_reason (value_reason a) (depth_reason (attr_depth a))
+
+-- a dictionary has at most 256 entries
+abbrev pub count_reason : AttrNode → Option Refusal
+count_reason (attr.Dict entries) = if nat_le (length entries) 256 then None else Some TooMany
+count_reason _ = None
+
+-- each key once
+abbrev pub key_reason : AttrNode → Option Refusal
+key_reason (attr.Dict entries) = if has_twin (map (λ (e : ℕ × ℕ). e.0) entries) then Some DuplicateKey else None
+key_reason _ = None
+
+abbrev pub attr_reason : AttrNode → Things → Option Refusal
+attr_reason node c =
+    first_reason (attr_fault (attr_node_term c node))
+    (first_reason (count_reason node)
+    (first_reason (full_reason (same_attr (kept c.names node)) c.attrs)
+    (key_reason node)))

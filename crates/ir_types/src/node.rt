@@ -1,0 +1,60 @@
+//! The nodes of types and attributes: what is interned, its parts by their numbers.
+use crate::ids::{AttrId, NameId, TypeId};
+use ir_types_base::lists::Items;
+
+/// The signedness of an integer type.
+#[derive(Clone, Copy, Debug, PartialEq, Eq, Hash)]
+pub enum Sign {
+    /// `iN`.
+    Signless,
+    /// `siN`.
+    Signed,
+    /// `uiN`.
+    Unsigned,
+}
+
+/// A type whose parts are types of the context (Builtin Dialect, "Types").
+#[derive(Debug, Drop, PartialEq, Eq, Hash)]
+pub enum TypeNode {
+    /// An integer type of some bits: `i32`, `si8`, `ui64`.
+    Int {
+        sign: Sign,
+        width: u32,
+    },
+    /// `index`, a signed integer of 64 bits.
+    Index,
+    /// A function type, as `(i32, i32) -> i1`.
+    Func {
+        inputs: Items<TypeId>,
+        outputs: Items<TypeId>,
+    },
+    /// A ranked memref without layout and memory space, as `memref<4x?xi32>`; `None` is `?`.
+    Memref {
+        dims: Items<Option<u64>>,
+        elem: TypeId,
+    },
+}
+
+/// An attribute whose parts are names, types and attributes of the context (Builtin Dialect,
+/// "Attributes").
+#[derive(Debug, Drop, PartialEq, Eq, Hash)]
+pub enum AttrNode {
+    /// An integer of an integer type or index, as it is printed: `-1 : i8`; `true` is -1 of `i1`.
+    Int { ty: TypeId, value: i128 },
+    /// A string.
+    Str(NameId),
+    /// A type.
+    Ty(TypeId),
+    /// `unit`.
+    Unit,
+    /// An array: `[1 : i8, unit]`.
+    Array(Items<AttrId>),
+    /// A dictionary: `{a = 1 : i8, b}`.
+    Dict(Items<(NameId, AttrId)>),
+    /// A symbol reference by its parts: `@a::@b`.
+    Sym(Items<NameId>),
+    /// A dense array of integers: `array<i32: 0, 1>`.
+    Dense { elem: TypeId, values: Items<i64> },
+    /// The flags of an integer operation: `#arith.overflow<nsw, nuw>`.
+    Overflow { nsw: bool, nuw: bool },
+}

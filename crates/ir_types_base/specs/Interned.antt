@@ -1,0 +1,11 @@
+-- What it is to intern a thing by its place in a list.
+use Rattle.std.specs.Prelude.{◌≡◌, ℕ, Bool, List, [], ◌∷◌, ◌++◌, slice_get, Some, if◌then◌else◌}
+use Rattle.std.specs.List.{list_any}
+
+-- the list with the thing last, where nothing in it passes the test
+abbrev pub with_last : {A : Type 0} → (A → Bool) → A → List A → List A
+with_last is thing things = if list_any is things then things else things ++ thing ∷ []
+
+-- no thing stands at two places
+abbrev pub AreApart : {A : Type 0} → List A → Type 0
+AreApart {A} things = (i j : ℕ) (x : A) → slice_get things i ≡ Some x → slice_get things j ≡ Some x → i ≡ j

@@ -1,0 +1,5 @@
+//! A thing is interned by its place in a map that keeps the order of insertion.
+#![tactic(auto)]
+
+pub mod intern;
+pub mod lists;
