@@ -1,6 +1,8 @@
 //! Equal names, types and attributes have equal numbers, and a number gives its thing back for good.
 #![tactic(auto)]
 
+pub mod context;
+mod dictionary;
 pub mod ids;
 pub mod node;
 pub mod refusal;
