@@ -1,1 +1,2 @@
 pub mod SameNodes
+pub mod Building
