@@ -1,2 +1,5 @@
 pub mod SameNodes
 pub mod Building
+pub mod Placing
+pub mod Growth
+pub mod Terms
