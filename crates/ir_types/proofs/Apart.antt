@@ -1,5 +1,5 @@
 -- Things of which no two are one stand at one place each.
-use Rattle.std.proofs.Common.{◌≡◌, ◌≢◌, ◌∙◌, sym, ap, ℕ, ◌<◌, Bool, false, List, [], ◌∷◌, map, slice_get, Some, ⊎_elim, arith}
+use Rattle.std.proofs.Common.{◌≡◌, ◌≢◌, ◌∙◌, sym, ap, subst, ℕ, ◌<◌, Bool, true, false, List, [], ◌∷◌, map, slice_get, Some, ⊎_elim, arith}
 use Rattle.std.specs.Bool.{Decides}
 use Rattle.std.specs.List.{AllPairs, AllByRecursion, IsDistinct}
 use Rattle.std.specs.Str.{bytes_eq}
@@ -33,3 +33,8 @@ module _ {A B : Type 0} (f : A → B) (E : B → B → Bool) where
 -- names by their bytes
 pub bytes_apart : {A : Type 0} (f : A → List ℕ) (xs : List A) → IsDistinct (λ x y. bytes_eq (f x) (f y)) xs → AreApart (map f xs)
 bytes_apart f xs h = apart_from_distinct bytes_eq-Decides (map f xs) (distinct_map f bytes_eq xs h)
+
+-- keys that a derived `==` holds apart, where it is a test that holds of one value alone
+pub apart_by : {A : Type 0} {D E : A → A → Bool} → ((x y : A) → D x y ≡ E x y) → ((x y : A) → E x y ≡ true → x ≡ y) → ((x : A) → E x x ≡ true) → (xs : List A) → IsDistinct D xs → AreApart xs
+apart_by {A} {D} {E} one same self xs h =
+    apart_from_distinct (λ x y. ((λ t. same x y (sym (one x y) ∙ t)), (λ e. one x y ∙ subst (λ z. E x z ≡ true) e (self x)))) xs h

@@ -1,6 +1,7 @@
 //! Equal names, types and attributes have equal numbers, and a number gives its thing back for good.
 #![tactic(auto)]
 
+mod check;
 pub mod context;
 mod dictionary;
 pub mod ids;
