@@ -4,5 +4,7 @@
 pub mod ids;
 pub mod node;
 pub mod refusal;
+pub mod word_laws;
+pub mod words;
 
 pub use ir_types_base::lists::Items;

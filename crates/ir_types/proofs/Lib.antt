@@ -1,0 +1,2 @@
+pub mod WordTables
+pub mod WordNumbers
