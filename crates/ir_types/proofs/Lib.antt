@@ -1,2 +1,3 @@
 pub mod WordTables
 pub mod WordNumbers
+pub mod WordWidths

@@ -8,4 +8,5 @@ pub mod Dictionaries
 pub mod Interning
 pub mod Reasons
 pub mod Words
+pub mod Bits
 pub mod Sound

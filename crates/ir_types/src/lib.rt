@@ -3,6 +3,7 @@
 
 pub mod ids;
 pub mod node;
+pub mod range;
 pub mod refusal;
 pub mod word_laws;
 pub mod words;

@@ -1,7 +1,10 @@
 //! The words that every context holds from the start, at fixed numbers.
 ghost use Rattle.std.specs.Prelude.{◌==◌, ◌≡◌, ◌<◌, length, map, slice_get, Some};
 ghost use Rattle.std.specs.List.{list_any};
-ghost use Rattle.ir_types.specs.Words.{words, row_keys, is_listed_number, is_table_number, is_isolated_number, is_inherent_number};
+ghost use Rattle.ir_types.specs.Things.{Things};
+ghost use Rattle.ir_types.specs.Terms.{name_term};
+ghost use Rattle.ir_types.specs.Sound.{IsSound};
+ghost use Rattle.ir_types.specs.Words.{words, row_keys, is_listed, is_table, is_isolated, is_inherent, is_listed_number, is_table_number, is_isolated_number, is_inherent_number};
 
 use crate::ids::NameId;
 
@@ -91,31 +94,38 @@ fn entry<'a>(table: &[&'a [u8]], index: usize) -> &'a [u8]
 }
 
 /// Whether a number is that of a listed operation's name.
+#[tactic(auto, using(crate::proofs::WordNumbers::listed_is))]
 pub fn listed_number(name: NameId) -> bool
-    ensures { result ≡ is_listed_number name }
+    ensures number { result ≡ is_listed_number name }
+    ensures name { (c : Things) → IsSound c → result ≡ is_listed (name_term c name) }
 {
     name.number() < OPERATIONS
 }
 
 /// Whether a number is that of the name of an operation with a symbol table ("Symbols and Symbol
 /// Tables", "Symbol Table").
+#[tactic(auto, using(crate::proofs::WordNumbers::table_is))]
 pub fn table_number(name: NameId) -> bool
-    ensures { result ≡ is_table_number name }
+    ensures number { result ≡ is_table_number name }
+    ensures name { (c : Things) → IsSound c → result ≡ is_table (name_term c name) }
 {
     name.number() == BUILTIN_MODULE
 }
 
 /// Whether a number is that of the name of an isolated operation ("Traits", "IsolatedFromAbove").
+#[tactic(auto, using(crate::proofs::WordNumbers::isolated_is))]
 pub fn isolated_number(name: NameId) -> bool
-    ensures { result ≡ is_isolated_number name }
+    ensures number { result ≡ is_isolated_number name }
+    ensures name { (c : Things) → IsSound c → result ≡ is_isolated (name_term c name) }
 {
     name.number() == BUILTIN_MODULE || name.number() == FUNC_FUNC
 }
 
 /// Whether a key's number is of the row of an operation's name.
-#[tactic(auto, unfolding(crate::specs::Words::is_inherent_number))]
+#[tactic(auto, using(crate::proofs::WordNumbers::inherent_is, crate::proofs::WordNumbers::no_row), unfolding(crate::specs::Words::is_inherent_number))]
 pub fn inherent_number(op: NameId, key: NameId) -> bool
-    ensures { result ≡ is_inherent_number op key }
+    ensures number { result ≡ is_inherent_number op key }
+    ensures name { (c : Things) → IsSound c → result ≡ is_inherent (name_term c op) (name_term c key) }
 {
     op.number() < OPERATIONS && contains(row(op.number()), key.number())
 }
