@@ -5,3 +5,6 @@ pub mod Building
 pub mod Placing
 pub mod Growth
 pub mod Terms
+pub mod WordTables
+pub mod WordNumbers
+pub mod WordWidths

@@ -6,6 +6,9 @@ pub mod context;
 mod dictionary;
 pub mod ids;
 pub mod node;
+pub mod range;
 pub mod refusal;
+pub mod word_laws;
+pub mod words;
 
 pub use ir_types_base::lists::Items;
