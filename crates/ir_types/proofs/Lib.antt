@@ -8,3 +8,4 @@ pub mod Terms
 pub mod WordTables
 pub mod WordNumbers
 pub mod WordWidths
+pub mod Calls

@@ -60,7 +60,7 @@ impl Context {
         ensures { result ≡ is_scalar (type_term self.now id) }
     {
         self.sound();
-        matches!(self.type_node(id), TypeNode::Int { .. } | TypeNode::Index)
+        is_scalar_node(self.type_node(id))
     }
 
     /// The greatest depth of some types, or 0 where there are none.
@@ -163,6 +163,18 @@ impl Context {
         ensures { result ≡ list_all (is_value_number (type_term self.now ty)) values.now }
     {
         values.iter().all(|value| self.is_value(ty, i128::from(*value)))
+    }
+}
+
+/// Whether a node is that of an integer type or of index.
+fn is_scalar_node(node: &TypeNode) -> bool
+    ensures { (known : List TypeTerm) → result ≡ is_scalar (type_from known node.now) }
+{
+    match node {
+        TypeNode::Int { .. } => true,
+        TypeNode::Index => true,
+        TypeNode::Func { .. } => false,
+        TypeNode::Memref { .. } => false,
     }
 }
 
