@@ -6,6 +6,7 @@ pub mod context;
 mod dictionary;
 pub mod ids;
 pub mod node;
+mod places;
 pub mod range;
 pub mod refusal;
 pub mod word_laws;
