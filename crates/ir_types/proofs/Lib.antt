@@ -3,3 +3,5 @@ pub mod Building
 pub mod Placing
 pub mod Growth
 pub mod Terms
+pub mod Sorting
+pub mod Holding
