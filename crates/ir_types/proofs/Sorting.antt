@@ -75,13 +75,10 @@ pub kept_of : (c : Things) (node : AttrNode) → AttrIsOf c node → AttrIsOf c 
 kept_of c node of_c = kept_parts c.names (length c.names) (length c.types) (length c.attrs) node of_c
 
 -- is as deep
-kept_depth_from : (keys names : List (List ℕ)) (types : List TypeTerm) (known : List AttrTerm) (node : AttrNode) → attr_depth (attr_from names types known (kept keys node)) ≡ attr_depth (attr_from names types known node)
+pub kept_depth_from : (keys names : List (List ℕ)) (types : List TypeTerm) (known : List AttrTerm) (node : AttrNode) → attr_depth (attr_from names types known (kept keys node)) ≡ attr_depth (attr_from names types known node)
 unfolding kept
 kept_depth_from keys names types known (attr.Dict es) = ap (λ n. 1 + n) (deepest_sorted keys names known es)
 kept_depth_from keys names types known _ = refl
-
-pub kept_depth : (c : Things) (node : AttrNode) → attr_depth (attr_node_term c (kept c.names node)) ≡ attr_depth (attr_node_term c node)
-kept_depth c node = kept_depth_from c.names c.names (type_terms c) (attr_terms c) node
 
 -- and has the same faults
 kept_fault_from : (keys names : List (List ℕ)) (types : List TypeTerm) (known : List AttrTerm) (node : AttrNode) → attr_fault (attr_from names types known (kept keys node)) ≡ attr_fault (attr_from names types known node)
