@@ -1,7 +1,8 @@
 pub mod SameNodes
-pub mod Building
-pub mod Placing
+pub mod BuiltLists
+pub mod ListPlaces
 pub mod Growth
 pub mod Terms
-pub mod Sorting
+pub mod KeptOrder
 pub mod Holding
+pub mod CallNumbers
