@@ -71,16 +71,16 @@ holds_push_type node c h of_c fine few =
       few_attrs = h.few_attrs;
       words_first = h.words_first;
       types_refer = λ i n at. ⊎_elim
-      (λ p. h.types_refer i n p)
-      (λ (p : (i ≡ length c.types) × (node ≡ n)). subst (λ m. TypesBelow m n) (sym p.0) (subst (TypesBelow (length c.types)) p.1 of_c))
-      (push_cases c.types node n i at);
+          (λ p. h.types_refer i n p)
+          (λ (p : (i ≡ length c.types) × (node ≡ n)). subst (λ m. TypesBelow m n) (sym p.0) (subst (TypesBelow (length c.types)) p.1 of_c))
+          (push_cases c.types node n i at);
       attrs_refer = λ i n at. parts_below_more (length c.names) (length c.types) i (length c.names) (length d.types) i n (omega arith) longer (omega arith) (h.attrs_refer i n at);
       types_fine = λ i k. ⊎_elim
-      (λ (p : i < length c.types). ap type_fault (type_stays c d i g p) ∙ h.types_fine i p)
-      (λ (p : length c.types ≤ i).
-      let last : i ≡ length (type_terms c) = omega arith in
-      ap type_fault (ap (λ l. get_or l i Index) made ∙ ap (λ n. get_or (type_terms c ++ type_node_term c node ∷ []) n Index) last ∙ get_or-append_seam (type_terms c) (type_node_term c node) [] Index) ∙ fine)
-      (cases_lt i (length c.types));
+          (λ (p : i < length c.types). ap type_fault (type_stays c d i g p) ∙ h.types_fine i p)
+          (λ (p : length c.types ≤ i).
+          let last : i ≡ length (type_terms c) = omega arith in
+          ap type_fault (ap (λ l. get_or l i Index) made ∙ ap (λ n. get_or (type_terms c ++ type_node_term c node ∷ []) n Index) last ∙ get_or-append_seam (type_terms c) (type_node_term c node) [] Index) ∙ fine)
+          (cases_lt i (length c.types));
       attrs_fine = λ i k. ap attr_fault (attr_stays c d i h g k) ∙ h.attrs_fine i k;
       attrs_kept = h.attrs_kept;
     }
@@ -108,20 +108,20 @@ holds_push_attr node c h of_c fine in_order few =
       words_first = h.words_first;
       types_refer = h.types_refer;
       attrs_refer = λ i n at. ⊎_elim
-      (λ p. h.attrs_refer i n p)
-      (λ (p : (i ≡ length c.attrs) × (node ≡ n)). subst (λ m. PartsBelow (length c.names) (length c.types) m n) (sym p.0) (subst (PartsBelow (length c.names) (length c.types) (length c.attrs)) p.1 of_c))
-      (push_cases c.attrs node n i at);
+          (λ p. h.attrs_refer i n p)
+          (λ (p : (i ≡ length c.attrs) × (node ≡ n)). subst (λ m. PartsBelow (length c.names) (length c.types) m n) (sym p.0) (subst (PartsBelow (length c.names) (length c.types) (length c.attrs)) p.1 of_c))
+          (push_cases c.attrs node n i at);
       types_fine = h.types_fine;
       attrs_fine = λ i k. ⊎_elim
-      (λ (p : i < length c.attrs). ap attr_fault (attr_stays c d i h g p) ∙ h.attrs_fine i p)
-      (λ (p : length c.attrs ≤ i).
-      let last : i ≡ length (attr_terms c) = omega arith in
-      ap attr_fault (ap (λ l. get_or l i Flag) made ∙ ap (λ n. get_or (attr_terms c ++ attr_node_term c node ∷ []) n Flag) last ∙ get_or-append_seam (attr_terms c) (attr_node_term c node) [] Flag) ∙ fine)
-      (cases_lt i (length c.attrs));
+          (λ (p : i < length c.attrs). ap attr_fault (attr_stays c d i h g p) ∙ h.attrs_fine i p)
+          (λ (p : length c.attrs ≤ i).
+          let last : i ≡ length (attr_terms c) = omega arith in
+          ap attr_fault (ap (λ l. get_or l i Flag) made ∙ ap (λ n. get_or (attr_terms c ++ attr_node_term c node ∷ []) n Flag) last ∙ get_or-append_seam (attr_terms c) (attr_node_term c node) [] Flag) ∙ fine)
+          (cases_lt i (length c.attrs));
       attrs_kept = λ i n at. ⊎_elim
-      (λ p. h.attrs_kept i n p)
-      (λ (p : (i ≡ length c.attrs) × (node ≡ n)). subst (IsKept c.names) p.1 in_order)
-      (push_cases c.attrs node n i at);
+          (λ p. h.attrs_kept i n p)
+          (λ (p : (i ≡ length c.attrs) × (node ≡ n)). subst (IsKept c.names) p.1 in_order)
+          (push_cases c.attrs node n i at);
     }
 
 pub holds_attr : (node : AttrNode) (c : Things) → Holds c → AttrIsOf c node → attr_fault (attr_node_term c node) ≡ None → IsKept c.names (kept c.names node) → length ((with_attr node c).1).attrs ≤ 16777216 → Holds (with_attr node c).1

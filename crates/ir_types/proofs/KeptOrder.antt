@@ -64,9 +64,10 @@ kept_parts names l m n (attr.Str name) below = below
 kept_parts names l m n (attr.Ty ty) below = below
 kept_parts names l m n attr.Unit below = below
 kept_parts names l m n (attr.Array items) below = below
-kept_parts names l m n (attr.Dict es) below =
-    (All-from_recursion (λ (e : ℕ × ℕ). e.0 < l) (sorted names es) (sorted_all names (λ (e : ℕ × ℕ). e.0 < l) es (recursion_from_All (λ (e : ℕ × ℕ). e.0 < l) es below.0)),
-    All-from_recursion (λ (e : ℕ × ℕ). e.1 < n) (sorted names es) (sorted_all names (λ (e : ℕ × ℕ). e.1 < n) es (recursion_from_All (λ (e : ℕ × ℕ). e.1 < n) es below.1)))
+kept_parts names l m n (attr.Dict es) below = (
+  All-from_recursion (λ (e : ℕ × ℕ). e.0 < l) (sorted names es) (sorted_all names (λ (e : ℕ × ℕ). e.0 < l) es (recursion_from_All (λ (e : ℕ × ℕ). e.0 < l) es below.0)),
+  All-from_recursion (λ (e : ℕ × ℕ). e.1 < n) (sorted names es) (sorted_all names (λ (e : ℕ × ℕ). e.1 < n) es (recursion_from_All (λ (e : ℕ × ℕ). e.1 < n) es below.1)),
+)
 kept_parts names l m n (attr.Sym parts) below = below
 kept_parts names l m n (attr.Dense elem values) below = below
 kept_parts names l m n (attr.Overflow nsw nuw) below = below
@@ -111,9 +112,11 @@ kept_known c n node holds at = kept_same c.names node (holds.attrs_kept n node a
 
 -- more names leave the order
 pub kept_stays : (l m n : ℕ) (vs ws : List (List ℕ)) → Agree [] l ws vs → (node : AttrNode) → PartsBelow l m n node → IsKept vs node → IsKept ws node
-kept_stays l m n vs ws same (attr.Dict es) below h =
-    (h.0, λ i j d k o.
-    let a = same (get_or es i d).0 (below.0 i d (omega arith)) in
-    let b = same (get_or es j d).0 (below.0 j d o) in
-    ap (λ x. is_lt (slice_cmp nat_cmp x (key_bytes ws (get_or es j d)))) a ∙ ap (λ x. is_lt (slice_cmp nat_cmp (key_bytes vs (get_or es i d)) x)) b ∙ h.1 i j d k o)
+kept_stays l m n vs ws same (attr.Dict es) below h = (
+  h.0,
+  λ i j d k o.
+      let a = same (get_or es i d).0 (below.0 i d (omega arith)) in
+      let b = same (get_or es j d).0 (below.0 j d o) in
+      ap (λ x. is_lt (slice_cmp nat_cmp x (key_bytes ws (get_or es j d)))) a ∙ ap (λ x. is_lt (slice_cmp nat_cmp (key_bytes vs (get_or es i d)) x)) b ∙ h.1 i j d k o,
+)
 kept_stays l m n vs ws same _ below h = h

@@ -66,9 +66,10 @@ parts_below_more l m n k o p (attr.Str name) f g h below = omega arith
 parts_below_more l m n k o p (attr.Ty ty) f g h below = omega arith
 parts_below_more l m n k o p attr.Unit f g h below = tt
 parts_below_more l m n k o p (attr.Array items) f g h below = All-weaker (λ a. a < n) (λ a. a < p) (λ a b. omega arith) items below
-parts_below_more l m n k o p (attr.Dict entries) f g h below =
-    (All-weaker (λ (e : ℕ × ℕ). e.0 < l) (λ (e : ℕ × ℕ). e.0 < k) (λ e b. omega arith) entries below.0,
-    All-weaker (λ (e : ℕ × ℕ). e.1 < n) (λ (e : ℕ × ℕ). e.1 < p) (λ e b. omega arith) entries below.1)
+parts_below_more l m n k o p (attr.Dict entries) f g h below = (
+  All-weaker (λ (e : ℕ × ℕ). e.0 < l) (λ (e : ℕ × ℕ). e.0 < k) (λ e b. omega arith) entries below.0,
+  All-weaker (λ (e : ℕ × ℕ). e.1 < n) (λ (e : ℕ × ℕ). e.1 < p) (λ e b. omega arith) entries below.1,
+)
 parts_below_more l m n k o p (attr.Sym parts) f g h below = All-weaker (λ a. a < l) (λ a. a < k) (λ a b. omega arith) parts below
 parts_below_more l m n k o p (attr.Dense elem values) f g h below = omega arith
 parts_below_more l m n k o p (attr.Overflow nsw nuw) f g h below = tt

@@ -9,3 +9,4 @@ pub mod Interning
 pub mod Reasons
 pub mod Words
 pub mod Sound
+pub mod Laws

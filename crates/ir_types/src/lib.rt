@@ -2,6 +2,7 @@
 #![tactic(auto)]
 
 pub mod ids;
+pub mod laws;
 pub mod node;
 pub mod refusal;
 
