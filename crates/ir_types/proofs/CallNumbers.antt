@@ -1,8 +1,8 @@
 -- What the number is that a call answers: it stands for the thing, and is its only one.
 use Rattle.std.specs.Prelude.{ℕ, List, ◌↔◌}
-use Rattle.std.specs.List.{list_any, position_or_len}
+use Rattle.std.specs.List.{position_or_len}
 use Rattle.std.specs.Str.{bytes_eq}
-use Rattle.std.proofs.Common.{◌≡◌, ◌+◌, ◌<◌, ◌≤◌, true, false, [], ◌∷◌, ◌++◌, length, get_or, slice_get, Some, sym, ap, subst, refl, ◌∙◌, ⊎_elim, arith}
+use Rattle.std.proofs.Common.{◌≡◌, [], ◌∷◌, ◌++◌, length, get_or, slice_get, Some, sym, ap, subst, ◌∙◌, ⊎_elim, arith}
 use Rattle.std.proofs.Math.Seq.{get_or-append_seam}
 use Rattle.std.proofs.lemmas.Option.{get_or_from_slice_get}
 use Rattle.ir_types_base.specs.Built.{built}
@@ -11,7 +11,7 @@ use Rattle.ir_types_base.proofs.Placed.{Found, Lacks, where_is, with_last-found,
 use Rattle.ir_types.specs.declared.node.TypeNode.{TypeNode}
 use Rattle.ir_types.specs.declared.node.AttrNode.{AttrNode}
 use Rattle.ir_types.specs.Things.{Things, IsFront, Grows}
-use Rattle.ir_types.specs.Terms.{Index, Flag, name_term, type_at, type_from, type_terms, type_term, type_node_term, attr_from, attr_terms, attr_term, attr_node_term}
+use Rattle.ir_types.specs.Terms.{Index, Flag, name_term, type_from, type_terms, type_term, type_node_term, attr_from, attr_terms, attr_term, attr_node_term}
 use Rattle.ir_types.specs.Same.{same_type, same_attr}
 use Rattle.ir_types.specs.Dictionaries.{kept}
 use Rattle.ir_types.specs.Interning.{with_name, with_type, with_attr}

@@ -2,7 +2,7 @@
 use Rattle.std.specs.Prelude.{ℕ, List, if◌then◌else◌}
 use Rattle.std.specs.List.{list_any}
 use Rattle.std.specs.Str.{bytes_eq}
-use Rattle.std.proofs.Common.{◌≡◌, ◌+◌, ◌<◌, ◌≤◌, true, false, [], ◌∷◌, ◌++◌, map, length, take, get_or, slice_get, Some, None, sym, ap, subst, refl, ◌∙◌, ⊎_elim, length-append, arith}
+use Rattle.std.proofs.Common.{◌≡◌, ◌+◌, ◌<◌, ◌≤◌, true, false, [], ◌∷◌, ◌++◌, map, length, take, get_or, None, sym, ap, subst, refl, ◌∙◌, ⊎_elim, length-append, arith}
 use Rattle.std.proofs.Math.Seq.{get_or-append_seam}
 use Rattle.std.proofs.lemmas.List.{map-append, take-append-le, length-take}
 use Rattle.std.proofs.lemmas.Bool.{cases_lt}
@@ -12,7 +12,7 @@ use Rattle.ir_types_base.proofs.Placed.{with_last-found, with_last-absent}
 use Rattle.ir_types.specs.declared.node.TypeNode.{TypeNode}
 use Rattle.ir_types.specs.declared.node.AttrNode.{AttrNode}
 use Rattle.ir_types.specs.Things.{Things, TypesBelow, PartsBelow, TypeIsOf, AttrIsOf, Grows}
-use Rattle.ir_types.specs.Terms.{Index, Flag, type_from, type_terms, type_term, type_node_term, attr_terms, attr_term, attr_node_term}
+use Rattle.ir_types.specs.Terms.{Index, Flag, type_from, type_terms, type_node_term, attr_terms, attr_node_term}
 use Rattle.ir_types.specs.Depths.{type_depth, attr_depth}
 use Rattle.ir_types.specs.Reasons.{type_fault, attr_fault}
 use Rattle.ir_types.specs.Same.{same_type, same_attr}
@@ -23,8 +23,8 @@ use Rattle.ir_types.specs.Sound.{Holds, IsSound, IsKept}
 use Rattle.ir_types.proofs.BuiltLists.{push_cases}
 use Rattle.ir_types.proofs.SameNodes.{same_type_is, same_type_refl, same_attr_is, same_attr_refl}
 use Rattle.ir_types.proofs.ListPlaces.{with_last-cases, truth, with_last_front, apart_with}
-use Rattle.ir_types.proofs.Growth.{front_refl, front_length, front_agree, name_is, name_refl, name_names, type_types, attr_attrs}
-use Rattle.ir_types.proofs.Terms.{types_below_more, parts_below_more, type_terms_push, attr_terms_push, length-type_terms, length-attr_terms, type_stays, attr_stays, attr_terms_names, attr_terms_types}
+use Rattle.ir_types.proofs.Growth.{front_refl, front_length, front_agree, name_is, name_refl, type_types}
+use Rattle.ir_types.proofs.Terms.{parts_below_more, type_terms_push, attr_terms_push, length-type_terms, length-attr_terms, type_stays, attr_stays, attr_terms_names, attr_terms_types}
 use Rattle.ir_types.proofs.KeptOrder.{kept_of, kept_fault, kept_depth_from, kept_stays}
 
 -- the words are 54

@@ -1,16 +1,16 @@
 -- Dictionaries as they are kept: sorting leaves what they name and how deep they are, and sorted ones as they are.
 use Rattle.std.specs.Prelude.{ℕ, List}
-use Rattle.std.specs.List.{All, AllPairs, AllByRecursion}
+use Rattle.std.specs.List.{AllByRecursion}
 use Rattle.std.specs.Ordering.{is_lt, nat_cmp}
 use Rattle.std.specs.Cmp.Lexicographic.{slice_cmp}
-use Rattle.std.proofs.Common.{◌≡◌, zero, suc, ◌+◌, ◌<◌, ◌≤◌, max, Bool, true, false, [], ◌∷◌, length, get_or, slice_get, Some, None, sym, ap, subst, refl, ◌∙◌, ⊎_elim, arith}
+use Rattle.std.proofs.Common.{◌≡◌, suc, ◌+◌, ◌<◌, max, true, false, [], ◌∷◌, length, get_or, slice_get, Some, ap, refl, ◌∙◌, ⊎_elim, arith}
 use Rattle.std.proofs.lemmas.List.Elements.{recursion_from_All, All-from_recursion}
 use Rattle.ir_types.specs.declared.node.AttrNode.{AttrNode}
 use Rattle.ir_types.specs.declared.node.AttrNode.TheVariants as attr
 use Rattle.ir_types.specs.Things.{Things, PartsBelow, AttrIsOf}
 use Rattle.ir_types.specs.Terms.{TypeTerm, AttrTerm, attr_at, entries_at, attr_from, attr_node_term, type_terms, attr_terms}
 use Rattle.ir_types.specs.Depths.{attr_depth, entries_depth}
-use Rattle.ir_types.specs.Reasons.{attr_fault, first_reason, depth_reason}
+use Rattle.ir_types.specs.Reasons.{attr_fault, depth_reason}
 use Rattle.ir_types.specs.Dictionaries.{key_bytes, comes_before, placed_among, sorted, kept}
 use Rattle.ir_types.specs.Sound.{Holds, IsRising, IsKept}
 use Rattle.ir_types.proofs.BuiltLists.{Agree}

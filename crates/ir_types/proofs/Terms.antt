@@ -1,7 +1,7 @@
 -- What a number stands for stays when the things grow, is what its node is, and is no other number's.
 use Rattle.std.specs.Prelude.{ℕ, List}
 use Rattle.std.specs.List.{AllByRecursion}
-use Rattle.std.proofs.Common.{◌≡◌, ◌+◌, ◌<◌, ◌≤◌, [], ◌∷◌, ◌++◌, map, Some, length, get_or, slice_get, sym, ap, subst, refl, ◌∙◌, arith}
+use Rattle.std.proofs.Common.{◌≡◌, ◌<◌, ◌≤◌, [], ◌∷◌, ◌++◌, map, Some, length, get_or, slice_get, sym, ap, subst, refl, ◌∙◌, arith}
 use Rattle.std.proofs.lemmas.List.Elements.{recursion_from_All, All-weaker}
 use Rattle.std.proofs.lemmas.Option.{slice_get-get_or}
 use Rattle.ir_types_base.specs.Built.{built}
@@ -11,7 +11,7 @@ use Rattle.ir_types.specs.declared.node.TypeNode.TheVariants as type
 use Rattle.ir_types.specs.declared.node.AttrNode.{AttrNode}
 use Rattle.ir_types.specs.declared.node.AttrNode.TheVariants as attr
 use Rattle.ir_types.specs.Things.{Things, IsName, IsType, IsAttr, TypesBelow, PartsBelow, TypeIsOf, AttrIsOf, Grows}
-use Rattle.ir_types.specs.Terms.{TypeTerm, Index, Function, Memref, TypeTerms, next_type, AttrTerm, IntegerOf, String, TypeOf, Flag, Array, Dictionary, Symbol, DenseArray, next_attr, next_entry, name_term, type_at, types_at, type_from, type_terms, type_term, type_node_term, attr_at, attrs_at, entries_at, attr_from, attr_terms, attr_term, attr_node_term}
+use Rattle.ir_types.specs.Terms.{TypeTerm, Index, Function, Memref, next_type, AttrTerm, IntegerOf, String, TypeOf, Flag, Array, Dictionary, Symbol, DenseArray, next_attr, next_entry, name_term, type_at, types_at, type_from, type_terms, type_term, type_node_term, attr_at, attrs_at, entries_at, attr_from, attr_terms, attr_term, attr_node_term}
 use Rattle.ir_types.specs.Interning.{with_name, with_type}
 use Rattle.ir_types.specs.Sound.{Holds, IsSound}
 use Rattle.ir_types.proofs.BuiltLists.{Agree, AreTold, built-push, built_agree, built_same, built_is, built_told, length-built}

@@ -6,7 +6,7 @@ use Rattle.ir_types.specs.Things.{Things, IsName, IsType, IsAttr, TypeIsOf, Attr
 use Rattle.ir_types.specs.Terms.{name_term, type_term, type_node_term, attr_term, attr_node_term}
 use Rattle.ir_types.specs.Dictionaries.{kept}
 use Rattle.ir_types.specs.Interning.{with_name, with_type, with_attr}
-use Rattle.ir_types.specs.Sound.{Holds, IsSound}
+use Rattle.ir_types.specs.Sound.{IsSound}
 
 -- a number of c stands in d for what it stands for in c
 abbrev pub NameStays : Things → Things → Type 0
