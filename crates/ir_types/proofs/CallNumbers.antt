@@ -17,8 +17,8 @@ use Rattle.ir_types.specs.Dictionaries.{kept}
 use Rattle.ir_types.specs.Interning.{with_name, with_type, with_attr}
 use Rattle.ir_types.specs.Sound.{Holds, IsSound}
 use Rattle.ir_types.proofs.SameNodes.{same_type_is, same_type_refl, same_attr_is, same_attr_refl}
-use Rattle.ir_types.proofs.BuiltLists.{place_stays}
-use Rattle.ir_types.proofs.ListPlaces.{stands, known_stays, known_place}
+use Rattle.ir_types.proofs.Building.{place_stays}
+use Rattle.ir_types.proofs.Placing.{stands, known_stays, known_place}
 use Rattle.ir_types.proofs.Growth.{name_is, name_refl}
 use Rattle.ir_types.proofs.Terms.{type_terms_push, attr_terms_push, length-type_terms, length-attr_terms, type_term_is, attr_term_is}
 use Rattle.ir_types.proofs.KeptOrder.{kept_known}

@@ -11,8 +11,8 @@ use Rattle.ir_types.specs.Things.{Things, IsFront, Grows}
 use Rattle.ir_types.specs.Same.{same_type, same_attr}
 use Rattle.ir_types.specs.Dictionaries.{kept}
 use Rattle.ir_types.specs.Interning.{with_name, with_type, with_attr}
-use Rattle.ir_types.proofs.BuiltLists.{Agree, agree_longer}
-use Rattle.ir_types.proofs.ListPlaces.{with_last_front}
+use Rattle.ir_types.proofs.Building.{Agree, agree_longer}
+use Rattle.ir_types.proofs.Placing.{with_last_front}
 
 -- names are the same where their bytes are
 pub name_is : (x y : List ℕ) → bytes_eq x y ≡ true → x ≡ y

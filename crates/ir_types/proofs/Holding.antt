@@ -20,9 +20,9 @@ use Rattle.ir_types.specs.Dictionaries.{kept}
 use Rattle.ir_types.specs.Interning.{with_name, with_type, with_attr}
 use Rattle.ir_types.specs.Words.{operations, keys, visibilities, words}
 use Rattle.ir_types.specs.Sound.{Holds, IsSound, IsKept}
-use Rattle.ir_types.proofs.BuiltLists.{push_cases}
+use Rattle.ir_types.proofs.Building.{push_cases}
 use Rattle.ir_types.proofs.SameNodes.{same_type_is, same_type_refl, same_attr_is, same_attr_refl}
-use Rattle.ir_types.proofs.ListPlaces.{with_last-cases, truth, with_last_front, apart_with}
+use Rattle.ir_types.proofs.Placing.{with_last-cases, truth, with_last_front, apart_with}
 use Rattle.ir_types.proofs.Growth.{front_refl, front_length, front_agree, name_is, name_refl, type_types}
 use Rattle.ir_types.proofs.Terms.{parts_below_more, type_terms_push, attr_terms_push, length-type_terms, length-attr_terms, type_stays, attr_stays, attr_terms_names, attr_terms_types}
 use Rattle.ir_types.proofs.KeptOrder.{kept_of, kept_fault, kept_depth_from, kept_stays}

@@ -13,8 +13,8 @@ use Rattle.ir_types.specs.Depths.{attr_depth, entries_depth}
 use Rattle.ir_types.specs.Reasons.{attr_fault, depth_reason}
 use Rattle.ir_types.specs.Dictionaries.{key_bytes, comes_before, placed_among, sorted, kept}
 use Rattle.ir_types.specs.Sound.{Holds, IsRising, IsKept}
-use Rattle.ir_types.proofs.BuiltLists.{Agree}
-use Rattle.ir_types.proofs.ListPlaces.{truth}
+use Rattle.ir_types.proofs.Building.{Agree}
+use Rattle.ir_types.proofs.Placing.{truth}
 
 -- what is true of each entry stays so
 module _ (names : List (List ℕ)) (P : ℕ × ℕ → Type 0) where

@@ -1,6 +1,6 @@
 pub mod SameNodes
-pub mod BuiltLists
-pub mod ListPlaces
+pub mod Building
+pub mod Placing
 pub mod Growth
 pub mod Terms
 pub mod KeptOrder

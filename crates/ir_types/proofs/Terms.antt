@@ -14,7 +14,7 @@ use Rattle.ir_types.specs.Things.{Things, IsName, IsType, IsAttr, TypesBelow, Pa
 use Rattle.ir_types.specs.Terms.{TypeTerm, Index, Function, Memref, next_type, AttrTerm, IntegerOf, String, TypeOf, Flag, Array, Dictionary, Symbol, DenseArray, next_attr, next_entry, name_term, type_at, types_at, type_from, type_terms, type_term, type_node_term, attr_at, attrs_at, entries_at, attr_from, attr_terms, attr_term, attr_node_term}
 use Rattle.ir_types.specs.Interning.{with_name, with_type}
 use Rattle.ir_types.specs.Sound.{Holds, IsSound}
-use Rattle.ir_types.proofs.BuiltLists.{Agree, AreTold, built-push, built_agree, built_same, built_is, built_told, length-built}
+use Rattle.ir_types.proofs.Building.{Agree, AreTold, built-push, built_agree, built_same, built_is, built_told, length-built}
 use Rattle.ir_types.proofs.Growth.{front_agree, grows_name, grows_type, name_attrs, type_attrs}
 
 -- a node means the same where the lists agree on what it names

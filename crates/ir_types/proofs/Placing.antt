@@ -5,7 +5,7 @@ use Rattle.std.proofs.lemmas.List.{append-nil}
 use Rattle.ir_types_base.specs.Interned.{with_last, AreApart}
 use Rattle.ir_types_base.proofs.Placed.{Found, Lacks, where_is, with_last-found, with_last-absent}
 use Rattle.ir_types.specs.Things.{IsFront}
-use Rattle.ir_types.proofs.BuiltLists.{push_cases, nothing_at, last_place}
+use Rattle.ir_types.proofs.Building.{push_cases, nothing_at, last_place}
 
 -- a truth value is one or the other
 pub truth : (t : Bool) → (t ≡ true) ⊎ (t ≡ false)
