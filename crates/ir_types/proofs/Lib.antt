@@ -1,3 +1,5 @@
+pub mod Apart
+pub mod Sorting
 pub mod SameNodes
 pub mod Building
 pub mod Placing
@@ -6,3 +8,7 @@ pub mod Terms
 pub mod KeptOrder
 pub mod Holding
 pub mod CallNumbers
+pub mod WordTables
+pub mod WordNumbers
+pub mod WordWidths
+pub mod Calls

@@ -8,5 +8,7 @@ pub mod Dictionaries
 pub mod Interning
 pub mod Reasons
 pub mod Words
+pub mod Bits
 pub mod Sound
+pub mod Held
 pub mod Laws

@@ -1,5 +1,5 @@
 -- The words that every context holds from the start, at fixed numbers, and the table of listed operations.
-use Rattle.std.specs.Prelude.{ℕ, List, [], ◌∷◌, ◌++◌, codes, map, Bool, ◌||◌}
+use Rattle.std.specs.Prelude.{ℕ, List, [], ◌∷◌, ◌++◌, codes, map, Bool, ◌||◌, ◌&&◌, ◌==◌, nat_lt, slice_index_or}
 use Rattle.std.specs.List.{list_any}
 use Rattle.std.specs.Str.{bytes_eq}
 
@@ -71,3 +71,76 @@ visibilities = codes "public" ∷ codes "private" ∷ codes "nested" ∷ []
 -- the words: the operations, then the keys, then the visibilities
 unfoldable pub words : List (List ℕ)
 words = map (λ (row : List ℕ × List (List ℕ)). row.0) operations ++ keys ++ visibilities
+
+-- whether the bytes are the name of a listed operation
+unfoldable pub is_listed : List ℕ → Bool
+is_listed op = list_any (λ (row : List ℕ × List (List ℕ)). bytes_eq op row.0) operations
+
+-- of one that is a symbol table
+unfoldable pub is_table : List ℕ → Bool
+is_table op = bytes_eq op (codes "builtin.module")
+
+-- of one that is isolated from above
+unfoldable pub is_isolated : List ℕ → Bool
+is_isolated op = bytes_eq op (codes "builtin.module") || bytes_eq op (codes "func.func")
+
+-- whether a key is one of a listed operation's properties
+unfoldable pub is_inherent : List ℕ → List ℕ → Bool
+is_inherent op key = list_any (λ (row : List ℕ × List (List ℕ)). bytes_eq op row.0 && list_any (bytes_eq key) row.1) operations
+
+-- the keys of each listed operation's properties, by their numbers among the words
+unfoldable pub row_keys : List (List ℕ)
+row_keys =
+    (39 ∷ 40 ∷ [])
+    ∷ []
+    ∷ (41 ∷ 39 ∷ 40 ∷ 42 ∷ 43 ∷ [])
+    ∷ (44 ∷ 42 ∷ 43 ∷ [])
+    ∷ []
+    ∷ (45 ∷ [])
+    ∷ (46 ∷ [])
+    ∷ (46 ∷ [])
+    ∷ (46 ∷ [])
+    ∷ (46 ∷ [])
+    ∷ []
+    ∷ []
+    ∷ []
+    ∷ []
+    ∷ []
+    ∷ []
+    ∷ []
+    ∷ []
+    ∷ []
+    ∷ []
+    ∷ []
+    ∷ []
+    ∷ []
+    ∷ (47 ∷ [])
+    ∷ []
+    ∷ []
+    ∷ []
+    ∷ (46 ∷ [])
+    ∷ []
+    ∷ []
+    ∷ []
+    ∷ []
+    ∷ []
+    ∷ []
+    ∷ []
+    ∷ (48 ∷ 49 ∷ [])
+    ∷ []
+    ∷ (50 ∷ 49 ∷ [])
+    ∷ (50 ∷ 49 ∷ [])
+    ∷ []
+
+-- the same three by the number of an operation's name, and of a key
+abbrev pub is_listed_number : ℕ → Bool
+is_listed_number op = nat_lt op 39
+
+abbrev pub is_table_number : ℕ → Bool
+is_table_number op = op == 0
+
+abbrev pub is_isolated_number : ℕ → Bool
+is_isolated_number op = (op == 0) || (op == 2)
+
+unfoldable pub is_inherent_number : ℕ → ℕ → Bool
+is_inherent_number op key = list_any (λ k. k == key) (slice_index_or row_keys op [])

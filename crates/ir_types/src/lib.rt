@@ -1,9 +1,15 @@
 //! Equal names, types and attributes have equal numbers, and a number gives its thing back for good.
 #![tactic(auto)]
 
+mod check;
+pub mod context;
+mod dictionary;
 pub mod ids;
 pub mod laws;
 pub mod node;
+pub mod range;
 pub mod refusal;
+pub mod word_laws;
+pub mod words;
 
 pub use ir_types_base::lists::Items;

@@ -2,7 +2,9 @@
 ghost use Rattle.std.specs.Prelude.{◌≡◌};
 ghost use Rattle.ir_types.specs.Refusals.{number_of, word_of};
 
+use ir_types_base::intern::InternFault;
 use std::alloc::{AllocError, AllocFailed};
+use std::error::Error;
 use std::fmt;
 
 /// Why a call is refused. Every refusal of the workbench has a number and a word.
@@ -144,5 +146,56 @@ impl Refusal {
             Refusal::BadTarget => "BadTarget",
             Refusal::BadCommand => "BadCommand",
         }
+    }
+}
+
+impl fmt::Display for Refusal {
+    ghost use Rattle.std.specs.Prelude.{Some};
+    ghost use Rattle.ir_types.specs.Refusals.{text_of};
+
+    ghost output = { λ refusal. Some (text_of refusal) };
+
+    fn fmt<W: fmt::Write>(&self, f: &mut fmt::Formatter<W>) -> fmt::Result {
+        let number = self.number();
+        let word = self.word();
+        write!(f, "{number} {word}")
+    }
+}
+
+impl Error for Refusal {}
+
+impl From<InternFault> for Refusal {
+    ghost use Rattle.std.specs.Prelude.{◌≡◌};
+    ghost use Rattle.ir_types.specs.Refusals.{not_interned};
+
+    ghost from_gives = { λ fault refusal. refusal ≡ not_interned fault };
+
+    fn from(fault: InternFault) -> Refusal {
+        match fault {
+            InternFault::TooMany => Refusal::TooMany,
+            InternFault::Memory => Refusal::Memory,
+        }
+    }
+}
+
+impl From<AllocError> for Refusal {
+    ghost use Rattle.std.specs.Prelude.{◌≡◌};
+    ghost use Rattle.ir_types.specs.declared.refusal.Refusal.TheVariants.{Memory};
+
+    ghost from_gives = { λ _ refusal. refusal ≡ Memory };
+
+    fn from(_error: AllocError) -> Refusal {
+        Refusal::Memory
+    }
+}
+
+impl<T: Drop> From<AllocFailed<T>> for Refusal {
+    ghost use Rattle.std.specs.Prelude.{◌≡◌};
+    ghost use Rattle.ir_types.specs.declared.refusal.Refusal.TheVariants.{Memory};
+
+    ghost from_gives = { λ _ refusal. refusal ≡ Memory };
+
+    fn from(_error: AllocFailed<T>) -> Refusal {
+        Refusal::Memory
     }
 }

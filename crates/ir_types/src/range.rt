@@ -1,0 +1,107 @@
+//! Which whole numbers a type has.
+ghost use Rattle.std.specs.Prelude.{◌≡◌, ◌^◌, ◌-◌, ◌≤◌, List};
+ghost use Rattle.ir_types.specs.Terms.{TypeTerm, Integer, type_from};
+ghost use Rattle.ir_types.specs.Ranges.{is_literal_number, is_value_number, is_signed, is_unsigned};
+ghost use Rattle.ir_types.specs.Ranges as ranges;
+ghost use Rattle.ir_types.specs.Bits.{HasWidth};
+
+use crate::node::{Sign, TypeNode};
+
+/// Whether a whole number is a literal of a type: an integer of a signless type may be written as
+/// signed or as unsigned (Builtin Dialect, "IntegerAttr").
+pub fn is_literal(node: &TypeNode, value: i128) -> bool
+    requires { HasWidth node.now }
+    ensures { (known : List TypeTerm) → result ≡ is_literal_number (type_from known node.now) value }
+{
+    match node {
+        TypeNode::Int { sign, width } => {
+            is_literal_of_width(*sign, *width, value < 0, value.unsigned_abs())
+        }
+        TypeNode::Index => is_signed(INDEX_WIDTH, value < 0, value.unsigned_abs()),
+        TypeNode::Func { .. } => false,
+        TypeNode::Memref { .. } => false,
+    }
+}
+
+/// Whether a whole number is a value of a type as it is printed: a signless integer is signed.
+pub fn is_value(node: &TypeNode, value: i128) -> bool
+    requires { HasWidth node.now }
+    ensures { (known : List TypeTerm) → result ≡ is_value_number (type_from known node.now) value }
+{
+    match node {
+        TypeNode::Int { sign, width } => {
+            is_value_of_width(*sign, *width, value < 0, value.unsigned_abs())
+        }
+        TypeNode::Index => is_signed(INDEX_WIDTH, value < 0, value.unsigned_abs()),
+        TypeNode::Func { .. } => false,
+        TypeNode::Memref { .. } => false,
+    }
+}
+
+/// How many bits an index has.
+const INDEX_WIDTH: u32 = 64;
+
+fn is_literal_of_width(sign: Sign, width: u32, negative: bool, magnitude: u128) -> bool
+    requires low { 1 ≤ width }
+    requires high { width ≤ 128 }
+    ensures { result ≡ ranges.is_literal (Integer sign width) negative magnitude }
+{
+    match sign {
+        Sign::Signless => {
+            if negative {
+                is_signed(width, negative, magnitude)
+            } else {
+                is_unsigned(width, negative, magnitude)
+            }
+        }
+        Sign::Signed => is_signed(width, negative, magnitude),
+        Sign::Unsigned => is_unsigned(width, negative, magnitude),
+    }
+}
+
+fn is_value_of_width(sign: Sign, width: u32, negative: bool, magnitude: u128) -> bool
+    requires low { 1 ≤ width }
+    requires high { width ≤ 128 }
+    ensures { result ≡ ranges.is_value (Integer sign width) negative magnitude }
+{
+    match sign {
+        Sign::Signless => is_signed(width, negative, magnitude),
+        Sign::Signed => is_signed(width, negative, magnitude),
+        Sign::Unsigned => is_unsigned(width, negative, magnitude),
+    }
+}
+
+/// Whether a sign and a magnitude are those of a signed integer of some bits.
+fn is_signed(width: u32, negative: bool, magnitude: u128) -> bool
+    requires low { 1 ≤ width }
+    requires high { width ≤ 128 }
+    ensures { result ≡ ranges.is_signed width negative magnitude }
+{
+    if negative {
+        magnitude <= half(width)
+    } else {
+        magnitude < half(width)
+    }
+}
+
+/// Whether a sign and a magnitude are those of an unsigned integer of some bits.
+fn is_unsigned(width: u32, negative: bool, magnitude: u128) -> bool
+    requires low { 1 ≤ width }
+    requires high { width ≤ 128 }
+    ensures { result ≡ ranges.is_unsigned width negative magnitude }
+{
+    if negative {
+        magnitude == 0
+    } else {
+        magnitude < half(width) || magnitude - half(width) < half(width)
+    }
+}
+
+/// Half the number of a width's values.
+fn half(width: u32) -> u128
+    requires low { 1 ≤ width }
+    requires high { width ≤ 128 }
+    ensures { result ≡ 2 ^ (width - 1) }
+{
+    1 << (width - 1)
+}
