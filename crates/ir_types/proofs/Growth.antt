@@ -1,9 +1,8 @@
 -- Things that grow: each call leaves what was there, with at most one thing more.
 use Rattle.std.specs.Prelude.{ℕ, List}
-use Rattle.std.specs.List.{list_any, position_or_len}
 use Rattle.std.specs.Str.{bytes_eq}
 use Rattle.std.specs.Cmp.Lexicographic.{bytes_decides}
-use Rattle.std.proofs.Common.{◌≡◌, ◌+◌, ◌<◌, ◌≤◌, true, [], ◌∷◌, ◌++◌, length, get_or, sym, ap, refl, ◌∙◌, length-append, append_assoc, arith}
+use Rattle.std.proofs.Common.{◌≡◌, ◌≤◌, true, [], ◌++◌, length, get_or, sym, ap, refl, ◌∙◌, length-append, append_assoc, arith}
 use Rattle.std.proofs.lemmas.List.{append-nil}
 use Rattle.ir_types_base.specs.Interned.{with_last}
 use Rattle.ir_types.specs.declared.node.TypeNode.{TypeNode}

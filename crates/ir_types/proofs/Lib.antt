@@ -5,6 +5,9 @@ pub mod Building
 pub mod Placing
 pub mod Growth
 pub mod Terms
+pub mod KeptOrder
+pub mod Holding
+pub mod CallNumbers
 pub mod WordTables
 pub mod WordNumbers
 pub mod WordWidths

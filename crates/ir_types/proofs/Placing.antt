@@ -1,12 +1,11 @@
 -- A thing in the list that has it for certain.
 use Rattle.std.specs.List.{list_any, position_or_len}
-use Rattle.std.proofs.Common.{◌≡◌, ℕ, zero, suc, ◌+◌, ◌<◌, ◌≤◌, Bool, true, false, true≢false, List, [], ◌∷◌, ◌++◌, Some, length, slice_get, sym, ap, subst, refl, ◌∙◌, ◌⊎◌, inl, inr, ⊎_elim, length-append, arith}
+use Rattle.std.proofs.Common.{◌≡◌, ℕ, zero, suc, ◌+◌, ◌≤◌, Bool, true, false, true≢false, List, [], ◌∷◌, ◌++◌, Some, length, slice_get, sym, ap, subst, refl, ◌∙◌, ◌⊎◌, inl, inr, ⊎_elim, length-append, arith}
 use Rattle.std.proofs.lemmas.List.{append-nil}
-use Rattle.std.proofs.lemmas.Option.{slice_get_within}
 use Rattle.ir_types_base.specs.Interned.{with_last, AreApart}
 use Rattle.ir_types_base.proofs.Placed.{Found, Lacks, where_is, with_last-found, with_last-absent}
 use Rattle.ir_types.specs.Things.{IsFront}
-use Rattle.ir_types.proofs.Building.{push_cases, nothing_at, place_stays, last_place}
+use Rattle.ir_types.proofs.Building.{push_cases, nothing_at, last_place}
 
 -- a truth value is one or the other
 pub truth : (t : Bool) → (t ≡ true) ⊎ (t ≡ false)

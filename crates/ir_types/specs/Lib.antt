@@ -11,3 +11,4 @@ pub mod Words
 pub mod Bits
 pub mod Sound
 pub mod Held
+pub mod Laws

@@ -5,6 +5,7 @@ mod check;
 pub mod context;
 mod dictionary;
 pub mod ids;
+pub mod laws;
 pub mod node;
 mod places;
 pub mod range;
