@@ -167,3 +167,19 @@ module _ {V : Type 0} (f : V → List ℕ) (bytes : List ℕ) where
       let h = names_absent ks none in
       let any : list_any (λ v. bytes_eq (f key) (f v)) ks ≡ false = ap (λ b. list_any (λ v. bytes_eq b (f v)) ks) same ∙ sym (any_map ks) ∙ h.0 in
       rw (with_last-absent (bytes_eq bytes) bytes (map f ks) h.0) (ap (map f) (e ∙ rw any refl) ∙ map-append f ks (key ∷ []) ∙ ap (λ b. map f ks ++ b ∷ []) same)
+
+-- what a value says that was checked
+pub checked_ok : {A : Type 0} (reason : Option Refusal) (x y : A) → Ok y ≡ checked reason x → (reason ≡ None) × (y ≡ x)
+checked_ok None x y e = (refl, cc)
+checked_ok (Some refusal) x y e = absurd cc
+
+pub checked_err : {A : Type 0} (reason : Option Refusal) (x : A) (refusal : Refusal) → Err refusal ≡ checked reason x → reason ≡ Some refusal
+checked_err None x refusal e = absurd cc
+checked_err (Some other) x refusal e = let h : refusal ≡ other = cc in ap Some (sym h)
+
+-- the first of several reasons
+pub first_is : (a b : Option Refusal) (refusal : Refusal) → a ≡ Some refusal → first_reason a b ≡ Some refusal
+first_is a b refusal e = rw e refl
+
+pub first_passes : (a b : Option Refusal) → a ≡ None → first_reason a b ≡ b
+first_passes a b e = rw e refl

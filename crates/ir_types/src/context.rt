@@ -103,10 +103,11 @@ impl Context {
         ensures refused { IsRefusedFor (name_reason bytes.now self.old) result }
         ensures err { OnErr result (self.new ≡ self.old) }
     {
-        match intern_name(&mut self.names, self.alloc, bytes) {
-            Ok(place) => Ok(NameId::new(place)),
-            Err(refusal) => Err(refusal),
-        }
+        let place = match intern_name(&mut self.names, self.alloc, bytes) {
+            Ok(place) => place,
+            Err(refusal) => return Err(refusal),
+        };
+        Ok(NameId::new(place))
     }
 
     /// The number of a type whose parts are types of this context.
@@ -125,10 +126,11 @@ impl Context {
             Ok(depth) => depth,
             Err(refusal) => return Err(refusal),
         };
-        match intern_type(&mut self.types, node, depth) {
-            Ok(place) => Ok(TypeId::new(place)),
-            Err(refusal) => Err(refusal),
-        }
+        let place = match intern_type(&mut self.types, node, depth) {
+            Ok(place) => place,
+            Err(refusal) => return Err(refusal),
+        };
+        Ok(TypeId::new(place))
     }
 
     /// The number of an attribute whose parts are names, types and attributes of this context.
@@ -151,10 +153,11 @@ impl Context {
             Ok(kept) => kept,
             Err(refusal) => return Err(refusal),
         };
-        match intern_attr(&mut self.attrs, kept, depth) {
-            Ok(place) => Ok(AttrId::new(place)),
-            Err(refusal) => Err(refusal),
-        }
+        let place = match intern_attr(&mut self.attrs, kept, depth) {
+            Ok(place) => place,
+            Err(refusal) => return Err(refusal),
+        };
+        Ok(AttrId::new(place))
     }
 
     /// A node as it is kept: a dictionary is sorted. No memory.
