@@ -14,8 +14,9 @@ use Rattle.std.specs.Cmp.{IsTotalOrder, both_ways}
 use Rattle.std.specs.Cmp.Lexicographic.{slice_cmp}
 use Rattle.std.proofs.lemmas.Cmp.{nat_list_cmp_total}
 use Rattle.std.proofs.lemmas.List.Elements.{recursion_from_All, All-from_recursion}
-use Rattle.std.proofs.lemmas.List.Sorted.{Contains-permutation, IsPermutation-sym, IsPermutation-map, All-permutation}
-use Rattle.std.proofs.lemmas.Map.Keys.{IsDistinct-IsPermutation}
+use Rattle.std.proofs.lemmas.List.Sorted.{Contains-permutation, IsPermutation-refl, IsPermutation-trans, IsPermutation-swap, IsPermutation-cons, IsPermutation-sym, IsPermutation-map, All-permutation}
+use Rattle.std.proofs.lemmas.Map.Keys.{IsDistinct-IsPermutation, IsDistinct-from_apart}
+use Rattle.std.proofs.lemmas.List.{length-map, get_or-map}
 use Rattle.std.proofs.lemmas.List.Kept.{AllPairs-cons}
 use Rattle.ir_types_base.specs.Interned.{AreApart}
 use Rattle.ir_types.specs.Sound.{IsRising}
@@ -309,3 +310,36 @@ rising_pairs names (e ∷ es) rise =
     AllPairs-cons (λ a b. comes_before names a b ≡ true) e es
     (All-from_recursion (λ f. comes_before names e f ≡ true) es (all_map (λ f. order (key_bytes names e) (key_bytes names f) ≡ Less) (λ f. comes_before names e f ≡ true) (λ f h. ap is_lt h) es rise.0))
     (rising_pairs names es rise.1)
+
+-- sorted entries are the given ones in another order
+placed_moves : (names : List (List ℕ)) (e : Entry) (fs : List Entry) → IsPermutation (e ∷ fs) (placed_among names e fs)
+placed_moves names e [] = IsPermutation-refl (e ∷ [])
+placed_moves names e (f ∷ fs) = go (comes_before names e f) refl (placed_moves names e fs)
+  where
+    go : (b : Bool) → comes_before names e f ≡ b → IsPermutation (e ∷ fs) (placed_among names e fs) → IsPermutation (e ∷ f ∷ fs) (placed_among names e (f ∷ fs))
+    go true h rest = rw h (IsPermutation-refl (e ∷ f ∷ fs))
+    go false h rest = rw h (IsPermutation-trans (e ∷ f ∷ fs) (f ∷ e ∷ fs) (f ∷ placed_among names e fs) (IsPermutation-swap (e ∷ f ∷ fs) (f ∷ e ∷ fs) 0 1 (omega arith) (omega arith) refl) (IsPermutation-cons f (e ∷ fs) (placed_among names e fs) rest))
+
+pub sorted_moves : (names : List (List ℕ)) (es : List Entry) → IsPermutation es (sorted names es)
+sorted_moves names [] = IsPermutation-refl []
+sorted_moves names (e ∷ es) = IsPermutation-trans (e ∷ es) (e ∷ sorted names es) (sorted names (e ∷ es)) (IsPermutation-cons e es (sorted names es) (sorted_moves names es)) (placed_moves names e (sorted names es))
+
+-- entries whose keys' bytes rise have no twin
+pub rising_twinless : (names : List (List ℕ)) (es : List Entry) → IsRising names es → has_twin (keys_of_entries es) ≡ false
+rising_twinless names es rise = no_twins (keys_of_entries es) (IsDistinct-from_apart nat_eq (keys_of_entries es) differ)
+  where
+    differ : (i j d : ℕ) → i < j → j < length (keys_of_entries es) → nat_eq (get_or (keys_of_entries es) i d) (get_or (keys_of_entries es) j d) ≡ false
+    differ i j d h k = go (nat_eq (get_or (keys_of_entries es) i d) (get_or (keys_of_entries es) j d)) refl
+      where
+        within : j < length es
+        within = omega (arith, k, length-map es (λ (e : Entry). e.0))
+
+        at : (n : ℕ) → n < length es → get_or (keys_of_entries es) n d ≡ (get_or es n (d, d)).0
+        at n l = get_or-map (λ (e : Entry). e.0) es n (d, d) d l
+
+        go : (b : Bool) → nat_eq (get_or (keys_of_entries es) i d) (get_or (keys_of_entries es) j d) ≡ b → nat_eq (get_or (keys_of_entries es) i d) (get_or (keys_of_entries es) j d) ≡ false
+        go false p = p
+        go true p =
+            let one : (get_or es i (d, d)).0 ≡ (get_or es j (d, d)).0 = sym (at i (omega (arith, h, within))) ∙ eqb-true _ _ p ∙ at j within in
+            let less : is_lt (order (slice_index_or names ((get_or es i (d, d)).0) []) (slice_index_or names ((get_or es j (d, d)).0) [])) ≡ true = rise i j (d, d) h within in
+            absurd (true≢false (sym less ∙ ap is_lt (equal_order _ _ (ap (λ n. slice_index_or names n []) one))))
