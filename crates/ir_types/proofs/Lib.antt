@@ -1,3 +1,4 @@
 pub mod WordTables
 pub mod WordNumbers
 pub mod WordWidths
+pub mod WordReadings

@@ -1,6 +1,7 @@
 //! Equal names, types and attributes have equal numbers, and a number gives its thing back for good.
 #![tactic(auto)]
 
+pub mod bits;
 pub mod ids;
 pub mod node;
 pub mod range;
