@@ -5,6 +5,8 @@ pub mod bits;
 pub mod ids;
 pub mod node;
 pub mod range;
+#[cfg(test)]
+mod range_tests;
 pub mod refusal;
 pub mod word_laws;
 pub mod words;
