@@ -5,6 +5,9 @@ use Rattle.ir_types.specs.declared.node.TypeNode.{TypeNode}
 use Rattle.ir_types.specs.declared.node.TypeNode.TheVariants as type
 use Rattle.ir_types.specs.declared.bits.BitsKind.{BitsKind}
 use Rattle.ir_types.specs.declared.bits.BitsKind.TheVariants as kind
+use Rattle.ir_types.specs.declared.node.Sign.TheVariants.{Signless}
+use Rattle.ir_types.specs.Terms.{TypeTerm}
+use Rattle.ir_types.specs.Terms as term
 use Rattle.ir_types.specs.Reasons.{is_width}
 
 -- an integer type has 1 to 64 bits
@@ -16,6 +19,11 @@ HasWidth _ = Unit {0}
 abbrev pub width_of : BitsKind → ℕ
 width_of (kind.Int width) = width
 width_of kind.Index = 64
+
+-- the type of its values
+abbrev pub type_of : BitsKind → TypeTerm
+type_of (kind.Int width) = term.Integer Signless width
+type_of kind.Index = term.Index
 
 -- whether a number is a kind's value by its bits
 abbrev pub is_bits : BitsKind → ℕ → Bool

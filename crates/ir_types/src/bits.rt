@@ -1,8 +1,9 @@
 //! Known values of signless integer types and of index.
-ghost use Rattle.std.specs.Prelude.{◌≡◌, ◌<◌, ◌≤◌, ◌^◌, ◌-◌, IsTrue, pos};
+ghost use Rattle.std.specs.Prelude.{◌≡◌, ◌<◌, ◌≤◌, ◌^◌, ◌-◌, IsTrue, true};
 ghost use Rattle.std.specs.Option.{option_map};
+ghost use Rattle.ir_types.specs.Ranges.{is_value_number};
 ghost use Rattle.ir_types.specs.Reasons.{is_width};
-ghost use Rattle.ir_types.specs.Bits.{width_of, bits_of, signed_of, wrapped};
+ghost use Rattle.ir_types.specs.Bits.{width_of, type_of, bits_of, signed_of, wrapped};
 
 use crate::range::half;
 
@@ -50,28 +51,52 @@ impl Bits {
         Some(Bits { kind, value })
     }
 
-    /// The value of a whole number modulo 2^w.
+    /// The value of a whole number modulo 2^w. One that the kind has as it is printed is its number.
+    #[tactic(auto, using(crate::proofs::WordReadings::value_is_number))]
     pub fn from_number(kind: BitsKind, number: i128) -> Bits
         requires { IsTrue (is_width (width_of kind)) }
         ensures kind { result.kind ≡ kind }
         ensures value { result.value ≡ wrapped (width_of kind) number }
+        ensures number { is_value_number (type_of kind) number ≡ true → signed_of (width_of kind) result.value ≡ number }
     {
-        let size = size(width(kind)) as i128;
-        let value = number.rem_euclid(size) as u64;
+        let value = modulo(width(kind), number);
         Bits { kind, value }
     }
 
     /// The value as it is printed: signed.
+    #[tactic(auto, using(crate::proofs::WordReadings::number_is_value, crate::proofs::WordReadings::bits_back))]
     pub fn number(self) -> i128
-        ensures { result ≡ signed_of (width_of self.kind) self.value }
+        ensures number { result ≡ signed_of (width_of self.kind) self.value }
+        ensures value { is_value_number (type_of self.kind) result ≡ true }
+        ensures bits { wrapped (width_of self.kind) result ≡ self.value }
     {
-        let width = width(self.kind);
-        if (self.value as u128) < half(width) {
-            self.value as i128
-        } else {
-            self.value as i128 - size(width) as i128
-        }
+        signed_reading(width(self.kind), self.value)
     }
+}
+
+/// The signed reading of a value by its bits.
+fn signed_reading(width: u32, value: u64) -> i128
+    requires some { 1 ≤ width }
+    requires narrow { width ≤ 64 }
+    requires value { value < 2 ^ width }
+    ensures { result ≡ signed_of width value }
+{
+    if (value as u128) < half(width) {
+        value as i128
+    } else {
+        value as i128 - size(width) as i128
+    }
+}
+
+/// A whole number modulo 2^w.
+fn modulo(width: u32, number: i128) -> u64
+    requires some { 1 ≤ width }
+    requires narrow { width ≤ 64 }
+    ensures value { result ≡ wrapped width number }
+    ensures below { result < 2 ^ width }
+{
+    let size = size(width) as i128;
+    number.rem_euclid(size) as u64
 }
 
 /// The number of a width's values.
