@@ -1,7 +1,6 @@
 -- The words stand at their numbers in every context, so a test of a name's bytes is one of its number.
-use Rattle.std.proofs.Common.{◌≡◌, ℕ, zero, suc, ◌+◌, ◌<◌, ◌≤◌, Bool, true, false, length, List, [], ◌∷◌, ◌++◌, get_or, slice_get, take, Some, None, map, sym, ap, subst, refl, ◌∙◌, ⊎_elim, arith, ◌≢◌, ltb-true}
+use Rattle.std.proofs.Common.{◌≡◌, ℕ, zero, suc, ◌+◌, ◌<◌, ◌≤◌, Bool, true, false, length, List, [], ◌∷◌, ◌++◌, get_or, slice_get, take, Some, map, sym, ap, refl, ◌∙◌, ⊎_elim, arith, ◌≢◌, ltb-true}
 use Rattle.std.specs.Prelude.{◌==◌, ◌&&◌, ◌||◌, ◌-◌, nat_lt, nat_le, codes, ◌↔◌, slice_index_or}
-use Rattle.std.specs.Bool.{Decides}
 use Rattle.std.specs.Cmp.{first_so, second_so}
 use Rattle.std.specs.List.{AllPairs, list_any, list_all}
 use Rattle.std.specs.Str.{bytes_eq}

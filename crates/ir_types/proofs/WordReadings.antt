@@ -1,6 +1,6 @@
 -- The signed readings of 1 to 64 bits.
-use Rattle.std.proofs.Common.{◌≡◌, ℕ, suc, zero, to_z, of_z, lit<, ◌+◌, ◌-◌, ◌*◌, ◌^◌, ◌<◌, ◌≤◌, ℤ, pos, negsuc, ◌-ℤ◌, ◌≤ℤ◌, ◌<ℤ◌, sym, ap, refl, ◌∙◌, arith, Bool, true, false, ⊎_elim, ◌%◌, lt-ltb, ltb-true}
-use Rattle.std.specs.Prelude.{unsigned_abs, int_lt, nat_le, nat_lt}
+use Rattle.std.proofs.Common.{◌≡◌, ℕ, suc, to_z, of_z, lit<, ◌+◌, ◌-◌, ◌*◌, ◌^◌, ◌<◌, ◌≤◌, ℤ, pos, negsuc, ◌-ℤ◌, sym, ap, refl, ◌∙◌, arith, true, ⊎_elim, ◌%◌}
+use Rattle.std.specs.Prelude.{unsigned_abs, int_lt}
 use Rattle.std.proofs.lemmas.Nat.{mod_below, pow_pos}
 use Rattle.std.proofs.lemmas.Int.{ints, to_z_pos, to_z-of_z}
 use mir.Val.{SFits}
