@@ -14,3 +14,4 @@ pub mod WordWidths
 pub mod Calls
 pub mod Keeping
 pub mod Keptness
+pub mod WordReadings

@@ -1,7 +1,6 @@
 -- The words stand at their numbers in every context, so a test of a name's bytes is one of its number.
-use Rattle.std.proofs.Common.{◌≡◌, ℕ, zero, suc, ◌+◌, ◌<◌, ◌≤◌, Bool, true, false, length, List, [], ◌∷◌, ◌++◌, get_or, slice_get, take, Some, None, map, sym, ap, subst, refl, ◌∙◌, ⊎_elim, arith, ◌≢◌, ltb-true}
+use Rattle.std.proofs.Common.{◌≡◌, ℕ, zero, suc, ◌+◌, ◌<◌, ◌≤◌, Bool, true, false, length, List, [], ◌∷◌, ◌++◌, get_or, slice_get, take, Some, map, sym, ap, refl, ◌∙◌, ⊎_elim, arith, ◌≢◌, ltb-true}
 use Rattle.std.specs.Prelude.{◌==◌, ◌&&◌, ◌||◌, ◌-◌, nat_lt, nat_le, codes, ◌↔◌, slice_index_or}
-use Rattle.std.specs.Bool.{Decides}
 use Rattle.std.specs.Cmp.{first_so, second_so}
 use Rattle.std.specs.List.{AllPairs, list_any, list_all}
 use Rattle.std.specs.Str.{bytes_eq}
@@ -66,20 +65,22 @@ word_at_number c w bytes holds is = (front c.names 54 w bytes (ap (λ l. slice_g
 -- and at no other
 pub word_law : (c : Things) (n w : ℕ) (bytes : List ℕ) → IsSound c → slice_get words w ≡ Some bytes → ((n < length c.names) × (name_term c n ≡ bytes)) ↔ (n ≡ w)
 word_law c n w bytes sound is =
-    let at : slice_get c.names w ≡ Some bytes = word_at_number c w bytes sound.holds is in
-    (λ h. sound.names_apart n w bytes (slice_get-get_or c.names n [] h.0 ∙ ap Some h.1) at,
-    λ e. let there : slice_get c.names n ≡ Some bytes = ap (slice_get c.names) e ∙ at in
-    (slice_get_within c.names n bytes there, get_or_from_slice_get c.names n bytes [] there))
+    let at : slice_get c.names w ≡ Some bytes = word_at_number c w bytes sound.holds is in (
+      λ h. sound.names_apart n w bytes (slice_get-get_or c.names n [] h.0 ∙ ap Some h.1) at,
+      λ e. let there : slice_get c.names n ≡ Some bytes = ap (slice_get c.names) e ∙ at in
+          (slice_get_within c.names n bytes there, get_or_from_slice_get c.names n bytes [] there),
+    )
 
 -- so the test of a name's bytes for a word is the test of its number
 pub word_test : (c : Things) (n w : ℕ) (bytes : List ℕ) → IsSound c → slice_get words w ≡ Some bytes → bytes_eq (name_term c n) bytes ≡ (n == w)
 word_test c n w bytes sound is =
-    same_from_decides {P = n ≡ w} (bytes_eq (name_term c n) bytes) (n == w)
-    (λ h. ⊎_elim
-        (λ (l : n < length c.names). (word_law c n w bytes sound is).0 (l, (bytes_eq-Decides (name_term c n) bytes).0 h))
-        (λ (l : length c.names ≤ n). absurd (no_bytes (sym (get_or_past c.names n [] l) ∙ (bytes_eq-Decides (name_term c n) bytes).0 h) (all_at has_bytes words w bytes words_have_bytes is)))
-        (cases_lt n (length c.names)),
-    λ e. (bytes_eq-Decides (name_term c n) bytes).1 ((word_law c n w bytes sound is).1 e).1)
+    same_from_decides {P = n ≡ w} (bytes_eq (name_term c n) bytes) (n == w) (
+      λ h. ⊎_elim
+          (λ (l : n < length c.names). (word_law c n w bytes sound is).0 (l, (bytes_eq-Decides (name_term c n) bytes).0 h))
+          (λ (l : length c.names ≤ n). absurd (no_bytes (sym (get_or_past c.names n [] l) ∙ (bytes_eq-Decides (name_term c n) bytes).0 h) (all_at has_bytes words w bytes words_have_bytes is)))
+          (cases_lt n (length c.names)),
+      λ e. (bytes_eq-Decides (name_term c n) bytes).1 ((word_law c n w bytes sound is).1 e).1,
+    )
     (Decides-eqb n w)
   where
     no_bytes : [] ≡ bytes → has_bytes bytes ≡ true → ⊥
@@ -109,9 +110,9 @@ module _ (b : List ℕ) (n : ℕ) where
         rw next (grind (arith, nat_tests))
 
     inherent_from : (rows : List (List ℕ × List (List ℕ))) (kss : List (List ℕ)) (start : ℕ)
-      → AreTests start (map (λ row. row.0) rows)
-      → map (λ (row : List ℕ × List (List ℕ)). list_any (bytes_eq key) row.1) rows ≡ map (list_any (λ j. j == k)) kss
-      → list_any (λ row. bytes_eq b row.0 && list_any (bytes_eq key) row.1) rows ≡ (nat_le start n && list_any (λ j. j == k) (get_or kss (n - start) []))
+        → AreTests start (map (λ row. row.0) rows)
+        → map (λ (row : List ℕ × List (List ℕ)). list_any (bytes_eq key) row.1) rows ≡ map (list_any (λ j. j == k)) kss
+        → list_any (λ row. bytes_eq b row.0 && list_any (bytes_eq key) row.1) rows ≡ (nat_le start n && list_any (λ j. j == k) (get_or kss (n - start) []))
     inherent_from [] [] start each same = sym (and-false (nat_le start n))
     inherent_from [] (ks ∷ kss) start each same = absurd (cc)
     inherent_from (r ∷ rs) [] start each same = absurd (cc)
@@ -207,9 +208,9 @@ absent_from b (x ∷ xs) each = rw (each 0 x refl, absent_from b xs (λ k y e. e
 pub next_word : (i : ℕ) (bytes : List ℕ) (names : List (List ℕ)) → names ≡ take i words → slice_get words i ≡ Some bytes → with_last (bytes_eq bytes) bytes names ≡ take (i + 1) words
 next_word i bytes names before at =
     let new : list_any (bytes_eq bytes) (take i words) ≡ false = absent_from bytes (take i words) (λ k x e. false_from_ne_true (bytes_eq bytes x) (λ h.
-      let f = front words i k x e in
-      let same : k ≡ i = words_apart k i bytes (f.1 ∙ ap Some (sym ((bytes_eq-Decides bytes x).0 h))) at in
-      absurd (omega (arith, f.0)))) in
+    let f = front words i k x e in
+    let same : k ≡ i = words_apart k i bytes (f.1 ∙ ap Some (sym ((bytes_eq-Decides bytes x).0 h))) at in
+    absurd (omega (arith, f.0)))) in
     ap (with_last (bytes_eq bytes) bytes) before
     ∙ with_last-absent (bytes_eq bytes) bytes (take i words) new
     ∙ ap (λ x. take i words ++ x ∷ []) (sym (get_or_from_slice_get words i bytes bytes at))

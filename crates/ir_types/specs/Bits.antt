@@ -1,10 +1,42 @@
--- Widths, and the known values of integer types and of index.
-use Rattle.std.specs.Prelude.{ℕ, ◌-◌, ◌≤◌, ◌^◌, Bool, nat_lt, IsTrue, if◌then◌else◌, ℤ, pos, ◌-ℤ◌}
+-- Widths, and the known values of signless integer types and of index.
+use Rattle.std.specs.Prelude.{ℕ, ◌-◌, ◌^◌, Bool, nat_lt, ◌&&◌, IsTrue, if◌then◌else◌, Option, Some, None, ℤ, pos, ◌-ℤ◌, unsigned_abs}
+use Rattle.std.specs.Int.{int_rem_euclid}
 use Rattle.ir_types.specs.declared.node.TypeNode.{TypeNode}
 use Rattle.ir_types.specs.declared.node.TypeNode.TheVariants as type
+use Rattle.ir_types.specs.declared.bits.BitsKind.{BitsKind}
+use Rattle.ir_types.specs.declared.bits.BitsKind.TheVariants as kind
+use Rattle.ir_types.specs.declared.node.Sign.TheVariants.{Signless}
+use Rattle.ir_types.specs.Terms.{TypeTerm}
+use Rattle.ir_types.specs.Terms as term
 use Rattle.ir_types.specs.Reasons.{is_width}
 
 -- an integer type has 1 to 64 bits
 abbrev pub HasWidth : TypeNode → Type 0
 HasWidth (type.Int sign width) = IsTrue (is_width width)
 HasWidth _ = Unit {0}
+
+-- how many bits a kind of values has
+abbrev pub width_of : BitsKind → ℕ
+width_of (kind.Int width) = width
+width_of kind.Index = 64
+
+-- the type of its values
+abbrev pub type_of : BitsKind → TypeTerm
+type_of (kind.Int width) = term.Integer Signless width
+type_of kind.Index = term.Index
+
+-- whether a number is a kind's value by its bits
+abbrev pub is_bits : BitsKind → ℕ → Bool
+is_bits kind value = is_width (width_of kind) && nat_lt value (2 ^ width_of kind)
+
+-- the kind and the value, where it is one
+abbrev pub bits_of : BitsKind → ℕ → Option (BitsKind × ℕ)
+bits_of kind value = if is_bits kind value then Some (kind, value) else None
+
+-- the signed reading of w bits: from 2^(w-1) on, 2^w is taken off
+unfoldable pub signed_of : ℕ → ℕ → ℤ
+signed_of w value = if nat_lt value (2 ^ (w - 1)) then pos value else (pos value -ℤ pos (2 ^ w))
+
+-- a whole number modulo 2^w
+unfoldable pub wrapped : ℕ → ℤ → ℕ
+wrapped w number = unsigned_abs (int_rem_euclid number (pos (2 ^ w)))

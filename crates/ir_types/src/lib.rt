@@ -4,11 +4,14 @@
 mod check;
 pub mod context;
 mod dictionary;
+pub mod bits;
 pub mod ids;
 pub mod laws;
 pub mod node;
 mod places;
 pub mod range;
+#[cfg(test)]
+mod range_tests;
 pub mod refusal;
 pub mod word_laws;
 pub mod words;

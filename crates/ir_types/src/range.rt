@@ -98,7 +98,7 @@ fn is_unsigned(width: u32, negative: bool, magnitude: u128) -> bool
 }
 
 /// Half the number of a width's values.
-fn half(width: u32) -> u128
+pub(crate) fn half(width: u32) -> u128
     requires low { 1 ≤ width }
     requires high { width ≤ 128 }
     ensures { result ≡ 2 ^ (width - 1) }

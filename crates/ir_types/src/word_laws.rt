@@ -3,7 +3,7 @@ ghost use Rattle.std.specs.Prelude.{◌≡◌, ◌<◌, ◌↔◌, List, [], ℕ
 ghost use Rattle.ir_types.specs.Things.{Things};
 ghost use Rattle.ir_types.specs.Terms.{name_term};
 ghost use Rattle.ir_types.specs.Sound.{IsSound};
-ghost use Rattle.ir_types.specs.Words.{operations, words, row_keys, is_listed, is_table, is_isolated, is_inherent, is_listed_number, is_table_number, is_isolated_number, is_inherent_number};
+ghost use Rattle.ir_types.specs.Words.{operations, words, row_keys};
 
 /// A number is a word's exactly where its bytes are that word.
 pub fn number_of_word()
@@ -13,12 +13,4 @@ pub fn number_of_word()
 /// The rows by numbers are those by words.
 pub fn rows_are_words()
     ensures { map (map (λ k. slice_index_or words k [])) row_keys ≡ map (λ (row : List ℕ × List (List ℕ)). row.1) operations }
-{}
-
-/// The tests of a number are those of its bytes.
-pub fn tests_by_number()
-    ensures listed { (c : Things) (n : ℕ) → IsSound c → is_listed (name_term c n) ≡ is_listed_number n }
-    ensures table { (c : Things) (n : ℕ) → IsSound c → is_table (name_term c n) ≡ is_table_number n }
-    ensures isolated { (c : Things) (n : ℕ) → IsSound c → is_isolated (name_term c n) ≡ is_isolated_number n }
-    ensures inherent { (c : Things) (op key : ℕ) → IsSound c → is_inherent (name_term c op) (name_term c key) ≡ is_inherent_number op key }
 {}

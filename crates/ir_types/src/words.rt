@@ -86,7 +86,7 @@ pub fn word(index: u32) -> &'static [u8]
 }
 
 /// An entry of a table.
-fn entry<'a>(table: &[&'a [u8]], index: usize) -> &'a [u8]
+fn entry<'a, T>(table: &[&'a [T]], index: usize) -> &'a [T]
     requires { index < length table.now }
     ensures { slice_get (map (λ b. b.now) table.now) index ≡ Some result.now }
 {
@@ -182,12 +182,5 @@ fn row(op: u32) -> &'static [u32]
         &[50, 49],
         &[50, 49],
     ];
-    row_at(&ROWS, op as usize)
-}
-
-fn row_at<'a>(table: &[&'a [u32]], index: usize) -> &'a [u32]
-    requires { index < length table.now }
-    ensures { slice_get (map (λ b. b.now) table.now) index ≡ Some result.now }
-{
-    table[index]
+    entry(&ROWS, op as usize)
 }

@@ -1,6 +1,0 @@
-use Rattle.ir_types.proofs.WordTables.{pointed}
-use Rattle.std.proofs.Common.{refl}
-use Rattle.ir_types.proofs.words.row_at.Goals as goal
-
-pub returns : goal.returns
-returns c = pointed c.args.table.now c.args.index _ _ refl c.requires
