@@ -162,6 +162,17 @@ module _ {V : Type 0} (f : V → List ℕ) (bytes : List ℕ) where
   pub names_with : (ks : List V) (i : ℕ) → position (λ v. bytes_eq bytes (f v)) ks ≡ Some i → map f ks ≡ with_last (bytes_eq bytes) bytes (map f ks)
   names_with ks i e = sym (with_last-found (bytes_eq bytes) bytes (map f ks) (names_found ks i e).0)
 
+  -- what an insertion leaves
+  pub names_inserted_at : (ks new : List V) (key : V) → f key ≡ bytes → new ≡ cond (list_any (λ v. bytes_eq (f key) (f v)) ks) ks (ks ++ key ∷ []) → map f new ≡ with_last (bytes_eq bytes) bytes (map f ks)
+  names_inserted_at ks new key same e = go (list_any (λ v. bytes_eq (f key) (f v)) ks) refl
+    where
+      any : list_any (λ v. bytes_eq (f key) (f v)) ks ≡ list_any (bytes_eq bytes) (map f ks)
+      any = ap (λ b. list_any (λ v. bytes_eq b (f v)) ks) same ∙ sym (any_map ks)
+
+      go : (b : Bool) → list_any (λ v. bytes_eq (f key) (f v)) ks ≡ b → map f new ≡ with_last (bytes_eq bytes) bytes (map f ks)
+      go true h = ap (map f) (e ∙ rw h refl) ∙ sym (with_last-found (bytes_eq bytes) bytes (map f ks) (sym any ∙ h))
+      go false h = ap (map f) (e ∙ rw h refl) ∙ map-append f ks (key ∷ []) ∙ ap (λ b. map f ks ++ b ∷ []) same ∙ sym (with_last-absent (bytes_eq bytes) bytes (map f ks) (sym any ∙ h))
+
   pub names_push : (ks new : List V) (key : V) → position (λ v. bytes_eq bytes (f v)) ks ≡ None → f key ≡ bytes → new ≡ cond (list_any (λ v. bytes_eq (f key) (f v)) ks) ks (ks ++ key ∷ []) → map f new ≡ with_last (bytes_eq bytes) bytes (map f ks)
   names_push ks new key none same e =
       let h = names_absent ks none in
@@ -183,3 +194,6 @@ first_is a b refusal e = rw e refl
 
 pub first_passes : (a b : Option Refusal) → a ≡ None → first_reason a b ≡ b
 first_passes a b e = rw e refl
+
+pub names_inserted : {V : Type 0} (f : V → List ℕ) (ks new : List V) (key : V) → new ≡ cond (list_any (λ v. bytes_eq (f key) (f v)) ks) ks (ks ++ key ∷ []) → map f new ≡ with_last (bytes_eq (f key)) (f key) (map f ks)
+names_inserted f ks new key e = names_inserted_at f (f key) ks new key refl e

@@ -15,3 +15,4 @@ pub mod Calls
 pub mod Keeping
 pub mod Keptness
 pub mod WordReadings
+pub mod Beginning

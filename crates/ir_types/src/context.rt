@@ -1,5 +1,5 @@
 //! The context: names, types and attributes, each known by a number. It only grows.
-ghost use Rattle.std.specs.Prelude.{◌≡◌, ◌<◌, ◌≤◌, ◌↔◌, Some, None, Ok, Err, [], IfOk, OnOk, OnErr, IsTrue, length, slice_get};
+ghost use Rattle.std.specs.Prelude.{◌≡◌, ◌<◌, ◌≤◌, ◌↔◌, Some, None, Ok, Err, [], IfOk, OnOk, OnErr, IfErr, IsTrue, length, slice_get};
 ghost use Rattle.ir_types.specs.Things.{IsName, IsType, IsAttr, Grows, TypeIsOf, AttrIsOf};
 ghost use Rattle.ir_types.specs.Interning.{with_name, with_type, with_attr};
 ghost use Rattle.ir_types.specs.Reasons.{IsRefusedFor, checked, name_reason, type_reason, attr_reason, dictionary_reason};
@@ -16,6 +16,7 @@ use crate::places::{
     LIMIT, attrs_apart, intern_attr, intern_name, intern_type, names_apart, types_apart,
 };
 use crate::refusal::Refusal;
+use crate::words::{WORDS, word};
 use indexmap::{IndexMap, IndexSet};
 use ir_types_base::lists::Items;
 use std::alloc::Global;
@@ -44,6 +45,33 @@ impl Model for Context {
 }
 
 impl Context {
+    /// A context that holds the words of the operation table, each at its fixed number, and no type
+    /// and no attribute.
+    ///
+    /// Refusals: `Memory` alone.
+    pub fn new(alloc: Global) -> Result<Context, Refusal>
+        ensures ok { IfOk result (λ c. c ≡ record { names = words; types = []; attrs = [] }) }
+        ensures refused { IfErr result (λ refusal. refusal ≡ Refusal.Memory) }
+    {
+        let mut names: IndexSet<Vec<u8>> = IndexSet::new(alloc);
+        for index in 0..WORDS {
+            let bytes = match Vec::from_slice(alloc, word(index)) {
+                Ok(bytes) => bytes,
+                Err(error) => return Err(Refusal::from(error)),
+            };
+            match names.insert(bytes) {
+                Ok(_) => {}
+                Err(error) => return Err(Refusal::from(error)),
+            }
+        }
+        Ok(Context {
+            alloc,
+            names,
+            types: IndexMap::new(alloc),
+            attrs: IndexMap::new(alloc),
+        })
+    }
+
     /// Whether a number is a name's.
     pub fn has_name(&self, id: NameId) -> bool
         ensures { IsTrue result ↔ IsName self.now id }

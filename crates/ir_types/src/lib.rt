@@ -13,6 +13,7 @@ pub mod range;
 #[cfg(test)]
 mod range_tests;
 pub mod refusal;
+mod table;
 pub mod word_laws;
 pub mod words;
 
