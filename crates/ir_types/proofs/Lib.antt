@@ -8,6 +8,7 @@ pub mod Terms
 pub mod KeptOrder
 pub mod Holding
 pub mod CallNumbers
+pub mod AcceptedCalls
 pub mod WordTables
 pub mod WordNumbers
 pub mod WordWidths
