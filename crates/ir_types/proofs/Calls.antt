@@ -1,12 +1,18 @@
 -- What the calls of a context answer.
 use Rattle.std.proofs.Common.{◌≡◌, ◌∙◌, refl, sym, ap, subst, ℕ, zero, suc, ◌+◌, ◌<◌, ◌≤◌, Bool, true, false, true≢false, cond, List, [], ◌∷◌, ◌++◌, length, map, Some, None, Option, Ok, Err, slice_get, IsTrue, le-leb, leb-true, lt-ltb, ltb-true, arith}
-use Rattle.std.specs.Prelude.{slice_index_or, not, nat_le, nat_lt, ◌&&◌, Result, IfErr}
+use Rattle.std.specs.Prelude.{slice_index_or, not, nat_le, nat_lt, ◌&&◌, ◌||◌, Result, IfErr, IsErrOf}
 use Rattle.std.specs.List.{list_any, position_or_len}
 use Rattle.std.specs.Str.{bytes_eq}
 use Rattle.std.proofs.lemmas.Option.{slice_get_within}
-use Rattle.ir_types_base.proofs.Placed.{with_last-found, with_last-absent}
+use Rattle.std.specs.List.{position}
+use Rattle.std.proofs.lemmas.List.{length-map, map-append}
+use Rattle.ir_types_base.specs.Interned.{with_last}
+use Rattle.ir_types_base.proofs.Placed.{with_last-found, with_last-absent, found_at, absent_from}
 use Rattle.ir_types.specs.declared.node.TypeNode.{TypeNode}
 use Rattle.ir_types.specs.declared.node.TypeNode.TheVariants as type
+use Rattle.ir_types_base.specs.declared.intern.InternFault.{InternFault}
+use Rattle.ir_types_base.specs.declared.intern.InternFault.TheVariants as intern
+use Rattle.ir_types.specs.Refusals.{not_interned}
 use Rattle.ir_types.specs.declared.refusal.Refusal.{Refusal}
 use Rattle.ir_types.specs.declared.refusal.Refusal.TheVariants.{TooMany, TooDeep, BadWidth, Memory}
 use Rattle.ir_types.specs.Things.{Things, Grows, IsType, IsAttr}
@@ -111,3 +117,69 @@ kept_attr_depth c d vs n m e h kept at is =
     let k : m ≡ attr_depth (attr_term d n) = mapped_at attr_depth (attr_terms d) Flag vs n m kept at in
     let l : attr_depth (attr_term d n) ≤ 32 = shallow_attr d n h (subst (λ (z : Things). IsAttr z n) (sym e) is) in
     omega arith
+
+-- what an interning that refuses says
+pub not_interned_reason : {A : Type 0} (is : A → Bool) (xs : List A) (fault : InternFault) (n : ℕ) → n ≡ length xs → (IsErrOf {T = ℕ} (Err fault) intern.TooMany → (16777216 ≤ n) × (list_any is xs ≡ false)) × ((16777216 ≤ n) × (list_any is xs ≡ false) → IsErrOf {T = ℕ} (Err fault) intern.TooMany) → IsRefusedFor {A = ℕ} (full_reason is xs) (Err (not_interned fault))
+not_interned_reason is xs intern.TooMany n e full =
+    let h = full.0 refl in
+    refused ℕ (full_reason is xs) TooMany (full_absent is xs h.1 (omega (arith, h.0)))
+not_interned_reason is xs intern.Memory n e full = no_memory (full_reason is xs) (Err Memory) (go (list_any is xs) refl (nat_le 16777216 (length xs)) refl) refl
+  where
+    go : (a : Bool) → list_any is xs ≡ a → (b : Bool) → nat_le 16777216 (length xs) ≡ b → full_reason is xs ≡ None
+    go true h b k = rw h refl
+    go false h true k = absurd (let z = full.1 (omega (arith, leb-true 16777216 (length xs) k), h) in cc)
+    go false h false k = rw (h, k) refl
+
+-- and one that is accepted
+pub interned_reason : {A : Type 0} (is : A → Bool) (xs : List A) (place n : ℕ) → n ≡ length xs → ((16777216 ≤ n) × (list_any is xs ≡ false) → IsErrOf {T = ℕ} {E = InternFault} (Ok place) intern.TooMany) → full_reason is xs ≡ None
+interned_reason is xs place n e full = go (list_any is xs) refl (nat_le 16777216 (length xs)) refl
+  where
+    go : (a : Bool) → list_any is xs ≡ a → (b : Bool) → nat_le 16777216 (length xs) ≡ b → full_reason is xs ≡ None
+    go true h b k = rw h refl
+    go false h true k = absurd (let z = full (omega (arith, leb-true 16777216 (length xs) k), h) in cc)
+    go false h false k = rw (h, k) refl
+
+-- a derived `==` is the test of sameness, at one thing
+pub as_test : {A : Type 0} (D E : A → A → Bool) → ((x y : A) → D x y ≡ E x y) → (x : A) → D x ≡ E x
+as_test D E same x = λ i y. same x y i
+
+-- names, which are kept as vectors of bytes
+module _ {V : Type 0} (f : V → List ℕ) (bytes : List ℕ) where
+  place_map : (ks : List V) → position_or_len (bytes_eq bytes) (map f ks) ≡ position_or_len (λ v. bytes_eq bytes (f v)) ks
+  place_map [] = refl
+  place_map (k ∷ ks) = ap (λ n. cond (not (bytes_eq bytes (f k))) (1 + n) 0) (place_map ks)
+
+  any_map : (ks : List V) → list_any (bytes_eq bytes) (map f ks) ≡ list_any (λ v. bytes_eq bytes (f v)) ks
+  any_map [] = refl
+  any_map (k ∷ ks) = ap (λ b. bytes_eq bytes (f k) || b) (any_map ks)
+
+  pub names_found : (ks : List V) (i : ℕ) → position (λ v. bytes_eq bytes (f v)) ks ≡ Some i → (list_any (bytes_eq bytes) (map f ks) ≡ true) × (i ≡ position_or_len (bytes_eq bytes) (map f ks))
+  names_found ks i e = let h = found_at (λ v. bytes_eq bytes (f v)) ks i e in (any_map ks ∙ h.0, h.1 ∙ sym (place_map ks))
+
+  pub names_absent : (ks : List V) → position (λ v. bytes_eq bytes (f v)) ks ≡ None → (list_any (bytes_eq bytes) (map f ks) ≡ false) × (position_or_len (bytes_eq bytes) (map f ks) ≡ length (map f ks))
+  names_absent ks e = let h = absent_from (λ v. bytes_eq bytes (f v)) ks e in (any_map ks ∙ h.0, place_map ks ∙ h.1 ∙ sym (length-map ks f))
+
+  pub names_with : (ks : List V) (i : ℕ) → position (λ v. bytes_eq bytes (f v)) ks ≡ Some i → map f ks ≡ with_last (bytes_eq bytes) bytes (map f ks)
+  names_with ks i e = sym (with_last-found (bytes_eq bytes) bytes (map f ks) (names_found ks i e).0)
+
+  pub names_push : (ks new : List V) (key : V) → position (λ v. bytes_eq bytes (f v)) ks ≡ None → f key ≡ bytes → new ≡ cond (list_any (λ v. bytes_eq (f key) (f v)) ks) ks (ks ++ key ∷ []) → map f new ≡ with_last (bytes_eq bytes) bytes (map f ks)
+  names_push ks new key none same e =
+      let h = names_absent ks none in
+      let any : list_any (λ v. bytes_eq (f key) (f v)) ks ≡ false = ap (λ b. list_any (λ v. bytes_eq b (f v)) ks) same ∙ sym (any_map ks) ∙ h.0 in
+      rw (with_last-absent (bytes_eq bytes) bytes (map f ks) h.0) (ap (map f) (e ∙ rw any refl) ∙ map-append f ks (key ∷ []) ∙ ap (λ b. map f ks ++ b ∷ []) same)
+
+-- what a value says that was checked
+pub checked_ok : {A : Type 0} (reason : Option Refusal) (x y : A) → Ok y ≡ checked reason x → (reason ≡ None) × (y ≡ x)
+checked_ok None x y e = (refl, cc)
+checked_ok (Some refusal) x y e = absurd cc
+
+pub checked_err : {A : Type 0} (reason : Option Refusal) (x : A) (refusal : Refusal) → Err refusal ≡ checked reason x → reason ≡ Some refusal
+checked_err None x refusal e = absurd cc
+checked_err (Some other) x refusal e = let h : refusal ≡ other = cc in ap Some (sym h)
+
+-- the first of several reasons
+pub first_is : (a b : Option Refusal) (refusal : Refusal) → a ≡ Some refusal → first_reason a b ≡ Some refusal
+first_is a b refusal e = rw e refl
+
+pub first_passes : (a b : Option Refusal) → a ≡ None → first_reason a b ≡ b
+first_passes a b e = rw e refl

@@ -13,3 +13,5 @@ pub mod WordTables
 pub mod WordNumbers
 pub mod WordWidths
 pub mod Calls
+pub mod Keeping
+pub mod Keptness

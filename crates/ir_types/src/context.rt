@@ -8,21 +8,18 @@ ghost use Rattle.ir_types.specs.Dictionaries.{kept};
 ghost use Rattle.ir_types.specs.Depths.{type_depth, attr_depth};
 ghost use Rattle.ir_types.specs.Terms.{type_term, attr_term};
 ghost use Rattle.ir_types.specs.Words.{words};
-ghost use Rattle.std.specs.Map.{keys_of};
-ghost use Rattle.ir_types_base.specs.Interned.{AreApart};
 
-use crate::dictionary::{names_apart, sort_entries};
+use crate::dictionary::sort_entries;
 use crate::ids::{AttrId, NameId, TypeId};
 use crate::node::{AttrNode, TypeNode};
+use crate::places::{
+    LIMIT, attrs_apart, intern_attr, intern_name, intern_type, names_apart, types_apart,
+};
 use crate::refusal::Refusal;
 use indexmap::{IndexMap, IndexSet};
-use ir_types_base::intern::intern;
 use ir_types_base::lists::Items;
 use std::alloc::Global;
 use std::marker::Model;
-
-/// How many names, types and attributes a context has at most, of each.
-pub const LIMIT: u32 = 16_777_216;
 
 /// Names, types and attributes, each known by its number.
 #[derive(Drop)]
@@ -106,16 +103,11 @@ impl Context {
         ensures refused { IsRefusedFor (name_reason bytes.now self.old) result }
         ensures err { OnErr result (self.new ≡ self.old) }
     {
-        if let Some(place) = self.names.get_index_of(bytes) {
-            return Ok(NameId::new(place as u32));
-        }
-        let place = self.names.len();
-        if place >= LIMIT as usize {
-            return Err(Refusal::TooMany);
-        }
-        let key = Vec::from_slice(self.alloc, bytes)?;
-        self.names.insert(key)?;
-        Ok(NameId::new(place as u32))
+        let place = match intern_name(&mut self.names, self.alloc, bytes) {
+            Ok(place) => place,
+            Err(refusal) => return Err(refusal),
+        };
+        Ok(NameId::new(place))
     }
 
     /// The number of a type whose parts are types of this context.
@@ -134,10 +126,11 @@ impl Context {
             Ok(depth) => depth,
             Err(refusal) => return Err(refusal),
         };
-        match intern(&mut self.types, LIMIT, node, depth) {
-            Ok(place) => Ok(TypeId::new(place)),
-            Err(fault) => Err(Refusal::from(fault)),
-        }
+        let place = match intern_type(&mut self.types, node, depth) {
+            Ok(place) => place,
+            Err(refusal) => return Err(refusal),
+        };
+        Ok(TypeId::new(place))
     }
 
     /// The number of an attribute whose parts are names, types and attributes of this context.
@@ -160,10 +153,11 @@ impl Context {
             Ok(kept) => kept,
             Err(refusal) => return Err(refusal),
         };
-        match intern(&mut self.attrs, LIMIT, kept, depth) {
-            Ok(place) => Ok(AttrId::new(place)),
-            Err(fault) => Err(Refusal::from(fault)),
-        }
+        let place = match intern_attr(&mut self.attrs, kept, depth) {
+            Ok(place) => place,
+            Err(refusal) => return Err(refusal),
+        };
+        Ok(AttrId::new(place))
     }
 
     /// A node as it is kept: a dictionary is sorted. No memory.
@@ -215,18 +209,4 @@ impl Context {
         types_apart(&self.types);
         attrs_apart(&self.attrs);
     }
-}
-
-/// No type stands at two places.
-fn types_apart(types: &IndexMap<TypeNode, u32>)
-    ensures { AreApart (keys_of types.now.entries) }
-{
-    let _count = types.len();
-}
-
-/// No attribute stands at two places.
-fn attrs_apart(attrs: &IndexMap<AttrNode, u32>)
-    ensures { AreApart (keys_of attrs.now.entries) }
-{
-    let _count = attrs.len();
 }

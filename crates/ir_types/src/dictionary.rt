@@ -3,10 +3,10 @@ ghost use Rattle.std.specs.Prelude.{◌≡◌, ◌<◌, ℕ, true, false, map, l
 ghost use Rattle.std.specs.List.{All};
 ghost use Rattle.std.specs.List.Sorted.{IsSortedBy};
 ghost use Rattle.ir_types.specs.Dictionaries.{comes_before, has_adjacent_twin, has_twin, sorted, twin_after};
-ghost use Rattle.ir_types_base.specs.Interned.{AreApart};
 ghost use Rattle.ir_types.specs.Sound.{IsRising};
 
 use crate::ids::{AttrId, NameId};
+use crate::places::names_apart;
 use indexmap::IndexSet;
 
 /// The bytes of a name, or none where the number is no name's.
@@ -55,11 +55,4 @@ fn has_twin_next_door(entries: &[(NameId, AttrId)]) -> bool
         last = entry.0;
     }
     false
-}
-
-/// No two names have the same bytes.
-pub fn names_apart(names: &IndexSet<Vec<u8>>)
-    ensures { AreApart (map (λ v. v.items) names.now.keys) }
-{
-    let _count = names.len();
 }

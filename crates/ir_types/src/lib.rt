@@ -7,6 +7,7 @@ mod dictionary;
 pub mod ids;
 pub mod laws;
 pub mod node;
+mod places;
 pub mod range;
 pub mod refusal;
 pub mod word_laws;
