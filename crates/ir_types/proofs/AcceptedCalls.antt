@@ -111,7 +111,7 @@ less_from Less h = refl
 less_from Equal h = absurd (true≢false (sym h))
 less_from Greater h = absurd (true≢false (sym h))
 
-pairs_rise : (names : List (List ℕ)) (es : List (ℕ × ℕ)) → IsRising names es → Rise names es
+pub pairs_rise : (names : List (List ℕ)) (es : List (ℕ × ℕ)) → IsRising names es → Rise names es
 pairs_rise names [] h = tt
 pairs_rise names (e ∷ es) h = (after es (λ i d k. h 0 (suc i) d (omega arith) (omega arith)), pairs_rise names es (λ i j d k l. h (suc i) (suc j) d (omega arith) (omega arith)))
   where

@@ -32,7 +32,7 @@ module _ {A : Type 0} (p : A → Bool) (x : A) where
 
 module _ {A : Type 0} (same : A → A → Bool) (is : (x y : A) → same x y ≡ true → x ≡ y) where
   -- where a thing was found, it stands
-  found_there : (x : A) (xs : List A) → list_any (same x) xs ≡ true → slice_get xs (position_or_len (same x) xs) ≡ Some x
+  pub found_there : (x : A) (xs : List A) → list_any (same x) xs ≡ true → slice_get xs (position_or_len (same x) xs) ≡ Some x
   found_there x [] h = absurd (true≢false (sym h))
   found_there x (y ∷ ys) h = ⊎_elim
       (λ (e : same x y ≡ true). rw e (ap Some (sym (is x y e))))
