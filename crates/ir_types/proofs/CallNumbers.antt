@@ -4,13 +4,13 @@ use Rattle.std.specs.List.{position_or_len}
 use Rattle.std.specs.Str.{bytes_eq}
 use Rattle.std.proofs.Common.{◌≡◌, [], ◌∷◌, ◌++◌, length, get_or, slice_get, Some, sym, ap, subst, ◌∙◌, ⊎_elim, arith}
 use Rattle.std.proofs.Math.Seq.{get_or-append_seam}
-use Rattle.std.proofs.lemmas.Option.{get_or_from_slice_get}
+use Rattle.std.proofs.lemmas.Option.{get_or_from_slice_get, slice_get_within}
 use Rattle.ir_types_base.specs.Built.{built}
 use Rattle.ir_types_base.specs.Interned.{with_last}
 use Rattle.ir_types_base.proofs.Placed.{Found, Lacks, where_is, with_last-found, with_last-absent}
 use Rattle.ir_types.specs.declared.node.TypeNode.{TypeNode}
 use Rattle.ir_types.specs.declared.node.AttrNode.{AttrNode}
-use Rattle.ir_types.specs.Things.{Things, IsFront, Grows}
+use Rattle.ir_types.specs.Things.{Things, TypeIsOf, AttrIsOf, IsFront, Grows}
 use Rattle.ir_types.specs.Terms.{Index, Flag, name_term, type_from, type_terms, type_term, type_node_term, attr_from, attr_terms, attr_term, attr_node_term}
 use Rattle.ir_types.specs.Same.{same_type, same_attr}
 use Rattle.ir_types.specs.Dictionaries.{kept}
@@ -19,9 +19,9 @@ use Rattle.ir_types.specs.Sound.{Holds, IsSound}
 use Rattle.ir_types.proofs.SameNodes.{same_type_is, same_type_refl, same_attr_is, same_attr_refl}
 use Rattle.ir_types.proofs.Building.{place_stays}
 use Rattle.ir_types.proofs.Placing.{stands, known_stays, known_place}
-use Rattle.ir_types.proofs.Growth.{name_is, name_refl}
-use Rattle.ir_types.proofs.Terms.{type_terms_push, attr_terms_push, length-type_terms, length-attr_terms, type_term_is, attr_term_is}
-use Rattle.ir_types.proofs.KeptOrder.{kept_known}
+use Rattle.ir_types.proofs.Growth.{name_is, name_refl, grows_trans, grows_type, grows_attr}
+use Rattle.ir_types.proofs.Terms.{type_terms_push, attr_terms_push, length-type_terms, length-attr_terms, type_node_stays, attr_node_stays, type_term_is, attr_term_is, type_term_one, attr_term_one}
+use Rattle.ir_types.proofs.KeptOrder.{kept_of, kept_known}
 
 -- a thing stands at the number that its call answers
 pub name_stands : (bytes : List ℕ) (c : Things) → slice_get ((with_name bytes c).1).names (with_name bytes c).0 ≡ Some bytes
@@ -129,3 +129,26 @@ same_attrs c d e a b s g h =
     let first : slice_get e.attrs m ≡ Some k = place_in ((with_attr a c).1).attrs e.attrs m k g.attrs (attr_stands a c) in
     let second : slice_get e.attrs n ≡ Some l = place_in ((with_attr b d).1).attrs e.attrs n l h.attrs (attr_stands b d) in
     (λ p. some_one k l (sym first ∙ ap (slice_get e.attrs) p ∙ second), λ p. s.attrs_apart m n l (first ∙ ap Some p) second)
+
+-- and exactly where they mean one thing, part by part
+pub same_type_terms : (c d e : Things) (a b : TypeNode) → IsSound e → TypeIsOf c a → TypeIsOf d b → Grows (with_type a c).1 e → Grows (with_type b d).1 e → ((with_type a c).0 ≡ (with_type b d).0) ↔ (type_node_term c a ≡ type_node_term d b)
+same_type_terms c d e a b s of_c of_d g h =
+    let m = (with_type a c).0 in
+    let n = (with_type b d).0 in
+    let at_m : slice_get e.types m ≡ Some a = place_in ((with_type a c).1).types e.types m a g.types (type_stands a c) in
+    let at_n : slice_get e.types n ≡ Some b = place_in ((with_type b d).1).types e.types n b h.types (type_stands b d) in
+    let first : type_term e m ≡ type_node_term c a = type_term_is e m a s.holds at_m ∙ type_node_stays c e a (grows_trans c (with_type a c).1 e (grows_type a c) g) of_c in
+    let second : type_term e n ≡ type_node_term d b = type_term_is e n b s.holds at_n ∙ type_node_stays d e b (grows_trans d (with_type b d).1 e (grows_type b d) h) of_d in
+    (λ p. sym first ∙ ap (type_term e) p ∙ second, λ p. type_term_one e m n s (slice_get_within e.types m a at_m) (slice_get_within e.types n b at_n) (first ∙ p ∙ sym second))
+
+pub same_attr_terms : (c d e : Things) (a b : AttrNode) → Holds c → Holds d → IsSound e → AttrIsOf c a → AttrIsOf d b → Grows (with_attr a c).1 e → Grows (with_attr b d).1 e → ((with_attr a c).0 ≡ (with_attr b d).0) ↔ (attr_node_term c (kept c.names a) ≡ attr_node_term d (kept d.names b))
+same_attr_terms c d e a b holds_c holds_d s of_c of_d g h =
+    let m = (with_attr a c).0 in
+    let n = (with_attr b d).0 in
+    let k = kept c.names a in
+    let l = kept d.names b in
+    let at_m : slice_get e.attrs m ≡ Some k = place_in ((with_attr a c).1).attrs e.attrs m k g.attrs (attr_stands a c) in
+    let at_n : slice_get e.attrs n ≡ Some l = place_in ((with_attr b d).1).attrs e.attrs n l h.attrs (attr_stands b d) in
+    let first : attr_term e m ≡ attr_node_term c k = attr_term_is e m k s.holds at_m ∙ attr_node_stays c e k holds_c (grows_trans c (with_attr a c).1 e (grows_attr a c) g) (kept_of c a of_c) in
+    let second : attr_term e n ≡ attr_node_term d l = attr_term_is e n l s.holds at_n ∙ attr_node_stays d e l holds_d (grows_trans d (with_attr b d).1 e (grows_attr b d) h) (kept_of d b of_d) in
+    (λ p. sym first ∙ ap (attr_term e) p ∙ second, λ p. attr_term_one e m n s (slice_get_within e.attrs m k at_m) (slice_get_within e.attrs n l at_n) (first ∙ p ∙ sym second))

@@ -8,6 +8,8 @@ pub mod Terms
 pub mod KeptOrder
 pub mod Holding
 pub mod CallNumbers
+pub mod AcceptedCalls
+pub mod TwinReasons
 pub mod WordTables
 pub mod WordNumbers
 pub mod WordWidths

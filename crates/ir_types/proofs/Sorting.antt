@@ -164,12 +164,12 @@ none_any : (p : ℕ → Bool) (ks : List ℕ) → AllByRecursion (λ k. p k ≡ 
 none_any p [] h = refl
 none_any p (k ∷ ks) h = rw h.0 (none_any p ks h.1)
 
-distinct_keys : (ks : List ℕ) → has_twin ks ≡ false → IsDistinct nat_eq ks
+pub distinct_keys : (ks : List ℕ) → has_twin ks ≡ false → IsDistinct nat_eq ks
 unfolding IsDistinct
 distinct_keys [] h = tt
 distinct_keys (k ∷ ks) h = let r = or_false (list_any (λ l. k == l) ks) (has_twin ks) h in (any_none (λ l. k == l) ks r.0, distinct_keys ks r.1)
 
-no_twins : (ks : List ℕ) → IsDistinct nat_eq ks → has_twin ks ≡ false
+pub no_twins : (ks : List ℕ) → IsDistinct nat_eq ks → has_twin ks ≡ false
 unfolding IsDistinct
 no_twins [] h = refl
 no_twins (k ∷ ks) h = rw (none_any (λ l. k == l) ks h.0) (no_twins ks h.1)
@@ -216,7 +216,7 @@ module _ (names : List (List ℕ)) (apart : AreApart names) where
           go Greater p = flips names (key_bytes names f) (key_bytes names e) p
 
   -- entries that rise have each key once
-  rise_distinct : (es : List Entry) → Rise names es → IsDistinct nat_eq (keys_of_entries es)
+  pub rise_distinct : (es : List Entry) → Rise names es → IsDistinct nat_eq (keys_of_entries es)
   unfolding IsDistinct
   rise_distinct [] rise = tt
   rise_distinct (e ∷ es) rise = (go es rise.0, rise_distinct es rise.1)
@@ -230,7 +230,7 @@ module _ (names : List (List ℕ)) (apart : AreApart names) where
           differ false p = p
 
   -- and where each key stands once, no two have the same bytes
-  apart_from : (es : List Entry) → Known es → IsDistinct nat_eq (keys_of_entries es) → Apart names es
+  pub apart_from : (es : List Entry) → Known es → IsDistinct nat_eq (keys_of_entries es) → Apart names es
   unfolding IsDistinct
   apart_from [] known distinct = tt
   apart_from (e ∷ es) known distinct = (go es known.1 distinct.0, apart_from es known.1 distinct.1)

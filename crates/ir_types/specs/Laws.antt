@@ -1,12 +1,14 @@
 -- The longer laws of contexts.
-use Rattle.std.specs.Prelude.{◌≡◌, ℕ, List, slice_get, Some, ◌↔◌}
+use Rattle.std.specs.Prelude.{◌≡◌, ℕ, List, IsPermutation, slice_get, Some, None, ◌↔◌}
 use Rattle.ir_types.specs.declared.node.TypeNode.{TypeNode}
 use Rattle.ir_types.specs.declared.node.AttrNode.{AttrNode}
+use Rattle.ir_types.specs.declared.node.AttrNode.TheVariants.{Dict}
 use Rattle.ir_types.specs.Things.{Things, IsName, IsType, IsAttr, TypeIsOf, AttrIsOf, Grows}
 use Rattle.ir_types.specs.Terms.{name_term, type_term, type_node_term, attr_term, attr_node_term}
 use Rattle.ir_types.specs.Dictionaries.{kept}
 use Rattle.ir_types.specs.Interning.{with_name, with_type, with_attr}
-use Rattle.ir_types.specs.Sound.{IsSound}
+use Rattle.ir_types.specs.Reasons.{key_reason}
+use Rattle.ir_types.specs.Sound.{Holds, IsSound}
 
 -- a number of c stands in d for what it stands for in c
 abbrev pub NameStays : Things → Things → Type 0
@@ -48,3 +50,14 @@ OneTypeOneNumber a c b d e = IsSound e → Grows (with_type a c).1 e → Grows (
 
 abbrev pub OneAttrOneNumber : AttrNode → Things → AttrNode → Things → Things → Type 0
 OneAttrOneNumber a c b d e = IsSound e → Grows (with_attr a c).1 e → Grows (with_attr b d).1 e → ((with_attr a c).0 ≡ (with_attr b d).0) ↔ (kept c.names a ≡ kept d.names b)
+
+-- and exactly where they mean one thing, part by part
+abbrev pub OneTypeOneMeaning : TypeNode → Things → TypeNode → Things → Things → Type 0
+OneTypeOneMeaning a c b d e = IsSound e → TypeIsOf c a → TypeIsOf d b → Grows (with_type a c).1 e → Grows (with_type b d).1 e → ((with_type a c).0 ≡ (with_type b d).0) ↔ (type_node_term c a ≡ type_node_term d b)
+
+abbrev pub OneAttrOneMeaning : AttrNode → Things → AttrNode → Things → Things → Type 0
+OneAttrOneMeaning a c b d e = Holds c → Holds d → IsSound e → AttrIsOf c a → AttrIsOf d b → Grows (with_attr a c).1 e → Grows (with_attr b d).1 e → ((with_attr a c).0 ≡ (with_attr b d).0) ↔ (attr_node_term c (kept c.names a) ≡ attr_node_term d (kept d.names b))
+
+-- a dictionary whose entries are given in another order
+abbrev pub OrderIsFree : Things → List (ℕ × ℕ) → List (ℕ × ℕ) → Type 0
+OrderIsFree c xs ys = IsSound c → AttrIsOf c (Dict xs) → key_reason (Dict xs) ≡ None → IsPermutation xs ys → with_attr (Dict xs) c ≡ with_attr (Dict ys) c

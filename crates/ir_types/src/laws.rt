@@ -1,11 +1,12 @@
 //! Laws of names, types and attributes and their numbers. A context is given by what it holds.
-ghost use Rattle.std.specs.Prelude.{◌≡◌, ℕ, List, slice_get, Some};
+ghost use Rattle.std.specs.Prelude.{◌≡◌, ℕ, List, slice_get, Some, None};
 ghost use Rattle.ir_types.specs.Dictionaries.{kept};
 ghost use Rattle.ir_types.specs.Interning.{with_attr, with_name, with_type};
-ghost use Rattle.ir_types.specs.Laws.{AttrNodeStays, AttrStays, AttrsDiffer, NameStays, NamesDiffer, OneAttrOneNumber, OneNameOneNumber, OneTypeOneNumber, StandsAt, TypeNodeStays, TypeStays, TypesDiffer};
+ghost use Rattle.ir_types.specs.Laws.{AttrNodeStays, AttrStays, AttrsDiffer, NameStays, NamesDiffer, OneAttrOneNumber, OneAttrOneMeaning, OneNameOneNumber, OneTypeOneMeaning, OneTypeOneNumber, OrderIsFree, StandsAt, TypeNodeStays, TypeStays, TypesDiffer};
+ghost use Rattle.ir_types.specs.Reasons.{attr_reason, name_reason, type_reason};
 ghost use Rattle.ir_types.specs.Sound.{Holds, IsSound};
 ghost use Rattle.ir_types.specs.Terms.{attr_node_term, attr_term, name_term, type_node_term, type_term};
-ghost use Rattle.ir_types.specs.Things.{Grows, Things};
+ghost use Rattle.ir_types.specs.Things.{AttrIsOf, Grows, Things, TypeIsOf};
 ghost use Rattle.ir_types.specs.declared.node.AttrNode.{AttrNode};
 ghost use Rattle.ir_types.specs.declared.node.TypeNode.{TypeNode};
 
@@ -96,19 +97,22 @@ pub fn new_attr()
     ensures { (node : AttrNode) (c : Things) → Holds c → attr_term (with_attr node c).1 (with_attr node c).0 ≡ attr_node_term c (kept c.names node) }
 {}
 
-/// A name that is there keeps its number, and nothing changes.
+/// A name that is there keeps its number, and nothing changes; it is refused for no reason.
 pub fn known_name()
-    ensures { (c : Things) (n : ℕ) (bytes : List ℕ) → IsSound c → slice_get c.names n ≡ Some bytes → with_name bytes c ≡ (n, c) }
+    ensures answer { (c : Things) (n : ℕ) (bytes : List ℕ) → IsSound c → slice_get c.names n ≡ Some bytes → with_name bytes c ≡ (n, c) }
+    ensures fine { (c : Things) (n : ℕ) (bytes : List ℕ) → IsSound c → slice_get c.names n ≡ Some bytes → name_reason bytes c ≡ None }
 {}
 
-/// A type that is there keeps its number, and nothing changes.
+/// A type that is there keeps its number, and nothing changes; it is refused for no reason.
 pub fn known_type()
-    ensures { (c : Things) (n : ℕ) (node : TypeNode) → IsSound c → slice_get c.types n ≡ Some node → with_type node c ≡ (n, c) }
+    ensures answer { (c : Things) (n : ℕ) (node : TypeNode) → IsSound c → slice_get c.types n ≡ Some node → with_type node c ≡ (n, c) }
+    ensures fine { (c : Things) (n : ℕ) (node : TypeNode) → IsSound c → slice_get c.types n ≡ Some node → type_reason node c ≡ None }
 {}
 
-/// An attribute that is there keeps its number, and nothing changes.
+/// An attribute that is there keeps its number, and nothing changes; it is refused for no reason.
 pub fn known_attr()
-    ensures { (c : Things) (n : ℕ) (node : AttrNode) → IsSound c → slice_get c.attrs n ≡ Some node → with_attr node c ≡ (n, c) }
+    ensures answer { (c : Things) (n : ℕ) (node : AttrNode) → IsSound c → slice_get c.attrs n ≡ Some node → with_attr node c ≡ (n, c) }
+    ensures fine { (c : Things) (n : ℕ) (node : AttrNode) → IsSound c → slice_get c.attrs n ≡ Some node → attr_reason node c ≡ None }
 {}
 
 /// An attribute that is there has its entries in order.
@@ -123,13 +127,36 @@ pub fn one_name_one_number()
 {}
 
 /// Two calls, in whichever order, answer one number for two types exactly where their nodes are the
-/// same.
+/// same, and exactly where the types are, down to their parts.
 pub fn one_type_one_number()
-    ensures { (a b : TypeNode) (c d e : Things) → OneTypeOneNumber a c b d e }
+    ensures node { (a b : TypeNode) (c d e : Things) → OneTypeOneNumber a c b d e }
+    ensures meaning { (a b : TypeNode) (c d e : Things) → OneTypeOneMeaning a c b d e }
 {}
 
 /// Two calls, in whichever order, answer one number for two attributes exactly where their nodes are
-/// the same, with the entries of dictionaries sorted.
+/// the same, with the entries of dictionaries sorted, and exactly where the attributes are, down to
+/// their parts.
 pub fn one_attr_one_number()
-    ensures { (a b : AttrNode) (c d e : Things) → OneAttrOneNumber a c b d e }
+    ensures node { (a b : AttrNode) (c d e : Things) → OneAttrOneNumber a c b d e }
+    ensures meaning { (a b : AttrNode) (c d e : Things) → OneAttrOneMeaning a c b d e }
+{}
+
+/// The order in which a dictionary's entries are given does not matter, where no key stands twice.
+pub fn order_is_free()
+    ensures { (c : Things) (xs ys : List (ℕ × ℕ)) → OrderIsFree c xs ys }
+{}
+
+/// A name against which no reason stands leaves a context sound.
+pub fn name_keeps_sound()
+    ensures { (bytes : List ℕ) (c : Things) → IsSound c → name_reason bytes c ≡ None → IsSound (with_name bytes c).1 }
+{}
+
+/// A type against which no reason stands leaves a context sound.
+pub fn type_keeps_sound()
+    ensures { (node : TypeNode) (c : Things) → IsSound c → TypeIsOf c node → type_reason node c ≡ None → IsSound (with_type node c).1 }
+{}
+
+/// An attribute against which no reason stands leaves a context sound.
+pub fn attr_keeps_sound()
+    ensures { (node : AttrNode) (c : Things) → IsSound c → AttrIsOf c node → attr_reason node c ≡ None → IsSound (with_attr node c).1 }
 {}
