@@ -80,9 +80,10 @@ module _ (names : List (List ℕ)) where
   placed_in : (e x : Entry) (fs : List Entry) → In x (e ∷ fs) → In x (placed_among names e fs)
   placed_in e x [] h = h
   placed_in e x (f ∷ fs) h =
-      elim (comes_before names e f) as (λ b. In x (cond b (e ∷ f ∷ fs) (f ∷ placed_among names e fs)))
-      [ true ↦ h
-      | false ↦ ⊎_elim (λ (p : e ≡ x). inr (placed_in e x fs (inl p))) (λ (k : In x (f ∷ fs)). ⊎_elim (λ (p : f ≡ x). inl p) (λ (m : In x fs). inr (placed_in e x fs (inr m))) k) h ]
+      elim (comes_before names e f) as (λ b. In x (cond b (e ∷ f ∷ fs) (f ∷ placed_among names e fs))) [
+        | true ↦ h
+        | false ↦ ⊎_elim (λ (p : e ≡ x). inr (placed_in e x fs (inl p))) (λ (k : In x (f ∷ fs)). ⊎_elim (λ (p : f ≡ x). inl p) (λ (m : In x fs). inr (placed_in e x fs (inr m))) k) h
+      ]
 
   in_placed : (e x : Entry) (fs : List Entry) → In x (placed_among names e fs) → In x (e ∷ fs)
   in_placed e x [] h = h
@@ -124,13 +125,13 @@ module _ (names : List (List ℕ)) where
   one_list (x ∷ xs) [] h k f g = absurd (f x (inl refl))
   one_list (x ∷ xs) (y ∷ ys) h k f g =
       let head : x ≡ y = ⊎_elim (λ (p : y ≡ x). sym p)
-          (λ (m : In x ys). ⊎_elim (λ (p : x ≡ y). p)
-          (λ (n : In y xs). absurd (not_both (at x) (at y) (all_in (λ z. order (at x) (at z) ≡ Less) xs y h.0 n) (all_in (λ z. order (at y) (at z) ≡ Less) ys x k.0 m)))
-          (g y (inl refl)))
-          (f x (inl refl)) in
+      (λ (m : In x ys). ⊎_elim (λ (p : x ≡ y). p)
+      (λ (n : In y xs). absurd (not_both (at x) (at y) (all_in (λ z. order (at x) (at z) ≡ Less) xs y h.0 n) (all_in (λ z. order (at y) (at z) ≡ Less) ys x k.0 m)))
+      (g y (inl refl)))
+      (f x (inl refl)) in
       let tail : xs ≡ ys = one_list xs ys h.1 k.1
-          (λ z n. ⊎_elim (λ (p : y ≡ z). absurd (never_self (at x) (subst (λ w. order (at x) (at w) ≡ Less) (sym p ∙ sym head) (all_in (λ z. order (at x) (at z) ≡ Less) xs z h.0 n)))) (λ (m : In z ys). m) (f z (inr n)))
-          (λ z n. ⊎_elim (λ (p : x ≡ z). absurd (never_self (at y) (subst (λ w. order (at y) (at w) ≡ Less) (sym p ∙ head) (all_in (λ z. order (at y) (at z) ≡ Less) ys z k.0 n)))) (λ (m : In z xs). m) (g z (inr n))) in
+      (λ z n. ⊎_elim (λ (p : y ≡ z). absurd (never_self (at x) (subst (λ w. order (at x) (at w) ≡ Less) (sym p ∙ sym head) (all_in (λ z. order (at x) (at z) ≡ Less) xs z h.0 n)))) (λ (m : In z ys). m) (f z (inr n)))
+      (λ z n. ⊎_elim (λ (p : x ≡ z). absurd (never_self (at y) (subst (λ w. order (at y) (at w) ≡ Less) (sym p ∙ head) (all_in (λ z. order (at y) (at z) ≡ Less) ys z k.0 n)))) (λ (m : In z xs). m) (g z (inr n))) in
       λ i. head i ∷ tail i
 
 -- the elements of a list, by place
@@ -288,10 +289,12 @@ module _ (names : List (List ℕ)) (apart : AreApart names) (xs ys : List Entry)
   pub sorted_kept : has_twin (keys_of_entries xs) ≡ false → (ys ≡ sorted names xs) × Rise names ys
   sorted_kept none =
       let rise : Rise names ys = rises names apart ys known_ys up (sorted_twin ∙ none) in
-      let kept = sorted_rises names xs (apart_from names apart xs known_xs (distinct_keys (keys_of_entries xs) none)) in
-      (one_list names ys (sorted names xs) rise kept
-      (λ x h. sorted_in names x xs (moved_in ys xs (IsPermutation-sym xs ys moved) x h))
-      (λ x h. moved_in xs ys moved x (in_sorted names x xs h)), rise)
+      let kept = sorted_rises names xs (apart_from names apart xs known_xs (distinct_keys (keys_of_entries xs) none)) in (
+        one_list names ys (sorted names xs) rise kept
+            (λ x h. sorted_in names x xs (moved_in ys xs (IsPermutation-sym xs ys moved) x h))
+            (λ x h. moved_in xs ys moved x (in_sorted names x xs h)),
+        rise,
+      )
 
 -- the order in which entries are given does not matter
 pub sorted_moved : (names : List (List ℕ)) → AreApart names → (xs ys : List Entry) → All (λ (e : Entry). e.0 < length names) xs → IsPermutation xs ys → has_twin (keys_of_entries xs) ≡ false → sorted names xs ≡ sorted names ys

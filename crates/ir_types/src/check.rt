@@ -162,7 +162,9 @@ impl Context {
         requires { IsType self.now ty }
         ensures { result ≡ list_all (is_value_number (type_term self.now ty)) values.now }
     {
-        values.iter().all(|value| self.is_value(ty, i128::from(*value)))
+        values
+            .iter()
+            .all(|value| self.is_value(ty, i128::from(*value)))
     }
 }
 
@@ -205,6 +207,5 @@ fn size_fault(node: &TypeNode) -> Option<Refusal>
 fn are_dimensions(dims: &[Option<u64>]) -> bool
     ensures { result ≡ list_all is_dimension dims.now }
 {
-    dims.iter()
-        .all(|dim| dim.is_none_or(|size| size <= 9_223_372_036_854_775_807))
+    dims.iter().all(|dim| dim.is_none_or(|size| size <= 9_223_372_036_854_775_807))
 }

@@ -1,10 +1,10 @@
 //! Equal names, types and attributes have equal numbers, and a number gives its thing back for good.
 #![tactic(auto)]
 
+pub mod bits;
 mod check;
 pub mod context;
 mod dictionary;
-pub mod bits;
 pub mod ids;
 pub mod laws;
 pub mod node;

@@ -24,9 +24,10 @@ returns-then-not-sort_entries-clause-reason c =
 pub returns-then-not-sort_entries-clause-kept : goal.returns-then-not-sort_entries-clause-kept
 returns-then-not-sort_entries-clause-kept c =
     let names : map (λ v. v.items) c.self.inside.names.keys ≡ c.args.self.now.names = ap (λ (d : Things). d.names) c.self.view_is in
-    let long : length c.new.result ≡ length c.in-Dict.entries = ap length c.new.ensures ∙ length_permutation c.into_vec-entries.result.items c.sort_entries.new.entries.items c.sort_entries.ensures.moved ∙ ap length c.into_vec-entries.ensures in
-    (omega (arith, long, c.len.ensures, c.if-len-gt256.false),
-    subst (λ l. IsRising c.args.self.now.names l) (sym c.new.ensures) (subst (λ ns. IsRising ns c.sort_entries.new.entries.items) names (c.sort_entries.ensures.rising c.if-not-sort_entries.true)))
+    let long : length c.new.result ≡ length c.in-Dict.entries = ap length c.new.ensures ∙ length_permutation c.into_vec-entries.result.items c.sort_entries.new.entries.items c.sort_entries.ensures.moved ∙ ap length c.into_vec-entries.ensures in (
+      omega (arith, long, c.len.ensures, c.if-len-gt256.false),
+      subst (λ l. IsRising c.args.self.now.names l) (sym c.new.ensures) (subst (λ ns. IsRising ns c.sort_entries.new.entries.items) names (c.sort_entries.ensures.rising c.if-not-sort_entries.true)),
+    )
 
 pub returns-clause-reason : goal.returns-clause-reason
 returns-clause-reason c =
