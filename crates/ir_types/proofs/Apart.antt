@@ -1,5 +1,5 @@
 -- Things of which no two are one stand at one place each.
-use Rattle.std.proofs.Common.{◌≡◌, ◌≢◌, ◌∙◌, sym, ap, subst, ℕ, ◌<◌, Bool, true, false, List, [], ◌∷◌, map, slice_get, Some, ⊎_elim, arith}
+use Rattle.std.proofs.Common.{◌≡◌, ◌≢◌, ◌∙◌, sym, subst, ℕ, Bool, true, false, List, [], ◌∷◌, map, ⊎_elim, arith}
 use Rattle.std.specs.Bool.{Decides}
 use Rattle.std.specs.List.{AllPairs, AllByRecursion, IsDistinct}
 use Rattle.std.specs.Str.{bytes_eq}

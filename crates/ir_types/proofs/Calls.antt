@@ -1,9 +1,10 @@
 -- What the calls of a context answer.
-use Rattle.std.proofs.Common.{◌≡◌, ◌∙◌, refl, sym, ap, subst, ℕ, zero, suc, ◌+◌, ◌<◌, ◌≤◌, Bool, true, false, true≢false, cond, List, [], ◌∷◌, ◌++◌, length, map, Some, None, Option, Ok, Err, slice_get, IsTrue, le-leb, leb-true, lt-ltb, ltb-true, arith}
-use Rattle.std.specs.Prelude.{slice_index_or, not, nat_le, nat_lt, ◌&&◌, ◌||◌, Result, IfErr, IsErrOf}
+use Rattle.std.proofs.Common.{◌≡◌, ◌∙◌, refl, sym, ap, subst, ℕ, zero, suc, ◌+◌, ◌<◌, ◌≤◌, Bool, true, false, cond, List, [], ◌∷◌, ◌++◌, length, map, Some, None, Option, Ok, Err, slice_get, IsTrue, le-leb, leb-true, arith}
+use Rattle.std.specs.Prelude.{slice_index_or, not, nat_le, ◌&&◌, ◌||◌, Result, IfErr, IsErrOf}
 use Rattle.std.specs.List.{list_any, position_or_len}
 use Rattle.std.specs.Str.{bytes_eq}
 use Rattle.std.proofs.lemmas.Option.{slice_get_within}
+use Rattle.std.specs.Map.{keys_of}
 use Rattle.std.specs.List.{position}
 use Rattle.std.proofs.lemmas.List.{length-map, map-append}
 use Rattle.ir_types_base.specs.Interned.{with_last}
@@ -16,13 +17,12 @@ use Rattle.ir_types.specs.Refusals.{not_interned}
 use Rattle.ir_types.specs.declared.refusal.Refusal.{Refusal}
 use Rattle.ir_types.specs.declared.refusal.Refusal.TheVariants.{TooMany, TooDeep, BadWidth, Memory}
 use Rattle.ir_types.specs.Things.{Things, Grows, IsType, IsAttr}
-use Rattle.ir_types.specs.Terms.{TypeTerm, Index, Flag, attr_terms, type_term, type_node_term, type_from, type_terms, attr_term}
+use Rattle.ir_types.specs.Terms.{TypeTerm, Index, Flag, attr_terms, type_term, type_from, type_terms, attr_term}
 use Rattle.ir_types.specs.Depths.{type_depth, attr_depth}
-use Rattle.ir_types.specs.Reasons.{full_reason, first_reason, type_fault, size_reason, depth_reason, is_width, IsRefusedFor, checked}
+use Rattle.ir_types.specs.Reasons.{full_reason, first_reason, type_fault, depth_reason, is_width, IsRefusedFor, checked}
 use Rattle.ir_types.specs.Interning.{with_name}
 use Rattle.ir_types.specs.Bits.{HasWidth}
-use Rattle.ir_types.specs.Sound.{Holds, IsSound}
-use Rattle.ir_types.proofs.Growth.{grows_name, grows_refl}
+use Rattle.ir_types.specs.Sound.{Holds}
 use Rattle.ir_types.proofs.Terms.{type_term_is}
 
 -- when a list is full
@@ -197,3 +197,10 @@ first_passes a b e = rw e refl
 
 pub names_inserted : {V : Type 0} (f : V → List ℕ) (ks new : List V) (key : V) → new ≡ cond (list_any (λ v. bytes_eq (f key) (f v)) ks) ks (ks ++ key ∷ []) → map f new ≡ with_last (bytes_eq (f key)) (f key) (map f ks)
 names_inserted f ks new key e = names_inserted_at f (f key) ks new key refl e
+
+-- the key of an entry
+pub key_at : {K V : Type 0} (es : List (K × V)) (n : ℕ) (e : K × V) → slice_get es n ≡ Some e → slice_get (keys_of es) n ≡ Some e.0
+key_at [] zero e at = absurd cc
+key_at [] (suc n) e at = absurd cc
+key_at (x ∷ es) zero e at = let same : x ≡ e = cc in ap (λ z. Some z.0) same
+key_at (x ∷ es) (suc n) e at = key_at es n e at

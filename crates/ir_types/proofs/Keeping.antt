@@ -1,5 +1,5 @@
 -- A context that takes one thing more still keeps each type and attribute with its depth.
-use Rattle.std.proofs.Common.{◌≡◌, ◌∙◌, refl, sym, ap, subst, ℕ, ◌≤◌, List, [], ◌∷◌, ◌++◌, length, map, None, ◌⊎◌, ⊎_elim}
+use Rattle.std.proofs.Common.{◌≡◌, ◌∙◌, sym, ap, subst, ℕ, ◌≤◌, List, [], ◌∷◌, ◌++◌, length, map, None, ◌⊎◌, ⊎_elim}
 use Rattle.std.specs.Map.{keys_of, values_of}
 use Rattle.std.specs.List.{position_or_len}
 use Rattle.std.specs.Str.{bytes_eq}
@@ -17,7 +17,6 @@ use Rattle.ir_types.specs.Interning.{with_name, with_type, with_attr}
 use Rattle.ir_types.specs.Reasons.{type_fault, attr_fault}
 use Rattle.ir_types.specs.Sound.{Holds, IsKept}
 use Rattle.ir_types.specs.Held.{things_of, IsKeptWithDepths}
-use Rattle.ir_types.proofs.Growth.{name_types, name_attrs}
 use Rattle.ir_types.proofs.Holding.{holds_name, holds_type, holds_attr, type_depths_push, attr_depths_push, kept_depth, attr_depths_names, attr_depths_types}
 
 abbrev Types : Type 0

@@ -1,6 +1,6 @@
 -- What a node is kept as, and why it is refused.
-use Rattle.std.proofs.Common.{◌≡◌, ◌∙◌, refl, sym, ap, subst, ℕ, ◌<◌, ◌≤◌, Bool, true, false, true≢false, List, length, map, Some, None, Ok, Err, le-leb, leb-true, lt-ltb, arith}
-use Rattle.std.specs.Prelude.{nat_le, Option, if◌then◌else◌}
+use Rattle.std.proofs.Common.{◌≡◌, ◌∙◌, refl, sym, ap, subst, ℕ, ◌<◌, ◌≤◌, Bool, true, false, true≢false, List, length, map, Some, None, Ok, Err, le-leb, leb-true, arith}
+use Rattle.std.specs.Prelude.{nat_le, Option, Result, IsErrAnd, if◌then◌else◌}
 use Rattle.std.specs.List.{list_any, position_or_len}
 use Rattle.ir_types.specs.declared.node.AttrNode.{AttrNode}
 use Rattle.ir_types.specs.declared.node.AttrNode.TheVariants as attr
@@ -11,7 +11,7 @@ use Rattle.ir_types.specs.Terms.{attr_node_term}
 use Rattle.ir_types.specs.Same.{same_attr}
 use Rattle.ir_types.specs.declared.refusal.Refusal.{Refusal}
 use Rattle.ir_types.specs.Reasons.{checked, dictionary_reason, first_reason, instead, count_reason, key_reason, full_reason, attr_fault, attr_reason, IsRefusedFor}
-use Rattle.ir_types.specs.Sound.{Holds, IsKept, IsRising}
+use Rattle.ir_types.specs.Sound.{Holds, IsKept}
 use Rattle.ir_types.proofs.SameNodes.{same_attr_is}
 use Rattle.ir_types.proofs.Placing.{found_there}
 use Rattle.ir_types.proofs.Sorting.{moved_twin, sorted_moves, rising_twinless}
@@ -98,3 +98,11 @@ module _ (c : Things) (h : Holds c) (node : AttrNode) where
 pub refused_as : (A B : Type 0) (reason : Option Refusal) (refusal : Refusal) → IsRefusedFor {A = A} reason (Err refusal) → IsRefusedFor {A = B} reason (Err refusal)
 refused_as A B None refusal h = h
 refused_as A B (Some r) refusal h = let e : refusal ≡ r = cc in ap Err e
+
+-- what `?` hands on is the refusal itself
+pub handed_on : (A : Type 0) (result : Result A Refusal) (refusal : Refusal) → IsErrAnd result (λ r. r ≡ refusal) → result ≡ Err refusal
+handed_on A (Ok x) refusal h = absurd h
+handed_on A (Err r) refusal h = ap Err h
+
+pub refused_by : (A : Type 0) (result : Result A Refusal) (reason : Option Refusal) (refusal : Refusal) → IsErrAnd result (λ r. r ≡ refusal) → IsRefusedFor {A = A} reason (Err refusal) → IsRefusedFor {A = A} reason result
+refused_by A result reason refusal h k = subst (IsRefusedFor {A = A} reason) (sym (handed_on A result refusal h)) k

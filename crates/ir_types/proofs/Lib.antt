@@ -9,7 +9,6 @@ pub mod KeptOrder
 pub mod Holding
 pub mod CallNumbers
 pub mod AcceptedCalls
-pub mod TwinReasons
 pub mod WordTables
 pub mod WordNumbers
 pub mod WordWidths

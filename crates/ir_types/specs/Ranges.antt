@@ -1,7 +1,7 @@
 -- Which whole numbers a type has, by their sign and magnitude.
-use Rattle.std.specs.Prelude.{ℕ, ◌-◌, ◌^◌, Bool, true, false, nat_lt, nat_le, ◌==◌, if◌then◌else◌, ℤ, pos, unsigned_abs, int_lt}
+use Rattle.std.specs.Prelude.{ℕ, ◌-◌, ◌^◌, Bool, false, nat_lt, nat_le, ◌==◌, if◌then◌else◌, ℤ, pos, unsigned_abs, int_lt}
 use Rattle.ir_types.specs.declared.node.Sign.TheVariants.{Signless, Signed, Unsigned}
-use Rattle.ir_types.specs.Terms.{TypeTerm, Integer, Index, Function, Memref}
+use Rattle.ir_types.specs.Terms.{TypeTerm, Integer, Index}
 
 -- -2^(w-1) to 2^(w-1) - 1
 abbrev pub is_signed : ℕ → Bool → ℕ → Bool

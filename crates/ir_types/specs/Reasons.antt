@@ -1,5 +1,5 @@
 -- Why a thing is refused: the first reason in the order of the numbers, if there is one.
-use Rattle.std.specs.Prelude.{◌≡◌, ℕ, ℤ, Bool, true, false, nat_lt, nat_le, ◌==◌, ◌||◌, ◌&&◌, not, List, map, length, Option, Some, None, Result, Ok, Err, IfErr, if◌then◌else◌}
+use Rattle.std.specs.Prelude.{◌≡◌, ℕ, Bool, true, nat_lt, nat_le, ◌&&◌, not, List, map, length, Option, Some, None, Result, Ok, Err, IfErr, if◌then◌else◌}
 use Rattle.std.specs.List.{list_any, list_all}
 use Rattle.std.specs.Str.{bytes_eq}
 use Rattle.ir_types.specs.declared.node.TypeNode.{TypeNode}
@@ -8,7 +8,7 @@ use Rattle.ir_types.specs.declared.node.AttrNode.TheVariants as attr
 use Rattle.ir_types.specs.declared.refusal.Refusal.{Refusal}
 use Rattle.ir_types.specs.declared.refusal.Refusal.TheVariants.{BadWidth, BadValue, TooDeep, TooMany, DuplicateKey, Memory}
 use Rattle.ir_types.specs.Things.{Things}
-use Rattle.ir_types.specs.Terms.{TypeTerm, Integer, Index, Function, Memref, AttrTerm, IntegerOf, DenseArray, type_node_term, attr_node_term}
+use Rattle.ir_types.specs.Terms.{TypeTerm, Integer, Memref, AttrTerm, IntegerOf, DenseArray, type_node_term, attr_node_term}
 use Rattle.ir_types.specs.Depths.{type_depth, attr_depth}
 use Rattle.ir_types.specs.Ranges.{is_value_number}
 use Rattle.ir_types.specs.Same.{same_type, same_attr}

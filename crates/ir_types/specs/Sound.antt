@@ -1,11 +1,10 @@
 -- What is true of every context.
-use Rattle.std.specs.Prelude.{◌≡◌, ℕ, ◌<◌, ◌≤◌, true, List, length, map, take, slice_get, Option, Some, None}
+use Rattle.std.specs.Prelude.{◌≡◌, ℕ, ◌<◌, ◌≤◌, true, List, length, take, slice_get, Some, None}
 use Rattle.std.specs.List.{AllPairs}
 use Rattle.ir_types_base.specs.Interned.{AreApart}
 use Rattle.ir_types.specs.declared.node.TypeNode.{TypeNode}
 use Rattle.ir_types.specs.declared.node.AttrNode.{AttrNode}
 use Rattle.ir_types.specs.declared.node.AttrNode.TheVariants.{Dict}
-use Rattle.ir_types.specs.declared.refusal.Refusal.{Refusal}
 use Rattle.ir_types.specs.Things.{Things, TypesBelow, PartsBelow}
 use Rattle.ir_types.specs.Terms.{type_term, attr_term}
 use Rattle.ir_types.specs.Reasons.{type_fault, attr_fault}

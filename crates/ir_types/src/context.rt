@@ -22,6 +22,9 @@ use ir_types_base::lists::Items;
 use std::alloc::Global;
 use std::marker::Model;
 
+/// How many entries a dictionary has at most.
+const MOST_ENTRIES: usize = 256;
+
 /// Names, types and attributes, each known by its number.
 #[derive(Drop)]
 pub struct Context {
@@ -55,14 +58,7 @@ impl Context {
     {
         let mut names: IndexSet<Vec<u8>> = IndexSet::new(alloc);
         for index in 0..WORDS {
-            let bytes = match Vec::from_slice(alloc, word(index)) {
-                Ok(bytes) => bytes,
-                Err(error) => return Err(Refusal::from(error)),
-            };
-            match names.insert(bytes) {
-                Ok(_) => {}
-                Err(error) => return Err(Refusal::from(error)),
-            }
+            names.insert(Vec::from_slice(alloc, word(index))?)?;
         }
         Ok(Context {
             alloc,
@@ -116,7 +112,8 @@ impl Context {
     /// The attribute of a number. A dictionary has its entries sorted by the keys' bytes.
     pub fn attr_node(&self, id: AttrId) -> &AttrNode
         requires { IsAttr self.now id }
-        ensures { slice_get self.now.attrs id ≡ Some result.now }
+        ensures node { slice_get self.now.attrs id ≡ Some result.now }
+        ensures kept { IsKept self.now.names result.now }
     {
         let (node, _depth) = self.attrs.get_index(id.number() as usize).unwrap();
         node
@@ -131,10 +128,7 @@ impl Context {
         ensures refused { IsRefusedFor (name_reason bytes.now self.old) result }
         ensures err { OnErr result (self.new ≡ self.old) }
     {
-        let place = match intern_name(&mut self.names, self.alloc, bytes) {
-            Ok(place) => place,
-            Err(refusal) => return Err(refusal),
-        };
+        let place = intern_name(&mut self.names, self.alloc, bytes)?;
         Ok(NameId::new(place))
     }
 
@@ -150,14 +144,8 @@ impl Context {
         ensures refused { IsRefusedFor (type_reason node self.old) result }
         ensures err { OnErr result (self.new ≡ self.old) }
     {
-        let depth = match self.checked_type(&node) {
-            Ok(depth) => depth,
-            Err(refusal) => return Err(refusal),
-        };
-        let place = match intern_type(&mut self.types, node, depth) {
-            Ok(place) => place,
-            Err(refusal) => return Err(refusal),
-        };
+        let depth = self.checked_type(&node)?;
+        let place = intern_type(&mut self.types, node, depth)?;
         Ok(TypeId::new(place))
     }
 
@@ -173,18 +161,9 @@ impl Context {
         ensures refused { IsRefusedFor (attr_reason node self.old) result }
         ensures err { OnErr result (self.new ≡ self.old) }
     {
-        let depth = match self.checked_attr(&node) {
-            Ok(depth) => depth,
-            Err(refusal) => return Err(refusal),
-        };
-        let kept = match self.kept(node) {
-            Ok(kept) => kept,
-            Err(refusal) => return Err(refusal),
-        };
-        let place = match intern_attr(&mut self.attrs, kept, depth) {
-            Ok(place) => place,
-            Err(refusal) => return Err(refusal),
-        };
+        let depth = self.checked_attr(&node)?;
+        let kept = self.kept(node)?;
+        let place = intern_attr(&mut self.attrs, kept, depth)?;
         Ok(AttrId::new(place))
     }
 
@@ -197,7 +176,7 @@ impl Context {
         let AttrNode::Dict(entries) = node else {
             return Ok(node);
         };
-        if entries.len() > 256 {
+        if entries.len() > MOST_ENTRIES {
             return Err(Refusal::TooMany);
         }
         let mut entries = entries.into_vec();

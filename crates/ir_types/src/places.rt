@@ -36,14 +36,8 @@ pub fn intern_name(
     if place >= LIMIT as usize {
         return Err(Refusal::TooMany);
     }
-    let key = match Vec::from_slice(alloc, bytes) {
-        Ok(key) => key,
-        Err(error) => return Err(Refusal::from(error)),
-    };
-    match names.insert(key) {
-        Ok(_) => Ok(place as u32),
-        Err(error) => Err(Refusal::from(error)),
-    }
+    names.insert(Vec::from_slice(alloc, bytes)?)?;
+    Ok(place as u32)
 }
 
 /// The place of a type, which is kept with its depth.

@@ -1,4 +1,4 @@
-use Rattle.std.proofs.Common.{◌≡◌, ◌<◌, ◌∙◌, sym, ap, ℕ, map, length, subst}
+use Rattle.std.proofs.Common.{◌<◌, ◌∙◌, sym, ap, ℕ, map, length, subst}
 use Rattle.std.specs.List.{All}
 use Rattle.std.proofs.lemmas.List.{length-map}
 use Rattle.ir_types.specs.Dictionaries.{has_adjacent_twin}

@@ -1,6 +1,5 @@
-use Rattle.std.proofs.Common.{◌≡◌, ◌∙◌, sym, ap, rules}
-use Rattle.ir_types.specs.Terms.{type_terms, type_term}
-use Rattle.ir_types.specs.Ranges.{is_literal_number}
+use Rattle.std.proofs.Common.{rules}
+use Rattle.ir_types.specs.Terms.{type_terms}
 use Rattle.ir_types.proofs.Terms.{type_term_is}
 use Rattle.ir_types.proofs.Calls.{width_of_type}
 use Rattle.ir_types.proofs.context.Context.fits.Goals as goal

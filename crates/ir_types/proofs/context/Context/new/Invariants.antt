@@ -1,4 +1,4 @@
-use Rattle.std.proofs.Common.{◌≡◌, ◌≤◌, map, take, length}
+use Rattle.std.proofs.Common.{◌≡◌, map, take}
 use Rattle.ir_types.specs.Words.{words}
 use Rattle.ir_types.proofs.context.Context.new.Given as goal
 
