@@ -56,45 +56,25 @@ pub fn attr_of_node()
     ensures { (c : Things) (n : ℕ) (node : AttrNode) → Holds c → slice_get c.attrs n ≡ Some node → attr_term c n ≡ attr_node_term c node }
 {}
 
-/// To intern a name leaves every number what it stands for.
-pub fn name_grows()
-    ensures { (bytes : List ℕ) (c : Things) → Grows c (with_name bytes c).1 }
+/// To intern a thing leaves every number what it stands for.
+pub fn calls_grow()
+    ensures name { (bytes : List ℕ) (c : Things) → Grows c (with_name bytes c).1 }
+    ensures ty { (node : TypeNode) (c : Things) → Grows c (with_type node c).1 }
+    ensures attr { (node : AttrNode) (c : Things) → Grows c (with_attr node c).1 }
 {}
 
-/// To intern a type leaves every number what it stands for.
-pub fn type_grows()
-    ensures { (node : TypeNode) (c : Things) → Grows c (with_type node c).1 }
+/// To add nothing is to grow, and to grow twice is to grow.
+pub fn growth_is_an_order()
+    ensures reflexive { (c : Things) → Grows c c }
+    ensures transitive { (b c d : Things) → Grows b c → Grows c d → Grows b d }
 {}
 
-/// To intern an attribute leaves every number what it stands for.
-pub fn attr_grows()
-    ensures { (node : AttrNode) (c : Things) → Grows c (with_attr node c).1 }
-{}
-
-/// To add nothing is to grow.
-pub fn growth_is_reflexive()
-    ensures { (c : Things) → Grows c c }
-{}
-
-/// To grow twice is to grow.
-pub fn growth_is_transitive()
-    ensures { (b c d : Things) → Grows b c → Grows c d → Grows b d }
-{}
-
-/// The number that is answered for a name stands for its bytes.
-pub fn new_name()
-    ensures { (bytes : List ℕ) (c : Things) → name_term (with_name bytes c).1 (with_name bytes c).0 ≡ bytes }
-{}
-
-/// The number that is answered for a type stands for what the node is.
-pub fn new_type()
-    ensures { (node : TypeNode) (c : Things) → Holds c → type_term (with_type node c).1 (with_type node c).0 ≡ type_node_term c node }
-{}
-
-/// The number that is answered for an attribute stands for what the node is, with a dictionary's
-/// entries sorted.
-pub fn new_attr()
-    ensures { (node : AttrNode) (c : Things) → Holds c → attr_term (with_attr node c).1 (with_attr node c).0 ≡ attr_node_term c (kept c.names node) }
+/// The number that is answered for a thing stands for it: a name's for its bytes, a type's for what
+/// the node is, an attribute's for what the node is with a dictionary's entries sorted.
+pub fn new_numbers()
+    ensures name { (bytes : List ℕ) (c : Things) → name_term (with_name bytes c).1 (with_name bytes c).0 ≡ bytes }
+    ensures ty { (node : TypeNode) (c : Things) → Holds c → type_term (with_type node c).1 (with_type node c).0 ≡ type_node_term c node }
+    ensures attr { (node : AttrNode) (c : Things) → Holds c → attr_term (with_attr node c).1 (with_attr node c).0 ≡ attr_node_term c (kept c.names node) }
 {}
 
 /// A name that is there keeps its number, and nothing changes; it is refused for no reason.
@@ -146,17 +126,9 @@ pub fn order_is_free()
     ensures { (c : Things) (xs ys : List (ℕ × ℕ)) → OrderIsFree c xs ys }
 {}
 
-/// A name against which no reason stands leaves a context sound.
-pub fn name_keeps_sound()
-    ensures { (bytes : List ℕ) (c : Things) → IsSound c → name_reason bytes c ≡ None → IsSound (with_name bytes c).1 }
-{}
-
-/// A type against which no reason stands leaves a context sound.
-pub fn type_keeps_sound()
-    ensures { (node : TypeNode) (c : Things) → IsSound c → TypeIsOf c node → type_reason node c ≡ None → IsSound (with_type node c).1 }
-{}
-
-/// An attribute against which no reason stands leaves a context sound.
-pub fn attr_keeps_sound()
-    ensures { (node : AttrNode) (c : Things) → IsSound c → AttrIsOf c node → attr_reason node c ≡ None → IsSound (with_attr node c).1 }
+/// A thing against which no reason stands leaves a context sound.
+pub fn calls_keep_sound()
+    ensures name { (bytes : List ℕ) (c : Things) → IsSound c → name_reason bytes c ≡ None → IsSound (with_name bytes c).1 }
+    ensures ty { (node : TypeNode) (c : Things) → IsSound c → TypeIsOf c node → type_reason node c ≡ None → IsSound (with_type node c).1 }
+    ensures attr { (node : AttrNode) (c : Things) → IsSound c → AttrIsOf c node → attr_reason node c ≡ None → IsSound (with_attr node c).1 }
 {}
