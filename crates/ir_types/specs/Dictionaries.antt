@@ -33,3 +33,12 @@ kept names node = node
 abbrev pub has_twin : List ℕ → Bool
 has_twin [] = false
 has_twin (k ∷ ks) = list_any (λ l. k == l) ks || has_twin ks
+
+-- whether an entry's key is that of the entry before it
+abbrev pub twin_after : ℕ → List (ℕ × ℕ) → Bool
+twin_after last [] = false
+twin_after last (e ∷ es) = (e.0 == last) || twin_after e.0 es
+
+abbrev pub has_adjacent_twin : List (ℕ × ℕ) → Bool
+has_adjacent_twin [] = false
+has_adjacent_twin (e ∷ es) = twin_after e.0 es

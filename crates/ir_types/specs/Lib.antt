@@ -10,3 +10,5 @@ pub mod Reasons
 pub mod Words
 pub mod Bits
 pub mod Sound
+pub mod Held
+pub mod Laws

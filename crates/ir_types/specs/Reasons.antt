@@ -1,5 +1,5 @@
 -- Why a thing is refused: the first reason in the order of the numbers, if there is one.
-use Rattle.std.specs.Prelude.{◌≡◌, ℕ, ℤ, Bool, true, false, nat_lt, nat_le, ◌==◌, ◌||◌, ◌&&◌, not, List, map, length, Option, Some, None, Result, Err, IfErr, if◌then◌else◌}
+use Rattle.std.specs.Prelude.{◌≡◌, ℕ, ℤ, Bool, true, false, nat_lt, nat_le, ◌==◌, ◌||◌, ◌&&◌, not, List, map, length, Option, Some, None, Result, Ok, Err, IfErr, if◌then◌else◌}
 use Rattle.std.specs.List.{list_any, list_all}
 use Rattle.std.specs.Str.{bytes_eq}
 use Rattle.ir_types.specs.declared.node.TypeNode.{TypeNode}
@@ -23,6 +23,11 @@ first_reason (Some refusal) next = Some refusal
 abbrev pub IsRefusedFor : {A : Type 0} → Option Refusal → Result A Refusal → Type 0
 IsRefusedFor (Some refusal) result = result ≡ Err refusal
 IsRefusedFor None result = IfErr result (λ refusal. refusal ≡ Memory)
+
+-- a value, unless there is a reason
+abbrev pub checked : {A : Type 0} → Option Refusal → A → Result A Refusal
+checked (Some refusal) value = Err refusal
+checked None value = Ok value
 
 -- 16,777,216 things are there already, and this one isn't
 abbrev pub full_reason : {A : Type 0} → (A → Bool) → List A → Option Refusal
@@ -74,6 +79,14 @@ count_reason _ = None
 abbrev pub key_reason : AttrNode → Option Refusal
 key_reason (attr.Dict entries) = if has_twin (map (λ (e : ℕ × ℕ). e.0) entries) then Some DuplicateKey else None
 key_reason _ = None
+
+-- what a dictionary is refused for, where so many attributes are there: one with a twin is never among them
+abbrev pub instead : ℕ → Option Refusal → Option Refusal
+instead count None = None
+instead count (Some refusal) = if nat_le 16777216 count then Some TooMany else Some refusal
+
+abbrev pub dictionary_reason : ℕ → AttrNode → Option Refusal
+dictionary_reason count node = first_reason (count_reason node) (instead count (key_reason node))
 
 abbrev pub attr_reason : AttrNode → Things → Option Refusal
 attr_reason node c =

@@ -1,13 +1,19 @@
 //! Equal names, types and attributes have equal numbers, and a number gives its thing back for good.
 #![tactic(auto)]
 
+mod check;
+pub mod context;
+mod dictionary;
 pub mod bits;
 pub mod ids;
+pub mod laws;
 pub mod node;
+mod places;
 pub mod range;
 #[cfg(test)]
 mod range_tests;
 pub mod refusal;
+mod table;
 pub mod word_laws;
 pub mod words;
 

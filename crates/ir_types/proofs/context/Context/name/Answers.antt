@@ -1,0 +1,20 @@
+use Rattle.std.proofs.Common.{◌≡◌, ◌∙◌, ◌≤◌, sym, ap, subst, map, length}
+use Rattle.std.proofs.lemmas.List.{length-map}
+use Rattle.ir_types.specs.Things.{Things, Grows}
+use Rattle.ir_types.specs.Interning.{with_name}
+use Rattle.ir_types.proofs.Growth.{grows_name}
+use Rattle.ir_types.proofs.Keeping.{kept_with_name, named_things, name_call}
+use Rattle.ir_types.proofs.context.Context.name.Goals as goal
+
+pub invariant_of-self-2 : goal.invariant_of-self-2
+invariant_of-self-2 c =
+    let few : length (map (λ v. v.items) c.intern_name.new.names.keys) ≤ 16777216 = subst (λ n. n ≤ 16777216) (sym (length-map c.intern_name.new.names.keys (λ v. v.items))) c.intern_name.ensures.within in
+    kept_with_name (map (λ v. v.items) c.self.inside.names.keys) (map (λ v. v.items) c.intern_name.new.names.keys) c.self.inside.types.entries c.self.inside.attrs.entries c.args.bytes.now c.self.invariant c.in-Ok.ensures.names few
+
+pub returns-clause-ok : goal.returns-clause-ok
+returns-clause-ok c =
+    rw (← c.self.view_is) (name_call (map (λ v. v.items) c.self.inside.names.keys) (map (λ v. v.items) c.intern_name.new.names.keys) c.self.inside.types.entries c.self.inside.attrs.entries c.args.bytes.now c.new.result (c.new.ensures ∙ c.in-Ok.ensures.place) c.in-Ok.ensures.names)
+
+pub returns-clause-grows : goal.returns-clause-grows
+returns-clause-grows c =
+    rw (← c.self.view_is) (subst (Grows _) (sym (named_things (map (λ v. v.items) c.self.inside.names.keys) (map (λ v. v.items) c.intern_name.new.names.keys) c.self.inside.types.entries c.self.inside.attrs.entries c.args.bytes.now c.in-Ok.ensures.names)) (grows_name c.args.bytes.now _))

@@ -1,0 +1,5 @@
+use Rattle.ir_types.proofs.Terms.{type_term_one}
+use Rattle.ir_types.proofs.laws.types_differ.Goals as goal
+
+pub returns : goal.returns
+returns _ c sound m n h k e = type_term_one c m n sound h k e

@@ -1,0 +1,240 @@
+//! The context: names, types and attributes, each known by a number. It only grows.
+ghost use Rattle.std.specs.Prelude.{◌≡◌, ◌<◌, ◌≤◌, ◌↔◌, Some, None, Ok, Err, [], IfOk, OnOk, OnErr, IfErr, IsTrue, length, slice_get};
+ghost use Rattle.ir_types.specs.Things.{IsName, IsType, IsAttr, Grows, TypeIsOf, AttrIsOf};
+ghost use Rattle.ir_types.specs.Interning.{with_name, with_type, with_attr};
+ghost use Rattle.ir_types.specs.Reasons.{IsRefusedFor, checked, name_reason, type_reason, attr_reason, dictionary_reason};
+ghost use Rattle.ir_types.specs.Sound.{IsSound, IsKept};
+ghost use Rattle.ir_types.specs.Dictionaries.{kept};
+ghost use Rattle.ir_types.specs.Depths.{type_depth, attr_depth};
+ghost use Rattle.ir_types.specs.Terms.{type_term, attr_term};
+ghost use Rattle.ir_types.specs.Words.{words};
+
+use crate::dictionary::sort_entries;
+use crate::ids::{AttrId, NameId, TypeId};
+use crate::node::{AttrNode, TypeNode};
+use crate::places::{
+    LIMIT, attrs_apart, intern_attr, intern_name, intern_type, names_apart, types_apart,
+};
+use crate::refusal::Refusal;
+use crate::words::{WORDS, word};
+use indexmap::{IndexMap, IndexSet};
+use ir_types_base::lists::Items;
+use std::alloc::Global;
+use std::marker::Model;
+
+/// Names, types and attributes, each known by its number.
+#[derive(Drop)]
+pub struct Context {
+    alloc: Global,
+    names: IndexSet<Vec<u8>>,
+    types: IndexMap<TypeNode, u32>,
+    attrs: IndexMap<AttrNode, u32>,
+}
+
+impl Model for Context {
+    ghost use Rattle.std.specs.Prelude.{map};
+    ghost use Rattle.ir_types.specs.Things.{Things};
+
+    ghost Value = { Things };
+
+    ghost use Rattle.ir_types.specs.Held.{things_of, IsKeptWithDepths};
+
+    ghost view = { λ c. things_of (map (λ v. v.items) c.names.keys) c.types.entries c.attrs.entries };
+
+    ghost invariant = { λ c. IsKeptWithDepths (map (λ v. v.items) c.names.keys) c.types.entries c.attrs.entries };
+}
+
+impl Context {
+    /// A context that holds the words of the operation table, each at its fixed number, and no type
+    /// and no attribute.
+    ///
+    /// Refusals: `Memory` alone.
+    pub fn new(alloc: Global) -> Result<Context, Refusal>
+        ensures ok { IfOk result (λ c. c ≡ record { names = words; types = []; attrs = [] }) }
+        ensures refused { IfErr result (λ refusal. refusal ≡ Refusal.Memory) }
+    {
+        let mut names: IndexSet<Vec<u8>> = IndexSet::new(alloc);
+        for index in 0..WORDS {
+            let bytes = match Vec::from_slice(alloc, word(index)) {
+                Ok(bytes) => bytes,
+                Err(error) => return Err(Refusal::from(error)),
+            };
+            match names.insert(bytes) {
+                Ok(_) => {}
+                Err(error) => return Err(Refusal::from(error)),
+            }
+        }
+        Ok(Context {
+            alloc,
+            names,
+            types: IndexMap::new(alloc),
+            attrs: IndexMap::new(alloc),
+        })
+    }
+
+    /// Whether a number is a name's.
+    pub fn has_name(&self, id: NameId) -> bool
+        ensures { IsTrue result ↔ IsName self.now id }
+    {
+        (id.number() as usize) < self.names.len()
+    }
+
+    /// Whether a number is a type's.
+    pub fn has_type(&self, id: TypeId) -> bool
+        ensures { IsTrue result ↔ IsType self.now id }
+    {
+        (id.number() as usize) < self.types.len()
+    }
+
+    /// Whether a number is an attribute's.
+    pub fn has_attr(&self, id: AttrId) -> bool
+        ensures { IsTrue result ↔ IsAttr self.now id }
+    {
+        (id.number() as usize) < self.attrs.len()
+    }
+
+    /// The bytes of a name.
+    pub fn name_bytes(&self, id: NameId) -> &[u8]
+        requires { IsName self.now id }
+        ensures { slice_get self.now.names id ≡ Some result.now }
+    {
+        self.names
+            .get_index(id.number() as usize)
+            .unwrap()
+            .as_slice()
+    }
+
+    /// The type of a number.
+    pub fn type_node(&self, id: TypeId) -> &TypeNode
+        requires { IsType self.now id }
+        ensures { slice_get self.now.types id ≡ Some result.now }
+    {
+        let (node, _depth) = self.types.get_index(id.number() as usize).unwrap();
+        node
+    }
+
+    /// The attribute of a number. A dictionary has its entries sorted by the keys' bytes.
+    pub fn attr_node(&self, id: AttrId) -> &AttrNode
+        requires { IsAttr self.now id }
+        ensures { slice_get self.now.attrs id ≡ Some result.now }
+    {
+        let (node, _depth) = self.attrs.get_index(id.number() as usize).unwrap();
+        node
+    }
+
+    /// The number of a name.
+    ///
+    /// Refusals: `TooMany` where the context is full and has no such name; `Memory`.
+    pub fn name(&mut self, bytes: &[u8]) -> Result<NameId, Refusal>
+        ensures ok { IfOk result (λ id. (id, self.new) ≡ with_name bytes.now self.old) }
+        ensures grows { Grows self.old self.new }
+        ensures refused { IsRefusedFor (name_reason bytes.now self.old) result }
+        ensures err { OnErr result (self.new ≡ self.old) }
+    {
+        let place = match intern_name(&mut self.names, self.alloc, bytes) {
+            Ok(place) => place,
+            Err(refusal) => return Err(refusal),
+        };
+        Ok(NameId::new(place))
+    }
+
+    /// The number of a type whose parts are types of this context.
+    ///
+    /// Refusals: `BadWidth` for a width outside 1 to 64; `BadValue` for a dimension above
+    /// 9,223,372,036,854,775,807; `TooDeep` past a depth of 32; `TooMany` where the context is full
+    /// and has no such type; `Memory`.
+    pub fn ty(&mut self, node: TypeNode) -> Result<TypeId, Refusal>
+        requires { TypeIsOf self.old node }
+        ensures ok { IfOk result (λ id. (id, self.new) ≡ with_type node self.old) }
+        ensures grows { Grows self.old self.new }
+        ensures refused { IsRefusedFor (type_reason node self.old) result }
+        ensures err { OnErr result (self.new ≡ self.old) }
+    {
+        let depth = match self.checked_type(&node) {
+            Ok(depth) => depth,
+            Err(refusal) => return Err(refusal),
+        };
+        let place = match intern_type(&mut self.types, node, depth) {
+            Ok(place) => place,
+            Err(refusal) => return Err(refusal),
+        };
+        Ok(TypeId::new(place))
+    }
+
+    /// The number of an attribute whose parts are names, types and attributes of this context.
+    ///
+    /// Refusals: `BadValue` where an integer is no value of its type; `TooDeep` past a depth of 32;
+    /// `TooMany` past 256 entries, or where the context is full and has no such attribute;
+    /// `DuplicateKey` where a key stands twice; `Memory`.
+    pub fn attr(&mut self, node: AttrNode) -> Result<AttrId, Refusal>
+        requires { AttrIsOf self.old node }
+        ensures ok { IfOk result (λ id. (id, self.new) ≡ with_attr node self.old) }
+        ensures grows { Grows self.old self.new }
+        ensures refused { IsRefusedFor (attr_reason node self.old) result }
+        ensures err { OnErr result (self.new ≡ self.old) }
+    {
+        let depth = match self.checked_attr(&node) {
+            Ok(depth) => depth,
+            Err(refusal) => return Err(refusal),
+        };
+        let kept = match self.kept(node) {
+            Ok(kept) => kept,
+            Err(refusal) => return Err(refusal),
+        };
+        let place = match intern_attr(&mut self.attrs, kept, depth) {
+            Ok(place) => place,
+            Err(refusal) => return Err(refusal),
+        };
+        Ok(AttrId::new(place))
+    }
+
+    /// A node as it is kept: a dictionary is sorted. No memory.
+    fn kept(&self, node: AttrNode) -> Result<AttrNode, Refusal>
+        requires { AttrIsOf self.now node }
+        ensures reason { result ≡ checked (dictionary_reason (length self.now.attrs) node) (kept self.now.names node) }
+        ensures kept { IfOk result (λ n. IsKept self.now.names n) }
+    {
+        let AttrNode::Dict(entries) = node else {
+            return Ok(node);
+        };
+        if entries.len() > 256 {
+            return Err(Refusal::TooMany);
+        }
+        let mut entries = entries.into_vec();
+        if !sort_entries(&self.names, &mut entries) {
+            Ok(AttrNode::Dict(Items::new(entries)))
+        } else if self.attrs.len() >= LIMIT as usize {
+            Err(Refusal::TooMany)
+        } else {
+            Err(Refusal::DuplicateKey)
+        }
+    }
+
+    /// The depth of a type of this context.
+    pub(crate) fn type_depth(&self, id: TypeId) -> u32
+        requires { IsType self.now id }
+        ensures depth { result ≡ type_depth (type_term self.now id) }
+        ensures shallow { result ≤ 32 }
+    {
+        self.types[id.number() as usize]
+    }
+
+    /// The depth of an attribute of this context.
+    pub(crate) fn attr_depth(&self, id: AttrId) -> u32
+        requires { IsAttr self.now id }
+        ensures depth { result ≡ attr_depth (attr_term self.now id) }
+        ensures shallow { result ≤ 32 }
+    {
+        self.attrs[id.number() as usize]
+    }
+
+    /// What is true of every context: no thing stands at two places, the words come first, a node
+    /// refers to what stands before it, and nothing in it has a fault.
+    pub fn sound(&self)
+        ensures { IsSound self.now }
+    {
+        names_apart(&self.names);
+        types_apart(&self.types);
+        attrs_apart(&self.attrs);
+    }
+}

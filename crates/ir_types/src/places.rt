@@ -1,0 +1,108 @@
+//! Names, types and attributes by their places: what is there is found, and what is not is put last.
+ghost use Rattle.std.specs.Prelude.{◌≡◌, ◌≤◌, ◌⊎◌, [], ◌∷◌, ◌++◌, IfOk, OnOk, OnErr, map, length};
+ghost use Rattle.std.specs.List.{position_or_len};
+ghost use Rattle.std.specs.Map.{keys_of};
+ghost use Rattle.std.specs.Str.{bytes_eq};
+ghost use Rattle.ir_types_base.specs.Interned.{AreApart, with_last};
+ghost use Rattle.ir_types.specs.Same.{same_type, same_attr};
+ghost use Rattle.ir_types.specs.Reasons.{IsRefusedFor, full_reason};
+
+use crate::node::{AttrNode, TypeNode};
+use crate::refusal::Refusal;
+use indexmap::{IndexMap, IndexSet};
+use ir_types_base::intern::intern;
+use std::alloc::Global;
+
+/// How many names, types and attributes a context has at most, of each.
+pub const LIMIT: u32 = 16_777_216;
+
+/// The place of a name. One that is there takes no memory.
+pub fn intern_name(
+    names: &mut IndexSet<Vec<u8>>,
+    alloc: Global,
+    bytes: &[u8],
+) -> Result<u32, Refusal>
+    requires { length names.old.keys ≤ 16777216 }
+    ensures place { IfOk result (λ n. n ≡ position_or_len (bytes_eq bytes.now) (map (λ v. v.items) names.old.keys)) }
+    ensures names { OnOk result (map (λ v. v.items) names.new.keys ≡ with_last (bytes_eq bytes.now) bytes.now (map (λ v. v.items) names.old.keys)) }
+    ensures within { length names.new.keys ≤ 16777216 }
+    ensures refused { IsRefusedFor (full_reason (bytes_eq bytes.now) (map (λ v. v.items) names.old.keys)) result }
+    ensures err { OnErr result (names.new.keys ≡ names.old.keys) }
+{
+    if let Some(place) = names.get_index_of(bytes) {
+        return Ok(place as u32);
+    }
+    let place = names.len();
+    if place >= LIMIT as usize {
+        return Err(Refusal::TooMany);
+    }
+    let key = match Vec::from_slice(alloc, bytes) {
+        Ok(key) => key,
+        Err(error) => return Err(Refusal::from(error)),
+    };
+    match names.insert(key) {
+        Ok(_) => Ok(place as u32),
+        Err(error) => Err(Refusal::from(error)),
+    }
+}
+
+/// The place of a type, which is kept with its depth.
+pub fn intern_type(
+    types: &mut IndexMap<TypeNode, u32>,
+    node: TypeNode,
+    depth: u32,
+) -> Result<u32, Refusal>
+    requires { length types.old.entries ≤ 16777216 }
+    ensures place { IfOk result (λ n. n ≡ position_or_len (same_type node) (keys_of types.old.entries)) }
+    ensures types { OnOk result (keys_of types.new.entries ≡ with_last (same_type node) node (keys_of types.old.entries)) }
+    ensures entries { OnOk result ((types.new.entries ≡ types.old.entries) ⊎ (types.new.entries ≡ types.old.entries ++ (node, depth) ∷ [])) }
+    ensures within { length types.new.entries ≤ 16777216 }
+    ensures refused { IsRefusedFor (full_reason (same_type node) (keys_of types.old.entries)) result }
+    ensures err { OnErr result (types.new.entries ≡ types.old.entries) }
+{
+    match intern(types, LIMIT, node, depth) {
+        Ok(place) => Ok(place),
+        Err(fault) => Err(Refusal::from(fault)),
+    }
+}
+
+/// The place of an attribute, which is kept with its depth.
+pub fn intern_attr(
+    attrs: &mut IndexMap<AttrNode, u32>,
+    node: AttrNode,
+    depth: u32,
+) -> Result<u32, Refusal>
+    requires { length attrs.old.entries ≤ 16777216 }
+    ensures place { IfOk result (λ n. n ≡ position_or_len (same_attr node) (keys_of attrs.old.entries)) }
+    ensures attrs { OnOk result (keys_of attrs.new.entries ≡ with_last (same_attr node) node (keys_of attrs.old.entries)) }
+    ensures entries { OnOk result ((attrs.new.entries ≡ attrs.old.entries) ⊎ (attrs.new.entries ≡ attrs.old.entries ++ (node, depth) ∷ [])) }
+    ensures within { length attrs.new.entries ≤ 16777216 }
+    ensures refused { IsRefusedFor (full_reason (same_attr node) (keys_of attrs.old.entries)) result }
+    ensures err { OnErr result (attrs.new.entries ≡ attrs.old.entries) }
+{
+    match intern(attrs, LIMIT, node, depth) {
+        Ok(place) => Ok(place),
+        Err(fault) => Err(Refusal::from(fault)),
+    }
+}
+
+/// No two names have the same bytes.
+pub fn names_apart(names: &IndexSet<Vec<u8>>)
+    ensures { AreApart (map (λ v. v.items) names.now.keys) }
+{
+    let _count = names.len();
+}
+
+/// No type stands at two places.
+pub fn types_apart(types: &IndexMap<TypeNode, u32>)
+    ensures { AreApart (keys_of types.now.entries) }
+{
+    let _count = types.len();
+}
+
+/// No attribute stands at two places.
+pub fn attrs_apart(attrs: &IndexMap<AttrNode, u32>)
+    ensures { AreApart (keys_of attrs.now.entries) }
+{
+    let _count = attrs.len();
+}
