@@ -5,3 +5,6 @@ pub mod Falls
 pub mod Ids
 pub mod Sites
 pub mod Seen
+pub mod Limits
+pub mod Uses
+pub mod Numbered

@@ -2,6 +2,10 @@
 #![tactic(auto)]
 
 pub mod copy;
+pub mod count;
+pub mod every;
 pub mod find;
+pub mod limits;
+pub mod numbered;
 pub mod tree;
 pub mod value;
