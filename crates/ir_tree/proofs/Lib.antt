@@ -1,2 +1,9 @@
+pub mod Agreeing
+pub mod Checked
 pub mod Counted
+pub mod Counts
+pub mod Distinct
 pub mod Lists
+pub mod Mapped
+pub mod MappedEdits
+pub mod SeenSites

@@ -5,6 +5,7 @@ use Rattle.std.specs.Coded.{Coded, code_by, coded_ℕ, coded×, coded_list, code
 use base.Stored.{Gv, gnil, gnum, gcons}
 use Rattle.ir_tree.specs.declared.value.Value.{Value}
 use Rattle.ir_tree.specs.declared.value.Value.TheVariants.{Result, Arg}
+use Rattle.ir_tree.specs.Sites.{Frame, results, arguments}
 use Rattle.ir_tree.specs.Tree.{Head, Op, op, Regions, no_regions, region, Region, empty, block, Ops, no_ops, next}
 
 abbrev value_parts : Value → (ℕ × ℕ) ⊎ (ℕ × (ℕ × ℕ))
@@ -84,3 +85,18 @@ mutual
 
 abbrev pub op_code : Coded Op
 op_code = record { code = op_tokens; inj = op_inj }
+
+abbrev frame_parts : Frame → (ℕ × ℕ) ⊎ (ℕ × (ℕ × ℕ))
+frame_parts (results x n) = inl (x, n)
+frame_parts (arguments x r n) = inr (x, (r, n))
+
+abbrev frame_from : (ℕ × ℕ) ⊎ (ℕ × (ℕ × ℕ)) → Frame
+frame_from (inl p) = results p.0 p.1
+frame_from (inr p) = arguments p.0 p.1.0 p.1.1
+
+pub frame_back : (f : Frame) → frame_from (frame_parts f) ≡ f
+frame_back (results x n) = refl
+frame_back (arguments x r n) = refl
+
+abbrev pub frame_code : Coded Frame
+frame_code = code_by _ (coded⊎ (coded× coded_ℕ coded_ℕ) (coded× coded_ℕ (coded× coded_ℕ coded_ℕ))) frame_parts frame_from frame_back

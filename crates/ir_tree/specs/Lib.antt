@@ -8,3 +8,11 @@ pub mod Seen
 pub mod Limits
 pub mod Uses
 pub mod Numbered
+pub mod Scope
+pub mod WellFormed
+pub mod Frames
+pub mod Maps
+pub mod Edits
+pub mod Places
+pub mod Passing
+pub mod Meaning

@@ -65,18 +65,19 @@ items_fit xs = nat_le (length xs) most_items
 abbrev pub head_fits : {N T A : Type 0} → HeadOf N T A → Bool
 head_fits h = items_fit h.operands && (items_fit h.results && (items_fit h.properties && items_fit h.attributes))
 
--- whether the arguments of a region's block are
-abbrev pub arguments_fit : {N T A : Type 0} → RegionOf N T A → Bool
-arguments_fit empty = true
-arguments_fit (block args os) = items_fit args
+-- whether the arguments of a region's block pass a test
+abbrev pub arguments_pass : {N T A : Type 0} → (List T → Bool) → RegionOf N T A → Bool
+arguments_pass p empty = true
+arguments_pass p (block args os) = p args
 
-abbrev pub all_arguments_fit : {N T A : Type 0} → RegionsOf N T A → Bool
-all_arguments_fit no_regions = true
-all_arguments_fit (region r rs) = arguments_fit r && all_arguments_fit rs
+-- and those of each of an operation's regions
+abbrev pub all_arguments_pass : {N T A : Type 0} → (List T → Bool) → RegionsOf N T A → Bool
+all_arguments_pass p no_regions = true
+all_arguments_pass p (region r rs) = arguments_pass p r && all_arguments_pass p rs
 
 -- whether what an operation has of its own is within the limits
 abbrev pub op_fits : {N T A : Type 0} → OpOf N T A → Bool
-op_fits (op h rs) = head_fits h && (nat_le (region_count rs) most_regions && all_arguments_fit rs)
+op_fits (op h rs) = head_fits h && (nat_le (region_count rs) most_regions && all_arguments_pass items_fit rs)
 
 -- whether every count of a tree is within its limit
 abbrev pub counts_fit : {N T A : Type 0} → OpOf N T A → Bool

@@ -69,6 +69,15 @@ abbrev pub ops_of : {N T A : Type 0} → List (OpOf N T A) → OpsOf N T A
 ops_of [] = no_ops
 ops_of (o ∷ os) = next o (ops_of os)
 
+-- and back
+abbrev pub region_list : {N T A : Type 0} → RegionsOf N T A → List (RegionOf N T A)
+region_list no_regions = []
+region_list (region r rs) = r ∷ region_list rs
+
+abbrev pub op_list : {N T A : Type 0} → OpsOf N T A → List (OpOf N T A)
+op_list no_ops = []
+op_list (next o os) = o ∷ op_list os
+
 -- how many operations and regions there are, by which a walk ends
 abbrev mutual
   pub op_size : Op → ℕ

@@ -1,7 +1,7 @@
 //! Tests of every operation of a tree, and the limits.
 ghost use Rattle.std.specs.Prelude.{◌≡◌, Bool};
-ghost use Rattle.ir_tree.specs.Tree.{Op, regions_of};
-ghost use Rattle.ir_tree.specs.Limits.{every, region_every, op_fits, head_fits, arguments_fit};
+ghost use Rattle.ir_tree.specs.Tree.{Op};
+ghost use Rattle.ir_tree.specs.Limits.{every, region_every};
 ghost use Rattle.ir_tree.specs.View.{region_view};
 
 use crate::tree::{TreeOp, TreeRegion};

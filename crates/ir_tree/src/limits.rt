@@ -1,7 +1,7 @@
 //! The limits of a module's counts.
 ghost use Rattle.std.specs.Prelude.{◌≡◌, map};
 ghost use Rattle.ir_tree.specs.Tree.{head, regions_of};
-ghost use Rattle.ir_tree.specs.Limits.{op_fits, head_fits, arguments_fit, all_arguments_fit, counts_fit};
+ghost use Rattle.ir_tree.specs.Limits.{op_fits, head_fits, items_fit, arguments_pass, all_arguments_pass, counts_fit};
 ghost use Rattle.ir_tree.specs.View.{region_view};
 
 use crate::count::op_count;
@@ -56,7 +56,7 @@ fn head_is_within(op: &TreeOp) -> bool
 }
 
 fn all_arguments_are_within(regions: &Vec<TreeRegion>) -> bool
-    ensures { result ≡ all_arguments_fit (regions_of (map region_view regions.now.items)) }
+    ensures { result ≡ all_arguments_pass items_fit (regions_of (map region_view regions.now.items)) }
 {
     for region in regions {
         if !arguments_are_within(region) {
@@ -67,7 +67,7 @@ fn all_arguments_are_within(regions: &Vec<TreeRegion>) -> bool
 }
 
 fn arguments_are_within(region: &TreeRegion) -> bool
-    ensures { result ≡ arguments_fit (region_view region.now) }
+    ensures { result ≡ arguments_pass items_fit (region_view region.now) }
 {
     match region {
         TreeRegion::Empty => true,

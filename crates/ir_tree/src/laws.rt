@@ -1,0 +1,26 @@
+//! Laws of trees: each is a function that has nothing to do.
+ghost use Rattle.std.specs.Prelude.{◌≡◌, ℕ, true};
+ghost use Rattle.ir_tree.specs.declared.place.Place.{Place};
+ghost use Rattle.ir_tree.specs.Tree.{Op};
+ghost use Rattle.ir_tree.specs.Ids.{ids};
+ghost use Rattle.ir_tree.specs.Maps.{map_tree};
+ghost use Rattle.ir_tree.specs.Places.{put, shifted};
+
+/// A law: a tree of the same shape has the same ids.
+#[tactic(auto, using(crate::proofs::Mapped::map_ids))]
+pub fn same_shape_same_ids()
+    ensures { (f g h : ℕ → ℕ) (t : Op) → ids (map_tree f g h t) ≡ ids t }
+{
+}
+
+#[tactic(auto, using(crate::proofs::MappedEdits::map_shifted))]
+pub fn same_shape_same_edit()
+    ensures { (f g h : ℕ → ℕ) (x : ℕ) (place : Place) (t : Op) → shifted x place (map_tree f g h t) ≡ map_tree f g h (shifted x place t) }
+{
+}
+
+#[tactic(auto, using(crate::proofs::Agreeing::map_tree_twice))]
+pub fn same_shape_twice()
+    ensures { (f g h : ℕ → ℕ) (x : ℕ) (place : Place) (t : Op) → map_tree f g h (map_tree f g h t) ≡ map_tree (λ n. f (f n)) (λ n. g (g n)) (λ n. h (h n)) t }
+{
+}
