@@ -35,13 +35,13 @@ impl HeadEdit for NewOperand {
 }
 
 /// The tree with `value` as operand `place` of an operation. Where there is no such operand, the tree as it is.
-pub fn with_operand_set(alloc: Global, root: &TreeOp, op: OpId, place: usize, value: &Value) -> Result<TreeOp, AllocError>
-    ensures { IfOk result (λ t. t ≡ with_operand op place value.now root.now) }
+pub fn with_operand_set(alloc: Global, root: &TreeOp, op: OpId, place: usize, value: Value) -> Result<TreeOp, AllocError>
+    ensures { IfOk result (λ t. t ≡ with_operand op place value root.now) }
 {
     let edit = NewOperand {
         op,
         place,
-        value: *value,
+        value,
     };
     with_heads(alloc, root, &edit)
 }
@@ -82,13 +82,10 @@ fn exchanged(value: &Value, old: &Value, new: &Value) -> Value
 }
 
 /// The tree with `new` in place of `old`, wherever that is an operand.
-pub fn with_replaced(alloc: Global, root: &TreeOp, old: &Value, new: &Value) -> Result<TreeOp, AllocError>
-    ensures { IfOk result (λ t. t ≡ with_value_replaced old.now new.now root.now) }
+pub fn with_replaced(alloc: Global, root: &TreeOp, old: Value, new: Value) -> Result<TreeOp, AllocError>
+    ensures { IfOk result (λ t. t ≡ with_value_replaced old new root.now) }
 {
-    let edit = Replacement {
-        old: *old,
-        new: *new,
-    };
+    let edit = Replacement { old, new };
     with_heads(alloc, root, &edit)
 }
 

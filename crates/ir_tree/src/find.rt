@@ -70,3 +70,4 @@ fn push_region_ids(region: &TreeRegion, out: &mut Vec<OpId>) -> Result<(), Alloc
     }
     Ok(())
 }
+

@@ -101,7 +101,7 @@ fn is_sorted(ctx: &Context, entries: &Vec<(NameId, AttrId)>) -> bool
     true
 }
 
-fn comes_before(ctx: &Context, one: NameId, other: NameId) -> bool
+pub(crate) fn comes_before(ctx: &Context, one: NameId, other: NameId) -> bool
     ensures { result ≡ key_before_in ctx.now one other }
 {
     bytes_or_none(ctx, one)

@@ -9,11 +9,11 @@ use ir_types::ids::OpId;
 use std::alloc::{AllocError, Global};
 
 /// The uses of a value in a tree: users in pre-order, with the numbers of the operands.
-pub fn list_uses(alloc: Global, root: &TreeOp, value: &Value) -> Result<Vec<(OpId, usize)>, AllocError>
-    ensures { IfOk result (λ v. v.items ≡ uses_of value.now root.now) }
+pub fn list_uses(alloc: Global, root: &TreeOp, value: Value) -> Result<Vec<(OpId, usize)>, AllocError>
+    ensures { IfOk result (λ v. v.items ≡ uses_of value root.now) }
 {
     let mut out = Vec::new(alloc);
-    push_uses(root, value, &mut out)?;
+    push_uses(root, &value, &mut out)?;
     Ok(out)
 }
 
