@@ -3,7 +3,9 @@ pub mod Checked
 pub mod Counted
 pub mod Counts
 pub mod Distinct
+pub mod Heads
 pub mod Lists
 pub mod Mapped
 pub mod MappedEdits
+pub mod Replaced
 pub mod SeenSites

@@ -1,9 +1,12 @@
 //! Laws of trees: each is a function that has nothing to do.
-ghost use Rattle.std.specs.Prelude.{◌≡◌, ℕ, true};
+ghost use Rattle.std.specs.Prelude.{◌≡◌, ℕ, true, false, []};
 ghost use Rattle.ir_tree.specs.declared.place.Place.{Place};
+ghost use Rattle.ir_tree.specs.declared.value.Value.{Value as TreeValue};
 ghost use Rattle.ir_tree.specs.Tree.{Op};
 ghost use Rattle.ir_tree.specs.Ids.{ids};
+ghost use Rattle.ir_tree.specs.Uses.{uses_of, same_value};
 ghost use Rattle.ir_tree.specs.Maps.{map_tree};
+ghost use Rattle.ir_tree.specs.Edits.{with_operand, with_value_replaced};
 ghost use Rattle.ir_tree.specs.Places.{put, shifted};
 
 /// A law: a tree of the same shape has the same ids.
@@ -22,5 +25,17 @@ pub fn same_shape_same_edit()
 #[tactic(auto, using(crate::proofs::Agreeing::map_tree_twice))]
 pub fn same_shape_twice()
     ensures { (f g h : ℕ → ℕ) (x : ℕ) (place : Place) (t : Op) → map_tree f g h (map_tree f g h t) ≡ map_tree (λ n. f (f n)) (λ n. g (g n)) (λ n. h (h n)) t }
+{
+}
+
+#[tactic(auto, using(crate::proofs::Heads::head_ids, crate::proofs::Heads::alike_operand))]
+pub fn operand_keeps_ids()
+    ensures { (x k : ℕ) (v : TreeValue) (t : Op) → ids (with_operand x k v t) ≡ ids t }
+{
+}
+
+#[tactic(auto, using(crate::proofs::Replaced::old_unused))]
+pub fn replaced_is_unused()
+    ensures { (v w : TreeValue) (t : Op) → same_value v w ≡ false → uses_of v (with_value_replaced v w t) ≡ [] }
 {
 }
