@@ -7,5 +7,6 @@ pub mod Heads
 pub mod Lists
 pub mod Mapped
 pub mod MappedEdits
+pub mod Moves
 pub mod Replaced
 pub mod SeenSites

@@ -1,6 +1,6 @@
 -- The ids of a tree, and looking an operation up.
-use Rattle.std.specs.Prelude.{◌≡◌, ℕ, List, [], ◌∷◌, ◌++◌, length, eqb, if◌then◌else◌, Option, Some, None}
-use Rattle.std.specs.List.{IsDistinct, range_with_len}
+use Rattle.std.specs.Prelude.{◌≡◌, ℕ, List, [], ◌∷◌, ◌++◌, length, eqb, if◌then◌else◌, Bool, Option, Some, None}
+use Rattle.std.specs.List.{IsDistinct, list_any, range_with_len}
 use Rattle.ir_tree.specs.Tree.{OpOf, op, RegionsOf, no_regions, region, RegionOf, empty, block, OpsOf, no_ops, next}
 
 -- the ids in pre-order: each operation before those inside it, and these in their order
@@ -23,6 +23,10 @@ abbrev mutual
 -- the number of operations, the root included
 abbrev pub op_count : {N T A : Type 0} → OpOf N T A → ℕ
 op_count t = length (ids t)
+
+-- whether an operation of the tree has id x
+abbrev pub has_id : {N T A : Type 0} → ℕ → OpOf N T A → Bool
+has_id x t = list_any (λ y. eqb y x) (ids t)
 
 -- no two operations have one id
 abbrev pub HasDistinctIds : {N T A : Type 0} → OpOf N T A → Type 0

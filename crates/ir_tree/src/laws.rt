@@ -2,12 +2,12 @@
 ghost use Rattle.std.specs.Prelude.{◌≡◌, ℕ, true, false, []};
 ghost use Rattle.ir_tree.specs.declared.place.Place.{Place};
 ghost use Rattle.ir_tree.specs.declared.value.Value.{Value as TreeValue};
-ghost use Rattle.ir_tree.specs.Tree.{Op};
-ghost use Rattle.ir_tree.specs.Ids.{ids};
+ghost use Rattle.ir_tree.specs.Tree.{Op, head};
+ghost use Rattle.ir_tree.specs.Ids.{ids, has_id};
 ghost use Rattle.ir_tree.specs.Uses.{uses_of, same_value};
 ghost use Rattle.ir_tree.specs.Maps.{map_tree};
 ghost use Rattle.ir_tree.specs.Edits.{with_operand, with_value_replaced};
-ghost use Rattle.ir_tree.specs.Places.{put, shifted};
+ghost use Rattle.ir_tree.specs.Places.{put, shifted, without};
 
 /// A law: a tree of the same shape has the same ids.
 #[tactic(auto, using(crate::proofs::Mapped::map_ids))]
@@ -37,5 +37,11 @@ pub fn operand_keeps_ids()
 #[tactic(auto, using(crate::proofs::Replaced::old_unused))]
 pub fn replaced_is_unused()
     ensures { (v w : TreeValue) (t : Op) → same_value v w ≡ false → uses_of v (with_value_replaced v w t) ≡ [] }
+{
+}
+
+#[tactic(auto, using(crate::proofs::Moves::take_put))]
+pub fn put_is_taken_out()
+    ensures { (place : Place) (o t : Op) → has_id (head o).id t ≡ false → without (head o).id (put place o t) ≡ t }
 {
 }
