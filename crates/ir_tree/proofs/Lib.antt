@@ -10,4 +10,5 @@ pub mod MappedEdits
 pub mod Meanings
 pub mod Moves
 pub mod Replaced
+pub mod Returns
 pub mod SeenSites

@@ -1,16 +1,16 @@
 //! Laws of trees: each is a function that has nothing to do.
-ghost use Rattle.std.specs.Prelude.{◌≡◌, ℕ, true, false, []};
+ghost use Rattle.std.specs.Prelude.{◌≡◌, ℕ, true, false, [], Some};
 ghost use Rattle.ir_tree.specs.declared.place.Place.{Place};
 ghost use Rattle.ir_tree.specs.declared.value.Value.{Value as TreeValue};
 ghost use Rattle.ir_types.specs.Things.{Things, Grows};
 ghost use Rattle.ir_types.specs.Sound.{Holds, IsSound};
 ghost use Rattle.ir_tree.specs.Meaning.{IsSoundIn, meaning};
 ghost use Rattle.ir_tree.specs.Tree.{Op, head};
-ghost use Rattle.ir_tree.specs.Ids.{ids, has_id};
+ghost use Rattle.ir_tree.specs.Ids.{ids, has_id, HasDistinctIds, find};
 ghost use Rattle.ir_tree.specs.Uses.{uses_of, same_value};
 ghost use Rattle.ir_tree.specs.Maps.{map_tree};
 ghost use Rattle.ir_tree.specs.Edits.{with_operand, with_value_replaced};
-ghost use Rattle.ir_tree.specs.Places.{put, shifted, without};
+ghost use Rattle.ir_tree.specs.Places.{place_of, put, shifted, without};
 
 /// A law: a tree of the same shape has the same ids.
 #[tactic(auto, using(crate::proofs::Mapped::map_ids))]
@@ -52,5 +52,11 @@ pub fn put_is_taken_out()
 #[tactic(auto, using(crate::proofs::Meanings::stable))]
 pub fn meaning_stays()
     ensures { (c d : Things) (t : Op) → Holds c → Grows c d → IsSoundIn c t → meaning d t ≡ meaning c t }
+{
+}
+
+#[tactic(auto, using(crate::proofs::Returns::put_take))]
+pub fn taken_is_put_back()
+    ensures { (x : ℕ) (place : Place) (o t : Op) → HasDistinctIds t → place_of x t ≡ Some place → find x t ≡ Some o → put place o (without x t) ≡ t }
 {
 }
