@@ -3,6 +3,7 @@ pub mod Checked
 pub mod Counted
 pub mod Counts
 pub mod Distinct
+pub mod Faults
 pub mod Heads
 pub mod Lists
 pub mod Mapped
