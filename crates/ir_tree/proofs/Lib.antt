@@ -1,0 +1,15 @@
+pub mod Agreeing
+pub mod Checked
+pub mod Counted
+pub mod Counts
+pub mod Distinct
+pub mod Faults
+pub mod Heads
+pub mod Lists
+pub mod Mapped
+pub mod MappedEdits
+pub mod Meanings
+pub mod Moves
+pub mod Replaced
+pub mod Returns
+pub mod SeenSites
