@@ -5,3 +5,6 @@ pub mod Tokens
 pub mod Numbers
 pub mod Limits
 pub mod Printing
+pub mod Scopes
+pub mod Places
+pub mod Inside

@@ -5,6 +5,7 @@
 pub mod fault;
 pub mod lexer;
 pub mod limits;
+pub mod names;
 pub mod numbers;
 pub mod print;
 mod runs;
