@@ -1,2 +1,4 @@
 pub mod Places
 pub mod Kept
+pub mod Escapes
+pub mod Printed

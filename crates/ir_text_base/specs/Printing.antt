@@ -1,9 +1,13 @@
 -- The printed forms of tokens. MLIR Language Reference, "Common syntax" and "Identifiers and
 -- keywords".
-use Rattle.std.specs.Prelude.{ℕ, ◌+◌, ◌-◌, ◌/◌, ◌%◌, ◌<◌, Bool, true, false, not, ◌&&◌, ◌==◌, nat_lt, nat_le, if◌then◌else◌, List, [], ◌∷◌, ◌++◌, length, flat_map}
+use Rattle.std.specs.Prelude.{◌≡◌, ℕ, ◌+◌, ◌-◌, ◌/◌, ◌%◌, ◌<◌, Bool, true, false, not, ◌&&◌, ◌||◌, ◌==◌, nat_lt, nat_le, if◌then◌else◌, List, [], ◌∷◌, ◌++◌, length, flat_map}
 use Rattle.std.specs.List.{AllByRecursion, prefix_len}
 use Rattle.std.specs.Fmt.{decimal}
+use Rattle.std.specs.Char.{is_ascii_digit}
+use Rattle.ir_text_base.specs.declared.token.Mark.{Mark}
+use Rattle.ir_text_base.specs.declared.token.Mark.TheVariants.{OpenRound, CloseRound, OpenCurly, CloseCurly, OpenSquare, CloseSquare, Less, Greater, Comma, Equal, Colon, DoubleColon, Minus, Arrow, Question, Star, End}
 use Rattle.ir_text_base.specs.Bytes.{is_letter, is_word}
+use Rattle.ir_text_base.specs.Tokens.{suffix_len}
 
 -- a capital hexadecimal digit
 abbrev pub hex_digit : ℕ → ℕ
@@ -45,3 +49,45 @@ symbol_text v = 64 ∷ key_text v
 -- each a byte
 abbrev pub AreBytes : List ℕ → Type 0
 AreBytes v = AllByRecursion (λ c. c < 256) v
+
+-- a suffix identifier: digits, or a run that begins with no digit
+abbrev pub is_suffix_id : List ℕ → Bool
+is_suffix_id v = not (length v == 0) && suffix_len v == length v
+
+-- a mark as it is printed
+abbrev pub mark_text : Mark → List ℕ
+mark_text OpenRound = 40 ∷ []
+mark_text CloseRound = 41 ∷ []
+mark_text OpenCurly = 123 ∷ []
+mark_text CloseCurly = 125 ∷ []
+mark_text OpenSquare = 91 ∷ []
+mark_text CloseSquare = 93 ∷ []
+mark_text Less = 60 ∷ []
+mark_text Greater = 62 ∷ []
+mark_text Comma = 44 ∷ []
+mark_text Equal = 61 ∷ []
+mark_text Colon = 58 ∷ []
+mark_text DoubleColon = 58 ∷ 58 ∷ []
+mark_text Minus = 45 ∷ []
+mark_text Arrow = 45 ∷ 62 ∷ []
+mark_text Question = 63 ∷ []
+mark_text Star = 42 ∷ []
+mark_text End = []
+
+-- ---- what may follow
+
+-- the first byte, where there is one, fails the test
+abbrev pub Stops : (ℕ → Bool) → List ℕ → Type 0
+Stops p [] = Unit {0}
+Stops p (c ∷ cs) = p c ≡ false
+
+-- a byte that makes a decimal integer longer, or another token: a digit, a dot, or `x`
+abbrev pub extends_integer : ℕ → Bool
+extends_integer c = (is_ascii_digit c || c == 46) || c == 120
+
+-- the text after a mark makes no longer mark of it, and after the last there is none
+abbrev pub ClosesMark : Mark → List ℕ → Type 0
+ClosesMark Colon rest = Stops (λ c. c == 58) rest
+ClosesMark Minus rest = Stops (λ c. c == 62) rest
+ClosesMark End rest = rest ≡ []
+ClosesMark _ rest = Unit {0}

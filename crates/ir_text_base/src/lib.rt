@@ -3,6 +3,7 @@
 #![tactic(auto)]
 
 pub mod fault;
+pub mod laws;
 pub mod lexer;
 pub mod limits;
 pub mod names;
