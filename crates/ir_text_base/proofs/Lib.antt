@@ -1,4 +1,5 @@
 pub mod Places
 pub mod Kept
 pub mod Escapes
+pub mod Decimals
 pub mod Printed
