@@ -11,4 +11,6 @@ pub mod numbers;
 pub mod print;
 mod runs;
 pub mod strings;
+#[cfg(test)]
+mod tests;
 pub mod token;
