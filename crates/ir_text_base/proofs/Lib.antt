@@ -3,3 +3,4 @@ pub mod Kept
 pub mod Escapes
 pub mod Decimals
 pub mod Printed
+pub mod Fronts

@@ -7,7 +7,7 @@ use Rattle.std.specs.Char.{is_ascii_digit}
 use Rattle.ir_text_base.specs.declared.token.Mark.{Mark}
 use Rattle.ir_text_base.specs.declared.token.Mark.TheVariants.{OpenRound, CloseRound, OpenCurly, CloseCurly, OpenSquare, CloseSquare, Less, Greater, Comma, Equal, Colon, DoubleColon, Minus, Arrow, Question, Star, End}
 use Rattle.ir_text_base.specs.Bytes.{is_letter, is_word}
-use Rattle.ir_text_base.specs.Tokens.{suffix_len}
+use Rattle.ir_text_base.specs.Tokens.{Lexeme, mark, integer, float, string, bare, value, label, hash, bang, symbol, quoted, suffix_len}
 
 -- a capital hexadecimal digit
 abbrev pub hex_digit : ℕ → ℕ
@@ -91,3 +91,17 @@ ClosesMark Colon rest = Stops (λ c. c == 58) rest
 ClosesMark Minus rest = Stops (λ c. c == 62) rest
 ClosesMark End rest = rest ≡ []
 ClosesMark _ rest = Unit {0}
+
+-- a token as it stands in a text
+abbrev pub lexeme_text : Lexeme → List ℕ
+lexeme_text (mark m) = mark_text m
+lexeme_text (integer ds) = ds
+lexeme_text (float ds) = ds
+lexeme_text (string raw) = 34 ∷ (raw ++ 34 ∷ [])
+lexeme_text (bare w) = w
+lexeme_text (value w) = 37 ∷ w
+lexeme_text (label w) = 94 ∷ w
+lexeme_text (hash w) = 35 ∷ w
+lexeme_text (bang w) = 33 ∷ w
+lexeme_text (symbol w) = 64 ∷ w
+lexeme_text (quoted raw) = 64 ∷ 34 ∷ (raw ++ 34 ∷ [])
