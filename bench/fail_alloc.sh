@@ -32,11 +32,16 @@ if [ -z "$last" ]; then
     last=$(sed -n 's/^allocations: //p' "$work/count")
 fi
 # one number past the last one, where nothing is refused
-seq "$first" "$((last + 1))" | xargs -P "$(nproc)" -I N "$work/run" "$work" N
+seq "$first" "$((last + 1))" | xargs -P "$(nproc)" -I {} "$work/run" "$work" {}
 if [ -e "$work/bad" ]; then
     cat "$work/bad"
     exit 1
 fi
+runs=$((last - first + 2))
 refused=$(grep -l '^refused for want of memory: 1$' "$work"/[0-9]* | wc -l)
-own=$(grep -l '^refused for want of memory: 0$' "$work"/[0-9]* | wc -l)
-echo "$((last - first + 2)) runs: in $refused a call was refused, in $own none; no wrong answer"
+none=$(grep -l '^refused for want of memory: 0$' "$work"/[0-9]* | wc -l)
+if [ "$((refused + none))" != "$runs" ]; then
+    echo "$runs runs, but $refused with a refused call and $none without"
+    exit 1
+fi
+echo "$runs runs: in $refused a call was refused, in $none none; no wrong answer"
