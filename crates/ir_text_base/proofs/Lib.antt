@@ -4,3 +4,4 @@ pub mod Escapes
 pub mod Decimals
 pub mod Printed
 pub mod Fronts
+pub mod Wholes

@@ -6,7 +6,7 @@ use Rattle.std.specs.Fmt.{decimal}
 use Rattle.std.specs.Char.{is_ascii_digit}
 use Rattle.ir_text_base.specs.declared.token.Mark.{Mark}
 use Rattle.ir_text_base.specs.declared.token.Mark.TheVariants.{OpenRound, CloseRound, OpenCurly, CloseCurly, OpenSquare, CloseSquare, Less, Greater, Comma, Equal, Colon, DoubleColon, Minus, Arrow, Question, Star, End}
-use Rattle.ir_text_base.specs.Bytes.{is_letter, is_word}
+use Rattle.ir_text_base.specs.Bytes.{is_letter, is_suffix, is_word}
 use Rattle.ir_text_base.specs.Tokens.{Lexeme, mark, integer, float, string, bare, value, label, hash, bang, symbol, quoted, suffix_len}
 
 -- a capital hexadecimal digit
@@ -105,3 +105,22 @@ lexeme_text (hash w) = 35 ∷ w
 lexeme_text (bang w) = 33 ∷ w
 lexeme_text (symbol w) = 64 ∷ w
 lexeme_text (quoted raw) = 64 ∷ 34 ∷ (raw ++ 34 ∷ [])
+
+-- the bytes that extend a suffix identifier
+abbrev pub extends_name : List ℕ → ℕ → Bool
+extends_name [] c = is_suffix c
+extends_name (w ∷ ws) c = if is_ascii_digit w then is_ascii_digit c else is_suffix c
+
+-- a suffix identifier that what follows does not extend
+abbrev pub IsWholeName : List ℕ → List ℕ → Type 0
+IsWholeName w rest = (is_suffix_id w ≡ true) × Stops (extends_name w) rest
+
+-- an identifier is one of its kind, and what follows does not extend it
+abbrev pub IsWhole : Lexeme → List ℕ → Type 0
+IsWhole (bare w) rest = (is_bare_id w ≡ true) × Stops is_word rest
+IsWhole (value w) rest = IsWholeName w rest
+IsWhole (label w) rest = IsWholeName w rest
+IsWhole (hash w) rest = IsWholeName w rest
+IsWhole (bang w) rest = IsWholeName w rest
+IsWhole (symbol w) rest = IsWholeName w rest
+IsWhole _ rest = Unit {0}

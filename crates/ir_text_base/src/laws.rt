@@ -6,13 +6,19 @@ ghost use Rattle.ir_text_base.specs.Bytes.{is_blank, is_suffix, is_word};
 ghost use Rattle.ir_text_base.specs.Strings.{string_bytes};
 ghost use Rattle.ir_text_base.specs.Tokens.{Lexeme, bare, hash, integer, label, mark, next, quoted, skip, string, symbol, value};
 ghost use Rattle.ir_text_base.specs.Numbers.{integer_of};
-ghost use Rattle.ir_text_base.specs.Printing.{AreBytes, ClosesMark, Stops, extends_integer, is_bare_id, is_suffix_id, key_text, lexeme_text, mark_text, number_text, raw_text, string_text, symbol_text};
+ghost use Rattle.ir_text_base.specs.Printing.{AreBytes, ClosesMark, IsWhole, Stops, extends_integer, is_bare_id, is_suffix_id, key_text, lexeme_text, mark_text, number_text, raw_text, string_text, symbol_text};
 ghost use Rattle.ir_text_base.specs.declared.token.Mark.{Mark};
 
 /// A token that is read, as it stands, and what follows it, are what follows the blanks and comments:
 /// no byte is passed over but in these.
 pub fn tokens_stand_at_the_front()
     ensures { (bytes rest : List ℕ) (t : Lexeme) → next bytes ≡ Some (t, rest) → skip bytes ≡ lexeme_text t ++ rest }
+{}
+
+/// An identifier that is read is one of its kind, and what follows it does not extend it: it is the
+/// longest that stands there.
+pub fn identifiers_are_whole()
+    ensures { (bytes rest : List ℕ) (t : Lexeme) → next bytes ≡ Some (t, rest) → IsWhole t rest }
 {}
 
 /// A printed string is one string token, whatever follows, and has the bytes of which it was printed.
