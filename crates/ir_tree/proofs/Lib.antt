@@ -4,7 +4,9 @@ pub mod Counted
 pub mod Counts
 pub mod Distinct
 pub mod Faults
+pub mod Gained
 pub mod Heads
+pub mod Left
 pub mod Lists
 pub mod Mapped
 pub mod MappedEdits
@@ -13,3 +15,4 @@ pub mod Moves
 pub mod Replaced
 pub mod Returns
 pub mod SeenSites
+pub mod SoundEdits

@@ -12,7 +12,7 @@ use Rattle.ir_tree.specs.Places.{first_id, place_of, regions_place, region_place
 use Rattle.ir_tree.proofs.Moves.{Absent, absent_parts, neither, untouched, regions_untouched, region_untouched, ops_untouched, unput, regions_unput, region_unput, ops_unput}
 
 -- an id of the list is x
-abbrev Present : ℕ → List ℕ → Type 0
+abbrev pub Present : ℕ → List ℕ → Type 0
 Present x xs = list_any (λ y. eqb y x) xs ≡ true
 
 eqb_flip : (a b : ℕ) → eqb a b ≡ eqb b a
@@ -22,10 +22,10 @@ absent_from_all : (x : ℕ) (xs : List ℕ) → AllByRecursion (λ y. eqb x y �
 absent_from_all x [] h = refl
 absent_from_all x (y ∷ ys) h = λ i. (eqb_flip y x ∙ h.0) i || absent_from_all x ys h.1 i
 
-absent_first : (x : ℕ) (xs : List ℕ) → IsDistinct eqb (x ∷ xs) → Absent x xs
+pub absent_first : (x : ℕ) (xs : List ℕ) → IsDistinct eqb (x ∷ xs) → Absent x xs
 absent_first x xs d = absent_from_all x xs (IsDistinct-head eqb x xs d)
 
-bool_cases : (b : Bool) → (b ≡ true) ⊎ (b ≡ false)
+pub bool_cases : (b : Bool) → (b ≡ true) ⊎ (b ≡ false)
 bool_cases true = inl refl
 bool_cases false = inr refl
 
@@ -43,34 +43,34 @@ present_left x xs ys h = list_any-append (λ y. eqb y x) xs ys ∙ ap (λ b. b |
 present_right : (x : ℕ) (xs ys : List ℕ) → Present x ys → Present x (xs ++ ys)
 present_right x xs ys h = list_any-append (λ y. eqb y x) xs ys ∙ or_right _ _ h
 
-absent_join : (x : ℕ) (xs ys : List ℕ) → Absent x xs → Absent x ys → Absent x (xs ++ ys)
+pub absent_join : (x : ℕ) (xs ys : List ℕ) → Absent x xs → Absent x ys → Absent x (xs ++ ys)
 absent_join x xs ys h k = list_any-append (λ y. eqb y x) xs ys ∙ λ i. h i || k i
 
 -- an id that is there differs from one that is not
-differ : (p y : ℕ) (xs : List ℕ) → Absent p xs → Present y xs → eqb p y ≡ false
+pub differ : (p y : ℕ) (xs : List ℕ) → Absent p xs → Present y xs → eqb p y ≡ false
 differ p y xs a h = elim (bool_cases (eqb p y)) [ inl e ↦ absurd (true≢false (sym h ∙ subst (λ (z : ℕ). Absent z xs) (eqb-true p y e) a)) | inr e ↦ e ]
 
-not_equal : (a b : ℕ) → (a ≡ b → ⊥) → eqb a b ≡ false
+pub not_equal : (a b : ℕ) → (a ≡ b → ⊥) → eqb a b ≡ false
 not_equal a b h = elim (bool_cases (eqb a b)) [ inl e ↦ absurd (h (eqb-true a b e)) | inr e ↦ e ]
 
 -- two lists of distinct ids that have none in common
-record Halves (xs ys : List ℕ) : Type 0 where
-  left : IsDistinct eqb xs
-  right : IsDistinct eqb ys
-  disjoint : (y : ℕ) → Present y xs → Absent y ys
+pub record Halves (xs ys : List ℕ) : Type 0 where
+  pub left : IsDistinct eqb xs
+  pub right : IsDistinct eqb ys
+  pub disjoint : (y : ℕ) → Present y xs → Absent y ys
 
-cons_distinct : (x : ℕ) (xs : List ℕ) → Absent x xs → IsDistinct eqb xs → IsDistinct eqb (x ∷ xs)
+pub cons_distinct : (x : ℕ) (xs : List ℕ) → Absent x xs → IsDistinct eqb xs → IsDistinct eqb (x ∷ xs)
 cons_distinct x xs a d = IsDistinct-cons eqb x xs (all_from_absent x xs a) d
   where
     all_from_absent : (x : ℕ) (xs : List ℕ) → Absent x xs → AllByRecursion (λ y. eqb x y ≡ false) xs
     all_from_absent x [] h = tt
     all_from_absent x (y ∷ ys) h = let b = neither _ _ h in (eqb_flip x y ∙ b.0, all_from_absent x ys b.1)
 
-nil_distinct : IsDistinct eqb []
+pub nil_distinct : IsDistinct eqb []
 unfolding IsDistinct
 nil_distinct = tt
 
-halves : (xs ys : List ℕ) → IsDistinct eqb (xs ++ ys) → Halves xs ys
+pub halves : (xs ys : List ℕ) → IsDistinct eqb (xs ++ ys) → Halves xs ys
 halves [] ys d = record { left = nil_distinct; right = d; disjoint = λ y h. absurd (true≢false (sym h)) }
 halves (x ∷ xs) ys d =
     let rest = halves xs ys (IsDistinct-tail eqb x (xs ++ ys) d) in
@@ -240,20 +240,20 @@ module _ {N T A : Type 0} (x : ℕ) (place : Place) where
 
 module _ {N T A : Type 0} (place : Place) (o : OpOf N T A) where
   -- another block
-  elsewhere : (p r : ℕ) (os : OpsOf N T A) → is_in_block place p r ≡ false → put_here place o p r os ≡ os
+  pub elsewhere : (p r : ℕ) (os : OpsOf N T A) → is_in_block place p r ≡ false → put_here place o p r os ≡ os
   elsewhere p r os e = ap (λ b. cond b (put_in place.before o os) os) e
 
-  other_parent : (p r : ℕ) → eqb p place.parent ≡ false → is_in_block place p r ≡ false
+  pub other_parent : (p r : ℕ) → eqb p place.parent ≡ false → is_in_block place p r ≡ false
   other_parent p r e = ap (λ b. b && eqb r place.region) e
 
-  other_region : (p r : ℕ) → eqb r place.region ≡ false → is_in_block place p r ≡ false
+  pub other_region : (p r : ℕ) → eqb r place.region ≡ false → is_in_block place p r ≡ false
   other_region p r e = elim (eqb p place.parent) as (λ b. (b && eqb r place.region) ≡ false) [ true ↦ e | false ↦ refl ]
 
-  unput_region : (p r : ℕ) (g : RegionOf N T A) → is_in_block place p r ≡ false → Absent place.parent (region_ids g) → region_each_list (put_here place o) p r g ≡ g
+  pub unput_region : (p r : ℕ) (g : RegionOf N T A) → is_in_block place p r ≡ false → Absent place.parent (region_ids g) → region_each_list (put_here place o) p r g ≡ g
   unput_region p r empty e a = refl
   unput_region p r (block args os) e a = ap (block args) (elsewhere p r (ops_each_list (put_here place o) os) e ∙ ops_unput place o os a)
 
-  unput_later : (p r : ℕ) (rs : RegionsOf N T A) → ((k : ℕ) → r ≤ k → is_in_block place p k ≡ false) → Absent place.parent (regions_ids rs) → regions_each_list (put_here place o) p r rs ≡ rs
+  pub unput_later : (p r : ℕ) (rs : RegionsOf N T A) → ((k : ℕ) → r ≤ k → is_in_block place p k ≡ false) → Absent place.parent (regions_ids rs) → regions_each_list (put_here place o) p r rs ≡ rs
   unput_later p r no_regions e a = refl
   unput_later p r (region g rs) e a =
       let b = absent_parts place.parent (region_ids g) (regions_ids rs) a in

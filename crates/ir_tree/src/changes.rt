@@ -40,11 +40,15 @@ pub fn with_operand_set(
     root: &TreeOp,
     op: OpId,
     place: usize,
-    value: Value,
+    value: &Value,
 ) -> Result<TreeOp, AllocError>
-    ensures { IfOk result (λ t. t ≡ with_operand op place value root.now) }
+    ensures { IfOk result (λ t. t ≡ with_operand op place value.now root.now) }
 {
-    let edit = NewOperand { op, place, value };
+    let edit = NewOperand {
+        op,
+        place,
+        value: *value,
+    };
     with_heads(alloc, root, &edit)
 }
 
@@ -92,12 +96,15 @@ fn exchanged(value: &Value, old: &Value, new: &Value) -> Value
 pub fn with_replaced(
     alloc: Global,
     root: &TreeOp,
-    old: Value,
-    new: Value,
+    old: &Value,
+    new: &Value,
 ) -> Result<TreeOp, AllocError>
-    ensures { IfOk result (λ t. t ≡ with_value_replaced old new root.now) }
+    ensures { IfOk result (λ t. t ≡ with_value_replaced old.now new.now root.now) }
 {
-    let edit = Replacement { old, new };
+    let edit = Replacement {
+        old: *old,
+        new: *new,
+    };
     with_heads(alloc, root, &edit)
 }
 
@@ -161,10 +168,10 @@ fn index_of(ops: &Vec<TreeOp>, id: OpId) -> Option<usize>
 
 /// The tree with a copy of `op`, and of what is inside it, at a place. Where there is no such place, the
 /// tree as it is.
-pub fn put(alloc: Global, root: &TreeOp, place: Place, op: &TreeOp) -> Result<TreeOp, AllocError>
-    ensures { IfOk result (λ t. t ≡ put_of place op.now root.now) }
+pub fn put(alloc: Global, root: &TreeOp, place: &Place, op: &TreeOp) -> Result<TreeOp, AllocError>
+    ensures { IfOk result (λ t. t ≡ put_of place.now op.now root.now) }
 {
-    let edit = Putting { place, op };
+    let edit = Putting { place: *place, op };
     with_lists(alloc, root, &edit)
 }
 
@@ -198,8 +205,8 @@ pub fn without(alloc: Global, root: &TreeOp, op: OpId) -> Result<TreeOp, AllocEr
 }
 
 /// The tree with an operation, and what is inside it, at a place in place of where it stood.
-pub fn shifted(alloc: Global, root: &TreeOp, op: OpId, place: Place) -> Result<TreeOp, AllocError>
-    ensures { IfOk result (λ t. t ≡ shifted_of op place root.now) }
+pub fn shifted(alloc: Global, root: &TreeOp, op: OpId, place: &Place) -> Result<TreeOp, AllocError>
+    ensures { IfOk result (λ t. t ≡ shifted_of op place.now root.now) }
 {
     let rest = without(alloc, root, op)?;
     match find(root, op) {

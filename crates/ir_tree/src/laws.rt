@@ -1,6 +1,6 @@
 //! Laws of trees. Each is a function that does nothing: its contract is the law.
-ghost use Rattle.std.specs.Prelude.{◌≡◌, ◌+◌, ◌↔◌, ℕ, Bool, false, [], length, Option, Some, None, option_map};
-ghost use Rattle.ir_types.specs.Things.{Things, Grows};
+ghost use Rattle.std.specs.Prelude.{◌≡◌, ◌+◌, ◌↔◌, ℕ, Bool, true, false, [], length, Option, Some, None, option_map, eqb};
+ghost use Rattle.ir_types.specs.Things.{Things, Grows, IsName, IsAttr};
 ghost use Rattle.ir_types.specs.Terms.{name_term, attr_term};
 ghost use Rattle.ir_types.specs.Sound.{Holds, IsSound};
 ghost use Rattle.ir_types.specs.Words.{is_isolated};
@@ -95,4 +95,28 @@ pub fn put_and_take()
     ensures take_first { (x : ℕ) (place : Spot) (o t : Op) → HasDistinctIds t → place_of x t ≡ Some place → find x t ≡ Some o → put place o (without x t) ≡ t }
     ensures no_such_place { (place : Spot) (o t : Op) → has_id place.parent t ≡ false → put place o t ≡ t }
     ensures no_such_op { (x : ℕ) (t : Op) → has_id x t ≡ false → without x t ≡ t }
+{}
+
+/// Where an operation is taken out no id comes in, the operation is gone, and distinct ids stay so.
+pub fn what_is_left()
+    ensures ids { (x y : ℕ) (t : Op) → has_id y t ≡ false → has_id y (without x t) ≡ false }
+    ensures gone { (x : ℕ) (t : Op) → eqb (head t).id x ≡ false → has_id x (without x t) ≡ false }
+    ensures distinct { (x : ℕ) (t : Op) → HasDistinctIds t → HasDistinctIds (without x t) }
+{}
+
+/// Edits of a tree that is sound in a context, by what is the context's, leave it sound.
+pub fn edits_keep_sound()
+    ensures operand { (c : Things) (x k : ℕ) (v : TreeValue) (t : Op) → IsSoundIn c t → IsSoundIn c (with_operand x k v t) }
+    ensures replaced { (c : Things) (v w : TreeValue) (t : Op) → IsSoundIn c t → IsSoundIn c (with_value_replaced v w t) }
+    ensures entry_set { (c : Things) (x : ℕ) (part : Dictionary) (k a : ℕ) (t : Op) → IsName c k → IsAttr c a → IsSoundIn c t → IsSoundIn c (with_entry (key_before_in c) x part k (Some a) t) }
+    ensures entry_removed { (c : Things) (x : ℕ) (part : Dictionary) (k : ℕ) (t : Op) → IsName c k → IsSoundIn c t → IsSoundIn c (with_entry (key_before_in c) x part k None t) }
+    ensures put { (c : Things) (place : Spot) (o t : Op) → IsSoundIn c o → IsSoundIn c t → IsSoundIn c (put place o t) }
+    ensures without { (c : Things) (x : ℕ) (t : Op) → IsSoundIn c t → IsSoundIn c (without x t) }
+{}
+
+/// Where an operation is put in no id comes in but its own and those inside it, and distinct ids stay so
+/// where none of them is there.
+pub fn what_is_gained()
+    ensures ids { (place : Spot) (o : Op) (y : ℕ) (t : Op) → has_id y o ≡ false → has_id y t ≡ false → has_id y (put place o t) ≡ false }
+    ensures distinct { (place : Spot) (o t : Op) → HasDistinctIds o → HasDistinctIds t → ((y : ℕ) → has_id y o ≡ true → has_id y t ≡ false) → HasDistinctIds (put place o t) }
 {}

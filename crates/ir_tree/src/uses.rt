@@ -12,12 +12,12 @@ use std::alloc::{AllocError, Global};
 pub fn list_uses(
     alloc: Global,
     root: &TreeOp,
-    value: Value,
+    value: &Value,
 ) -> Result<Vec<(OpId, usize)>, AllocError>
-    ensures { IfOk result (λ v. v.items ≡ uses_of value root.now) }
+    ensures { IfOk result (λ v. v.items ≡ uses_of value.now root.now) }
 {
     let mut out = Vec::new(alloc);
-    push_uses(root, &value, &mut out)?;
+    push_uses(root, value, &mut out)?;
     Ok(out)
 }
 
