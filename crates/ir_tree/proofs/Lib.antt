@@ -1,0 +1,12 @@
+pub mod Agreeing
+pub mod Checked
+pub mod Counted
+pub mod Counts
+pub mod Distinct
+pub mod Heads
+pub mod Lists
+pub mod Mapped
+pub mod MappedEdits
+pub mod Moves
+pub mod Replaced
+pub mod SeenSites

@@ -1,0 +1,20 @@
+use Rattle.std.proofs.Common.{rules, ◌≡◌, ◌≢◌, ◌↔◌, IsTrue, ℕ, List, eqb, length, map, subst, sym, ◌∙◌, arith}
+use Rattle.std.specs.Bool.{Decides}
+use Rattle.std.specs.Cmp.{nat_eq_equiv, unsigned_Decides}
+use Rattle.std.specs.HashSet as bag
+use Rattle.std.specs.List.{AllPairs, IsDistinct}
+use Rattle.std.proofs.lemmas.List.{map-id}
+use Rattle.std.proofs.lemmas.Map.Made.{hash_set_len-Decides}
+use Rattle.ir_tree.proofs.Distinct.{distinct_by_count}
+use Rattle.ir_tree.proofs.numbered.distinct.Goals as goal
+
+pub returns : goal.returns
+returns c =
+    let xs = c.in_ok-ids.ids.items in
+    let k = bag.hash_set_len c.in_ok-different.different in
+    let h : bag.IsFromIterResult eqb (map (λ x. x) xs) c.in_ok-different.different = search rules in
+    let mapped = hash_set_len-Decides unsigned_Decides nat_eq_equiv (map (λ x. x) xs) c.in_ok-different.different h in
+    let same = subst (λ (l : List ℕ). Decides (eqb k (length l)) (AllPairs (λ x y. x ≢ y) l)) (map-id xs) mapped in
+    let count : c.len-2.result ≡ length xs = search rules in
+    let told = distinct_by_count xs c.len.result c.len-2.result k same c.len.ensures.len count in
+    subst (λ (l : List ℕ). IsTrue (eqb c.len.result c.len-2.result) ↔ IsDistinct eqb l) c.in_ok-ids.ensures told

@@ -1,0 +1,185 @@
+//! The edits of a tree, each as a plain program that builds the tree anew.
+ghost use Rattle.std.specs.Prelude.{◌≡◌, IfOk, map, eqb, position};
+ghost use Rattle.ir_tree.specs.Tree.{head, ops_of};
+ghost use Rattle.ir_tree.specs.Edits.{at, put_operand, put_value, put_values, with_operand, with_value_replaced};
+ghost use Rattle.ir_tree.specs.Places.{put_here, put as put_of, put_in, put_before as before_of, drop_op, without as without_of, shifted as shifted_of};
+
+use crate::copy::copy;
+use crate::edits::{HeadEdit, ListEdit, with_heads, with_lists};
+use crate::find::find;
+use crate::place::Place;
+use crate::tree::TreeOp;
+use crate::uses::is_same;
+use crate::value::Value;
+use ir_types::ids::OpId;
+use std::alloc::{AllocError, Global};
+
+// A value that becomes an operand of an operation.
+#[derive(Drop)]
+struct NewOperand {
+    op: OpId,
+    place: usize,
+    value: Value,
+}
+
+impl HeadEdit for NewOperand {
+    ghost gives = { λ e. at e.op (put_operand e.place e.value) };
+
+    fn apply(&self, _alloc: Global, op: TreeOp) -> Result<TreeOp, AllocError> {
+        let mut op = op;
+        if op.id == self.op && self.place < op.operands.len() {
+            op.operands[self.place] = self.value;
+        }
+        Ok(op)
+    }
+}
+
+/// The tree with `value` as operand `place` of an operation. Where there is no such operand, the tree as it is.
+pub fn with_operand_set(alloc: Global, root: &TreeOp, op: OpId, place: usize, value: Value) -> Result<TreeOp, AllocError>
+    ensures { IfOk result (λ t. t ≡ with_operand op place value root.now) }
+{
+    let edit = NewOperand {
+        op,
+        place,
+        value,
+    };
+    with_heads(alloc, root, &edit)
+}
+
+// A value that takes another's place.
+#[derive(Drop)]
+struct Replacement {
+    old: Value,
+    new: Value,
+}
+
+impl HeadEdit for Replacement {
+    ghost gives = { λ e. put_values e.old e.new };
+
+    fn apply(&self, alloc: Global, op: TreeOp) -> Result<TreeOp, AllocError> {
+        let operands = replaced_in(alloc, &op.operands, &self.old, &self.new)?;
+        let mut op = op;
+        op.operands = operands;
+        Ok(op)
+    }
+}
+
+// Values with one in place of another.
+fn replaced_in(alloc: Global, values: &Vec<Value>, old: &Value, new: &Value) -> Result<Vec<Value>, AllocError>
+    ensures { IfOk result (λ v. v.items ≡ map (put_value old.now new.now) values.now.items) }
+{
+    let mut replaced = Vec::with_capacity(alloc, values.len())?;
+    for value in values {
+        replaced.push(exchanged(value, old, new))?;
+    }
+    Ok(replaced)
+}
+
+fn exchanged(value: &Value, old: &Value, new: &Value) -> Value
+    ensures { result ≡ put_value old.now new.now value.now }
+{
+    if is_same(old, value) { *new } else { *value }
+}
+
+/// The tree with `new` in place of `old`, wherever that is an operand.
+pub fn with_replaced(alloc: Global, root: &TreeOp, old: Value, new: Value) -> Result<TreeOp, AllocError>
+    ensures { IfOk result (λ t. t ≡ with_value_replaced old new root.now) }
+{
+    let edit = Replacement { old, new };
+    with_heads(alloc, root, &edit)
+}
+
+// An operation that is put at a place.
+#[derive(Drop)]
+struct Putting<'a> {
+    place: Place,
+    op: &'a TreeOp,
+}
+
+impl<'a> ListEdit for Putting<'a> {
+    ghost gives = { λ e. put_here e.place e.op.now };
+
+    fn apply(&self, _alloc: Global, owner: OpId, region: usize, ops: Vec<TreeOp>) -> Result<Vec<TreeOp>, AllocError> {
+        if owner == self.place.parent && region == self.place.region as usize {
+            put_among(ops, self.place.before, self.op)
+        } else {
+            Ok(ops)
+        }
+    }
+}
+
+// A list with a copy of an operation before another, or at the end.
+#[tactic(auto, using(crate::proofs::Lists::put_last_of))]
+fn put_among(ops: Vec<TreeOp>, before: Option<OpId>, op: &TreeOp) -> Result<Vec<TreeOp>, AllocError>
+    ensures { IfOk result (λ v. ops_of v.items ≡ put_in before op.now (ops_of ops.items)) }
+{
+    match before {
+        None => {
+            let mut ops = ops;
+            ops.push(copy(op)?)?;
+            Ok(ops)
+        }
+        Some(id) => put_before(ops, id, op),
+    }
+}
+
+// A list with a copy of an operation before the first with an id, if there is one.
+fn put_before(ops: Vec<TreeOp>, id: OpId, op: &TreeOp) -> Result<Vec<TreeOp>, AllocError>
+    ensures { IfOk result (λ v. ops_of v.items ≡ before_of id op.now (ops_of ops.items)) }
+{
+    let mut ops = ops;
+    let Some(index) = index_of(&ops, id) else {
+        return Ok(ops);
+    };
+    ops.insert(index, copy(op)?)?;
+    Ok(ops)
+}
+
+fn index_of(ops: &Vec<TreeOp>, id: OpId) -> Option<usize>
+    ensures { result ≡ position (λ o. eqb (head o).id id) ops.now.items }
+{
+    ops.iter().position(|op| op.id == id)
+}
+
+/// The tree with a copy of `op`, and of what is inside it, at a place. Where there is no such place, the
+/// tree as it is.
+pub fn put(alloc: Global, root: &TreeOp, place: Place, op: &TreeOp) -> Result<TreeOp, AllocError>
+    ensures { IfOk result (λ t. t ≡ put_of place op.now root.now) }
+{
+    let edit = Putting { place, op };
+    with_lists(alloc, root, &edit)
+}
+
+// An operation that is taken from its list.
+#[derive(Drop)]
+struct Taking {
+    op: OpId,
+}
+
+impl ListEdit for Taking {
+    ghost gives = { λ e p r os. drop_op e.op os };
+
+    fn apply(&self, _alloc: Global, _owner: OpId, _region: usize, ops: Vec<TreeOp>) -> Result<Vec<TreeOp>, AllocError> {
+        let mut ops = ops;
+        ops.retain(|op| op.id != self.op);
+        Ok(ops)
+    }
+}
+
+/// The tree without an operation and what is inside it. The root stays.
+pub fn without(alloc: Global, root: &TreeOp, op: OpId) -> Result<TreeOp, AllocError>
+    ensures { IfOk result (λ t. t ≡ without_of op root.now) }
+{
+    with_lists(alloc, root, &Taking { op })
+}
+
+/// The tree with an operation, and what is inside it, at a place in place of where it stood.
+pub fn shifted(alloc: Global, root: &TreeOp, op: OpId, place: Place) -> Result<TreeOp, AllocError>
+    ensures { IfOk result (λ t. t ≡ shifted_of op place root.now) }
+{
+    let rest = without(alloc, root, op)?;
+    match find(root, op) {
+        None => Ok(rest),
+        Some(moved) => put(alloc, &rest, place, moved),
+    }
+}

@@ -1,0 +1,60 @@
+//! How many operations a tree has, and how deep it is.
+ghost use Rattle.std.specs.Prelude.{◌≡◌, ◌-◌, ◌^◌, min};
+ghost use Rattle.std.specs.Prelude.{◌+◌};
+ghost use Rattle.std.specs.Prelude.{length};
+ghost use Rattle.ir_tree.specs.Ids.{op_count as count_of, region_ids};
+ghost use Rattle.ir_tree.specs.Limits.{depth as depth_of, region_depth};
+ghost use Rattle.ir_tree.specs.View.{region_view};
+
+use crate::tree::{TreeOp, TreeRegion};
+
+/// The number of operations, the root included, or the greatest u64 where there are more.
+#[cycle(count)]
+pub fn op_count(root: &TreeOp) -> u64
+    ensures { result ≡ min (count_of root.now) (2 ^ 64 - 1) }
+{
+    let mut count: u64 = 1;
+    for region in &root.regions {
+        count = count.saturating_add(region_op_count(region));
+    }
+    count
+}
+
+#[cycle(count)]
+fn region_op_count(region: &TreeRegion) -> u64
+    ensures { result ≡ min (length (region_ids (region_view region.now))) (2 ^ 64 - 1) }
+{
+    let mut count: u64 = 0;
+    if let TreeRegion::Block { ops, .. } = region {
+        for op in ops {
+            count = count.saturating_add(op_count(op));
+        }
+    }
+    count
+}
+
+/// The most operations that stand around one operation of the tree, or the greatest u64 where there are
+/// more. A tree without inner operations has 0.
+#[cycle(depth)]
+pub fn depth(root: &TreeOp) -> u64
+    ensures { result ≡ min (depth_of root.now) (2 ^ 64 - 1) }
+{
+    let mut most: u64 = 0;
+    for region in &root.regions {
+        most = most.max(depth_of_region(region));
+    }
+    most
+}
+
+#[cycle(depth)]
+fn depth_of_region(region: &TreeRegion) -> u64
+    ensures { result ≡ min (region_depth (region_view region.now)) (2 ^ 64 - 1) }
+{
+    let mut most: u64 = 0;
+    if let TreeRegion::Block { ops, .. } = region {
+        for op in ops {
+            most = most.max(depth(op).saturating_add(1));
+        }
+    }
+    most
+}

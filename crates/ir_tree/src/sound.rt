@@ -1,0 +1,121 @@
+//! Whether a tree's numbers are a context's, and its dictionaries in order.
+ghost use Rattle.std.specs.Prelude.{◌≡◌, ◌↔◌, map, IsTrue};
+ghost use Rattle.std.specs.List.{list_all};
+ghost use Rattle.ir_types.specs.Terms.{name_term};
+ghost use Rattle.ir_tree.specs.Tree.{head, regions_of};
+ghost use Rattle.ir_tree.specs.Limits.{all_arguments_pass};
+ghost use Rattle.ir_tree.specs.Passing.{entry_passes, head_passes, op_passes};
+ghost use Rattle.ir_tree.specs.Meaning.{IsSoundIn, is_name, is_type, is_attr, rises, dictionaries_rise, key_before_in};
+ghost use Rattle.ir_tree.specs.View.{region_view};
+
+use crate::every::{OpTest, every_op};
+use crate::tree::{TreeOp, TreeRegion};
+use ir_types::context::Context;
+use ir_types::ids::{AttrId, NameId, TypeId};
+
+/// Whether the names, types and attributes of a tree are numbers of a context, and each dictionary is
+/// sorted by its keys' bytes, each key once (Language Reference, "Attributes": keys are unique).
+pub fn sound(ctx: &Context, tree: &TreeOp) -> bool
+    ensures { IsTrue result ↔ IsSoundIn ctx.now tree.now }
+{
+    every_op(tree, &Known { ctx }) && every_op(tree, &Sorted { ctx })
+}
+
+// The test of an operation's own numbers.
+#[derive(Drop)]
+struct Known<'a> {
+    ctx: &'a Context,
+}
+
+impl<'a> OpTest for Known<'a> {
+    ghost passes = { λ t. op_passes (is_name t.ctx.now) (is_type t.ctx.now) (is_attr t.ctx.now) };
+
+    fn test(&self, op: &TreeOp) -> bool {
+        head_is_known(self.ctx, op) && arguments_are_known(self.ctx, &op.regions)
+    }
+}
+
+fn head_is_known(ctx: &Context, op: &TreeOp) -> bool
+    ensures { result ≡ head_passes (is_name ctx.now) (is_type ctx.now) (is_attr ctx.now) (head op.now) }
+{
+    ctx.has_name(op.name)
+        && types_are_known(ctx, &op.results)
+        && entries_are_known(ctx, &op.props)
+        && entries_are_known(ctx, &op.attrs)
+}
+
+fn arguments_are_known(ctx: &Context, regions: &Vec<TreeRegion>) -> bool
+    ensures { result ≡ all_arguments_pass (list_all (is_type ctx.now)) (regions_of (map region_view regions.now.items)) }
+{
+    for region in regions {
+        if let TreeRegion::Block { args, .. } = region {
+            if !types_are_known(ctx, args) {
+                return false;
+            }
+        }
+    }
+    true
+}
+
+fn types_are_known(ctx: &Context, types: &Vec<TypeId>) -> bool
+    ensures { result ≡ list_all (is_type ctx.now) types.now.items }
+{
+    types.iter().all(|ty| ctx.has_type(*ty))
+}
+
+fn entries_are_known(ctx: &Context, entries: &Vec<(NameId, AttrId)>) -> bool
+    ensures { result ≡ list_all (entry_passes (is_name ctx.now) (is_attr ctx.now)) entries.now.items }
+{
+    entries
+        .iter()
+        .all(|entry| ctx.has_name(entry.0) && ctx.has_attr(entry.1))
+}
+
+// The test of the order of an operation's dictionaries.
+#[derive(Drop)]
+struct Sorted<'a> {
+    ctx: &'a Context,
+}
+
+impl<'a> OpTest for Sorted<'a> {
+    ghost passes = { λ t. dictionaries_rise (key_before_in t.ctx.now) };
+
+    fn test(&self, op: &TreeOp) -> bool {
+        is_sorted(self.ctx, &op.props) && is_sorted(self.ctx, &op.attrs)
+    }
+}
+
+fn is_sorted(ctx: &Context, entries: &Vec<(NameId, AttrId)>) -> bool
+    ensures { result ≡ rises (key_before_in ctx.now) entries.now.items }
+{
+    let Some((first, rest)) = entries.as_slice().split_first() else {
+        return true;
+    };
+    let mut last = first.0;
+    for entry in rest {
+        if !comes_before(ctx, last, entry.0) {
+            return false;
+        }
+        last = entry.0;
+    }
+    true
+}
+
+pub(crate) fn comes_before(ctx: &Context, one: NameId, other: NameId) -> bool
+    ensures { result ≡ key_before_in ctx.now one other }
+{
+    bytes_or_none(ctx, one)
+        .cmp(bytes_or_none(ctx, other))
+        .is_lt()
+}
+
+// The bytes of a name, or none where the number is no name's.
+fn bytes_or_none(ctx: &Context, name: NameId) -> &[u8]
+    ensures { result.now ≡ name_term ctx.now name }
+{
+    if ctx.has_name(name) {
+        ctx.name_bytes(name)
+    } else {
+        &[]
+    }
+}
