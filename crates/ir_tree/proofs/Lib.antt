@@ -7,6 +7,7 @@ pub mod Heads
 pub mod Lists
 pub mod Mapped
 pub mod MappedEdits
+pub mod Meanings
 pub mod Moves
 pub mod Replaced
 pub mod SeenSites

@@ -2,6 +2,9 @@
 ghost use Rattle.std.specs.Prelude.{◌≡◌, ℕ, true, false, []};
 ghost use Rattle.ir_tree.specs.declared.place.Place.{Place};
 ghost use Rattle.ir_tree.specs.declared.value.Value.{Value as TreeValue};
+ghost use Rattle.ir_types.specs.Things.{Things, Grows};
+ghost use Rattle.ir_types.specs.Sound.{Holds, IsSound};
+ghost use Rattle.ir_tree.specs.Meaning.{IsSoundIn, meaning};
 ghost use Rattle.ir_tree.specs.Tree.{Op, head};
 ghost use Rattle.ir_tree.specs.Ids.{ids, has_id};
 ghost use Rattle.ir_tree.specs.Uses.{uses_of, same_value};
@@ -43,5 +46,11 @@ pub fn replaced_is_unused()
 #[tactic(auto, using(crate::proofs::Moves::take_put))]
 pub fn put_is_taken_out()
     ensures { (place : Place) (o t : Op) → has_id (head o).id t ≡ false → without (head o).id (put place o t) ≡ t }
+{
+}
+
+#[tactic(auto, using(crate::proofs::Meanings::stable))]
+pub fn meaning_stays()
+    ensures { (c d : Things) (t : Op) → Holds c → Grows c d → IsSoundIn c t → meaning d t ≡ meaning c t }
 {
 }
