@@ -3,6 +3,7 @@ pub mod Checked
 pub mod Counted
 pub mod Counts
 pub mod Distinct
+pub mod Faults
 pub mod Heads
 pub mod Lists
 pub mod Mapped
@@ -10,4 +11,5 @@ pub mod MappedEdits
 pub mod Meanings
 pub mod Moves
 pub mod Replaced
+pub mod Returns
 pub mod SeenSites

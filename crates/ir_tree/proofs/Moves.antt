@@ -11,11 +11,11 @@ use Rattle.ir_tree.specs.Places.{each_list, regions_each_list, region_each_list,
 abbrev pub Absent : ℕ → List ℕ → Type 0
 Absent x xs = list_any (λ y. eqb y x) xs ≡ false
 
-neither : (a b : Bool) → (a || b) ≡ false → (a ≡ false) × (b ≡ false)
+pub neither : (a b : Bool) → (a || b) ≡ false → (a ≡ false) × (b ≡ false)
 neither true b h = absurd (true≢false h)
 neither false b h = (refl, h)
 
-absent_parts : (x : ℕ) (xs ys : List ℕ) → Absent x (xs ++ ys) → Absent x xs × Absent x ys
+pub absent_parts : (x : ℕ) (xs ys : List ℕ) → Absent x (xs ++ ys) → Absent x xs × Absent x ys
 absent_parts x xs ys h = neither _ _ (sym (list_any-append (λ y. eqb y x) xs ys) ∙ h)
 
 module _ {N T A : Type 0} where
@@ -89,18 +89,18 @@ module _ {N T A : Type 0} where
   -- without an operation that isn't there
   module _ (x : ℕ) where
     mutual
-      untouched : (t : OpOf N T A) → Absent x (ids t) → each_list (λ p r os. drop_op x os) t ≡ t
+      pub untouched : (t : OpOf N T A) → Absent x (ids t) → each_list (λ p r os. drop_op x os) t ≡ t
       untouched (op h rs) a = ap (op h) (regions_untouched h.id 0 rs ((neither _ _ a).1))
 
-      regions_untouched : (p r : ℕ) (rs : RegionsOf N T A) → Absent x (regions_ids rs) → regions_each_list (λ p r os. drop_op x os) p r rs ≡ rs
+      pub regions_untouched : (p r : ℕ) (rs : RegionsOf N T A) → Absent x (regions_ids rs) → regions_each_list (λ p r os. drop_op x os) p r rs ≡ rs
       regions_untouched p r no_regions a = refl
       regions_untouched p r (region g rs) a = let b = absent_parts x (region_ids g) (regions_ids rs) a in λ i. region (region_untouched p r g b.0 i) (regions_untouched p (r + 1) rs b.1 i)
 
-      region_untouched : (p r : ℕ) (g : RegionOf N T A) → Absent x (region_ids g) → region_each_list (λ p r os. drop_op x os) p r g ≡ g
+      pub region_untouched : (p r : ℕ) (g : RegionOf N T A) → Absent x (region_ids g) → region_each_list (λ p r os. drop_op x os) p r g ≡ g
       region_untouched p r empty a = refl
       region_untouched p r (block args os) a = ap (block args) (ops_untouched os a)
 
-      ops_untouched : (os : OpsOf N T A) → Absent x (ops_ids os) → drop_op x (ops_each_list (λ p r os. drop_op x os) os) ≡ os
+      pub ops_untouched : (os : OpsOf N T A) → Absent x (ops_ids os) → drop_op x (ops_each_list (λ p r os. drop_op x os) os) ≡ os
       ops_untouched no_ops a = refl
       ops_untouched (next (op h rs) os) a =
           let b = absent_parts x (ids (op h rs)) (ops_ids os) a in
@@ -117,19 +117,19 @@ module _ {N T A : Type 0} where
   -- a place whose operation isn't there
   module _ (place : Place) (o : OpOf N T A) where
     mutual
-      unput : (t : OpOf N T A) → Absent place.parent (ids t) → each_list (put_here place o) t ≡ t
+      pub unput : (t : OpOf N T A) → Absent place.parent (ids t) → each_list (put_here place o) t ≡ t
       unput (op h rs) a = let b = neither _ _ a in ap (op h) (regions_unput h.id 0 rs b.0 b.1)
 
-      regions_unput : (p r : ℕ) (rs : RegionsOf N T A) → eqb p place.parent ≡ false → Absent place.parent (regions_ids rs) → regions_each_list (put_here place o) p r rs ≡ rs
+      pub regions_unput : (p r : ℕ) (rs : RegionsOf N T A) → eqb p place.parent ≡ false → Absent place.parent (regions_ids rs) → regions_each_list (put_here place o) p r rs ≡ rs
       regions_unput p r no_regions e a = refl
       regions_unput p r (region g rs) e a = let b = absent_parts place.parent (region_ids g) (regions_ids rs) a in λ i. region (region_unput p r g e b.0 i) (regions_unput p (r + 1) rs e b.1 i)
 
-      region_unput : (p r : ℕ) (g : RegionOf N T A) → eqb p place.parent ≡ false → Absent place.parent (region_ids g) → region_each_list (put_here place o) p r g ≡ g
+      pub region_unput : (p r : ℕ) (g : RegionOf N T A) → eqb p place.parent ≡ false → Absent place.parent (region_ids g) → region_each_list (put_here place o) p r g ≡ g
       region_unput p r empty e a = refl
       region_unput p r (block args os) e a =
           ap (block args) (ap (λ b. cond (b && eqb r place.region) (put_in place.before o (ops_each_list (put_here place o) os)) (ops_each_list (put_here place o) os)) e ∙ ops_unput os a)
 
-      ops_unput : (os : OpsOf N T A) → Absent place.parent (ops_ids os) → ops_each_list (put_here place o) os ≡ os
+      pub ops_unput : (os : OpsOf N T A) → Absent place.parent (ops_ids os) → ops_each_list (put_here place o) os ≡ os
       ops_unput no_ops a = refl
       ops_unput (next q os) a = let b = absent_parts place.parent (ids q) (ops_ids os) a in λ i. next (unput q b.0 i) (ops_unput os b.1 i)
 
