@@ -102,6 +102,7 @@ impl Store {
         ensures ok { OnOk result (self.new ≡ record self.old { tree = with_operand op place value self.old.tree }) }
         ensures refused { MatchResult result (λ _. set_operand_reason (isolated_in ctx.now) op place value self.old.tree ≡ None)
             (λ e. IsRefusedFor {A = Unit {0}} (set_operand_reason (isolated_in ctx.now) op place value self.old.tree) (Err e)) }
+        ensures formed { IsWellFormed (isolated_in ctx.now) self.old → IsWellFormed (isolated_in ctx.now) self.new }
         ensures err { OnErr result (self.new ≡ self.old) }
     {
         if let Some(refusal) = self.operand_fault(ctx, op, place, &value) {
