@@ -1,10 +1,11 @@
 -- Looking up operations and arguments.
-use Rattle.std.proofs.Common.{◌≡◌, refl, sym, ap, ◌∙◌, ℕ, zero, suc, Bool, true, false, ◌||◌, eqb, List, [], ◌∷◌, ◌++◌, map, Option, Some, None, is_some, slice_get, cond}
+use Rattle.std.proofs.Common.{◌≡◌, refl, sym, ap, ◌∙◌, length, ℕ, zero, suc, Bool, true, false, ◌||◌, eqb, List, [], ◌∷◌, ◌++◌, Option, Some, None, is_some, slice_get, cond}
 use Rattle.std.specs.Prelude.{option_and_then, option_map}
 use Rattle.std.specs.List.{list_any}
-use Rattle.ir_tree.specs.Tree.{OpOf, op, RegionsOf, no_regions, region, RegionOf, empty, block, OpsOf, no_ops, next, head, regions, regions_of}
+use Rattle.ir_tree.specs.Tree.{HeadOf, OpOf, op, RegionsOf, no_regions, region, RegionOf, empty, block, OpsOf, no_ops, next, regions, regions_of}
 use Rattle.ir_tree.specs.Ids.{ids, regions_ids, region_ids, ops_ids, first_of, find, regions_find, region_find, ops_find, has_id}
-use Rattle.ir_store.specs.Values.{region_at}
+use Rattle.ir_store.specs.Values.{region_at, arguments_of}
+use Rattle.ir_store.specs.Nodes.{NodeOf, node_of, regions_arguments}
 
 any-append : (p : ℕ → Bool) (xs ys : List ℕ) → list_any p (xs ++ ys) ≡ (list_any p xs || list_any p ys)
 any-append p [] ys = refl
@@ -49,3 +50,31 @@ is_some-option_map f (Some x) = refl
 pub option_map_twice : {X Y Z : Type 0} (f : X → Y) (g : Y → Z) (o : Option X) → option_map (λ x. g (f x)) o ≡ option_map g (option_map f o)
 option_map_twice f g None = refl
 option_map_twice f g (Some x) = refl
+
+-- the arguments of a region's block, by its number
+pub arguments_by_number : {N T A : Type 0} (rs : RegionsOf N T A) (r : ℕ) → slice_get (regions_arguments rs) r ≡ option_map arguments_of (region_at r rs)
+arguments_by_number no_regions zero = refl
+arguments_by_number no_regions (suc r) = refl
+arguments_by_number (region g rs) zero = refl
+arguments_by_number (region g rs) (suc r) = arguments_by_number rs r
+
+node_arguments : {N T A : Type 0} (o : OpOf N T A) → (node_of o).arguments ≡ regions_arguments (regions o)
+node_arguments (op h rs) = refl
+
+-- what a node says of the arguments of a region that is there, and of one that isn't
+pub arguments_there : {N T A : Type 0} (n : NodeOf N T A) (o : OpOf N T A) (r : ℕ) (g : RegionOf N T A) → node_of o ≡ n → region_at r (regions o) ≡ Some g → option_and_then (λ args. args) (slice_get n.arguments r) ≡ arguments_of g
+arguments_there n o r g e at =
+    ap (λ m. option_and_then (λ args. args) (slice_get m.arguments r)) (sym e) ∙ ap (λ l. option_and_then (λ args. args) (slice_get l r)) (node_arguments o) ∙ ap (option_and_then (λ args. args)) (arguments_by_number (regions o) r ∙ ap (option_map arguments_of) at)
+
+pub arguments_absent : {N T A : Type 0} (n : NodeOf N T A) (o : OpOf N T A) (r : ℕ) → node_of o ≡ n → region_at r (regions o) ≡ None → option_and_then (λ args. args) (slice_get n.arguments r) ≡ None
+arguments_absent n o r e at =
+    ap (λ m. option_and_then (λ args. args) (slice_get m.arguments r)) (sym e) ∙ ap (λ l. option_and_then (λ args. args) (slice_get l r)) (node_arguments o) ∙ ap (option_and_then (λ args. args)) (arguments_by_number (regions o) r ∙ ap (option_map arguments_of) at)
+
+-- a node has as many lists of arguments as the operation has regions
+pub regions_counted : {N T A : Type 0} (rs : List (RegionOf N T A)) → length (regions_arguments (regions_of rs)) ≡ length rs
+regions_counted [] = refl
+regions_counted (g ∷ rs) = ap suc (regions_counted rs)
+
+-- so many, where the operation's regions are a list's
+pub count_there : {N T A : Type 0} (n : NodeOf N T A) (h : HeadOf N T A) (rs : List (RegionOf N T A)) (o : OpOf N T A) → op h (regions_of rs) ≡ o → node_of o ≡ n → length rs ≡ length n.arguments
+count_there n h rs o view e = sym (regions_counted rs) ∙ ap (λ x. length (node_of x).arguments) view ∙ ap (λ m. length m.arguments) e

@@ -1,6 +1,6 @@
 -- A module stays well-formed when an operation gets an operand that it sees.
 use Rattle.std.proofs.Common.{◌≡◌, refl, ap, sym, ◌∙◌, subst, ℕ, zero, suc, ◌+◌, Bool, true, false, true≢false, cond, not, ◌&&◌, ◌||◌, eqb, eq-eqb, eqb-true, List, [], ◌∷◌, ◌++◌, length, map, length-set, ◌<◌, ◌≤◌}
-use Rattle.std.specs.Prelude.{slice_set, IsTrue, nat_le, nat_lt, Option, Some, None}
+use Rattle.std.specs.Prelude.{slice_set, nat_le, nat_lt, Option, Some, None}
 use Rattle.ir_types.specs.declared.refusal.Refusal.TheVariants.{NotVisible, NoSuchValue, NoSuchIndex}
 use Rattle.ir_store.specs.Values.{has_value}
 use Rattle.ir_store.specs.Reasons.{set_operand_reason, operand_reason, value_reason}

@@ -2,4 +2,5 @@
 //! of its name.
 #![tactic(auto)]
 
+pub mod node;
 pub mod store;

@@ -7,16 +7,17 @@ ghost use Rattle.ir_tree.specs.Sites.{Visible};
 ghost use Rattle.ir_tree.specs.Edits.{with_operand};
 ghost use Rattle.ir_tree.specs.WellFormed.{IsFormed, IsWellFormed, fault};
 ghost use Rattle.ir_tree.specs.Meaning.{isolated_in, IsSoundIn};
-ghost use Rattle.ir_tree.specs.Tree.{head, regions};
-ghost use Rattle.ir_store.specs.Values.{type_of_value, has_value, arguments_at, arguments_of, region_at};
-ghost use Rattle.ir_tree.specs.View.{region_view};
+ghost use Rattle.ir_tree.specs.Tree.{head};
+ghost use Rattle.ir_store.specs.Values.{type_of_value, arguments_at};
+ghost use Rattle.ir_store.specs.Nodes.{node_of};
 ghost use Rattle.ir_store.specs.Reasons.{set_operand_reason, value_reason};
 
+use crate::node::{Node, arguments, region_of};
 use ir_tree::changes::with_operand_set;
 use ir_tree::check::check;
 use ir_tree::copy::copy;
 use ir_tree::find::find;
-use ir_tree::tree::{TreeOp, TreeRegion};
+use ir_tree::tree::TreeOp;
 use ir_tree::value::Value;
 use ir_tree::visible::visible;
 use ir_types::context::Context;
@@ -79,6 +80,16 @@ impl Store {
         ensures { result ≡ has_id op self.now.tree }
     {
         find(&self.root, op).is_some()
+    }
+
+    /// What an operation has, beside the operations in its blocks, or none where it isn't in the module.
+    pub fn node(&self, op: OpId) -> Option<Node<'_>>
+        ensures { result ≡ option_map node_of (the_first op self.now.tree) }
+    {
+        match find(&self.root, op) {
+            None => None,
+            Some(op) => Some(Node::new(op)),
+        }
     }
 
     /// Whether an operation may use a value (Language Reference, "Regions", on value scoping).
@@ -170,28 +181,4 @@ fn argument_type(op: &TreeOp, region: u32, place: u32) -> Option<TypeId>
 {
     let args = arguments(region_of(op, region)?)?;
     args.get(place as usize).copied()
-}
-
-/// The region of an operation with a number.
-fn region_of(op: &TreeOp, region: u32) -> Option<&TreeRegion>
-    ensures { option_map (λ g. region_view g.now) result ≡ region_at region (regions op.now) }
-{
-    region_among(&op.regions, region as usize)
-}
-
-/// The region at a place.
-fn region_among(regions: &[TreeRegion], place: usize) -> Option<&TreeRegion>
-    ensures { option_map (λ g. g.now) result ≡ slice_get regions.now place }
-{
-    regions.get(place)
-}
-
-/// The types of the arguments of a region's block, if it has one.
-fn arguments(region: &TreeRegion) -> Option<&[TypeId]>
-    ensures { option_map (λ args. args.now) result ≡ arguments_of (region_view region.now) }
-{
-    match region {
-        TreeRegion::Empty => None,
-        TreeRegion::Block { args, .. } => Some(args.as_slice()),
-    }
 }

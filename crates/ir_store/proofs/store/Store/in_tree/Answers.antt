@@ -1,4 +1,4 @@
-use Rattle.std.proofs.Common.{◌≡◌, ◌∙◌, sym, ap, is_some}
+use Rattle.std.proofs.Common.{◌∙◌, sym, ap, is_some}
 use Rattle.ir_tree.specs.Ids.{has_id}
 use Rattle.ir_tree.specs.WellFormed.{Module}
 use Rattle.ir_store.proofs.Found.{found_there, is_some-option_map}

@@ -1,11 +1,11 @@
-use Rattle.std.proofs.Common.{◌≡◌, ◌∙◌, sym, ap}
+use Rattle.std.proofs.Common.{◌∙◌, sym, ap}
 use Rattle.std.proofs.lemmas.Option.{slice_get-map}
 use Rattle.std.specs.Prelude.{map, slice_get, option_map}
 use Rattle.ir_tree.specs.Tree.{Op, regions}
 use Rattle.ir_tree.specs.View.{region_view}
 use Rattle.ir_store.specs.Values.{region_at}
 use Rattle.ir_store.proofs.Found.{region_of_list, option_map_twice}
-use Rattle.ir_store.proofs.store.region_of.Goals as goal
+use Rattle.ir_store.proofs.node.region_of.Goals as goal
 
 pub returns : goal.returns
 returns c =
