@@ -7,12 +7,12 @@ ghost use Rattle.ir_types.specs.Bits.{width_of, type_of, bits_of, signed_of, wra
 
 use crate::range::half;
 
-/// A signless integer type by its width, or index.
+/// A signless integer type by its width (Builtin Dialect, "IntegerType"), or index.
 #[derive(Clone, Copy, Debug, PartialEq, Eq, Hash)]
 pub enum BitsKind {
     /// `iN`.
     Int(u32),
-    /// `index`, which has 64 bits.
+    /// `index`, which has 64 bits here (Builtin Dialect, "IndexType").
     Index,
 }
 
@@ -51,7 +51,7 @@ impl Bits {
         Some(Bits { kind, value })
     }
 
-    /// The value of a whole number modulo 2^w. One that the kind has as it is printed is its number.
+    /// The bits of a whole number modulo 2^w. `number` gives back a number that is printed of the kind.
     #[tactic(auto, using(crate::proofs::WordReadings::value_is_number))]
     pub fn from_number(kind: BitsKind, number: i128) -> Bits
         requires { IsTrue (is_width (width_of kind)) }

@@ -10,8 +10,6 @@ pub mod laws;
 pub mod node;
 mod places;
 pub mod range;
-#[cfg(test)]
-mod range_tests;
 pub mod refusal;
 mod table;
 pub mod word_laws;
