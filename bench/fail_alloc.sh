@@ -27,7 +27,8 @@ chmod +x "$work/run"
 
 last=${2:-}
 if [ -z "$last" ]; then
-    rt try --fail-alloc 1 >"$work/count" 2>&1
+    # a number that no run comes to
+    rt try --fail-alloc 1000000 >"$work/count" 2>&1
     last=$(sed -n 's/^allocations: //p' "$work/count")
 fi
 # one number past the last one, where nothing is refused

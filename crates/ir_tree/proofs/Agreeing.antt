@@ -151,13 +151,13 @@ module _ {N T A M U B O V C : Type 0} (f : N → M) (g : T → U) (h : A → B) 
     map_tree_twice (op x rs) = λ i.
         op
         (record {
-           id = x.id;
-           name = f' (f x.name);
-           operands = x.operands;
-           results = map_twice g g' x.results i;
-           properties = map_twice (map_entry f h) (map_entry f' h') x.properties i;
-           attributes = map_twice (map_entry f h) (map_entry f' h') x.attributes i;
-         })
+          id = x.id;
+          name = f' (f x.name);
+          operands = x.operands;
+          results = map_twice g g' x.results i;
+          properties = map_twice (map_entry f h) (map_entry f' h') x.properties i;
+          attributes = map_twice (map_entry f h) (map_entry f' h') x.attributes i;
+        })
         (map_regions_twice rs i)
 
     map_regions_twice : (rs : RegionsOf N T A) → map_regions f' g' h' (map_regions f g h rs) ≡ map_regions (λ x. f' (f x)) (λ x. g' (g x)) (λ x. h' (h x)) rs

@@ -39,8 +39,9 @@ range_from_count : (n : ℕ) (xs : List ℕ) → is_some (count_on n xs) ≡ tru
 range_from_count n [] h = refl
 range_from_count n (x ∷ xs) h =
     elim (eqb_tells x n) [
-      inl e ↦ λ i. e.1 i ∷ range_from_count (n + 1) xs (ap (λ b. is_some (cond b (count_on (n + 1) xs) None)) (sym e.0) ∙ h) i
-    | inr e ↦ absurd (true≢false (sym h ∙ ap (λ b. is_some (cond b (count_on (n + 1) xs) None)) e.0)) ]
+      | inl e ↦ λ i. e.1 i ∷ range_from_count (n + 1) xs (ap (λ b. is_some (cond b (count_on (n + 1) xs) None)) (sym e.0) ∙ h) i
+      | inr e ↦ absurd (true≢false (sym h ∙ ap (λ b. is_some (cond b (count_on (n + 1) xs) None)) e.0))
+    ]
 
 count_from_range : (n : ℕ) (xs : List ℕ) → xs ≡ range_with_len n (length xs) → is_some (count_on n xs) ≡ true
 count_from_range n [] h = refl

@@ -16,6 +16,7 @@ all_three true false c e = cc
 all_three false b c e = cc
 
 pub fault_none : {N T A : Type 0} (isolated : N → Bool) (t : OpOf N T A) → (fault isolated t ≡ None) ↔ IsFormed isolated t
-fault_none isolated t =
-    (λ e. let h = all_three (operands_visible isolated t) (nat_le (depth t) most_around) (counts_fit t) e in record { visible = h.0; shallow = leb-true (depth t) most_around h.1; counts = h.2 },
-     λ f. λ i. cond (f.visible i) (cond (le-leb (depth t) most_around f.shallow i) (cond (f.counts i) None (Some TooMany)) (Some TooDeep)) (Some UnknownValue))
+fault_none isolated t = (
+  λ e. let h = all_three (operands_visible isolated t) (nat_le (depth t) most_around) (counts_fit t) e in record { visible = h.0; shallow = leb-true (depth t) most_around h.1; counts = h.2 },
+  λ f. λ i. cond (f.visible i) (cond (le-leb (depth t) most_around f.shallow i) (cond (f.counts i) None (Some TooMany)) (Some TooDeep)) (Some UnknownValue),
+)

@@ -39,7 +39,7 @@ drop_op_of x [] = refl
 drop_op_of x (o ∷ os) =
     ap (λ r. cond (eqb (head o).id x) r (next o r)) (drop_op_of x os)
     ∙ elim (eqb (head o).id x) as (λ b. cond b (ops_of (filter (λ o. not (eqb (head o).id x)) os)) (next o (ops_of (filter (λ o. not (eqb (head o).id x)) os))) ≡ ops_of (cond (not b) (o ∷ filter (λ o. not (eqb (head o).id x)) os) (filter (λ o. not (eqb (head o).id x)) os)))
-      [ true ↦ refl | false ↦ refl ]
+    [ true ↦ refl | false ↦ refl ]
 
 -- before the first operation that has the id
 put_before_at : {N T A : Type 0} (b : ℕ) (o : OpOf N T A) (xs : List (OpOf N T A)) (i : ℕ) (d : OpOf N T A) → i < length xs → eqb (head (get_or xs i d)).id b ≡ true
@@ -66,5 +66,6 @@ put_before_none b o xs e = put_before_past b o xs (none_past (position_or_len (�
     past : (m n : ℕ) (b : Bool) → nat_lt m n ≡ b → cond b (Some m) None ≡ None → n ≤ m
     past m n true l h = cc
     past m n false l h = ltb-false m n l
+
     none_past : (m n : ℕ) → cond (nat_lt m n) (Some m) None ≡ None → n ≤ m
     none_past m n h = past m n (nat_lt m n) refl h

@@ -121,7 +121,7 @@ module _ {N T A M U B : Type 0} (f : N → M) (g : T → U) (h : A → B) where
     map_find y (op x rs) =
         ap (λ o. cond (eqb x.id y) (Some (map_tree f g h (op x rs))) o) (map_regions_find y rs)
         ∙ elim (eqb x.id y) as (λ b. cond b (Some (map_tree f g h (op x rs))) (option_map (map_tree f g h) (regions_find y rs)) ≡ option_map (map_tree f g h) (cond b (Some (op x rs)) (regions_find y rs)))
-          [ true ↦ refl | false ↦ refl ]
+        [ true ↦ refl | false ↦ refl ]
 
     map_regions_find : (y : ℕ) (rs : RegionsOf N T A) → regions_find y (map_regions f g h rs) ≡ option_map (map_tree f g h) (regions_find y rs)
     map_regions_find y no_regions = refl

@@ -48,11 +48,12 @@ module _ {N T A M U B : Type 0} (f : N → M) (g : T → U) (h : A → B) where
         let m = map (map_entry f h) in
         let put' = put_entry (λ x y. before (f x) (f y)) k a in
         elim (before (f k) (f e.0)) as (λ b.
-          cond b ((f k, h a) ∷ map_entry f h e ∷ m es) (cond (before (f e.0) (f k)) (map_entry f h e ∷ put_entry before (f k) (h a) (m es)) ((f k, h a) ∷ m es))
-          ≡ m (cond b ((k, a) ∷ e ∷ es) (cond (before (f e.0) (f k)) (e ∷ put' es) ((k, a) ∷ es))))
-        [ true ↦ refl
-        | false ↦ elim (before (f e.0) (f k)) as (λ c. cond c (map_entry f h e ∷ put_entry before (f k) (h a) (m es)) ((f k, h a) ∷ m es) ≡ m (cond c (e ∷ put' es) ((k, a) ∷ es)))
-                  [ true ↦ ap (λ w. map_entry f h e ∷ w) (map_put_entry k a es) | false ↦ refl ] ]
+        cond b ((f k, h a) ∷ map_entry f h e ∷ m es) (cond (before (f e.0) (f k)) (map_entry f h e ∷ put_entry before (f k) (h a) (m es)) ((f k, h a) ∷ m es))
+        ≡ m (cond b ((k, a) ∷ e ∷ es) (cond (before (f e.0) (f k)) (e ∷ put' es) ((k, a) ∷ es)))) [
+          | true ↦ refl
+          | false ↦ elim (before (f e.0) (f k)) as (λ c. cond c (map_entry f h e ∷ put_entry before (f k) (h a) (m es)) ((f k, h a) ∷ m es) ≡ m (cond c (e ∷ put' es) ((k, a) ∷ es)))
+              [ true ↦ ap (λ w. map_entry f h e ∷ w) (map_put_entry k a es) | false ↦ refl ]
+        ]
 
     map_drop_entry : (k : N) (es : List (N × A)) → drop_entry before (f k) (map (map_entry f h) es) ≡ map (map_entry f h) (drop_entry (λ x y. before (f x) (f y)) k es)
     map_drop_entry k [] = refl

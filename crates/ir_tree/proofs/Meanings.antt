@@ -117,12 +117,12 @@ order_stays c d g (op x rs) h k =
 pub stays_sound : (c d : Things) (t : Op) → Grows c d → IsSoundIn c t → IsSoundIn d t
 stays_sound c d t g s = record {
   known =
-    every_follows (op_passes (is_name c) (is_type c) (is_attr c)) (op_passes (is_name c) (is_type c) (is_attr c)) (op_passes (is_name d) (is_type d) (is_attr d))
-    (op_more (is_name c) (is_name d) (is_type c) (is_type d) (is_attr c) (is_attr d)
-     (λ n h. lt-ltb n (length d.names) (longer c.names d.names n g.names (ltb-true n (length c.names) h)))
-     (λ n h. lt-ltb n (length d.types) (longer c.types d.types n g.types (ltb-true n (length c.types) h)))
-     (λ n h. lt-ltb n (length d.attrs) (longer c.attrs d.attrs n g.attrs (ltb-true n (length c.attrs) h))))
-    t s.known s.known;
+      every_follows (op_passes (is_name c) (is_type c) (is_attr c)) (op_passes (is_name c) (is_type c) (is_attr c)) (op_passes (is_name d) (is_type d) (is_attr d))
+      (op_more (is_name c) (is_name d) (is_type c) (is_type d) (is_attr c) (is_attr d)
+      (λ n h. lt-ltb n (length d.names) (longer c.names d.names n g.names (ltb-true n (length c.names) h)))
+      (λ n h. lt-ltb n (length d.types) (longer c.types d.types n g.types (ltb-true n (length c.types) h)))
+      (λ n h. lt-ltb n (length d.attrs) (longer c.attrs d.attrs n g.attrs (ltb-true n (length c.attrs) h))))
+      t s.known s.known;
   sorted =
-    every_follows (op_passes (is_name c) (is_type c) (is_attr c)) (dictionaries_rise (key_before_in c)) (dictionaries_rise (key_before_in d)) (order_stays c d g) t s.known s.sorted;
+      every_follows (op_passes (is_name c) (is_type c) (is_attr c)) (dictionaries_rise (key_before_in c)) (dictionaries_rise (key_before_in d)) (order_stays c d g) t s.known s.sorted;
 }

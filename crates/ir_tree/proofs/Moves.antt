@@ -135,4 +135,3 @@ module _ {N T A : Type 0} where
 
     pub put_absent : (t : OpOf N T A) → has_id place.parent t ≡ false → put place o t ≡ t
     put_absent t a = unput t a
-

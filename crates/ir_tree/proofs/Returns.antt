@@ -125,9 +125,10 @@ module _ {N T A : Type 0} (x : ℕ) where
     none_ops p r no_ops e = refl
     none_ops p r (next (op h rs) os) e =
         elim (bool_cases (eqb h.id x)) [
-          inl k ↦ let bad = cond_true (eqb h.id x) (Some (record { parent = p; region = r; before = first_id os })) _ None k e in cc
-        | inr k ↦ (let b = first_none _ _ (cond_false (eqb h.id x) (Some (record { parent = p; region = r; before = first_id os })) _ None k e) in
-                   absent_join x (ids (op h rs)) (ops_ids os) (absent_op h rs k (none_regions h.id 0 rs b.0)) (none_ops p r os b.1)) ]
+          | inl k ↦ let bad = cond_true (eqb h.id x) (Some (record { parent = p; region = r; before = first_id os })) _ None k e in cc
+          | inr k ↦ (let b = first_none _ _ (cond_false (eqb h.id x) (Some (record { parent = p; region = r; before = first_id os })) _ None k e) in
+              absent_join x (ids (op h rs)) (ops_ids os) (absent_op h rs k (none_regions h.id 0 rs b.0)) (none_ops p r os b.1))
+        ]
 
   -- where a place is found, it is
   mutual
@@ -144,10 +145,12 @@ module _ {N T A : Type 0} (x : ℕ) where
     some_ops p r no_ops place e = cc
     some_ops p r (next (op h rs) os) place e =
         elim (bool_cases (eqb h.id x)) [
-          inl k ↦ present_left x (ids (op h rs)) (ops_ids os) (ap (λ b. b || list_any (λ y. eqb y x) (regions_ids rs)) k)
-        | inr k ↦ elim (first_case _ _ _ (cond_false (eqb h.id x) (Some (record { parent = p; region = r; before = first_id os })) _ (Some place) k e)) [
-            inl j ↦ present_left x (ids (op h rs)) (ops_ids os) (or_right _ _ (some_regions h.id 0 rs place j))
-          | inr j ↦ present_right x (ids (op h rs)) (ops_ids os) (some_ops p r os place j.1) ] ]
+          | inl k ↦ present_left x (ids (op h rs)) (ops_ids os) (ap (λ b. b || list_any (λ y. eqb y x) (regions_ids rs)) k)
+          | inr k ↦ elim (first_case _ _ _ (cond_false (eqb h.id x) (Some (record { parent = p; region = r; before = first_id os })) _ (Some place) k e)) [
+            | inl j ↦ present_left x (ids (op h rs)) (ops_ids os) (or_right _ _ (some_regions h.id 0 rs place j))
+            | inr j ↦ present_right x (ids (op h rs)) (ops_ids os) (some_ops p r os place j.1)
+          ]
+        ]
 
   -- what isn't there is not found
   mutual
@@ -193,19 +196,23 @@ module _ {N T A : Type 0} (x : ℕ) (place : Place) where
     locate_op : (t : OpOf N T A) → place_of x t ≡ Some place → Present place.parent (ids t)
     locate_op (op h rs) e =
         elim (locate_regions h.id 0 rs e) [
-          inl k ↦ ap (λ b. b || list_any (λ y. eqb y place.parent) (regions_ids rs)) (eq-eqb h.id place.parent k.0)
-        | inr k ↦ or_right (eqb h.id place.parent) _ k ]
+          | inl k ↦ ap (λ b. b || list_any (λ y. eqb y place.parent) (regions_ids rs)) (eq-eqb h.id place.parent k.0)
+          | inr k ↦ or_right (eqb h.id place.parent) _ k
+        ]
 
     locate_regions : (p r : ℕ) (rs : RegionsOf N T A) → regions_place x p r rs ≡ Some place → ((p ≡ place.parent) × (r ≤ place.region)) ⊎ Present place.parent (regions_ids rs)
     locate_regions p r no_regions e = cc
     locate_regions p r (region g rs) e =
         elim (first_case _ _ _ e) [
-          inl k ↦ elim (locate_region p r g k) [
-            inl l ↦ (let same = l.1 in inl (l.0, omega arith))
-          | inr l ↦ inr (present_left place.parent (region_ids g) (regions_ids rs) l) ]
-        | inr k ↦ elim (locate_regions p (r + 1) rs k.1) [
-            inl l ↦ (let more = l.1 in inl (l.0, omega arith))
-          | inr l ↦ inr (present_right place.parent (region_ids g) (regions_ids rs) l) ] ]
+          | inl k ↦ elim (locate_region p r g k) [
+            | inl l ↦ (let same = l.1 in inl (l.0, omega arith))
+            | inr l ↦ inr (present_left place.parent (region_ids g) (regions_ids rs) l)
+          ]
+          | inr k ↦ elim (locate_regions p (r + 1) rs k.1) [
+            | inl l ↦ (let more = l.1 in inl (l.0, omega arith))
+            | inr l ↦ inr (present_right place.parent (region_ids g) (regions_ids rs) l)
+          ]
+        ]
 
     locate_region : (p r : ℕ) (g : RegionOf N T A) → region_place x p r g ≡ Some place → ((p ≡ place.parent) × (r ≡ place.region)) ⊎ Present place.parent (region_ids g)
     locate_region p r empty e = cc
@@ -215,18 +222,21 @@ module _ {N T A : Type 0} (x : ℕ) (place : Place) where
     locate_ops p r no_ops e = cc
     locate_ops p r (next (op h rs) os) e =
         elim (bool_cases (eqb h.id x)) [
-          inl k ↦ (let here : Place = record { parent = p; region = r; before = first_id os } in
-                   let w : here ≡ place = some_is here place (cond_true (eqb h.id x) (Some here) _ (Some place) k e) in
-                   inl (record {
-                     parent = ap (λ q. q.parent) w;
-                     region = ap (λ q. q.region) w;
-                     before = before_more place.before (op h rs) os (subst (λ (q : Place). BeforeIn q.before os) w (first_in os));
-                   }))
-        | inr k ↦ elim (first_case _ _ _ (cond_false (eqb h.id x) (Some (record { parent = p; region = r; before = first_id os })) _ (Some place) k e)) [
-            inl j ↦ inr (present_left place.parent (ids (op h rs)) (ops_ids os) (locate_op (op h rs) j))
-          | inr j ↦ elim (locate_ops p r os j.1) [
-              inl l ↦ inl (record { parent = l.parent; region = l.region; before = before_more place.before (op h rs) os l.before })
-            | inr l ↦ inr (present_right place.parent (ids (op h rs)) (ops_ids os) l) ] ] ]
+          | inl k ↦ (let here : Place = record { parent = p; region = r; before = first_id os } in
+              let w : here ≡ place = some_is here place (cond_true (eqb h.id x) (Some here) _ (Some place) k e) in
+              inl (record {
+                parent = ap (λ q. q.parent) w;
+                region = ap (λ q. q.region) w;
+                before = before_more place.before (op h rs) os (subst (λ (q : Place). BeforeIn q.before os) w (first_in os));
+              }))
+          | inr k ↦ elim (first_case _ _ _ (cond_false (eqb h.id x) (Some (record { parent = p; region = r; before = first_id os })) _ (Some place) k e)) [
+            | inl j ↦ inr (present_left place.parent (ids (op h rs)) (ops_ids os) (locate_op (op h rs) j))
+            | inr j ↦ elim (locate_ops p r os j.1) [
+              | inl l ↦ inl (record { parent = l.parent; region = l.region; before = before_more place.before (op h rs) os l.before })
+              | inr l ↦ inr (present_right place.parent (ids (op h rs)) (ops_ids os) l)
+            ]
+          ]
+        ]
 
 module _ {N T A : Type 0} (place : Place) (o : OpOf N T A) where
   -- another block
@@ -281,12 +291,13 @@ module _ {N T A : Type 0} (x : ℕ) (place : Place) (o : OpOf N T A) where
   further_on : (p r : ℕ) (q : OpOf N T A) (os os' : OpsOf N T A) → Absent p (ids q ++ ops_ids os) → ((y : ℕ) → Present y (ops_ids os) → eqb (head q).id y ≡ false)
       → InList place p r os ⊎ Present place.parent (ops_ids os) → put_here place o p r os' ≡ os → put_here place o p r (next q os') ≡ next q os
   further_on p r q os os' ap' f loc e = elim loc [
-      inl l ↦ (let block : is_in_block place p r ≡ true = (λ i. eq-eqb p place.parent l.parent i && eq-eqb r place.region l.region i) in
-               let inner : put_in place.before o os' ≡ os = sym (ap (λ b. cond b (put_in place.before o os') os') block) ∙ e in
-               ap (λ b. cond b (put_in place.before o (next q os')) (next q os')) block ∙ put_behind place o place.before q os os' l.before f ∙ ap (next q) inner)
+    | inl l ↦ (let block : is_in_block place p r ≡ true = (λ i. eq-eqb p place.parent l.parent i && eq-eqb r place.region l.region i) in
+        let inner : put_in place.before o os' ≡ os = sym (ap (λ b. cond b (put_in place.before o os') os') block) ∙ e in
+        ap (λ b. cond b (put_in place.before o (next q os')) (next q os')) block ∙ put_behind place o place.before q os os' l.before f ∙ ap (next q) inner)
     | inr l ↦ (let out : is_in_block place p r ≡ false = other_parent place o p r (differ p place.parent (ops_ids os) ((absent_parts p (ids q) (ops_ids os) ap').1) l) in
-               let inner : os' ≡ os = sym (elsewhere place o p r os' out) ∙ e in
-               elsewhere place o p r (next q os') out ∙ ap (next q) inner) ]
+        let inner : os' ≡ os = sym (elsewhere place o p r os' out) ∙ e in
+        elsewhere place o p r (next q os') out ∙ ap (next q) inner)
+  ]
 
   -- the list from which it comes begins with it
   here_first : (p r : ℕ) (q : OpOf N T A) (os : OpsOf N T A) → eqb (head q).id x ≡ true → Absent p (ops_ids os) → Halves (ids q) (ops_ids os) → ops_place x p r (next q os) ≡ Some place → ops_find x (next q os) ≡ Some o
@@ -330,16 +341,18 @@ module _ {N T A : Type 0} (x : ℕ) (place : Place) (o : OpOf N T A) where
   later p r g rs a a' hv loc ax =
       ap (regions_each_list (put_here place o) p (r + 1)) (regions_untouched x p (r + 1) rs ax)
       ∙ elim loc [
-          inl l ↦ unput_later place o p (r + 1) rs (λ k m. other_region place o p k (not_equal k place.region (λ e. let q = l.1 in omega arith))) (subst (λ (z : ℕ). Absent z (regions_ids rs)) l.0 a')
-        | inr l ↦ unput_later place o p (r + 1) rs (λ k m. other_parent place o p k (differ p place.parent (region_ids g) a l)) (hv.disjoint place.parent l) ]
+        | inl l ↦ unput_later place o p (r + 1) rs (λ k m. other_region place o p k (not_equal k place.region (λ e. let q = l.1 in omega arith))) (subst (λ (z : ℕ). Absent z (regions_ids rs)) l.0 a')
+        | inr l ↦ unput_later place o p (r + 1) rs (λ k m. other_parent place o p k (differ p place.parent (region_ids g) a l)) (hv.disjoint place.parent l)
+      ]
 
   earlier : (p r : ℕ) (g : RegionOf N T A) (rs : RegionsOf N T A) → Absent p (region_ids g) → Absent p (regions_ids rs) → Halves (region_ids g) (regions_ids rs) → ((p ≡ place.parent) × (r + 1 ≤ place.region)) ⊎ Present place.parent (regions_ids rs) → Absent x (region_ids g)
       → region_each_list (put_here place o) p r (region_each_list (λ p r os. drop_op x os) p r g) ≡ g
   earlier p r g rs a a' hv loc ax =
       ap (region_each_list (put_here place o) p r) (region_untouched x p r g ax)
       ∙ elim loc [
-          inl l ↦ unput_region place o p r g (other_region place o p r (not_equal r place.region (λ e. let q = l.1 in omega arith))) (subst (λ (z : ℕ). Absent z (region_ids g)) l.0 a)
-        | inr l ↦ unput_region place o p r g (other_parent place o p r (differ p place.parent (regions_ids rs) a' l)) (flipped (region_ids g) (regions_ids rs) hv place.parent l) ]
+        | inl l ↦ unput_region place o p r g (other_region place o p r (not_equal r place.region (λ e. let q = l.1 in omega arith))) (subst (λ (z : ℕ). Absent z (region_ids g)) l.0 a)
+        | inr l ↦ unput_region place o p r g (other_parent place o p r (differ p place.parent (regions_ids rs) a' l)) (flipped (region_ids g) (regions_ids rs) hv place.parent l)
+      ]
 
   mutual
     back_op : (t : OpOf N T A) → IsDistinct eqb (ids t) → place_of x t ≡ Some place → eqb (head t).id x ≡ false → find x t ≡ Some o → each_list (put_here place o) (each_list (λ p r os. drop_op x os) t) ≡ t
@@ -354,13 +367,14 @@ module _ {N T A : Type 0} (x : ℕ) (place : Place) (o : OpOf N T A) where
         let b = absent_parts p (region_ids g) (regions_ids rs) a in
         let hv = halves (region_ids g) (regions_ids rs) d in
         elim (first_case (region_place x p r g) (regions_place x p (r + 1) rs) place e) [
-          inl k ↦ (let px = some_region x p r g place k in
-                   let ax = hv.disjoint x px in
-                   let found : region_find x g ≡ Some o = found_left (region_find x g) (regions_find x rs) o f (lost_regions x rs ax) in
-                   λ i. region (back_region p r g b.0 hv.left k found i) (later p r g rs b.0 b.1 hv (locate_region x place p r g k) ax i))
-        | inr k ↦ (let ax = none_region x p r g k.0 in
-                   let found : regions_find x rs ≡ Some o = found_right (region_find x g) (regions_find x rs) o f (lost_region x g ax) in
-                   λ i. region (earlier p r g rs b.0 b.1 hv (locate_regions x place p (r + 1) rs k.1) ax i) (back_regions p (r + 1) rs b.1 hv.right k.1 found i)) ]
+          | inl k ↦ (let px = some_region x p r g place k in
+              let ax = hv.disjoint x px in
+              let found : region_find x g ≡ Some o = found_left (region_find x g) (regions_find x rs) o f (lost_regions x rs ax) in
+              λ i. region (back_region p r g b.0 hv.left k found i) (later p r g rs b.0 b.1 hv (locate_region x place p r g k) ax i))
+          | inr k ↦ (let ax = none_region x p r g k.0 in
+              let found : regions_find x rs ≡ Some o = found_right (region_find x g) (regions_find x rs) o f (lost_region x g ax) in
+              λ i. region (earlier p r g rs b.0 b.1 hv (locate_regions x place p (r + 1) rs k.1) ax i) (back_regions p (r + 1) rs b.1 hv.right k.1 found i))
+        ]
 
     back_region : (p r : ℕ) (g : RegionOf N T A) → Absent p (region_ids g) → IsDistinct eqb (region_ids g) → region_place x p r g ≡ Some place → region_find x g ≡ Some o
         → region_each_list (put_here place o) p r (region_each_list (λ p r os. drop_op x os) p r g) ≡ g
@@ -375,25 +389,27 @@ module _ {N T A : Type 0} (x : ℕ) (place : Place) (o : OpOf N T A) where
         let b = absent_parts p qs (ops_ids os) a in
         let hv = halves qs (ops_ids os) d in
         elim (bool_cases (eqb (head q).id x)) [
-          inl k ↦ here_first p r q os k b.1 hv e f
-        | inr k ↦ elim (first_case (place_of x q) (ops_place x p r os) place (cond_false (eqb (head q).id x) (Some (record { parent = p; region = r; before = first_id os })) (first_of (place_of x q) (ops_place x p r os)) (Some place) k e)) [
-            inl j ↦ (let px = some_op q k j in
-                     let ax = hv.disjoint x px in
-                     let found : find x q ≡ Some o = found_left (find x q) (ops_find x os) o f (lost_ops x os ax) in
-                     let pp = locate_op x place q j in
-                     let out : is_in_block place p r ≡ false = other_parent place o p r (differ p place.parent qs b.0 pp) in
-                     let dropped = drop_not q os k ax in
-                     ap (λ l. put_here place o p r (ops_each_list (put_here place o) l)) dropped
-                     ∙ elsewhere place o p r (ops_each_list (put_here place o) (next (each_list (λ p r os. drop_op x os) q) os)) out
-                     ∙ λ i. next (back_op q hv.left j k found i) (ops_unput place o os (hv.disjoint place.parent pp) i))
-          | inr j ↦ (let aq = none_op q k j.0 in
-                     let found : ops_find x os ≡ Some o = found_right (find x q) (ops_find x os) o f (lost_op x q aq) in
-                     let loc = locate_ops x place p r os j.1 in
-                     let dropped = drop_other q os k aq in
-                     let same : each_list (put_here place o) q ≡ q = unput place o q (outside p r q os b.0 hv loc) in
-                     ap (λ l. put_here place o p r (ops_each_list (put_here place o) l)) dropped
-                     ∙ ap (λ w. put_here place o p r (next w (ops_each_list (put_here place o) (drop_op x (ops_each_list (λ p r os. drop_op x os) os))))) same
-                     ∙ further_on p r q os _ a (λ y py. differ (head q).id y (ops_ids os) (head_absent q os hv) py) loc (back_ops p r os b.1 hv.right j.1 found)) ] ]
+          | inl k ↦ here_first p r q os k b.1 hv e f
+          | inr k ↦ elim (first_case (place_of x q) (ops_place x p r os) place (cond_false (eqb (head q).id x) (Some (record { parent = p; region = r; before = first_id os })) (first_of (place_of x q) (ops_place x p r os)) (Some place) k e)) [
+            | inl j ↦ (let px = some_op q k j in
+                let ax = hv.disjoint x px in
+                let found : find x q ≡ Some o = found_left (find x q) (ops_find x os) o f (lost_ops x os ax) in
+                let pp = locate_op x place q j in
+                let out : is_in_block place p r ≡ false = other_parent place o p r (differ p place.parent qs b.0 pp) in
+                let dropped = drop_not q os k ax in
+                ap (λ l. put_here place o p r (ops_each_list (put_here place o) l)) dropped
+                ∙ elsewhere place o p r (ops_each_list (put_here place o) (next (each_list (λ p r os. drop_op x os) q) os)) out
+                ∙ λ i. next (back_op q hv.left j k found i) (ops_unput place o os (hv.disjoint place.parent pp) i))
+            | inr j ↦ (let aq = none_op q k j.0 in
+                let found : ops_find x os ≡ Some o = found_right (find x q) (ops_find x os) o f (lost_op x q aq) in
+                let loc = locate_ops x place p r os j.1 in
+                let dropped = drop_other q os k aq in
+                let same : each_list (put_here place o) q ≡ q = unput place o q (outside p r q os b.0 hv loc) in
+                ap (λ l. put_here place o p r (ops_each_list (put_here place o) l)) dropped
+                ∙ ap (λ w. put_here place o p r (next w (ops_each_list (put_here place o) (drop_op x (ops_each_list (λ p r os. drop_op x os) os))))) same
+                ∙ further_on p r q os _ a (λ y py. differ (head q).id y (ops_ids os) (head_absent q os hv) py) loc (back_ops p r os b.1 hv.right j.1 found))
+          ]
+        ]
 
   pub put_take : (t : OpOf N T A) → HasDistinctIds t → place_of x t ≡ Some place → find x t ≡ Some o → put place o (without x t) ≡ t
   put_take (op h rs) d e f =

@@ -35,14 +35,16 @@ impl HeadEdit for NewOperand {
 }
 
 /// The tree with `value` as operand `place` of an operation. Where there is no such operand, the tree as it is.
-pub fn with_operand_set(alloc: Global, root: &TreeOp, op: OpId, place: usize, value: Value) -> Result<TreeOp, AllocError>
+pub fn with_operand_set(
+    alloc: Global,
+    root: &TreeOp,
+    op: OpId,
+    place: usize,
+    value: Value,
+) -> Result<TreeOp, AllocError>
     ensures { IfOk result (λ t. t ≡ with_operand op place value root.now) }
 {
-    let edit = NewOperand {
-        op,
-        place,
-        value,
-    };
+    let edit = NewOperand { op, place, value };
     with_heads(alloc, root, &edit)
 }
 
@@ -65,7 +67,12 @@ impl HeadEdit for Replacement {
 }
 
 // Values with one in place of another.
-fn replaced_in(alloc: Global, values: &Vec<Value>, old: &Value, new: &Value) -> Result<Vec<Value>, AllocError>
+fn replaced_in(
+    alloc: Global,
+    values: &Vec<Value>,
+    old: &Value,
+    new: &Value,
+) -> Result<Vec<Value>, AllocError>
     ensures { IfOk result (λ v. v.items ≡ map (put_value old.now new.now) values.now.items) }
 {
     let mut replaced = Vec::with_capacity(alloc, values.len())?;
@@ -82,7 +89,12 @@ fn exchanged(value: &Value, old: &Value, new: &Value) -> Value
 }
 
 /// The tree with `new` in place of `old`, wherever that is an operand.
-pub fn with_replaced(alloc: Global, root: &TreeOp, old: Value, new: Value) -> Result<TreeOp, AllocError>
+pub fn with_replaced(
+    alloc: Global,
+    root: &TreeOp,
+    old: Value,
+    new: Value,
+) -> Result<TreeOp, AllocError>
     ensures { IfOk result (λ t. t ≡ with_value_replaced old new root.now) }
 {
     let edit = Replacement { old, new };
@@ -99,7 +111,13 @@ struct Putting<'a> {
 impl<'a> ListEdit for Putting<'a> {
     ghost gives = { λ e. put_here e.place e.op.now };
 
-    fn apply(&self, _alloc: Global, owner: OpId, region: usize, ops: Vec<TreeOp>) -> Result<Vec<TreeOp>, AllocError> {
+    fn apply(
+        &self,
+        _alloc: Global,
+        owner: OpId,
+        region: usize,
+        ops: Vec<TreeOp>,
+    ) -> Result<Vec<TreeOp>, AllocError> {
         if owner == self.place.parent && region == self.place.region as usize {
             put_among(ops, self.place.before, self.op)
         } else {
@@ -159,7 +177,13 @@ struct Taking {
 impl ListEdit for Taking {
     ghost gives = { λ e p r os. drop_op e.op os };
 
-    fn apply(&self, _alloc: Global, _owner: OpId, _region: usize, ops: Vec<TreeOp>) -> Result<Vec<TreeOp>, AllocError> {
+    fn apply(
+        &self,
+        _alloc: Global,
+        _owner: OpId,
+        _region: usize,
+        ops: Vec<TreeOp>,
+    ) -> Result<Vec<TreeOp>, AllocError> {
         let mut ops = ops;
         ops.retain(|op| op.id != self.op);
         Ok(ops)

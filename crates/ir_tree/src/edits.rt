@@ -30,7 +30,11 @@ pub fn with_heads<E: HeadEdit>(alloc: Global, root: &TreeOp, edit: &E) -> Result
 }
 
 #[cycle(heads)]
-fn regions_with_heads<E: HeadEdit>(alloc: Global, regions: &Vec<TreeRegion>, edit: &E) -> Result<Vec<TreeRegion>, AllocError>
+fn regions_with_heads<E: HeadEdit>(
+    alloc: Global,
+    regions: &Vec<TreeRegion>,
+    edit: &E,
+) -> Result<Vec<TreeRegion>, AllocError>
     ensures { IfOk result (λ v. regions_of (map region_view v.items) ≡ regions_each_head (E.gives edit.now) (regions_of (map region_view regions.now.items))) }
 {
     let mut copies = Vec::with_capacity(alloc, regions.len())?;
@@ -41,7 +45,11 @@ fn regions_with_heads<E: HeadEdit>(alloc: Global, regions: &Vec<TreeRegion>, edi
 }
 
 #[cycle(heads)]
-fn region_with_heads<E: HeadEdit>(alloc: Global, region: &TreeRegion, edit: &E) -> Result<TreeRegion, AllocError>
+fn region_with_heads<E: HeadEdit>(
+    alloc: Global,
+    region: &TreeRegion,
+    edit: &E,
+) -> Result<TreeRegion, AllocError>
     ensures { IfOk result (λ r. region_view r ≡ region_each_head (E.gives edit.now) (region_view region.now)) }
 {
     match region {
@@ -60,7 +68,11 @@ fn region_with_heads<E: HeadEdit>(alloc: Global, region: &TreeRegion, edit: &E) 
 }
 
 // A copy of an operation's own head, with these regions.
-fn with_regions(alloc: Global, root: &TreeOp, regions: Vec<TreeRegion>) -> Result<TreeOp, AllocError>
+fn with_regions(
+    alloc: Global,
+    root: &TreeOp,
+    regions: Vec<TreeRegion>,
+) -> Result<TreeOp, AllocError>
     ensures { IfOk result (λ t. t ≡ op (head root.now) (regions_of (map region_view regions.items))) }
 {
     Ok(TreeOp {
@@ -80,7 +92,13 @@ pub trait ListEdit {
     ghost gives: { Self → ℕ → ℕ → Ops → Ops };
 
     /// Makes the edit at one list.
-    fn apply(&self, alloc: Global, owner: OpId, region: usize, ops: Vec<TreeOp>) -> Result<Vec<TreeOp>, AllocError>
+    fn apply(
+        &self,
+        alloc: Global,
+        owner: OpId,
+        region: usize,
+        ops: Vec<TreeOp>,
+    ) -> Result<Vec<TreeOp>, AllocError>
         ensures { IfOk result (λ v. ops_of v.items ≡ gives self.now owner region (ops_of ops.items)) };
 }
 
@@ -94,7 +112,12 @@ pub fn with_lists<E: ListEdit>(alloc: Global, root: &TreeOp, edit: &E) -> Result
 }
 
 #[cycle(lists)]
-fn regions_with_lists<E: ListEdit>(alloc: Global, owner: OpId, regions: &Vec<TreeRegion>, edit: &E) -> Result<Vec<TreeRegion>, AllocError>
+fn regions_with_lists<E: ListEdit>(
+    alloc: Global,
+    owner: OpId,
+    regions: &Vec<TreeRegion>,
+    edit: &E,
+) -> Result<Vec<TreeRegion>, AllocError>
     ensures { IfOk result (λ v. regions_of (map region_view v.items) ≡ regions_each_list (E.gives edit.now) owner 0 (regions_of (map region_view regions.now.items))) }
 {
     let mut copies = Vec::with_capacity(alloc, regions.len())?;
@@ -105,7 +128,13 @@ fn regions_with_lists<E: ListEdit>(alloc: Global, owner: OpId, regions: &Vec<Tre
 }
 
 #[cycle(lists)]
-fn region_with_lists<E: ListEdit>(alloc: Global, owner: OpId, number: usize, region: &TreeRegion, edit: &E) -> Result<TreeRegion, AllocError>
+fn region_with_lists<E: ListEdit>(
+    alloc: Global,
+    owner: OpId,
+    number: usize,
+    region: &TreeRegion,
+    edit: &E,
+) -> Result<TreeRegion, AllocError>
     ensures { IfOk result (λ r. region_view r ≡ region_each_list (E.gives edit.now) owner number (region_view region.now)) }
 {
     match region {

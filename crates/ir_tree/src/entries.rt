@@ -68,7 +68,13 @@ pub fn with_entry_set(
     with_heads(alloc, root, &edit)
 }
 
-fn changed(alloc: Global, ctx: &Context, entries: &Entries, key: NameId, value: Option<AttrId>) -> Result<Entries, AllocError>
+fn changed(
+    alloc: Global,
+    ctx: &Context,
+    entries: &Entries,
+    key: NameId,
+    value: Option<AttrId>,
+) -> Result<Entries, AllocError>
     ensures { IfOk result (λ v. v.items ≡ change_entry (key_before_in ctx.now) key value entries.now.items) }
 {
     match value {
@@ -78,7 +84,13 @@ fn changed(alloc: Global, ctx: &Context, entries: &Entries, key: NameId, value: 
 }
 
 // Entries in the order of their keys, with an attribute at a key.
-fn placed(alloc: Global, ctx: &Context, entries: &[(NameId, AttrId)], key: NameId, attr: AttrId) -> Result<Entries, AllocError>
+fn placed(
+    alloc: Global,
+    ctx: &Context,
+    entries: &[(NameId, AttrId)],
+    key: NameId,
+    attr: AttrId,
+) -> Result<Entries, AllocError>
     ensures { IfOk result (λ v. v.items ≡ put_entry (key_before_in ctx.now) key attr entries.now) }
 {
     let mut placed = Vec::new(alloc);
@@ -102,7 +114,12 @@ fn placed(alloc: Global, ctx: &Context, entries: &[(NameId, AttrId)], key: NameI
 }
 
 // Entries without a key.
-fn dropped(alloc: Global, ctx: &Context, entries: &[(NameId, AttrId)], key: NameId) -> Result<Entries, AllocError>
+fn dropped(
+    alloc: Global,
+    ctx: &Context,
+    entries: &[(NameId, AttrId)],
+    key: NameId,
+) -> Result<Entries, AllocError>
     ensures { IfOk result (λ v. v.items ≡ drop_entry (key_before_in ctx.now) key entries.now) }
 {
     let mut left = Vec::new(alloc);

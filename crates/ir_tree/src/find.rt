@@ -70,4 +70,3 @@ fn push_region_ids(region: &TreeRegion, out: &mut Vec<OpId>) -> Result<(), Alloc
     }
     Ok(())
 }
-

@@ -21,14 +21,12 @@ ghost use Rattle.ir_tree.specs.Meaning.{IsSoundIn, isolated_in, key_before, key_
 pub fn meaning_stays()
     ensures sound { (c d : Things) (t : Op) → Grows c d → IsSoundIn c t → IsSoundIn d t }
     ensures meaning { (c d : Things) (t : Op) → Holds c → Grows c d → IsSoundIn c t → meaning d t ≡ meaning c t }
-{
-}
+{}
 
 /// Trees that are sound in a context and stand for the same are one.
 pub fn meanings_differ()
     ensures { (c : Things) (t u : Op) → IsSound c → IsSoundIn c t → IsSoundIn c u → meaning c t ≡ meaning c u → t ≡ u }
-{
-}
+{}
 
 /// What a tree stands for has the tree's ids, operations, places, uses and sight, and passes the same limits.
 pub fn meaning_has_the_shape()
@@ -40,8 +38,7 @@ pub fn meaning_has_the_shape()
     ensures operands { (c : Things) (t : Op) → operands_visible is_isolated (meaning c t) ≡ operands_visible (isolated_in c) t }
     ensures depth { (c : Things) (t : Op) → depth (meaning c t) ≡ depth t }
     ensures counts { (c : Things) (t : Op) → counts_fit (meaning c t) ≡ counts_fit t }
-{
-}
+{}
 
 /// An edit of what a tree stands for is what the edited tree stands for.
 pub fn meaning_of_edits()
@@ -52,14 +49,12 @@ pub fn meaning_of_edits()
     ensures put { (c : Things) (place : Spot) (o t : Op) → put place (meaning c o) (meaning c t) ≡ meaning c (put place o t) }
     ensures without { (c : Things) (x : ℕ) (t : Op) → without x (meaning c t) ≡ meaning c (without x t) }
     ensures shifted { (c : Things) (x : ℕ) (place : Spot) (t : Op) → shifted x place (meaning c t) ≡ meaning c (shifted x place t) }
-{
-}
+{}
 
 /// A tree is formed exactly where there is no fault in it.
 pub fn formed_has_no_fault()
     ensures { (isolated : ℕ → Bool) (t : Op) → (fault isolated t ≡ None) ↔ IsFormed isolated t }
-{
-}
+{}
 
 /// An operand that is set leaves all ids, places, depths and what each operation sees.
 pub fn operand_keeps()
@@ -67,8 +62,7 @@ pub fn operand_keeps()
     ensures place { (x k : ℕ) (v : TreeValue) (y : ℕ) (t : Op) → place_of y (with_operand x k v t) ≡ place_of y t }
     ensures depth { (x k : ℕ) (v : TreeValue) (t : Op) → depth (with_operand x k v t) ≡ depth t }
     ensures sight { (isolated : ℕ → Bool) (x k : ℕ) (w : TreeValue) (y : ℕ) (v : TreeValue) (t : Op) → visible isolated (with_operand x k w t) y v ≡ visible isolated t y v }
-{
-}
+{}
 
 /// An entry that is set or removed leaves all ids, places, depths, uses and what each operation sees.
 pub fn entry_keeps()
@@ -80,8 +74,7 @@ pub fn entry_keeps()
         → visible isolated (with_entry (key_before_in c) x part k a t) y v ≡ visible isolated t y v }
     ensures operands { (c : Things) (isolated : ℕ → Bool) (x : ℕ) (part : Dictionary) (k : ℕ) (a : Option ℕ) (t : Op)
         → operands_visible isolated (with_entry (key_before_in c) x part k a t) ≡ operands_visible isolated t }
-{
-}
+{}
 
 /// A value that takes another's place leaves all ids, places, depths and what each operation sees. The old
 /// value has no use left, the new one has its uses and the old one's, and other values have theirs.
@@ -93,8 +86,7 @@ pub fn replacing_keeps()
     ensures old { (v w : TreeValue) (t : Op) → same_value v w ≡ false → uses_of v (with_value_replaced v w t) ≡ [] }
     ensures new { (v w : TreeValue) (t : Op) → same_value v w ≡ false → length (uses_of w (with_value_replaced v w t)) ≡ length (uses_of v t) + length (uses_of w t) }
     ensures others { (v w u : TreeValue) (t : Op) → same_value u v ≡ false → same_value u w ≡ false → uses_of u (with_value_replaced v w t) ≡ uses_of u t }
-{
-}
+{}
 
 /// An operation that is put in and taken out leaves the tree as it was, and so does one that is taken out
 /// and put back where it stood.
@@ -103,5 +95,4 @@ pub fn put_and_take()
     ensures take_first { (x : ℕ) (place : Spot) (o t : Op) → HasDistinctIds t → place_of x t ≡ Some place → find x t ≡ Some o → put place o (without x t) ≡ t }
     ensures no_such_place { (place : Spot) (o t : Op) → has_id place.parent t ≡ false → put place o t ≡ t }
     ensures no_such_op { (x : ℕ) (t : Op) → has_id x t ≡ false → without x t ≡ t }
-{
-}
+{}

@@ -9,7 +9,11 @@ use ir_types::ids::OpId;
 use std::alloc::{AllocError, Global};
 
 /// The uses of a value in a tree: users in pre-order, with the numbers of the operands.
-pub fn list_uses(alloc: Global, root: &TreeOp, value: Value) -> Result<Vec<(OpId, usize)>, AllocError>
+pub fn list_uses(
+    alloc: Global,
+    root: &TreeOp,
+    value: Value,
+) -> Result<Vec<(OpId, usize)>, AllocError>
     ensures { IfOk result (λ v. v.items ≡ uses_of value root.now) }
 {
     let mut out = Vec::new(alloc);
@@ -29,7 +33,11 @@ fn push_uses(root: &TreeOp, value: &Value, out: &mut Vec<(OpId, usize)>) -> Resu
 }
 
 #[cycle(uses)]
-fn push_region_uses(region: &TreeRegion, value: &Value, out: &mut Vec<(OpId, usize)>) -> Result<(), AllocError>
+fn push_region_uses(
+    region: &TreeRegion,
+    value: &Value,
+    out: &mut Vec<(OpId, usize)>,
+) -> Result<(), AllocError>
     ensures { OnOk result (out.new.items ≡ out.old.items ++ region_uses value.now (region_view region.now)) }
 {
     if let TreeRegion::Block { ops, .. } = region {
@@ -40,7 +48,12 @@ fn push_region_uses(region: &TreeRegion, value: &Value, out: &mut Vec<(OpId, usi
     Ok(())
 }
 
-fn push_own_uses(user: OpId, operands: &Vec<Value>, value: &Value, out: &mut Vec<(OpId, usize)>) -> Result<(), AllocError>
+fn push_own_uses(
+    user: OpId,
+    operands: &Vec<Value>,
+    value: &Value,
+    out: &mut Vec<(OpId, usize)>,
+) -> Result<(), AllocError>
     ensures { OnOk result (out.new.items ≡ out.old.items ++ operand_uses value.now user 0 operands.now.items) }
 {
     for (number, operand) in operands.iter().enumerate() {

@@ -13,13 +13,13 @@ use std::alloc::{AllocError, Global};
 use std::io;
 
 /// How many names there are in the end, with the words.
-const NAMES: u32 = 66;
+const NAMES: u32 = 60;
 
 /// How many types there are in the end.
-const TYPES: u32 = 18;
+const TYPES: u32 = 9;
 
 /// How many attributes there are in the end.
-const ATTRS: u32 = 24;
+const ATTRS: u32 = 12;
 
 /// How often a call is made at most: once more than memory is refused.
 const ATTEMPTS: u32 = 2;

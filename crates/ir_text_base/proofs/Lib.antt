@@ -1,0 +1,6 @@
+pub mod Places
+pub mod Kept
+pub mod Escapes
+pub mod Decimals
+pub mod Printed
+pub mod Fronts

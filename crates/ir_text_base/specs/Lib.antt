@@ -1,0 +1,10 @@
+pub mod Bytes
+pub mod Reading
+pub mod Strings
+pub mod Tokens
+pub mod Numbers
+pub mod Limits
+pub mod Printing
+pub mod Scopes
+pub mod Places
+pub mod Inside

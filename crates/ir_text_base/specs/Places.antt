@@ -1,0 +1,42 @@
+-- How the names are kept: a list of bindings, and a map from each name to its last place there.
+use Rattle.std.specs.Prelude.{◌≡◌, ℕ, suc, nat_lt, if◌then◌else◌, List, [], ◌∷◌, take, map, Option, Some, None, option_map, slice_get}
+use Rattle.std.specs.declared.cmp.Ordering.{Ordering}
+use Rattle.std.specs.Ordering.{nat_cmp}
+use Rattle.std.specs.Cmp.Lexicographic.{slice_cmp}
+use Rattle.std.specs.Str.{bytes_eq}
+use Rattle.std.specs.Borrow.{Bor}
+use Rattle.std.specs.BTreeMap.{BTreeMap, get}
+use Rattle.ir_text_base.specs.Scopes.{Binding, or_else}
+use Rattle.ir_text_base.specs.declared.names.Entry.{Entry}
+
+-- the order of the map's keys
+abbrev pub key_cmp : Bor (List ℕ) → Bor (List ℕ) → Ordering
+key_cmp x y = slice_cmp nat_cmp x.now y.now
+
+abbrev pub joined : {A : Type 0} → Option (Option A) → Option A
+joined None = None
+joined (Some x) = x
+
+abbrev pub binding_view : {T : Type 0} → Entry T → Binding T
+binding_view e = record { name = e.name.now; value = e.value }
+
+abbrev pub views : {T : Type 0} → List (Entry T) → List (Binding T)
+views es = map binding_view es
+
+-- the place of the last binding by the name
+unfoldable pub top : {T : Type 0} → List ℕ → List (Binding T) → Option ℕ
+top name [] = None
+top name (b ∷ bs) = or_else (option_map suc (top name bs)) (if bytes_eq b.name name then Some 0 else None)
+
+-- what is bound at a place, where it can be seen
+abbrev pub pick : {T : Type 0} → List (Binding T) → ℕ → Option ℕ → Option T
+pick bs floor None = None
+pick bs floor (Some i) = if nat_lt i floor then None else option_map (λ b. b.value) (slice_get bs i)
+
+-- each entry knows the place that it hides
+abbrev pub Linked : {T : Type 0} → List (Entry T) → Type 0
+Linked {T} es = (i : ℕ) (e : Entry T) → slice_get es i ≡ Some e → e.hidden ≡ top e.name.now (take i (views es))
+
+pub record Agrees {T : Type 0} (latest : BTreeMap (Bor (List ℕ)) (Option ℕ)) (es : List (Entry T)) : Type 0 where
+  pub found : (q : Bor (List ℕ)) → joined (get key_cmp latest q) ≡ top q.now (views es)
+  pub linked : Linked es
