@@ -1,0 +1,6 @@
+//! The module under edits: its tree of operations and the next free id, and each edit the function on trees
+//! of its name.
+#![tactic(auto)]
+
+pub mod node;
+pub mod store;

@@ -1,0 +1,184 @@
+//! The module under edits.
+ghost use Rattle.std.specs.Prelude.{◌≡◌, ◌<◌, ◌↔◌, ◌⊎◌, IfOk, OnOk, OnErr, IfErr, IsTrue, MatchResult, Some, None, length, slice_get, option_map, option_and_then};
+ghost use Rattle.std.specs.List.{All};
+ghost use Rattle.ir_types.specs.Reasons.{IsRefusedFor};
+ghost use Rattle.ir_tree.specs.Ids.{find as the_first, ids, has_id, HasDistinctIds};
+ghost use Rattle.ir_tree.specs.Sites.{Visible};
+ghost use Rattle.ir_tree.specs.Edits.{with_operand};
+ghost use Rattle.ir_tree.specs.WellFormed.{IsFormed, IsWellFormed, fault};
+ghost use Rattle.ir_tree.specs.Meaning.{isolated_in, IsSoundIn};
+ghost use Rattle.ir_tree.specs.Tree.{head};
+ghost use Rattle.ir_store.specs.Values.{type_of_value, arguments_at};
+ghost use Rattle.ir_store.specs.Nodes.{node_of};
+ghost use Rattle.ir_store.specs.Reasons.{set_operand_reason, value_reason};
+
+use crate::node::{Node, arguments, region_of};
+use ir_tree::changes::with_operand_set;
+use ir_tree::check::check;
+use ir_tree::copy::copy;
+use ir_tree::find::find;
+use ir_tree::tree::TreeOp;
+use ir_tree::value::Value;
+use ir_tree::visible::visible;
+use ir_types::context::Context;
+use ir_types::ids::{OpId, TypeId};
+use ir_types::refusal::Refusal;
+use std::alloc::{AllocError, Global};
+use std::marker::Model;
+
+/// A module under edits: a tree of operations, and the next free id.
+#[derive(Drop)]
+pub struct Store {
+    alloc: Global,
+    root: TreeOp,
+    next: u32,
+}
+
+impl Model for Store {
+    ghost use Rattle.ir_tree.specs.WellFormed.{Module, module_code};
+
+    ghost Value = { Module };
+
+    ghost coded = { module_code };
+
+    ghost view = { λ s. record { tree = s.root; next = s.next } };
+}
+
+impl Store {
+    /// A module with a tree and a next free id, where every operand is visible and no limit is passed.
+    ///
+    /// Refusals: `UnknownValue`, `TooDeep`, `TooMany` in this order; `Memory`.
+    pub fn load(alloc: Global, ctx: &Context, tree: &TreeOp, next: u32) -> Result<Store, Refusal>
+        requires sound { IsSoundIn ctx.now tree.now }
+        requires distinct { HasDistinctIds tree.now }
+        requires below { All (λ x. x < next) (ids tree.now) }
+        ensures ok { IfOk result (λ s. s ≡ record { tree = tree.now; next = next }) }
+        ensures held { IfOk result (λ s. IsWellFormed (isolated_in ctx.now) s) }
+        ensures refused { IfErr result (λ e. (e ≡ Refusal.Memory) ⊎ (fault (isolated_in ctx.now) tree.now ≡ Some e)) }
+    {
+        check(alloc, ctx, tree)?;
+        let root = copy(tree)?;
+        Ok(Store { alloc, root, next })
+    }
+
+    /// The tree of the module.
+    pub fn tree(&self) -> Result<TreeOp, AllocError>
+        ensures { IfOk result (λ t. t ≡ self.now.tree) }
+    {
+        copy(&self.root)
+    }
+
+    /// The next free id.
+    pub fn next_id(&self) -> u32
+        ensures { result ≡ self.now.next }
+    {
+        self.next
+    }
+
+    /// Whether an operation is in the module.
+    pub fn in_tree(&self, op: OpId) -> bool
+        ensures { result ≡ has_id op self.now.tree }
+    {
+        find(&self.root, op).is_some()
+    }
+
+    /// What an operation has, beside the operations in its blocks, or none where it isn't in the module.
+    pub fn node(&self, op: OpId) -> Option<Node<'_>>
+        ensures { result ≡ option_map node_of (the_first op self.now.tree) }
+    {
+        match find(&self.root, op) {
+            None => None,
+            Some(op) => Some(Node::new(op)),
+        }
+    }
+
+    /// Whether an operation may use a value (Language Reference, "Regions", on value scoping).
+    pub fn visible(&self, ctx: &Context, op: OpId, value: Value) -> bool
+        ensures { IsTrue result ↔ Visible (isolated_in ctx.now) self.now.tree op value }
+    {
+        visible(ctx, &self.root, op, value)
+    }
+
+    /// Makes a value an operand of an operation, in place of the one that was there.
+    ///
+    /// Refusals: `NoSuchOp`; `NoSuchIndex` where it has no such operand; `NoSuchValue`; `NotVisible` where
+    /// the operation doesn't see the value; in this order; and `Memory`.
+    pub fn set_operand(
+        &mut self,
+        ctx: &Context,
+        op: OpId,
+        place: u32,
+        value: Value,
+    ) -> Result<(), Refusal>
+        ensures ok { OnOk result (self.new ≡ record self.old { tree = with_operand op place value self.old.tree }) }
+        ensures refused { MatchResult result (λ _. set_operand_reason (isolated_in ctx.now) op place value self.old.tree ≡ None)
+            (λ e. IsRefusedFor {A = Unit {0}} (set_operand_reason (isolated_in ctx.now) op place value self.old.tree) (Err e)) }
+        ensures formed { IsWellFormed (isolated_in ctx.now) self.old → IsWellFormed (isolated_in ctx.now) self.new }
+        ensures err { OnErr result (self.new ≡ self.old) }
+    {
+        if let Some(refusal) = self.operand_fault(ctx, op, place, &value) {
+            return Err(refusal);
+        }
+        self.root = with_operand_set(self.alloc, &self.root, op, place as usize, value)?;
+        Ok(())
+    }
+
+    /// Why a value can't become an operand of an operation.
+    fn operand_fault(&self, ctx: &Context, op: OpId, place: u32, value: &Value) -> Option<Refusal>
+        ensures { result ≡ set_operand_reason (isolated_in ctx.now) op place value.now self.now.tree }
+    {
+        let Some(count) = self.operand_count(op) else {
+            return Some(Refusal::NoSuchOp);
+        };
+        if place as usize >= count {
+            return Some(Refusal::NoSuchIndex);
+        }
+        self.value_fault(ctx, op, value)
+    }
+
+    /// How many operands an operation has, if it is in the module.
+    fn operand_count(&self, op: OpId) -> Option<usize>
+        ensures { result ≡ option_map (λ o. length (head o).operands) (the_first op self.now.tree) }
+    {
+        let user = find(&self.root, op)?;
+        Some(user.operands.len())
+    }
+
+    /// Why an operation can't use a value.
+    fn value_fault(&self, ctx: &Context, op: OpId, value: &Value) -> Option<Refusal>
+        ensures { result ≡ value_reason (isolated_in ctx.now) op value.now self.now.tree }
+    {
+        if self.value_type(*value).is_none() {
+            return Some(Refusal::NoSuchValue);
+        }
+        if !self.visible(ctx, op, *value) {
+            return Some(Refusal::NotVisible);
+        }
+        None
+    }
+
+    /// The type of a value, or none where the module has no such value.
+    pub fn value_type(&self, value: Value) -> Option<TypeId>
+        ensures { result ≡ type_of_value value self.now.tree }
+    {
+        match value {
+            Value::Result(op, place) => result_type(find(&self.root, op)?, place),
+            Value::Arg(op, region, place) => argument_type(find(&self.root, op)?, region, place),
+        }
+    }
+}
+
+/// The type of a result of an operation.
+fn result_type(op: &TreeOp, place: u32) -> Option<TypeId>
+    ensures { result ≡ slice_get (head op.now).results place }
+{
+    op.results.get(place as usize).copied()
+}
+
+/// The type of an argument of the block of a region of an operation.
+fn argument_type(op: &TreeOp, region: u32, place: u32) -> Option<TypeId>
+    ensures { result ≡ option_and_then (λ args. slice_get args place) (arguments_at region op.now) }
+{
+    let args = arguments(region_of(op, region)?)?;
+    args.get(place as usize).copied()
+}

@@ -1,0 +1,5 @@
+//! Tests of what `ir_store` answers.
+#![tactic(auto)]
+
+#[cfg(test)]
+mod store_tests;
