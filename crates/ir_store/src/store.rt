@@ -96,7 +96,7 @@ impl Store {
     pub fn visible(&self, ctx: &Context, op: OpId, value: Value) -> bool
         ensures { IsTrue result ↔ Visible (isolated_in ctx.now) self.now.tree op value }
     {
-        visible(ctx, &self.root, op, value)
+        visible(ctx, &self.root, op, &value)
     }
 
     /// Makes a value an operand of an operation, in place of the one that was there.

@@ -109,20 +109,23 @@ fn a_module(alloc: Global, user: User) -> Result<TreeOp, AllocError> {
     holding(alloc, root, 0, ops)
 }
 
-// Whether an operation of the module sees a value, and may use it.
+// Whether an operation of the module sees a value.
 fn sees(alloc: Global, op: u32, value: Value) -> Result<bool, Refusal> {
+    let root = a_module(alloc, nobody())?;
     let ctx = Context::new(alloc)?;
-    let root = a_module(alloc, User { op, value })?;
-    let may_use = check(alloc, &ctx, &root).is_ok();
-    Ok(visible(&ctx, &root, OpId::new(op), value) && may_use)
+    Ok(visible(&ctx, &root, OpId::new(op), &value))
 }
 
-// And whether it neither sees it nor may use it.
-fn sees_not(alloc: Global, op: u32, value: Value) -> Result<bool, Refusal> {
+// Why a tree is refused.
+fn fault_of(alloc: Global, root: &TreeOp) -> Result<Option<Refusal>, Refusal> {
     let ctx = Context::new(alloc)?;
+    Ok(check(alloc, &ctx, root).err())
+}
+
+// Whether an operation of the module may use a value.
+fn may_use(alloc: Global, op: u32, value: Value) -> Result<bool, Refusal> {
     let root = a_module(alloc, User { op, value })?;
-    let may_use = check(alloc, &ctx, &root).is_ok();
-    Ok(!visible(&ctx, &root, OpId::new(op), value) && !may_use)
+    Ok(fault_of(alloc, &root)?.is_none())
 }
 
 #[test]
@@ -137,6 +140,7 @@ fn sees_what_stands_before_and_around(rt: HostRuntime) -> Result<(), Refusal> {
         (6, arg(5, 0, 1)),
     ] {
         assert!(rt; sees(alloc, op, value)?, "#{op} {value:?}");
+        assert!(rt; may_use(alloc, op, value)?, "#{op} {value:?}");
     }
     Ok(())
 }
@@ -158,56 +162,77 @@ fn sees_nothing_later_inside_or_outside(rt: HostRuntime) -> Result<(), Refusal> 
         (6, arg(5, 0, 2)),
         (6, result(1, 0)),
     ] {
-        assert!(rt; sees_not(alloc, op, value)?, "#{op} {value:?}");
+        assert!(rt; !sees(alloc, op, value)?, "#{op} {value:?}");
+        assert!(rt; !may_use(alloc, op, value)?, "#{op} {value:?}");
     }
     Ok(())
 }
 
-// A module with one operation that has so many of each.
+fn operands(alloc: Global, count: u32) -> Result<Vec<Value>, AllocError> {
+    let mut operands = Vec::new(alloc);
+    for _ in 0..count {
+        operands.push(arg(0, 0, 0))?;
+    }
+    Ok(operands)
+}
+
+fn entries(alloc: Global, count: u32) -> Result<Vec<(NameId, AttrId)>, AllocError> {
+    let mut entries = Vec::new(alloc);
+    for _ in 0..count {
+        entries.push((NameId::new(0), AttrId::new(0)))?;
+    }
+    Ok(entries)
+}
+
+fn regions(alloc: Global, count: u32) -> Result<Vec<TreeRegion>, AllocError> {
+    let mut regions = Vec::new(alloc);
+    for _ in 0..count {
+        regions.push(TreeRegion::Empty)?;
+    }
+    Ok(regions)
+}
+
+// A module whose block has so many arguments, and one operation with so many of the others.
 fn counted(
     alloc: Global,
-    operands: u32,
-    results: u32,
     args: u32,
-    entries: u32,
-    regions: u32,
+    results: u32,
+    uses: u32,
+    keys: u32,
+    holes: u32,
 ) -> Result<TreeOp, AllocError> {
     let mut inner = op(alloc, 1, CONSTANT, results, nobody())?;
-    for _ in 0..operands {
-        inner.operands.push(arg(0, 0, 0))?;
-    }
-    for _ in 0..entries {
-        inner.attrs.push((NameId::new(0), AttrId::new(0)))?;
-    }
-    for _ in 0..regions {
-        inner.regions.push(TreeRegion::Empty)?;
-    }
+    inner.operands = operands(alloc, uses)?;
+    inner.attrs = entries(alloc, keys)?;
+    inner.regions = regions(alloc, holes)?;
     let mut ops = Vec::new(alloc);
     ops.push(inner)?;
     let root = op(alloc, 0, BUILTIN_MODULE, 0, nobody())?;
     holding(alloc, root, args, ops)
 }
 
+fn fault_of_counted(
+    alloc: Global,
+    args: u32,
+    results: u32,
+    uses: u32,
+    keys: u32,
+    holes: u32,
+) -> Result<Option<Refusal>, Refusal> {
+    let root = counted(alloc, args, results, uses, keys, holes)?;
+    fault_of(alloc, &root)
+}
+
 #[test]
 fn counts_up_to_their_limits(rt: HostRuntime) -> Result<(), Refusal> {
     let alloc = rt.alloc();
-    let ctx = Context::new(alloc)?;
-    for (operands, results, args, entries, regions, want) in [
-        (256, 256, 256, 256, 16, None),
-        (257, 1, 1, 1, 1, Some(Refusal::TooMany)),
-        (1, 257, 1, 1, 1, Some(Refusal::TooMany)),
-        (1, 1, 257, 1, 1, Some(Refusal::TooMany)),
-        (1, 1, 1, 257, 1, Some(Refusal::TooMany)),
-        (1, 1, 1, 1, 17, Some(Refusal::TooMany)),
-        (1, 1, 0, 1, 17, Some(Refusal::UnknownValue)),
-    ] {
-        let root = counted(alloc, operands, results, args, entries, regions)?;
-        let fault = check(alloc, &ctx, &root).err();
-        assert!(rt;
-            fault == want,
-            "{operands} {results} {args} {entries} {regions}"
-        );
-    }
+    assert!(rt; fault_of_counted(alloc, 256, 256, 256, 256, 16)? == None);
+    assert!(rt; fault_of_counted(alloc, 257, 1, 1, 1, 1)? == Some(Refusal::TooMany));
+    assert!(rt; fault_of_counted(alloc, 1, 257, 1, 1, 1)? == Some(Refusal::TooMany));
+    assert!(rt; fault_of_counted(alloc, 1, 1, 257, 1, 1)? == Some(Refusal::TooMany));
+    assert!(rt; fault_of_counted(alloc, 1, 1, 1, 257, 1)? == Some(Refusal::TooMany));
+    assert!(rt; fault_of_counted(alloc, 1, 1, 1, 1, 17)? == Some(Refusal::TooMany));
+    assert!(rt; fault_of_counted(alloc, 0, 1, 1, 1, 17)? == Some(Refusal::UnknownValue));
     Ok(())
 }
 
@@ -215,58 +240,103 @@ fn counts_up_to_their_limits(rt: HostRuntime) -> Result<(), Refusal> {
 fn nested(alloc: Global, count: u32) -> Result<TreeOp, AllocError> {
     let mut inner = op(alloc, 0, CONSTANT, 0, nobody())?;
     for id in 1..count {
-        let mut ops = Vec::new(alloc);
-        ops.push(inner)?;
-        let around = op(alloc, id, CONSTANT, 0, nobody())?;
-        inner = holding(alloc, around, 0, ops)?;
+        inner = around(alloc, id, inner)?;
     }
     Ok(inner)
+}
+
+fn around(alloc: Global, id: u32, inner: TreeOp) -> Result<TreeOp, AllocError> {
+    let mut ops = Vec::new(alloc);
+    ops.push(inner)?;
+    let outer = op(alloc, id, CONSTANT, 0, nobody())?;
+    holding(alloc, outer, 0, ops)
+}
+
+fn fault_of_nested(alloc: Global, count: u32) -> Result<Option<Refusal>, Refusal> {
+    let root = nested(alloc, count)?;
+    fault_of(alloc, &root)
 }
 
 #[test]
 fn nests_up_to_its_limit(rt: HostRuntime) -> Result<(), Refusal> {
     let alloc = rt.alloc();
-    let ctx = Context::new(alloc)?;
-    for (count, around, want) in [(129, 128, None), (130, 129, Some(Refusal::TooDeep))] {
-        let root = nested(alloc, count)?;
-        assert_eq!(rt; depth(&root), around);
-        assert!(rt; check(alloc, &ctx, &root).err() == want, "{count}");
-    }
+    assert!(rt; fault_of_nested(alloc, 129)? == None);
+    assert!(rt; fault_of_nested(alloc, 130)? == Some(Refusal::TooDeep));
     Ok(())
 }
 
 #[test]
-fn tells_ids_and_numbers(rt: HostRuntime) -> Result<(), Refusal> {
+fn counts_and_numbers(rt: HostRuntime) -> Result<(), Refusal> {
     let alloc = rt.alloc();
-    let ctx = Context::new(alloc)?;
     let root = a_module(alloc, nobody())?;
     assert_eq!(rt; op_count(&root), 8);
+    assert_eq!(rt; depth(&root), 2);
     assert!(rt; numbered(&root, 0) && !numbered(&root, 1));
-    assert!(rt; distinct(alloc, &root)?);
-    assert_eq!(rt; list_ids(alloc, &copy(&root)?)?.len(), 8);
     assert!(rt; find(&root, OpId::new(6)).is_some() && find(&root, OpId::new(8)).is_none());
-    assert!(rt;
-        !sound(&ctx, &root),
-        "types are no numbers of an empty context"
-    );
-    assert!(rt; sound(&ctx, &counted(alloc, 0, 0, 0, 0, 1)?));
-    assert!(rt; !sound(&ctx, &counted(alloc, 0, 0, 0, 1, 1)?));
     Ok(())
 }
 
+// How many ids a copy of the module has.
+fn ids_of_a_copy(alloc: Global) -> Result<usize, Refusal> {
+    let root = a_module(alloc, nobody())?;
+    let other = copy(&root)?;
+    let ids = list_ids(alloc, &other)?;
+    Ok(ids.len())
+}
+
+// Whether ids are distinct with one more operation of this id.
+fn distinct_with(alloc: Global, id: u32) -> Result<bool, Refusal> {
+    let root = a_module(alloc, nobody())?;
+    let more = op(alloc, id, CONSTANT, 0, nobody())?;
+    let all = put(alloc, &root, &in_the_loop(), &more)?;
+    Ok(distinct(alloc, &all)?)
+}
+
 #[test]
-fn edits_operands(rt: HostRuntime) -> Result<(), Refusal> {
+fn lists_and_tells_ids(rt: HostRuntime) -> Result<(), Refusal> {
     let alloc = rt.alloc();
+    assert_eq!(rt; ids_of_a_copy(alloc)?, 8);
+    assert!(rt; distinct_with(alloc, 8)? && !distinct_with(alloc, 0)?);
+    Ok(())
+}
+
+// Whether the module of `counted` is sound in a new context.
+fn is_sound(alloc: Global, results: u32, keys: u32) -> Result<bool, Refusal> {
+    let root = counted(alloc, 0, results, 0, keys, 1)?;
+    let ctx = Context::new(alloc)?;
+    Ok(sound(&ctx, &root))
+}
+
+#[test]
+fn tells_numbers_of_the_context(rt: HostRuntime) -> Result<(), Refusal> {
+    let alloc = rt.alloc();
+    assert!(rt; is_sound(alloc, 0, 0)?);
+    assert!(rt; !is_sound(alloc, 1, 0)? && !is_sound(alloc, 0, 1)?);
+    Ok(())
+}
+
+// The module in which #7 uses the result of #1.
+fn a_used_module(alloc: Global) -> Result<TreeOp, AllocError> {
     let user = User {
         op: 7,
         value: result(1, 0),
     };
-    let root = a_module(alloc, user)?;
-    let set = with_operand_set(alloc, &root, OpId::new(7), 0, result(2, 0))?;
-    assert_eq!(rt; list_uses(alloc, &set, result(2, 0))?.len(), 1);
-    let replaced = with_replaced(alloc, &root, result(1, 0), result(2, 0))?;
-    assert_eq!(rt; list_uses(alloc, &replaced, result(1, 0))?.len(), 0);
-    Ok(())
+    a_module(alloc, user)
+}
+
+// How many uses the result of #2 has once it is the operand of #7, and once it takes the other's place.
+fn uses_once_set(alloc: Global) -> Result<usize, Refusal> {
+    let root = a_used_module(alloc)?;
+    let set = with_operand_set(alloc, &root, OpId::new(7), 0, &result(2, 0))?;
+    let uses = list_uses(alloc, &set, &result(2, 0))?;
+    Ok(uses.len())
+}
+
+fn uses_once_replaced(alloc: Global) -> Result<usize, Refusal> {
+    let root = a_used_module(alloc)?;
+    let replaced = with_replaced(alloc, &root, &result(1, 0), &result(2, 0))?;
+    let uses = list_uses(alloc, &replaced, &result(2, 0))?;
+    Ok(uses.len())
 }
 
 // The place in the loop before #4.
@@ -278,51 +348,44 @@ fn in_the_loop() -> Place {
     }
 }
 
-#[test]
-fn puts_and_takes(rt: HostRuntime) -> Result<(), Refusal> {
-    let alloc = rt.alloc();
+// Why the module is refused once #1 stands in the loop, so that #7 no longer sees it.
+fn fault_once_shifted(alloc: Global) -> Result<Option<Refusal>, Refusal> {
+    let root = a_used_module(alloc)?;
+    let moved = shifted(alloc, &root, OpId::new(1), &in_the_loop())?;
+    fault_of(alloc, &moved)
+}
+
+fn count_without(alloc: Global, id: u32) -> Result<u64, Refusal> {
     let root = a_module(alloc, nobody())?;
-    let more = put(alloc, &root, in_the_loop(), &nested(alloc, 1)?)?;
-    assert_eq!(rt; op_count(&more), 9);
-    assert!(rt; !distinct(alloc, &more)?, "two operations are #0");
-    let less = without(alloc, &root, OpId::new(5))?;
-    assert_eq!(rt; op_count(&less), 6);
-    Ok(())
+    let less = without(alloc, &root, OpId::new(id))?;
+    Ok(op_count(&less))
 }
 
-#[test]
-fn shifts(rt: HostRuntime) -> Result<(), Refusal> {
-    let alloc = rt.alloc();
+// How many properties an operation with one has, once that is set or removed.
+fn properties_with(alloc: Global, value: Option<AttrId>) -> Result<usize, Refusal> {
+    let mut root = op(alloc, 0, CONSTANT, 0, nobody())?;
+    root.props = entries(alloc, 1)?;
     let ctx = Context::new(alloc)?;
-    let user = User {
-        op: 7,
-        value: result(1, 0),
-    };
-    let root = a_module(alloc, user)?;
-    let moved = shifted(alloc, &root, OpId::new(1), in_the_loop())?;
-    assert_eq!(rt; op_count(&moved), 8);
-    assert!(rt; check(alloc, &ctx, &moved).is_err(), "#7 no longer sees #1");
-    Ok(())
-}
-
-#[test]
-fn sets_and_removes_entries(rt: HostRuntime) -> Result<(), Refusal> {
-    let alloc = rt.alloc();
-    let ctx = Context::new(alloc)?;
-    let root = op(alloc, 3, CONSTANT, 1, nobody())?;
-    let id = OpId::new(3);
-    let key = NameId::new(1);
     let set = with_entry_set(
         alloc,
         &ctx,
         &root,
-        id,
+        OpId::new(0),
         Part::Props,
-        key,
-        Some(AttrId::new(0)),
+        NameId::new(0),
+        value,
     )?;
-    assert_eq!(rt; set.props.len(), 1);
-    let removed = with_entry_set(alloc, &ctx, &set, id, Part::Props, key, None)?;
-    assert_eq!(rt; removed.props.len(), 0);
+    Ok(set.props.len())
+}
+
+#[test]
+fn edits_a_tree(rt: HostRuntime) -> Result<(), Refusal> {
+    let alloc = rt.alloc();
+    assert_eq!(rt; uses_once_set(alloc)?, 1);
+    assert_eq!(rt; uses_once_replaced(alloc)?, 1);
+    assert!(rt; fault_once_shifted(alloc)? == Some(Refusal::UnknownValue));
+    assert_eq!(rt; count_without(alloc, 5)?, 6);
+    assert_eq!(rt; properties_with(alloc, Some(AttrId::new(0)))?, 1);
+    assert_eq!(rt; properties_with(alloc, None)?, 0);
     Ok(())
 }
