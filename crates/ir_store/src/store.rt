@@ -119,7 +119,7 @@ impl Store {
         if let Some(refusal) = self.operand_fault(ctx, op, place, &value) {
             return Err(refusal);
         }
-        self.root = with_operand_set(self.alloc, &self.root, op, place as usize, value)?;
+        self.root = with_operand_set(self.alloc, &self.root, op, place as usize, &value)?;
         Ok(())
     }
 
