@@ -1,4 +1,5 @@
-//! A tree of operations, with the definitions of what is visible where, of well-formed modules and of edits, and programs that are these definitions.
+//! What is visible where in a tree of operations, whether it is formed and sound, and each edit of it are what
+//! their definitions say.
 #![tactic(auto)]
 
 pub mod changes;
