@@ -1,8 +1,8 @@
 -- Trees of the same shape under functions that agree on what occurs, and under functions that tell apart what occurs.
-use Rattle.std.proofs.Common.{◌≡◌, refl, ap, sym, ◌∙◌, ℕ, Bool, true, false, ◌&&◌, List, [], ◌∷◌, map, true≢false}
+use Rattle.std.proofs.Common.{◌≡◌, refl, ap, sym, Bool, true, false, ◌&&◌, List, [], ◌∷◌, map, true≢false}
 use Rattle.std.specs.List.{list_all}
 use Rattle.ir_tree.specs.Tree.{HeadOf, OpOf, op, RegionsOf, no_regions, region, RegionOf, empty, block, OpsOf, no_ops, next, head, regions}
-use Rattle.ir_tree.specs.Limits.{every, regions_every, region_every, ops_every, all_arguments_pass}
+use Rattle.ir_tree.specs.Limits.{every, regions_every, ops_every, all_arguments_pass}
 use Rattle.ir_tree.specs.Maps.{map_entry, map_head, map_tree, map_regions, map_region, map_ops}
 use Rattle.ir_tree.specs.Passing.{entry_passes, head_passes, op_passes, all_pass}
 

@@ -1,5 +1,5 @@
 -- Counting on through a tree meets its ids exactly where they are consecutive.
-use Rattle.std.proofs.Common.{◌≡◌, refl, ap, sym, ◌∙◌, ℕ, zero, suc, ◌+◌, Bool, true, false, cond, eqb, List, [], ◌∷◌, ◌++◌, length, Option, Some, None, IsTrue, ◌↔◌, arith}
+use Rattle.std.proofs.Common.{◌≡◌, refl, ap, sym, ◌∙◌, ℕ, ◌+◌, true, false, cond, eqb, List, [], ◌∷◌, ◌++◌, length, Option, Some, None, IsTrue, ◌↔◌}
 use Rattle.std.proofs.Common.{true≢false, eq-eqb, inl, inr}
 use Rattle.std.proofs.lemmas.Bool.Decides.{eqb_tells}
 use Rattle.std.specs.Prelude.{option_and_then, if◌then◌else◌, is_some}

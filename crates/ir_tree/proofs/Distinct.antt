@@ -1,5 +1,5 @@
 -- Ids are distinct exactly where they are as many as the set of them.
-use Rattle.std.proofs.Common.{◌≡◌, ℕ, List, eqb, length, IsTrue, ◌↔◌, ◌≢◌, ap, sym, ◌∙◌}
+use Rattle.std.proofs.Common.{◌≡◌, ℕ, List, eqb, length, IsTrue, ◌↔◌, ◌≢◌, sym, ◌∙◌}
 use Rattle.std.specs.Bool.{Decides}
 use Rattle.std.specs.Cmp.{unsigned_Decides}
 use Rattle.std.specs.List.{AllPairs, IsDistinct}

@@ -1,8 +1,7 @@
 -- A tree without a fault is formed, and the other way round.
-use Rattle.std.proofs.Common.{◌≡◌, refl, ap, sym, ◌∙◌, ℕ, ◌≤◌, Bool, true, false, cond, Option, Some, None, ◌↔◌, true≢false}
+use Rattle.std.proofs.Common.{◌≡◌, refl, Bool, true, false, cond, Some, None, ◌↔◌}
 use Rattle.std.proofs.lemmas.Bool.{leb-true, le-leb}
 use Rattle.std.specs.Prelude.{nat_le}
-use Rattle.ir_types.specs.declared.refusal.Refusal.{Refusal}
 use Rattle.ir_types.specs.declared.refusal.Refusal.TheVariants.{UnknownValue, TooDeep, TooMany}
 use Rattle.ir_tree.specs.Tree.{OpOf}
 use Rattle.ir_tree.specs.Limits.{depth, counts_fit, most_around}

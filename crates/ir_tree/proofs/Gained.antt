@@ -1,15 +1,15 @@
 -- The ids where an operation is put in.
-use Rattle.std.proofs.Common.{◌≡◌, refl, ap, sym, ◌∙◌, subst, ℕ, ◌+◌, ◌≤◌, ◌⊎◌, inl, inr, Bool, true, false, cond, ◌||◌, ◌&&◌, eqb, eq-eqb, List, [], ◌∷◌, ◌++◌, Option, Some, None, true≢false, arith}
+use Rattle.std.proofs.Common.{◌≡◌, refl, ap, sym, ◌∙◌, subst, ℕ, ◌+◌, ◌⊎◌, inl, inr, Bool, true, false, cond, ◌||◌, eqb, eq-eqb, List, [], ◌++◌, Option, Some, None, true≢false, arith}
 use Rattle.std.specs.List.{list_any, IsDistinct}
 use Rattle.std.proofs.lemmas.Bool.{eqb-true}
 use Rattle.std.proofs.lemmas.Map.Keys.{IsDistinct-tail}
 use Rattle.ir_tree.specs.declared.place.Place.{Place}
-use Rattle.ir_tree.specs.Tree.{HeadOf, OpOf, op, RegionsOf, no_regions, region, RegionOf, empty, block, OpsOf, no_ops, next, head}
+use Rattle.ir_tree.specs.Tree.{OpOf, op, RegionsOf, no_regions, region, RegionOf, empty, block, OpsOf, no_ops, next, head}
 use Rattle.ir_tree.specs.Ids.{ids, regions_ids, region_ids, ops_ids, has_id, HasDistinctIds}
 use Rattle.ir_tree.specs.Places.{each_list, regions_each_list, region_each_list, ops_each_list, put_last, put_before, put_in, is_in_block, put_here, put}
 use Rattle.ir_tree.proofs.Agreeing.{both}
 use Rattle.ir_tree.proofs.Moves.{Absent, absent_parts, neither, unput, ops_unput}
-use Rattle.ir_tree.proofs.Returns.{Present, bool_cases, absent_first, absent_join, cons_distinct, nil_distinct, Halves, halves, differ, not_equal, elsewhere, other_parent, other_region, unput_region, unput_later}
+use Rattle.ir_tree.proofs.Returns.{Present, bool_cases, absent_first, absent_join, cons_distinct, nil_distinct, Halves, halves, differ, not_equal, other_parent, other_region, unput_region, unput_later}
 use Rattle.ir_tree.proofs.Left.{joined}
 
 -- what is in one list is not in another

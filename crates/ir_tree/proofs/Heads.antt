@@ -4,7 +4,6 @@ use Rattle.std.specs.List.{list_all}
 use Rattle.ir_tree.specs.declared.value.Value.{Value}
 use Rattle.ir_tree.specs.declared.place.Part.{Part}
 use Rattle.ir_tree.specs.declared.place.Part.TheVariants.{Props, Attrs}
-use Rattle.ir_tree.specs.declared.place.Place.{Place}
 use Rattle.ir_tree.specs.Tree.{HeadOf, OpOf, op, RegionsOf, no_regions, region, RegionOf, empty, block, OpsOf, no_ops, next, head}
 use Rattle.ir_tree.specs.Ids.{ids, regions_ids, region_ids, ops_ids, first_of, find, regions_find, region_find, ops_find}
 use Rattle.ir_tree.specs.Limits.{depth, regions_depth, region_depth, ops_depth}
@@ -12,11 +11,10 @@ use Rattle.ir_tree.specs.Uses.{operand_uses, uses_of, regions_uses, region_uses,
 use Rattle.ir_tree.specs.Sites.{Frame, results, arguments, shows, in_scope, results_of, visible, operands_visible}
 use Rattle.ir_tree.specs.Seen.{seen_at, regions_seen, region_seen, ops_seen}
 use Rattle.ir_tree.specs.Scope.{operands_seen, regions_operands_seen, region_operands_seen, ops_operands_seen}
-use Rattle.ir_tree.specs.Edits.{each_head, regions_each_head, region_each_head, ops_each_head, at, put_operand, with_operand, put_values, with_value_replaced, change_entry, change_part, with_entry}
+use Rattle.ir_tree.specs.Edits.{each_head, regions_each_head, region_each_head, ops_each_head, at, put_operand, put_values, change_entry, change_part}
 use Rattle.ir_tree.specs.Places.{first_id, place_of, regions_place, region_place, ops_place}
 use Rattle.ir_tree.proofs.SeenSites.{seen_visible}
 use Rattle.ir_tree.proofs.Checked.{seen_operands_visible}
-use Rattle.ir_tree.proofs.Mapped.{map_first}
 
 -- a head with the same id, name and number of results
 pub record Alike {N T A : Type 0} (g h : HeadOf N T A) : Type 0 where

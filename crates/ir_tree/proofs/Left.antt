@@ -1,12 +1,12 @@
 -- The ids that are left where an operation is taken out.
-use Rattle.std.proofs.Common.{◌≡◌, refl, ap, sym, ◌∙◌, ℕ, ◌+◌, ◌⊎◌, inl, inr, Bool, true, false, cond, ◌||◌, eqb, eq-eqb, List, [], ◌∷◌, ◌++◌, true≢false}
+use Rattle.std.proofs.Common.{◌≡◌, refl, ap, sym, ◌∙◌, ℕ, ◌+◌, inl, inr, true, false, cond, ◌||◌, eqb, eq-eqb, List, [], ◌∷◌, ◌++◌, true≢false}
 use Rattle.std.specs.List.{list_any, IsDistinct}
 use Rattle.std.proofs.lemmas.Map.Keys.{IsDistinct-tail}
-use Rattle.ir_tree.specs.Tree.{HeadOf, OpOf, op, RegionsOf, no_regions, region, RegionOf, empty, block, OpsOf, no_ops, next, head}
+use Rattle.ir_tree.specs.Tree.{OpOf, op, RegionsOf, no_regions, region, RegionOf, empty, block, OpsOf, no_ops, next, head}
 use Rattle.ir_tree.specs.Ids.{ids, regions_ids, region_ids, ops_ids, has_id, HasDistinctIds}
 use Rattle.ir_tree.specs.Places.{each_list, regions_each_list, region_each_list, ops_each_list, drop_op, without}
 use Rattle.ir_tree.proofs.Moves.{Absent, absent_parts, neither}
-use Rattle.ir_tree.proofs.Returns.{Present, bool_cases, absent_first, absent_join, cons_distinct, nil_distinct, Halves, halves}
+use Rattle.ir_tree.proofs.Returns.{Present, bool_cases, absent_first, absent_join, cons_distinct, nil_distinct, halves}
 
 pub joined : (xs ys : List ℕ) → IsDistinct eqb xs → IsDistinct eqb ys → ((y : ℕ) → Present y xs → Absent y ys) → IsDistinct eqb (xs ++ ys)
 joined [] ys d e f = e

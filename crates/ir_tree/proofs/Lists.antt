@@ -3,7 +3,7 @@ use Rattle.std.proofs.Common.{◌≡◌, ap, refl, sym, ◌∙◌, ◌++◌, app
 use Rattle.std.proofs.Common.{eqb, not, true, false, cond, filter, get_or, insert, zero, ◌<◌, Some, None}
 use Rattle.std.proofs.Common.{Bool}
 use Rattle.std.proofs.lemmas.Bool.{ltb-false}
-use Rattle.std.specs.Prelude.{nat_lt, Option, ◌≤◌}
+use Rattle.std.specs.Prelude.{nat_lt, ◌≤◌}
 use Rattle.std.specs.List.{position, position_or_len}
 use Rattle.std.proofs.lemmas.List.Quantifiers.{position-Some}
 use Rattle.ir_tree.specs.Places.{put_last, put_before, drop_op}

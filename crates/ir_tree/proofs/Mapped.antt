@@ -1,19 +1,18 @@
 -- What a tree of the same shape has in common with a tree.
 use Rattle.std.proofs.Common.{◌≡◌, refl, ap, sym, ◌∙◌, ℕ, ◌+◌, max, Bool, true, false, cond, not, ◌&&◌, ◌||◌, eqb, List, [], ◌∷◌, ◌++◌, length, map, Option, Some, None, option_map}
-use Rattle.std.specs.Prelude.{nat_le, nat_lt}
+use Rattle.std.specs.Prelude.{nat_le}
 use Rattle.std.specs.List.{list_all}
 use Rattle.std.proofs.lemmas.List.{length-map}
 use Rattle.ir_tree.specs.declared.value.Value.{Value}
-use Rattle.ir_tree.specs.declared.place.Place.{Place}
-use Rattle.ir_tree.specs.Tree.{HeadOf, OpOf, op, RegionsOf, no_regions, region, RegionOf, empty, block, OpsOf, no_ops, next, head, region_count}
-use Rattle.ir_tree.specs.Ids.{ids, regions_ids, region_ids, ops_ids, op_count, first_of, find, regions_find, region_find, ops_find}
-use Rattle.ir_tree.specs.Limits.{depth, regions_depth, region_depth, ops_depth, every, regions_every, region_every, ops_every, most_ops, most_items, most_regions, items_fit, head_fits, arguments_pass, all_arguments_pass, op_fits, counts_fit}
+use Rattle.ir_tree.specs.Tree.{OpOf, op, RegionsOf, no_regions, region, RegionOf, empty, block, OpsOf, no_ops, next, head, region_count}
+use Rattle.ir_tree.specs.Ids.{ids, regions_ids, region_ids, ops_ids, first_of, find, regions_find, region_find, ops_find}
+use Rattle.ir_tree.specs.Limits.{depth, regions_depth, region_depth, ops_depth, every, regions_every, region_every, ops_every, most_ops, most_items, most_regions, items_fit, arguments_pass, all_arguments_pass, op_fits, counts_fit}
 use Rattle.ir_tree.specs.Uses.{operand_uses, uses_of, regions_uses, region_uses, ops_uses}
-use Rattle.ir_tree.specs.Sites.{Frame, results, arguments, shows, in_scope, results_of, inside, visible, operands_visible}
+use Rattle.ir_tree.specs.Sites.{Frame, results, arguments, shows, in_scope, results_of, visible, operands_visible}
 use Rattle.ir_tree.specs.Seen.{seen_at, regions_seen, region_seen, ops_seen}
 use Rattle.ir_tree.specs.Scope.{operands_seen, regions_operands_seen, region_operands_seen, ops_operands_seen}
 use Rattle.ir_tree.specs.Places.{first_id, place_of, regions_place, region_place, ops_place}
-use Rattle.ir_tree.specs.Maps.{map_entry, map_head, map_tree, map_regions, map_region, map_ops}
+use Rattle.ir_tree.specs.Maps.{map_entry, map_tree, map_regions, map_region, map_ops}
 use Rattle.ir_tree.proofs.SeenSites.{seen_visible}
 use Rattle.ir_tree.proofs.Checked.{seen_operands_visible}
 

@@ -1,15 +1,15 @@
 -- What trees of numbers stand for, in a context that grows, and in one context.
-use Rattle.std.proofs.Common.{◌≡◌, refl, ap, sym, ◌∙◌, ℕ, ◌+◌, ◌<◌, ◌≤◌, Bool, true, false, ◌&&◌, List, [], ◌∷◌, ◌++◌, length, length-append, arith}
+use Rattle.std.proofs.Common.{◌≡◌, refl, ap, sym, ◌∙◌, ℕ, ◌<◌, Bool, true, ◌&&◌, List, [], ◌∷◌, length, length-append, arith}
 use Rattle.std.specs.List.{list_all}
 use Rattle.std.proofs.lemmas.Bool.{ltb-true, lt-ltb}
 use Rattle.ir_types.specs.Things.{Things, Grows, IsFront}
-use Rattle.ir_types.specs.Terms.{TypeTerm, AttrTerm, name_term, type_term, attr_term}
+use Rattle.ir_types.specs.Terms.{name_term, type_term, attr_term}
 use Rattle.ir_types.specs.Sound.{Holds, IsSound}
 use Rattle.ir_types.proofs.Terms.{name_stays, type_stays, attr_stays, name_term_one, type_term_one, attr_term_one}
-use Rattle.ir_tree.specs.Tree.{HeadOf, OpOf, Op, op, RegionsOf, no_regions, region, RegionOf, empty, block, OpsOf, no_ops, next, head}
-use Rattle.ir_tree.specs.Limits.{every, regions_every, region_every, ops_every, arguments_pass, all_arguments_pass}
-use Rattle.ir_tree.specs.Passing.{entry_passes, head_passes, op_passes, all_pass}
-use Rattle.ir_tree.specs.Meaning.{meaning, is_name, is_type, is_attr, is_known, key_before, key_before_in, rises, rises_after, dictionaries_rise, IsSoundIn}
+use Rattle.ir_tree.specs.Tree.{OpOf, Op, op, RegionsOf, no_regions, region, RegionOf, empty, block, OpsOf, no_ops, next}
+use Rattle.ir_tree.specs.Limits.{every, regions_every, region_every, ops_every, all_arguments_pass}
+use Rattle.ir_tree.specs.Passing.{entry_passes, head_passes, op_passes}
+use Rattle.ir_tree.specs.Meaning.{meaning, is_name, is_type, is_attr, key_before, key_before_in, rises, rises_after, dictionaries_rise, IsSoundIn}
 use Rattle.ir_tree.proofs.Agreeing.{both, maps_agree, maps_apart}
 
 pub stable : (c d : Things) (t : Op) → Holds c → Grows c d → IsSoundIn c t → meaning d t ≡ meaning c t

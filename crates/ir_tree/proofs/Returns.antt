@@ -1,5 +1,5 @@
 -- An operation that is taken out, and put back where it stood.
-use Rattle.std.proofs.Common.{◌≡◌, refl, ap, sym, ◌∙◌, subst, ℕ, ◌+◌, ◌<◌, ◌≤◌, ◌⊎◌, inl, inr, Bool, true, false, cond, ◌&&◌, ◌||◌, eqb, List, [], ◌∷◌, ◌++◌, Option, Some, None, true≢false, eq-eqb, arith}
+use Rattle.std.proofs.Common.{◌≡◌, refl, ap, sym, ◌∙◌, subst, ℕ, ◌+◌, ◌≤◌, ◌⊎◌, inl, inr, Bool, true, false, cond, ◌&&◌, ◌||◌, eqb, List, [], ◌∷◌, ◌++◌, Option, Some, None, true≢false, eq-eqb, arith}
 use Rattle.std.specs.List.{list_any, IsDistinct, AllByRecursion}
 use Rattle.std.proofs.lemmas.Bool.{eqb-true}
 use Rattle.std.proofs.lemmas.Bool.Decides.{nat_tests}
@@ -7,9 +7,9 @@ use Rattle.std.proofs.lemmas.List.Folds.{list_any-append}
 use Rattle.std.proofs.lemmas.Map.Keys.{IsDistinct-head, IsDistinct-tail, IsDistinct-cons}
 use Rattle.ir_tree.specs.declared.place.Place.{Place}
 use Rattle.ir_tree.specs.Tree.{HeadOf, OpOf, op, RegionsOf, no_regions, region, RegionOf, empty, block, OpsOf, no_ops, next, head}
-use Rattle.ir_tree.specs.Ids.{ids, regions_ids, region_ids, ops_ids, has_id, HasDistinctIds, first_of, find, regions_find, region_find, ops_find}
-use Rattle.ir_tree.specs.Places.{first_id, place_of, regions_place, region_place, ops_place, each_list, regions_each_list, region_each_list, ops_each_list, put_last, put_before, put_in, is_in_block, put_here, put, drop_op, without}
-use Rattle.ir_tree.proofs.Moves.{Absent, absent_parts, neither, untouched, regions_untouched, region_untouched, ops_untouched, unput, regions_unput, region_unput, ops_unput}
+use Rattle.ir_tree.specs.Ids.{ids, regions_ids, region_ids, ops_ids, HasDistinctIds, first_of, find, regions_find, region_find, ops_find}
+use Rattle.ir_tree.specs.Places.{first_id, place_of, regions_place, region_place, ops_place, each_list, regions_each_list, region_each_list, ops_each_list, put_before, put_in, is_in_block, put_here, put, drop_op, without}
+use Rattle.ir_tree.proofs.Moves.{Absent, absent_parts, neither, untouched, regions_untouched, region_untouched, ops_untouched, unput, ops_unput}
 
 -- an id of the list is x
 abbrev pub Present : ℕ → List ℕ → Type 0

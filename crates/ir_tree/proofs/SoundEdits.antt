@@ -1,9 +1,8 @@
 -- Edits of a sound tree give a sound tree.
-use Rattle.std.proofs.Common.{◌≡◌, refl, ap, sym, ◌∙◌, ℕ, ◌+◌, ◌⊎◌, inl, inr, Bool, true, false, cond, not, ◌&&◌, eqb, List, [], ◌∷◌, ◌++◌, length, map, Option, Some, None, true≢false}
+use Rattle.std.proofs.Common.{◌≡◌, refl, ap, sym, ◌∙◌, ℕ, ◌+◌, ◌⊎◌, inl, inr, Bool, true, false, cond, ◌&&◌, eqb, List, [], ◌∷◌, Option, Some, None}
 use Rattle.std.specs.List.{list_all}
 use Rattle.std.proofs.Common.{Ordering, Less, Equal, Greater}
 use Rattle.std.specs.Ordering.{is_lt, nat_cmp, ordering_reverse}
-use Rattle.std.specs.Cmp.{IsTotalOrder}
 use Rattle.std.specs.Cmp.Lexicographic.{slice_cmp}
 use Rattle.std.proofs.lemmas.Cmp.{nat_list_cmp_total}
 use Rattle.ir_types.specs.Things.{Things}
@@ -13,11 +12,11 @@ use Rattle.ir_tree.specs.declared.place.Place.{Place}
 use Rattle.ir_tree.specs.declared.place.Part.{Part}
 use Rattle.ir_tree.specs.declared.place.Part.TheVariants.{Props, Attrs}
 use Rattle.ir_tree.specs.Tree.{HeadOf, OpOf, Op, op, RegionsOf, no_regions, region, RegionOf, empty, block, OpsOf, no_ops, next, head}
-use Rattle.ir_tree.specs.Limits.{every, regions_every, region_every, ops_every, arguments_pass, all_arguments_pass}
-use Rattle.ir_tree.specs.Passing.{entry_passes, head_passes, op_passes, all_pass}
+use Rattle.ir_tree.specs.Limits.{every, regions_every, region_every, ops_every, all_arguments_pass}
+use Rattle.ir_tree.specs.Passing.{entry_passes, head_passes, op_passes}
 use Rattle.ir_tree.specs.Edits.{each_head, regions_each_head, region_each_head, ops_each_head, at, put_operand, with_operand, put_values, with_value_replaced, same_key, put_entry, drop_entry, change_entry, change_part, with_entry}
 use Rattle.ir_tree.specs.Places.{each_list, regions_each_list, region_each_list, ops_each_list, put_last, put_before, put_in, is_in_block, put_here, put, drop_op, without}
-use Rattle.ir_tree.specs.Meaning.{is_name, is_type, is_attr, is_known, key_before, key_before_in, rises, rises_after, dictionaries_rise, IsSoundIn}
+use Rattle.ir_tree.specs.Meaning.{is_name, is_type, is_attr, key_before, key_before_in, rises, rises_after, dictionaries_rise, IsSoundIn}
 use Rattle.ir_tree.proofs.Agreeing.{both}
 use Rattle.ir_tree.proofs.Meanings.{both_hold}
 

@@ -1,5 +1,5 @@
 -- Each operation inside another is smaller.
-use Rattle.std.specs.Prelude.{ℕ, ◌+◌, ◌≤◌, List, [], ◌∷◌, map}
+use Rattle.std.specs.Prelude.{◌+◌, ◌≤◌, List, [], ◌∷◌, map}
 use Rattle.std.proofs.Common.{arith}
 use denote.Param.Weighed.{most}
 use Rattle.ir_tree.specs.Tree.{Op, op_size, regions_size, ops_size, regions_of, ops_of}

@@ -5,7 +5,7 @@ use Rattle.std.specs.Cmp.Lexicographic.{slice_cmp}
 use Rattle.ir_types.specs.Things.{Things}
 use Rattle.ir_types.specs.Terms.{TypeTerm, AttrTerm, name_term, type_term, attr_term}
 use Rattle.ir_types.specs.Words.{is_isolated}
-use Rattle.ir_tree.specs.Tree.{HeadOf, OpOf, Op, head}
+use Rattle.ir_tree.specs.Tree.{OpOf, Op, head}
 use Rattle.ir_tree.specs.Limits.{every}
 use Rattle.ir_tree.specs.Maps.{map_tree}
 use Rattle.ir_tree.specs.Passing.{all_pass}

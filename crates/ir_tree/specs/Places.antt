@@ -1,7 +1,7 @@
 -- Where operations stand, and trees with operations put in, taken out and moved.
-use Rattle.std.specs.Prelude.{ℕ, ◌+◌, eqb, Bool, true, false, ◌&&◌, ◌||◌, if◌then◌else◌, Option, Some, None}
+use Rattle.std.specs.Prelude.{ℕ, ◌+◌, eqb, Bool, ◌&&◌, if◌then◌else◌, Option, Some, None}
 use Rattle.ir_tree.specs.declared.place.Place.{Place}
-use Rattle.ir_tree.specs.Tree.{HeadOf, OpOf, op, RegionsOf, no_regions, region, RegionOf, empty, block, OpsOf, no_ops, next, head}
+use Rattle.ir_tree.specs.Tree.{OpOf, op, RegionsOf, no_regions, region, RegionOf, empty, block, OpsOf, no_ops, next, head}
 use Rattle.ir_tree.specs.Ids.{find, first_of}
 
 -- the id of the first operation of a list

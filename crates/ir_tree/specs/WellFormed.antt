@@ -1,5 +1,5 @@
 -- Modules, and which of them are well-formed.
-use Rattle.std.specs.Prelude.{◌≡◌, ℕ, ◌<◌, ◌≤◌, All, nat_le, Bool, if◌then◌else◌, IsTrue, Option, Some, None, refl}
+use Rattle.std.specs.Prelude.{ℕ, ◌<◌, ◌≤◌, All, nat_le, Bool, if◌then◌else◌, IsTrue, Option, Some, None, refl}
 use Rattle.std.specs.Coded.{Coded, code_by, coded_ℕ, coded×}
 use Rattle.ir_types.specs.declared.refusal.Refusal.{Refusal}
 use Rattle.ir_types.specs.declared.refusal.Refusal.TheVariants.{UnknownValue, TooDeep, TooMany}

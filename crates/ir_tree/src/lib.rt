@@ -1,4 +1,5 @@
-//! A tree of operations, with the definitions of what is visible where, of well-formed modules and of edits, and programs that are these definitions.
+//! What is visible where in a tree of operations, whether it is formed and sound, and each edit of it are what
+//! their definitions say.
 #![tactic(auto)]
 
 pub mod changes;
@@ -16,6 +17,8 @@ pub mod outer;
 pub mod place;
 mod scope;
 pub mod sound;
+#[cfg(test)]
+mod tests;
 pub mod tree;
 pub mod uses;
 pub mod value;

@@ -1,4 +1,4 @@
-use Rattle.std.proofs.Common.{◌≡◌, ℕ, ◌<◌, Option, Some, None, subst, length}
+use Rattle.std.proofs.Common.{◌≡◌, ℕ, ◌<◌, Some, None, subst, length}
 use Rattle.std.proofs.lemmas.Bool.{lt-ltb}
 use Rattle.ir_tree.proofs.SoundEdits.{operand_sound, replaced_sound, entry_sound, put_sound, without_sound}
 use Rattle.ir_tree.proofs.laws.edits_keep_sound.Goals as goal

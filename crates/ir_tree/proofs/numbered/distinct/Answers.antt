@@ -1,4 +1,4 @@
-use Rattle.std.proofs.Common.{rules, ◌≡◌, ◌≢◌, ◌↔◌, IsTrue, ℕ, List, eqb, length, map, subst, sym, ◌∙◌, arith}
+use Rattle.std.proofs.Common.{rules, ◌≡◌, ◌≢◌, ◌↔◌, IsTrue, ℕ, List, eqb, length, map, subst}
 use Rattle.std.specs.Bool.{Decides}
 use Rattle.std.specs.Cmp.{nat_eq_equiv, unsigned_Decides}
 use Rattle.std.specs.HashSet as bag
