@@ -17,8 +17,6 @@ pub mod outer;
 pub mod place;
 mod scope;
 pub mod sound;
-#[cfg(test)]
-mod tests;
 pub mod tree;
 pub mod uses;
 pub mod value;
