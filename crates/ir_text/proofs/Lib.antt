@@ -1,0 +1,5 @@
+pub mod Sizes
+pub mod Entries
+pub mod Rows
+pub mod Meanings
+pub mod Wholes

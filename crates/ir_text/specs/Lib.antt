@@ -1,0 +1,6 @@
+pub mod Rows
+pub mod TypeText
+pub mod AttrText
+pub mod Naming
+pub mod Printing
+pub mod View

@@ -1,0 +1,77 @@
+-- How values are named in a text.
+use Rattle.std.specs.Prelude.{ℕ, ◌+◌, Bool, false, ◌&&◌, ◌==◌, if◌then◌else◌, List, [], ◌∷◌, ◌++◌, codes, Option, Some, None}
+use Rattle.std.specs.Fmt.{decimal}
+use Rattle.std.specs.Map.{lookup}
+use Rattle.indexmap.specs.IndexMap.{insert_entry}
+use Rattle.ir_types.specs.Terms.{TypeTerm, Index}
+use Rattle.ir_tree.specs.declared.value.Value.{Value}
+use Rattle.ir_tree.specs.declared.value.Value.TheVariants as value
+use Rattle.ir_text.specs.declared.naming.Source.{Source}
+use Rattle.ir_text.specs.declared.naming.Source.TheVariants as source
+use Rattle.ir_text.specs.declared.naming.ValueName.{ValueName}
+use Rattle.ir_text.specs.declared.naming.ValueName.TheVariants as name
+
+-- the name and the type of a value
+pub record Naming : Type 0 where
+  pub name : ValueName
+  pub type : TypeTerm
+
+-- a name as it is written
+abbrev pub name_text : ValueName → List ℕ
+name_text (name.Only n) = codes "%" ++ decimal n
+name_text (name.Part n k) = codes "%" ++ (decimal n ++ (codes "#" ++ decimal k))
+name_text (name.Argument n) = codes "%arg" ++ decimal n
+
+-- where a value comes from
+abbrev pub source_of : Value → Source
+source_of (value.Result x k) = source.Result x k
+source_of (value.Arg x r k) = source.Argument x r k
+
+-- whether two are one
+abbrev pub same_source : Source → Source → Bool
+same_source (source.Result x j) (source.Result y k) = (x == y) && (j == k)
+same_source (source.Result x j) (source.Argument y s k) = false
+same_source (source.Argument x r j) (source.Result y k) = false
+same_source (source.Argument x r j) (source.Argument y s k) = (x == y) && ((r == s) && (j == k))
+
+-- the values that are named, with their names and types
+abbrev pub Named : Type 0
+Named = List (Source × Naming)
+
+-- what is known of a value
+abbrev pub naming_of : Named → Value → Option Naming
+naming_of named v = lookup (same_source (source_of v)) named
+
+-- a value as it is used. One that has no name, as no operand of a well-formed tree is, is `%` alone
+abbrev pub naming_text : Option Naming → List ℕ
+naming_text None = codes "%"
+naming_text (Some n) = name_text n.name
+
+abbrev pub value_text : Named → Value → List ℕ
+value_text named v = naming_text (naming_of named v)
+
+-- the type of a value. It is taken to be `index` where the value has no name
+abbrev pub naming_type : Option Naming → TypeTerm
+naming_type None = Index
+naming_type (Some n) = n.type
+
+abbrev pub value_type : Named → Value → TypeTerm
+value_type named v = naming_type (naming_of named v)
+
+-- the name of the result at place k of an operation, where n is the operation's number and `only` tells
+-- whether it has one result
+abbrev pub result_name : Bool → ℕ → ℕ → ValueName
+result_name only n k = if only then name.Only n else name.Part n k
+
+-- that result of operation x is named
+abbrev pub name_result : ℕ → Bool → ℕ → ℕ → TypeTerm → Named → Named
+name_result x only n k t named = insert_entry same_source named (source.Result x k) (record { name = result_name only n k; type = t })
+
+-- the results of an operation from place k on; what had the same source before is replaced
+abbrev pub name_results : ℕ → Bool → ℕ → ℕ → List TypeTerm → Named → Named
+name_results x only n k [] named = named
+name_results x only n k (t ∷ ts) named = name_results x only n (k + 1) ts (name_result x only n k t named)
+
+-- the argument at place k of the block of region r of operation x, where n is its number
+abbrev pub name_argument : ℕ → ℕ → ℕ → ℕ → TypeTerm → Named → Named
+name_argument x r k n t named = insert_entry same_source named (source.Argument x r k) (record { name = name.Argument n; type = t })

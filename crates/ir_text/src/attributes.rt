@@ -1,0 +1,229 @@
+//! The text of attributes.
+ghost use Rattle.std.specs.Prelude.{◌≡◌, ◌<◌, ◌++◌, ℕ, OnOk, true, length, map, codes};
+ghost use Rattle.std.specs.List.{All};
+ghost use Rattle.ir_types.specs.Things.{IsName, IsType, IsAttr};
+ghost use Rattle.ir_types.specs.Terms.{name_term, type_term, attr_term, attr_terms, attrs_at, entries_at};
+ghost use Rattle.ir_text.specs.Rows.{parted};
+ghost use Rattle.ir_text.specs.AttrText.{is_truth, number_text, integer_text, items_text, dense_text, part_text, flags_text, is_flag, entry_text, in_curly, attr_text, attr_texts, entry_texts};
+
+use crate::numbers::put_signed;
+use crate::things::{attr_of, name_of, type_of};
+use crate::types::put_type;
+use ir_text_base::print::{put_key, put_string};
+use ir_types::context::Context;
+use ir_types::ids::{AttrId, NameId, TypeId};
+use ir_types::node::{AttrNode, Sign, TypeNode};
+use std::alloc::AllocError;
+
+/// Whether a type is `i1`.
+fn is_truth(ctx: &Context, id: TypeId) -> bool
+    requires { IsType ctx.now id }
+    ensures { result ≡ is_truth (type_term ctx.now id) }
+{
+    match type_of(ctx, id) {
+        TypeNode::Int {
+            sign: Sign::Signless,
+            width,
+        } => *width == 1,
+        TypeNode::Int {
+            sign: Sign::Signed,
+            ..
+        } => false,
+        TypeNode::Int {
+            sign: Sign::Unsigned,
+            ..
+        } => false,
+        TypeNode::Index => false,
+        TypeNode::Func { .. } => false,
+        TypeNode::Memref { .. } => false,
+    }
+}
+
+#[tactic(auto, unfolding(crate::specs::AttrText::number_text))]
+fn put_number(out: &mut Vec<u8>, truth: bool, number: i128) -> Result<(), AllocError>
+    ensures { OnOk result (out.new.items ≡ out.old.items ++ number_text truth number) }
+{
+    if !truth {
+        return put_signed(out, number);
+    }
+    if number == 0 {
+        out.extend_from_slice(b"false")
+    } else {
+        out.extend_from_slice(b"true")
+    }
+}
+
+fn put_integer(ctx: &Context, out: &mut Vec<u8>, ty: TypeId, number: i128) -> Result<(), AllocError>
+    requires { IsType ctx.now ty }
+    ensures { OnOk result (out.new.items ≡ out.old.items ++ integer_text (type_term ctx.now ty) number) }
+{
+    if is_truth(ctx, ty) {
+        return put_number(out, true, number);
+    }
+    put_number(out, false, number)?;
+    out.extend_from_slice(b" : ")?;
+    put_type(ctx, out, ty)
+}
+
+fn put_item(out: &mut Vec<u8>, truth: bool, number: i64) -> Result<(), AllocError>
+    ensures { OnOk result (out.new.items ≡ out.old.items ++ number_text truth number) }
+{
+    put_number(out, truth, i128::from(number))
+}
+
+fn put_numbers(out: &mut Vec<u8>, truth: bool, numbers: &[i64]) -> Result<(), AllocError>
+    ensures { OnOk result (out.new.items ≡ out.old.items ++ parted (codes ", ") true (map (number_text truth) numbers.now)) }
+{
+    let mut first = true;
+    'numbers: for number in numbers {
+        if !first {
+            out.extend_from_slice(b", ")?;
+        }
+        first = false;
+        put_item(out, truth, *number)?;
+    }
+    Ok(())
+}
+
+fn put_items(out: &mut Vec<u8>, truth: bool, numbers: &[i64]) -> Result<(), AllocError>
+    ensures { OnOk result (out.new.items ≡ out.old.items ++ items_text truth numbers.now) }
+{
+    match numbers {
+        [] => Ok(()),
+        [_, ..] => {
+            out.extend_from_slice(b": ")?;
+            put_numbers(out, truth, numbers)
+        }
+    }
+}
+
+fn put_dense(
+    ctx: &Context,
+    out: &mut Vec<u8>,
+    elem: TypeId,
+    numbers: &[i64],
+) -> Result<(), AllocError>
+    requires { IsType ctx.now elem }
+    ensures { OnOk result (out.new.items ≡ out.old.items ++ dense_text (type_term ctx.now elem) numbers.now) }
+{
+    out.extend_from_slice(b"array<")?;
+    put_type(ctx, out, elem)?;
+    put_items(out, is_truth(ctx, elem), numbers)?;
+    out.extend_from_slice(b">")
+}
+
+fn put_symbol(ctx: &Context, out: &mut Vec<u8>, parts: &[NameId]) -> Result<(), AllocError>
+    requires { All (λ n. n < length ctx.now.names) parts.now }
+    ensures { OnOk result (out.new.items ≡ out.old.items ++ parted (codes "::") true (map part_text (map (name_term ctx.now) parts.now))) }
+{
+    let mut first = true;
+    'parts: for part in parts {
+        if !first {
+            out.extend_from_slice(b"::")?;
+        }
+        first = false;
+        out.extend_from_slice(b"@")?;
+        put_key(out, name_of(ctx, *part))?;
+    }
+    Ok(())
+}
+
+fn flags_text(nsw: bool, nuw: bool) -> &'static [u8]
+    ensures { result.now ≡ flags_text nsw nuw }
+{
+    match (nsw, nuw) {
+        (false, false) => b"none",
+        (true, false) => b"nsw",
+        (false, true) => b"nuw",
+        (true, true) => b"nsw, nuw",
+    }
+}
+
+fn is_flag(ctx: &Context, id: AttrId) -> bool
+    requires { IsAttr ctx.now id }
+    ensures { result ≡ is_flag (attr_term ctx.now id) }
+{
+    matches!(attr_of(ctx, id), AttrNode::Unit)
+}
+
+/// Appends an attribute (Builtin Dialect, "Attributes").
+#[cycle(attributes)]
+pub fn put_attr(ctx: &Context, out: &mut Vec<u8>, id: AttrId) -> Result<(), AllocError>
+    requires { IsAttr ctx.now id }
+    ensures { OnOk result (out.new.items ≡ out.old.items ++ attr_text (attr_term ctx.now id)) }
+{
+    match attr_of(ctx, id) {
+        AttrNode::Int { ty, value } => put_integer(ctx, out, *ty, *value),
+        AttrNode::Str(name) => put_string(out, name_of(ctx, *name)),
+        AttrNode::Ty(ty) => put_type(ctx, out, *ty),
+        AttrNode::Unit => out.extend_from_slice(b"unit"),
+        AttrNode::Array(items) => {
+            out.extend_from_slice(b"[")?;
+            put_attrs(ctx, out, items.as_slice())?;
+            out.extend_from_slice(b"]")
+        }
+        AttrNode::Dict(entries) => put_entries(ctx, out, entries.as_slice()),
+        AttrNode::Sym(parts) => put_symbol(ctx, out, parts.as_slice()),
+        AttrNode::Dense { elem, values } => put_dense(ctx, out, *elem, values.as_slice()),
+        AttrNode::Overflow { nsw, nuw } => {
+            out.extend_from_slice(b"#arith.overflow<")?;
+            out.extend_from_slice(flags_text(*nsw, *nuw))?;
+            out.extend_from_slice(b">")
+        }
+    }
+}
+
+/// Appends attributes, parted by commas.
+#[cycle(attributes)]
+fn put_attrs(ctx: &Context, out: &mut Vec<u8>, ids: &[AttrId]) -> Result<(), AllocError>
+    requires { All (λ a. a < length ctx.now.attrs) ids.now }
+    ensures { OnOk result (out.new.items ≡ out.old.items ++ parted (codes ", ") true (attr_texts (attrs_at (attr_terms ctx.now) ids.now))) }
+{
+    let mut first = true;
+    'ids: for id in ids {
+        if !first {
+            out.extend_from_slice(b", ")?;
+        }
+        first = false;
+        put_attr(ctx, out, *id)?;
+    }
+    Ok(())
+}
+
+/// Appends an entry of a dictionary: its key alone where it is `unit`.
+#[cycle(attributes)]
+fn put_entry(ctx: &Context, out: &mut Vec<u8>, key: NameId, attr: AttrId) -> Result<(), AllocError>
+    requires key { IsName ctx.now key }
+    requires attr { IsAttr ctx.now attr }
+    ensures { OnOk result (out.new.items ≡ out.old.items ++ entry_text (name_term ctx.now key) (is_flag (attr_term ctx.now attr)) (attr_text (attr_term ctx.now attr))) }
+{
+    put_key(out, name_of(ctx, key))?;
+    if is_flag(ctx, attr) {
+        return Ok(());
+    }
+    out.extend_from_slice(b" = ")?;
+    put_attr(ctx, out, attr)
+}
+
+/// Appends a dictionary between its braces.
+#[cycle(attributes)]
+pub(crate) fn put_entries(
+    ctx: &Context,
+    out: &mut Vec<u8>,
+    entries: &[(NameId, AttrId)],
+) -> Result<(), AllocError>
+    requires keys { All (λ (e : ℕ × ℕ). e.0 < length ctx.now.names) entries.now }
+    requires attrs { All (λ (e : ℕ × ℕ). e.1 < length ctx.now.attrs) entries.now }
+    ensures { OnOk result (out.new.items ≡ out.old.items ++ in_curly (entry_texts (entries_at ctx.now.names (attr_terms ctx.now) entries.now))) }
+{
+    out.extend_from_slice(b"{")?;
+    let mut first = true;
+    'entries: for entry in entries {
+        if !first {
+            out.extend_from_slice(b", ")?;
+        }
+        first = false;
+        put_entry(ctx, out, entry.0, entry.1)?;
+    }
+    out.extend_from_slice(b"}")
+}

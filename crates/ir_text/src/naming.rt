@@ -1,0 +1,39 @@
+//! What the printer keeps: the text so far, and how values are named.
+use indexmap::IndexMap;
+use ir_types::ids::{OpId, TypeId};
+
+/// Where a value comes from: a place among the results of an operation, or among the arguments of the
+/// block of one of its regions.
+#[derive(Clone, Copy, Debug, PartialEq, Eq, Hash)]
+pub enum Source {
+    Result(OpId, usize),
+    Argument(OpId, usize, usize),
+}
+
+/// The name of a value.
+#[derive(Clone, Copy, Debug, PartialEq, Eq)]
+pub enum ValueName {
+    /// The only result of an operation, as `%0`.
+    Only(u64),
+    /// One of several results, as `%0#1`.
+    Part(u64, usize),
+    /// An argument of a block, as `%arg0`.
+    Argument(u64),
+}
+
+/// A value that has a name.
+#[derive(Clone, Copy, Debug, PartialEq, Eq)]
+pub struct NamedValue {
+    pub name: ValueName,
+    pub ty: TypeId,
+}
+
+/// The text so far, the values that are named, and the numbers of the next operation with results and
+/// of the next argument.
+#[derive(Drop)]
+pub struct Printer {
+    pub text: Vec<u8>,
+    pub named: IndexMap<Source, NamedValue>,
+    pub results: u64,
+    pub arguments: u64,
+}

@@ -1,0 +1,127 @@
+//! The text of types.
+ghost use Rattle.std.specs.Prelude.{◌≡◌, ◌<◌, ◌++◌, OnOk, true, length, flat_map, codes};
+ghost use Rattle.std.specs.List.{All};
+ghost use Rattle.ir_types.specs.Things.{IsType};
+ghost use Rattle.ir_types.specs.Terms.{type_term, type_terms, types_at};
+ghost use Rattle.ir_text.specs.Rows.{parted};
+ghost use Rattle.ir_text.specs.TypeText.{sign_text, dimension_text, is_function, is_lone, in_round, outputs_text, type_text, type_texts};
+
+use crate::numbers::put_number;
+use crate::things::type_of;
+use ir_types::context::Context;
+use ir_types::ids::TypeId;
+use ir_types::node::{Sign, TypeNode};
+use std::alloc::AllocError;
+
+fn sign_text(sign: Sign) -> &'static [u8]
+    ensures { result.now ≡ sign_text sign }
+{
+    match sign {
+        Sign::Signless => b"i",
+        Sign::Signed => b"si",
+        Sign::Unsigned => b"ui",
+    }
+}
+
+fn put_dimension(out: &mut Vec<u8>, dim: Option<u64>) -> Result<(), AllocError>
+    ensures { OnOk result (out.new.items ≡ out.old.items ++ dimension_text dim) }
+{
+    match dim {
+        None => out.extend_from_slice(b"?x"),
+        Some(size) => {
+            put_number(out, size)?;
+            out.extend_from_slice(b"x")
+        }
+    }
+}
+
+fn put_dimensions(out: &mut Vec<u8>, dims: &[Option<u64>]) -> Result<(), AllocError>
+    ensures { OnOk result (out.new.items ≡ out.old.items ++ flat_map dimension_text dims.now) }
+{
+    'dims: for dim in dims {
+        put_dimension(out, *dim)?;
+    }
+    Ok(())
+}
+
+fn is_function(ctx: &Context, id: TypeId) -> bool
+    requires { IsType ctx.now id }
+    ensures { result ≡ is_function (type_term ctx.now id) }
+{
+    matches!(type_of(ctx, id), TypeNode::Func { .. })
+}
+
+/// Whether outputs stand without parentheses.
+fn is_lone(ctx: &Context, outputs: &[TypeId]) -> bool
+    requires { All (λ t. t < length ctx.now.types) outputs.now }
+    ensures { result ≡ is_lone (types_at (type_terms ctx.now) outputs.now) }
+{
+    match outputs {
+        [] => false,
+        [only] => !is_function(ctx, *only),
+        [_, _, ..] => false,
+    }
+}
+
+/// Appends a type (Builtin Dialect, "Types").
+#[cycle(types)]
+pub fn put_type(ctx: &Context, out: &mut Vec<u8>, id: TypeId) -> Result<(), AllocError>
+    requires { IsType ctx.now id }
+    ensures { OnOk result (out.new.items ≡ out.old.items ++ type_text (type_term ctx.now id)) }
+{
+    match type_of(ctx, id) {
+        TypeNode::Int { sign, width } => {
+            out.extend_from_slice(sign_text(*sign))?;
+            put_number(out, u64::from(*width))
+        }
+        TypeNode::Index => out.extend_from_slice(b"index"),
+        TypeNode::Func { inputs, outputs } => {
+            out.extend_from_slice(b"(")?;
+            put_types(ctx, out, inputs.as_slice())?;
+            out.extend_from_slice(b") -> ")?;
+            put_outputs(ctx, out, outputs.as_slice())
+        }
+        TypeNode::Memref { dims, elem } => {
+            out.extend_from_slice(b"memref<")?;
+            put_dimensions(out, dims.as_slice())?;
+            put_type(ctx, out, *elem)?;
+            out.extend_from_slice(b">")
+        }
+    }
+}
+
+/// Appends types, parted by commas.
+#[cycle(types)]
+fn put_types(ctx: &Context, out: &mut Vec<u8>, ids: &[TypeId]) -> Result<(), AllocError>
+    requires { All (λ t. t < length ctx.now.types) ids.now }
+    ensures { OnOk result (out.new.items ≡ out.old.items ++ parted (codes ", ") true (type_texts (types_at (type_terms ctx.now) ids.now))) }
+{
+    let mut first = true;
+    'ids: for id in ids {
+        if !first {
+            out.extend_from_slice(b", ")?;
+        }
+        first = false;
+        put_type(ctx, out, *id)?;
+    }
+    Ok(())
+}
+
+/// Appends the outputs of a function type, in parentheses unless they are one type that is no function
+/// type.
+#[cycle(types)]
+pub(crate) fn put_outputs(
+    ctx: &Context,
+    out: &mut Vec<u8>,
+    ids: &[TypeId],
+) -> Result<(), AllocError>
+    requires { All (λ t. t < length ctx.now.types) ids.now }
+    ensures { OnOk result (out.new.items ≡ out.old.items ++ outputs_text (is_lone (types_at (type_terms ctx.now) ids.now)) (type_texts (types_at (type_terms ctx.now) ids.now))) }
+{
+    if is_lone(ctx, ids) {
+        return put_types(ctx, out, ids);
+    }
+    out.extend_from_slice(b"(")?;
+    put_types(ctx, out, ids)?;
+    out.extend_from_slice(b")")
+}
