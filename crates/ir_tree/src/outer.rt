@@ -15,8 +15,8 @@ pub trait Outer {
     ghost next: { Self → ℕ };
 
     /// The type of a value of the module, or none where it has no such value.
-    fn value_type(&self, value: &Value) -> Option<TypeId>
-        ensures { result ≡ types self.now value.now };
+    fn value_type(&self, value: Value) -> Option<TypeId>
+        ensures { result ≡ types self.now value };
 
     /// The next free id of the module.
     fn next_id(&self) -> u32
