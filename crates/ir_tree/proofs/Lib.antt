@@ -16,3 +16,4 @@ pub mod Replaced
 pub mod Returns
 pub mod SeenSites
 pub mod SoundEdits
+pub mod Tallies

@@ -9,6 +9,7 @@ pub mod Limits
 pub mod Uses
 pub mod Numbered
 pub mod Scope
+pub mod Tallied
 pub mod WellFormed
 pub mod Frames
 pub mod Maps

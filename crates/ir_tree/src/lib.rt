@@ -17,6 +17,7 @@ pub mod outer;
 pub mod place;
 mod scope;
 pub mod sound;
+mod tally;
 pub mod tree;
 pub mod uses;
 pub mod value;

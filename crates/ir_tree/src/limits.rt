@@ -39,8 +39,9 @@ pub fn counts_are_within(root: &TreeOp) -> bool
     op_count(root) <= MOST_OPS && every_op(root, &Counts)
 }
 
+/// Whether what an operation has of its own is within the limits.
 #[tactic(auto, using(crate::proofs::Lists::region_count_of_list))]
-fn fits(op: &TreeOp) -> bool
+pub(crate) fn fits(op: &TreeOp) -> bool
     ensures { result ≡ op_fits op.now }
 {
     head_is_within(op) && op.regions.len() <= MOST_REGIONS && all_arguments_are_within(&op.regions)
