@@ -1,5 +1,5 @@
 -- Counts and depth of a tree, by one walk that keeps a tally.
-use Rattle.std.specs.Prelude.{ℕ, ◌+◌, ◌-◌, ◌^◌, min, nat_lt, nat_le, Bool, true, ◌&&◌}
+use Rattle.std.specs.Prelude.{ℕ, ◌+◌, ◌-◌, ◌^◌, min, nat_lt, nat_le, true, ◌&&◌}
 use Rattle.ir_tree.specs.declared.tally.Tally.{Tally}
 use Rattle.ir_tree.specs.Tree.{Op, op, Regions, no_regions, region, Region, empty, block, Ops, no_ops, next}
 use Rattle.ir_tree.specs.Ids.{op_count}
