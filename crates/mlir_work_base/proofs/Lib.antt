@@ -1,0 +1,4 @@
+pub mod Joins
+pub mod Cutting
+pub mod Trimming
+pub mod Digits
