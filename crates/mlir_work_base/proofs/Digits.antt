@@ -1,5 +1,5 @@
 -- Digits that are read from the left.
-use Rattle.std.proofs.Common.{◌≡◌, ℕ, ◌+◌, ◌-◌, ◌*◌, ◌^◌, ◌<◌, ◌≤◌, List, [], ◌∷◌, Bool, true, false, Option, Some, None, if◌then◌else◌, refl, arith}
+use Rattle.std.proofs.Common.{◌≡◌, ℕ, ◌+◌, ◌-◌, ◌*◌, ◌^◌, ◌<◌, ◌≤◌, List, [], ◌∷◌, Bool, true, false, None, refl, sym, ◌∙◌, arith}
 use Rattle.std.specs.Prelude.{◌&&◌, nat_lt}
 use Rattle.std.specs.Str.{all_ascii_digits}
 use Rattle.std.specs.Char.{is_ascii_digit}
@@ -31,3 +31,7 @@ no_digit n d ds e = rw e refl
 -- a digit goes to the number so far
 pub next_digit : (n d : ℕ) (ds : List ℕ) → is_ascii_digit d ≡ true → number_after n (d ∷ ds) ≡ number_after (n * 10 + (d - 48)) ds
 next_digit n d ds e = rw e refl
+
+-- a digit that makes the number too great
+pub too_great_next : (n d : ℕ) (ds : List ℕ) → is_ascii_digit d ≡ true → (n * 10 + (d - 48) < 2 ^ 32 → ⊥) → None ≡ number_after n (d ∷ ds)
+too_great_next n d ds e h = sym (next_digit n d ds e ∙ too_great (n * 10 + (d - 48)) ds (omega arith))

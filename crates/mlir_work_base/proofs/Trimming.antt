@@ -1,5 +1,5 @@
 -- The end of a text that is trimmed.
-use Rattle.std.proofs.Common.{◌≡◌, ℕ, zero, suc, get_or, List, [], ◌∷◌, length, take, Bool, true, false, refl, ap, arith}
+use Rattle.std.proofs.Common.{◌≡◌, ℕ, zero, suc, get_or, List, [], ◌∷◌, length, take, true, false, refl, ap, arith}
 use Rattle.mlir_work_base.specs.Words.{is_edge, trim_back, onto_cut}
 
 -- an edge at the end is cut

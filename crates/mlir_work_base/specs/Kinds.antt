@@ -1,5 +1,5 @@
 -- The words of the kinds of analysis.
-use Rattle.std.specs.Prelude.{ℕ, List, ◌++◌, ◌==◌, ◌&&◌, Bool, not, Option, Some, None, if◌then◌else◌, codes, drop, nat_lt, nat_eq}
+use Rattle.std.specs.Prelude.{ℕ, List, ◌++◌, ◌==◌, ◌&&◌, not, Option, Some, None, if◌then◌else◌, codes, drop, nat_lt, nat_eq}
 use Rattle.std.specs.Fmt.{decimal}
 use Rattle.std.specs.List.{starts_with}
 use Rattle.std.specs.Option.{is_some}

@@ -42,7 +42,12 @@ fn put_result<W: Write>(writer: &mut W, op: OpId, place: u32) -> Result<(), Writ
     )
 }
 
-fn put_argument<W: Write>(writer: &mut W, op: OpId, region: u32, place: u32) -> Result<(), WriteFault>
+fn put_argument<W: Write>(
+    writer: &mut W,
+    op: OpId,
+    region: u32,
+    place: u32,
+) -> Result<(), WriteFault>
     ensures { Puts (W.contents writer.old) (W.contents writer.new) (value_text (Arg op region place)) result }
 {
     let mut owner = Buffer::new();

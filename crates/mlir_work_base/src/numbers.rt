@@ -7,9 +7,7 @@ fn with_digit(number: u32, digit: u8) -> Option<u32>
     requires { 48 ≤ digit }
     ensures { SomeIff result (number * 10 + (digit - 48) < 2 ^ 32) (number * 10 + (digit - 48)) }
 {
-    number
-        .checked_mul(10)?
-        .checked_add(u32::from(digit - b'0'))
+    number.checked_mul(10)?.checked_add(u32::from(digit - b'0'))
 }
 
 /// The number of a text of digits.

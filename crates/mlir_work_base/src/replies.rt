@@ -1,5 +1,6 @@
 //! The lines of a run's output.
-ghost use Rattle.std.specs.Prelude.{◌++◌, Some, None};
+ghost use Rattle.std.specs.Prelude.{◌++◌, Some, None, codes};
+ghost use Rattle.ir_types.specs.Refusals.{text_of};
 ghost use Rattle.mlir_work_base.specs.Kinds.{kind_word};
 ghost use Rattle.mlir_work_base.specs.Replies.{ok_line, refused_line, module_refused_line, attach_refused_line, kind_line, stale_line, kind_memory_line, module_memory_line};
 ghost use Rattle.mlir_work_base.specs.Writes.{Puts};
@@ -37,7 +38,11 @@ pub fn put_refused<W: Write>(writer: &mut W, n: u64, refusal: Refusal) -> Result
     )
 }
 
-fn put_module_refused_at<W: Write>(writer: &mut W, refusal: Refusal, offset: usize) -> Result<(), WriteFault>
+fn put_module_refused_at<W: Write>(
+    writer: &mut W,
+    refusal: Refusal,
+    offset: usize,
+) -> Result<(), WriteFault>
     ensures { Puts (W.contents writer.old) (W.contents writer.new) (module_refused_line refusal (Some offset)) result }
 {
     let mut number = Buffer::new();
@@ -87,30 +92,47 @@ pub fn put_module_refused<W: Write>(
     }
 }
 
+/// Writes a word in two parts between two texts.
+fn put_between<'a, W: Write>(
+    writer: &mut W,
+    front: &'a [u8],
+    stem: &'a [u8],
+    digits: &'a [u8],
+    back: &'a [u8],
+) -> Result<(), WriteFault>
+    ensures { Puts (W.contents writer.old) (W.contents writer.new) (front.now ++ (stem.now ++ (digits.now ++ back.now))) result }
+{
+    put_all(writer, &[front, stem, digits, back])
+}
+
 /// Writes the word of a kind between two texts.
-fn put_with_kind<W: Write>(writer: &mut W, front: &[u8], kind: Kind, back: &[u8]) -> Result<(), WriteFault>
+fn put_with_kind<W: Write>(
+    writer: &mut W,
+    front: &[u8],
+    kind: Kind,
+    back: &[u8],
+) -> Result<(), WriteFault>
     ensures { Puts (W.contents writer.old) (W.contents writer.new) (front.now ++ (kind_word kind ++ back.now)) result }
 {
     match name_of(kind) {
-        Some(name) => put_all(writer, &[&*front, name, &*back]),
+        Some(name) => put_between(writer, front, name, b"", back),
         None => {
             let mut number = Buffer::new();
-            put_all(
+            put_between(
                 writer,
-                &[&*front, b"kind", number.format(kind.number()).as_bytes(), &*back],
+                front,
+                b"kind",
+                number.format(kind.number()).as_bytes(),
+                back,
             )
         }
     }
 }
 
-/// Writes that a box is refused: `attach uses refused 36 Memory`.
-pub fn put_attach_refused<W: Write>(writer: &mut W, kind: Kind, refusal: Refusal) -> Result<(), WriteFault>
-    ensures { Puts (W.contents writer.old) (W.contents writer.new) (attach_refused_line kind refusal) result }
+/// Writes a refusal at the end of a line: `36 Memory`.
+fn put_refusal<W: Write>(writer: &mut W, refusal: Refusal) -> Result<(), WriteFault>
+    ensures { Puts (W.contents writer.old) (W.contents writer.new) (text_of refusal ++ codes "\n") result }
 {
-    match put_with_kind(writer, b"attach ", kind, b" refused ") {
-        Ok(()) => {}
-        Err(fault) => return Err(fault),
-    }
     let mut number = Buffer::new();
     put_all(
         writer,
@@ -121,6 +143,20 @@ pub fn put_attach_refused<W: Write>(writer: &mut W, kind: Kind, refusal: Refusal
             b"\n",
         ],
     )
+}
+
+/// Writes that a box is refused: `attach uses refused 36 Memory`.
+pub fn put_attach_refused<W: Write>(
+    writer: &mut W,
+    kind: Kind,
+    refusal: Refusal,
+) -> Result<(), WriteFault>
+    ensures { Puts (W.contents writer.old) (W.contents writer.new) (attach_refused_line kind refusal) result }
+{
+    match put_with_kind(writer, b"attach ", kind, b" refused ") {
+        Ok(()) => put_refusal(writer, refusal),
+        Err(fault) => Err(fault),
+    }
 }
 
 /// Writes the line over the rows of a kind: `-- uses`.
