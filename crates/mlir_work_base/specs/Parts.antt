@@ -1,5 +1,5 @@
 -- An input is the text of a module, and a script after the first line that is exactly the divider.
-use Rattle.std.specs.Prelude.{ℕ, List, [], ◌∷◌, ◌&&◌, Bool, true, if◌then◌else◌, codes}
+use Rattle.std.specs.Prelude.{◌≡◌, ◌⊎◌, ℕ, List, [], ◌∷◌, ◌++◌, ◌&&◌, Bool, true, if◌then◌else◌, codes}
 use Rattle.std.specs.Str.{bytes_eq}
 use Rattle.mlir_work_base.specs.Lines.{is_newline, line_of, after_line}
 
@@ -22,3 +22,13 @@ module_text input = module_from true input
 
 abbrev pub script_text : List ℕ → List ℕ
 script_text input = script_from true input
+
+-- a line's end and what stands after it, or nothing
+abbrev pub EndsLine : List ℕ → List ℕ → Type 0
+EndsLine end rest = (end ≡ 10 ∷ rest) ⊎ ((end ≡ []) × (rest ≡ []))
+
+-- the module, a line that is the divider, and the script; or the module alone
+abbrev pub IsSplit : List ℕ → List ℕ → List ℕ → Type 0
+IsSplit input first second =
+    ((end : List ℕ) × (input ≡ first ++ (codes "// -----" ++ end)) × EndsLine end second)
+    ⊎ ((input ≡ first) × (second ≡ []))

@@ -7,6 +7,7 @@ pub mod command;
 mod cuts;
 pub mod input;
 pub mod kind;
+pub mod laws;
 pub mod lines;
 pub mod numbers;
 pub mod replies;
