@@ -86,7 +86,10 @@ fn faults(rt: HostRuntime) {
                 fault,
             };
             assert_eq!(rt; put_pieces(&mut writer), Err(WriteFault));
-            assert_eq!(rt; writer.bytes.len() as u32 + 1, fails_at);
+            assert_eq!(rt;
+                u32::try_from(writer.bytes.len()).ok(),
+                fails_at.checked_sub(1)
+            );
             assert!(rt; b"abcd".starts_with(&writer.bytes));
             assert_eq!(rt; writer.writes, fails_at);
         }
