@@ -1,0 +1,10 @@
+pub mod Cuts
+pub mod Lines
+pub mod Parts
+pub mod Words
+pub mod Numbers
+pub mod Values
+pub mod Kinds
+pub mod Commands
+pub mod Writes
+pub mod Replies

@@ -1,0 +1,90 @@
+//! The input of a run: read whole, under limits, and split into a module and a script.
+ghost use Rattle.std.specs.Prelude.{◌≡◌, ◌<◌, ◌≤◌, length, IfErr, IfOk, IfSome, IsTrue, ◌↔◌};
+ghost use Rattle.mlir_work_base.specs.declared.input.ReadFault.TheVariants.{TooMany};
+ghost use Rattle.mlir_work_base.specs.Parts.{module_text, script_text};
+
+use crate::lines::split_line;
+use std::alloc::Global;
+use std::io::{ErrorKind, Read};
+
+/// The most bytes of an input.
+pub const MAX_INPUT_BYTES: usize = 33_554_432;
+
+/// The most bytes of a script.
+pub const MAX_SCRIPT_BYTES: usize = 16_777_216;
+
+/// The most reads of an input.
+pub const MAX_READS: u32 = 40_000_000;
+
+/// The bytes that one read asks for.
+const CHUNK: usize = 8192;
+
+/// The line between a module and its script.
+const DIVIDER: &[u8] = b"// -----";
+
+/// Why an input wasn't read.
+#[derive(Clone, Copy, Debug, PartialEq, Eq)]
+pub enum ReadFault {
+    /// A read failed, or one more than `MAX_READS` was needed.
+    Broken,
+    /// There are more than `MAX_INPUT_BYTES` bytes.
+    TooMany,
+    /// No memory for the bytes.
+    Memory,
+}
+
+/// Reads to the end, by at most `MAX_READS` reads. An interrupted read is made again, and counts among
+/// them.
+pub fn read_all<R: Read>(alloc: Global, reader: &mut R) -> Result<Vec<u8>, ReadFault>
+    ensures whole { IfOk result (λ all. IfSome (R.remaining reader.old) (λ input. all.items ≡ input)) }
+    ensures within { IfOk result (λ all. length all.items ≤ MAX_INPUT_BYTES) }
+    ensures too_many { IfErr result (λ fault. fault ≡ TooMany → IfSome (R.remaining reader.old) (λ input. MAX_INPUT_BYTES < length input)) }
+{
+    let mut all: Vec<u8> = Vec::new(alloc);
+    let mut buffer = [0u8; CHUNK];
+    for _turn in 0..MAX_READS {
+        match reader.read(&mut buffer) {
+            Ok(0) => return Ok(all),
+            Ok(taken) => {
+                if MAX_INPUT_BYTES - all.len() < taken {
+                    return Err(ReadFault::TooMany);
+                }
+                if all.extend_from_slice(&buffer[..taken]).is_err() {
+                    return Err(ReadFault::Memory);
+                }
+            }
+            Err(error) => {
+                if error.kind() != ErrorKind::Interrupted {
+                    return Err(ReadFault::Broken);
+                }
+            }
+        }
+    }
+    Err(ReadFault::Broken)
+}
+
+/// The text of the module and the script of an input: what stands before and after the first line that is
+/// exactly `// -----`. Without such a line the script is empty.
+pub fn split(input: &[u8]) -> (&[u8], &[u8])
+    ensures module { result.0.now ≡ module_text input.now }
+    ensures script { result.1.now ≡ script_text input.now }
+{
+    let mut start = true;
+    for at in 0..input.len() {
+        if start {
+            let (line, rest) = split_line(&input[at..]);
+            if line == DIVIDER {
+                return (&input[..at], rest);
+            }
+        }
+        start = input[at] == b'\n';
+    }
+    (input, &[])
+}
+
+/// Whether a script has more than `MAX_SCRIPT_BYTES` bytes.
+pub fn script_is_too_long(script: &[u8]) -> bool
+    ensures { IsTrue result ↔ (MAX_SCRIPT_BYTES < length script.now) }
+{
+    MAX_SCRIPT_BYTES < script.len()
+}

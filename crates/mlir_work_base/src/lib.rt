@@ -1,0 +1,16 @@
+//! What a run reads and writes: an input is read and split, each line of a script says what its definition
+//! says, and each line of the output is written as its definition says.
+#![tactic(auto)]
+
+pub mod cells;
+pub mod command;
+mod cuts;
+pub mod input;
+pub mod kind;
+pub mod laws;
+pub mod lines;
+pub mod numbers;
+pub mod replies;
+pub mod values;
+pub mod words;
+pub mod writing;
