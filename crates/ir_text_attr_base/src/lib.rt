@@ -1,0 +1,5 @@
+//! Types, attributes and dictionaries are read from a text, and interned as they are read.
+#![tactic(auto)]
+
+pub mod error;
+pub mod steps;
