@@ -1,1 +1,4 @@
 pub mod Stepping
+pub mod Widths
+pub mod ListSteps
+pub mod Known

@@ -2,4 +2,6 @@
 #![tactic(auto)]
 
 pub mod error;
+mod scalars;
 pub mod steps;
+pub mod types;
