@@ -1,3 +1,4 @@
 pub mod Stepping
 pub mod Worlds
 pub mod TextLaws
+pub mod TypeLaws
