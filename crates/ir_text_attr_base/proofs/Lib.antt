@@ -2,3 +2,4 @@ pub mod Stepping
 pub mod Worlds
 pub mod TextLaws
 pub mod TypeLaws
+pub mod Unique

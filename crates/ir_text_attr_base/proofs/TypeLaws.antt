@@ -1,7 +1,7 @@
 -- Types that are read are spelled, and types that are spelled are read.
-use Rattle.std.proofs.Common.{◌≡◌, ◌<◌, ◌≤◌, ℕ, zero, suc, Bool, true, false, cond, List, [], ◌∷◌, length, Option, Some, None, slice_get, refl, sym, ap, subst, ◌∙◌, ◌⊎◌, inl, inr, ⊎_elim, arith}
+use Rattle.std.proofs.Common.{◌≡◌, ◌<◌, ◌≤◌, ℕ, zero, suc, Bool, true, false, cond, List, [], ◌∷◌, length, map, Option, Some, None, slice_get, refl, sym, ap, subst, ◌∙◌, ◌⊎◌, inl, inr, ⊎_elim, arith}
 use Rattle.std.specs.Prelude.{option_map, if◌then◌else◌, ◌&&◌, ◌==◌, not, nat_le}
-use Rattle.std.specs.List.{AllByRecursion, list_any, list_all}
+use Rattle.std.specs.List.{All, AllByRecursion, list_any, list_all}
 use Rattle.std.specs.Str.{bytes_eq}
 use Rattle.std.specs.Char.{is_ascii_digit}
 use Rattle.std.proofs.lemmas.Option.{cond_some, slice_get_within}
@@ -36,7 +36,7 @@ use Rattle.ir_text_attr_base.specs.Grammars.{Grammar, Then, Done, DoneIf, IsMark
 use Rattle.ir_text_attr_base.specs.TypeGrammar.{terms_of, IsScalar, IsTypes, IsOutputs, IsSignature, IsFunction, IsType, IsFunctionType}
 use Rattle.ir_text_attr_base.specs.Worlds.{From}
 use Rattle.ir_text_attr_base.specs.Standing.{TypeStands}
-use Rattle.ir_text_attr_base.specs.Laws.{Each}
+use Rattle.ir_text_attr_base.specs.Laws.{TypesStand, SignatureStands}
 use Rattle.ir_text_attr_base.proofs.Worlds.{bind_read, option_read, Exact, Step, Comes, Reads, parts, step_on, reads_on, then_exact, done_exact, after_exact, either_exact, list_exact}
 use Rattle.ir_text_attr_base.proofs.TextLaws.{things, Same, text_now, typed_marks}
 
@@ -181,12 +181,6 @@ scalar_exact c = record {
 
 -- ---- types in parentheses
 
-abbrev pub TypesStand : Things → List ℕ → List TypeTerm → Type 0
-TypesStand = Each TypeStands
-
-abbrev pub BothStand : Things → List ℕ × List ℕ → List TypeTerm × List TypeTerm → Type 0
-BothStand z x y = TypesStand z x.0 y.0 × TypesStand z x.1 y.1
-
 each_below : (z : Things) (xs : List ℕ) (ys : List TypeTerm) → TypesStand z xs ys → AllByRecursion (λ t. t < length z.types) xs
 each_below z [] [] h = tt
 each_below z [] (y ∷ ys) h = absurd h
@@ -199,7 +193,7 @@ each_term z [] (y ∷ ys) h = absurd h
 each_term z (x ∷ xs) [] h = absurd h
 each_term z (x ∷ xs) (y ∷ ys) h = λ i. terms.next_type (h.0.1 i) (each_term z xs ys h.1 i)
 
-func_stands : (z : Things) (x : List ℕ × List ℕ) (y : List TypeTerm × List TypeTerm) → BothStand z x y → IsNodeOf (node.Func x.0 x.1) (Function (terms_of y.0) (terms_of y.1)) z
+func_stands : (z : Things) (x : List ℕ × List ℕ) (y : List TypeTerm × List TypeTerm) → SignatureStands z x y → IsNodeOf (node.Func x.0 x.1) (Function (terms_of y.0) (terms_of y.1)) z
 func_stands z x y h = (
   (All-from_recursion (λ t. t < length z.types) x.0 (each_below z x.0 y.0 h.0), All-from_recursion (λ t. t < length z.types) x.1 (each_below z x.1 y.1 h.1)),
   λ i. Function (each_term z x.0 y.0 h.0 i) (each_term z x.1 y.1 h.1 i),
@@ -218,17 +212,17 @@ module _ (p : Parse Typed ℕ) (P : Grammar (List ℕ) TypeTerm) (item : (c : Th
       (then_exact things Same c TypeStands TypesStand p P (λ x s. Read (x ∷ [], s)) (λ y. Done (y ∷ [])) (item c) (λ d x y g r.
       done_exact things Same d TypesStand (x ∷ []) (y ∷ []) (λ z k w. (r z k w, tt))))
 
-  pub signature_exact : (room : ℕ) (c : Things) → Exact things Same c BothStand (signature_at p room) (IsSignature P room)
+  pub signature_exact : (room : ℕ) (c : Things) → Exact things Same c SignatureStands (signature_at p room) (IsSignature P room)
   unfolding signature_at IsSignature
   signature_exact room c =
-      then_exact things Same c TypesStand BothStand _ _ _ _ (types_exact many c) (λ d inputs ins g r.
-      after_exact things Same after_typed IsMark typed_marks d BothStand Arrow _ _ (then_exact things Same d TypesStand BothStand _ _ _ _ (outputs_exact room d) (λ e outputs outs h k.
-      done_exact things Same e BothStand (inputs, outputs) (ins, outs) (λ z l w. (r z (grows_trans d e z h l) w, k z l w)))))
+      then_exact things Same c TypesStand SignatureStands _ _ _ _ (types_exact many c) (λ d inputs ins g r.
+      after_exact things Same after_typed IsMark typed_marks d SignatureStands Arrow _ _ (then_exact things Same d TypesStand SignatureStands _ _ _ _ (outputs_exact room d) (λ e outputs outs h k.
+      done_exact things Same e SignatureStands (inputs, outputs) (ins, outs) (λ z l w. (r z (grows_trans d e z h l) w, k z l w)))))
 
   pub function_exact : (c : Things) → Exact things Same c TypeStands (function_at p) (IsFunction P)
   unfolding function_at IsFunction
   function_exact c =
-      then_exact things Same c BothStand TypeStands (signature_at p many) (IsSignature P many) (λ x. type_done (node.Func x.0 x.1)) (λ y. DoneIf (type_fault (Function (terms_of y.0) (terms_of y.1)) ≡ None) (Function (terms_of y.0) (terms_of y.1)))
+      then_exact things Same c SignatureStands TypeStands (signature_at p many) (IsSignature P many) (λ x. type_done (node.Func x.0 x.1)) (λ y. DoneIf (type_fault (Function (terms_of y.0) (terms_of y.1)) ≡ None) (Function (terms_of y.0) (terms_of y.1)))
       (signature_exact many c) (λ d x y g r. type_done_exact d (node.Func x.0 x.1) (Function (terms_of y.0) (terms_of y.1)) (λ z k w. func_stands z x y (r z k w)))
 
 -- ---- types, and the function types of operations
@@ -240,7 +234,57 @@ type_exact (suc depth) c =
     either_exact things Same after_typed IsMark typed_marks c TypeStands OpenRound (type_read_from (type_at depth)) (function_at (type_at depth)) scalar_at (IsFunction (IsType depth)) IsScalar
     (λ s mid. refl) (λ s. refl) (function_exact (type_at depth) (IsType depth) (type_exact depth) c) (scalar_exact c)
 
-pub function_type_exact : (c : Things) → Exact things Same c BothStand function_type_at IsFunctionType
+pub function_type_exact : (c : Things) → Exact things Same c SignatureStands function_type_at IsFunctionType
 unfolding function_type_at IsFunctionType
 function_type_exact c =
-    after_exact things Same after_typed IsMark typed_marks c BothStand OpenRound (signature_at (type_at 32) 256) (IsSignature (IsType 32) 256) (signature_exact (type_at 32) (IsType 32) (type_exact 32) 256 c)
+    after_exact things Same after_typed IsMark typed_marks c SignatureStands OpenRound (signature_at (type_at 32) 256) (IsSignature (IsType 32) 256) (signature_exact (type_at 32) (IsType 32) (type_exact 32) 256 c)
+
+-- ---- from a text
+
+pub type_read : (depth : ℕ) (c d : Things) (bytes rest : List ℕ) (n : ℕ) → IsSound c → type_at depth (bytes, c) ≡ Read (n, (rest, d)) → Grows c d × IsSound d × of.IsType d n × IsType depth (type_term d n) bytes rest
+type_read depth c d bytes rest n sound e =
+    let f = (type_exact depth c).found (bytes, c) bytes n (rest, d) (grows_refl c) sound (λ z g w. refl) e in
+    let r = f.3.stands d (grows_refl d) f.3.sound in
+    let spelled : IsType depth (type_term d n) bytes f.1 = subst (λ y. IsType depth y bytes f.1) (sym r.1) f.2 in
+    (f.3.grows, f.3.sound, r.0, subst (λ b. IsType depth (type_term d n) bytes b) (sym (text_now (rest, d) f.1 f.3.sound f.3.agree)) spelled)
+
+abbrev pair : {A : Type 0} → A → Things → List ℕ → Outcome (A × Typed)
+pair x d b = Read (x, (b, d))
+
+pub type_spelled : (depth : ℕ) (c : Things) (bytes rest : List ℕ) (y : TypeTerm) → IsSound c → IsType depth y bytes rest → (type_at depth (bytes, c) ≡ Full) ⊎ ((n : ℕ) × (d : Things) × (type_at depth (bytes, c) ≡ Read (n, (rest, d))) × Grows c d × IsSound d × TypeStands d n y)
+type_spelled depth c bytes rest y sound k = ⊎_elim
+    (λ (e : type_at depth (bytes, c) ≡ Full). inl e)
+    (λ (f : (n : ℕ) × (s : Typed) × (type_at depth (bytes, c) ≡ Read (n, s)) × Step things Same TypeStands (bytes, c) n y s rest).
+    inr (f.0, f.1.1, f.2 ∙ ap (pair f.0 f.1.1) (text_now f.1 rest f.3.sound f.3.agree), f.3.grows, f.3.sound, f.3.stands f.1.1 (grows_refl f.1.1) f.3.sound))
+    ((type_exact depth c).only (bytes, c) bytes y rest (grows_refl c) sound (λ z g w. refl) k)
+
+-- ---- and function types
+
+stand_map : (z : Things) (xs : List ℕ) (ys : List TypeTerm) → TypesStand z xs ys → All (of.IsType z) xs × (map (type_term z) xs ≡ ys)
+stand_map z xs ys h = (All-from_recursion (of.IsType z) xs (each_below z xs ys h), terms_are z xs ys h)
+  where
+    terms_are : (z : Things) (xs : List ℕ) (ys : List TypeTerm) → TypesStand z xs ys → map (type_term z) xs ≡ ys
+    terms_are z [] [] h = refl
+    terms_are z [] (y ∷ ys) h = absurd h
+    terms_are z (x ∷ xs) [] h = absurd h
+    terms_are z (x ∷ xs) (y ∷ ys) h = λ i. h.0.1 i ∷ terms_are z xs ys h.1 i
+
+pub function_type_read : (c d : Things) (bytes rest : List ℕ) (x : List ℕ × List ℕ) → IsSound c → function_type_at (bytes, c) ≡ Read (x, (rest, d))
+    → Grows c d × IsSound d × All (of.IsType d) x.0 × All (of.IsType d) x.1 × IsFunctionType (map (type_term d) x.0, map (type_term d) x.1) bytes rest
+function_type_read c d bytes rest x sound e =
+    let f = (function_type_exact c).found (bytes, c) bytes x (rest, d) (grows_refl c) sound (λ z g w. refl) e in
+    let r = f.3.stands d (grows_refl d) f.3.sound in
+    let ins = stand_map d x.0 f.0.0 r.0 in
+    let outs = stand_map d x.1 f.0.1 r.1 in
+    let y : List TypeTerm × List TypeTerm = (map (type_term d) x.0, map (type_term d) x.1) in
+    let same : f.0 ≡ y = λ i. (sym ins.1 i, sym outs.1 i) in
+    let spelled : IsFunctionType y bytes f.1 = subst (λ y'. IsFunctionType y' bytes f.1) same f.2 in
+    (f.3.grows, f.3.sound, ins.0, outs.0, subst (λ b. IsFunctionType y bytes b) (sym (text_now (rest, d) f.1 f.3.sound f.3.agree)) spelled)
+
+pub function_type_spelled : (c : Things) (bytes rest : List ℕ) (y : List TypeTerm × List TypeTerm) → IsSound c → IsFunctionType y bytes rest
+    → (function_type_at (bytes, c) ≡ Full) ⊎ ((x : List ℕ × List ℕ) × (d : Things) × (function_type_at (bytes, c) ≡ Read (x, (rest, d))) × Grows c d × IsSound d × SignatureStands d x y)
+function_type_spelled c bytes rest y sound k = ⊎_elim
+    (λ (e : function_type_at (bytes, c) ≡ Full). inl e)
+    (λ (f : (x : List ℕ × List ℕ) × (s : Typed) × (function_type_at (bytes, c) ≡ Read (x, s)) × Step things Same SignatureStands (bytes, c) x y s rest).
+    inr (f.0, f.1.1, f.2 ∙ ap (pair f.0 f.1.1) (text_now f.1 rest f.3.sound f.3.agree), f.3.grows, f.3.sound, f.3.stands f.1.1 (grows_refl f.1.1) f.3.sound))
+    ((function_type_exact c).only (bytes, c) bytes y rest (grows_refl c) sound (λ z g w. refl) k)
