@@ -9,3 +9,4 @@ pub mod Scalars
 pub mod TypeReading
 pub mod TypeGrammar
 pub mod Standing
+pub mod Laws
