@@ -2,6 +2,7 @@
 #![tactic(auto)]
 
 pub mod error;
+pub mod flag;
 mod scalars;
 pub mod steps;
 pub mod types;
