@@ -1,0 +1,5 @@
+pub mod States
+pub mod FrontReading
+pub mod Entries
+pub mod EntryReading
+pub mod OpReading

@@ -1,0 +1,6 @@
+//! Operations are read from a text, and what they name is interned as it is read.
+#![tactic(auto)]
+
+pub mod bound;
+mod front;
+mod scope;
