@@ -31,7 +31,7 @@ use Rattle.ir_types.proofs.Calls.{no_first}
 use Rattle.ir_types.proofs.AcceptedCalls.{accepted_type, neither_back}
 use Rattle.ir_text_attr_base.specs.Outcomes.{Outcome, Read, Wrong, Full, ◌>>=◌, of_option, interned, Parse}
 use Rattle.ir_text_attr_base.specs.Typed.{Typed, after_typed, type_step}
-use Rattle.ir_text_attr_base.specs.Scalars.{width_of, begins_zero, signed_of_word, integer_type_of, scalar_of, index_word}
+use Rattle.ir_text_attr_base.specs.Scalars.{within, width_of, begins_zero, signed_of_word, integer_type_of, scalar_of, index_word}
 use Rattle.ir_text_attr_base.specs.TypeReading.{many, type_done, scalar_from, scalar_at, types_at, outputs_from, outputs_at, signature_at, function_at, type_from as type_read_from, type_at, function_type_at}
 use Rattle.ir_text_attr_base.specs.Grammars.{Grammar, Then, Done, DoneIf, IsMark, Token}
 use Rattle.ir_text_attr_base.specs.TypeGrammar.{terms_of, IsScalar, IsTypes, IsOutputs, IsSignature, IsFunction, IsType, IsFunctionType}
@@ -159,15 +159,12 @@ choose false x y z f g e = g e
 no_word : (z : TypeNode) → None ≡ Some z → IsWord z
 no_word z e = absurd cc
 
-both_second : (a b : Bool) → (a && b) ≡ true → b ≡ true
-both_second true b e = e
-both_second false b e = absurd cc
-
-width_word : (sign : Sign) (b : Bool) (w : ℕ) (z : TypeNode) → option_map (node.Int sign) (if b && is_width w then Some w else None) ≡ Some z → IsWord z
-width_word sign b w z e = by_case (b && is_width w) refl e
+width_word : (sign : Sign) (b : Bool) (w : ℕ) (z : TypeNode) → option_map (node.Int sign) (if b then within w else None) ≡ Some z → IsWord z
+width_word sign false w z e = absurd cc
+width_word sign true w z e = by_case (is_width w) refl e
   where
-    by_case : (t : Bool) → (b && is_width w) ≡ t → option_map (node.Int sign) (if t then Some w else None) ≡ Some z → IsWord z
-    by_case true h e = let same : node.Int sign w ≡ z = cc in subst IsWord same (both_second b (is_width w) h)
+    by_case : (t : Bool) → is_width w ≡ t → option_map (node.Int sign) (if t then Some w else None) ≡ Some z → IsWord z
+    by_case true h e = let same : node.Int sign w ≡ z = cc in subst IsWord same h
     by_case false h e = absurd cc
 
 abbrev sized : Sign → List ℕ → Option TypeNode

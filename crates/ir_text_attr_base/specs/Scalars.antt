@@ -13,9 +13,13 @@ abbrev pub begins_zero : List ℕ → Bool
 begins_zero [] = true
 begins_zero (d ∷ ds) = d == 48
 
+-- a number as a width
+abbrev pub within : ℕ → Option ℕ
+within n = if is_width n then Some n else None
+
 -- a width is written in decimal, without a zero in front
 abbrev pub width_of : List ℕ → Option ℕ
-width_of ds = if (not (begins_zero ds) && list_all is_ascii_digit ds) && is_width (integer_of ds) then Some (integer_of ds) else None
+width_of ds = if not (begins_zero ds) && list_all is_ascii_digit ds then within (integer_of ds) else None
 
 -- behind an `s` or a `u`
 abbrev pub signed_of_word : ℕ → List ℕ → Option TypeNode

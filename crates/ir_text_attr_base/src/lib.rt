@@ -3,4 +3,6 @@
 
 pub mod error;
 pub mod laws;
+mod scalars;
 pub mod steps;
+pub mod types;

@@ -1,7 +1,9 @@
 //! The types that are one word.
 ghost use Rattle.std.specs.Prelude.{◌≡◌, IfSome, option_map};
+ghost use Rattle.std.specs.List.{list_all};
+ghost use Rattle.std.specs.Char.{is_ascii_digit};
 ghost use Rattle.ir_types.specs.Things.{Things, TypeIsOf};
-ghost use Rattle.ir_text_attr_base.specs.Scalars.{width_of, scalar_of, integer_type_of, signed_of_word, begins_zero};
+ghost use Rattle.ir_text_attr_base.specs.Scalars.{width_of, scalar_of, within, begins_zero};
 
 use ir_text_base::numbers::integer_value;
 use ir_types::node::{Sign, TypeNode};
@@ -15,19 +17,32 @@ fn begins_zero(digits: &[u8]) -> bool
     }
 }
 
-/// The width that digits write, from 1 to 64, in decimal and without a zero in front.
-fn width_of(digits: &[u8]) -> Option<u32>
-    ensures { result ≡ width_of digits.now }
+fn are_digits(bytes: &[u8]) -> bool
+    ensures { result ≡ list_all is_ascii_digit bytes.now }
 {
-    if begins_zero(digits) || !digits.iter().all(|digit| digit.is_ascii_digit()) {
-        return None;
-    }
-    let width = integer_value(digits)?;
-    if width >= 1 && width <= 64 {
-        Some(width as u32)
+    bytes.iter().all(|byte| byte.is_ascii_digit())
+}
+
+/// The number as a width, from 1 to 64.
+fn within(number: u128) -> Option<u32>
+    ensures { result ≡ within number }
+{
+    if number >= 1 && number <= 64 {
+        Some(number as u32)
     } else {
         None
     }
+}
+
+/// The width that digits write, from 1 to 64, in decimal and without a zero in front.
+#[tactic(auto, using(crate::proofs::Widths::limit_is, crate::proofs::Widths::limit_passed))]
+fn width_of(digits: &[u8]) -> Option<u32>
+    ensures { result ≡ width_of digits.now }
+{
+    if begins_zero(digits) || !are_digits(digits) {
+        return None;
+    }
+    within(integer_value(digits)?)
 }
 
 /// The integer type of a signedness whose width the digits write.
