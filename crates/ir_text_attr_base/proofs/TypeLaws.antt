@@ -249,7 +249,7 @@ each_term z [] (y ∷ ys) h = absurd h
 each_term z (x ∷ xs) [] h = absurd h
 each_term z (x ∷ xs) (y ∷ ys) h = λ i. terms.next_type (h.0.1 i) (each_term z xs ys h.1 i)
 
-func_stands : (z : Things) (x : List ℕ × List ℕ) (y : List TypeTerm × List TypeTerm) → SignatureStands z x y → IsNodeOf (node.Func x.0 x.1) (Function (terms_of y.0) (terms_of y.1)) z
+pub func_stands : (z : Things) (x : List ℕ × List ℕ) (y : List TypeTerm × List TypeTerm) → SignatureStands z x y → IsNodeOf (node.Func x.0 x.1) (Function (terms_of y.0) (terms_of y.1)) z
 func_stands z x y h = (
   (All-from_recursion (λ t. t < length z.types) x.0 (each_below z x.0 y.0 h.0), All-from_recursion (λ t. t < length z.types) x.1 (each_below z x.1 y.1 h.1)),
   λ i. Function (each_term z x.0 y.0 h.0 i) (each_term z x.1 y.1 h.1 i),

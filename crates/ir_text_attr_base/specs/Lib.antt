@@ -9,4 +9,7 @@ pub mod Scalars
 pub mod TypeReading
 pub mod TypeGrammar
 pub mod Standing
+pub mod Literals
+pub mod AttrReading
+pub mod AttrGrammar
 pub mod Laws

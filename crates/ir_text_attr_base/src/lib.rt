@@ -2,6 +2,7 @@
 #![tactic(auto)]
 
 pub mod error;
+pub mod flag;
 pub mod laws;
 mod scalars;
 pub mod steps;
