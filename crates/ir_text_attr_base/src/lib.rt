@@ -3,6 +3,7 @@
 
 pub mod error;
 pub mod flag;
+pub mod laws;
 mod scalars;
 pub mod steps;
 pub mod types;
