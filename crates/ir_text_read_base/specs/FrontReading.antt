@@ -21,11 +21,12 @@ name_from _ rest = Wrong
 unfoldable pub name_at : Parse Text (List ℕ)
 name_at bytes = of_option (next bytes) >>= λ t. name_from t.0 t.1
 
-abbrev pub some_results : Text → Outcome (Option (List (List ℕ)) × Text)
-some_results bytes = more_at after Equal (λ before. name_at) 256 [] bytes >>= λ x. Read (Some x.0, x.1)
+-- names up to an equal sign, at most 256
+unfoldable pub names_at : Parse Text (List (List ℕ))
+names_at = more_at after Equal (λ before. name_at) 256 []
 
 abbrev pub results_from : Text → Lexeme → Outcome (Option (List (List ℕ)) × Text)
-results_from bytes (value n) = some_results bytes
+results_from bytes (value n) = names_at bytes >>= λ x. Read (Some x.0, x.1)
 results_from bytes _ = Read (None, bytes)
 
 -- the names of the results, where a name comes first

@@ -2,5 +2,5 @@
 #![tactic(auto)]
 
 pub mod bound;
-mod front;
-mod scope;
+pub mod front;
+pub mod scope;
