@@ -7,7 +7,6 @@ use Rattle.ir_types.specs.declared.node.AttrNode.TheVariants as attr
 use Rattle.ir_types.specs.Things.{Things}
 use Rattle.ir_types.specs.Terms.{name_term}
 use Rattle.ir_types.specs.Words.{is_inherent}
-use Rattle.ir_tree.specs.Meaning.{key_before_in}
 use Rattle.ir_text_attr_base.specs.Outcomes.{Outcome, Read, Wrong, ◌>>=◌, of_option, Parse}
 use Rattle.ir_text_attr_base.specs.Lists.{list_at}
 use Rattle.ir_text_attr_base.specs.Typed.{Typed, after_typed, name_step}
@@ -17,21 +16,14 @@ use Rattle.ir_text_read_base.specs.Entries as keyed
 abbrev pub Entries : Type 0
 Entries = List (ℕ × ℕ)
 
--- whether a key's number is of the row of an operation's name
-abbrev pub is_property_in : Things → ℕ → ℕ → Bool
-is_property_in c op k = is_inherent (name_term c op) (name_term c k)
+-- whether a key is a property of an operation wherever it stands; no key is where no operation is given
+abbrev pub is_property_in : Things → Option ℕ → ℕ → Bool
+is_property_in c None k = false
+is_property_in c (Some op) k = is_inherent (name_term c op) (name_term c k)
 
--- the entries that are there with the things that are known when an entry comes say whether its key is refused
-abbrev pub Refusing : Type 0
-Refusing = Things → ℕ → Entries → Bool
-
--- a key may not stand twice
-abbrev pub twice : Refusing
-twice c k es = keyed.has_key nat_eq (λ _. false) (key_before_in c) k es
-
--- nor may it stand among the properties already, and there must be room for it
-abbrev pub refused_beside : ℕ → Entries → Refusing
-refused_beside op properties c k es = keyed.is_refused nat_eq (is_property_in c op) (key_before_in c) properties k es
+-- whether a key may not come behind these entries
+abbrev pub refused_in : Things → Option ℕ → Entries → ℕ → Entries → Bool
+refused_in c op properties k es = keyed.is_refused nat_eq (is_property_in c op) properties k es
 
 abbrev pub key_from : Things → Lexeme → List ℕ → Outcome (ℕ × Typed)
 key_from c (bare w) rest = name_step w c >>= λ n. Read (n.0, (rest, n.1))
@@ -49,20 +41,20 @@ value_from s None = attr_done attr.Unit s
 unfoldable pub value_at : Parse Typed ℕ
 value_at s = value_from s (after_typed Equal s)
 
-unfoldable pub entry_at : Refusing → Entries → Parse Typed (ℕ × ℕ)
-entry_at refused before s = do
+unfoldable pub entry_at : Option ℕ → Entries → Entries → Parse Typed (ℕ × ℕ)
+entry_at op properties before s = do
   k ← key_at s
-  a ← (if refused k.1.1 k.0 before then Wrong else value_at k.1)
+  a ← (if refused_in k.1.1 op properties k.0 before then Wrong else value_at k.1)
   Read ((k.0, a.0), a.1)
 
--- entries up to the closing brace
-unfoldable pub entries_at : Refusing → ℕ → Parse Typed Entries
-entries_at refused room = list_at after_typed CloseCurly (entry_at refused) room
+-- entries up to the closing brace; more than 512 are refused before
+unfoldable pub entries_at : Option ℕ → Entries → Parse Typed Entries
+entries_at op properties = list_at after_typed CloseCurly (entry_at op properties) 513
 
 unfoldable pub some_properties : Parse Typed Entries
 some_properties s = do
   o ← of_option (after_typed OpenCurly s)
-  es ← entries_at twice 256 o
+  es ← entries_at None [] o
   g ← of_option (after_typed Greater es.1)
   Read (es.0, g)
 
@@ -75,7 +67,7 @@ unfoldable pub properties_at : Parse Typed Entries
 properties_at s = properties_from s (after_typed Less s)
 
 abbrev pub attributes_from : ℕ → Entries → Typed → Option Typed → Outcome (Entries × Typed)
-attributes_from op properties s (Some c) = entries_at (refused_beside op properties) 513 c
+attributes_from op properties s (Some c) = entries_at (Some op) properties c
 attributes_from op properties s None = Read ([], s)
 
 -- the attribute dictionary, where it is written

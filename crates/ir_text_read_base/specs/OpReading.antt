@@ -1,5 +1,5 @@
 -- Reading operations.
-use Rattle.std.specs.Prelude.{ℕ, zero, suc, ◌+◌, Bool, true, false, nat_eq, nat_lt, if◌then◌else◌, List, [], ◌∷◌, ◌++◌, length, map, is_some, Option, Some, None}
+use Rattle.std.specs.Prelude.{ℕ, zero, suc, ◌+◌, Bool, true, false, nat_lt, if◌then◌else◌, List, [], ◌∷◌, ◌++◌, length, map, is_some, Option, Some, None}
 use Rattle.std.specs.Str.{bytes_eq}
 use Rattle.ir_text_base.specs.declared.token.Mark.{Mark}
 use Rattle.ir_text_base.specs.declared.token.Mark.TheVariants.{OpenRound, CloseRound, OpenCurly, CloseCurly, Colon}
@@ -123,8 +123,8 @@ op_of c id name operands properties attributes outputs regions =
       name = name;
       operands = values_of operands;
       results = outputs;
-      properties = keyed.properties_of nat_eq (is_property_in c name) (key_before_in c) properties attributes;
-      attributes = keyed.attributes_of nat_eq (is_property_in c name) (key_before_in c) attributes;
+      properties = keyed.properties_of (is_property_in c (Some name)) (key_before_in c) properties attributes;
+      attributes = keyed.attributes_of (is_property_in c (Some name)) (key_before_in c) attributes;
     }) (regions_of regions)
 
 -- behind the regions
