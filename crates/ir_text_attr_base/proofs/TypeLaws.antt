@@ -30,7 +30,7 @@ use Rattle.ir_types.proofs.Calls.{no_first}
 use Rattle.ir_types.proofs.AcceptedCalls.{accepted_type, neither_back}
 use Rattle.ir_text_attr_base.specs.Outcomes.{Outcome, Read, Wrong, Full, ◌>>=◌, of_option, interned, Parse}
 use Rattle.ir_text_attr_base.specs.Typed.{Typed, after_typed, type_step}
-use Rattle.ir_text_attr_base.specs.Scalars.{width_of, begins_zero, signed_of_word, integer_type_of, scalar_of, index_word}
+use Rattle.ir_text_attr_base.specs.Scalars.{within, width_of, begins_zero, signed_of_word, integer_type_of, scalar_of, index_word}
 use Rattle.ir_text_attr_base.specs.TypeReading.{many, type_done, scalar_from, scalar_at, types_at, outputs_from, outputs_at, signature_at, function_at, type_from as type_read_from, type_at, function_type_at}
 use Rattle.ir_text_attr_base.specs.Grammars.{Grammar, Then, Done, DoneIf, IsMark, Token}
 use Rattle.ir_text_attr_base.specs.TypeGrammar.{terms_of, IsScalar, IsTypes, IsOutputs, IsSignature, IsFunction, IsType, IsFunctionType}
@@ -114,11 +114,12 @@ both_second : (a b : Bool) → (a && b) ≡ true → b ≡ true
 both_second true b e = e
 both_second false b e = absurd cc
 
-width_word : (sign : Sign) (b : Bool) (w : ℕ) (z : TypeNode) → option_map (node.Int sign) (if b && is_width w then Some w else None) ≡ Some z → IsWord z
-width_word sign b w z e = by_case (b && is_width w) refl e
+width_word : (sign : Sign) (b : Bool) (w : ℕ) (z : TypeNode) → option_map (node.Int sign) (if b then within w else None) ≡ Some z → IsWord z
+width_word sign false w z e = absurd cc
+width_word sign true w z e = by_case (is_width w) refl e
   where
-    by_case : (t : Bool) → (b && is_width w) ≡ t → option_map (node.Int sign) (if t then Some w else None) ≡ Some z → IsWord z
-    by_case true h e = let same : node.Int sign w ≡ z = cc in subst IsWord same (both_second b (is_width w) h)
+    by_case : (t : Bool) → is_width w ≡ t → option_map (node.Int sign) (if t then Some w else None) ≡ Some z → IsWord z
+    by_case true h e = let same : node.Int sign w ≡ z = cc in subst IsWord same h
     by_case false h e = absurd cc
 
 abbrev sized : Sign → List ℕ → Option TypeNode
@@ -193,7 +194,7 @@ each_term z [] (y ∷ ys) h = absurd h
 each_term z (x ∷ xs) [] h = absurd h
 each_term z (x ∷ xs) (y ∷ ys) h = λ i. terms.next_type (h.0.1 i) (each_term z xs ys h.1 i)
 
-func_stands : (z : Things) (x : List ℕ × List ℕ) (y : List TypeTerm × List TypeTerm) → SignatureStands z x y → IsNodeOf (node.Func x.0 x.1) (Function (terms_of y.0) (terms_of y.1)) z
+pub func_stands : (z : Things) (x : List ℕ × List ℕ) (y : List TypeTerm × List TypeTerm) → SignatureStands z x y → IsNodeOf (node.Func x.0 x.1) (Function (terms_of y.0) (terms_of y.1)) z
 func_stands z x y h = (
   (All-from_recursion (λ t. t < length z.types) x.0 (each_below z x.0 y.0 h.0), All-from_recursion (λ t. t < length z.types) x.1 (each_below z x.1 y.1 h.1)),
   λ i. Function (each_term z x.0 y.0 h.0 i) (each_term z x.1 y.1 h.1 i),
