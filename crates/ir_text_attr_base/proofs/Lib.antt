@@ -6,3 +6,5 @@ pub mod Worlds
 pub mod TextLaws
 pub mod TypeLaws
 pub mod Unique
+pub mod TokenLaws
+pub mod AttrLaws
