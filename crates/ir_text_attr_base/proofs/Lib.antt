@@ -8,3 +8,5 @@ pub mod TypeLaws
 pub mod Unique
 pub mod Numbered
 pub mod Magnitudes
+pub mod TokenLaws
+pub mod AttrLaws

@@ -5,6 +5,7 @@ pub mod attributes;
 pub mod error;
 pub mod flag;
 mod flags;
+pub mod laws;
 mod literals;
 mod scalars;
 pub mod steps;
