@@ -1,5 +1,6 @@
 -- A reader into numbers, against a grammar of what the numbers stand for. All is said in each sound context that grows from the present one.
-use Rattle.std.proofs.Common.{◌≡◌, ℕ, zero, suc, List, [], ◌∷◌, ◌++◌, Option, Some, None, refl, sym, ap, subst, ◌∙◌, ◌⊎◌, inl, inr, ⊎_elim}
+use Rattle.std.specs.Prelude.{if◌then◌else◌}
+use Rattle.std.proofs.Common.{◌≡◌, ℕ, zero, suc, Bool, true, false, true≢false, List, [], ◌∷◌, ◌++◌, Option, Some, None, refl, sym, ap, subst, ◌∙◌, ◌⊎◌, inl, inr, ⊎_elim}
 use Rattle.ir_text_base.specs.declared.token.Mark.{Mark}
 use Rattle.ir_text_base.specs.declared.token.Mark.TheVariants.{Comma}
 use Rattle.ir_types.specs.Things.{Things, Grows}
@@ -20,6 +21,12 @@ bind_read Full f y e = absurd cc
 pub option_read : {A B : Type 0} (o : Option A) (f : A → Outcome B) (y : B) → (of_option o >>= f) ≡ Read y → (x : A) × (o ≡ Some x) × (f x ≡ Read y)
 option_read None f y e = absurd cc
 option_read (Some x) f y e = (x, refl, e)
+
+-- reading in three steps, whichever two come first
+pub bind_assoc : {A B C : Type 0} (o : Outcome A) (f : A → Outcome B) (g : B → Outcome C) → ((o >>= f) >>= g) ≡ (o >>= λ x. f x >>= g)
+bind_assoc (Read x) f g = refl
+bind_assoc Wrong f g = refl
+bind_assoc Full f g = refl
 
 -- where an outcome is full
 pub bind_full : {A B : Type 0} (o : Outcome A) (f : A → Outcome B) → (o >>= f) ≡ Full → (o ≡ Full) ⊎ ((x : A) × (o ≡ Read x) × (f x ≡ Full))
@@ -77,13 +84,76 @@ module _ {S T : Type 0} (things : S → Things) (Same : Things → S → T → T
   reads_then R R' s o q y mid y' t' (inl e) next = inl (ap (λ o. o >>= q) e)
   reads_then R R' s o q y mid y' t' (inr k) next = rw k.2 (reads_on R' s k.1 (q (k.0, k.1)) y' t' k.3.grows (next k.0 k.1 k.3))
 
-  -- a reader that is another, place by place
-  pub exact_as : {A B : Type 0} (c : Things) (R : Things → A → B → Type 0) (p q : Parse S A) (P : Grammar T B) → ((s : S) → p s ≡ q s) → Exact c R q P → Exact c R p P
-  exact_as c R p q P same k = record {
-    found = λ s t x s' g sound h e. k.found s t x s' g sound h (sym (same s) ∙ e);
-    only = λ s t y t' g sound h j. subst (λ o. Reads R s o y t') (sym (same s)) (k.only s t y t' g sound h j);
-    full = λ s t g sound h e. k.full s t g sound h (sym (same s) ∙ e);
+  -- a reader that is another from the present context on
+  pub exact_where : {A B : Type 0} (c : Things) (R : Things → A → B → Type 0) (p q : Parse S A) (P : Grammar T B) → ((s : S) → Grows c (things s) → IsSound (things s) → p s ≡ q s) → Exact c R q P → Exact c R p P
+  exact_where c R p q P same k = record {
+    found = λ s t x s' g sound h e. k.found s t x s' g sound h (sym (same s g sound) ∙ e);
+    only = λ s t y t' g sound h j. subst (λ o. Reads R s o y t') (sym (same s g sound)) (k.only s t y t' g sound h j);
+    full = λ s t g sound h e. k.full s t g sound h (sym (same s g sound) ∙ e);
   }
+
+  -- a grammar that says the same
+  pub exact_spelled : {A B : Type 0} (c : Things) (R : Things → A → B → Type 0) (p : Parse S A) (P Q : Grammar T B) → ((y : B) (t t' : T) → P y t t' → Q y t t') → ((y : B) (t t' : T) → Q y t t' → P y t t') → Exact c R p P → Exact c R p Q
+  exact_spelled c R p P Q into from k = record {
+    found = λ s t x s' g sound h e. let f = k.found s t x s' g sound h e in (f.0, f.1, into f.0 t f.1 f.2, f.3);
+    only = λ s t y t' g sound h j. k.only s t y t' g sound h (from y t t' j);
+    full = k.full;
+  }
+
+  -- a relation that follows
+  pub exact_for : {A B : Type 0} (c : Things) (R R' : Things → A → B → Type 0) (p : Parse S A) (P : Grammar T B) → ((z : Things) (x : A) (y : B) → R z x y → R' z x y) → Exact c R p P → Exact c R' p P
+  exact_for {A = A} {B = B} c R R' p P follows k = record {
+    found = λ s t x s' g sound h e. let f = k.found s t x s' g sound h e in (f.0, f.1, f.2, step_for s x f.0 s' f.1 f.3);
+    only = λ s t y t' g sound h j. reads_for s (p s) y t' (k.only s t y t' g sound h j);
+    full = k.full;
+  }
+    where
+      step_for : (s : S) (x : A) (y : B) (s' : S) (t' : T) → Step R s x y s' t' → Step R' s x y s' t'
+      step_for s x y s' t' k = record { grows = k.grows; sound = k.sound; stands = λ z g w. follows z x y (k.stands z g w); agree = k.agree }
+
+      reads_for : (s : S) (o : Outcome (A × S)) (y : B) (t' : T) → Reads R s o y t' → Reads R' s o y t'
+      reads_for s o y t' (inl e) = inl e
+      reads_for s o y t' (inr j) = inr (j.0, j.1, j.2, step_for s j.0 y j.1 t' j.3)
+
+  -- nothing is read and nothing is spelled
+  pub nothing_exact : {A B : Type 0} (c : Things) (R : Things → A → B → Type 0) → Exact {A = A} {B = B} c R (λ s. Wrong) (λ y old new. ⊥)
+  nothing_exact c R = record { found = λ s t x s' g sound h e. absurd cc; only = λ s t y t' g sound h k. absurd k; full = λ s t g sound h e. absurd cc }
+
+  -- one of two, by a test
+  pub choice_exact : {A B : Type 0} (c : Things) (R : Things → A → B → Type 0) (b : Bool) (p q : Parse S A) (P Q : Grammar T B) → Exact c R p P → Exact c R q Q
+      → Exact c R (λ s. if b then p s else q s) (λ y old new. ((b ≡ true) × P y old new) ⊎ ((b ≡ false) × Q y old new))
+  choice_exact {B = B} c R true p q P Q first second = exact_spelled c R p P (λ y old new. ((true ≡ true) × P y old new) ⊎ ((true ≡ false) × Q y old new)) (λ y t t' k. inl (refl, k)) back first
+    where
+      back : (y : B) (t t' : T) → ((true ≡ true) × P y t t') ⊎ ((true ≡ false) × Q y t t') → P y t t'
+      back y t t' (inl k) = k.1
+      back y t t' (inr k) = absurd (true≢false k.0)
+  choice_exact {B = B} c R false p q P Q first second = exact_spelled c R q Q (λ y old new. ((false ≡ true) × P y old new) ⊎ ((false ≡ false) × Q y old new)) (λ y t t' k. inr (refl, k)) back second
+    where
+      back : (y : B) (t t' : T) → ((false ≡ true) × P y t t') ⊎ ((false ≡ false) × Q y t t') → Q y t t'
+      back y t t' (inl k) = absurd (true≢false (sym k.0))
+      back y t t' (inr k) = k.1
+
+  -- only where a test holds
+  pub guard_exact : {A B : Type 0} (c : Things) (R : Things → A → B → Type 0) (b : Bool) (p : Parse S A) (P : Grammar T B) → Exact c R p P → Exact c R (λ s. if b then p s else Wrong) (λ y old new. (b ≡ true) × P y old new)
+  guard_exact {A = A} {B = B} c R b p P first =
+      exact_spelled c R (λ s. if b then p s else Wrong) (λ y old new. ((b ≡ true) × P y old new) ⊎ ((b ≡ false) × ⊥)) (λ y old new. (b ≡ true) × P y old new) into (λ y t t' k. inl k)
+      (choice_exact c R b p (λ s. Wrong) P (λ y old new. ⊥) first (nothing_exact c R))
+    where
+      into : (y : B) (t t' : T) → ((b ≡ true) × P y t t') ⊎ ((b ≡ false) × ⊥) → (b ≡ true) × P y t t'
+      into y t t' (inl k) = k
+      into y t t' (inr k) = absurd k.1
+
+  -- only where there is a value
+  pub some_exact : {A B N : Type 0} (c : Things) (R : Things → A → B → Type 0) (o : Option N) (p : N → Parse S A) (P : N → Grammar T B) → ((n : N) → Exact c R (p n) (P n))
+      → Exact c R (λ s. of_option o >>= λ n. p n s) (λ y old new. (n : N) × (o ≡ Some n) × P n y old new)
+  some_exact {B = B} {N = N} c R None p P each = exact_spelled c R (λ s. Wrong) (λ y old new. ⊥) (λ y old new. (n : N) × (None ≡ Some n) × P n y old new) (λ y t t' k. absurd k) back (nothing_exact c R)
+    where
+      back : (y : B) (t t' : T) → (n : N) × (None ≡ Some n) × P n y t t' → ⊥
+      back y t t' k = let e : None ≡ Some k.0 = k.1 in absurd cc
+  some_exact {B = B} {N = N} c R (Some v) p P each = exact_spelled c R (p v) (P v) (λ y old new. (n : N) × (Some v ≡ Some n) × P n y old new) (λ y t t' k. (v, refl, k)) back (each v)
+    where
+      back : (y : B) (t t' : T) → (n : N) × (Some v ≡ Some n) × P n y t t' → P v y t t'
+      back y t t' k = let same : k.0 ≡ v = cc (k.1) in subst (λ n. P n y t t') same k.2
 
   pub then_exact : {A A' B B' : Type 0} (c : Things) (R : Things → A → B → Type 0) (R' : Things → A' → B' → Type 0) (p : Parse S A) (P : Grammar T B) (q : A → Parse S A') (Q : B → Grammar T B')
       → Exact c R p P → ((d : Things) (x : A) (y : B) → Grows c d → From (λ z. R z x y) d → Exact d R' (q x) (Q y)) → Exact c R' (λ s. p s >>= λ x. q x.0 x.1) (Then P Q)

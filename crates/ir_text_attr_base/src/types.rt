@@ -18,14 +18,14 @@ use ir_types_base::lists::Items;
 use std::alloc::{AllocError, Global};
 
 /// The most items of a list that has no limit of its own: a text has no more bytes.
-const MANY: usize = 16_777_216;
+pub(crate) const MANY: usize = 16_777_216;
 
 /// How deep a type or an attribute may be.
 pub const MOST_DEPTH: u32 = 32;
 
 /// The number of a type that stands in front of these bytes.
 #[tactic(auto, unfolding(crate::specs::TypeReading::type_done))]
-fn kept<'a>(
+pub(crate) fn kept<'a>(
     ctx: &mut Context,
     node: TypeNode,
     rest: &'a [u8],
