@@ -8,7 +8,7 @@ use Rattle.ir_text_base.specs.Scopes.{Scopes, bound, find}
 use Rattle.ir_types.specs.Things.{Things}
 use Rattle.ir_tree.specs.declared.value.Value.{Value}
 use Rattle.ir_tree.specs.declared.value.Value.TheVariants as values
-use Rattle.ir_tree.specs.Tree.{Op, op, Region, empty, block, regions_of, ops_of}
+use Rattle.ir_tree.specs.Tree.{Op, Region}
 use Rattle.ir_tree.specs.Meaning.{isolated_in, key_before_in}
 use Rattle.ir_text_attr_base.specs.Marks.{after}
 use Rattle.ir_text_attr_base.specs.Outcomes.{Outcome, Read, Wrong, ◌>>=◌, of_option, Parse}
@@ -18,7 +18,7 @@ use Rattle.ir_text_attr_base.specs.TypeReading.{type_at, function_type_at}
 use Rattle.ir_text_read_base.specs.declared.bound.Bound.{Bound}
 use Rattle.ir_text_read_base.specs.States.{State, to_bytes, after_in, typed, with_typed, with_scopes, inside, outside}
 use Rattle.ir_text_read_base.specs.FrontReading.{Start, start_at, name_at}
-use Rattle.ir_text_read_base.specs.Entries as keyed
+use Rattle.ir_text_read_base.specs.Made.{region_of, made}
 use Rattle.ir_text_read_base.specs.EntryReading.{Entries, is_property_in, properties_at, attributes_at}
 
 -- ---- names
@@ -85,12 +85,6 @@ module _ (close : Mark) (p : Parse State Op) where
   ops_at zero items s = Wrong
   ops_at (suc room) items s = ops_from (ops_at room) items s (after_in close s)
 
--- with no label and no operation there is no block
-abbrev pub region_of : Option (List ℕ) → List Op → Region
-region_of (Some args) os = block args (ops_of os)
-region_of None [] = empty
-region_of None (o ∷ os) = block [] (ops_of (o ∷ os))
-
 -- the names of a region are hidden again at its end
 unfoldable pub region_at : Parse State (List Op) → ℕ → Bool → List Region → Parse State Region
 region_at p id isolated before s = do
@@ -115,17 +109,9 @@ types_of = map (λ b. b.ty)
 abbrev pub values_of : List Bound → List Value
 values_of = map (λ b. b.value)
 
--- the operation with its dictionaries sorted; a key of its row that was written among the attributes is a property
 abbrev pub op_of : Things → ℕ → ℕ → List Bound → Entries → Entries → List ℕ → List Region → Op
 op_of c id name operands properties attributes outputs regions =
-    op (record {
-      id = id;
-      name = name;
-      operands = values_of operands;
-      results = outputs;
-      properties = keyed.properties_of (is_property_in c (Some name)) (key_before_in c) properties attributes;
-      attributes = keyed.attributes_of (is_property_in c (Some name)) (key_before_in c) attributes;
-    }) (regions_of regions)
+    made (is_property_in c (Some name)) (key_before_in c) id name (values_of operands) properties attributes outputs regions
 
 -- behind the regions
 unfoldable pub tail_at : ℕ → ℕ → Start → Entries → List Region → Parse State Op
