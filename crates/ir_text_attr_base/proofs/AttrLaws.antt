@@ -2,13 +2,13 @@
 use Rattle.std.specs.Prelude.{if◌then◌else◌, nat_le, ℤ}
 use Rattle.std.specs.List.{list_all}
 use Rattle.std.specs.Str.{bytes_eq}
-use Rattle.std.proofs.Common.{◌≡◌, ◌≤◌, ℕ, Bool, true, false, List, [], ◌∷◌, length, Option, Some, None, slice_get, refl, sym, ap, subst, ◌∙◌, ◌⊎◌, inl, inr, ⊎_elim}
+use Rattle.std.proofs.Common.{◌≡◌, ℕ, Bool, true, false, List, [], ◌∷◌, Option, Some, None, slice_get, refl, sym, ap, subst, ◌∙◌, ◌⊎◌, inl, inr, ⊎_elim}
 use Rattle.std.proofs.lemmas.Option.{slice_get_within, get_or_from_slice_get}
 use Rattle.ir_text_base.specs.declared.token.Mark.{Mark}
 use Rattle.ir_text_base.specs.declared.token.Mark.TheVariants.{OpenRound, Less, Greater, Colon, Minus}
 use Rattle.ir_text_base.specs.Strings.{string_bytes}
 use Rattle.ir_text_base.specs.Numbers.{integer_of, below_limit}
-use Rattle.ir_text_base.specs.Tokens.{Lexeme, mark, integer, float, string, bare, value, label, hash, bang, symbol, quoted, next}
+use Rattle.ir_text_base.specs.Tokens.{Lexeme, mark, integer, string, bare, hash, next}
 use Rattle.ir_types.specs.declared.node.Sign.TheVariants.{Signless}
 use Rattle.ir_types.specs.declared.node.TypeNode.TheVariants as type
 use Rattle.ir_types.specs.declared.node.AttrNode.{AttrNode}
@@ -24,7 +24,7 @@ use Rattle.ir_types.specs.Dictionaries.{kept}
 use Rattle.ir_types.specs.Ranges.{is_value_number, is_literal_number}
 use Rattle.ir_types.specs.Same.{same_attr}
 use Rattle.ir_types.specs.Interning.{with_name, with_attr}
-use Rattle.ir_types.specs.Reasons.{first_reason, full_reason, depth_reason, value_reason, count_reason, key_reason, name_reason, type_fault, attr_fault, attr_reason}
+use Rattle.ir_types.specs.Reasons.{first_reason, full_reason, depth_reason, count_reason, key_reason, name_reason, type_fault, attr_fault, attr_reason}
 use Rattle.ir_types.specs.Sound.{IsSound}
 use Rattle.ir_types.proofs.Growth.{grows_refl, grows_trans, grows_name, grows_attr}
 use Rattle.ir_types.proofs.Terms.{attr_term_is, attr_node_stays}
@@ -35,11 +35,10 @@ use Rattle.ir_types.proofs.AcceptedCalls.{accepted_name, accepted_attr, neither_
 use Rattle.ir_text_attr_base.specs.declared.flag.Flag as code
 use Rattle.ir_text_attr_base.specs.Outcomes.{Outcome, Read, Wrong, Full, ◌>>=◌, of_option, interned, Parse}
 use Rattle.ir_text_attr_base.specs.Typed.{Typed, after_typed, name_step, attr_step}
-use Rattle.ir_text_attr_base.specs.Lists.{more_at}
 use Rattle.ir_text_attr_base.specs.Literals.{Word, Truth, UnitWord, TypeWord, word_of, truth_value, signed_number, value_of, overflow_word, none_word, flag_of, has_nsw, has_nuw}
 use Rattle.ir_text_attr_base.specs.TypeReading.{many, type_done, type_at}
 use Rattle.ir_text_attr_base.specs.AttrReading.{attr_done, truth_at, string_at, type_attr_at, suffix_from, suffix_at, literal_done, literal_at, negative_from, negative_at, flag_from, flag_at, some_flags_at, no_flags_at, flags_from, flags_at, overflow_at, word_attr, mark_attr, attr_from, attr_at}
-use Rattle.ir_text_attr_base.specs.Grammars.{Grammar, Then, Done, DoneIf, After, Either, IsMore, IsMark, Token}
+use Rattle.ir_text_attr_base.specs.Grammars.{Grammar, Then, Done, DoneIf, After, IsMore, IsMark, Token}
 use Rattle.ir_text_attr_base.specs.TypeGrammar.{IsType}
 use Rattle.ir_text_attr_base.specs.AttrGrammar.{IsFine, IsTypeAttr, IsSuffix, IsLiteralOf, IsLiteral, IsNegative, IsFlag, IsFlags, IsOverflow, IsWordAttr, IsMarkAttr, IsAttrFrom, IsAttr}
 use Rattle.ir_text_attr_base.specs.Worlds.{From}
@@ -188,7 +187,7 @@ attr_done_exact c node y allowed r = record {
 abbrev pub Text : Type 0
 Text = List ℕ
 
-module _ {B C : Type 0} (F : Type 0) (z : B) (Q : B → Grammar Text C) where
+module _ {B C : Type 0} (z : B) (Q : B → Grammar Text C) where
   pub done_then : (y : C) (t t' : Text) → Then (Done z) Q y t t' → Q z y t t'
   done_then y t t' k = subst (λ m. Q z y m t') k.2.1 (subst (λ b. Q b y k.1 t') k.2.0 k.3)
 
@@ -226,14 +225,11 @@ string_exact raw c =
     exact_where things Same c AttrStands (string_at raw) (λ s. name_at (string_bytes raw) s >>= λ n. attr_done (attr.Str n.0) n.1) (IsFine (String (string_bytes raw)))
     (λ s g sound. sym (bind_assoc (name_step (string_bytes raw) s.1) (λ n. done (moved s n)) (λ n. attr_done (attr.Str n.0) n.1)))
     (exact_spelled things Same c AttrStands (λ s. name_at (string_bytes raw) s >>= λ n. attr_done (attr.Str n.0) n.1) (Then (Done (string_bytes raw)) (λ y. IsFine (String y))) (IsFine (String (string_bytes raw)))
-    (done_then (Unit {0}) (string_bytes raw) (λ y. IsFine (String y))) (then_done (Unit {0}) (string_bytes raw) (λ y. IsFine (String y)))
+    (done_then (string_bytes raw) (λ y. IsFine (String y))) (then_done (string_bytes raw) (λ y. IsFine (String y)))
     (then_exact things Same c NameStands AttrStands (name_at (string_bytes raw)) (Done (string_bytes raw)) (λ n. attr_done (attr.Str n)) (λ y. IsFine (String y)) (name_exact c (string_bytes raw)) (λ d n y g r.
     attr_done_exact d (attr.Str n) (String y) (refl, refl) (λ z k w. string_node z n y (r z k w)))))
 
--- a signless integer type, whose width is one
-abbrev width_node : ℕ → TypeTerm
-width_node w = Integer Signless w
-
+-- a signless integer type whose width is fine
 signless_exact : (w : ℕ) → type_fault (Integer Signless w) ≡ None → (c : Things) → Exact things Same c TypeStands (type_done (type.Int Signless w)) (Done (Integer Signless w))
 signless_exact w fine c = done_if_exact c TypeStands (type_done (type.Int Signless w)) (type_fault (Integer Signless w) ≡ None) (Integer Signless w) fine (type_done_exact c (type.Int Signless w) (Integer Signless w) (λ z g k. (tt, refl)))
 
@@ -241,7 +237,7 @@ truth_exact : (b : Bool) (c : Things) → Exact things Same c AttrStands (truth_
 unfolding truth_at
 truth_exact b c =
     exact_spelled things Same c AttrStands (λ s. type_done (type.Int Signless 1) s >>= λ t. attr_done (attr.Int t.0 (truth_value b)) t.1) (Then (Done (Integer Signless 1)) (λ y. IsFine (IntegerOf y (truth_value b)))) (IsFine (IntegerOf (Integer Signless 1) (truth_value b)))
-    (done_then (Unit {0}) (Integer Signless 1) (λ y. IsFine (IntegerOf y (truth_value b)))) (then_done (Unit {0}) (Integer Signless 1) (λ y. IsFine (IntegerOf y (truth_value b))))
+    (done_then (Integer Signless 1) (λ y. IsFine (IntegerOf y (truth_value b)))) (then_done (Integer Signless 1) (λ y. IsFine (IntegerOf y (truth_value b))))
     (then_exact things Same c TypeStands AttrStands (type_done (type.Int Signless 1)) (Done (Integer Signless 1)) (λ t. attr_done (attr.Int t (truth_value b))) (λ y. IsFine (IntegerOf y (truth_value b))) (signless_exact 1 refl c) (λ d t y g r.
     attr_done_exact d (attr.Int t (truth_value b)) (IntegerOf y (truth_value b)) (refl, refl) (λ z k w. integer_node (truth_value b) z t y (r z k w))))
 

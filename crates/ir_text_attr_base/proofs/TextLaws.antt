@@ -1,16 +1,16 @@
 -- Marks as they stand in a text.
-use Rattle.std.proofs.Common.{◌≡◌, ℕ, Bool, true, false, cond, List, Option, Some, None, refl, sym, ap, subst, ◌∙◌}
+use Rattle.std.proofs.Common.{◌≡◌, ℕ, true, cond, List, Option, Some, None, refl, sym, ap, subst, ◌∙◌}
 use Rattle.std.specs.Prelude.{option_map, option_and_then, ◌==◌, if◌then◌else◌}
 use Rattle.std.proofs.lemmas.Bool.{eqb-true}
 use Rattle.std.proofs.lemmas.Option.{cond_some}
 use Rattle.ir_text_base.specs.declared.token.Mark.{Mark}
 use Rattle.ir_text_base.specs.declared.token.Mark.TheVariants.{OpenRound, CloseRound, OpenCurly, CloseCurly, OpenSquare, CloseSquare, Less, Greater, Comma, Equal, Colon, DoubleColon, Minus, Arrow, Question, Star, End}
-use Rattle.ir_text_base.specs.Tokens.{Lexeme, mark, integer, float, string, bare, value, label, hash, bang, symbol, quoted, next}
-use Rattle.ir_types.specs.Things.{Things, Grows}
+use Rattle.ir_text_base.specs.Tokens.{Lexeme, mark, next}
+use Rattle.ir_types.specs.Things.{Things}
 use Rattle.ir_types.specs.Sound.{IsSound}
 use Rattle.ir_types.proofs.Growth.{grows_refl}
 use Rattle.ir_text_attr_base.specs.Marks.{mark_code, is_mark, after}
-use Rattle.ir_text_attr_base.specs.Grammars.{Token, IsMark, Not}
+use Rattle.ir_text_attr_base.specs.Grammars.{IsMark, Not}
 use Rattle.ir_text_attr_base.specs.Typed.{Typed, after_typed}
 use Rattle.ir_text_attr_base.specs.Worlds.{From}
 use Rattle.ir_text_attr_base.proofs.Worlds.{Marks}

@@ -1,7 +1,7 @@
 -- What the next token decides.
-use Rattle.std.proofs.Common.{◌≡◌, ℕ, List, Option, Some, refl, sym, subst}
+use Rattle.std.proofs.Common.{◌≡◌, ℕ, List, Some, refl, sym, subst}
 use Rattle.ir_text_base.specs.Tokens.{Lexeme, next}
-use Rattle.ir_types.specs.Things.{Things, Grows}
+use Rattle.ir_types.specs.Things.{Things}
 use Rattle.ir_types.proofs.Growth.{grows_refl}
 use Rattle.ir_text_attr_base.specs.Outcomes.{Outcome, ◌>>=◌, of_option, Parse}
 use Rattle.ir_text_attr_base.specs.Typed.{Typed}

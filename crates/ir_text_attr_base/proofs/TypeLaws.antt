@@ -1,14 +1,14 @@
 -- Types that are read are spelled, and types that are spelled are read.
-use Rattle.std.proofs.Common.{◌≡◌, ◌<◌, ◌≤◌, ℕ, zero, suc, Bool, true, false, cond, List, [], ◌∷◌, length, map, Option, Some, None, slice_get, refl, sym, ap, subst, ◌∙◌, ◌⊎◌, inl, inr, ⊎_elim, leb-true, arith}
+use Rattle.std.proofs.Common.{◌≡◌, ◌<◌, ◌≤◌, ℕ, zero, suc, Bool, true, false, List, [], ◌∷◌, length, map, Option, Some, None, slice_get, refl, sym, ap, subst, ◌∙◌, ◌⊎◌, inl, inr, ⊎_elim, leb-true}
 use Rattle.std.specs.Prelude.{option_map, if◌then◌else◌, ◌&&◌, ◌==◌, not, nat_le}
 use Rattle.std.specs.List.{All, AllByRecursion, list_any, list_all}
 use Rattle.std.specs.Str.{bytes_eq}
 use Rattle.std.specs.Char.{is_ascii_digit}
-use Rattle.std.proofs.lemmas.Option.{cond_some, slice_get_within}
+use Rattle.std.proofs.lemmas.Option.{slice_get_within}
 use Rattle.std.proofs.lemmas.List.Elements.{All-from_recursion}
 use Rattle.ir_text_base.specs.declared.token.Mark.TheVariants.{OpenRound, CloseRound, Arrow}
 use Rattle.ir_text_base.specs.Numbers.{integer_of}
-use Rattle.ir_text_base.specs.Tokens.{Lexeme, mark, integer, float, string, bare, value, label, hash, bang, symbol, quoted, next}
+use Rattle.ir_text_base.specs.Tokens.{Lexeme, bare, next}
 use Rattle.ir_types.specs.declared.node.Sign.{Sign}
 use Rattle.ir_types.specs.declared.node.Sign.TheVariants.{Signless, Signed, Unsigned}
 use Rattle.ir_types.specs.declared.node.TypeNode.{TypeNode}
@@ -29,7 +29,7 @@ use Rattle.ir_types.proofs.Terms.{type_term_is}
 use Rattle.ir_types.proofs.CallNumbers.{type_stands, place_in}
 use Rattle.ir_types.proofs.Calls.{no_first}
 use Rattle.ir_types.proofs.AcceptedCalls.{accepted_type, neither_back}
-use Rattle.ir_text_attr_base.specs.Outcomes.{Outcome, Read, Wrong, Full, ◌>>=◌, of_option, interned, Parse}
+use Rattle.ir_text_attr_base.specs.Outcomes.{Outcome, Read, Full, ◌>>=◌, interned, Parse}
 use Rattle.ir_text_attr_base.specs.Typed.{Typed, after_typed, type_step}
 use Rattle.ir_text_attr_base.specs.Scalars.{within, width_of, begins_zero, signed_of_word, integer_type_of, scalar_of, index_word}
 use Rattle.ir_text_attr_base.specs.TypeReading.{many, type_done, scalar_from, scalar_at, types_at, outputs_from, outputs_at, signature_at, function_at, type_from as type_read_from, type_at, function_type_at}
@@ -38,7 +38,7 @@ use Rattle.ir_text_attr_base.specs.TypeGrammar.{terms_of, IsScalar, IsTypes, IsO
 use Rattle.ir_text_attr_base.specs.Worlds.{From}
 use Rattle.ir_text_attr_base.specs.Standing.{TypeStands}
 use Rattle.ir_text_attr_base.specs.Laws.{FillsUp, TypesStand, SignatureStands}
-use Rattle.ir_text_attr_base.proofs.Worlds.{bind_read, option_read, bind_full, option_full, Exact, Step, Comes, Reads, parts, step_on, reads_on, then_exact, done_exact, after_exact, either_exact, list_exact}
+use Rattle.ir_text_attr_base.proofs.Worlds.{bind_read, option_read, bind_full, option_full, Exact, Step, Comes, Reads, step_on, reads_on, then_exact, done_exact, after_exact, either_exact, list_exact}
 use Rattle.ir_text_attr_base.proofs.TextLaws.{things, Same, text_now, typed_marks}
 
 -- ---- a node that is interned

@@ -1,14 +1,13 @@
 -- Grammars by which a text has one reading.
 use Rattle.std.specs.Prelude.{ℤ}
 use Rattle.std.specs.Str.{bytes_eq}
-use Rattle.std.proofs.Common.{◌≡◌, ℕ, zero, suc, Bool, true, false, true≢false, List, [], ◌∷◌, ◌++◌, Option, Some, None, refl, sym, ap, subst, ◌∙◌, ◌⊎◌, inl, inr}
+use Rattle.std.proofs.Common.{◌≡◌, ℕ, zero, suc, Bool, true, false, true≢false, List, [], ◌∷◌, ◌++◌, Some, None, sym, ap, subst, ◌∙◌, ◌⊎◌, inl, inr}
 use Rattle.std.proofs.lemmas.Option.{some_pair_parts}
 use Rattle.ir_text_base.specs.declared.token.Mark.{Mark}
 use Rattle.ir_text_base.specs.declared.token.Mark.TheVariants.{OpenRound, CloseRound, Less, Greater, Colon, Minus, Arrow, Comma}
 use Rattle.ir_text_base.specs.Strings.{string_bytes}
-use Rattle.ir_text_base.specs.Tokens.{Lexeme, mark, integer, string, bare, hash, next}
+use Rattle.ir_text_base.specs.Tokens.{Lexeme, mark, integer, string, bare, hash}
 use Rattle.ir_types.specs.declared.node.Sign.TheVariants.{Signless}
-use Rattle.ir_types.specs.declared.node.TypeNode.{TypeNode}
 use Rattle.ir_types.specs.Terms.{TypeTerm, Integer, Function, type_from, AttrTerm, IntegerOf, String, TypeOf, Flag, Overflow}
 use Rattle.ir_types.specs.Reasons.{type_fault, attr_fault}
 use Rattle.ir_text_attr_base.specs.declared.flag.Flag as code

@@ -1,5 +1,5 @@
-//! Laws of reading. A context is given by what it holds, and a reading by its definition, of which
-//! the functions of this crate are proved to give each value.
+//! Laws of reading. A context is given by what it holds, and a reading by its definition, which the
+//! contracts of the functions that read name.
 ghost use Rattle.std.specs.Prelude.{◌≡◌, ◌⊎◌, ℕ, List, map};
 ghost use Rattle.std.specs.List.{All};
 ghost use Rattle.ir_types.specs.Sound.{IsSound};
@@ -14,7 +14,8 @@ ghost use Rattle.ir_text_attr_base.specs.TypeGrammar.{IsType, IsFunctionType};
 ghost use Rattle.ir_text_attr_base.specs.TypeReading.{type_at, function_type_at};
 
 /// A type that is read is spelled by the grammar, as the grown context has it; and each type that is
-/// spelled is read, unless the context grows full on the way.
+/// spelled is read, unless the context grows full on the way: then 16,777,216 names, types or
+/// attributes are there.
 pub fn types_are_read_as_spelled()
     ensures found { (depth : ℕ) (c d : Things) (bytes rest : List ℕ) (n : ℕ) → IsSound c → type_at depth (bytes, c) ≡ Read (n, (rest, d)) → Grows c d × IsSound d × IsTypeOf d n × IsType depth (type_term d n) bytes rest }
     ensures only { (depth : ℕ) (c : Things) (bytes rest : List ℕ) (y : TypeTerm) → IsSound c → IsType depth y bytes rest → (type_at depth (bytes, c) ≡ Full) ⊎ ((n : ℕ) × (d : Things) × (type_at depth (bytes, c) ≡ Read (n, (rest, d))) × Grows c d × IsSound d × TypeStands d n y) }
