@@ -1,13 +1,11 @@
 -- What is read are numbers of the context as it is then.
 use Rattle.std.proofs.Common.{◌≡◌, ℕ, List, refl}
-use Rattle.ir_types.specs.declared.node.TypeNode.{TypeNode}
 use Rattle.ir_types.specs.declared.node.TypeNode.TheVariants.{Func}
-use Rattle.ir_types.specs.Things.{Things, IsType, TypeIsOf}
+use Rattle.ir_types.specs.Things.{Things, TypeIsOf}
 use Rattle.ir_types.specs.Sound.{IsSound}
-use Rattle.ir_types.specs.Terms.{TypeTerm}
 use Rattle.ir_types.proofs.Growth.{grows_refl}
 use Rattle.ir_text_attr_base.specs.Outcomes.{Read}
-use Rattle.ir_text_attr_base.specs.TypeReading.{type_done, type_at, signature_at}
+use Rattle.ir_text_attr_base.specs.TypeReading.{type_at, signature_at}
 use Rattle.ir_text_attr_base.specs.TypeGrammar.{IsType as IsTypeText}
 use Rattle.ir_text_attr_base.proofs.TypeLaws.{type_exact, signature_exact, func_stands}
 

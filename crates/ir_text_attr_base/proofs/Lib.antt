@@ -7,6 +7,5 @@ pub mod TextLaws
 pub mod TypeLaws
 pub mod Unique
 pub mod Numbered
-pub mod Magnitudes
 pub mod TokenLaws
 pub mod AttrLaws

@@ -1,10 +1,10 @@
 -- Lists read one item after the other, as a loop does, over any state.
-use Rattle.std.proofs.Common.{◌≡◌, ℕ, suc, ◌+◌, ◌-◌, ◌<◌, ◌≤◌, List, [], ◌∷◌, ◌++◌, Option, Some, None, refl, sym, ap, ◌∙◌, arith}
+use Rattle.std.proofs.Common.{◌≡◌, ℕ, suc, ◌+◌, ◌-◌, ◌<◌, ◌≤◌, List, [], ◌∷◌, ◌++◌, Option, Some, None, refl, sym, ◌∙◌, arith}
 use Rattle.ir_text_base.specs.declared.token.Mark.{Mark}
 use Rattle.ir_text_base.specs.declared.token.Mark.TheVariants.{Comma}
 use Rattle.ir_text_attr_base.specs.declared.error.ReadError.{ReadError}
 use Rattle.ir_text_attr_base.specs.declared.error.ReadError.TheVariants as errors
-use Rattle.ir_text_attr_base.specs.Outcomes.{Outcome, Read, Wrong, Full, ◌>>=◌, of_option, Parse, Fails}
+use Rattle.ir_text_attr_base.specs.Outcomes.{Outcome, Read, Wrong, Full, of_option, Parse, Fails}
 use Rattle.ir_text_attr_base.specs.Lists.{more_at, list_at}
 
 -- what fails, fails for all that depends on it

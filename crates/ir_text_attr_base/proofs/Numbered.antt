@@ -1,5 +1,5 @@
 -- What is interned on the way is of the context as it is then.
-use Rattle.std.proofs.Common.{◌≡◌, ℕ, List, Option, Some, None, slice_get, refl, sym, ap, subst, ◌∙◌}
+use Rattle.std.proofs.Common.{◌≡◌, ℕ, List, Option, Some, None, slice_get, refl, ap, subst, ◌∙◌}
 use Rattle.std.specs.Prelude.{option_map}
 use Rattle.std.proofs.lemmas.Option.{slice_get_within}
 use Rattle.ir_types.specs.declared.node.TypeNode.{TypeNode}
@@ -13,7 +13,7 @@ use Rattle.ir_types.proofs.Growth.{grows_refl}
 use Rattle.ir_types.proofs.CallNumbers.{name_stands, type_stands}
 use Rattle.ir_text_base.specs.declared.token.Mark.TheVariants.{Colon}
 use Rattle.ir_text_attr_base.specs.Marks.{after}
-use Rattle.ir_text_attr_base.specs.Outcomes.{Read, ◌>>=◌}
+use Rattle.ir_text_attr_base.specs.Outcomes.{Read}
 use Rattle.ir_text_attr_base.specs.Typed.{Typed, name_step, type_step}
 use Rattle.ir_text_attr_base.specs.TypeReading.{type_done, type_at}
 use Rattle.ir_text_attr_base.specs.AttrReading.{suffix_from, suffix_at}

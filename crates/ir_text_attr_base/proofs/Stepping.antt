@@ -1,10 +1,10 @@
 -- What the context's answers say of a step of reading.
-use Rattle.std.proofs.Common.{◌≡◌, ℕ, Option, Some, None, refl, sym, ap, ◌∙◌}
-use Rattle.std.specs.Prelude.{Result, Ok, Err, IfErr}
+use Rattle.std.proofs.Common.{◌≡◌, ℕ, Option, Some, None, refl}
+use Rattle.std.specs.Prelude.{Ok, Err}
 use Rattle.ir_types.specs.declared.refusal.Refusal.{Refusal}
 use Rattle.ir_types.specs.declared.refusal.Refusal.TheVariants as r
 use Rattle.ir_types.specs.Reasons.{IsRefusedFor}
-use Rattle.ir_text_attr_base.specs.Outcomes.{Outcome, Read, Wrong, Full, interned, Fails}
+use Rattle.ir_text_attr_base.specs.Outcomes.{Read, interned, Fails}
 use Rattle.ir_text_attr_base.specs.Errors.{error_of}
 
 -- an accepted call had no reason against it

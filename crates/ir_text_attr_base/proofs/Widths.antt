@@ -1,5 +1,5 @@
 -- Widths and the limit of numbers.
-use Rattle.std.proofs.Common.{◌≡◌, ℕ, ◌≤◌, ◌<◌, ◌^◌, Bool, true, false, nat_lt, Option, Some, None, refl, sym, ap, ◌∙◌, arith}
+use Rattle.std.proofs.Common.{◌≡◌, ℕ, Some, None, arith}
 use Rattle.std.proofs.lemmas.Bool.Decides.{nat_tests}
 use Rattle.ir_text_base.specs.Numbers.{below_limit}
 use Rattle.ir_text_attr_base.specs.Scalars.{within}

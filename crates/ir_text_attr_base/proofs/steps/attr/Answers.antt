@@ -1,4 +1,4 @@
-use Rattle.std.proofs.Common.{◌≡◌, length}
+use Rattle.std.proofs.Common.{length}
 use Rattle.ir_types.specs.Interning.{with_attr}
 use Rattle.ir_types.specs.Reasons.{attr_reason}
 use Rattle.ir_text_attr_base.specs.Typed.{attr_step}

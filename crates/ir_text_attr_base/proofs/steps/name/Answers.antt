@@ -1,4 +1,4 @@
-use Rattle.std.proofs.Common.{◌≡◌, length}
+use Rattle.std.proofs.Common.{length}
 use Rattle.ir_types.specs.Interning.{with_name}
 use Rattle.ir_types.specs.Reasons.{name_reason}
 use Rattle.ir_text_attr_base.specs.Typed.{name_step}

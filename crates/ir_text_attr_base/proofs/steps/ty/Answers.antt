@@ -1,4 +1,4 @@
-use Rattle.std.proofs.Common.{◌≡◌, length}
+use Rattle.std.proofs.Common.{length}
 use Rattle.ir_types.specs.Interning.{with_type}
 use Rattle.ir_types.specs.Reasons.{type_reason}
 use Rattle.ir_text_attr_base.specs.Typed.{type_step}

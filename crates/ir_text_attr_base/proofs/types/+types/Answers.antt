@@ -1,12 +1,12 @@
-use Rattle.std.proofs.Common.{◌≡◌, ◌++◌, ◌∷◌, [], ◌+◌, Some, None, length, refl, sym, ap, ◌∙◌, arith}
+use Rattle.std.proofs.Common.{◌≡◌, ◌++◌, ◌∷◌, [], ◌+◌, Some, None, length, refl, arith}
 use Rattle.std.proofs.lemmas.Result.{err_from_is_err_and}
 use Rattle.std.proofs.lemmas.List.{length-append}
 use Rattle.ir_text_base.specs.declared.token.Mark.TheVariants.{CloseRound, Comma}
 use Rattle.ir_text_attr_base.specs.Marks.{after}
 use Rattle.ir_text_attr_base.specs.Outcomes.{of_option}
 use Rattle.ir_text_attr_base.specs.Typed.{after_typed}
-use Rattle.ir_text_attr_base.specs.TypeReading.{types_at, type_at, signature_at, many}
-use Rattle.ir_text_attr_base.proofs.ListSteps.{starts, goes_on, closes, no_item, no_comma, is_full, fails_option, got}
+use Rattle.ir_text_attr_base.specs.TypeReading.{type_at, many}
+use Rattle.ir_text_attr_base.proofs.ListSteps.{goes_on, closes, no_item, no_comma, is_full, fails_option, got}
 use Rattle.ir_text_attr_base.proofs.Known.{signature_known}
 use Rattle.ir_text_attr_base.proofs.types.+types.Goals as goal
 
