@@ -32,6 +32,13 @@ pub(crate) fn kept<'a>(
     Ok((id, rest))
 }
 
+/// The unit attribute, in front of these bytes (Builtin Dialect, "UnitAttr").
+pub fn unit<'a>(ctx: &mut Context, rest: &'a [u8]) -> Result<(AttrId, &'a [u8]), ReadError>
+    ensures { Gives (λ x. (x.0, (x.1.now, ctx.new))) result (attr_done AttrNode.Unit (rest.now, ctx.old)) }
+{
+    kept(ctx, AttrNode::Unit, rest)
+}
+
 /// `true` or `false`, a number of one bit (Builtin Dialect, "IntegerAttr").
 #[tactic(auto, unfolding(crate::specs::AttrReading::truth_at))]
 fn truth<'a>(

@@ -4,5 +4,6 @@
 mod binding;
 pub mod bound;
 mod dictionaries;
+mod entries;
 pub mod front;
 pub mod scope;
