@@ -59,10 +59,14 @@ abbrev pub label_args_from : ℕ → ℕ → State → Option State → Outcome 
 label_args_from id r s (Some c) = args_at id r c
 label_args_from id r s None = Read ([], s)
 
+-- the arguments in parentheses, or none
+abbrev pub some_args_at : ℕ → ℕ → Parse State (List ℕ)
+some_args_at id r s = label_args_from id r s (after_in OpenRound s)
+
 -- the arguments behind a label, and the colon
 unfoldable pub label_args_at : ℕ → ℕ → Parse State (List ℕ)
 label_args_at id r s = do
-  a ← label_args_from id r s (after_in OpenRound s)
+  a ← some_args_at id r s
   c ← of_option (after_in Colon a.1)
   Read (a.0, c)
 

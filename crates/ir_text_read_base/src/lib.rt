@@ -2,6 +2,7 @@
 #![tactic(auto)]
 
 mod binding;
+mod blocks;
 pub mod bound;
 mod dictionaries;
 mod entries;
