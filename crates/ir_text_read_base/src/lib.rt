@@ -7,4 +7,6 @@ pub mod bound;
 mod dictionaries;
 mod entries;
 pub mod front;
+pub mod ops;
+mod results;
 pub mod scope;
