@@ -29,7 +29,7 @@ fn skip_line(bytes: &[u8]) -> &[u8]
 
 /// What follows the blanks and comments at the front.
 #[tactic(auto, unfolding(crate::specs::Tokens::skip))]
-fn skip(bytes: &[u8]) -> &[u8]
+pub fn skip(bytes: &[u8]) -> &[u8]
     ensures { result.now ≡ skip bytes.now }
 {
     let mut rest = bytes;

@@ -101,7 +101,8 @@ fn is_sorted(ctx: &Context, entries: &Vec<(NameId, AttrId)>) -> bool
     true
 }
 
-pub(crate) fn comes_before(ctx: &Context, one: NameId, other: NameId) -> bool
+/// Whether a key comes before another by its bytes.
+pub fn comes_before(ctx: &Context, one: NameId, other: NameId) -> bool
     ensures { result ≡ key_before_in ctx.now one other }
 {
     bytes_or_none(ctx, one)

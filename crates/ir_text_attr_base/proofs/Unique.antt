@@ -1,0 +1,210 @@
+-- Grammars by which a text has one reading.
+use Rattle.std.specs.Prelude.{ℤ}
+use Rattle.std.specs.Str.{bytes_eq}
+use Rattle.std.proofs.Common.{◌≡◌, ℕ, zero, suc, Bool, true, false, true≢false, List, [], ◌∷◌, ◌++◌, Some, None, sym, ap, subst, ◌∙◌, ◌⊎◌, inl, inr}
+use Rattle.std.proofs.lemmas.Option.{some_pair_parts}
+use Rattle.ir_text_base.specs.declared.token.Mark.{Mark}
+use Rattle.ir_text_base.specs.declared.token.Mark.TheVariants.{OpenRound, CloseRound, Less, Greater, Colon, Minus, Arrow, Comma}
+use Rattle.ir_text_base.specs.Strings.{string_bytes}
+use Rattle.ir_text_base.specs.Tokens.{Lexeme, mark, integer, string, bare, hash}
+use Rattle.ir_types.specs.declared.node.Sign.TheVariants.{Signless}
+use Rattle.ir_types.specs.Terms.{TypeTerm, Integer, Function, type_from, AttrTerm, IntegerOf, String, TypeOf, Flag, Overflow}
+use Rattle.ir_types.specs.Reasons.{type_fault, attr_fault}
+use Rattle.ir_text_attr_base.specs.declared.flag.Flag as code
+use Rattle.ir_text_attr_base.specs.Literals.{Word, Truth, UnitWord, TypeWord, word_of, truth_value, signed_number, value_of, none_word, flag_of, has_nsw, has_nuw}
+use Rattle.ir_text_attr_base.specs.AttrGrammar.{IsFine, IsTypeAttr, IsSuffix, IsLiteralOf, IsLiteral, IsNegative, IsFlag, IsFlags, IsOverflow, IsWordAttr, IsMarkAttr, IsAttrFrom, IsAttr}
+use Rattle.ir_text_attr_base.specs.Scalars.{scalar_of}
+use Rattle.ir_text_attr_base.specs.TypeReading.{many}
+use Rattle.ir_text_attr_base.specs.Grammars.{Grammar, Then, Done, DoneIf, After, Not, Either, IsMore, IsList, Token, IsMark}
+use Rattle.ir_text_attr_base.specs.TypeGrammar.{terms_of, IsScalar, IsTypes, IsOutputs, IsSignature, IsFunction, IsType, IsFunctionType}
+
+module _ {T : Type 0} where
+  -- what is spelled from a state is one, and so is what is left
+  abbrev pub IsOne : {B : Type 0} → Grammar T B → Type 0
+  IsOne {B = B} P = (t : T) (y y' : B) (n n' : T) → P y t n → P y' t n' → (y ≡ y') × (n ≡ n')
+
+  pub then_one : {A B : Type 0} (P : Grammar T A) (Q : A → Grammar T B) → IsOne P → ((x : A) → IsOne (Q x)) → IsOne (Then P Q)
+  then_one P Q first second t y y' n n' k l =
+      let e = first t k.0 l.0 k.1 l.1 k.2 l.2 in
+      second k.0 k.1 y y' n n' k.3 (subst (λ m. Q k.0 y' m n') (sym e.1) (subst (λ x. Q x y' l.1 n') (sym e.0) l.3))
+
+  pub done_one : {B : Type 0} (z : B) → IsOne (Done z)
+  done_one z t y y' n n' k l = (k.0 ∙ sym l.0, k.1 ∙ sym l.1)
+
+  pub done_if_one : {B : Type 0} (F : Type 0) (z : B) → IsOne (DoneIf F z)
+  done_if_one F z t y y' n n' k l = (k.1 ∙ sym l.1, k.2 ∙ sym l.2)
+
+  module _ (Tok : Mark → T → T → Type 0) (tok_one : (m : Mark) (t n n' : T) → Tok m t n → Tok m t n' → n ≡ n') where
+    pub after_one : {B : Type 0} (m : Mark) (Q : Grammar T B) → IsOne Q → IsOne (After Tok m Q)
+    after_one m Q one t y y' n n' k l =
+        let e = tok_one m t k.0 l.0 k.1 l.1 in
+        one k.0 y y' n n' k.2 (subst (λ mid. Q y' mid n') (sym e) l.2)
+
+    pub either_one : {B : Type 0} (m : Mark) (P Q : Grammar T B) → IsOne P → IsOne Q → IsOne (Either Tok m P Q)
+    either_one m P Q first second t y y' n n' (inl k) (inl l) = after_one m P first t y y' n n' k l
+    either_one m P Q first second t y y' n n' (inl k) (inr l) = absurd (l.0 k.0 k.1)
+    either_one m P Q first second t y y' n n' (inr k) (inl l) = absurd (k.0 l.0 l.1)
+    either_one m P Q first second t y y' n n' (inr k) (inr l) = second t y y' n n' k.1 l.1
+
+    module _ {B : Type 0} (close : Mark) (P : List B → Grammar T B) (item : (front : List B) → IsOne (P front)) where
+      -- the end, or a comma and more
+      abbrev Ends : (ℕ → List B → Grammar T (List B)) → ℕ → List B → Grammar T (List B)
+      Ends more room ys all mid new = (Tok close mid new × (all ≡ ys)) ⊎ (Not Tok close mid × (next : T) × Tok Comma mid next × more room ys all next new)
+
+      ends_one : (room : ℕ) (ys : List B) → IsOne (IsMore Tok close P room ys) → IsOne (Ends (IsMore Tok close P) room ys)
+      ends_one room ys more t y y' n n' (inl k) (inl l) = (k.1 ∙ sym l.1, tok_one close t n n' k.0 l.0)
+      ends_one room ys more t y y' n n' (inl k) (inr l) = absurd (l.0 n k.0)
+      ends_one room ys more t y y' n n' (inr k) (inl l) = absurd (k.0 n' l.0)
+      ends_one room ys more t y y' n n' (inr k) (inr l) =
+          let e = tok_one Comma t k.1 l.1 k.2 l.2 in
+          more k.1 y y' n n' k.3 (subst (λ mid. IsMore Tok close P room ys y' mid n') (sym e) l.3)
+
+      pub more_one : (room : ℕ) (front : List B) → IsOne (IsMore Tok close P room front)
+      unfolding IsMore
+      more_one zero front t y y' n n' k l = absurd k
+      more_one (suc room) front t y y' n n' k l =
+          let e = item front t k.0 l.0 k.1 l.1 k.2 l.2 in
+          ends_one room (front ++ k.0 ∷ []) (more_one room (front ++ k.0 ∷ [])) k.1 y y' n n' k.3
+          (subst (λ mid. Ends (IsMore Tok close P) room (front ++ k.0 ∷ []) y' mid n') (sym e.1) (subst (λ x. Ends (IsMore Tok close P) room (front ++ x ∷ []) y' l.1 n') (sym e.0) l.3))
+
+      list_from_one : (room : ℕ) (t : T) (y y' : List B) (n n' : T)
+          → (Tok close t n × (y ≡ [])) ⊎ (Not Tok close t × IsMore Tok close P room [] y t n) → (Tok close t n' × (y' ≡ [])) ⊎ (Not Tok close t × IsMore Tok close P room [] y' t n') → (y ≡ y') × (n ≡ n')
+      list_from_one room t y y' n n' (inl k) (inl l) = (k.1 ∙ sym l.1, tok_one close t n n' k.0 l.0)
+      list_from_one room t y y' n n' (inl k) (inr l) = absurd (l.0 n k.0)
+      list_from_one room t y y' n n' (inr k) (inl l) = absurd (k.0 n' l.0)
+      list_from_one room t y y' n n' (inr k) (inr l) = more_one room [] t y y' n n' k.1 l.1
+
+      pub list_one : (room : ℕ) → IsOne (IsList Tok close P room)
+      unfolding IsList
+      list_one room = list_from_one room
+
+-- ---- tokens and types
+
+pub token_one : (a b : Lexeme) (t n n' : List ℕ) → Token a t n → Token b t n' → (a ≡ b) × (n ≡ n')
+token_one a b t n n' k l = some_pair_parts a b n n' (sym k ∙ l)
+
+pub mark_one : (m : Mark) (t n n' : List ℕ) → IsMark m t n → IsMark m t n' → n ≡ n'
+mark_one m t n n' k l = (token_one (mark m) (mark m) t n n' k l).1
+
+scalar_one : IsOne IsScalar
+scalar_one t y y' n n' k l =
+    let e = token_one (bare k.0) (bare l.0) t n n' k.2 l.2 in
+    let word : k.0 ≡ l.0 = cc (e.0) in
+    let some : Some k.1 ≡ Some l.1 = sym k.3 ∙ ap scalar_of word ∙ l.3 in
+    let node : k.1 ≡ l.1 = cc (some) in
+    (k.4 ∙ ap (type_from []) node ∙ sym l.4, e.1)
+
+module _ (P : Grammar (List ℕ) TypeTerm) (item : IsOne P) where
+  types_one : (room : ℕ) → IsOne (IsTypes P room)
+  unfolding IsTypes
+  types_one room = list_one IsMark mark_one CloseRound (λ before. P) (λ before. item) room
+
+  outputs_one : (room : ℕ) → IsOne (IsOutputs P room)
+  unfolding IsOutputs
+  outputs_one room = either_one IsMark mark_one OpenRound (IsTypes P room) (Then P (λ y. Done (y ∷ []))) (types_one room) (then_one P (λ y. Done (y ∷ [])) item (λ y. done_one (y ∷ [])))
+
+  signature_one : (room : ℕ) → IsOne (IsSignature P room)
+  unfolding IsSignature
+  signature_one room = then_one (IsTypes P many) _ (types_one many) (λ inputs. after_one IsMark mark_one Arrow _ (then_one (IsOutputs P room) _ (outputs_one room) (λ outputs. done_one (inputs, outputs))))
+
+  function_one : IsOne (IsFunction P)
+  unfolding IsFunction
+  function_one = then_one (IsSignature P many) _ (signature_one many) (λ x. done_if_one (type_fault (Function (terms_of x.0) (terms_of x.1)) ≡ None) (Function (terms_of x.0) (terms_of x.1)))
+
+pub type_one : (depth : ℕ) → IsOne (IsType depth)
+unfolding IsType
+type_one zero t y y' n n' k l = absurd k
+type_one (suc depth) t y y' n n' k l = either_one IsMark mark_one OpenRound (IsFunction (IsType depth)) IsScalar (function_one (IsType depth) (type_one depth)) scalar_one t y y' n n' k l
+
+pub function_type_one : IsOne IsFunctionType
+unfolding IsFunctionType
+function_type_one = after_one IsMark mark_one OpenRound (IsSignature (IsType 32) 256) (signature_one (IsType 32) (type_one 32) 256)
+
+-- ---- attributes
+
+abbrev Text : Type 0
+Text = List ℕ
+
+behind_one : {B : Type 0} (rest : Text) (P : Grammar Text B) → IsOne P → IsOne {T = Text} (λ y old new. P y rest new)
+behind_one rest P one t y y' n n' k l = one rest y y' n n' k l
+
+first_one : {B : Type 0} (F : Lexeme → Text → Grammar Text B) → ((l : Lexeme) (rest : Text) → IsOne (F l rest)) → IsOne {T = Text} (λ y old new. (l : Lexeme) × (rest : Text) × Token l old rest × F l rest y old new)
+first_one F each t y y' n n' k l =
+    let e = token_one k.0 l.0 t k.1 l.1 k.2 l.2 in
+    each k.0 k.1 t y y' n n' k.3 (subst (λ r. F k.0 r y' t n') (sym e.1) (subst (λ a. F a l.1 y' t n') (sym e.0) l.3))
+
+none_one : {B : Type 0} → IsOne {T = Text} {B = B} (λ y old new. ⊥)
+none_one t y y' n n' k l = absurd k
+
+fine_one : (z : AttrTerm) → IsOne (IsFine z)
+fine_one z = done_if_one (attr_fault z ≡ None) z
+
+type_attr_one : IsOne IsTypeAttr
+type_attr_one = then_one (IsType 32) (λ t. IsFine (TypeOf t)) (type_one 32) (λ t. fine_one (TypeOf t))
+
+suffix_one : IsOne IsSuffix
+suffix_one = either_one IsMark mark_one Colon (IsType 32) (Done (Integer Signless 64)) (type_one 32) (done_one (Integer Signless 64))
+
+literal_of_one : (v : ℤ) (ty : TypeTerm) → IsOne (IsLiteralOf v ty)
+literal_of_one v ty t y y' n n' k l = fine_one (IntegerOf ty (value_of ty v)) t y y' n n' k.1 l.1
+
+literal_one : (negative : Bool) (digits : List ℕ) → IsOne (IsLiteral negative digits)
+literal_one negative digits t y y' n n' k l =
+    let some : Some k.0 ≡ Some l.0 = sym k.1 ∙ l.1 in
+    let same : k.0 ≡ l.0 = cc (some) in
+    then_one IsSuffix (IsLiteralOf (signed_number negative k.0)) suffix_one (literal_of_one (signed_number negative k.0)) t y y' n n' k.2
+    (subst (λ m. Then IsSuffix (IsLiteralOf (signed_number negative m)) y' t n') (sym same) l.2)
+
+negative_one : IsOne IsNegative
+negative_one t y y' n n' k l =
+    let e = token_one (integer k.0) (integer l.0) t k.1 l.1 k.2 l.2 in
+    let same : k.0 ≡ l.0 = cc (e.0) in
+    literal_one true k.0 k.1 y y' n n' k.3 (subst (λ r. IsLiteral true k.0 y' r n') (sym e.1) (subst (λ ds. IsLiteral true ds y' l.1 n') (sym same) l.3))
+
+flag_one : IsOne IsFlag
+flag_one t y y' n n' k l =
+    let e = token_one (bare k.0) (bare l.0) t n n' k.1 l.1 in
+    let word : k.0 ≡ l.0 = cc (e.0) in
+    let some : Some y ≡ Some y' = sym k.2 ∙ ap flag_of word ∙ l.2 in
+    (cc (some), e.1)
+
+-- what stands behind the first word of flags
+abbrev FlagsRest : Text → List ℕ → Text → List code.Flag → Text → Type 0
+FlagsRest t w rest fs new = ((bytes_eq w none_word ≡ true) × IsMark Greater rest new × (fs ≡ [])) ⊎ ((bytes_eq w none_word ≡ false) × IsMore IsMark Greater (λ before. IsFlag) many [] fs t new)
+
+flags_rest_one : (t : Text) (y y' : List code.Flag) (n n' : Text) (v w : List ℕ) → v ≡ w → (r s : Text) → r ≡ s → FlagsRest t v r y n → FlagsRest t w s y' n' → (y ≡ y') × (n ≡ n')
+flags_rest_one t y y' n n' v w e r s f (inl i) (inl j) = (i.2 ∙ sym j.2, mark_one Greater r n n' i.1 (subst (λ b. IsMark Greater b n') (sym f) j.1))
+flags_rest_one t y y' n n' v w e r s f (inl i) (inr j) = absurd (true≢false (sym i.0 ∙ ap (λ b. bytes_eq b none_word) e ∙ j.0))
+flags_rest_one t y y' n n' v w e r s f (inr i) (inl j) = absurd (true≢false (sym j.0 ∙ ap (λ b. bytes_eq b none_word) (sym e) ∙ i.0))
+flags_rest_one t y y' n n' v w e r s f (inr i) (inr j) = more_one IsMark mark_one Greater (λ before. IsFlag) (λ before. flag_one) many [] t y y' n n' i.1 j.1
+
+flags_one : IsOne IsFlags
+flags_one t y y' n n' k l =
+    let e = token_one (bare k.0) (bare l.0) t k.1 l.1 k.2 l.2 in
+    let word : k.0 ≡ l.0 = cc (e.0) in
+    flags_rest_one t y y' n n' k.0 l.0 word k.1 l.1 e.1 k.3 l.3
+
+overflow_one : IsOne IsOverflow
+overflow_one = after_one IsMark mark_one Less (Then IsFlags (λ fs. IsFine (Overflow (has_nsw fs) (has_nuw fs)))) (then_one IsFlags (λ fs. IsFine (Overflow (has_nsw fs) (has_nuw fs))) flags_one (λ fs. fine_one (Overflow (has_nsw fs) (has_nuw fs))))
+
+word_one : (w : Word) (rest : Text) → IsOne (IsWordAttr w rest)
+word_one (Truth b) rest = behind_one rest (IsFine (IntegerOf (Integer Signless 1) (truth_value b))) (fine_one (IntegerOf (Integer Signless 1) (truth_value b)))
+word_one UnitWord rest = behind_one rest (IsFine Flag) (fine_one Flag)
+word_one TypeWord rest = type_attr_one
+
+marked_one : (m : Mark) (rest : Text) → IsOne (IsMarkAttr m rest)
+marked_one Minus rest = behind_one rest IsNegative negative_one
+marked_one OpenRound rest = type_attr_one
+marked_one _ rest = none_one
+
+attr_from_one : (l : Lexeme) (rest : Text) → IsOne (IsAttrFrom l rest)
+attr_from_one (bare w) rest = word_one (word_of w) rest
+attr_from_one (mark m) rest = marked_one m rest
+attr_from_one (integer digits) rest = behind_one rest (IsLiteral false digits) (literal_one false digits)
+attr_from_one (string raw) rest = behind_one rest (IsFine (String (string_bytes raw))) (fine_one (String (string_bytes raw)))
+attr_from_one (hash w) rest = λ t y y' n n' k l. overflow_one rest y y' n n' k.1 l.1
+attr_from_one _ rest = none_one
+
+pub attr_one : IsOne IsAttr
+unfolding IsAttr
+attr_one = first_one IsAttrFrom attr_from_one

@@ -1,0 +1,71 @@
+-- Words and literals of attributes. Builtin Dialect, "Attributes".
+use Rattle.std.specs.Prelude.{ℕ, ◌-◌, ◌^◌, Bool, true, false, if◌then◌else◌, List, codes, Option, Some, None, ℤ, pos, ◌-ℤ◌, int_lt}
+use Rattle.std.specs.List.{list_any}
+use Rattle.std.specs.Str.{bytes_eq}
+use Rattle.ir_types.specs.declared.node.Sign.TheVariants.{Signless}
+use Rattle.ir_types.specs.Terms.{TypeTerm, Integer}
+use Rattle.ir_text_attr_base.specs.declared.flag.Flag.{Flag}
+use Rattle.ir_text_attr_base.specs.declared.flag.Flag.TheVariants.{NoSignedWrap, NoUnsignedWrap}
+
+-- what a word is where an attribute is wanted
+pub data Word : Type 0 where
+  Truth : Bool → Word
+  UnitWord : Word
+  TypeWord : Word
+
+abbrev pub true_word : List ℕ
+true_word = codes "true"
+
+abbrev pub false_word : List ℕ
+false_word = codes "false"
+
+abbrev pub unit_word : List ℕ
+unit_word = codes "unit"
+
+abbrev pub word_of : List ℕ → Word
+word_of w =
+    if bytes_eq w true_word then Truth true
+    else if bytes_eq w false_word then Truth false
+    else if bytes_eq w unit_word then UnitWord
+    else TypeWord
+
+-- the number of a truth value, which is a signed integer of one bit
+abbrev pub truth_value : Bool → ℤ
+truth_value b = if b then pos 0 -ℤ pos 1 else pos 0
+
+-- a number with a minus before it, or none
+abbrev pub signed_number : Bool → ℕ → ℤ
+signed_number negative n = if negative then pos 0 -ℤ pos n else pos n
+
+-- the value of a type that a literal is: of a signless type it is taken modulo 2^w, and printed as signed
+abbrev pub value_of : TypeTerm → ℤ → ℤ
+value_of (Integer Signless w) v = if int_lt v (pos (2 ^ (w - 1))) then v else v -ℤ pos (2 ^ w)
+value_of _ v = v
+
+-- ---- flags
+
+abbrev pub overflow_word : List ℕ
+overflow_word = codes "arith.overflow"
+
+abbrev pub none_word : List ℕ
+none_word = codes "none"
+
+abbrev pub flag_of : List ℕ → Option Flag
+flag_of w =
+    if bytes_eq w (codes "nsw") then Some NoSignedWrap
+    else if bytes_eq w (codes "nuw") then Some NoUnsignedWrap
+    else None
+
+abbrev pub is_nsw : Flag → Bool
+is_nsw NoSignedWrap = true
+is_nsw NoUnsignedWrap = false
+
+abbrev pub is_nuw : Flag → Bool
+is_nuw NoSignedWrap = false
+is_nuw NoUnsignedWrap = true
+
+abbrev pub has_nsw : List Flag → Bool
+has_nsw flags = list_any is_nsw flags
+
+abbrev pub has_nuw : List Flag → Bool
+has_nuw flags = list_any is_nuw flags

@@ -1,0 +1,5 @@
+//! Tests of which texts are read as attributes, and where they are refused.
+#![tactic(auto)]
+
+#[cfg(test)]
+mod attribute_tests;

@@ -1,0 +1,41 @@
+use Rattle.std.proofs.Common.{◌≡◌, ◌++◌, ◌∷◌, [], ◌+◌, Some, None, length, map, refl, sym, ap, ◌∙◌, arith}
+use Rattle.std.proofs.lemmas.Result.{err_from_is_err_and}
+use Rattle.std.proofs.lemmas.List.{map_push, length-append, length-map}
+use Rattle.ir_text_base.specs.declared.token.Mark.TheVariants.{CloseRound, CloseCurly, Equal, Comma}
+use Rattle.ir_text_attr_base.specs.Marks.{after}
+use Rattle.ir_text_attr_base.specs.Outcomes.{of_option}
+use Rattle.ir_text_attr_base.proofs.ListSteps.{starts, goes_on, closes, no_item, no_comma, is_full, fails_option, got}
+use Rattle.ir_text_read_base.specs.States.{after_in, state_of}
+use Rattle.ir_text_read_base.specs.OpReading.{arg_at, args_at}
+use Rattle.ir_text_read_base.proofs.blocks.arguments.Goals as goal
+
+pub returns-in-Err : goal.returns-in-Err
+returns-in-Err c =
+    no_item after_in CloseRound (arg_at c.args.id c.args.region) c.items.items.items 256 c.items.counter (state_of c.items.rest.now c.items.scope c.items.ctx) _ c.items.invariant.reads c.items-test.true c.in-Err.e (rw c.deref.ensures.value at c.in-Err.ensures)
+
+pub returns-in-Some-after : goal.returns-in-Some-after
+returns-in-Some-after c =
+    let k : after_in CloseRound (state_of c.in-Ok.found.1.now c.argument.new.scope c.argument.new.ctx) ≡ Some (state_of c.in-Some-after.end.now c.argument.new.scope c.argument.new.ctx) = rw (← c.in-Some-after.ensures) refl in
+    let e : c.push.new.self.items ≡ c.items.items.items ++ c.in-Ok.found.0 ∷ [] = c.in_ok-push.ensures.items in
+    rw e (closes after_in CloseRound (arg_at c.args.id c.args.region) c.items.items.items 256 c.items.counter (state_of c.items.rest.now c.items.scope c.items.ctx) _ c.items.invariant.reads c.items-test.true c.in-Ok.found.0 (state_of c.in-Ok.found.1.now c.argument.new.scope c.argument.new.ctx) (state_of c.in-Some-after.end.now c.argument.new.scope c.argument.new.ctx) (rw c.deref.ensures.value at c.in-Ok.ensures) k)
+
+pub returns-in_err-rest : goal.returns-in_err-rest
+returns-in_err-rest c =
+    let p = err_from_is_err_and c.from_residual-in_err-rest.result c.from_residual-in_err-rest.ensures.1 in
+    let k : after_in CloseRound (state_of c.in-Ok.found.1.now c.argument.new.scope c.argument.new.ctx) ≡ None = rw (← c.in_default-after.ensures) refl in
+    rw (p.1, p.2) (no_comma after_in CloseRound (arg_at c.args.id c.args.region) c.items.items.items 256 c.items.counter (state_of c.items.rest.now c.items.scope c.items.ctx) _ c.items.invariant.reads c.items-test.true c.in_err-rest.field-0.0 c.in-Ok.found.0 (state_of c.in-Ok.found.1.now c.argument.new.scope c.argument.new.ctx) (rw c.deref.ensures.value at c.in-Ok.ensures) k (fails_option c.in_err-rest.field-0.0 (after Comma c.in-Ok.found.1.now) (of_option (after_in Comma (state_of c.in-Ok.found.1.now c.argument.new.scope c.argument.new.ctx))) (λ none. rw none refl) c.in_err-rest.ensures))
+
+pub items-preserved : goal.items-preserved
+items-preserved c =
+    let k : after_in CloseRound (state_of c.in-Ok.found.1.now c.argument.new.scope c.argument.new.ctx) ≡ None = rw (← c.in_default-after.ensures) refl in
+    let comma : after_in Comma (state_of c.in-Ok.found.1.now c.argument.new.scope c.argument.new.ctx) ≡ Some (state_of c.in_ok-rest.rest.now c.argument.new.scope c.argument.new.ctx) = rw (got (after Comma c.in-Ok.found.1.now) c.in_ok-rest.rest.now c.in_ok-rest.ensures) refl in
+    let e : c.push.new.self.items ≡ c.items.items.items ++ c.in-Ok.found.0 ∷ [] = c.in_ok-push.ensures.items in
+    let n : length c.push.new.self.items ≡ c.items.counter + 1 = rw c.in_ok-push.ensures.items (omega (arith, c.items.invariant.count, length-append c.items.items.items (c.in-Ok.found.0 ∷ []))) in
+    record { reads = rw e (goes_on after_in CloseRound (arg_at c.args.id c.args.region) c.items.items.items 256 c.items.counter (state_of c.items.rest.now c.items.scope c.items.ctx) _ c.items.invariant.reads c.items-test.true c.in-Ok.found.0 (state_of c.in-Ok.found.1.now c.argument.new.scope c.argument.new.ctx) (state_of c.in_ok-rest.rest.now c.argument.new.scope c.argument.new.ctx) (rw c.deref.ensures.value at c.in-Ok.ensures) k comma); count = n }
+
+pub returns : goal.returns
+returns c =
+    is_full after_in CloseRound (arg_at c.args.id c.args.region) c.items.items.items 256 c.items.counter (state_of c.items.rest.now c.items.scope c.items.ctx) _ c.items.invariant.reads (omega (arith, c.items-test.false))
+
+pub argument-requires : goal.argument-requires
+argument-requires c = omega (arith, c.items.invariant.count, c.items-test.true, c.deref.ensures.value)

@@ -1,0 +1,172 @@
+-- The grammar of operations, in terms of what is spelled. Language Reference, "Operations", "Regions",
+-- "Blocks"; Traits, "IsolatedFromAbove".
+use Rattle.std.specs.Prelude.{◌≡◌, ◌⊎◌, ℕ, zero, suc, ◌+◌, ◌<◌, ◌==◌, Bool, false, List, [], ◌∷◌, ◌++◌, length, map, Option, Some, None}
+use Rattle.std.specs.Str.{bytes_eq}
+use Rattle.ir_text_base.specs.declared.token.Mark.{Mark}
+use Rattle.ir_text_base.specs.declared.token.Mark.TheVariants.{OpenRound, CloseRound, OpenCurly, CloseCurly, Less, Greater, Equal, Colon}
+use Rattle.ir_text_base.specs.Tokens.{Lexeme, value, string, bare, label}
+use Rattle.ir_text_base.specs.Strings.{string_bytes}
+use Rattle.ir_text_base.specs.Scopes.{Binding, Scopes, find}
+use Rattle.ir_types.specs.Terms.{TypeTerm, AttrTerm, Flag}
+use Rattle.ir_types.specs.Words.{is_isolated, is_inherent}
+use Rattle.ir_tree.specs.declared.value.Value.TheVariants as values
+use Rattle.ir_tree.specs.Tree.{RegionOf}
+use Rattle.ir_tree.specs.Meaning.{Operation, key_before}
+use Rattle.ir_text_attr_base.specs.Grammars.{Grammar, Then, Done, After, Not, Either, IsMore, IsList, Token, IsMark}
+use Rattle.ir_text_attr_base.specs.TypeGrammar.{Text, IsType, IsFunctionType}
+use Rattle.ir_text_attr_base.specs.AttrGrammar.{IsAttr, IsFine}
+use Rattle.ir_text_read_base.specs.Entries.{is_refused}
+use Rattle.ir_text_read_base.specs.Made.{region_of, made}
+use Rattle.ir_text_read_base.specs.Seen.{BoundTerm, Seen, seen_rest, seen_scopes, seen_inside, seen_outside, IsMarkSeen, InText, When, IsBound}
+
+-- ---- before the dictionaries
+
+-- a name behind its sign
+abbrev pub IsName : Grammar Text (List ℕ)
+IsName n old new = Token (value n) old new
+
+-- names up to an equal sign
+abbrev pub IsNames : Grammar Text (List (List ℕ))
+IsNames = IsMore IsMark Equal (λ before. IsName) 256 []
+
+abbrev pub IsResultsFrom : Lexeme → Grammar Text (Option (List (List ℕ)))
+IsResultsFrom (value n) y old new = (ns : List (List ℕ)) × IsNames ns old new × (y ≡ Some ns)
+IsResultsFrom _ y old new = (y ≡ None) × (new ≡ old)
+
+-- the names of the results, where a name comes first
+abbrev pub IsResults : Grammar Text (Option (List (List ℕ)))
+IsResults y old new = (t : Lexeme) × (rest : Text) × Token t old rest × IsResultsFrom t y old new
+
+-- the name of an operation, which has one byte or more
+abbrev pub IsOpName : Grammar Text (List ℕ)
+IsOpName n old new = (raw : List ℕ) × Token (string raw) old new × ((length (string_bytes raw) == 0) ≡ false) × (n ≡ string_bytes raw)
+
+-- a name that can be seen
+abbrev pub IsUse : List (Binding BoundTerm) → Grammar Text BoundTerm
+IsUse here b old new = (n : List ℕ) × Token (value n) old new × (find n here ≡ Some b)
+
+pub record StartTerm : Type 0 where
+  pub results : Option (List (List ℕ))
+  pub name : List ℕ
+  pub operands : List BoundTerm
+
+abbrev pub IsStart : List (Binding BoundTerm) → Grammar Text StartTerm
+IsStart here =
+    Then IsResults (λ results. Then IsOpName (λ name. After IsMark OpenRound (Then (IsList IsMark CloseRound (λ before. IsUse here) 256) (λ operands.
+    Done (record { results = results; name = name; operands = operands })))))
+
+-- ---- dictionaries
+
+abbrev pub EntryTerm : Type 0
+EntryTerm = List ℕ × AttrTerm
+
+-- whether a key is a property of an operation wherever it stands; no key is where no operation is given
+abbrev pub is_property : Option (List ℕ) → List ℕ → Bool
+is_property None k = false
+is_property (Some op) k = is_inherent op k
+
+abbrev pub IsKey : Grammar Text (List ℕ)
+IsKey k old new = Token (bare k) old new ⊎ ((raw : List ℕ) × Token (string raw) old new × (k ≡ string_bytes raw))
+
+-- the attribute behind an equal sign, or unit where none stands
+abbrev pub IsValue : Grammar Text AttrTerm
+IsValue = Either IsMark Equal IsAttr (IsFine Flag)
+
+-- an entry whose key does not stand before it, nor among the properties, and for which there is room
+abbrev pub IsEntry : Option (List ℕ) → List EntryTerm → List EntryTerm → Grammar Text EntryTerm
+IsEntry op properties before =
+    Then IsKey (λ k. When (is_refused bytes_eq (is_property op) properties k before ≡ false) (Then IsValue (λ a. Done (k, a))))
+
+abbrev pub IsEntries : Option (List ℕ) → List EntryTerm → Grammar Text (List EntryTerm)
+IsEntries op properties = IsList IsMark CloseCurly (IsEntry op properties) 513
+
+-- the properties, where they are written
+abbrev pub IsProperties : Grammar Text (List EntryTerm)
+IsProperties = Either IsMark Less (After IsMark OpenCurly (Then (IsEntries None []) (λ es. After IsMark Greater (Done es)))) (Done [])
+
+-- the attribute dictionary, where it is written
+abbrev pub IsAttributes : List ℕ → List EntryTerm → Grammar Text (List EntryTerm)
+IsAttributes op properties = Either IsMark OpenCurly (IsEntries (Some op) properties) (Done [])
+
+-- ---- blocks
+
+-- an argument, whose name can be seen from then on
+abbrev pub IsArg : ℕ → ℕ → List TypeTerm → Grammar Seen TypeTerm
+IsArg id r before = Then (InText IsName) (λ n. After IsMarkSeen Colon (Then (InText (IsType 32)) (λ t. binds n t)))
+  where
+    binds : List ℕ → TypeTerm → Grammar Seen TypeTerm
+    binds n t y old new = (scopes : Scopes BoundTerm) × IsBound n (record { value = values.Arg id r (length before); type = t }) old.scopes scopes × (y ≡ t) × (new ≡ seen_scopes old scopes)
+
+-- arguments in parentheses or none, and a colon
+abbrev pub IsLabelArgs : ℕ → ℕ → Grammar Seen (List TypeTerm)
+IsLabelArgs id r = Then (Either IsMarkSeen OpenRound (IsList IsMarkSeen CloseRound (IsArg id r) 256) (Done [])) (λ args. After IsMarkSeen Colon (Done args))
+
+abbrev pub IsHeadFrom : ℕ → ℕ → Lexeme → Text → Grammar Seen (Option (List TypeTerm))
+IsHeadFrom id r (label l) rest y old new = (args : List TypeTerm) × IsLabelArgs id r args (seen_rest old rest) new × (y ≡ Some args)
+IsHeadFrom id r _ rest y old new = (y ≡ None) × (new ≡ old)
+
+-- a label with the arguments of the block, where a label comes first
+abbrev pub IsHead : ℕ → ℕ → Grammar Seen (Option (List TypeTerm))
+IsHead id r y old new = (t : Lexeme) × (rest : Text) × Token t old.bytes rest × IsHeadFrom id r t rest y old new
+
+-- ---- operations up to a closing mark, at most so many, behind those of `front`
+
+module _ (close : Mark) (P : Grammar Seen Operation) where
+  unfoldable pub IsOps : ℕ → List Operation → Grammar Seen (List Operation)
+  IsOps zero front ys old new = ⊥
+  IsOps (suc room) front ys old new =
+      (IsMarkSeen close old new × (ys ≡ front))
+      ⊎ (Not IsMarkSeen close old × (y : Operation) × (mid : Seen) × P y old mid × IsOps room (front ++ y ∷ []) ys mid new)
+
+abbrev pub RegionTerm : Type 0
+RegionTerm = RegionOf (List ℕ) TypeTerm AttrTerm
+
+-- the names of a region are hidden again at its end; in one of an isolated operation no other names are seen
+abbrev pub IsRegion : Grammar Seen (List Operation) → ℕ → Bool → List RegionTerm → Grammar Seen RegionTerm
+IsRegion P id isolated before = After IsMarkSeen OpenCurly inner
+  where
+    leaves : RegionTerm → Grammar Seen RegionTerm
+    leaves g y old new = (y ≡ g) × (new ≡ seen_outside old)
+
+    inner : Grammar Seen RegionTerm
+    inner y old new = Then (IsHead id (length before)) (λ h. Then P (λ os. leaves (region_of h os))) y (seen_inside isolated old) new
+
+-- regions in parentheses, or none
+abbrev pub IsRegions : Grammar Seen (List Operation) → ℕ → Bool → Grammar Seen (List RegionTerm)
+IsRegions P id isolated = Either IsMarkSeen OpenRound (IsMore IsMarkSeen CloseRound (IsRegion P id isolated) 16 []) (Done [])
+
+-- ---- operations
+
+-- the names of the results from place k on, one for each type
+abbrev pub IsBoundResults : ℕ → ℕ → List (List ℕ) → List TypeTerm → (old new : Scopes BoundTerm) → Type 0
+IsBoundResults id k [] [] old new = new ≡ old
+IsBoundResults id k [] (y ∷ ys) old new = ⊥
+IsBoundResults id k (n ∷ ns) [] old new = ⊥
+IsBoundResults id k (n ∷ ns) (y ∷ ys) old new =
+    (mid : Scopes BoundTerm) × IsBound n (record { value = values.Result id k; type = y }) old mid × IsBoundResults id (k + 1) ns ys mid new
+
+-- where names are written
+abbrev pub IsFinished : ℕ → Option (List (List ℕ)) → List TypeTerm → (old new : Scopes BoundTerm) → Type 0
+IsFinished id None outputs old new = new ≡ old
+IsFinished id (Some names) outputs old new = IsBoundResults id 0 names outputs old new
+
+-- behind the regions: the attributes, and the function type, whose inputs are the types of the operands
+abbrev pub IsTail : ℕ → StartTerm → List EntryTerm → List RegionTerm → Grammar Seen Operation
+IsTail id h properties regions =
+    Then (InText (IsAttributes h.name properties)) (λ es. After IsMarkSeen Colon (Then (InText IsFunctionType) (λ t. When (map (λ b. b.type) h.operands ≡ t.0) (ends es t.1))))
+  where
+    ends : List EntryTerm → List TypeTerm → Grammar Seen Operation
+    ends es outputs y old new =
+        (scopes : Scopes BoundTerm) × IsFinished id h.results outputs old.scopes scopes × (new ≡ seen_scopes old scopes)
+        × (y ≡ made (is_property (Some h.name)) key_before id h.name (map (λ b. b.value) h.operands) properties es outputs regions)
+
+abbrev pub IsOpWith : Grammar Seen (List Operation) → Grammar Seen Operation
+IsOpWith P y old new =
+    (h : StartTerm) × (mid : Text) × (properties : List EntryTerm) × (rest : Text)
+    × IsStart old.scopes.here h old.bytes mid × IsProperties properties mid rest
+    × Then (IsRegions P old.next (is_isolated h.name)) (λ regions. IsTail old.next h properties regions) y (record { bytes = rest; scopes = old.scopes; next = old.next + 1 }) new
+
+-- an operation with at most that many levels, of which it is one; ids are given in pre-order
+unfoldable pub IsOp : ℕ → Grammar Seen Operation
+IsOp zero y old new = ⊥
+IsOp (suc depth) y old new = (old.next < 1048576) × IsOpWith (IsOps CloseCurly (IsOp depth) 1048576 []) y old new

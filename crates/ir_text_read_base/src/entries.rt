@@ -1,0 +1,179 @@
+//! Dictionaries as they are written. Language Reference, "Attributes" and "Properties".
+ghost use Rattle.std.specs.Prelude.{◌≡◌, is_some};
+ghost use Rattle.ir_text_attr_base.specs.Outcomes.{Gives};
+ghost use Rattle.ir_text_read_base.specs.EntryReading.{refused_in, key_at, value_at, entry_at, entries_at, some_properties, properties_at, attributes_at};
+
+use crate::dictionaries::{Entry, has_key, no_room};
+use ir_text_attr_base::attributes::{attr, unit};
+use ir_text_attr_base::error::{ReadError, wrong};
+use ir_text_attr_base::steps::{self, after, expect, token};
+use ir_text_base::strings::string_value;
+use ir_text_base::token::{Mark, Token};
+use ir_types::context::Context;
+use ir_types::ids::{AttrId, NameId};
+use ir_types::refusal::Refusal;
+use std::alloc::Global;
+
+/// The number of a key: a bare identifier or a string.
+#[tactic(auto, unfolding(crate::specs::EntryReading::key_at))]
+fn key<'a>(
+    alloc: Global,
+    ctx: &mut Context,
+    bytes: &'a [u8],
+) -> Result<(NameId, &'a [u8]), ReadError>
+    ensures { Gives (λ x. (x.0, (x.1.now, ctx.new))) result (key_at (bytes.now, ctx.old)) }
+{
+    let (found, rest) = token(bytes)?;
+    match found {
+        Token::Bare(word) => {
+            let id = steps::name(ctx, word, rest)?;
+            Ok((id, rest))
+        }
+        Token::String(raw) => {
+            let word = string_value(alloc, raw)?;
+            let id = steps::name(ctx, &word, rest)?;
+            Ok((id, rest))
+        }
+        _ => Err(ReadError::Refused(wrong(Refusal::Unexpected, bytes))),
+    }
+}
+
+/// The attribute behind an equal sign, or unit where none stands.
+#[tactic(auto, unfolding(crate::specs::EntryReading::value_at))]
+fn value<'a>(
+    alloc: Global,
+    ctx: &mut Context,
+    bytes: &'a [u8],
+) -> Result<(AttrId, &'a [u8]), ReadError>
+    ensures { Gives (λ x. (x.0, (x.1.now, ctx.new))) result (value_at (bytes.now, ctx.old)) }
+{
+    if let Some(rest) = after(bytes, Mark::Equal) {
+        return attr(alloc, ctx, rest);
+    }
+    unit(ctx, bytes)
+}
+
+/// Why a key may not come behind these entries: it stands there, or there is no room.
+fn refusal(
+    ctx: &Context,
+    op: &Option<NameId>,
+    properties: &[Entry],
+    key: NameId,
+    before: &[Entry],
+) -> Option<Refusal>
+    ensures { is_some result ≡ refused_in ctx.now op.now properties.now key before.now }
+{
+    if has_key(key, properties) || has_key(key, before) {
+        return Some(Refusal::DuplicateKey);
+    }
+    if no_room(ctx, op, properties, key, before) {
+        return Some(Refusal::TooMany);
+    }
+    None
+}
+
+/// An entry whose key may come behind those before it.
+#[tactic(auto, unfolding(crate::specs::EntryReading::entry_at))]
+fn entry<'a>(
+    alloc: Global,
+    ctx: &mut Context,
+    op: &Option<NameId>,
+    properties: &[Entry],
+    before: &[Entry],
+    bytes: &'a [u8],
+) -> Result<(Entry, &'a [u8]), ReadError>
+    ensures { Gives (λ x. (x.0, (x.1.now, ctx.new))) result (entry_at op.now properties.now before.now (bytes.now, ctx.old)) }
+{
+    let (key, rest) = match key(alloc, ctx, bytes) {
+        Ok(found) => found,
+        Err(e) => return Err(e),
+    };
+    if let Some(refusal) = refusal(ctx, op, properties, key, before) {
+        return Err(ReadError::Refused(wrong(refusal, bytes)));
+    }
+    let (attr, rest) = match value(alloc, ctx, rest) {
+        Ok(found) => found,
+        Err(e) => return Err(e),
+    };
+    Ok(((key, attr), rest))
+}
+
+/// Entries up to the closing brace.
+#[tactic(auto, unfolding(ir_text_attr_base::specs::Lists::list_at, crate::specs::EntryReading::entries_at))]
+fn entries<'a>(
+    alloc: Global,
+    ctx: &mut Context,
+    op: &Option<NameId>,
+    properties: &[Entry],
+    bytes: &'a [u8],
+) -> Result<(Vec<Entry>, &'a [u8]), ReadError>
+    ensures { Gives (λ x. (x.0.items, (x.1.now, ctx.new))) result (entries_at op.now properties.now (bytes.now, ctx.old)) }
+{
+    let mut items = Vec::new(alloc);
+    if let Some(rest) = after(bytes, Mark::CloseCurly) {
+        return Ok((items, rest));
+    }
+    let mut rest = bytes;
+    'items: for _ in 0..513usize {
+        let (item, tail) = match entry(alloc, ctx, op, properties, &items, rest) {
+            Ok(found) => found,
+            Err(e) => return Err(e),
+        };
+        items.push(item)?;
+        if let Some(end) = after(tail, Mark::CloseCurly) {
+            return Ok((items, end));
+        }
+        rest = expect(tail, Mark::Comma)?;
+    }
+    Err(ReadError::Refused(wrong(Refusal::TooMany, rest)))
+}
+
+/// The properties behind their opening sign.
+#[tactic(auto, unfolding(crate::specs::EntryReading::some_properties))]
+fn some_properties<'a>(
+    alloc: Global,
+    ctx: &mut Context,
+    bytes: &'a [u8],
+) -> Result<(Vec<Entry>, &'a [u8]), ReadError>
+    ensures { Gives (λ x. (x.0.items, (x.1.now, ctx.new))) result (some_properties (bytes.now, ctx.old)) }
+{
+    let rest = expect(bytes, Mark::OpenCurly)?;
+    let (items, rest) = match entries(alloc, ctx, &None, &[], rest) {
+        Ok(found) => found,
+        Err(e) => return Err(e),
+    };
+    let rest = expect(rest, Mark::Greater)?;
+    Ok((items, rest))
+}
+
+/// The properties, where they are written.
+#[tactic(auto, unfolding(crate::specs::EntryReading::properties_at))]
+pub fn properties<'a>(
+    alloc: Global,
+    ctx: &mut Context,
+    bytes: &'a [u8],
+) -> Result<(Vec<Entry>, &'a [u8]), ReadError>
+    ensures { Gives (λ x. (x.0.items, (x.1.now, ctx.new))) result (properties_at (bytes.now, ctx.old)) }
+{
+    if let Some(rest) = after(bytes, Mark::Less) {
+        return some_properties(alloc, ctx, rest);
+    }
+    Ok((Vec::new(alloc), bytes))
+}
+
+/// The attribute dictionary of an operation with these properties, where it is written.
+#[tactic(auto, unfolding(crate::specs::EntryReading::attributes_at))]
+pub fn attributes<'a>(
+    alloc: Global,
+    ctx: &mut Context,
+    op: NameId,
+    properties: &[Entry],
+    bytes: &'a [u8],
+) -> Result<(Vec<Entry>, &'a [u8]), ReadError>
+    ensures { Gives (λ x. (x.0.items, (x.1.now, ctx.new))) result (attributes_at op properties.now (bytes.now, ctx.old)) }
+{
+    if let Some(rest) = after(bytes, Mark::OpenCurly) {
+        return entries(alloc, ctx, &Some(op), properties, rest);
+    }
+    Ok((Vec::new(alloc), bytes))
+}

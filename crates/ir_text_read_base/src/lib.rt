@@ -1,0 +1,12 @@
+//! Operations are read from a text, and what they name is interned as it is read.
+#![tactic(auto)]
+
+mod binding;
+mod blocks;
+pub mod bound;
+mod dictionaries;
+mod entries;
+pub mod front;
+pub mod ops;
+mod results;
+pub mod scope;

@@ -1,0 +1,221 @@
+//! Operations. Language Reference, "Operations" and "Regions"; Traits, "IsolatedFromAbove".
+ghost use Rattle.std.specs.Prelude.{◌≡◌, [], List, length, map, option_map};
+ghost use Rattle.ir_text_base.specs.declared.token.Mark.TheVariants.{CloseCurly};
+ghost use Rattle.ir_tree.specs.Tree.{Region};
+ghost use Rattle.ir_tree.specs.View.{region_view};
+ghost use Rattle.ir_text_attr_base.specs.Outcomes.{Gives};
+ghost use Rattle.ir_text_read_base.specs.States.{state_of};
+ghost use Rattle.ir_text_read_base.specs.FrontReading.{start_view};
+ghost use Rattle.ir_text_read_base.specs.Made.{region_of};
+ghost use Rattle.ir_text_read_base.specs.OpReading.{tail_at, region_at, regions_at, ops_at, op_at};
+
+use crate::binding::{agrees, values_of};
+use crate::blocks::head;
+use crate::dictionaries::{Entry, attributes_of, properties_of};
+use crate::entries::{attributes, properties};
+use crate::front::{Front, start};
+use crate::results::finish;
+use crate::scope::Scope;
+use ir_text_attr_base::error::{ReadError, wrong};
+use ir_text_attr_base::steps::{self, after, expect};
+use ir_text_attr_base::types::function_type;
+use ir_text_base::fault::Fault;
+use ir_text_base::token::Mark;
+use ir_tree::tree::{TreeOp, TreeRegion};
+use ir_types::context::Context;
+use ir_types::ids::{NameId, OpId, TypeId};
+use ir_types::refusal::Refusal;
+use std::alloc::Global;
+
+/// The most operations of a module.
+pub const MOST_OPS: u32 = 1_048_576;
+
+/// A region: without a label and without an operation it has no block.
+fn region_of(alloc: Global, args: Option<Vec<TypeId>>, ops: Vec<TreeOp>) -> TreeRegion
+    ensures { region_view result ≡ region_of (option_map (λ v. v.items) args) ops.items }
+{
+    match args {
+        Some(args) => TreeRegion::Block { args, ops },
+        None => {
+            if ops.is_empty() {
+                return TreeRegion::Empty;
+            }
+            let args = Vec::new(alloc);
+            TreeRegion::Block { args, ops }
+        }
+    }
+}
+
+/// What stands behind an operation's regions: its attributes and its function type. Then the names of
+/// its results are bound.
+#[tactic(auto, unfolding(crate::specs::OpReading::tail_at))]
+fn tail<'a>(
+    alloc: Global,
+    scope: &mut Scope<'a>,
+    ctx: &mut Context,
+    id: u32,
+    name: NameId,
+    front: Front<'a>,
+    written: Vec<Entry>,
+    regions: Vec<TreeRegion>,
+    bytes: &'a [u8],
+) -> Result<(TreeOp, &'a [u8]), ReadError>
+    ensures { Gives (λ x. (x.0, state_of x.1.now scope.new ctx.new)) result (tail_at id name (start_view front.entry) written.items (map region_view regions.items) (state_of bytes.now scope.old ctx.old)) }
+{
+    let (others, rest) = match attributes(alloc, ctx, name, &written, bytes) {
+        Ok(found) => found,
+        Err(e) => return Err(e),
+    };
+    let colon = wrong(Refusal::TypeMismatch, rest);
+    let rest = expect(rest, Mark::Colon)?;
+    let ((inputs, results), rest) = match function_type(alloc, ctx, rest) {
+        Ok(found) => found,
+        Err(e) => return Err(e),
+    };
+    if !agrees(&front.operands, &inputs) {
+        return Err(ReadError::Refused(colon));
+    }
+    finish(&mut scope.names, id, &front.results, &results, colon.left)?;
+    let operands = values_of(alloc, &front.operands)?;
+    let props = properties_of(alloc, ctx, name, &written, &others)?;
+    let attrs = attributes_of(alloc, ctx, name, &others)?;
+    Ok((
+        TreeOp {
+            id: OpId::new(id),
+            name,
+            operands,
+            results,
+            props,
+            attrs,
+            regions,
+        },
+        rest,
+    ))
+}
+
+/// A region. Its names are hidden again at its end; in one of an isolated operation no others are seen.
+#[cycle(op)]
+#[tactic(auto, unfolding(crate::specs::OpReading::region_at))]
+fn region<'a>(
+    alloc: Global,
+    scope: &mut Scope<'a>,
+    ctx: &mut Context,
+    id: u32,
+    region: u32,
+    isolated: bool,
+    bytes: &'a [u8],
+    depth: u32,
+) -> Result<(TreeRegion, &'a [u8]), ReadError>
+    ensures { (before : List Region) → length before ≡ region → Gives (λ x. (region_view x.0, state_of x.1.now scope.new ctx.new)) result (region_at (ops_at CloseCurly (op_at depth) MOST_OPS []) id isolated before (state_of bytes.now scope.old ctx.old)) }
+{
+    let rest = expect(bytes, Mark::OpenCurly)?;
+    scope.names.enter(isolated)?;
+    let (args, rest) = match head(alloc, scope, ctx, id, region, rest) {
+        Ok(found) => found,
+        Err(e) => return Err(e),
+    };
+    let (ops, rest) = match ops(alloc, scope, ctx, Mark::CloseCurly, rest, depth) {
+        Ok(found) => found,
+        Err(e) => return Err(e),
+    };
+    scope.names.leave();
+    Ok((region_of(alloc, args, ops), rest))
+}
+
+/// Regions in parentheses, at most 16, or none.
+#[cycle(op)]
+#[tactic(auto, unfolding(crate::specs::OpReading::regions_at))]
+fn regions<'a>(
+    alloc: Global,
+    scope: &mut Scope<'a>,
+    ctx: &mut Context,
+    id: u32,
+    isolated: bool,
+    bytes: &'a [u8],
+    depth: u32,
+) -> Result<(Vec<TreeRegion>, &'a [u8]), ReadError>
+    ensures { Gives (λ x. (map region_view x.0.items, state_of x.1.now scope.new ctx.new)) result (regions_at (ops_at CloseCurly (op_at depth) MOST_OPS []) id isolated (state_of bytes.now scope.old ctx.old)) }
+{
+    let mut items = Vec::new(alloc);
+    let Some(rest) = after(bytes, Mark::OpenRound) else {
+        return Ok((items, bytes));
+    };
+    let mut rest = rest;
+    'items: for count in 0..16 {
+        let (item, tail) = match region(alloc, scope, ctx, id, count, isolated, rest, depth) {
+            Ok(found) => found,
+            Err(e) => return Err(e),
+        };
+        items.push(item)?;
+        if let Some(end) = after(tail, Mark::CloseRound) {
+            return Ok((items, end));
+        }
+        rest = expect(tail, Mark::Comma)?;
+    }
+    Err(ReadError::Refused(wrong(Refusal::TooMany, rest)))
+}
+
+/// Operations up to a closing mark.
+#[cycle(op)]
+pub fn ops<'a>(
+    alloc: Global,
+    scope: &mut Scope<'a>,
+    ctx: &mut Context,
+    close: Mark,
+    bytes: &'a [u8],
+    depth: u32,
+) -> Result<(Vec<TreeOp>, &'a [u8]), ReadError>
+    ensures { Gives (λ x. (x.0.items, state_of x.1.now scope.new ctx.new)) result (ops_at close (op_at depth) MOST_OPS [] (state_of bytes.now scope.old ctx.old)) }
+{
+    let mut items = Vec::new(alloc);
+    let mut rest = bytes;
+    'items: for _ in 0..MOST_OPS {
+        if let Some(end) = after(rest, close) {
+            return Ok((items, end));
+        }
+        let (item, tail) = match op(alloc, scope, ctx, rest, depth) {
+            Ok(found) => found,
+            Err(e) => return Err(e),
+        };
+        items.push(item)?;
+        rest = tail;
+    }
+    Err(ReadError::Refused(wrong(Refusal::TooMany, rest)))
+}
+
+/// An operation with at most that many levels, of which it is one.
+#[cycle(op)]
+#[tactic(auto, unfolding(crate::specs::OpReading::op_at, crate::specs::OpReading::op_with))]
+pub fn op<'a>(
+    alloc: Global,
+    scope: &mut Scope<'a>,
+    ctx: &mut Context,
+    bytes: &'a [u8],
+    depth: u32,
+) -> Result<(TreeOp, &'a [u8]), ReadError>
+    ensures { Gives (λ x. (x.0, state_of x.1.now scope.new ctx.new)) result (op_at depth (state_of bytes.now scope.old ctx.old)) }
+{
+    if depth == 0 {
+        return Err(ReadError::Refused(wrong(Refusal::TooDeep, bytes)));
+    }
+    let id = scope.next;
+    if id >= MOST_OPS {
+        return Err(ReadError::Refused(wrong(Refusal::TooMany, bytes)));
+    }
+    let (front, rest) = match start(alloc, &scope.names, bytes) {
+        Ok(found) => found,
+        Err(e) => return Err(e),
+    };
+    let name = steps::name(ctx, &front.name, rest)?;
+    let isolated = ctx.isolated(name);
+    let (written, rest) = match properties(alloc, ctx, rest) {
+        Ok(found) => found,
+        Err(e) => return Err(e),
+    };
+    scope.next = id + 1;
+    let (regions, rest) = match regions(alloc, scope, ctx, id, isolated, rest, depth - 1) {
+        Ok(found) => found,
+        Err(e) => return Err(e),
+    };
+    tail(alloc, scope, ctx, id, name, front, written, regions, rest)
+}
