@@ -1,10 +1,10 @@
 -- A world's facts have at most one proof each.
-use Rattle.std.specs.Prelude.{ℕ, Bool}
+use Rattle.std.specs.Prelude.{Bool}
 use Rattle.std.proofs.Props.{props}
 use Rattle.std.specs.List.{IsDistinct-prop}
 use Rattle.ir_types.specs.Things.{Things}
 use Rattle.ir_tree.specs.Tree.{Op}
-use Rattle.ir_tree.specs.WellFormed.{ModuleOf, IsFormed, IsWellFormed}
+use Rattle.ir_tree.specs.WellFormed.{ModuleOf, IsWellFormed}
 use Rattle.ir_tree.specs.Meaning.{IsSoundIn}
 
 pub sound_prop : (c : Things) (t : Op) → IsProp (IsSoundIn c t)

@@ -1,13 +1,13 @@
 -- Listeners that follow a world from one module to another.
-use Rattle.std.specs.Prelude.{◌≡◌, ℕ, ◌<◌, List, [], ◌∷◌, ◌++◌, length, Option, Some, None, Bool, true, false, ◌⊎◌, map, All, refl}
+use Rattle.std.specs.Prelude.{◌≡◌, ◌<◌, List, [], ◌∷◌, ◌++◌, length, Option, Some, None, refl}
 use Rattle.std.specs.List.{AllZip}
-use Rattle.std.proofs.Common.{inl, inr, sym, ◌∙◌, ap, append_assoc, append-nil, get_or, arith}
+use Rattle.std.proofs.Common.{inl, inr, sym, ◌∙◌, ap, append_assoc, append-nil, arith}
 use Rattle.std.proofs.lemmas.List.Elements.{length_all_zip, AllZip-get_or}
 use Rattle.ir_types.specs.Things.{Things}
 use Rattle.ir_event.specs.declared.event.Event.{Event}
 use Rattle.ir_event.specs.Modules.{Module}
 use Rattle.ir_event.specs.Step.{Step}
-use Rattle.ir_event.specs.Listener.{Listener, SameAnalysis, Told, Followed, GrownBy}
+use Rattle.ir_event.specs.Listener.{Listener, Told, Followed, GrownBy}
 use Rattle.ir_event.specs.Panels.{AllTold, AllFollowed, AllKept, kinds_of}
 
 -- ---- lists that are related place by place

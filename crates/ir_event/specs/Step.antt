@@ -1,12 +1,12 @@
 -- What one event does to a module, and which event undoes it.
-use Rattle.std.specs.Prelude.{◌≡◌, ℕ, ◌+◌, List, [], ◌∷◌, slice_get, eqb, Bool, true, false, IsTrue, Option, Some, None, option_map, option_and_then}
+use Rattle.std.specs.Prelude.{◌≡◌, ℕ, ◌+◌, List, [], ◌∷◌, slice_get, eqb, Bool, true, false, Option, Some, None, option_map, option_and_then}
 use Rattle.ir_types.specs.Things.{Things, IsName, IsAttr}
 use Rattle.ir_types.specs.Terms.{name_term, attr_term}
 use Rattle.ir_types.specs.Words.{is_isolated, is_table}
 use Rattle.ir_tree.specs.declared.value.Value.{Value}
 use Rattle.ir_tree.specs.declared.place.Place.{Place}
 use Rattle.ir_tree.specs.declared.place.Part.{Part}
-use Rattle.ir_tree.specs.Tree.{OpOf, RegionsOf, no_regions, region, RegionOf, empty, block, OpsOf, no_ops, next, head, regions}
+use Rattle.ir_tree.specs.Tree.{OpOf, RegionsOf, no_regions, region, empty, block, no_ops, next, head, regions}
 use Rattle.ir_tree.specs.Ids.{find}
 use Rattle.ir_tree.specs.Uses.{uses_of}
 use Rattle.ir_tree.specs.Frames.{owner_of}
@@ -115,3 +115,11 @@ inverse_of (Take x place fresh) = Put x place fresh
 inverse_of (SetOperand x k old new) = SetOperand x k new old
 inverse_of (SetEntry x part key old new) = SetEntry x part key new old
 inverse_of (Shift x old new) = Shift x new old
+
+-- the event says that operand k of operation x was one value of a tree and is now another
+abbrev pub IsOperandEvent : {N T A : Type 0} → ℕ → ℕ → Value → OpOf N T A → Event → Type 0
+IsOperandEvent x k new t e = (old : Value) × (e ≡ SetOperand x k old new) × (operand_at x k t ≡ Some old)
+
+-- the event sets operand k of operation x to a value, and leads from one module to the other
+abbrev pub IsOperandStep : ℕ → ℕ → Value → Event → Things → Module → Module → Type 0
+IsOperandStep x k new e c m n = (old : Value) × (e ≡ SetOperand x k old new) × Step c e m n
