@@ -74,13 +74,7 @@ pub(crate) fn follow(table: &mut BTreeSet<Key>, event: &Event) -> bool
 }
 
 /// Makes a use of one value a use of another.
-fn exchange(
-    table: &mut BTreeSet<Key>,
-    user: OpId,
-    operand: u32,
-    old: &Value,
-    new: &Value,
-) -> bool
+fn exchange(table: &mut BTreeSet<Key>, user: OpId, operand: u32, old: &Value, new: &Value) -> bool
     ensures { (us : List Usage) → table.old.keys ≡ keys_of (put_use (record { value = old.now; user = user; operand = operand }) us)
         → OnTrue result (table.new.keys ≡ keys_of (put_use (record { value = new.now; user = user; operand = operand }) us)) }
 {

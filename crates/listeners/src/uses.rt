@@ -1,5 +1,7 @@
 //! The listener that keeps the uses of values.
-ghost use Rattle.std.specs.Prelude.{◌≡◌, true};
+ghost use Rattle.std.specs.Prelude.{◌≡◌, true, IfOk};
+ghost use Rattle.listeners.specs.Uses.{uses_of};
+ghost use Rattle.listeners.specs.Keys.{keys_of};
 
 use crate::collect::collect;
 use crate::key::Key;
@@ -17,6 +19,7 @@ use std::collections::BTreeSet;
 /// It follows an operand that is set, and is stale after any other event, and where its own growth is refused.
 #[derive(Drop)]
 pub struct Uses {
+    alloc: Global,
     table: BTreeSet<Key>,
     stale: bool,
 }
@@ -29,6 +32,7 @@ impl Uses {
         ensures { (uses_listener result).stale ≡ true }
     {
         Uses {
+            alloc,
             table: BTreeSet::new(alloc),
             stale: true,
         }
@@ -36,7 +40,9 @@ impl Uses {
 }
 
 /// The table of a world's uses.
-fn table_in(alloc: Global, world: &World) -> Result<BTreeSet<Key>, Memory> {
+fn table_in(alloc: Global, world: &World) -> Result<BTreeSet<Key>, Memory>
+    ensures { IfOk result (λ t. t.keys ≡ keys_of (uses_of world.now.store.tree)) }
+{
     let Ok(tree) = world.store.tree() else {
         return Err(Memory);
     };
@@ -44,4 +50,53 @@ fn table_in(alloc: Global, world: &World) -> Result<BTreeSet<Key>, Memory> {
         return Err(Memory);
     };
     table_of(alloc, &uses)
+}
+
+impl Analysis for Uses {
+    ghost use Rattle.listeners.specs.Listeners.{uses_listener};
+
+    ghost meaning = { uses_listener };
+
+    fn kind(&self) -> Kind {
+        Kind::new(1)
+    }
+
+    fn begin(&mut self, world: &World) -> Result<(), Memory> {
+        match table_in(self.alloc, world) {
+            Ok(table) => {
+                self.table = table;
+                self.stale = false;
+                Ok(())
+            }
+            Err(Memory) => {
+                self.stale = true;
+                Err(Memory)
+            }
+        }
+    }
+
+    fn told<'a>(&mut self, view: View<'a>, event: Event) -> View<'a> {
+        if self.stale {
+            return view;
+        }
+        if !follow(&mut self.table, &event) {
+            self.stale = true;
+            return view;
+        }
+        view
+    }
+
+    fn stale(&self) -> bool {
+        self.stale
+    }
+
+    fn report(&self, alloc: Global) -> Result<Vec<Row>, ReportFault> {
+        if self.stale {
+            return Err(ReportFault::Stale);
+        }
+        match rows(alloc, &self.table) {
+            Ok(rows) => Ok(rows),
+            Err(_) => Err(ReportFault::Memory),
+        }
+    }
 }
