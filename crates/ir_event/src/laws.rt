@@ -3,6 +3,7 @@ ghost use Rattle.std.specs.Prelude.{◌≡◌, ◌↔◌, ℕ, List, [], ◌∷�
 ghost use Rattle.ir_types.specs.Things.{Things, Grows};
 ghost use Rattle.ir_types.specs.Sound.{Holds};
 ghost use Rattle.ir_types.specs.Words.{is_isolated};
+ghost use Rattle.ir_types.specs.declared.refusal.Refusal.{Refusal as Reason};
 ghost use Rattle.ir_tree.specs.declared.value.Value.{Value as TreeValue};
 ghost use Rattle.ir_tree.specs.Edits.{with_operand};
 ghost use Rattle.ir_tree.specs.Meaning.{isolated_in};
@@ -11,7 +12,7 @@ ghost use Rattle.ir_event.specs.declared.event.Event.{Event as Edit};
 ghost use Rattle.ir_event.specs.declared.event.Event.TheVariants.{SetOperand};
 ghost use Rattle.ir_event.specs.Modules.{Module, module_meaning};
 ghost use Rattle.ir_event.specs.Step.{Step, inverse_of, operand_at};
-ghost use Rattle.ir_event.specs.Panels.{AllTold, AllFollowed, AllKept, kinds_of};
+ghost use Rattle.ir_event.specs.Panels.{AllTold, AllFollowed, AllKept, AttachedLast, Detached, BegunAgain, NotBegunAgain, kinds_of};
 
 use crate::analysis::Analysis;
 
@@ -43,4 +44,14 @@ pub fn told_listeners_follow<L: Analysis>()
     ensures one { (e : Edit) (c : Things) (m n : Module) (xs ys : List L) → Step c e m n → AllTold L.meaning e c n xs ys → AllFollowed L.meaning (e ∷ []) c m c n xs ys }
     ensures more { (es fs : List Edit) (c d f : Things) (m n p : Module) (xs ys zs : List L) → AllFollowed L.meaning es c m d n xs ys → AllFollowed L.meaning fs d n f p ys zs → AllFollowed L.meaning (es ++ fs) c m f p xs zs }
     ensures followed { (es : List Edit) (c d : Things) (m n : Module) (xs ys : List L) → AllFollowed L.meaning es c m d n xs ys → AllKept L.meaning c m xs → AllKept L.meaning d n ys }
+{}
+
+/// Where listeners each agree with a module or are stale, they still do where one is attached, dropped or
+/// begun again, and when the context grows.
+pub fn kept_listeners_stay_kept<L: Analysis>()
+    ensures attached { (c : Things) (m : Module) (b : L) (xs ys : List L) → AttachedLast L.meaning c m b xs ys → AllKept L.meaning c m xs → AllKept L.meaning c m ys }
+    ensures detached { (kind : ℕ) (c : Things) (m : Module) (xs ys : List L) → Detached L.meaning kind xs ys → AllKept L.meaning c m xs → AllKept L.meaning c m ys }
+    ensures begun { (kind : ℕ) (c : Things) (m : Module) (xs ys : List L) → BegunAgain L.meaning kind (λ b. b.agrees c m) xs ys → AllKept L.meaning c m xs → AllKept L.meaning c m ys }
+    ensures not_begun { (kind : ℕ) (c : Things) (m : Module) (xs ys : List L) (e : Reason) → NotBegunAgain L.meaning kind xs ys e → AllKept L.meaning c m xs → AllKept L.meaning c m ys }
+    ensures grown { (c d : Things) (m : Module) (xs : List L) → Holds c → Grows c d → AllKept L.meaning c m xs → AllKept L.meaning d m xs }
 {}

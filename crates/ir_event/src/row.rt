@@ -7,7 +7,7 @@ use ir_types::ids::{AttrId, NameId, OpId};
 use std::marker::Model;
 
 /// One cell of a row.
-#[derive(Clone, Copy, Debug)]
+#[derive(Clone, Copy, Debug, PartialEq, Eq)]
 pub enum Cell {
     /// An operation.
     Op(OpId),
