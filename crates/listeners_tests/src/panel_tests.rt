@@ -1,5 +1,5 @@
 //! The panel, and what listeners are shown.
-use crate::worlds::{a_world, arg, report_refusal, result};
+use crate::worlds::{a_world, arg, report_refusal, result, set_refusal};
 use ir_event::analysis::Analysis;
 use ir_event::panel::Panel;
 use ir_event::row::Kind;
@@ -56,15 +56,8 @@ fn counts_looks(rt: HostRuntime) -> Result<(), Refusal> {
 fn refuses_an_operand(rt: HostRuntime) -> Result<(), Refusal> {
     let alloc = rt.alloc();
     let mut world = a_world(alloc)?;
-    for (op, operand, want) in [
-        (4, 0, Refusal::NoSuchOp),
-        (3, 2, Refusal::NoSuchIndex),
-        (3, 0, Refusal::NotVisible),
-    ] {
-        let refusal = world
-            .set_operand(OpId::new(op), operand, result(3, 0))
-            .err();
-        assert!(rt; refusal == Some(want), "#{op} {operand}");
-    }
+    assert!(rt; set_refusal(&mut world, 4, 0, result(3, 0)) == Some(Refusal::NoSuchOp));
+    assert!(rt; set_refusal(&mut world, 3, 2, result(3, 0)) == Some(Refusal::NoSuchIndex));
+    assert!(rt; set_refusal(&mut world, 3, 0, result(3, 0)) == Some(Refusal::NotVisible));
     Ok(())
 }

@@ -1,7 +1,7 @@
 //! The listener of uses.
-use crate::worlds::{a_world, are_rows, arg, report_refusal, reports, result};
+use crate::worlds::{a_world, are_rows, arg, report_refusal, reports, result, set_and_tell};
 use ir_event::analysis::Analysis;
-use ir_event::event::{Event, inverse};
+use ir_event::event::Event;
 use ir_event::panel::Panel;
 use ir_event::row::{Kind, ReportFault};
 use ir_tree::place::Place;
@@ -17,8 +17,7 @@ fn follows_an_operand(rt: HostRuntime) -> Result<(), Refusal> {
     let uses = Box::new(alloc, Uses::new(alloc))?;
     assert!(rt; panel.attach(&world, uses).is_ok());
     assert!(rt; reports(alloc, &panel, &[(arg(1, 0, 0), 3, 1), (result(2, 0), 3, 0)]));
-    let event = world.set_operand(OpId::new(3), 0, arg(1, 0, 0))?;
-    panel.tell(&world, event);
+    assert!(rt; set_and_tell(&mut world, &mut panel, 3, 0, arg(1, 0, 0)));
     assert!(rt; reports(alloc, &panel, &[(arg(1, 0, 0), 3, 0), (arg(1, 0, 0), 3, 1)]));
     Ok(())
 }
@@ -29,12 +28,9 @@ fn follows_an_operand_back(rt: HostRuntime) -> Result<(), Refusal> {
     let mut world = a_world(alloc)?;
     let mut panel: Panel<Uses> = Panel::new(alloc);
     assert!(rt; panel.attach(&world, Uses::new(alloc)).is_ok());
-    let event = world.set_operand(OpId::new(3), 1, result(2, 0))?;
-    panel.tell(&world, event);
+    assert!(rt; set_and_tell(&mut world, &mut panel, 3, 1, result(2, 0)));
     assert!(rt; reports(alloc, &panel, &[(result(2, 0), 3, 0), (result(2, 0), 3, 1)]));
-    let back = world.set_operand(OpId::new(3), 1, arg(1, 0, 0))?;
-    assert!(rt; back == inverse(event));
-    panel.tell(&world, back);
+    assert!(rt; set_and_tell(&mut world, &mut panel, 3, 1, arg(1, 0, 0)));
     assert!(rt; reports(alloc, &panel, &[(arg(1, 0, 0), 3, 1), (result(2, 0), 3, 0)]));
     Ok(())
 }

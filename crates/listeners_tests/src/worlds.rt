@@ -153,3 +153,28 @@ pub fn reports<L: Analysis>(alloc: Global, panel: &Panel<L>, wanted: &[Used]) ->
 pub fn report_refusal<L: Analysis>(alloc: Global, panel: &Panel<L>) -> Option<Refusal> {
     panel.report(alloc, Kind::new(1)).err()
 }
+
+/// Sets an operand and tells a panel of it, or is false where that is refused.
+pub fn set_and_tell<L: Analysis>(
+    world: &mut World,
+    panel: &mut Panel<L>,
+    op: u32,
+    operand: u32,
+    value: Value,
+) -> bool {
+    match world.set_operand(OpId::new(op), operand, value) {
+        Ok(event) => {
+            panel.tell(world, event);
+            true
+        }
+        Err(_) => false,
+    }
+}
+
+/// Why an operand can't be set.
+pub fn set_refusal(world: &mut World, op: u32, operand: u32, value: Value) -> Option<Refusal> {
+    match world.set_operand(OpId::new(op), operand, value) {
+        Ok(_) => None,
+        Err(refusal) => Some(refusal),
+    }
+}
