@@ -1,0 +1,9 @@
+pub mod Modules
+pub mod Tables
+pub mod Step
+pub mod Rows
+pub mod Listener
+pub mod Panels
+pub mod Follows
+pub mod Looks
+pub mod Facts

@@ -1,0 +1,22 @@
+-- Modules of contents: what the module of a world stands for.
+use Rattle.std.specs.Prelude.{ℕ, List}
+use Rattle.ir_types.specs.Things.{Things}
+use Rattle.ir_types.specs.Terms.{TypeTerm, AttrTerm}
+use Rattle.ir_tree.specs.WellFormed.{ModuleOf, Module as Numbered}
+use Rattle.ir_tree.specs.Meaning.{meaning}
+use Rattle.ir_event.specs.declared.world.World.{World}
+
+-- a module whose names, types and attributes are contents
+abbrev pub Module : Type 0
+Module = ModuleOf (List ℕ) TypeTerm AttrTerm
+
+-- what a module of numbers of a context stands for
+abbrev pub module_meaning : Things → Numbered → Module
+module_meaning c m = record { tree = meaning c m.tree; next = m.next }
+
+-- the context of a world, and what its module stands for
+abbrev pub things_in : World → Things
+things_in w = w.ctx
+
+abbrev pub module_in : World → Module
+module_in w = module_meaning w.ctx w.store

@@ -1,0 +1,76 @@
+-- Lists of listeners.
+use Rattle.std.specs.Prelude.{◌≡◌, ℕ, List, [], ◌∷◌, ◌++◌, Bool, true, false, ◌==◌, ◌⊎◌, Some, is_some, position, remove, slice_get, slice_set, map, All}
+use Rattle.std.specs.List.{AllZip}
+use Rattle.ir_types.specs.Things.{Things}
+use Rattle.ir_types.specs.declared.refusal.Refusal.{Refusal}
+use Rattle.ir_types.specs.declared.refusal.Refusal.TheVariants.{KindTaken, NoSuchKind, Memory}
+use Rattle.ir_event.specs.declared.event.Event.{Event}
+use Rattle.ir_event.specs.Modules.{Module}
+use Rattle.ir_event.specs.Listener.{Listener, SameAnalysis, Told, Followed}
+
+-- `B` is a type of listeners, as a box, and `meaning` what each of them means
+module _ {B : Type 0} (meaning : B → Listener) where
+  -- the kinds, in order
+  abbrev pub kinds_of : List B → List ℕ
+  kinds_of bs = map (λ b. (meaning b).kind) bs
+
+  -- whether a listener has this kind
+  abbrev pub is_kind : ℕ → B → Bool
+  is_kind kind b = (meaning b).kind == kind
+
+  -- whether a listener of this kind is attached
+  abbrev pub has_kind : ℕ → List B → Bool
+  has_kind kind bs = is_some (position (is_kind kind) bs)
+
+  -- b is the listener of this kind
+  abbrev pub IsListener : ℕ → List B → B → Type 0
+  IsListener kind bs b = (place : ℕ) × (position (is_kind kind) bs ≡ Some place) × (slice_get bs place ≡ Some b)
+
+  -- each listener agrees with the module, or is stale
+  abbrev pub AllKept : Things → Module → List B → Type 0
+  AllKept c m = All (λ b. (meaning b).agrees c m ⊎ ((meaning b).stale ≡ true))
+
+  -- each listener was told of the event while the world showed n; none was added, dropped or moved
+  abbrev pub AllTold : Event → Things → Module → List B → List B → Type 0
+  AllTold e c n = AllZip (λ a b. Told e c n (meaning a) (meaning b))
+
+  -- each listener was told of these events while the world went from c and m to d and n; none was added, dropped or moved
+  abbrev pub AllFollowed : List Event → Things → Module → Things → Module → List B → List B → Type 0
+  AllFollowed es c m d n = AllZip (λ a b. Followed es c m d n (meaning a) (meaning b))
+
+  -- the listener was begun and added last
+  pub record AttachedLast (c : Things) (m : Module) (listener : B) (old new : List B) : Type 0 where
+    pub begun : B
+    pub last : new ≡ old ++ begun ∷ []
+    pub same : SameAnalysis (meaning listener) (meaning begun)
+    pub agrees : (meaning begun).agrees c m
+    pub free : has_kind (meaning listener).kind old ≡ false
+
+  -- the listener was handed back: as it was, since another of its kind is attached, or for want of memory
+  abbrev pub HandedBack : List B → B → Refusal → B → Type 0
+  HandedBack old listener KindTaken back = (back ≡ listener) × (has_kind (meaning listener).kind old ≡ true)
+  HandedBack old listener Memory back = SameAnalysis (meaning listener) (meaning back) × (has_kind (meaning listener).kind old ≡ false)
+  HandedBack old listener _ back = ⊥
+
+  -- the listener of this kind is gone, and the others are in order
+  pub record Detached (kind : ℕ) (old new : List B) : Type 0 where
+    pub place : ℕ
+    pub is : position (is_kind kind) old ≡ Some place
+    pub rest : new ≡ remove old place
+
+  -- the listener of this kind was begun again, and the others are as they were
+  pub record BegunAgain (kind : ℕ) (P : Listener → Type 0) (old new : List B) : Type 0 where
+    pub place : ℕ
+    pub before : B
+    pub after : B
+    pub is : position (is_kind kind) old ≡ Some place
+    pub was : slice_get old place ≡ Some before
+    pub rest : new ≡ slice_set old place after
+    pub same : SameAnalysis (meaning before) (meaning after)
+    pub gives : P (meaning after)
+
+  -- what a refusal of `resync` leaves
+  abbrev pub NotBegunAgain : ℕ → List B → List B → Refusal → Type 0
+  NotBegunAgain kind old new NoSuchKind = (new ≡ old) × (has_kind kind old ≡ false)
+  NotBegunAgain kind old new Memory = BegunAgain kind (λ b. b.stale ≡ true) old new
+  NotBegunAgain kind old new _ = ⊥

@@ -1,0 +1,74 @@
+-- The rows of reports.
+use Rattle.std.specs.Prelude.{◌≡◌, ℕ, ◌<◌, List, map}
+use Rattle.std.specs.List.{All}
+use Rattle.ir_types.specs.Things.{Things, IsName, IsAttr}
+use Rattle.ir_types.specs.Terms.{AttrTerm, IntegerOf, String, TypeOf, Flag, Array, Dictionary, Symbol, DenseArray, Overflow, name_term, attr_term}
+use Rattle.ir_types.specs.declared.bits.BitsKind.{BitsKind}
+use Rattle.ir_tree.specs.declared.value.Value.{Value}
+use Rattle.ir_event.specs.declared.row.Cell.{Cell}
+use Rattle.ir_event.specs.declared.row.Cell.TheVariants as cell
+use Rattle.ir_event.specs.declared.row.Row.{Row}
+
+-- a cell whose names and paths are contents
+pub data CellTerm : Type 0 where
+  Op : ℕ → CellTerm
+  Val : Value → CellTerm
+  Num : ℕ → CellTerm
+  Name : List ℕ → CellTerm
+  Path : AttrTerm → CellTerm
+  Bits : BitsKind → ℕ → CellTerm
+  Rule : ℕ → CellTerm
+  Tag : ℕ → CellTerm
+
+-- a row of them
+abbrev pub RowTerm : Type 0
+RowTerm = List CellTerm
+
+-- what a cell of numbers of a context stands for
+abbrev pub cell_meaning : Things → Cell → CellTerm
+cell_meaning c (cell.Op x) = Op x
+cell_meaning c (cell.Val v) = Val v
+cell_meaning c (cell.Num n) = Num n
+cell_meaning c (cell.Name n) = Name (name_term c n)
+cell_meaning c (cell.Path a) = Path (attr_term c a)
+cell_meaning c (cell.Bits b) = Bits b.kind b.value
+cell_meaning c (cell.Rule r) = Rule r
+cell_meaning c (cell.Tag t) = Tag t
+
+-- and what rows do
+abbrev pub row_meaning : Things → Row → RowTerm
+row_meaning c row = map (cell_meaning c) row.cells.items
+
+abbrev pub rows_meaning : Things → List Row → List RowTerm
+rows_meaning c rows = map (row_meaning c) rows
+
+-- an attribute that is a symbol reference
+abbrev pub IsSymbol : AttrTerm → Type 0
+IsSymbol (IntegerOf ty value) = ⊥
+IsSymbol (String bytes) = ⊥
+IsSymbol (TypeOf ty) = ⊥
+IsSymbol Flag = ⊥
+IsSymbol (Array items) = ⊥
+IsSymbol (Dictionary items) = ⊥
+IsSymbol (Symbol parts) = Unit {0}
+IsSymbol (DenseArray ty values) = ⊥
+IsSymbol (Overflow nsw nuw) = ⊥
+
+-- a cell's numbers are of a context: a name, a symbol reference, and one of ten tags
+abbrev pub CellIsOf : Things → Cell → Type 0
+CellIsOf c (cell.Op x) = Unit {0}
+CellIsOf c (cell.Val v) = Unit {0}
+CellIsOf c (cell.Num n) = Unit {0}
+CellIsOf c (cell.Name n) = IsName c n
+CellIsOf c (cell.Path a) = IsAttr c a × IsSymbol (attr_term c a)
+CellIsOf c (cell.Bits b) = Unit {0}
+CellIsOf c (cell.Rule r) = Unit {0}
+CellIsOf c (cell.Tag t) = t < 10
+
+abbrev pub RowIsOf : Things → Row → Type 0
+RowIsOf c row = All (CellIsOf c) row.cells.items
+
+-- rows of numbers of a context that stand for these
+pub record Shows (c : Things) (rows : List Row) (terms : List RowTerm) : Type 0 where
+  pub says : rows_meaning c rows ≡ terms
+  pub known : All (RowIsOf c) rows

@@ -1,0 +1,91 @@
+//! Worlds that are made, and edited.
+ghost use Rattle.std.specs.Prelude.{◌≡◌, ◌<◌, ◌⊎◌, IfOk, IfErr, OnOk, OnErr, MatchResult, Some, None, Err};
+ghost use Rattle.std.specs.List.{All};
+ghost use Rattle.ir_types.specs.Reasons.{IsRefusedFor};
+ghost use Rattle.ir_tree.specs.Ids.{ids, HasDistinctIds};
+ghost use Rattle.ir_tree.specs.Edits.{with_operand};
+ghost use Rattle.ir_tree.specs.Meaning.{isolated_in, IsSoundIn};
+ghost use Rattle.ir_tree.specs.WellFormed.{fault, IsWellFormed};
+ghost use Rattle.ir_store.specs.Reasons.{set_operand_reason};
+ghost use Rattle.ir_event.specs.Modules.{things_in, module_in};
+ghost use Rattle.ir_event.specs.Step.{operand_at, IsOperandEvent, IsOperandStep};
+
+use crate::event::Event;
+use crate::world::World;
+use ir_store::store::Store;
+use ir_tree::tree::TreeOp;
+use ir_tree::value::Value;
+use ir_types::context::Context;
+use ir_types::ids::OpId;
+use ir_types::refusal::Refusal;
+use std::alloc::Global;
+
+/// An operand of an operation by its number, or none where it has no such operand or isn't in the module.
+fn operand_of(store: &Store, op: OpId, operand: u32) -> Option<Value>
+    ensures { result ≡ operand_at op operand store.now.tree }
+{
+    let node = store.node(op)?;
+    node.operands().get(operand as usize).copied()
+}
+
+/// Sets an operand of a store's module, and gives the event.
+fn set_in(
+    ctx: &Context,
+    store: &mut Store,
+    op: OpId,
+    operand: u32,
+    value: &Value,
+) -> Result<Event, Refusal>
+    ensures event { IfOk result (λ e. IsOperandEvent op operand value.now store.old.tree e) }
+    ensures store { OnOk result (store.new ≡ record store.old { tree = with_operand op operand value.now store.old.tree }) }
+    ensures refused { MatchResult result (λ _. set_operand_reason (isolated_in ctx.now) op operand value.now store.old.tree ≡ None)
+        (λ e. IsRefusedFor {A = Unit {0}} (set_operand_reason (isolated_in ctx.now) op operand value.now store.old.tree) (Err e)) }
+    ensures formed { IsWellFormed (isolated_in ctx.now) store.old → IsWellFormed (isolated_in ctx.now) store.new }
+    ensures err { OnErr result (store.new ≡ store.old) }
+{
+    let Some(old) = operand_of(store, op, operand) else {
+        return match store.set_operand(ctx, op, operand, *value) {
+            Ok(()) => Err(Refusal::NoSuchIndex),
+            Err(refusal) => Err(refusal),
+        };
+    };
+    store.set_operand(ctx, op, operand, *value)?;
+    Ok(Event::SetOperand {
+        op,
+        operand,
+        old,
+        new: *value,
+    })
+}
+
+impl World {
+    /// A world with a context, and a module with a tree and a next free id.
+    ///
+    /// Refusals: `UnknownValue`, `TooDeep`, `TooMany` in this order; `Memory`.
+    pub fn load(alloc: Global, ctx: Context, tree: &TreeOp, next: u32) -> Result<World, Refusal>
+        requires sound { IsSoundIn ctx tree.now }
+        requires distinct { HasDistinctIds tree.now }
+        requires below { All (λ x. x < next) (ids tree.now) }
+        ensures ctx { IfOk result (λ w. w.ctx ≡ ctx) }
+        ensures store { IfOk result (λ w. w.store ≡ record { tree = tree.now; next = next }) }
+        ensures refused { IfErr result (λ e. (e ≡ Refusal.Memory) ⊎ (fault (isolated_in ctx) tree.now ≡ Some e)) }
+    {
+        let store = Store::load(alloc, &ctx, tree, next)?;
+        Ok(World { ctx, store })
+    }
+
+    /// Makes a value an operand of an operation, in place of the one that was there, and gives the event.
+    ///
+    /// Refusals: `NoSuchOp`; `NoSuchIndex` where it has no such operand; `NoSuchValue`; `NotVisible` where
+    /// the operation doesn't see the value; in this order; and `Memory`.
+    pub fn set_operand(&mut self, op: OpId, operand: u32, value: Value) -> Result<Event, Refusal>
+        ensures step { IfOk result (λ e. IsOperandStep op operand value e (things_in self.old) (module_in self.old) (module_in self.new)) }
+        ensures store { OnOk result (self.new.store ≡ record self.old.store { tree = with_operand op operand value self.old.store.tree }) }
+        ensures ctx { self.new.ctx ≡ self.old.ctx }
+        ensures refused { MatchResult result (λ _. set_operand_reason (isolated_in self.old.ctx) op operand value self.old.store.tree ≡ None)
+            (λ e. IsRefusedFor {A = Unit {0}} (set_operand_reason (isolated_in self.old.ctx) op operand value self.old.store.tree) (Err e)) }
+        ensures err { OnErr result (self.new.store ≡ self.old.store) }
+    {
+        set_in(&self.ctx, &mut self.store, op, operand, &value)
+    }
+}

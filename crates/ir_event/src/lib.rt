@@ -1,0 +1,12 @@
+//! Each listener that is told of an event and agreed with the module before it agrees with the module after
+//! it, or is stale, and a panel tells every one of its listeners.
+#![tactic(auto)]
+
+pub mod analysis;
+pub mod edits;
+pub mod event;
+pub mod laws;
+pub mod panel;
+pub mod row;
+pub mod view;
+pub mod world;

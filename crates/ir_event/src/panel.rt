@@ -1,0 +1,138 @@
+//! The panel, which owns listeners.
+ghost use Rattle.std.specs.Prelude.{◌≡◌, [], OnOk, OnErr, IfErr, true, false, position, MatchResult, IsErrOf};
+ghost use Rattle.ir_types.specs.Things.{Things};
+ghost use Rattle.ir_types.specs.declared.refusal.Refusal.TheVariants.{NoSuchKind, Stale, Memory as NoMemory};
+ghost use Rattle.ir_event.specs.Modules.{Module, things_in, module_in};
+ghost use Rattle.ir_event.specs.Rows.{Shows};
+ghost use Rattle.ir_event.specs.Panels.{has_kind, is_kind, AllTold, AttachedLast, HandedBack, Detached, BegunAgain, NotBegunAgain, IsListener};
+
+use crate::analysis::Analysis;
+use crate::event::Event;
+use crate::row::{Kind, Memory, ReportFault, Row};
+use crate::view::View;
+use crate::world::World;
+use ir_types::refusal::Refusal;
+use std::alloc::Global;
+use std::marker::Model;
+
+/// Listeners, at most one of each kind, in the order in which they were attached. A contract sees their list.
+#[derive(Drop)]
+pub struct Panel<L> {
+    listeners: Vec<L>,
+}
+
+impl<L> Model for Panel<L> {
+    ghost use Rattle.std.specs.Prelude.{List};
+
+    ghost Value = { List L };
+
+    ghost view = { λ a. a.listeners.items };
+}
+
+fn tell_all<L: Analysis>(listeners: &mut [L], world: &World, event: &Event)
+    ensures { AllTold L.meaning event.now (things_in world.now) (module_in world.now) listeners.old listeners.new }
+{
+    for listener in listeners {
+        let _ = listener.told(View::new(world), *event);
+    }
+}
+
+fn place_of_kind<L: Analysis>(listeners: &[L], kind: Kind) -> Option<usize>
+    ensures { result ≡ position (is_kind L.meaning kind) listeners.now }
+{
+    listeners.iter().position(
+        |listener: &L| -> bool
+            ensures { result ≡ is_kind L.meaning kind listener.now }
+        { listener.kind().number() == kind.number() },
+    )
+}
+
+impl<L: Analysis> Panel<L> {
+    /// A panel without listeners.
+    pub fn new(alloc: Global) -> Panel<L>
+        ensures { result ≡ [] }
+    {
+        Panel {
+            listeners: Vec::new(alloc),
+        }
+    }
+
+    /// Begins a listener and adds it last, or hands it back.
+    ///
+    /// Refusals: `KindTaken` where one of its kind is attached, and then it is as it was; `Memory`.
+    pub fn attach(&mut self, world: &World, listener: L) -> Result<(), (Refusal, L)>
+        ensures ok { OnOk result (AttachedLast L.meaning (things_in world.now) (module_in world.now) listener self.old self.new) }
+        ensures err { OnErr result (self.new ≡ self.old) }
+        ensures back { IfErr result (λ e. HandedBack L.meaning self.old listener e.0 e.1) }
+    {
+        if place_of_kind(&self.listeners, listener.kind()).is_some() {
+            return Err((Refusal::KindTaken, listener));
+        }
+        let mut listener = listener;
+        match listener.begin(world) {
+            Err(Memory) => Err((Refusal::Memory, listener)),
+            Ok(()) => match self.listeners.push(listener) {
+                Ok(()) => Ok(()),
+                Err(failed) => Err((Refusal::Memory, failed.value)),
+            },
+        }
+    }
+
+    /// Drops the listener of a kind. The others stay in order.
+    ///
+    /// Refusals: `NoSuchKind` alone.
+    pub fn detach(&mut self, kind: Kind) -> Result<(), Refusal>
+        ensures ok { OnOk result (Detached L.meaning kind self.old self.new) }
+        ensures err { OnErr result (self.new ≡ self.old) }
+        ensures missing { IfErr result (λ e. (e ≡ NoSuchKind) × (has_kind L.meaning kind self.old ≡ false)) }
+    {
+        match place_of_kind(&self.listeners, kind) {
+            None => Err(Refusal::NoSuchKind),
+            Some(place) => {
+                self.listeners.remove(place);
+                Ok(())
+            }
+        }
+    }
+
+    /// Begins the listener of a kind again. The others stay as they are.
+    ///
+    /// Refusals: `NoSuchKind`; `Memory`, and then the listener is stale.
+    pub fn resync(&mut self, world: &World, kind: Kind) -> Result<(), Refusal>
+        ensures ok { OnOk result (BegunAgain L.meaning kind (λ b. b.agrees (things_in world.now) (module_in world.now)) self.old self.new) }
+        ensures err { IfErr result (λ e. NotBegunAgain L.meaning kind self.old self.new e) }
+    {
+        match place_of_kind(&self.listeners, kind) {
+            None => Err(Refusal::NoSuchKind),
+            Some(place) => match self.listeners[place].begin(world) {
+                Err(Memory) => Err(Refusal::Memory),
+                Ok(()) => Ok(()),
+            },
+        }
+    }
+
+    /// The rows of the listener of a kind.
+    ///
+    /// Refusals: `NoSuchKind`; `Stale`; `Memory`.
+    pub fn report(&self, alloc: Global, kind: Kind) -> Result<Vec<Row>, Refusal>
+        ensures missing { has_kind L.meaning kind self.now ≡ false → IsErrOf result NoSuchKind }
+        ensures agreed { (b : L) (c : Things) (m : Module) → IsListener L.meaning kind self.now b → (L.meaning b).agrees c m → MatchResult result (λ rows. Shows c rows.items ((L.meaning b).analysis m.tree)) (λ e. e ≡ NoMemory) }
+        ensures stale { (b : L) → IsListener L.meaning kind self.now b → (L.meaning b).stale ≡ true → IsErrOf result Stale }
+    {
+        match place_of_kind(&self.listeners, kind) {
+            None => Err(Refusal::NoSuchKind),
+            Some(place) => match self.listeners[place].report(alloc) {
+                Ok(rows) => Ok(rows),
+                Err(ReportFault::Stale) => Err(Refusal::Stale),
+                Err(ReportFault::Memory) => Err(Refusal::Memory),
+            },
+        }
+    }
+
+    /// Tells every listener of an event that was just made, also past a stale one.
+    pub fn tell(&mut self, world: &World, event: Event)
+        ensures { AllTold L.meaning event (things_in world.now) (module_in world.now) self.old self.new }
+    {
+        tell_all(&mut self.listeners, world, &event);
+    }
+}

@@ -1,0 +1,73 @@
+//! What a listener is shown when it is told of an event.
+ghost use Rattle.std.specs.Prelude.{◌≡◌, option_map};
+ghost use Rattle.ir_tree.specs.Ids.{find, has_id};
+ghost use Rattle.ir_store.specs.Nodes.{node_of};
+ghost use Rattle.ir_store.specs.Values.{type_of_value};
+ghost use Rattle.ir_event.specs.Looks.{one_more};
+
+use crate::world::World;
+use ir_store::node::Node;
+use ir_tree::value::Value;
+use ir_types::context::Context;
+use ir_types::ids::{OpId, TypeId};
+
+/// A look at a world. It counts the calls that read the module, and can't be copied.
+#[derive(Drop)]
+pub struct View<'a> {
+    world: &'a World,
+    looks: u64,
+}
+
+impl<'a> View<'a> {
+    /// A look at a world, of which nothing was read so far.
+    pub fn new(world: &'a World) -> View<'a>
+        ensures none { result.looks ≡ 0 }
+        ensures world { result.world.now ≡ world.entry.now }
+    {
+        View { world, looks: 0 }
+    }
+
+    /// How many calls have read the module, or the greatest u64 where there were more.
+    pub fn looks(&self) -> u64
+        ensures { result ≡ self.now.looks }
+    {
+        self.looks
+    }
+
+    /// The context of the module's names, types and attributes.
+    pub fn context(&self) -> &Context
+        ensures { result.now ≡ self.now.world.now.ctx }
+    {
+        &self.world.ctx
+    }
+
+    /// Whether an operation is in the module.
+    pub fn in_tree(&mut self, op: OpId) -> bool
+        ensures answer { result ≡ has_id op self.old.world.now.store.tree }
+        ensures looks { self.new.looks ≡ one_more self.old.looks }
+        ensures world { self.new.world.now ≡ self.old.world.now }
+    {
+        self.looks = self.looks.saturating_add(1);
+        self.world.store.in_tree(op)
+    }
+
+    /// What an operation has, beside the operations in its blocks, or none where it isn't in the module.
+    pub fn node(&mut self, op: OpId) -> Option<Node<'a>>
+        ensures answer { result ≡ option_map node_of (find op self.old.world.now.store.tree) }
+        ensures looks { self.new.looks ≡ one_more self.old.looks }
+        ensures world { self.new.world.now ≡ self.old.world.now }
+    {
+        self.looks = self.looks.saturating_add(1);
+        self.world.store.node(op)
+    }
+
+    /// The type of a value, or none where the module has no such value.
+    pub fn value_type(&mut self, value: Value) -> Option<TypeId>
+        ensures answer { result ≡ type_of_value value self.old.world.now.store.tree }
+        ensures looks { self.new.looks ≡ one_more self.old.looks }
+        ensures world { self.new.world.now ≡ self.old.world.now }
+    {
+        self.looks = self.looks.saturating_add(1);
+        self.world.store.value_type(value)
+    }
+}

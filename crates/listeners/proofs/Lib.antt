@@ -1,0 +1,4 @@
+pub mod Orders
+pub mod Keys
+pub mod Places
+pub mod Following

@@ -1,0 +1,38 @@
+-- Uses as a table keeps them.
+use Rattle.std.specs.Prelude.{◌≡◌, ℕ, List, [], ◌∷◌, map, Option, Some, None}
+use Rattle.ir_tree.specs.declared.value.Value.{Value}
+use Rattle.ir_tree.specs.declared.value.Value.TheVariants.{Result, Arg}
+use Rattle.ir_tree.specs.Frames.{owner_of, place_of}
+use Rattle.ir_event.specs.declared.event.Event.{Event}
+use Rattle.ir_event.specs.declared.event.Event.TheVariants.{Put, Take, SetOperand, SetEntry, Shift}
+use Rattle.ir_event.specs.declared.row.Cell.{Cell}
+use Rattle.ir_event.specs.declared.row.Cell.TheVariants as cell
+use Rattle.listeners.specs.declared.key.Use.{Use}
+use Rattle.listeners.specs.declared.key.Key.{Key}
+use Rattle.listeners.specs.Uses.{put_use}
+
+-- the key of a use
+abbrev pub key_of : Use → Key
+key_of u = record { owner = (owner_of u.value).0; region = (owner_of u.value).1; place = place_of u.value; user = u.user; operand = u.operand }
+
+-- the keys of uses
+abbrev pub keys_of : List Use → List Key
+keys_of us = map key_of us
+
+-- the value of an owner, a region if it is an argument, and a place
+abbrev pub value_at : ℕ → Option ℕ → ℕ → Value
+value_at x None k = Result x k
+value_at x (Some r) k = Arg x r k
+
+-- the cells of a key's row
+abbrev pub key_cells : Key → List Cell
+key_cells key = cell.Val (value_at key.owner key.region key.place) ∷ cell.Op key.user ∷ cell.Num key.operand ∷ []
+
+-- the keys before and after an event: where an operand was set its use is another
+abbrev pub IsFollowed : Event → List Key → List Key → Type 0
+IsFollowed (SetOperand x k old new) before after =
+    (us : List Use) → before ≡ keys_of (put_use (record { value = old; user = x; operand = k }) us) → after ≡ keys_of (put_use (record { value = new; user = x; operand = k }) us)
+IsFollowed (Put x place fresh) before after = ⊥
+IsFollowed (Take x place fresh) before after = ⊥
+IsFollowed (SetEntry x part key old new) before after = ⊥
+IsFollowed (Shift x old new) before after = ⊥

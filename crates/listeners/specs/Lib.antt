@@ -1,0 +1,4 @@
+pub mod Uses
+pub mod Keys
+pub mod Listeners
+pub mod Drops

@@ -1,0 +1,18 @@
+-- What each listener means.
+use Rattle.std.specs.Prelude.{◌≡◌, false, None}
+use Rattle.ir_event.specs.Listener.{Listener}
+use Rattle.listeners.specs.declared.uses.Uses.{Uses}
+use Rattle.listeners.specs.Uses.{uses_of, uses_rows}
+use Rattle.listeners.specs.Keys.{keys_of}
+
+-- the uses of a module are kept by their keys
+abbrev pub uses_listener : Uses → Listener
+uses_listener s = record {
+  kind = 1;
+  analysis = uses_rows;
+  agrees = λ c m. (s.stale ≡ false) × (s.table.keys ≡ keys_of (uses_of m.tree));
+  stale = s.stale;
+  heard = None;
+  fresh = λ c m h. h.0;
+  grows = λ c d m holds g h. h;
+}

@@ -1,0 +1,7 @@
+//! Listeners that follow a module: where one agreed with it before an event, it agrees with it after, or is stale.
+#![tactic(auto)]
+
+mod collect;
+pub mod key;
+mod table;
+pub mod uses;
