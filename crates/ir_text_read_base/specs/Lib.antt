@@ -6,3 +6,5 @@ pub mod Made
 pub mod OpReading
 pub mod Seen
 pub mod OpGrammar
+pub mod Spelling
+pub mod Claims
