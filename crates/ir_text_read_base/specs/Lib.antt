@@ -6,3 +6,4 @@ pub mod Made
 pub mod OpReading
 pub mod Seen
 pub mod OpGrammar
+pub mod Standing
