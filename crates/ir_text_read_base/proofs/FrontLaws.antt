@@ -12,6 +12,7 @@ use Rattle.ir_types.specs.Sound.{IsSound}
 use Rattle.ir_types.proofs.Growth.{grows_refl, grows_trans}
 use Rattle.ir_text_attr_base.specs.Marks.{after}
 use Rattle.ir_text_attr_base.specs.Outcomes.{Outcome, Read, Wrong, Full, ◌>>=◌, of_option, Parse}
+use Rattle.ir_text_attr_base.specs.Lists.{more_at, list_at}
 use Rattle.ir_text_attr_base.specs.Grammars.{Grammar, Then, Done, After, Not, IsMore, IsList, Token, IsMark}
 use Rattle.ir_text_attr_base.specs.Worlds.{From}
 use Rattle.ir_text_attr_base.specs.Laws.{Each}
@@ -84,6 +85,79 @@ module _ {S T : Type 0} (things : S → Things) (Same : Things → S → T → T
           let b = option_full (next (text s)) (λ l. f s l.0 l.1) e in
           (each b.0.0 b.0.1).full s t g sound h b.2;
     }
+
+-- ---- lists whose items are known of in contexts that grow from one alone
+
+module _ {S T : Type 0} (things : S → Things) (Same : Things → S → T → Type 0) (base : Things) where
+  abbrev Since : Things → S → T → Type 0
+  Since z s t = Grows base z × Same z s t
+
+  since : (s : S) (t : T) → Grows base (things s) → Agree things Same s t → Agree things Since s t
+  since s t b h = λ z g w. (grows_trans base (things s) z b g, h z g w)
+
+  since_back : (s : S) (t : T) → Agree things Since s t → Agree things Same s t
+  since_back s t h = λ z g w. (h z g w).1
+
+  base_of : (s : S) (t : T) → IsSound (things s) → Agree things Since s t → Grows base (things s)
+  base_of s t sound h = (h (things s) (grows_refl (things s)) sound).0
+
+  module _ {A B : Type 0} (R : Things → A → B → Type 0) where
+    step_since : (s : S) (x : A) (y : B) (s' : S) (t' : T) → Grows base (things s) → Step things Same R s x y s' t' → Step things Since R s x y s' t'
+    step_since s x y s' t' b k = record { grows = k.grows; sound = k.sound; stands = k.stands; agree = since s' t' (grows_trans base (things s) (things s') b k.grows) k.agree }
+
+    step_back : (s : S) (x : A) (y : B) (s' : S) (t' : T) → Step things Since R s x y s' t' → Step things Same R s x y s' t'
+    step_back s x y s' t' k = record { grows = k.grows; sound = k.sound; stands = k.stands; agree = since_back s' t' k.agree }
+
+    reads_since : (s : S) (o : Outcome (A × S)) (y : B) (t' : T) → Grows base (things s) → Reads things Same R s o y t' → Reads things Since R s o y t'
+    reads_since s o y t' b (inl e) = inl e
+    reads_since s o y t' b (inr k) = inr (k.0, k.1, k.2, step_since s k.0 y k.1 t' b k.3)
+
+    reads_back : (s : S) (o : Outcome (A × S)) (y : B) (t' : T) → Reads things Since R s o y t' → Reads things Same R s o y t'
+    reads_back s o y t' (inl e) = inl e
+    reads_back s o y t' (inr k) = inr (k.0, k.1, k.2, step_back s k.0 y k.1 t' k.3)
+
+    exact_since : (p : Parse S A) (P : Grammar T B) (d : Things) → ((c : Things) → Grows base c → Grows d c → Exact things Same c R p P) → Exact things Since d R p P
+    exact_since p P d each = record {
+      found = λ s t x s' g sound h e.
+          let b = base_of s t sound h in
+          let f = (each (things s) b g).found s t x s' (grows_refl (things s)) sound (since_back s t h) e in
+          (f.0, f.1, f.2, step_since s x f.0 s' f.1 b f.3);
+      only = λ s t y t' g sound h k.
+          let b = base_of s t sound h in
+          reads_since s (p s) y t' b ((each (things s) b g).only s t y t' (grows_refl (things s)) sound (since_back s t h) k);
+      full = λ s t g sound h e. let b = base_of s t sound h in (each (things s) b g).full s t (grows_refl (things s)) sound (since_back s t h) e;
+    }
+
+    exact_back : (p : Parse S A) (P : Grammar T B) → Exact things Since base R p P → Exact things Same base R p P
+    exact_back p P k = record {
+      found = λ s t x s' g sound h e. let f = k.found s t x s' g sound (since s t g h) e in (f.0, f.1, f.2, step_back s x f.0 s' f.1 f.3);
+      only = λ s t y t' g sound h j. reads_back s (p s) y t' (k.only s t y t' g sound (since s t g h) j);
+      full = λ s t g sound h e. k.full s t g sound (since s t g h) e;
+    }
+
+  module _ (after : Mark → S → Option S) (Tok : Mark → T → T → Type 0) (marks : Marks things Same after Tok) where
+    marks_since : Marks things Since after Tok
+    marks_since = record {
+      found = λ m s t s' sound h e.
+          let f = marks.found m s t s' sound (since_back s t h) e in
+          (f.0, f.1, f.2, f.3, since s' f.0 (grows_trans base (things s) (things s') (base_of s t sound h) f.2) f.4);
+      only = λ m s t t' sound h k.
+          let f = marks.only m s t t' sound (since_back s t h) k in
+          (f.0, f.1, f.2, f.3, since f.0 t' (grows_trans base (things s) (things f.0) (base_of s t sound h) f.2) f.4);
+      none = λ m s t sound h e. marks.none m s t sound (since_back s t h) e;
+      lacks = λ m s t sound h e. marks.lacks m s t sound (since_back s t h) e;
+    }
+
+    module _ {A B : Type 0} (R : Things → A → B → Type 0) (close : Mark) (p : List A → Parse S A) (P : List B → Grammar T B)
+        (item : (c : Things) (xs : List A) (ys : List B) → Grows base c → From (λ z. Each R z xs ys) c → Exact things Same c R (p xs) (P ys)) where
+      item_since : (d : Things) (xs : List A) (ys : List B) → From (λ z. Each R z xs ys) d → Exact things Since d R (p xs) (P ys)
+      item_since d xs ys r = exact_since R (p xs) (P ys) d (λ c b g. item c xs ys b (later (λ z. Each R z xs ys) d c g r))
+
+      pub items_exact : (room : ℕ) → Exact things Same base (Each R) (list_at after close p room) (IsList Tok close P room)
+      items_exact room = exact_back (Each R) (list_at after close p room) (IsList Tok close P room) (list_exact things Since after Tok marks_since R close p P item_since room base)
+
+      pub some_items_exact : (room : ℕ) → Exact things Same base (Each R) (more_at after close p room []) (IsMore Tok close P room [])
+      some_items_exact room = exact_back (Each R) (more_at after close p room []) (IsMore Tok close P room []) (more_exact things Since after Tok marks_since R close p P item_since room base [] [] (λ z g w. tt))
 
 -- ---- a text alone, in a context that stays
 
