@@ -1,3 +1,4 @@
 pub mod FrontLaws
 pub mod EntryLaws
 pub mod NameLaws
+pub mod BlockLaws

@@ -1,17 +1,21 @@
 -- What the numbers of a context, and what a reader of operations holds, stand for.
 use Rattle.std.specs.Prelude.{◌≡◌, ℕ, List, Option, Some, None, IsTrue}
+use Rattle.std.specs.List.{list_all}
 use Rattle.ir_text_base.specs.Scopes.{Binding, Scopes}
 use Rattle.ir_types.specs.Things.{Things}
-use Rattle.ir_types.specs.Terms.{TypeTerm, AttrTerm}
-use Rattle.ir_tree.specs.Tree.{Op}
-use Rattle.ir_tree.specs.Meaning.{Operation, meaning, is_known}
+use Rattle.ir_types.specs.Terms.{TypeTerm, AttrTerm, name_term, type_term, attr_term}
+use Rattle.ir_tree.specs.Tree.{Op, Region}
+use Rattle.ir_tree.specs.Limits.{region_every, arguments_pass}
+use Rattle.ir_tree.specs.Maps.{map_region}
+use Rattle.ir_tree.specs.Passing.{op_passes}
+use Rattle.ir_tree.specs.Meaning.{Operation, meaning, is_name, is_type, is_attr, is_known}
 use Rattle.ir_text_attr_base.specs.Standing.{NameStands, TypeStands, AttrStands}
 use Rattle.ir_text_attr_base.specs.Laws.{Each}
 use Rattle.ir_text_read_base.specs.declared.bound.Bound.{Bound}
 use Rattle.ir_text_read_base.specs.States.{State}
 use Rattle.ir_text_read_base.specs.FrontReading.{Start}
 use Rattle.ir_text_read_base.specs.Seen.{BoundTerm, Seen}
-use Rattle.ir_text_read_base.specs.OpGrammar.{StartTerm, EntryTerm}
+use Rattle.ir_text_read_base.specs.OpGrammar.{StartTerm, EntryTerm, RegionTerm}
 
 -- what is read as it is spelled
 abbrev pub Equals : {A : Type 0} → Things → A → A → Type 0
@@ -54,3 +58,8 @@ EntryStands z e y = NameStands z e.0 y.0 × AttrStands z e.1 y.1
 -- a tree of a context's numbers, and what it is
 abbrev pub OpStands : Things → Op → Operation → Type 0
 OpStands z o y = IsTrue (is_known z o) × (meaning z o ≡ y)
+
+-- a region of a context's numbers, and what it is
+abbrev pub RegionStands : Things → Region → RegionTerm → Type 0
+RegionStands z g y =
+    IsTrue (arguments_pass (list_all (is_type z)) g) × IsTrue (region_every (op_passes (is_name z) (is_type z) (is_attr z)) g) × (map_region (name_term z) (type_term z) (attr_term z) g ≡ y)
