@@ -2,3 +2,4 @@ pub mod FrontLaws
 pub mod EntryLaws
 pub mod NameLaws
 pub mod BlockLaws
+pub mod MadeLaws
