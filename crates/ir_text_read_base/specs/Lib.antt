@@ -8,3 +8,4 @@ pub mod Seen
 pub mod OpGrammar
 pub mod Spelling
 pub mod Claims
+pub mod Standing
