@@ -1,5 +1,5 @@
 -- The tree of a text, by the laws of operations.
-use Rattle.std.proofs.Common.{◌≡◌, ◌⊎◌, ℕ, ◌<◌, Bool, true, false, ◌&&◌, List, [], ◌∷◌, map, length, Option, Some, None, is_some, refl, sym, ap, subst, ◌∙◌, inl, inr, ⊎_elim, arith}
+use Rattle.std.proofs.Common.{◌≡◌, ◌⊎◌, ℕ, ◌<◌, Bool, true, false, ◌&&◌, List, [], ◌∷◌, map, length, Option, Some, None, is_some, refl, sym, ap, subst, ◌∙◌, inl, inr, ⊎_elim, arith, lt-ltb}
 use Rattle.std.specs.Prelude.{IsTrue}
 use Rattle.std.specs.List.{list_all}
 use Rattle.ir_text_base.specs.declared.token.Mark.TheVariants.{End, CloseCurly}
@@ -8,7 +8,7 @@ use Rattle.ir_types.specs.Things.{Things, IsName, Grows}
 use Rattle.ir_types.specs.Sound.{IsSound}
 use Rattle.ir_types.specs.Terms.{name_term, type_term, attr_term}
 use Rattle.ir_types.specs.Words.{is_isolated}
-use Rattle.ir_types.proofs.Growth.{grows_refl}
+use Rattle.ir_types.proofs.Growth.{grows_refl, front_length}
 use Rattle.ir_types.proofs.Terms.{name_stays}
 use Rattle.ir_tree.specs.Tree.{OpOf, op, Op, region, block, no_regions, ops_of, next}
 use Rattle.ir_tree.specs.Ids.{IsNumberedFrom, ids, op_count}
@@ -59,9 +59,11 @@ explicit_is bytes c x s sound e y h = ⊎_elim
     (λ (f : op_at 129 (fresh 0 bytes c) ≡ Full). absurd cc)
     (λ (f : (x' : Op) × (s' : State) × (op_at 129 (fresh 0 bytes c) ≡ Read (x', s')) × Step held StateStands OpStands (fresh 0 bytes c) x' y s' h.1.0).
     let q = read_parts f.0 x f.1 s (sym f.2 ∙ e) in
-    let r = f.3.stands f.1.things (grows_refl f.1.things) f.3.sound in
-    (sym r.1 ∙ ap (λ (u : Op × State). meaning u.1.things u.0) (λ i. (q.0 i, q.1 i)),
-        (h.1.1, subst (λ b. IsMark End b h.1.1) (sym (bytes_now f.1 h.1.0 f.3.sound f.3.agree) ∙ ap (λ (u : State). u.bytes) q.1) h.1.3), h.2))
+    let r = f.3.stands f.1.things (grows_refl f.1.things) f.3.sound in (
+      sym r.1 ∙ ap (λ (u : Op × State). meaning u.1.things u.0) (λ i. (q.0 i, q.1 i)),
+      (h.1.1, subst (λ b. IsMark End b h.1.1) (sym (bytes_now f.1 h.1.0 f.3.sound f.3.agree) ∙ ap (λ (u : State). u.bytes) q.1) h.1.3),
+      h.2,
+    ))
     ((op_exact 129 c).only (fresh 0 bytes c) (seen_fresh 0 bytes) y h.1.0 (grows_refl c) sound (fresh_agrees 0 bytes c) h.1.2)
 
 pub explicit_read : (bytes : List ℕ) (c : Things) (x : Op) (s : State) (rest : List ℕ) → IsSound c → begins_module bytes ≡ true → op_at 129 (fresh 0 bytes c) ≡ Read (x, s)
@@ -79,11 +81,11 @@ explicit_read bytes c x s rest sound begins e ends root =
 
 pub explicit_other : (bytes : List ℕ) (c : Things) (x : Op) (s : State) → IsSound c → op_at 129 (fresh 0 bytes c) ≡ Read (x, s)
     → (is_some (after End s.bytes) && is_root (meaning s.things x)) ≡ false → IsNone (IsExplicit bytes)
-explicit_other bytes c x s sound e no y h =
+explicit_other bytes c x s sound e not_whole y h =
     let k = explicit_is bytes c x s sound e y h in
     let ends : after End s.bytes ≡ Some k.1.0 = after_only End s.bytes k.1.0 k.1.1 in
     let root : is_root (meaning s.things x) ≡ true = ap is_root (sym k.0) ∙ k.2 in
-    let g = sym no ∙ (λ i. is_some (ends i) && root i) in absurd cc
+    let g = sym not_whole ∙ (λ i. is_some (ends i) && root i) in absurd cc
 
 pub explicit_wrong : (bytes : List ℕ) (c : Things) → IsSound c → op_at 129 (fresh 0 bytes c) ≡ Wrong → IsNone (IsExplicit bytes)
 unfolding IsExplicit
@@ -99,3 +101,75 @@ ops_are z [] [] h = refl
 ops_are z [] (y ∷ ys) h = absurd h
 ops_are z (x ∷ xs) [] h = absurd h
 ops_are z (x ∷ xs) (y ∷ ys) h = λ i. next (h.0.1 i) (ops_are z xs ys h.1 i)
+
+ops_known : (z : Things) (xs : List Op) (ys : List Operation) → Each OpStands z xs ys → ops_every (op_passes (is_name z) (is_type z) (is_attr z)) (ops_of xs) ≡ true
+ops_known z [] [] h = refl
+ops_known z [] (y ∷ ys) h = absurd h
+ops_known z (x ∷ xs) [] h = absurd h
+ops_known z (x ∷ xs) (y ∷ ys) h = λ i. h.0.0 i && ops_known z xs ys h.1 i
+
+name_is_there : (c d : Things) (n : ℕ) → Grows c d → IsName c n → is_name d n ≡ true
+name_is_there c d n g h = lt-ltb n (length d.names) (omega (arith, h, front_length c.names d.names g.names))
+
+-- a module of these operations, whose name has that number
+abbrev pub module_with : ℕ → List Op → Op
+module_with n xs = op (record { id = 0; name = n; operands = []; results = []; properties = []; attributes = [] }) (region (block [] (ops_of xs)) no_regions)
+
+with_parts : (z : Things) (n : ℕ) (xs : List Op) (ys : List Operation) → name_term z n ≡ module_word → Each OpStands z xs ys → meaning z (module_with n xs) ≡ module_of ys
+with_parts z n xs ys name h = λ i. op (record { id = 0; name = name i; operands = []; results = []; properties = []; attributes = [] }) (region (block [] (ops_are z xs ys h i)) no_regions)
+
+known_parts : (z : Things) (n : ℕ) (xs : List Op) (ys : List Operation) → is_name z n ≡ true → Each OpStands z xs ys → is_known z (module_with n xs) ≡ true
+known_parts z n xs ys name h = rw (name, ops_known z xs ys h) refl
+
+-- the operations that are spelled were read
+body_is : (bytes : List ℕ) (c : Things) (xs : List Op) (s : State) → IsSound c → ops_at End (op_at 128) 1048576 [] (fresh 1 bytes c) ≡ Read (xs, s) → (y : Operation) → IsBody bytes y
+    → (os : List Operation) × Each OpStands s.things xs os × (y ≡ module_of os)
+unfolding IsBody
+body_is bytes c xs s sound e y h = ⊎_elim
+    (λ (f : ops_at End (op_at 128) 1048576 [] (fresh 1 bytes c) ≡ Full). absurd cc)
+    (λ (f : (xs' : List Op) × (s' : State) × (ops_at End (op_at 128) 1048576 [] (fresh 1 bytes c) ≡ Read (xs', s')) × Step held StateStands (Each OpStands) (fresh 1 bytes c) xs' h.0 s' h.1).
+    let q = read_parts f.0 xs f.1 s (sym f.2 ∙ e) in
+    (h.0, subst (λ (u : List Op × State). Each OpStands u.1.things u.0 h.0) (λ i. (q.0 i, q.1 i)) (f.3.stands f.1.things (grows_refl f.1.things) f.3.sound), h.3))
+    ((source_exact 128 c).only (fresh 1 bytes c) (seen_fresh 1 bytes) h.0 h.1 (grows_refl c) sound (fresh_agrees 1 bytes c) h.2)
+
+pub body_read : (bytes : List ℕ) (c : Things) (n : ℕ) (xs : List Op) (s : State) → IsSound c → IsName c n → name_term c n ≡ module_word → ops_at End (op_at 128) 1048576 [] (fresh 1 bytes c) ≡ Read (xs, s)
+    → IsOnly (IsBody bytes) s.things (module_with n xs)
+unfolding IsBody
+body_read bytes c n xs s sound of_c name e =
+    let f = (source_exact 128 c).found (fresh 1 bytes c) (seen_fresh 1 bytes) xs s (grows_refl c) sound (fresh_agrees 1 bytes c) e in
+    let r = f.3.stands s.things (grows_refl s.things) f.3.sound in
+    let named : name_term s.things n ≡ module_word = name_stays c s.things n f.3.grows of_c ∙ name in
+    record {
+      known = known_parts s.things n xs f.0 (name_is_there c s.things n f.3.grows of_c) r;
+      holds = (f.0, f.1, f.2, with_parts s.things n xs f.0 named r);
+      only = λ y h. let k = body_is bytes c xs s sound e y h in k.2 ∙ sym (with_parts s.things n xs k.0 named k.1);
+    }
+
+pub body_wrong : (bytes : List ℕ) (c : Things) → IsSound c → ops_at End (op_at 128) 1048576 [] (fresh 1 bytes c) ≡ Wrong → IsNone (IsBody bytes)
+unfolding IsBody
+body_wrong bytes c sound e y h = ⊎_elim
+    (λ (f : ops_at End (op_at 128) 1048576 [] (fresh 1 bytes c) ≡ Full). absurd cc)
+    (λ (f : (xs' : List Op) × (s' : State) × (ops_at End (op_at 128) 1048576 [] (fresh 1 bytes c) ≡ Read (xs', s')) × Step held StateStands (Each OpStands) (fresh 1 bytes c) xs' h.0 s' h.1). let g = f.2 in absurd cc)
+    ((source_exact 128 c).only (fresh 1 bytes c) (seen_fresh 1 bytes) h.0 h.1 (grows_refl c) sound (fresh_agrees 1 bytes c) h.2)
+
+-- ---- the one or the other
+
+pub root_is_source : (bytes : List ℕ) (c : Things) (t : Op) → IsOnly (IsExplicit bytes) c t → IsOnly (IsSource bytes) c t
+unfolding IsImplicit
+root_is_source bytes c t h = record {
+  known = h.known;
+  holds = inl h.holds;
+  only = λ y k. ⊎_elim (λ (e : IsExplicit bytes y). h.only y e) (λ (i : IsImplicit bytes y). absurd (i.0 (meaning c t) h.holds)) k;
+}
+
+pub body_is_source : (bytes : List ℕ) (c : Things) (t : Op) → IsNone (IsExplicit bytes) → IsOnly (IsBody bytes) c t → IsOnly (IsSource bytes) c t
+unfolding IsImplicit IsBody
+body_is_source bytes c t none h = record {
+  known = h.known;
+  holds = inr (none, h.holds);
+  only = λ y k. ⊎_elim (λ (e : IsExplicit bytes y). absurd (none y e)) (λ (i : IsImplicit bytes y). h.only y i.1) k;
+}
+
+pub no_source : (bytes : List ℕ) → IsNone (IsExplicit bytes) → IsNone (IsBody bytes) → IsNone (IsSource bytes)
+unfolding IsImplicit IsBody
+no_source bytes none other y k = ⊎_elim (λ (e : IsExplicit bytes y). none y e) (λ (i : IsImplicit bytes y). other y i.1) k

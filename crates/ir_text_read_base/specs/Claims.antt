@@ -3,7 +3,9 @@ use Rattle.std.specs.Prelude.{◌≡◌, ◌⊎◌, ℕ, List, [], Option, Some,
 use Rattle.ir_text_base.specs.declared.token.Mark.TheVariants.{End}
 use Rattle.ir_types.specs.Things.{Things}
 use Rattle.ir_tree.specs.Tree.{Op}
-use Rattle.ir_tree.specs.Meaning.{Operation, meaning, is_known}
+use Rattle.ir_tree.specs.Ids.{IsNumberedFrom}
+use Rattle.ir_tree.specs.Meaning.{Operation, meaning, is_known, isolated_in, IsSoundIn}
+use Rattle.ir_tree.specs.WellFormed.{IsFormed}
 use Rattle.ir_text_read_base.specs.declared.module.Root.{Root}
 use Rattle.ir_text_read_base.specs.declared.module.Root.TheVariants as root
 use Rattle.ir_text_read_base.specs.Seen.{Seen, seen_fresh}
@@ -32,3 +34,7 @@ IsBody bytes t = (os : List Operation) × (end : Seen) × IsOps End (IsOp 128) 1
 -- the one or the other
 abbrev pub IsSource : List ℕ → Operation → Type 0
 IsSource bytes t = IsExplicit bytes t ⊎ IsImplicit bytes t
+
+-- a tree of numbers that may be a module's
+abbrev pub IsWhole : Things → Op → Type 0
+IsWhole c t = IsFormed (isolated_in c) t × IsNumberedFrom 0 t × IsSoundIn c t
