@@ -3,3 +3,4 @@ pub mod EntryLaws
 pub mod NameLaws
 pub mod BlockLaws
 pub mod MadeLaws
+pub mod OpLaws
