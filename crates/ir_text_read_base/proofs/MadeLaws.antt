@@ -180,11 +180,11 @@ module _ (c z : Things) (id name : ℕ) (word : List ℕ) (operands : List Bound
   pub op_stands : OpStands z (op_of c id name operands ps es outputs gs) (made (is_property (Some word)) key_before id word (map (λ b. b.value) uses) qs fs types ys)
   op_stands = (
     both_hold _ _
-    (both_hold _ _
-      (both_hold (is_name z name) _ (lt-ltb name (length z.names) now.0)
-      (both_hold (list_all (is_type z) outputs) _ (types_known z outputs types typed)
-      (both_hold (list_all (entry_passes (is_name z) (is_attr z)) kept) _ (entries_known z kept kept_terms kept_stand) (entries_known z others other_terms others_stand))))
-      (arguments_known z gs ys regions))
-    (regions_known z gs ys regions),
+        (both_hold _ _
+        (both_hold (is_name z name) _ (lt-ltb name (length z.names) now.0)
+        (both_hold (list_all (is_type z) outputs) _ (types_known z outputs types typed)
+        (both_hold (list_all (entry_passes (is_name z) (is_attr z)) kept) _ (entries_known z kept kept_terms kept_stand) (entries_known z others other_terms others_stand))))
+        (arguments_known z gs ys regions))
+        (regions_known z gs ys regions),
     λ i. tree.op (head_of (now.1 i) (values_are z operands uses used i) (types_are z outputs types typed i) (entries_are z kept kept_terms kept_stand i) (entries_are z others other_terms others_stand i)) (regions_are z gs ys regions i),
   )

@@ -195,9 +195,11 @@ pub bind_scoped : (c : Things) (name : List ℕ) (b : Bound) (y : BoundTerm) →
 unfolding bind
 bind_scoped c name b y r = record {
   found = λ d s t s' g sound h e.
-      let k = free_read (find name s.here) (bound name b s) s' e in
-      (bound name y t, (none_there BoundStands d (find name s.here) (find name t.here) (find_stands d name s.here t.here (h d (grows_refl d) sound).0) k.0, refl),
-          subst (λ u. From (λ z. ScopesStand z u (bound name y t)) d) k.1 (λ z j w. bound_stand z name b y s t (r z (grows_trans c d z g j) w) (h z j w)));
+      let k = free_read (find name s.here) (bound name b s) s' e in (
+        bound name y t,
+        (none_there BoundStands d (find name s.here) (find name t.here) (find_stands d name s.here t.here (h d (grows_refl d) sound).0) k.0, refl),
+        subst (λ u. From (λ z. ScopesStand z u (bound name y t)) d) k.1 (λ z j w. bound_stand z name b y s t (r z (grows_trans c d z g j) w) (h z j w)),
+      );
   only = λ d s t t' g sound h k.
       let free : find name s.here ≡ None = none_here BoundStands d (find name s.here) (find name t.here) (find_stands d name s.here t.here (h d (grows_refl d) sound).0) k.0 in
       (bound name b s, rw free refl, subst (λ u. From (λ z. ScopesStand z (bound name b s) u) d) (sym k.1) (λ z j w. bound_stand z name b y s t (r z (grows_trans c d z g j) w) (h z j w)));

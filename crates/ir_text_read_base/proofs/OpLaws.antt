@@ -1,7 +1,8 @@
 -- Operations that are read are spelled, and operations that are spelled are read.
-use Rattle.std.specs.Prelude.{if◌then◌else◌, option_map, nat_lt}
+use Rattle.std.specs.Prelude.{if◌then◌else◌, option_map, nat_lt, IsTrue}
+use Rattle.std.specs.List.{list_all}
 use Rattle.std.specs.Str.{bytes_eq}
-use Rattle.std.proofs.Common.{◌≡◌, ◌<◌, ◌+◌, ℕ, zero, suc, Bool, true, false, true≢false, List, [], ◌∷◌, length, map, Option, Some, None, refl, sym, ap, subst, ◌∙◌, ◌⊎◌, inl, inr}
+use Rattle.std.proofs.Common.{◌≡◌, ◌<◌, ◌+◌, ℕ, zero, suc, Bool, true, false, true≢false, List, [], ◌∷◌, length, map, Option, Some, None, refl, sym, ap, subst, ◌∙◌, ◌⊎◌, inl, inr, ⊎_elim}
 use Rattle.std.proofs.lemmas.Bool.{ltb-true, lt-ltb}
 use Rattle.ir_text_base.specs.declared.token.Mark.TheVariants.{CloseCurly, Colon, End}
 use Rattle.ir_text_base.specs.Scopes.{Binding, Scopes}
@@ -12,7 +13,8 @@ use Rattle.ir_types.specs.Sound.{IsSound}
 use Rattle.ir_types.proofs.Growth.{grows_refl, grows_trans, name_is, name_refl}
 use Rattle.ir_types.proofs.Terms.{type_term_one}
 use Rattle.ir_tree.specs.Tree.{Op, Region}
-use Rattle.ir_tree.specs.Meaning.{Operation, isolated_in, key_before}
+use Rattle.ir_tree.specs.Meaning.{Operation, meaning, is_known, isolated_in, key_before}
+use Rattle.ir_tree.proofs.Meanings.{both_hold}
 use Rattle.ir_text_attr_base.specs.Marks.{after}
 use Rattle.ir_text_attr_base.specs.Outcomes.{Outcome, Read, Wrong, Full, ◌>>=◌, of_option, Parse}
 use Rattle.ir_text_attr_base.specs.Grammars.{Grammar, Then, Done, After}
@@ -21,17 +23,17 @@ use Rattle.ir_text_attr_base.specs.TypeReading.{function_type_at}
 use Rattle.ir_text_attr_base.specs.TypeGrammar.{IsFunctionType}
 use Rattle.ir_text_attr_base.specs.Worlds.{From}
 use Rattle.ir_text_attr_base.specs.Standing.{NameStands, TypeStands}
-use Rattle.ir_text_attr_base.specs.Laws.{Each, SignatureStands}
+use Rattle.ir_text_attr_base.specs.Laws.{Each, SignatureStands, FillsUp}
 use Rattle.ir_text_attr_base.proofs.Worlds.{bind_assoc, later, Exact, Step, Reads, exact_where, exact_spelled, nothing_exact, then_exact, after_exact}
 use Rattle.ir_text_attr_base.proofs.TypeLaws.{function_type_exact}
 use Rattle.ir_text_attr_base.proofs.AttrLaws as attrs
 use Rattle.ir_text_read_base.specs.declared.bound.Bound.{Bound}
-use Rattle.ir_text_read_base.specs.States.{State, to_bytes, after_in, typed, with_typed, with_scopes}
+use Rattle.ir_text_read_base.specs.States.{State, to_bytes, after_in, typed, with_typed, with_scopes, fresh}
 use Rattle.ir_text_read_base.specs.FrontReading.{Text, Start, start_at}
 use Rattle.ir_text_read_base.specs.EntryReading.{Entries, properties_at, attributes_at}
 use Rattle.ir_text_read_base.specs.Made.{made}
 use Rattle.ir_text_read_base.specs.OpReading.{finish, types_of, op_of, regions_at, ops_at, tail_at, begun, op_with, op_at}
-use Rattle.ir_text_read_base.specs.Seen.{BoundTerm, Seen, seen_rest, seen_scopes, IsMarkSeen, InText, When}
+use Rattle.ir_text_read_base.specs.Seen.{BoundTerm, Seen, seen_rest, seen_scopes, seen_fresh, IsMarkSeen, InText, When}
 use Rattle.ir_text_read_base.specs.OpGrammar.{StartTerm, EntryTerm, RegionTerm, is_property, IsStart, IsProperties, IsAttributes, IsRegions, IsFinished, IsOps, IsTail, IsOpWith, IsOp}
 use Rattle.ir_text_read_base.specs.Standing.{BoundStands, HereStands, StateStands, StartStands, EntryStands, RegionStands, OpStands}
 use Rattle.ir_text_read_base.proofs.FrontLaws.{begin_exact, shift_exact, start_exact}
@@ -148,7 +150,7 @@ module _ (id name : ℕ) (h : Start) (ps : Entries) (gs : List Region) where
       op_now_stands : From (λ z. OpStands z op_now term_now) c
       op_now_stands = λ z g w.
           op_stands c z id name begin.name h.operands begin.operands ps qs es fs sig.1 terms.1 gs ys (names c (grows_refl c) sound) (names z g w) ((starts z g w).2) (before c (grows_refl c) sound) (before z g w)
-              (entries c (grows_refl c) sound) (entries z g w) ((types z g w).1) (regions z g w)
+          (entries c (grows_refl c) sound) (entries z g w) ((types z g w).1) (regions z g w)
 
       finished_exact : Exact held StateStands c OpStands finishing (Ends fs terms.1)
       finished_exact =
@@ -190,7 +192,7 @@ module _ (id name : ℕ) (h : Start) (ps : Entries) (gs : List Region) where
         let from_d = grows_trans d e s.things up k in
         let from_c = grows_trans c d s.things g from_d in
         checked_exact s.things sound (later (λ z. StartStands z h begin) c s.things from_c starts) (later (λ z. NameStands z name begin.name) c s.things from_c names) (later (λ z. Each EntryStands z ps qs) c s.things from_c before)
-            (later (λ z. Each RegionStands z gs ys) c s.things from_c regions) es fs sig terms (later (λ z. Each EntryStands z es fs) d s.things from_d entries) (later (λ z. SignatureStands z sig terms) e s.things k types))))))
+        (later (λ z. Each RegionStands z gs ys) c s.things from_c regions) es fs sig terms (later (λ z. Each EntryStands z es fs) d s.things from_d entries) (later (λ z. SignatureStands z sig terms) e s.things k types))))))
 
 -- ---- operations
 
@@ -315,3 +317,60 @@ op_exact (suc depth) c =
 -- operations up to the end of a text
 pub all_ops_exact : (depth : ℕ) (c : Things) → Exact held StateStands c (Each OpStands) (ops_at End (op_at depth) 1048576 []) (IsOps End (IsOp depth) 1048576 [])
 all_ops_exact depth c = ops_exact End (op_at depth) (IsOp depth) (op_exact depth) 1048576 c [] [] (λ z k w. tt)
+
+-- ---- from a text
+
+-- at the beginning no name is bound
+fresh_agrees : (next : ℕ) (bytes : Text) (c : Things) → From (λ z. StateStands z (fresh next bytes c) (seen_fresh next bytes)) c
+fresh_agrees next bytes c = λ z g w. (refl, (tt, tt), refl)
+
+pub op_read : (depth next : ℕ) (c : Things) (bytes : Text) (o : Op) (s : State) → IsSound c → op_at depth (fresh next bytes c) ≡ Read (o, s)
+    → Grows c s.things × IsSound s.things × IsTrue (is_known s.things o) × (t : Seen) × IsOp depth (meaning s.things o) (seen_fresh next bytes) t × StateStands s.things s t
+op_read depth next c bytes o s sound e =
+    let f = (op_exact depth c).found (fresh next bytes c) (seen_fresh next bytes) o s (grows_refl c) sound (fresh_agrees next bytes c) e in
+    let r = f.3.stands s.things (grows_refl s.things) f.3.sound in
+    (f.3.grows, f.3.sound, r.0, f.1, subst (λ y. IsOp depth y (seen_fresh next bytes) f.1) (sym r.1) f.2, f.3.agree s.things (grows_refl s.things) f.3.sound)
+
+pub op_spelled : (depth next : ℕ) (c : Things) (bytes : Text) (y : Operation) (t : Seen) → IsSound c → IsOp depth y (seen_fresh next bytes) t
+    → (op_at depth (fresh next bytes c) ≡ Full) ⊎ ((o : Op) × (s : State) × (op_at depth (fresh next bytes c) ≡ Read (o, s)) × Grows c s.things × IsSound s.things × OpStands s.things o y × StateStands s.things s t)
+op_spelled depth next c bytes y t sound k = ⊎_elim
+    (λ (e : op_at depth (fresh next bytes c) ≡ Full). inl e)
+    (λ (f : (o : Op) × (s : State) × (op_at depth (fresh next bytes c) ≡ Read (o, s)) × Step held StateStands OpStands (fresh next bytes c) o y s t).
+    inr (f.0, f.1, f.2, f.3.grows, f.3.sound, f.3.stands f.1.things (grows_refl f.1.things) f.3.sound, f.3.agree f.1.things (grows_refl f.1.things) f.3.sound))
+    ((op_exact depth c).only (fresh next bytes c) (seen_fresh next bytes) y t (grows_refl c) sound (fresh_agrees next bytes c) k)
+
+pub op_full : (depth next : ℕ) (c : Things) (bytes : Text) → IsSound c → op_at depth (fresh next bytes c) ≡ Full → FillsUp c
+op_full depth next c bytes sound e = (op_exact depth c).full (fresh next bytes c) (seen_fresh next bytes) (grows_refl c) sound (fresh_agrees next bytes c) e
+
+-- ---- and all operations of a text
+
+each_known : (z : Things) (os : List Op) (ys : List Operation) → Each OpStands z os ys → list_all (is_known z) os ≡ true
+each_known z [] [] h = refl
+each_known z [] (y ∷ ys) h = absurd h
+each_known z (x ∷ xs) [] h = absurd h
+each_known z (x ∷ xs) (y ∷ ys) h = both_hold (is_known z x) (list_all (is_known z) xs) h.0.0 (each_known z xs ys h.1)
+
+each_meaning : (z : Things) (os : List Op) (ys : List Operation) → Each OpStands z os ys → map (meaning z) os ≡ ys
+each_meaning z [] [] h = refl
+each_meaning z [] (y ∷ ys) h = absurd h
+each_meaning z (x ∷ xs) [] h = absurd h
+each_meaning z (x ∷ xs) (y ∷ ys) h = λ i. h.0.1 i ∷ each_meaning z xs ys h.1 i
+
+pub ops_read : (depth next : ℕ) (c : Things) (bytes : Text) (os : List Op) (s : State) → IsSound c → ops_at End (op_at depth) 1048576 [] (fresh next bytes c) ≡ Read (os, s)
+    → Grows c s.things × IsSound s.things × IsTrue (list_all (is_known s.things) os) × (t : Seen) × IsOps End (IsOp depth) 1048576 [] (map (meaning s.things) os) (seen_fresh next bytes) t × StateStands s.things s t
+ops_read depth next c bytes os s sound e =
+    let f = (all_ops_exact depth c).found (fresh next bytes c) (seen_fresh next bytes) os s (grows_refl c) sound (fresh_agrees next bytes c) e in
+    let r = f.3.stands s.things (grows_refl s.things) f.3.sound in
+    (f.3.grows, f.3.sound, each_known s.things os f.0 r, f.1, subst (λ ys. IsOps End (IsOp depth) 1048576 [] ys (seen_fresh next bytes) f.1) (sym (each_meaning s.things os f.0 r)) f.2, f.3.agree s.things (grows_refl s.things) f.3.sound)
+
+pub ops_spelled : (depth next : ℕ) (c : Things) (bytes : Text) (ys : List Operation) (t : Seen) → IsSound c → IsOps End (IsOp depth) 1048576 [] ys (seen_fresh next bytes) t
+    → (ops_at End (op_at depth) 1048576 [] (fresh next bytes c) ≡ Full)
+    ⊎ ((os : List Op) × (s : State) × (ops_at End (op_at depth) 1048576 [] (fresh next bytes c) ≡ Read (os, s)) × Grows c s.things × IsSound s.things × Each OpStands s.things os ys × StateStands s.things s t)
+ops_spelled depth next c bytes ys t sound k = ⊎_elim
+    (λ (e : ops_at End (op_at depth) 1048576 [] (fresh next bytes c) ≡ Full). inl e)
+    (λ (f : (os : List Op) × (s : State) × (ops_at End (op_at depth) 1048576 [] (fresh next bytes c) ≡ Read (os, s)) × Step held StateStands (Each OpStands) (fresh next bytes c) os ys s t).
+    inr (f.0, f.1, f.2, f.3.grows, f.3.sound, f.3.stands f.1.things (grows_refl f.1.things) f.3.sound, f.3.agree f.1.things (grows_refl f.1.things) f.3.sound))
+    ((all_ops_exact depth c).only (fresh next bytes c) (seen_fresh next bytes) ys t (grows_refl c) sound (fresh_agrees next bytes c) k)
+
+pub ops_full : (depth next : ℕ) (c : Things) (bytes : Text) → IsSound c → ops_at End (op_at depth) 1048576 [] (fresh next bytes c) ≡ Full → FillsUp c
+ops_full depth next c bytes sound e = (all_ops_exact depth c).full (fresh next bytes c) (seen_fresh next bytes) (grows_refl c) sound (fresh_agrees next bytes c) e

@@ -5,4 +5,5 @@ mod binding;
 pub mod bound;
 mod dictionaries;
 pub mod front;
+pub mod laws;
 pub mod scope;
