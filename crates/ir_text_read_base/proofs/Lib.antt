@@ -1,9 +1,9 @@
-pub mod Outputs
-pub mod OpSteps
-pub mod FrontLaws
-pub mod EntryLaws
-pub mod NameLaws
 pub mod BlockLaws
+pub mod EntryLaws
+pub mod FrontLaws
 pub mod MadeLaws
-pub mod OpLaws
 pub mod Modules
+pub mod NameLaws
+pub mod OpLaws
+pub mod OpSteps
+pub mod Outputs

@@ -11,11 +11,14 @@ use Rattle.ir_types.specs.Words.{is_isolated}
 use Rattle.ir_types.proofs.Growth.{grows_refl, front_length}
 use Rattle.ir_types.proofs.Terms.{name_stays}
 use Rattle.ir_tree.specs.Tree.{OpOf, op, Op, region, block, no_regions, ops_of, next}
-use Rattle.ir_tree.specs.Ids.{IsNumberedFrom, ids, op_count}
-use Rattle.ir_tree.specs.Limits.{ops_every}
-use Rattle.ir_tree.specs.Maps.{map_ops}
+use Rattle.std.specs.List.{range_with_len}
+use Rattle.ir_types.specs.declared.refusal.Refusal.{Refusal}
+use Rattle.ir_tree.specs.Ids.{IsNumberedFrom, ids}
+use Rattle.ir_tree.specs.Limits.{every, ops_every}
+use Rattle.ir_tree.specs.Maps.{map_entry, map_ops}
 use Rattle.ir_tree.specs.Passing.{op_passes}
-use Rattle.ir_tree.specs.Meaning.{Operation, meaning, is_known, is_name, is_type, is_attr, isolated_in, IsSoundIn, key_before, key_before_in, dictionaries_rise}
+use Rattle.ir_tree.specs.Meaning.{Operation, meaning, is_known, is_name, is_type, is_attr, isolated_in, IsSoundIn, key_before, key_before_in, rises, rises_after, dictionaries_rise}
+use Rattle.ir_tree.proofs.Mapped.{map_ids, map_operands_visible, map_depth, map_counts, map_every}
 use Rattle.ir_tree.specs.WellFormed.{IsFormed}
 use Rattle.ir_text_attr_base.specs.Grammars.{IsMark}
 use Rattle.ir_text_attr_base.specs.Laws.{Each}
@@ -29,9 +32,9 @@ use Rattle.ir_text_read_base.specs.OpReading.{op_at, ops_at}
 use Rattle.ir_text_read_base.specs.OpGrammar.{IsOp, IsOps}
 use Rattle.ir_text_read_base.specs.Standing.{StateStands, OpStands}
 use Rattle.ir_text_read_base.specs.Spelling.{begins_module, is_root, module_word, module_of, IsExplicit, IsImplicit, Spells}
-use Rattle.ir_text_read_base.specs.Claims.{IsOnly, IsNone, IsBody, IsSource}
+use Rattle.ir_text_read_base.specs.Claims.{IsOnly, IsNone, IsBody, IsSource, IsWhole}
 use Rattle.ir_text_read_base.proofs.NameLaws.{held, bytes_now}
-use Rattle.ir_text_read_base.proofs.OpLaws.{op_exact, source_exact}
+use Rattle.ir_text_read_base.proofs.OpLaws.{op_exact, all_ops_exact}
 
 fresh_agrees : (first : ℕ) (bytes : List ℕ) (c : Things) → Agree held StateStands (fresh first bytes c) (seen_fresh first bytes)
 fresh_agrees first bytes c z g w = (refl, (tt, tt), refl)
@@ -130,13 +133,13 @@ body_is bytes c xs s sound e y h = ⊎_elim
     (λ (f : (xs' : List Op) × (s' : State) × (ops_at End (op_at 128) 1048576 [] (fresh 1 bytes c) ≡ Read (xs', s')) × Step held StateStands (Each OpStands) (fresh 1 bytes c) xs' h.0 s' h.1).
     let q = read_parts f.0 xs f.1 s (sym f.2 ∙ e) in
     (h.0, subst (λ (u : List Op × State). Each OpStands u.1.things u.0 h.0) (λ i. (q.0 i, q.1 i)) (f.3.stands f.1.things (grows_refl f.1.things) f.3.sound), h.3))
-    ((source_exact 128 c).only (fresh 1 bytes c) (seen_fresh 1 bytes) h.0 h.1 (grows_refl c) sound (fresh_agrees 1 bytes c) h.2)
+    ((all_ops_exact 128 c).only (fresh 1 bytes c) (seen_fresh 1 bytes) h.0 h.1 (grows_refl c) sound (fresh_agrees 1 bytes c) h.2)
 
 pub body_read : (bytes : List ℕ) (c : Things) (n : ℕ) (xs : List Op) (s : State) → IsSound c → IsName c n → name_term c n ≡ module_word → ops_at End (op_at 128) 1048576 [] (fresh 1 bytes c) ≡ Read (xs, s)
     → IsOnly (IsBody bytes) s.things (module_with n xs)
 unfolding IsBody
 body_read bytes c n xs s sound of_c name e =
-    let f = (source_exact 128 c).found (fresh 1 bytes c) (seen_fresh 1 bytes) xs s (grows_refl c) sound (fresh_agrees 1 bytes c) e in
+    let f = (all_ops_exact 128 c).found (fresh 1 bytes c) (seen_fresh 1 bytes) xs s (grows_refl c) sound (fresh_agrees 1 bytes c) e in
     let r = f.3.stands s.things (grows_refl s.things) f.3.sound in
     let named : name_term s.things n ≡ module_word = name_stays c s.things n f.3.grows of_c ∙ name in
     record {
@@ -150,7 +153,7 @@ unfolding IsBody
 body_wrong bytes c sound e y h = ⊎_elim
     (λ (f : ops_at End (op_at 128) 1048576 [] (fresh 1 bytes c) ≡ Full). absurd cc)
     (λ (f : (xs' : List Op) × (s' : State) × (ops_at End (op_at 128) 1048576 [] (fresh 1 bytes c) ≡ Read (xs', s')) × Step held StateStands (Each OpStands) (fresh 1 bytes c) xs' h.0 s' h.1). let g = f.2 in absurd cc)
-    ((source_exact 128 c).only (fresh 1 bytes c) (seen_fresh 1 bytes) h.0 h.1 (grows_refl c) sound (fresh_agrees 1 bytes c) h.2)
+    ((all_ops_exact 128 c).only (fresh 1 bytes c) (seen_fresh 1 bytes) h.0 h.1 (grows_refl c) sound (fresh_agrees 1 bytes c) h.2)
 
 -- ---- the one or the other
 
@@ -173,3 +176,61 @@ body_is_source bytes c t none h = record {
 pub no_source : (bytes : List ℕ) → IsNone (IsExplicit bytes) → IsNone (IsBody bytes) → IsNone (IsSource bytes)
 unfolding IsImplicit IsBody
 no_source bytes none other y k = ⊎_elim (λ (e : IsExplicit bytes y). none y e) (λ (i : IsImplicit bytes y). other y i.1) k
+
+-- ---- what is looked at afterwards
+
+module _ (c : Things) where
+  entries_rise_after : (k : ℕ) (es : List (ℕ × ℕ)) → rises_after key_before (name_term c k) (map (map_entry (name_term c) (attr_term c)) es) ≡ rises_after (key_before_in c) k es
+  entries_rise_after k [] = refl
+  entries_rise_after k (e ∷ es) = λ i. key_before_in c k e.0 && entries_rise_after e.0 es i
+
+  entries_rise : (es : List (ℕ × ℕ)) → rises key_before (map (map_entry (name_term c) (attr_term c)) es) ≡ rises (key_before_in c) es
+  entries_rise [] = refl
+  entries_rise (e ∷ es) = entries_rise_after e.0 es
+
+  op_rises : (t : Op) → dictionaries_rise key_before (meaning c t) ≡ dictionaries_rise (key_before_in c) t
+  op_rises (op h rs) = λ i. entries_rise h.properties i && entries_rise h.attributes i
+
+  all_rise : (t : Op) → every (dictionaries_rise key_before) (meaning c t) ≡ every (dictionaries_rise (key_before_in c)) t
+  all_rise t = map_every (name_term c) (type_term c) (attr_term c) (dictionaries_rise (key_before_in c)) (dictionaries_rise key_before) op_rises t
+
+  numbers_are : (t : Op) → ids (meaning c t) ≡ ids t
+  numbers_are t = map_ids (name_term c) (type_term c) (attr_term c) t
+
+  pub spelled_of : (bytes : List ℕ) (t : Op) → IsOnly (IsSource bytes) c t → text_reason bytes ≡ None → IsWhole c t → IsOnly (Spells bytes) c t
+  spelled_of bytes t h text w = record {
+    known = h.known;
+    holds = record {
+      text = text;
+      spelled = h.holds;
+      formed = record {
+        visible = subst IsTrue (sym (map_operands_visible (name_term c) (type_term c) (attr_term c) is_isolated t)) w.0.visible;
+        shallow = rw (map_depth (name_term c) (type_term c) (attr_term c) t) w.0.shallow;
+        counts = subst IsTrue (sym (map_counts (name_term c) (type_term c) (attr_term c) t)) w.0.counts;
+      };
+      numbered = subst (λ xs. xs ≡ range_with_len 0 (length xs)) (sym (numbers_are t)) w.1;
+      sorted = subst IsTrue (sym (all_rise t)) w.2.sorted;
+    };
+    only = λ y s. h.only y s.spelled;
+  }
+
+  pub none_of : (bytes : List ℕ) (t : Op) → IsOnly (IsSource bytes) c t → (IsWhole c t → ⊥) → IsNone (Spells bytes)
+  none_of bytes t h not_whole y s =
+      let same : y ≡ meaning c t = h.only y s.spelled in
+      let formed : IsFormed is_isolated (meaning c t) = subst (IsFormed is_isolated) same s.formed in
+      let numbered : IsNumberedFrom 0 (meaning c t) = subst (λ (u : Operation). ids u ≡ range_with_len 0 (length (ids u))) same s.numbered in
+      let sorted : IsTrue (every (dictionaries_rise key_before) (meaning c t)) = subst (λ (u : Operation). IsTrue (every (dictionaries_rise key_before) u)) same s.sorted in
+      not_whole
+      ( record {
+          visible = subst IsTrue (map_operands_visible (name_term c) (type_term c) (attr_term c) is_isolated t) formed.visible;
+          shallow = rw (← map_depth (name_term c) (type_term c) (attr_term c) t) formed.shallow;
+          counts = subst IsTrue (map_counts (name_term c) (type_term c) (attr_term c) t) formed.counts;
+        }
+      , subst (λ xs. xs ≡ range_with_len 0 (length xs)) (numbers_are t) numbered
+      , record { known = h.known; sorted = subst IsTrue (all_rise t) sorted })
+
+pub source_none : (bytes : List ℕ) → IsNone (IsSource bytes) → IsNone (Spells bytes)
+source_none bytes none y s = none y s.spelled
+
+pub text_none : (bytes : List ℕ) (r : Refusal × ℕ) → text_reason bytes ≡ Some r → IsNone (Spells bytes)
+text_none bytes r e y s = let t = s.text in absurd cc

@@ -10,4 +10,5 @@ pub mod front;
 pub mod module;
 pub mod ops;
 mod results;
+pub mod laws;
 pub mod scope;

@@ -1,5 +1,5 @@
 //! Modules. Language Reference, "High-Level Structure"; Builtin Dialect, "builtin.module".
-ghost use Rattle.std.specs.Prelude.{◌≡◌, ◌&&◌, IfOk, Err, is_some};
+ghost use Rattle.std.specs.Prelude.{◌≡◌, ◌&&◌, IfOk, IfErr, Err, is_some};
 ghost use Rattle.ir_types.specs.Interning.{with_name};
 ghost use Rattle.ir_text_base.specs.declared.token.Mark.TheVariants.{End};
 ghost use Rattle.ir_text_attr_base.specs.Marks.{after};
@@ -38,7 +38,8 @@ pub enum Root {
 
 /// Whether a text begins with the name of a module.
 fn begins_module(alloc: Global, bytes: &[u8]) -> Result<bool, ReadError>
-    ensures { IfOk result (λ b. b ≡ begins_module bytes.now) }
+    ensures ok { IfOk result (λ b. b ≡ begins_module bytes.now) }
+    ensures err { IfErr result (λ e. e ≡ ReadError.Memory) }
 {
     let Ok((found, _)) = token(bytes) else {
         return Ok(false);
@@ -80,11 +81,14 @@ fn module_name(ctx: &mut Context, rest: &[u8]) -> Result<NameId, ReadError>
 
 /// The root, where the text is one module without operands and results.
 fn explicit(alloc: Global, ctx: &mut Context, bytes: &[u8]) -> Result<Root, ReadError>
-    ensures { IfOk result (λ r. IsRootOrNone bytes.now ctx.new r) }
+    ensures ok { IfOk result (λ r. IsRootOrNone bytes.now ctx.new r) }
+    ensures err { (f : TextFault) → result ≡ Err (ReadError.Refused f) → ⊥ }
 {
     ctx.sound();
-    if !begins_module(alloc, bytes)? {
-        return Ok(Root::Other(None));
+    match begins_module(alloc, bytes) {
+        Ok(true) => {}
+        Ok(false) => return Ok(Root::Other(None)),
+        Err(_) => return Err(ReadError::Memory),
     }
     let mut scope = Scope {
         names: Names::new(alloc),
