@@ -4,10 +4,10 @@ use Rattle.std.specs.List.{list_all}
 use Rattle.std.proofs.Common.{◌≡◌, ℕ, zero, suc, Bool, true, List, [], ◌∷◌, ◌++◌, length, map, Option, Some, None, refl, sym, ap, subst, ◌∙◌, ◌⊎◌, inl, inr}
 use Rattle.std.proofs.lemmas.Bool.{lt-ltb}
 use Rattle.ir_text_base.specs.declared.token.Mark.{Mark}
-use Rattle.ir_text_base.specs.declared.token.Mark.TheVariants.{OpenRound, CloseRound, OpenCurly, CloseCurly, Colon}
-use Rattle.ir_text_base.specs.Tokens.{Lexeme, label, next}
+use Rattle.ir_text_base.specs.declared.token.Mark.TheVariants.{OpenRound, CloseRound, OpenCurly, Colon}
+use Rattle.ir_text_base.specs.Tokens.{Lexeme, label}
 use Rattle.ir_text_base.specs.Scopes.{Scopes}
-use Rattle.ir_types.specs.Things.{Things, Grows}
+use Rattle.ir_types.specs.Things.{Things}
 use Rattle.ir_types.specs.Terms.{TypeTerm, name_term, type_term, attr_term}
 use Rattle.ir_types.proofs.Growth.{grows_trans}
 use Rattle.ir_tree.specs.declared.value.Value.TheVariants as values
@@ -19,8 +19,8 @@ use Rattle.ir_tree.specs.Passing.{op_passes}
 use Rattle.ir_tree.specs.Meaning.{Operation, is_name, is_type, is_attr}
 use Rattle.ir_tree.proofs.Meanings.{both_hold}
 use Rattle.ir_text_attr_base.specs.Marks.{after}
-use Rattle.ir_text_attr_base.specs.Outcomes.{Outcome, Read, Wrong, Full, ◌>>=◌, of_option, Parse}
-use Rattle.ir_text_attr_base.specs.Grammars.{Grammar, Then, Done, After, Not, Either, IsMore, IsList, Token, IsMark}
+use Rattle.ir_text_attr_base.specs.Outcomes.{Outcome, Read, ◌>>=◌, of_option, Parse}
+use Rattle.ir_text_attr_base.specs.Grammars.{Grammar, Then, Done, After, Not, Either, IsMore, IsList}
 use Rattle.ir_text_attr_base.specs.Lists.{more_at}
 use Rattle.ir_text_attr_base.specs.TypeReading.{type_at}
 use Rattle.ir_text_attr_base.specs.TypeGrammar.{IsType}
@@ -30,17 +30,16 @@ use Rattle.ir_text_attr_base.specs.Standing.{TypeStands}
 use Rattle.ir_text_attr_base.specs.Laws.{Each}
 use Rattle.ir_text_attr_base.proofs.Worlds.{bind_assoc, later, Exact, exact_where, exact_spelled, then_exact, done_exact, after_exact, either_exact, list_exact, more_exact}
 use Rattle.ir_text_attr_base.proofs.TypeLaws.{type_exact}
-use Rattle.ir_text_read_base.specs.declared.bound.Bound.{Bound}
 use Rattle.ir_text_read_base.specs.States.{State, to_bytes, after_in, typed, with_typed, with_scopes, inside, outside}
 use Rattle.ir_text_read_base.specs.FrontReading.{Text, name_at}
 use Rattle.ir_text_read_base.specs.Made.{region_of}
 use Rattle.ir_text_read_base.specs.OpReading.{bind, arg_named, arg_at, args_at, label_args_from, label_args_at, head_from, head_at, ops_from, ops_at, region_at, regions_from, regions_at}
-use Rattle.ir_text_read_base.specs.Seen.{BoundTerm, Seen, seen_rest, seen_scopes, seen_inside, seen_outside, IsMarkSeen, InText, IsBound}
+use Rattle.ir_text_read_base.specs.Seen.{BoundTerm, Seen, seen_scopes, seen_inside, seen_outside, IsMarkSeen, InText, IsBound}
 use Rattle.ir_text_read_base.specs.OpGrammar.{IsName, IsArg, IsLabelArgs, IsHeadFrom, IsHead, IsOps, RegionTerm, IsRegion, IsRegions}
 use Rattle.ir_text_read_base.specs.Standing.{Equals, Both, StateStands, OpStands, RegionStands}
 use Rattle.ir_text_read_base.proofs.FrontLaws.{name_exact, begin_exact}
 use Rattle.ir_text_read_base.proofs.EntryLaws.{each_length}
-use Rattle.ir_text_read_base.proofs.NameLaws.{held, state_marks, behind_exact, state_token, in_typed, in_text, typed_exact, text_exact, inside_exact, outside_exact, bind_scoped, scoped_exact}
+use Rattle.ir_text_read_base.proofs.NameLaws.{held, state_marks, behind_exact, state_token, in_typed, in_text, typed_exact, text_exact, inside_exact, outside_exact, each_more, bind_scoped, scoped_exact}
 
 -- ---- arguments
 
@@ -129,12 +128,6 @@ unfolding head_at
 head_exact id r c = state_token c HeadStands (head_from id r) (IsHeadFrom id r) (head_from_exact id r c)
 
 -- ---- operations up to a mark
-
-each_more : {A B : Type 0} (R : Things → A → B → Type 0) (z : Things) (xs : List A) (ys : List B) (x : A) (y : B) → Each R z xs ys → R z x y → Each R z (xs ++ x ∷ []) (ys ++ y ∷ [])
-each_more R z [] [] x y h r = (r, tt)
-each_more R z [] (v ∷ ys) x y h r = absurd h
-each_more R z (u ∷ xs) [] x y h r = absurd h
-each_more R z (u ∷ xs) (v ∷ ys) x y h r = (h.0, each_more R z xs ys x y h.1 r)
 
 module _ (close : Mark) (p : Parse State Op) (P : Grammar Seen Operation) (item : (c : Things) → Exact held StateStands c OpStands p P) where
   abbrev Goes : ℕ → List Operation → Grammar Seen (List Operation)

@@ -1,7 +1,7 @@
 -- What stands before the dictionaries of an operation: what is read is spelled, and what is spelled is read.
 use Rattle.std.specs.Prelude.{if◌then◌else◌, ◌==◌}
 use Rattle.std.specs.Str.{bytes_eq}
-use Rattle.std.proofs.Common.{◌≡◌, ℕ, Bool, true, false, List, [], ◌∷◌, length, Option, Some, None, refl, sym, ap, subst, ◌∙◌, ◌⊎◌, inl, inr}
+use Rattle.std.proofs.Common.{◌≡◌, ℕ, Bool, true, false, List, [], ◌∷◌, length, Option, Some, None, refl, sym, ap, subst, ◌⊎◌, inl, inr}
 use Rattle.ir_text_base.specs.declared.token.Mark.{Mark}
 use Rattle.ir_text_base.specs.declared.token.Mark.TheVariants.{OpenRound, CloseRound, Equal}
 use Rattle.ir_text_base.specs.Tokens.{Lexeme, value, string, next}
@@ -11,18 +11,18 @@ use Rattle.ir_types.specs.Things.{Things, Grows}
 use Rattle.ir_types.specs.Sound.{IsSound}
 use Rattle.ir_types.proofs.Growth.{grows_refl, grows_trans}
 use Rattle.ir_text_attr_base.specs.Marks.{after}
-use Rattle.ir_text_attr_base.specs.Outcomes.{Outcome, Read, Wrong, Full, ◌>>=◌, of_option, Parse}
+use Rattle.ir_text_attr_base.specs.Outcomes.{Outcome, Read, Wrong, ◌>>=◌, of_option, Parse}
 use Rattle.ir_text_attr_base.specs.Lists.{more_at, list_at}
-use Rattle.ir_text_attr_base.specs.Grammars.{Grammar, Then, Done, After, Not, IsMore, IsList, Token, IsMark}
+use Rattle.ir_text_attr_base.specs.Grammars.{Grammar, Then, Done, Not, IsMore, IsList, Token, IsMark}
 use Rattle.ir_text_attr_base.specs.Worlds.{From}
 use Rattle.ir_text_attr_base.specs.Laws.{Each}
-use Rattle.ir_text_attr_base.proofs.Worlds.{option_read, option_full, fills_on, later, Agree, Exact, Step, Comes, Reads, Marks, step_on, reads_on, exact_spelled, exact_for, nothing_exact, choice_exact, some_exact, then_exact, done_exact, after_exact, more_exact, list_exact}
+use Rattle.ir_text_attr_base.proofs.Worlds.{option_read, option_full, fills_on, later, Agree, Exact, Step, Reads, Marks, step_on, reads_on, exact_spelled, exact_for, nothing_exact, choice_exact, then_exact, done_exact, after_exact, more_exact, list_exact}
 use Rattle.ir_text_attr_base.proofs.TextLaws.{after_found, after_only, after_none, none_after}
 use Rattle.ir_text_read_base.specs.declared.bound.Bound.{Bound}
-use Rattle.ir_text_read_base.specs.FrontReading.{Text, name_from, name_at, names_at, results_from, results_at, op_name_from, op_name_at, use_from, use_at, uses_at, Start, start_at}
+use Rattle.ir_text_read_base.specs.FrontReading.{Text, name_from, name_at, names_at, results_from, results_at, op_name_from, op_name_at, use_from, use_at, uses_at, start_at}
 use Rattle.ir_text_read_base.specs.Seen.{BoundTerm}
-use Rattle.ir_text_read_base.specs.OpGrammar.{IsName, IsNames, IsResultsFrom, IsResults, IsOpName, IsUse, StartTerm, IsStart}
-use Rattle.ir_text_read_base.specs.Standing.{Equals, Both, BoundStands, BindingStands, HereStands, StartStands}
+use Rattle.ir_text_read_base.specs.OpGrammar.{IsName, IsNames, IsResultsFrom, IsResults, IsOpName, IsUse, IsStart}
+use Rattle.ir_text_read_base.specs.Standing.{Equals, Both, BoundStands, HereStands, StartStands}
 
 -- ---- readers over any state
 

@@ -1,22 +1,19 @@
 -- An operation that is made of numbers stands for the one that is made of what they stand for.
-use Rattle.std.specs.Prelude.{not, ◌&&◌, nat_lt}
+use Rattle.std.specs.Prelude.{not}
 use Rattle.std.specs.List.{list_all, prefix_len}
-use Rattle.std.proofs.Common.{◌≡◌, ◌+◌, ℕ, zero, suc, Bool, true, cond, List, [], ◌∷◌, ◌++◌, length, map, take, drop, Option, Some, None, refl, sym, ap, subst, ◌∙◌}
+use Rattle.std.proofs.Common.{◌≡◌, ◌+◌, ℕ, zero, suc, Bool, true, cond, List, [], ◌∷◌, ◌++◌, length, map, take, drop, Some, refl, ap, subst}
 use Rattle.std.proofs.lemmas.Bool.{lt-ltb}
-use Rattle.ir_types.specs.Things.{Things, Grows}
-use Rattle.ir_types.specs.Terms.{TypeTerm, AttrTerm, name_term, type_term, attr_term}
-use Rattle.ir_types.specs.Sound.{IsSound}
-use Rattle.ir_types.proofs.Growth.{grows_refl}
+use Rattle.ir_types.specs.Things.{Things}
+use Rattle.ir_types.specs.Terms.{TypeTerm, name_term, type_term, attr_term}
 use Rattle.ir_tree.specs.declared.value.Value.{Value}
 use Rattle.ir_tree.specs.Tree as tree
 use Rattle.ir_tree.specs.Tree.{Op, Region, regions_of}
 use Rattle.ir_tree.specs.Limits.{regions_every, all_arguments_pass, arguments_pass, region_every}
 use Rattle.ir_tree.specs.Maps.{map_entry, map_regions}
 use Rattle.ir_tree.specs.Passing.{entry_passes, op_passes}
-use Rattle.ir_tree.specs.Meaning.{Operation, is_name, is_type, is_attr, key_before, key_before_in}
+use Rattle.ir_tree.specs.Meaning.{is_name, is_type, is_attr, key_before, key_before_in}
 use Rattle.ir_tree.proofs.Meanings.{both_hold}
-use Rattle.ir_text_attr_base.specs.Worlds.{From}
-use Rattle.ir_text_attr_base.specs.Standing.{NameStands, TypeStands, AttrStands}
+use Rattle.ir_text_attr_base.specs.Standing.{NameStands, TypeStands}
 use Rattle.ir_text_attr_base.specs.Laws.{Each}
 use Rattle.ir_text_read_base.specs.declared.bound.Bound.{Bound}
 use Rattle.ir_text_read_base.specs.Entries.{moved, staying, put_among, put_all, properties_of, attributes_of}
@@ -25,7 +22,7 @@ use Rattle.ir_text_read_base.specs.Made.{made}
 use Rattle.ir_text_read_base.specs.OpReading.{values_of, op_of}
 use Rattle.ir_text_read_base.specs.Seen.{BoundTerm}
 use Rattle.ir_text_read_base.specs.OpGrammar.{EntryTerm, RegionTerm, is_property}
-use Rattle.ir_text_read_base.specs.Standing.{Both, BoundStands, EntryStands, RegionStands, OpStands}
+use Rattle.ir_text_read_base.specs.Standing.{BoundStands, EntryStands, RegionStands, OpStands}
 use Rattle.ir_text_read_base.proofs.EntryLaws.{each_filter, property_agrees}
 use Rattle.ir_text_read_base.proofs.BlockLaws.{types_known, types_are}
 

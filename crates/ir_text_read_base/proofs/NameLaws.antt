@@ -1,6 +1,6 @@
 -- Names and the state of a reader: what they stand for, step by step.
 use Rattle.std.specs.Prelude.{if◌then◌else◌, option_map, is_some}
-use Rattle.std.proofs.Common.{◌≡◌, ◌+◌, ℕ, Bool, true, false, List, [], ◌∷◌, ◌++◌, Option, Some, None, refl, sym, ap, subst, ◌∙◌, ◌⊎◌, inl, inr, ⊎_elim}
+use Rattle.std.proofs.Common.{◌≡◌, ◌+◌, ℕ, Bool, true, false, List, [], ◌∷◌, ◌++◌, Option, Some, None, refl, sym, ap, subst, ◌∙◌, inl, inr, ⊎_elim}
 use Rattle.ir_text_base.specs.declared.token.Mark.{Mark}
 use Rattle.ir_text_base.specs.Tokens.{Lexeme, next}
 use Rattle.ir_text_base.specs.Scopes.{Binding, Scopes, find, bound, entered, left, left_to}
@@ -11,12 +11,12 @@ use Rattle.ir_tree.specs.declared.value.Value.TheVariants as values
 use Rattle.ir_types.specs.Terms.{TypeTerm}
 use Rattle.ir_text_attr_base.specs.Marks.{after}
 use Rattle.ir_text_attr_base.specs.Outcomes.{Outcome, Read, Wrong, Full, ◌>>=◌, of_option, Parse}
-use Rattle.ir_text_attr_base.specs.Grammars.{Grammar, Done, Not, IsMark, Token}
+use Rattle.ir_text_attr_base.specs.Grammars.{Grammar, Done, IsMark, Token}
 use Rattle.ir_text_attr_base.specs.Typed.{Typed}
 use Rattle.ir_text_attr_base.specs.Worlds.{From}
 use Rattle.ir_text_attr_base.specs.Standing.{TypeStands}
-use Rattle.ir_text_attr_base.specs.Laws.{Each, FillsUp}
-use Rattle.ir_text_attr_base.proofs.Worlds.{bind_read, bind_full, later, Agree, Exact, Step, Comes, Reads, Marks, exact_spelled, done_exact}
+use Rattle.ir_text_attr_base.specs.Laws.{Each}
+use Rattle.ir_text_attr_base.proofs.Worlds.{bind_read, bind_full, later, Agree, Exact, Step, Comes, Reads, Marks, done_exact}
 use Rattle.ir_text_attr_base.proofs.TextLaws.{after_found, after_only, after_none, none_after}
 use Rattle.ir_text_attr_base.proofs.TextLaws as typed
 use Rattle.ir_text_read_base.specs.declared.bound.Bound.{Bound}
@@ -135,7 +135,8 @@ module _ {A B : Type 0} (c : Things) (R : Things → A → B → Type 0) where
 
 -- ---- scopes
 
-each_more : {A B : Type 0} (R : Things → A → B → Type 0) (z : Things) (xs : List A) (ys : List B) (x : A) (y : B) → Each R z xs ys → R z x y → Each R z (xs ++ x ∷ []) (ys ++ y ∷ [])
+-- one more of each
+pub each_more : {A B : Type 0} (R : Things → A → B → Type 0) (z : Things) (xs : List A) (ys : List B) (x : A) (y : B) → Each R z xs ys → R z x y → Each R z (xs ++ x ∷ []) (ys ++ y ∷ [])
 each_more R z [] [] x y h r = (r, tt)
 each_more R z [] (v ∷ ys) x y h r = absurd h
 each_more R z (u ∷ xs) [] x y h r = absurd h

@@ -2,12 +2,12 @@
 use Rattle.std.specs.Prelude.{if◌then◌else◌, option_map, nat_lt, IsTrue}
 use Rattle.std.specs.List.{list_all}
 use Rattle.std.specs.Str.{bytes_eq}
-use Rattle.std.proofs.Common.{◌≡◌, ◌<◌, ◌+◌, ℕ, zero, suc, Bool, true, false, true≢false, List, [], ◌∷◌, length, map, Option, Some, None, refl, sym, ap, subst, ◌∙◌, ◌⊎◌, inl, inr, ⊎_elim}
+use Rattle.std.proofs.Common.{◌≡◌, ◌<◌, ◌+◌, ℕ, zero, suc, Bool, true, false, true≢false, List, [], ◌∷◌, map, Option, Some, None, refl, sym, ap, subst, ◌∙◌, ◌⊎◌, inl, inr, ⊎_elim}
 use Rattle.std.proofs.lemmas.Bool.{ltb-true, lt-ltb}
 use Rattle.ir_text_base.specs.declared.token.Mark.TheVariants.{CloseCurly, Colon, End}
 use Rattle.ir_text_base.specs.Scopes.{Binding, Scopes}
 use Rattle.ir_types.specs.Things.{Things, Grows}
-use Rattle.ir_types.specs.Terms.{TypeTerm, type_term, name_term}
+use Rattle.ir_types.specs.Terms.{TypeTerm}
 use Rattle.ir_types.specs.Words.{is_isolated}
 use Rattle.ir_types.specs.Sound.{IsSound}
 use Rattle.ir_types.proofs.Growth.{grows_refl, grows_trans, name_is, name_refl}
@@ -315,8 +315,8 @@ op_exact (suc depth) c =
     (op_with_exact (ops_at CloseCurly (op_at depth) 1048576 []) (IsOps CloseCurly (IsOp depth) 1048576 []) (λ d. ops_exact CloseCurly (op_at depth) (IsOp depth) (op_exact depth) 1048576 d [] [] (λ z k w. tt)) s.things))
 
 -- operations up to the end of a text
-pub all_ops_exact : (depth : ℕ) (c : Things) → Exact held StateStands c (Each OpStands) (ops_at End (op_at depth) 1048576 []) (IsOps End (IsOp depth) 1048576 [])
-all_ops_exact depth c = ops_exact End (op_at depth) (IsOp depth) (op_exact depth) 1048576 c [] [] (λ z k w. tt)
+pub source_exact : (depth : ℕ) (c : Things) → Exact held StateStands c (Each OpStands) (ops_at End (op_at depth) 1048576 []) (IsOps End (IsOp depth) 1048576 [])
+source_exact depth c = ops_exact End (op_at depth) (IsOp depth) (op_exact depth) 1048576 c [] [] (λ z k w. tt)
 
 -- ---- from a text
 
@@ -359,7 +359,7 @@ each_meaning z (x ∷ xs) (y ∷ ys) h = λ i. h.0.1 i ∷ each_meaning z xs ys 
 pub ops_read : (depth next : ℕ) (c : Things) (bytes : Text) (os : List Op) (s : State) → IsSound c → ops_at End (op_at depth) 1048576 [] (fresh next bytes c) ≡ Read (os, s)
     → Grows c s.things × IsSound s.things × IsTrue (list_all (is_known s.things) os) × (t : Seen) × IsOps End (IsOp depth) 1048576 [] (map (meaning s.things) os) (seen_fresh next bytes) t × StateStands s.things s t
 ops_read depth next c bytes os s sound e =
-    let f = (all_ops_exact depth c).found (fresh next bytes c) (seen_fresh next bytes) os s (grows_refl c) sound (fresh_agrees next bytes c) e in
+    let f = (source_exact depth c).found (fresh next bytes c) (seen_fresh next bytes) os s (grows_refl c) sound (fresh_agrees next bytes c) e in
     let r = f.3.stands s.things (grows_refl s.things) f.3.sound in
     (f.3.grows, f.3.sound, each_known s.things os f.0 r, f.1, subst (λ ys. IsOps End (IsOp depth) 1048576 [] ys (seen_fresh next bytes) f.1) (sym (each_meaning s.things os f.0 r)) f.2, f.3.agree s.things (grows_refl s.things) f.3.sound)
 
@@ -370,7 +370,7 @@ ops_spelled depth next c bytes ys t sound k = ⊎_elim
     (λ (e : ops_at End (op_at depth) 1048576 [] (fresh next bytes c) ≡ Full). inl e)
     (λ (f : (os : List Op) × (s : State) × (ops_at End (op_at depth) 1048576 [] (fresh next bytes c) ≡ Read (os, s)) × Step held StateStands (Each OpStands) (fresh next bytes c) os ys s t).
     inr (f.0, f.1, f.2, f.3.grows, f.3.sound, f.3.stands f.1.things (grows_refl f.1.things) f.3.sound, f.3.agree f.1.things (grows_refl f.1.things) f.3.sound))
-    ((all_ops_exact depth c).only (fresh next bytes c) (seen_fresh next bytes) ys t (grows_refl c) sound (fresh_agrees next bytes c) k)
+    ((source_exact depth c).only (fresh next bytes c) (seen_fresh next bytes) ys t (grows_refl c) sound (fresh_agrees next bytes c) k)
 
 pub ops_full : (depth next : ℕ) (c : Things) (bytes : Text) → IsSound c → ops_at End (op_at depth) 1048576 [] (fresh next bytes c) ≡ Full → FillsUp c
-ops_full depth next c bytes sound e = (all_ops_exact depth c).full (fresh next bytes c) (seen_fresh next bytes) (grows_refl c) sound (fresh_agrees next bytes c) e
+ops_full depth next c bytes sound e = (source_exact depth c).full (fresh next bytes c) (seen_fresh next bytes) (grows_refl c) sound (fresh_agrees next bytes c) e
