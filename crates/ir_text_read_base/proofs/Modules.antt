@@ -10,6 +10,12 @@ use Rattle.ir_types.specs.Terms.{name_term, type_term, attr_term}
 use Rattle.ir_types.specs.Words.{is_isolated}
 use Rattle.ir_types.proofs.Growth.{grows_refl, front_length}
 use Rattle.ir_types.proofs.Terms.{name_stays}
+use Rattle.ir_types.proofs.CallNumbers.{name_stands, new_name}
+use Rattle.ir_types.specs.Interning.{with_name}
+use Rattle.ir_text_base.specs.declared.fault.Fault.{Fault}
+use Rattle.ir_text_attr_base.specs.declared.error.ReadError.{ReadError}
+use Rattle.ir_text_attr_base.specs.declared.error.ReadError.TheVariants as errors
+use Rattle.std.specs.Prelude.{Result, Ok, Err}
 use Rattle.ir_tree.specs.Tree.{OpOf, op, Op, region, block, no_regions, ops_of, next}
 use Rattle.std.specs.List.{range_with_len}
 use Rattle.ir_types.specs.declared.refusal.Refusal.{Refusal}
@@ -23,7 +29,7 @@ use Rattle.ir_tree.specs.WellFormed.{IsFormed}
 use Rattle.ir_text_attr_base.specs.Grammars.{IsMark}
 use Rattle.ir_text_attr_base.specs.Laws.{Each}
 use Rattle.ir_text_attr_base.specs.Marks.{after}
-use Rattle.ir_text_attr_base.specs.Outcomes.{Outcome, Read, Wrong, Full}
+use Rattle.ir_text_attr_base.specs.Outcomes.{Outcome, Read, Wrong, Full, Fails}
 use Rattle.ir_text_attr_base.proofs.TextLaws.{after_found, after_only}
 use Rattle.ir_text_attr_base.proofs.Worlds.{Exact, Step, Agree, Reads}
 use Rattle.ir_text_read_base.specs.States.{State, fresh}
@@ -32,9 +38,9 @@ use Rattle.ir_text_read_base.specs.OpReading.{op_at, ops_at}
 use Rattle.ir_text_read_base.specs.OpGrammar.{IsOp, IsOps}
 use Rattle.ir_text_read_base.specs.Standing.{StateStands, OpStands}
 use Rattle.ir_text_read_base.specs.Spelling.{begins_module, is_root, module_word, module_of, IsExplicit, IsImplicit, Spells}
-use Rattle.ir_text_read_base.specs.Claims.{IsOnly, IsNone, IsBody, IsSource, IsWhole}
+use Rattle.ir_text_read_base.specs.Claims.{IsOnly, IsNone, IsBody, IsSource, IsWhole, module_with}
 use Rattle.ir_text_read_base.proofs.NameLaws.{held, bytes_now}
-use Rattle.ir_text_read_base.proofs.OpLaws.{op_exact, all_ops_exact}
+use Rattle.ir_text_read_base.proofs.OpLaws.{op_exact, source_exact}
 
 fresh_agrees : (first : ℕ) (bytes : List ℕ) (c : Things) → Agree held StateStands (fresh first bytes c) (seen_fresh first bytes)
 fresh_agrees first bytes c z g w = (refl, (tt, tt), refl)
@@ -82,6 +88,29 @@ explicit_read bytes c x s rest sound begins e ends root =
       only = λ y h. (explicit_is bytes c x s sound e y h).0;
     }
 
+pub explicit_whole : (bytes : List ℕ) (c : Things) (x : Op) (s : State) → IsSound c → begins_module bytes ≡ true → op_at 129 (fresh 0 bytes c) ≡ Read (x, s)
+    → (is_some (after End s.bytes) && is_root (meaning s.things x)) ≡ true → IsOnly (IsExplicit bytes) s.things x
+explicit_whole bytes c x s sound begins e whole = by (after End s.bytes) refl whole
+  where
+    by : (o : Option (List ℕ)) → after End s.bytes ≡ o → (is_some o && is_root (meaning s.things x)) ≡ true → IsOnly (IsExplicit bytes) s.things x
+    by None k w = absurd cc
+    by (Some rest) k w = explicit_read bytes c x s rest sound begins e k w
+
+-- a refusal, where nothing is read
+pub fails_wrong : {X Y : Type 0} (e : ReadError) (o : Outcome Y) (f : Fault) → Fails e o → ◌≡◌ {A = Result X ReadError} (Err e) (Err (errors.Refused f)) → o ≡ Wrong
+fails_wrong errors.Memory o f h k = absurd cc
+fails_wrong (errors.Full left) o f h k = absurd cc
+fails_wrong (errors.Refused g) o f h k = h
+
+-- the same error of another function
+pub error_is : {X Y : Type 0} (e g : ReadError) → ◌≡◌ {A = Result X ReadError} (Err e) (Err g) → ◌≡◌ {A = Result Y ReadError} (Err e) (Err g)
+error_is {X} {Y} e g k = let same : e ≡ g = cc in ap (λ r. Err {T = Y} r) same
+
+-- the name of a module is there
+pub named_module : (c d : Things) (n : ℕ) → (n, d) ≡ with_name module_word c → IsName d n × (name_term d n ≡ module_word)
+named_module c d n e = subst (λ (p : ℕ × Things). IsName p.1 p.0 × (name_term p.1 p.0 ≡ module_word)) (sym e)
+    (slice_get_within ((with_name module_word c).1).names (with_name module_word c).0 module_word (name_stands module_word c), new_name module_word c)
+
 pub explicit_other : (bytes : List ℕ) (c : Things) (x : Op) (s : State) → IsSound c → op_at 129 (fresh 0 bytes c) ≡ Read (x, s)
     → (is_some (after End s.bytes) && is_root (meaning s.things x)) ≡ false → IsNone (IsExplicit bytes)
 explicit_other bytes c x s sound e not_whole y h =
@@ -114,10 +143,6 @@ ops_known z (x ∷ xs) (y ∷ ys) h = λ i. h.0.0 i && ops_known z xs ys h.1 i
 name_is_there : (c d : Things) (n : ℕ) → Grows c d → IsName c n → is_name d n ≡ true
 name_is_there c d n g h = lt-ltb n (length d.names) (omega (arith, h, front_length c.names d.names g.names))
 
--- a module of these operations, whose name has that number
-abbrev pub module_with : ℕ → List Op → Op
-module_with n xs = op (record { id = 0; name = n; operands = []; results = []; properties = []; attributes = [] }) (region (block [] (ops_of xs)) no_regions)
-
 with_parts : (z : Things) (n : ℕ) (xs : List Op) (ys : List Operation) → name_term z n ≡ module_word → Each OpStands z xs ys → meaning z (module_with n xs) ≡ module_of ys
 with_parts z n xs ys name h = λ i. op (record { id = 0; name = name i; operands = []; results = []; properties = []; attributes = [] }) (region (block [] (ops_are z xs ys h i)) no_regions)
 
@@ -133,13 +158,13 @@ body_is bytes c xs s sound e y h = ⊎_elim
     (λ (f : (xs' : List Op) × (s' : State) × (ops_at End (op_at 128) 1048576 [] (fresh 1 bytes c) ≡ Read (xs', s')) × Step held StateStands (Each OpStands) (fresh 1 bytes c) xs' h.0 s' h.1).
     let q = read_parts f.0 xs f.1 s (sym f.2 ∙ e) in
     (h.0, subst (λ (u : List Op × State). Each OpStands u.1.things u.0 h.0) (λ i. (q.0 i, q.1 i)) (f.3.stands f.1.things (grows_refl f.1.things) f.3.sound), h.3))
-    ((all_ops_exact 128 c).only (fresh 1 bytes c) (seen_fresh 1 bytes) h.0 h.1 (grows_refl c) sound (fresh_agrees 1 bytes c) h.2)
+    ((source_exact 128 c).only (fresh 1 bytes c) (seen_fresh 1 bytes) h.0 h.1 (grows_refl c) sound (fresh_agrees 1 bytes c) h.2)
 
 pub body_read : (bytes : List ℕ) (c : Things) (n : ℕ) (xs : List Op) (s : State) → IsSound c → IsName c n → name_term c n ≡ module_word → ops_at End (op_at 128) 1048576 [] (fresh 1 bytes c) ≡ Read (xs, s)
     → IsOnly (IsBody bytes) s.things (module_with n xs)
 unfolding IsBody
 body_read bytes c n xs s sound of_c name e =
-    let f = (all_ops_exact 128 c).found (fresh 1 bytes c) (seen_fresh 1 bytes) xs s (grows_refl c) sound (fresh_agrees 1 bytes c) e in
+    let f = (source_exact 128 c).found (fresh 1 bytes c) (seen_fresh 1 bytes) xs s (grows_refl c) sound (fresh_agrees 1 bytes c) e in
     let r = f.3.stands s.things (grows_refl s.things) f.3.sound in
     let named : name_term s.things n ≡ module_word = name_stays c s.things n f.3.grows of_c ∙ name in
     record {
@@ -153,7 +178,7 @@ unfolding IsBody
 body_wrong bytes c sound e y h = ⊎_elim
     (λ (f : ops_at End (op_at 128) 1048576 [] (fresh 1 bytes c) ≡ Full). absurd cc)
     (λ (f : (xs' : List Op) × (s' : State) × (ops_at End (op_at 128) 1048576 [] (fresh 1 bytes c) ≡ Read (xs', s')) × Step held StateStands (Each OpStands) (fresh 1 bytes c) xs' h.0 s' h.1). let g = f.2 in absurd cc)
-    ((all_ops_exact 128 c).only (fresh 1 bytes c) (seen_fresh 1 bytes) h.0 h.1 (grows_refl c) sound (fresh_agrees 1 bytes c) h.2)
+    ((source_exact 128 c).only (fresh 1 bytes c) (seen_fresh 1 bytes) h.0 h.1 (grows_refl c) sound (fresh_agrees 1 bytes c) h.2)
 
 -- ---- the one or the other
 
@@ -220,14 +245,15 @@ module _ (c : Things) where
       let formed : IsFormed is_isolated (meaning c t) = subst (IsFormed is_isolated) same s.formed in
       let numbered : IsNumberedFrom 0 (meaning c t) = subst (λ (u : Operation). ids u ≡ range_with_len 0 (length (ids u))) same s.numbered in
       let sorted : IsTrue (every (dictionaries_rise key_before) (meaning c t)) = subst (λ (u : Operation). IsTrue (every (dictionaries_rise key_before) u)) same s.sorted in
-      not_whole
-      ( record {
+      not_whole (
+        record {
           visible = subst IsTrue (map_operands_visible (name_term c) (type_term c) (attr_term c) is_isolated t) formed.visible;
           shallow = rw (← map_depth (name_term c) (type_term c) (attr_term c) t) formed.shallow;
           counts = subst IsTrue (map_counts (name_term c) (type_term c) (attr_term c) t) formed.counts;
-        }
-      , subst (λ xs. xs ≡ range_with_len 0 (length xs)) (numbers_are t) numbered
-      , record { known = h.known; sorted = subst IsTrue (all_rise t) sorted })
+        },
+        subst (λ xs. xs ≡ range_with_len 0 (length xs)) (numbers_are t) numbered,
+        record { known = h.known; sorted = subst IsTrue (all_rise t) sorted },
+      )
 
 pub source_none : (bytes : List ℕ) → IsNone (IsSource bytes) → IsNone (Spells bytes)
 source_none bytes none y s = none y s.spelled

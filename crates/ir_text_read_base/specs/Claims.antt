@@ -2,7 +2,7 @@
 use Rattle.std.specs.Prelude.{◌≡◌, ◌⊎◌, ℕ, List, [], Option, Some, None, IsTrue}
 use Rattle.ir_text_base.specs.declared.token.Mark.TheVariants.{End}
 use Rattle.ir_types.specs.Things.{Things}
-use Rattle.ir_tree.specs.Tree.{Op}
+use Rattle.ir_tree.specs.Tree.{Op, op, region, block, no_regions, ops_of}
 use Rattle.ir_tree.specs.Ids.{IsNumberedFrom}
 use Rattle.ir_tree.specs.Meaning.{Operation, meaning, is_known, isolated_in, IsSoundIn}
 use Rattle.ir_tree.specs.WellFormed.{IsFormed}
@@ -38,3 +38,7 @@ IsSource bytes t = IsExplicit bytes t ⊎ IsImplicit bytes t
 -- a tree of numbers that may be a module's
 abbrev pub IsWhole : Things → Op → Type 0
 IsWhole c t = IsFormed (isolated_in c) t × IsNumberedFrom 0 t × IsSoundIn c t
+
+-- a module of these operations, whose name has that number
+abbrev pub module_with : ℕ → List Op → Op
+module_with n xs = op (record { id = 0; name = n; operands = []; results = []; properties = []; attributes = [] }) (region (block [] (ops_of xs)) no_regions)

@@ -9,13 +9,14 @@ ghost use Rattle.ir_tree.specs.Meaning.{meaning, IsSoundIn, Operation};
 ghost use Rattle.ir_tree.specs.Tree.{head};
 ghost use Rattle.ir_text_base.specs.declared.fault.Fault.{Fault as TextFault};
 ghost use Rattle.ir_text_read_base.specs.Spelling.{begins_module, is_root, module_word, Spells};
-ghost use Rattle.ir_text_read_base.specs.Claims.{IsOnly, IsNone, IsRootOrNone, IsBody, IsSource, IsWhole};
+ghost use Rattle.ir_text_read_base.specs.Claims.{IsOnly, IsNone, IsRootOrNone, IsBody, IsSource, IsWhole, module_with};
 
 use crate::ops::{op, ops};
 use crate::scope::Scope;
 use ir_text_attr_base::error::{ReadError, wrong};
-use ir_text_attr_base::steps::{after, token};
+use ir_text_attr_base::steps::after;
 use ir_text_base::fault::Fault;
+use ir_text_base::lexer::token;
 use ir_text_base::limits::check_text;
 use ir_text_base::names::Names;
 use ir_text_base::strings::string_value;
@@ -27,7 +28,7 @@ use ir_tree::tree::{TreeOp, TreeRegion};
 use ir_types::context::Context;
 use ir_types::ids::{NameId, OpId};
 use ir_types::refusal::Refusal;
-use std::alloc::Global;
+use std::alloc::{AllocError, Global};
 
 /// A text's root, where it is written; else what stood in the way, if anything was wrong.
 #[derive(Drop)]
@@ -41,8 +42,9 @@ fn begins_module(alloc: Global, bytes: &[u8]) -> Result<bool, ReadError>
     ensures ok { IfOk result (λ b. b ≡ begins_module bytes.now) }
     ensures err { IfErr result (λ e. e ≡ ReadError.Memory) }
 {
-    let Ok((found, _)) = token(bytes) else {
-        return Ok(false);
+    let found = match token(bytes) {
+        Ok((found, _)) => found,
+        Err(_) => return Ok(false),
     };
     match found {
         Token::String(raw) => {
@@ -107,6 +109,24 @@ fn explicit(alloc: Global, ctx: &mut Context, bytes: &[u8]) -> Result<Root, Read
     }
 }
 
+/// A module of these operations.
+fn root_of(alloc: Global, name: NameId, body: Vec<TreeOp>) -> Result<TreeOp, AllocError>
+    ensures { IfOk result (λ t. t ≡ module_with name body.items) }
+{
+    let args = Vec::new(alloc);
+    let mut regions = Vec::new(alloc);
+    regions.push(TreeRegion::Block { args, ops: body })?;
+    Ok(TreeOp {
+        id: OpId::new(0),
+        name,
+        operands: Vec::new(alloc),
+        results: Vec::new(alloc),
+        props: Vec::new(alloc),
+        attrs: Vec::new(alloc),
+        regions,
+    })
+}
+
 /// An implicit root of the operations of a text.
 fn implicit(alloc: Global, ctx: &mut Context, bytes: &[u8]) -> Result<TreeOp, ReadError>
     ensures read { IfOk result (λ t. IsOnly (IsBody bytes.now) ctx.new t) }
@@ -125,18 +145,10 @@ fn implicit(alloc: Global, ctx: &mut Context, bytes: &[u8]) -> Result<TreeOp, Re
         Ok(found) => found,
         Err(e) => return Err(e),
     };
-    let args = Vec::new(alloc);
-    let mut regions = Vec::new(alloc);
-    regions.push(TreeRegion::Block { args, ops: body })?;
-    Ok(TreeOp {
-        id: OpId::new(0),
-        name,
-        operands: Vec::new(alloc),
-        results: Vec::new(alloc),
-        props: Vec::new(alloc),
-        attrs: Vec::new(alloc),
-        regions,
-    })
+    match root_of(alloc, name, body) {
+        Ok(tree) => Ok(tree),
+        Err(_) => Err(ReadError::Memory),
+    }
 }
 
 /// The tree of a text, before its limits are looked at.
@@ -188,9 +200,12 @@ pub fn read(alloc: Global, ctx: &mut Context, bytes: &[u8]) -> Result<TreeOp, Re
     ensures sound { IfOk result (λ t. IsSoundIn ctx.new t) }
     ensures refused { (f : TextFault) → result ≡ Err (ReadError.Refused f) → IsNone (Spells bytes.now) }
 {
-    if let Err((refusal, offset)) = check_text(bytes) {
-        let left = bytes.len().saturating_sub(offset);
-        return Err(ReadError::Refused(Fault { refusal, left }));
+    match check_text(bytes) {
+        Ok(()) => {}
+        Err((refusal, offset)) => {
+            let left = bytes.len().saturating_sub(offset);
+            return Err(ReadError::Refused(Fault { refusal, left }));
+        }
     }
     let tree = match source(alloc, ctx, bytes) {
         Ok(tree) => tree,
