@@ -10,6 +10,7 @@ use Rattle.ir_types.specs.Terms.{name_term, type_term, attr_term}
 use Rattle.ir_types.specs.Words.{is_isolated}
 use Rattle.ir_types.proofs.Growth.{grows_refl, front_length}
 use Rattle.ir_types.proofs.Terms.{name_stays}
+use Rattle.std.proofs.lemmas.Option.{slice_get_within}
 use Rattle.ir_types.proofs.CallNumbers.{name_stands, new_name}
 use Rattle.ir_types.specs.Interning.{with_name}
 use Rattle.ir_text_base.specs.declared.fault.Fault.{Fault}
@@ -104,12 +105,12 @@ fails_wrong (errors.Refused g) o f h k = h
 
 -- the same error of another function
 pub error_is : {X Y : Type 0} (e g : ReadError) → ◌≡◌ {A = Result X ReadError} (Err e) (Err g) → ◌≡◌ {A = Result Y ReadError} (Err e) (Err g)
-error_is {X} {Y} e g k = let same : e ≡ g = cc in ap (λ r. Err {T = Y} r) same
+error_is {X} {Y} e g k = let same : e ≡ g = cc in λ i. Err (same i)
 
 -- the name of a module is there
 pub named_module : (c d : Things) (n : ℕ) → (n, d) ≡ with_name module_word c → IsName d n × (name_term d n ≡ module_word)
 named_module c d n e = subst (λ (p : ℕ × Things). IsName p.1 p.0 × (name_term p.1 p.0 ≡ module_word)) (sym e)
-    (slice_get_within ((with_name module_word c).1).names (with_name module_word c).0 module_word (name_stands module_word c), new_name module_word c)
+    (slice_get_within _ _ _ (name_stands module_word c), new_name module_word c)
 
 pub explicit_other : (bytes : List ℕ) (c : Things) (x : Op) (s : State) → IsSound c → op_at 129 (fresh 0 bytes c) ≡ Read (x, s)
     → (is_some (after End s.bytes) && is_root (meaning s.things x)) ≡ false → IsNone (IsExplicit bytes)

@@ -15,4 +15,4 @@ returns-in-Ok-clause-ok c =
     explicit_other c.args.bytes.now c.args.ctx.now c.in-Ok.tree (state_of c.in-Ok.rest.now c.op.new.scope c.op.new.ctx) c.sound.ensures (rw c.new.ensures at c.in-Ok.ensures) (sym c.is_whole.ensures ∙ c.if-is_whole.false)
 
 pub returns-in-Err-Refused-clause-ok : goal.returns-in-Err-Refused-clause-ok
-returns-in-Err-Refused-clause-ok c = explicit_wrong c.args.bytes.now c.args.ctx.now c.sound.ensures (rw c.new.ensures at c.in-Err-Refused.ensures)
+returns-in-Err-Refused-clause-ok c = explicit_wrong c.args.bytes.now c.args.ctx.now c.sound.ensures (rw c.new.ensures at (rw c.in-Err-Refused.field-0-is at c.in-Err-Refused.ensures))
