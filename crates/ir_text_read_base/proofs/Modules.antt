@@ -1,8 +1,7 @@
 -- The tree of a text, by the laws of operations.
-use Rattle.std.proofs.Common.{◌≡◌, ◌⊎◌, ℕ, ◌<◌, Bool, true, false, ◌&&◌, List, [], ◌∷◌, map, length, Option, Some, None, is_some, refl, sym, ap, subst, ◌∙◌, inl, inr, ⊎_elim, arith, lt-ltb}
+use Rattle.std.proofs.Common.{◌≡◌, ℕ, true, false, ◌&&◌, List, [], ◌∷◌, map, length, Option, Some, None, is_some, refl, sym, ap, subst, ◌∙◌, inl, inr, ⊎_elim, arith, lt-ltb}
 use Rattle.std.specs.Prelude.{IsTrue}
-use Rattle.std.specs.List.{list_all}
-use Rattle.ir_text_base.specs.declared.token.Mark.TheVariants.{End, CloseCurly}
+use Rattle.ir_text_base.specs.declared.token.Mark.TheVariants.{End}
 use Rattle.ir_text_base.specs.Limits.{text_reason}
 use Rattle.ir_types.specs.Things.{Things, IsName, Grows}
 use Rattle.ir_types.specs.Sound.{IsSound}
@@ -16,15 +15,15 @@ use Rattle.ir_types.specs.Interning.{with_name}
 use Rattle.ir_text_base.specs.declared.fault.Fault.{Fault}
 use Rattle.ir_text_attr_base.specs.declared.error.ReadError.{ReadError}
 use Rattle.ir_text_attr_base.specs.declared.error.ReadError.TheVariants as errors
-use Rattle.std.specs.Prelude.{Result, Ok, Err}
-use Rattle.ir_tree.specs.Tree.{OpOf, op, Op, region, block, no_regions, ops_of, next}
+use Rattle.std.specs.Prelude.{Result, Err}
+use Rattle.ir_tree.specs.Tree.{op, Op, region, block, no_regions, ops_of, next}
 use Rattle.std.specs.List.{range_with_len}
 use Rattle.ir_types.specs.declared.refusal.Refusal.{Refusal}
 use Rattle.ir_tree.specs.Ids.{IsNumberedFrom, ids}
 use Rattle.ir_tree.specs.Limits.{every, ops_every}
 use Rattle.ir_tree.specs.Maps.{map_entry, map_ops}
 use Rattle.ir_tree.specs.Passing.{op_passes}
-use Rattle.ir_tree.specs.Meaning.{Operation, meaning, is_known, is_name, is_type, is_attr, isolated_in, IsSoundIn, key_before, key_before_in, rises, rises_after, dictionaries_rise}
+use Rattle.ir_tree.specs.Meaning.{Operation, meaning, is_known, is_name, is_type, is_attr, key_before, key_before_in, rises, rises_after, dictionaries_rise}
 use Rattle.ir_tree.proofs.Mapped.{map_ids, map_operands_visible, map_depth, map_counts, map_every}
 use Rattle.ir_tree.specs.WellFormed.{IsFormed}
 use Rattle.ir_text_attr_base.specs.Grammars.{IsMark}
@@ -32,11 +31,11 @@ use Rattle.ir_text_attr_base.specs.Laws.{Each}
 use Rattle.ir_text_attr_base.specs.Marks.{after}
 use Rattle.ir_text_attr_base.specs.Outcomes.{Outcome, Read, Wrong, Full, Fails}
 use Rattle.ir_text_attr_base.proofs.TextLaws.{after_found, after_only}
-use Rattle.ir_text_attr_base.proofs.Worlds.{Exact, Step, Agree, Reads}
+use Rattle.ir_text_attr_base.proofs.Worlds.{Step, Agree}
 use Rattle.ir_text_read_base.specs.States.{State, fresh}
-use Rattle.ir_text_read_base.specs.Seen.{Seen, seen_fresh}
+use Rattle.ir_text_read_base.specs.Seen.{seen_fresh}
 use Rattle.ir_text_read_base.specs.OpReading.{op_at, ops_at}
-use Rattle.ir_text_read_base.specs.OpGrammar.{IsOp, IsOps}
+use Rattle.ir_text_read_base.specs.OpGrammar.{IsOp}
 use Rattle.ir_text_read_base.specs.Standing.{StateStands, OpStands}
 use Rattle.ir_text_read_base.specs.Spelling.{begins_module, is_root, module_word, module_of, IsExplicit, IsImplicit, Spells}
 use Rattle.ir_text_read_base.specs.Claims.{IsOnly, IsNone, IsBody, IsSource, IsWhole, module_with}

@@ -1,5 +1,5 @@
 -- What is read against what is spelled.
-use Rattle.std.specs.Prelude.{◌≡◌, ◌⊎◌, ℕ, List, [], Option, Some, None, IsTrue}
+use Rattle.std.specs.Prelude.{◌≡◌, ◌⊎◌, ℕ, List, [], IsTrue}
 use Rattle.ir_text_base.specs.declared.token.Mark.TheVariants.{End}
 use Rattle.ir_types.specs.Things.{Things}
 use Rattle.ir_tree.specs.Tree.{Op, op, region, block, no_regions, ops_of}

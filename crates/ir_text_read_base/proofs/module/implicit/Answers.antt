@@ -1,4 +1,3 @@
-use Rattle.std.proofs.Common.{◌≡◌, sym, ◌∙◌}
 use Rattle.ir_text_read_base.specs.States.{state_of}
 use Rattle.ir_text_read_base.proofs.Modules.{body_read, body_wrong, fails_wrong, named_module}
 use Rattle.ir_text_read_base.proofs.module.implicit.Goals as goal

@@ -1,4 +1,4 @@
-use Rattle.std.proofs.Common.{◌≡◌, ap}
+use Rattle.std.proofs.Common.{ap}
 use Rattle.std.specs.Prelude.{Err}
 use Rattle.ir_text_read_base.proofs.Modules.{root_is_source, body_is_source, no_source}
 use Rattle.ir_text_read_base.proofs.module.source.Goals as goal
