@@ -2,14 +2,10 @@
 #![tactic(auto)]
 
 pub mod attributes;
-#[cfg(test)]
-mod known;
 mod naming;
 mod numbers;
 mod operations;
 pub mod printer;
-#[cfg(test)]
-mod tests;
 mod things;
 pub mod types;
 mod values;
