@@ -6,6 +6,7 @@ mod naming;
 mod numbers;
 mod operations;
 pub mod printer;
+pub mod reader;
 mod things;
 pub mod types;
 mod values;
