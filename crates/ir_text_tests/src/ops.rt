@@ -1,7 +1,4 @@
 //! Operations, as the tests make them, and their text.
-ghost use Rattle.std.specs.Prelude.{◌↔◌, IsTrue};
-ghost use Rattle.ir_tree.specs.Meaning.{IsSoundIn};
-
 use ir_text::printer::print;
 use ir_tree::sound::sound;
 use ir_tree::tree::{TreeOp, TreeRegion};
