@@ -106,7 +106,7 @@ fn types<'a>(
         }
         rest = expect(tail, Mark::Comma)?;
     }
-    Err(ReadError::Refused(wrong(Refusal::TooMany, rest)))
+    Err(ReadError::Refused(wrong(past_refusal(rest, Refusal::TooMany), rest)))
 }
 
 fn one(alloc: Global, item: TypeId) -> Result<Vec<TypeId>, AllocError>
@@ -202,7 +202,7 @@ pub fn ty<'a>(
     ensures { Gives (λ x. (x.0, (x.1.now, ctx.new))) result (type_at depth (bytes.now, ctx.old)) }
 {
     if depth == 0 {
-        return Err(ReadError::Refused(wrong(depth_refusal(bytes), bytes)));
+        return Err(ReadError::Refused(wrong(past_refusal(bytes, Refusal::TooDeep), bytes)));
     }
     match after(bytes, Mark::OpenRound) {
         Some(rest) => function(alloc, ctx, rest, depth - 1),
@@ -210,11 +210,11 @@ pub fn ty<'a>(
     }
 }
 
-/// Why no type may begin here: it is too deep, where one begins.
-fn depth_refusal(bytes: &[u8]) -> Refusal {
+/// Why no type may begin here: it is past a limit, where one begins.
+fn past_refusal(bytes: &[u8], limit: Refusal) -> Refusal {
     match token(bytes) {
-        Ok((Token::Bare(_), _)) => Refusal::TooDeep,
-        Ok((Token::Mark(Mark::OpenRound), _)) => Refusal::TooDeep,
+        Ok((Token::Bare(_), _)) => limit,
+        Ok((Token::Mark(Mark::OpenRound), _)) => limit,
         Ok((found, _)) => token_refusal(&found),
         Err(_) => Refusal::Unexpected,
     }

@@ -1,21 +1,52 @@
 //! What stands before the operations of a block. Language Reference, "Blocks".
 ghost use Rattle.std.specs.Prelude.{◌≡◌, ◌≤◌, length, option_map};
-ghost use Rattle.ir_text_attr_base.specs.Outcomes.{Gives};
+ghost use Rattle.ir_text_attr_base.specs.Outcomes.{Gives, of_option};
+ghost use Rattle.ir_text_attr_base.specs.Marks.{after};
+ghost use Rattle.ir_text_base.specs.declared.token.Mark.TheVariants.{Comma};
 ghost use Rattle.ir_text_read_base.specs.States.{state_of};
 ghost use Rattle.ir_text_read_base.specs.OpReading.{arg_at, args_at, some_args_at, label_args_at, head_at};
 
 use crate::binding::bind;
-use crate::front::name;
+use crate::front::{name, one_too_many};
 use crate::scope::Scope;
 use ir_text_attr_base::error::{ReadError, wrong};
 use ir_text_attr_base::steps::{after, expect, token};
 use ir_text_attr_base::types::{MOST_DEPTH, ty};
+use ir_text_base::fault::Fault;
+use ir_text_base::lexer::{self, skip};
 use ir_text_base::token::{Mark, Token};
 use ir_tree::value::Value;
 use ir_types::context::Context;
 use ir_types::ids::{OpId, TypeId};
 use ir_types::refusal::Refusal;
 use std::alloc::Global;
+
+/// The fault at the name of an argument, where it is bound already, or else the one behind it.
+fn sooner<'a>(scope: &Scope<'a>, name: &'a [u8], bytes: &'a [u8], fault: Fault) -> Fault {
+    if scope.names.find(name).is_some() {
+        wrong(Refusal::Redefined, bytes)
+    } else {
+        fault
+    }
+}
+
+/// Why no comma follows an argument: a location is left out.
+fn argument_refusal(bytes: &[u8]) -> Refusal {
+    match lexer::token(bytes) {
+        Ok((Token::Bare(word), _)) if word == b"loc".as_slice() => Refusal::LeftOut,
+        _ => Refusal::Unexpected,
+    }
+}
+
+/// What follows the comma behind an argument.
+fn next_argument(bytes: &[u8]) -> Result<&[u8], ReadError>
+    ensures { Gives (λ r. r.now) result (of_option (after Comma bytes.now)) }
+{
+    match after(bytes, Mark::Comma) {
+        Some(rest) => Ok(rest),
+        None => Err(ReadError::Refused(wrong(argument_refusal(bytes), bytes))),
+    }
+}
 
 /// An argument, bound as it is read, behind so many others.
 #[tactic(auto, unfolding(crate::specs::OpReading::arg_at))]
@@ -32,13 +63,22 @@ fn argument<'a>(
     ensures { Gives (λ x. (x.0, state_of x.1.now scope.new ctx.new)) result (arg_at id region before.now (state_of bytes.now scope.old ctx.old)) }
 {
     let (name, rest) = name(bytes)?;
-    let rest = expect(rest, Mark::Colon)?;
+    let rest = match expect(rest, Mark::Colon) {
+        Ok(rest) => rest,
+        Err(ReadError::Refused(fault)) => {
+            return Err(ReadError::Refused(sooner(scope, name, bytes, fault)));
+        }
+        Err(e) => return Err(e),
+    };
     let (ty, rest) = match ty(alloc, ctx, rest, MOST_DEPTH) {
         Ok(found) => found,
+        Err(ReadError::Refused(fault)) => {
+            return Err(ReadError::Refused(sooner(scope, name, bytes, fault)));
+        }
         Err(e) => return Err(e),
     };
     let value = Value::Arg(OpId::new(id), region, before.len() as u32);
-    bind(&mut scope.names, name, value, ty, bytes.len())?;
+    bind(&mut scope.names, name, value, ty, skip(bytes).len())?;
     Ok((ty, rest))
 }
 
@@ -68,9 +108,9 @@ fn arguments<'a>(
         if let Some(end) = after(tail, Mark::CloseRound) {
             return Ok((items, end));
         }
-        rest = expect(tail, Mark::Comma)?;
+        rest = next_argument(tail)?;
     }
-    Err(ReadError::Refused(wrong(Refusal::TooMany, rest)))
+    Err(ReadError::Refused(one_too_many(rest)))
 }
 
 /// The arguments in parentheses, or none.

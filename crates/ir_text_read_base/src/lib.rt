@@ -10,5 +10,6 @@ pub mod front;
 pub mod laws;
 pub mod module;
 pub mod ops;
+mod places;
 mod results;
 pub mod scope;

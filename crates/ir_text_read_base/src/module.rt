@@ -12,6 +12,7 @@ ghost use Rattle.ir_text_read_base.specs.Spelling.{begins_module, is_root, modul
 ghost use Rattle.ir_text_read_base.specs.Claims.{IsOnly, IsNone, IsRootOrNone, IsBody, IsSource, IsWhole, module_with};
 
 use crate::ops::{op, ops};
+use crate::places::is_outside;
 use crate::scope::Scope;
 use ir_text_attr_base::error::{ReadError, wrong};
 use ir_text_attr_base::steps::after;
@@ -151,6 +152,45 @@ fn implicit(alloc: Global, ctx: &mut Context, bytes: &[u8]) -> Result<TreeOp, Re
     }
 }
 
+/// The fault of the operations of a text without a root around them, or at the end of the text.
+fn without_root(
+    alloc: Global,
+    ctx: &mut Context,
+    bytes: &[u8],
+    fault: Fault,
+) -> Result<Fault, ReadError> {
+    let mut scope = Scope {
+        names: Names::new(alloc),
+        next: 0,
+    };
+    match ops(alloc, &mut scope, ctx, Mark::End, bytes, 129) {
+        Ok(_) => Ok(Fault {
+            refusal: fault.refusal,
+            left: 0,
+        }),
+        Err(ReadError::Refused(fault)) => Ok(fault),
+        Err(e) => Err(e),
+    }
+}
+
+/// The fault of a text as it is written. What only the implicit root makes too deep or too many is told
+/// at the end, and a label outside any region does not fit.
+fn as_written(
+    alloc: Global,
+    ctx: &mut Context,
+    bytes: &[u8],
+    fault: Fault,
+) -> Result<Fault, ReadError> {
+    match fault.refusal {
+        Refusal::TooDeep | Refusal::TooMany => without_root(alloc, ctx, bytes, fault),
+        Refusal::MultipleBlocks if is_outside(bytes, fault.left) => Ok(Fault {
+            refusal: Refusal::Unexpected,
+            left: fault.left,
+        }),
+        _ => Ok(fault),
+    }
+}
+
 /// The tree of a text, before its limits are looked at.
 fn source(alloc: Global, ctx: &mut Context, bytes: &[u8]) -> Result<TreeOp, ReadError>
     ensures read { IfOk result (λ t. IsOnly (IsSource bytes.now) ctx.new t) }
@@ -163,7 +203,13 @@ fn source(alloc: Global, ctx: &mut Context, bytes: &[u8]) -> Result<TreeOp, Read
     };
     match implicit(alloc, ctx, bytes) {
         Ok(tree) => Ok(tree),
-        Err(ReadError::Refused(fault)) => Err(ReadError::Refused(other.unwrap_or(fault))),
+        Err(ReadError::Refused(fault)) => match other {
+            Some(other) => Err(ReadError::Refused(other)),
+            None => match as_written(alloc, ctx, bytes, fault) {
+                Ok(fault) => Err(ReadError::Refused(fault)),
+                Err(e) => Err(e),
+            },
+        },
         Err(e) => Err(e),
     }
 }

@@ -14,6 +14,7 @@ use crate::blocks::head;
 use crate::dictionaries::{Entry, attributes_of, properties_of};
 use crate::entries::{attributes, properties};
 use crate::front::{Front, start};
+use crate::places::{fault_at_name, placed, region_too_many};
 use crate::results::finish;
 use crate::scope::Scope;
 use ir_text_attr_base::error::{ReadError, wrong};
@@ -152,7 +153,7 @@ fn regions<'a>(
         }
         rest = expect(tail, Mark::Comma)?;
     }
-    Err(ReadError::Refused(wrong(Refusal::TooMany, rest)))
+    Err(ReadError::Refused(region_too_many(rest)))
 }
 
 /// Operations up to a closing mark.
@@ -196,19 +197,19 @@ pub fn op<'a>(
     ensures { Gives (λ x. (x.0, state_of x.1.now scope.new ctx.new)) result (op_at depth (state_of bytes.now scope.old ctx.old)) }
 {
     if depth == 0 {
-        return Err(ReadError::Refused(wrong(Refusal::TooDeep, bytes)));
+        return Err(ReadError::Refused(fault_at_name(Refusal::TooDeep, bytes)));
     }
     let id = scope.next;
     if id >= MOST_OPS {
-        return Err(ReadError::Refused(wrong(Refusal::TooMany, bytes)));
+        return Err(ReadError::Refused(fault_at_name(Refusal::TooMany, bytes)));
     }
-    let (front, rest) = match start(alloc, &scope.names, bytes) {
+    let (front, behind) = match start(alloc, &scope.names, bytes) {
         Ok(found) => found,
         Err(e) => return Err(e),
     };
-    let name = steps::name(ctx, &front.name, rest)?;
+    let name = steps::name(ctx, &front.name, behind)?;
     let isolated = ctx.isolated(name);
-    let (written, rest) = match properties(alloc, ctx, rest) {
+    let (written, rest) = match properties(alloc, ctx, behind) {
         Ok(found) => found,
         Err(e) => return Err(e),
     };
@@ -217,5 +218,12 @@ pub fn op<'a>(
         Ok(found) => found,
         Err(e) => return Err(e),
     };
-    tail(alloc, scope, ctx, id, name, front, written, regions, rest)
+    match tail(alloc, scope, ctx, id, name, front, written, regions, rest) {
+        Ok(found) => Ok(found),
+        Err(ReadError::Refused(fault)) => {
+            let fault = placed(&scope.names, id, bytes, behind, fault);
+            Err(ReadError::Refused(fault))
+        }
+        Err(e) => Err(e),
+    }
 }

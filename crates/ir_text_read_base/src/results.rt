@@ -56,6 +56,17 @@ fn mismatch(left: usize) -> ReadError
     })
 }
 
+/// The fault at the function type, where the numbers of names and results differ, or else that of a name.
+fn counted(agrees: bool, left: usize, fault: Fault) -> Fault {
+    if agrees {
+        return fault;
+    }
+    Fault {
+        refusal: Refusal::TypeMismatch,
+        left,
+    }
+}
+
 /// Binds the names of the results, where they are written.
 pub fn finish<'a>(
     names: &mut Names<'a, Bound>,
@@ -69,6 +80,13 @@ pub fn finish<'a>(
 {
     match results {
         None => Ok(()),
-        Some(results) => bind_results(names, id, results, types, left),
+        Some(results) => match bind_results(names, id, results, types, left) {
+            Ok(()) => Ok(()),
+            Err(ReadError::Refused(fault)) => {
+                let agrees = results.len() == types.len();
+                Err(ReadError::Refused(counted(agrees, left, fault)))
+            }
+            Err(e) => Err(e),
+        },
     }
 }

@@ -9,5 +9,11 @@ returns-in-Ok-Is-clause-read c = root_is_source c.args.bytes.now c.explicit.new.
 pub returns-in-Ok-clause-read : goal.returns-in-Ok-clause-read
 returns-in-Ok-clause-read c = body_is_source c.args.bytes.now c.implicit.new.ctx c.in-Ok.tree (rw c.in-Ok-Other.field-0-is at c.in-Ok-Other.ensures.ok) c.in-Ok.ensures.read
 
-pub returns-in-Err-Refused-clause-refused : goal.returns-in-Err-Refused-clause-refused
-returns-in-Err-Refused-clause-refused c = λ f e. no_source c.args.bytes.now (rw c.in-Ok-Other.field-0-is at c.in-Ok-Other.ensures.ok) (c.in-Err-Refused.ensures.refused c.in-Err-Refused.fault (ap Err c.in-Err-Refused.field-0-is))
+pub returns-in-Some-clause-refused : goal.returns-in-Some-clause-refused
+returns-in-Some-clause-refused c = λ f e. no_source c.args.bytes.now (rw c.in-Ok-Other.field-0-is at c.in-Ok-Other.ensures.ok) (c.in-Err-Refused.ensures.refused c.in-Err-Refused.fault (ap Err c.in-Err-Refused.field-0-is))
+
+pub returns-in-Ok-as_written-clause-refused : goal.returns-in-Ok-as_written-clause-refused
+returns-in-Ok-as_written-clause-refused c = λ f e. no_source c.args.bytes.now (rw c.in-Ok-Other.field-0-is at c.in-Ok-Other.ensures.ok) (c.in-Err-Refused.ensures.refused c.in-Err-Refused.fault (ap Err c.in-Err-Refused.field-0-is))
+
+pub returns-in-Err-as_written-clause-refused : goal.returns-in-Err-as_written-clause-refused
+returns-in-Err-as_written-clause-refused c = λ f e. no_source c.args.bytes.now (rw c.in-Ok-Other.field-0-is at c.in-Ok-Other.ensures.ok) (c.in-Err-Refused.ensures.refused c.in-Err-Refused.fault (ap Err c.in-Err-Refused.field-0-is))

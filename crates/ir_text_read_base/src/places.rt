@@ -1,0 +1,136 @@
+//! Where the faults of an operation stand. Language Reference, "Operations".
+use crate::bound::Bound;
+use crate::front::{begin_refusal, one_too_many};
+use ir_text_attr_base::error::wrong;
+use ir_text_attr_base::steps::after;
+use ir_text_base::fault::Fault;
+use ir_text_base::lexer::{skip, token};
+use ir_text_base::names::Names;
+use ir_text_base::token::{Mark, Token};
+use ir_tree::value::Value;
+use ir_types::ids::OpId;
+use ir_types::refusal::Refusal;
+
+/// What follows the name of a result.
+fn behind_name(bytes: &[u8]) -> Result<&[u8], Fault> {
+    let (found, rest) = token(bytes)?;
+    match found {
+        Token::Value(_) => Ok(rest),
+        _ => Err(wrong(Refusal::Unexpected, bytes)),
+    }
+}
+
+/// What follows the names of the results and their equal sign.
+fn behind_names(bytes: &[u8]) -> Result<&[u8], Fault> {
+    let mut rest = bytes;
+    for _ in 0..256usize {
+        let tail = behind_name(rest)?;
+        if let Some(end) = after(tail, Mark::Equal) {
+            return Ok(end);
+        }
+        let Some(next) = after(tail, Mark::Comma) else {
+            return Err(wrong(Refusal::Unexpected, tail));
+        };
+        rest = next;
+    }
+    Err(one_too_many(rest))
+}
+
+/// The fault at the name of an operation, or at what is none.
+fn fault_at(refusal: Refusal, bytes: &[u8], named: bool) -> Fault {
+    match token(bytes) {
+        Ok((Token::String([]), _)) => wrong(Refusal::Unexpected, bytes),
+        Ok((Token::String(_), _)) => wrong(refusal, bytes),
+        Ok((found, _)) => wrong(begin_refusal(&found, named), bytes),
+        Err(fault) => fault,
+    }
+}
+
+/// The fault of an operation that may not stand here: it is told at the name.
+pub(crate) fn fault_at_name(refusal: Refusal, bytes: &[u8]) -> Fault {
+    match token(bytes) {
+        Ok((Token::Value(_), _)) => match behind_names(bytes) {
+            Ok(rest) => fault_at(refusal, rest, true),
+            Err(fault) => fault,
+        },
+        _ => fault_at(refusal, bytes, false),
+    }
+}
+
+/// Whether a name stands for a result of an operation.
+fn is_result<'a>(names: &Names<'a, Bound>, name: &'a [u8], id: u32, place: u32) -> bool {
+    match names.find(name) {
+        Some(bound) => bound.value == Value::Result(OpId::new(id), place),
+        None => false,
+    }
+}
+
+/// The fault at the first name among the results of an operation that does not stand for its result.
+fn redefined<'a>(names: &Names<'a, Bound>, id: u32, bytes: &'a [u8]) -> Fault {
+    let mut rest = bytes;
+    for place in 0..256u32 {
+        let Ok((Token::Value(name), tail)) = token(rest) else {
+            return wrong(Refusal::Redefined, rest);
+        };
+        if !is_result(names, name, id, place) {
+            return wrong(Refusal::Redefined, rest);
+        }
+        match after(tail, Mark::Comma) {
+            Some(next) => rest = next,
+            None => return wrong(Refusal::Redefined, rest),
+        }
+    }
+    wrong(Refusal::Redefined, rest)
+}
+
+/// The fault behind an operation's regions: `Successors` where they stand behind its operands, and a
+/// name that is bound already at the name. The operation begins at `bytes`.
+pub(crate) fn placed<'a>(
+    names: &Names<'a, Bound>,
+    id: u32,
+    bytes: &'a [u8],
+    behind_operands: &'a [u8],
+    fault: Fault,
+) -> Fault {
+    if after(behind_operands, Mark::OpenSquare).is_some() {
+        return wrong(Refusal::Successors, behind_operands);
+    }
+    match fault.refusal {
+        Refusal::Redefined => redefined(names, id, bytes),
+        _ => fault,
+    }
+}
+
+/// The fault at a region that is one too many, or at what is none.
+pub(crate) fn region_too_many(bytes: &[u8]) -> Fault {
+    match after(bytes, Mark::OpenCurly) {
+        Some(_) => wrong(Refusal::TooMany, bytes),
+        None => wrong(Refusal::Unexpected, bytes),
+    }
+}
+
+/// How many braces are open behind a token.
+fn open_behind(found: &Token<'_>, open: usize) -> usize {
+    match found {
+        Token::Mark(Mark::OpenCurly) => open.saturating_add(1),
+        Token::Mark(Mark::CloseCurly) => open.saturating_sub(1),
+        _ => open,
+    }
+}
+
+/// Whether no brace is open where so many bytes are left.
+pub(crate) fn is_outside(bytes: &[u8], left: usize) -> bool {
+    let mut rest = bytes;
+    let mut open = 0usize;
+    for _ in 0..bytes.len() {
+        if skip(rest).len() <= left {
+            return open == 0;
+        }
+        let Ok((found, tail)) = token(rest) else {
+            return false;
+        };
+        open = open_behind(&found, open);
+        rest = tail;
+    }
+    open == 0
+}
