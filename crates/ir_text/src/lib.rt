@@ -2,14 +2,11 @@
 #![tactic(auto)]
 
 pub mod attributes;
-#[cfg(test)]
-mod known;
 mod naming;
 mod numbers;
 mod operations;
 pub mod printer;
-#[cfg(test)]
-mod tests;
+pub mod reader;
 mod things;
 pub mod types;
 mod values;

@@ -11,6 +11,4 @@ pub mod numbers;
 pub mod print;
 mod runs;
 pub mod strings;
-#[cfg(test)]
-mod tests;
 pub mod token;

@@ -1,2 +1,9 @@
-pub mod Outputs
+pub mod BlockLaws
+pub mod EntryLaws
+pub mod FrontLaws
+pub mod MadeLaws
+pub mod Modules
+pub mod NameLaws
+pub mod OpLaws
 pub mod OpSteps
+pub mod Outputs

@@ -1,9 +1,9 @@
 -- Operations read one after the other, as a loop does.
-use Rattle.std.proofs.Common.{◌≡◌, ℕ, suc, ◌+◌, ◌-◌, ◌<◌, ◌≤◌, List, [], ◌∷◌, ◌++◌, Option, Some, None, refl, sym, ap, ◌∙◌, arith}
+use Rattle.std.proofs.Common.{◌≡◌, ℕ, suc, ◌+◌, ◌-◌, ◌<◌, ◌≤◌, List, [], ◌∷◌, ◌++◌, Some, None, refl, sym, ◌∙◌, arith}
 use Rattle.ir_text_base.specs.declared.token.Mark.{Mark}
 use Rattle.ir_tree.specs.Tree.{Op}
 use Rattle.ir_text_attr_base.specs.declared.error.ReadError.{ReadError}
-use Rattle.ir_text_attr_base.specs.Outcomes.{Outcome, Read, Wrong, Full, Parse, Fails}
+use Rattle.ir_text_attr_base.specs.Outcomes.{Outcome, Read, Wrong, Parse, Fails}
 use Rattle.ir_text_attr_base.proofs.ListSteps.{fails_with}
 use Rattle.ir_text_read_base.specs.States.{State, after_in}
 use Rattle.ir_text_read_base.specs.OpReading.{ops_at}

@@ -1,9 +1,9 @@
 -- How long lists are that are read.
-use Rattle.std.proofs.Common.{◌≡◌, ℕ, zero, suc, ◌+◌, ◌≤◌, List, [], ◌∷◌, ◌++◌, length, Option, Some, None, refl, sym, ap, subst, ◌∙◌, arith}
+use Rattle.std.proofs.Common.{◌≡◌, ℕ, zero, suc, ◌+◌, ◌≤◌, List, [], ◌∷◌, ◌++◌, length, Option, Some, None, ap, arith}
 use Rattle.std.proofs.lemmas.List.{length-append}
 use Rattle.ir_text_base.specs.declared.token.Mark.{Mark}
 use Rattle.ir_text_base.specs.declared.token.Mark.TheVariants.{Comma, OpenRound, CloseRound, Arrow}
-use Rattle.ir_text_attr_base.specs.Outcomes.{Outcome, Read, Wrong, Full, ◌>>=◌, of_option, Parse}
+use Rattle.ir_text_attr_base.specs.Outcomes.{Outcome, Read, ◌>>=◌, of_option, Parse}
 use Rattle.ir_text_attr_base.specs.Lists.{more_from, more_at, list_from, list_at}
 use Rattle.ir_text_attr_base.specs.Typed.{Typed, after_typed}
 use Rattle.ir_text_attr_base.specs.TypeReading.{types_at, outputs_from, outputs_at, signature_at, many, type_at, function_type_at}

@@ -1,5 +1,5 @@
 -- Entries of dictionaries, by their keys: numbers while they are read, bytes where they are spelled.
-use Rattle.std.specs.Prelude.{ℕ, ◌+◌, nat_le, Bool, not, ◌||◌, if◌then◌else◌, List, [], ◌∷◌, ◌++◌, take, drop, length}
+use Rattle.std.specs.Prelude.{◌+◌, nat_le, Bool, not, ◌||◌, if◌then◌else◌, List, [], ◌∷◌, ◌++◌, take, drop, length}
 use Rattle.std.specs.List.{list_any, filter, prefix_len}
 
 module _ {K A : Type 0} (same : K → K → Bool) where

@@ -1,5 +1,5 @@
 -- Reading dictionaries.
-use Rattle.std.specs.Prelude.{ℕ, nat_eq, Bool, false, if◌then◌else◌, List, [], ◌∷◌, ◌++◌, Option, Some, None}
+use Rattle.std.specs.Prelude.{ℕ, nat_eq, Bool, false, if◌then◌else◌, List, [], Option, Some, None}
 use Rattle.ir_text_base.specs.declared.token.Mark.TheVariants.{OpenCurly, CloseCurly, Less, Greater, Equal}
 use Rattle.ir_text_base.specs.Tokens.{Lexeme, bare, string, next}
 use Rattle.ir_text_base.specs.Strings.{string_bytes}

@@ -1,5 +1,5 @@
 -- Reading what stands before an operation's dictionaries.
-use Rattle.std.specs.Prelude.{ℕ, ◌==◌, if◌then◌else◌, List, [], ◌∷◌, length, map, Option, Some, None, option_map}
+use Rattle.std.specs.Prelude.{ℕ, ◌==◌, if◌then◌else◌, List, [], length, map, Option, Some, None, option_map}
 use Rattle.ir_text_base.specs.declared.token.Mark.TheVariants.{OpenRound, CloseRound, Equal}
 use Rattle.ir_text_base.specs.Tokens.{Lexeme, value, string, next}
 use Rattle.ir_text_base.specs.Strings.{string_bytes}

@@ -6,3 +6,6 @@ pub mod Made
 pub mod OpReading
 pub mod Seen
 pub mod OpGrammar
+pub mod Spelling
+pub mod Claims
+pub mod Standing

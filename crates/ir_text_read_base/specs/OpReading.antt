@@ -1,16 +1,15 @@
 -- Reading operations.
-use Rattle.std.specs.Prelude.{ℕ, zero, suc, ◌+◌, Bool, true, false, nat_lt, if◌then◌else◌, List, [], ◌∷◌, ◌++◌, length, map, is_some, Option, Some, None}
+use Rattle.std.specs.Prelude.{ℕ, zero, suc, ◌+◌, Bool, nat_lt, if◌then◌else◌, List, [], ◌∷◌, ◌++◌, length, map, is_some, Option, Some, None}
 use Rattle.std.specs.Str.{bytes_eq}
 use Rattle.ir_text_base.specs.declared.token.Mark.{Mark}
 use Rattle.ir_text_base.specs.declared.token.Mark.TheVariants.{OpenRound, CloseRound, OpenCurly, CloseCurly, Colon}
-use Rattle.ir_text_base.specs.Tokens.{Lexeme, value, label, next}
+use Rattle.ir_text_base.specs.Tokens.{Lexeme, label, next}
 use Rattle.ir_text_base.specs.Scopes.{Scopes, bound, find}
 use Rattle.ir_types.specs.Things.{Things}
 use Rattle.ir_tree.specs.declared.value.Value.{Value}
 use Rattle.ir_tree.specs.declared.value.Value.TheVariants as values
 use Rattle.ir_tree.specs.Tree.{Op, Region}
 use Rattle.ir_tree.specs.Meaning.{isolated_in, key_before_in}
-use Rattle.ir_text_attr_base.specs.Marks.{after}
 use Rattle.ir_text_attr_base.specs.Outcomes.{Outcome, Read, Wrong, ◌>>=◌, of_option, Parse}
 use Rattle.ir_text_attr_base.specs.Lists.{list_at, more_at}
 use Rattle.ir_text_attr_base.specs.Typed.{Typed, after_typed, name_step}

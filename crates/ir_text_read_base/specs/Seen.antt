@@ -1,5 +1,5 @@
 -- Where the grammar of operations is: the text that is left, the names with what they stand for, and the next id.
-use Rattle.std.specs.Prelude.{◌≡◌, ℕ, ◌+◌, Bool, List, None, Option, Some, []}
+use Rattle.std.specs.Prelude.{◌≡◌, ℕ, Bool, List, None, []}
 use Rattle.ir_types.specs.Terms.{TypeTerm}
 use Rattle.ir_tree.specs.declared.value.Value.{Value}
 use Rattle.ir_text_base.specs.declared.token.Mark.{Mark}

@@ -1,5 +1,5 @@
 -- Where a reader of operations is: the text that is left, the names, the next id, and the things known.
-use Rattle.std.specs.Prelude.{ℕ, ◌+◌, Bool, List, [], ◌∷◌, Option, option_map}
+use Rattle.std.specs.Prelude.{ℕ, Bool, List, [], Option, option_map}
 use Rattle.ir_types.specs.Things.{Things}
 use Rattle.ir_text_base.specs.declared.token.Mark.{Mark}
 use Rattle.ir_text_base.specs.Scopes.{Scopes, entered, left}

@@ -7,6 +7,8 @@ pub mod bound;
 mod dictionaries;
 mod entries;
 pub mod front;
+pub mod laws;
+pub mod module;
 pub mod ops;
 mod results;
 pub mod scope;

@@ -1,7 +1,6 @@
 use Rattle.std.proofs.Common.{◌≡◌, length}
 use Rattle.ir_tree.specs.Meaning.{key_before_in}
-use Rattle.ir_text_read_base.specs.Entries.{moved, staying, put_all}
-use Rattle.ir_text_read_base.specs.EntryReading.{is_property_in}
+use Rattle.ir_text_read_base.specs.Entries.{put_all}
 use Rattle.ir_text_read_base.proofs.dictionaries.put_all.Given as goal
 
 abbrev pub invariant-entries : goal.invariant-entries

@@ -1,14 +1,14 @@
-use Rattle.std.proofs.Common.{◌≡◌, ◌++◌, ◌∷◌, [], ◌+◌, Some, None, List, length, map, refl, sym, ap, ◌∙◌, arith}
+use Rattle.std.proofs.Common.{◌≡◌, ◌++◌, ◌∷◌, [], ◌+◌, Some, None, length, map, refl, ◌∙◌, arith}
 use Rattle.std.proofs.lemmas.Result.{err_from_is_err_and}
 use Rattle.std.proofs.lemmas.List.{map_push, length-append, length-map}
 use Rattle.ir_text_base.specs.declared.token.Mark.TheVariants.{CloseRound, CloseCurly, Comma}
 use Rattle.ir_tree.specs.View.{region_view}
 use Rattle.ir_text_attr_base.specs.Marks.{after}
 use Rattle.ir_text_attr_base.specs.Outcomes.{of_option}
-use Rattle.ir_text_attr_base.proofs.ListSteps.{starts, goes_on, closes, no_item, no_comma, is_full, fails_option, got}
+use Rattle.ir_text_attr_base.proofs.ListSteps.{goes_on, closes, no_item, no_comma, is_full, fails_option, got}
 use Rattle.ir_text_read_base.specs.declared.ops.TheConstants.{MOST_OPS}
 use Rattle.ir_text_read_base.specs.States.{after_in, state_of}
-use Rattle.ir_text_read_base.specs.OpReading.{region_at, regions_at, op_at, ops_at}
+use Rattle.ir_text_read_base.specs.OpReading.{region_at, op_at, ops_at}
 use Rattle.ir_text_read_base.proofs.OpSteps as one
 use Rattle.ir_text_read_base.proofs.ops.+op.Goals as goal
 

@@ -1,0 +1,342 @@
+-- What stands before the dictionaries of an operation: what is read is spelled, and what is spelled is read.
+use Rattle.std.specs.Prelude.{if◌then◌else◌, ◌==◌}
+use Rattle.std.specs.Str.{bytes_eq}
+use Rattle.std.proofs.Common.{◌≡◌, ℕ, Bool, true, false, List, [], ◌∷◌, length, Option, Some, None, refl, sym, ap, subst, ◌⊎◌, inl, inr}
+use Rattle.ir_text_base.specs.declared.token.Mark.{Mark}
+use Rattle.ir_text_base.specs.declared.token.Mark.TheVariants.{OpenRound, CloseRound, Equal}
+use Rattle.ir_text_base.specs.Tokens.{Lexeme, value, string, next}
+use Rattle.ir_text_base.specs.Strings.{string_bytes}
+use Rattle.ir_text_base.specs.Scopes.{Binding, find, or_else}
+use Rattle.ir_types.specs.Things.{Things, Grows}
+use Rattle.ir_types.specs.Sound.{IsSound}
+use Rattle.ir_types.proofs.Growth.{grows_refl, grows_trans}
+use Rattle.ir_text_attr_base.specs.Marks.{after}
+use Rattle.ir_text_attr_base.specs.Outcomes.{Outcome, Read, Wrong, ◌>>=◌, of_option, Parse}
+use Rattle.ir_text_attr_base.specs.Lists.{more_at, list_at}
+use Rattle.ir_text_attr_base.specs.Grammars.{Grammar, Then, Done, Not, IsMore, IsList, Token, IsMark}
+use Rattle.ir_text_attr_base.specs.Worlds.{From}
+use Rattle.ir_text_attr_base.specs.Laws.{Each}
+use Rattle.ir_text_attr_base.proofs.Worlds.{option_read, option_full, fills_on, later, Agree, Exact, Step, Reads, Marks, step_on, reads_on, exact_spelled, exact_for, nothing_exact, choice_exact, then_exact, done_exact, after_exact, more_exact, list_exact}
+use Rattle.ir_text_attr_base.proofs.TextLaws.{after_found, after_only, after_none, none_after}
+use Rattle.ir_text_read_base.specs.declared.bound.Bound.{Bound}
+use Rattle.ir_text_read_base.specs.FrontReading.{Text, name_from, name_at, names_at, results_from, results_at, op_name_from, op_name_at, use_from, use_at, uses_at, start_at}
+use Rattle.ir_text_read_base.specs.Seen.{BoundTerm}
+use Rattle.ir_text_read_base.specs.OpGrammar.{IsName, IsNames, IsResultsFrom, IsResults, IsOpName, IsUse, IsStart}
+use Rattle.ir_text_read_base.specs.Standing.{Equals, Both, BoundStands, HereStands, StartStands}
+
+-- ---- readers over any state
+
+module _ {S T : Type 0} (things : S → Things) (Same : Things → S → T → Type 0) where
+  -- p and P from a state that another one leads to
+  pub shift_exact : {A B : Type 0} (c : Things) (R : Things → A → B → Type 0) (f : S → S) (g : T → T) (p : Parse S A) (P : Grammar T B)
+      → ((s : S) (t : T) → IsSound (things s) → Agree things Same s t → Grows (things s) (things (f s)) × IsSound (things (f s)) × Agree things Same (f s) (g t))
+      → Exact things Same c R p P → Exact things Same c R (λ s. p (f s)) (λ y old new. P y (g old) new)
+  shift_exact c R f g p P moves k = record {
+    found = λ s t x s' h sound a e.
+        let m = moves s t sound a in
+        let n = k.found (f s) (g t) x s' (grows_trans c (things s) (things (f s)) h m.0) m.1 m.2 e in
+        (n.0, n.1, n.2, step_on things Same R s (f s) x n.0 s' n.1 m.0 n.3);
+    only = λ s t y t' h sound a j.
+        let m = moves s t sound a in
+        reads_on things Same R s (f s) (p (f s)) y t' m.0 (k.only (f s) (g t) y t' (grows_trans c (things s) (things (f s)) h m.0) m.1 m.2 j);
+    full = λ s t h sound a e.
+        let m = moves s t sound a in
+        fills_on (things s) (things (f s)) m.0 (k.full (f s) (g t) (grows_trans c (things s) (things (f s)) h m.0) m.1 m.2 e);
+  }
+
+  -- p and P may look at the state in which they begin
+  pub begin_exact : {A B : Type 0} (c : Things) (R : Things → A → B → Type 0) (p : S → Parse S A) (P : T → Grammar T B)
+      → ((s : S) (t : T) → Grows c (things s) → IsSound (things s) → Agree things Same s t → Exact things Same (things s) R (p s) (P t)) → Exact things Same c R (λ s. p s s) (λ y old new. P old y old new)
+  begin_exact c R p P each = record {
+    found = λ s t x s' g sound h e. (each s t g sound h).found s t x s' (grows_refl (things s)) sound h e;
+    only = λ s t y t' g sound h k. (each s t g sound h).only s t y t' (grows_refl (things s)) sound h k;
+    full = λ s t g sound h e. (each s t g sound h).full s t (grows_refl (things s)) sound h e;
+  }
+
+  -- what is there for both
+  pub both_exact : {A B : Type 0} (c : Things) (R : Things → A → B → Type 0) (o : Option A) (u : Option B) → From (λ z. Both R z o u) c → Exact things Same c R (λ s. of_option o >>= λ x. Read (x, s)) (λ y old new. (u ≡ Some y) × (new ≡ old))
+  both_exact c R None None r = record { found = λ s t x s' g sound h e. absurd cc; only = λ s t y t' g sound h k. let e : None ≡ Some y = k.0 in absurd cc; full = λ s t g sound h e. absurd cc }
+  both_exact c R None (Some b) r = record { found = λ s t x s' g sound h e. absurd cc; only = λ s t y t' g sound h k. absurd (r (things s) g sound); full = λ s t g sound h e. absurd cc }
+  both_exact c R (Some a) None r = record { found = λ s t x s' g sound h e. absurd (r (things s) g sound); only = λ s t y t' g sound h k. absurd (r (things s) g sound); full = λ s t g sound h e. absurd cc }
+  both_exact {B = B} c R (Some a) (Some b) r =
+      exact_spelled things Same c R (λ s. Read (a, s)) (Done b) (λ y old new. (Some b ≡ Some y) × (new ≡ old)) (λ y t t' k. (ap Some (sym k.0), k.1)) back (done_exact things Same c R a b r)
+    where
+      back : (y : B) (t t' : T) → (Some b ≡ Some y) × (t' ≡ t) → Done b y t t'
+      back y t t' k = let e : Some b ≡ Some y = k.0 in let same : y ≡ b = cc in (same, k.1)
+
+  module _ (text : S → List ℕ) (spelled : T → List ℕ) (same : (z : Things) (s : S) (t : T) → Same z s t → text s ≡ spelled t) where
+    -- the texts agree now
+    pub texts_now : (s : S) (t : T) → IsSound (things s) → Agree things Same s t → text s ≡ spelled t
+    texts_now s t sound h = same (things s) s t (h (things s) (grows_refl (things s)) sound)
+
+    -- what the next token decides
+    pub token_exact : {A B : Type 0} (c : Things) (R : Things → A → B → Type 0) (f : S → Lexeme → List ℕ → Outcome (A × S)) (F : Lexeme → List ℕ → Grammar T B)
+        → ((l : Lexeme) (rest : List ℕ) → Exact things Same c R (λ s. f s l rest) (F l rest))
+        → Exact things Same c R (λ s. of_option (next (text s)) >>= λ l. f s l.0 l.1) (λ y old new. (l : Lexeme) × (rest : List ℕ) × Token l (spelled old) rest × F l rest y old new)
+    token_exact c R f F each = record {
+      found = λ s t x s' g sound h e.
+          let b = option_read (next (text s)) (λ l. f s l.0 l.1) (x, s') e in
+          let k = (each b.0.0 b.0.1).found s t x s' g sound h b.2 in
+          (k.0, k.1, (b.0.0, b.0.1, subst (λ r. Token b.0.0 r b.0.1) (texts_now s t sound h) b.1, k.2), k.3);
+      only = λ s t y t' g sound h j.
+          let token : next (text s) ≡ Some (j.0, j.1) = subst (λ r. Token j.0 r j.1) (sym (texts_now s t sound h)) j.2 in
+          rw token ((each j.0 j.1).only s t y t' g sound h j.3);
+      full = λ s t g sound h e.
+          let b = option_full (next (text s)) (λ l. f s l.0 l.1) e in
+          (each b.0.0 b.0.1).full s t g sound h b.2;
+    }
+
+-- ---- lists whose items are known of in contexts that grow from one alone
+
+module _ {S T : Type 0} (things : S → Things) (Same : Things → S → T → Type 0) (base : Things) where
+  abbrev Since : Things → S → T → Type 0
+  Since z s t = Grows base z × Same z s t
+
+  since : (s : S) (t : T) → Grows base (things s) → Agree things Same s t → Agree things Since s t
+  since s t b h = λ z g w. (grows_trans base (things s) z b g, h z g w)
+
+  since_back : (s : S) (t : T) → Agree things Since s t → Agree things Same s t
+  since_back s t h = λ z g w. (h z g w).1
+
+  base_of : (s : S) (t : T) → IsSound (things s) → Agree things Since s t → Grows base (things s)
+  base_of s t sound h = (h (things s) (grows_refl (things s)) sound).0
+
+  module _ {A B : Type 0} (R : Things → A → B → Type 0) where
+    step_since : (s : S) (x : A) (y : B) (s' : S) (t' : T) → Grows base (things s) → Step things Same R s x y s' t' → Step things Since R s x y s' t'
+    step_since s x y s' t' b k = record { grows = k.grows; sound = k.sound; stands = k.stands; agree = since s' t' (grows_trans base (things s) (things s') b k.grows) k.agree }
+
+    step_back : (s : S) (x : A) (y : B) (s' : S) (t' : T) → Step things Since R s x y s' t' → Step things Same R s x y s' t'
+    step_back s x y s' t' k = record { grows = k.grows; sound = k.sound; stands = k.stands; agree = since_back s' t' k.agree }
+
+    reads_since : (s : S) (o : Outcome (A × S)) (y : B) (t' : T) → Grows base (things s) → Reads things Same R s o y t' → Reads things Since R s o y t'
+    reads_since s o y t' b (inl e) = inl e
+    reads_since s o y t' b (inr k) = inr (k.0, k.1, k.2, step_since s k.0 y k.1 t' b k.3)
+
+    reads_back : (s : S) (o : Outcome (A × S)) (y : B) (t' : T) → Reads things Since R s o y t' → Reads things Same R s o y t'
+    reads_back s o y t' (inl e) = inl e
+    reads_back s o y t' (inr k) = inr (k.0, k.1, k.2, step_back s k.0 y k.1 t' k.3)
+
+    exact_since : (p : Parse S A) (P : Grammar T B) (d : Things) → ((c : Things) → Grows base c → Grows d c → Exact things Same c R p P) → Exact things Since d R p P
+    exact_since p P d each = record {
+      found = λ s t x s' g sound h e.
+          let b = base_of s t sound h in
+          let f = (each (things s) b g).found s t x s' (grows_refl (things s)) sound (since_back s t h) e in
+          (f.0, f.1, f.2, step_since s x f.0 s' f.1 b f.3);
+      only = λ s t y t' g sound h k.
+          let b = base_of s t sound h in
+          reads_since s (p s) y t' b ((each (things s) b g).only s t y t' (grows_refl (things s)) sound (since_back s t h) k);
+      full = λ s t g sound h e. let b = base_of s t sound h in (each (things s) b g).full s t (grows_refl (things s)) sound (since_back s t h) e;
+    }
+
+    exact_back : (p : Parse S A) (P : Grammar T B) → Exact things Since base R p P → Exact things Same base R p P
+    exact_back p P k = record {
+      found = λ s t x s' g sound h e. let f = k.found s t x s' g sound (since s t g h) e in (f.0, f.1, f.2, step_back s x f.0 s' f.1 f.3);
+      only = λ s t y t' g sound h j. reads_back s (p s) y t' (k.only s t y t' g sound (since s t g h) j);
+      full = λ s t g sound h e. k.full s t g sound (since s t g h) e;
+    }
+
+  module _ (after : Mark → S → Option S) (Tok : Mark → T → T → Type 0) (marks : Marks things Same after Tok) where
+    marks_since : Marks things Since after Tok
+    marks_since = record {
+      found = λ m s t s' sound h e.
+          let f = marks.found m s t s' sound (since_back s t h) e in
+          (f.0, f.1, f.2, f.3, since s' f.0 (grows_trans base (things s) (things s') (base_of s t sound h) f.2) f.4);
+      only = λ m s t t' sound h k.
+          let f = marks.only m s t t' sound (since_back s t h) k in
+          (f.0, f.1, f.2, f.3, since f.0 t' (grows_trans base (things s) (things f.0) (base_of s t sound h) f.2) f.4);
+      none = λ m s t sound h e. marks.none m s t sound (since_back s t h) e;
+      lacks = λ m s t sound h e. marks.lacks m s t sound (since_back s t h) e;
+    }
+
+    module _ {A B : Type 0} (R : Things → A → B → Type 0) (close : Mark) (p : List A → Parse S A) (P : List B → Grammar T B)
+        (item : (c : Things) (xs : List A) (ys : List B) → Grows base c → From (λ z. Each R z xs ys) c → Exact things Same c R (p xs) (P ys)) where
+      item_since : (d : Things) (xs : List A) (ys : List B) → From (λ z. Each R z xs ys) d → Exact things Since d R (p xs) (P ys)
+      item_since d xs ys r = exact_since R (p xs) (P ys) d (λ c b g. item c xs ys b (later (λ z. Each R z xs ys) d c g r))
+
+      pub items_exact : (room : ℕ) → Exact things Same base (Each R) (list_at after close p room) (IsList Tok close P room)
+      items_exact room = exact_back (Each R) (list_at after close p room) (IsList Tok close P room) (list_exact things Since after Tok marks_since R close p P item_since room base)
+
+      pub some_items_exact : (room : ℕ) → Exact things Same base (Each R) (more_at after close p room []) (IsMore Tok close P room [])
+      some_items_exact room = exact_back (Each R) (more_at after close p room []) (IsMore Tok close P room []) (more_exact things Since after Tok marks_since R close p P item_since room base [] [] (λ z g w. tt))
+
+-- ---- a text alone, in a context that stays
+
+abbrev pub known : Things → Text → Things
+known c s = c
+
+abbrev pub SameText : Things → Text → Text → Type 0
+SameText z s t = s ≡ t
+
+abbrev pub Plain : {A B : Type 0} → (c : Things) → (Things → A → B → Type 0) → Parse Text A → Grammar Text B → Type 0
+Plain c R p P = Exact (known c) SameText c R p P
+
+pub text_marks : (c : Things) → Marks (known c) SameText after IsMark
+text_marks c = record {
+  found = λ m s t s' sound h e. (s', subst (λ b. IsMark m b s') (h c (grows_refl c) sound) (after_found m s s' e), grows_refl c, sound, λ z g w. refl);
+  only = λ m s t t' sound h k. (t', after_only m s t' (subst (λ b. IsMark m b t') (sym (h c (grows_refl c) sound)) k), grows_refl c, sound, λ z g w. refl);
+  none = λ m s t sound h e. subst (λ b. Not IsMark m b) (h c (grows_refl c) sound) (after_none m s e);
+  lacks = λ m s t sound h e. none_after m s (subst (λ b. Not IsMark m b) (sym (h c (grows_refl c) sound)) e);
+}
+
+module _ {A B : Type 0} (c : Things) (R : Things → A → B → Type 0) where
+  -- what is read behind the token
+  plain_behind : (rest : Text) (p : Parse Text A) (P : Grammar Text B) → Plain c R p P → Plain c R (λ s. p rest) (λ y old new. P y rest new)
+  plain_behind rest p P k = shift_exact (known c) SameText c R (λ s. rest) (λ t. rest) p P (λ s t sound a. (grows_refl c, sound, λ z g w. refl)) k
+
+  plain_token : (f : Text → Lexeme → List ℕ → Outcome (A × Text)) (F : Lexeme → List ℕ → Grammar Text B) → ((l : Lexeme) (rest : Text) → Plain c R (λ s. f s l rest) (F l rest))
+      → Plain c R (λ s. of_option (next s) >>= λ l. f s l.0 l.1) (λ y old new. (l : Lexeme) × (rest : Text) × Token l old rest × F l rest y old new)
+  plain_token f F each = token_exact (known c) SameText (λ s. s) (λ t. t) (λ z s t k. k) c R f F each
+
+-- whatever context one begins with
+plain_from : {A B : Type 0} (c : Things) (R : Things → A → B → Type 0) (p : Parse Text A) (P : Grammar Text B) → Plain c R p P → (d : Things) → Exact (known c) SameText d R p P
+plain_from c R p P k d = record {
+  found = λ s t x s' g sound h e. k.found s t x s' (grows_refl c) sound h e;
+  only = λ s t y t' g sound h j. k.only s t y t' (grows_refl c) sound h j;
+  full = λ s t g sound h e. k.full s t (grows_refl c) sound h e;
+}
+
+plain_done : {A : Type 0} (c : Things) (x : A) → Plain c Equals (λ s. Read (x, s)) (Done x)
+plain_done c x = done_exact (known c) SameText c Equals x x (λ z g w. refl)
+
+-- ---- names
+
+abbrev NameFrom : Lexeme → Text → Grammar Text (List ℕ)
+NameFrom (value n) rest y old new = Done n y rest new
+NameFrom _ rest y old new = ⊥
+
+name_from_exact : (c : Things) (l : Lexeme) (rest : Text) → Plain c Equals (λ s. name_from l rest) (NameFrom l rest)
+name_from_exact c (value n) rest = plain_behind c Equals rest (λ s. Read (n, s)) (Done n) (plain_done c n)
+name_from_exact c _ rest = nothing_exact (known c) SameText c Equals
+
+name_into : (y : List ℕ) (t t' : Text) → (l : Lexeme) × (rest : Text) × Token l t rest × NameFrom l rest y t t' → IsName y t t'
+name_into y t t' k = by_token k.0 k.1 k.2 k.3
+  where
+    by_token : (l : Lexeme) (rest : Text) → Token l t rest → NameFrom l rest y t t' → IsName y t t'
+    by_token (value n) rest token k = rw (k.0, k.1) token
+    by_token _ rest token k = absurd k
+
+pub name_exact : (c : Things) → Plain c Equals name_at IsName
+unfolding name_at
+name_exact c =
+    exact_spelled (known c) SameText c Equals name_at (λ y old new. (l : Lexeme) × (rest : Text) × Token l old rest × NameFrom l rest y old new) IsName name_into (λ y t t' k. (value y, t', k, (refl, refl)))
+    (plain_token c Equals (λ s. name_from) NameFrom (name_from_exact c))
+
+pub each_equal : {A : Type 0} (z : Things) (xs ys : List A) → Each Equals z xs ys → xs ≡ ys
+each_equal z [] [] h = refl
+each_equal z [] (y ∷ ys) h = absurd h
+each_equal z (x ∷ xs) [] h = absurd h
+each_equal z (x ∷ xs) (y ∷ ys) h = λ i. h.0 i ∷ each_equal z xs ys h.1 i
+
+names_exact : (c : Things) → Plain c Equals names_at IsNames
+unfolding names_at
+names_exact c =
+    exact_for (known c) SameText c (Each Equals) Equals names_at IsNames each_equal
+    (more_exact (known c) SameText after IsMark (text_marks c) Equals Equal (λ before. name_at) (λ before. IsName) (λ d xs ys r. plain_from c Equals name_at IsName (name_exact c) d) 256 c [] [] (λ z g k. tt))
+
+-- ---- the names of results, and the name of an operation
+
+some_names_exact : (c : Things) (n : List ℕ) (rest : Text) → Plain c Equals (λ s. results_from s (value n)) (IsResultsFrom (value n))
+some_names_exact c n rest =
+    exact_spelled (known c) SameText c Equals (λ s. results_from s (value n)) (Then IsNames (λ ns. Done (Some ns))) (IsResultsFrom (value n))
+    (λ y t t' k. (k.0, subst (λ r. IsNames k.0 t r) (sym k.3.1) k.2, k.3.0)) (λ y t t' k. (k.0, t', k.1, (k.2, refl)))
+    (then_exact (known c) SameText c Equals Equals names_at IsNames (λ ns s. Read (Some ns, s)) (λ ns. Done (Some ns)) (names_exact c) (λ d x y g r.
+    done_exact (known c) SameText d Equals (Some x) (Some y) (λ z k w. ap Some (r z k w))))
+
+results_from_exact : (c : Things) (l : Lexeme) (rest : Text) → Plain c Equals (λ s. results_from s l) (IsResultsFrom l)
+results_from_exact c (value n) rest = some_names_exact c n rest
+results_from_exact c _ rest = plain_done c None
+
+results_exact : (c : Things) → Plain c Equals results_at IsResults
+unfolding results_at
+results_exact c = plain_token c Equals (λ s l rest. results_from s l) (λ l rest. IsResultsFrom l) (results_from_exact c)
+
+abbrev NameOf : List ℕ → Grammar Text (List ℕ)
+NameOf raw y old new = ((length (string_bytes raw) == 0) ≡ true) × ⊥ ⊎ ((length (string_bytes raw) == 0) ≡ false) × Done (string_bytes raw) y old new
+
+abbrev OpNameFrom : Lexeme → Text → Grammar Text (List ℕ)
+OpNameFrom (string raw) rest y old new = NameOf raw y rest new
+OpNameFrom _ rest y old new = ⊥
+
+op_name_from_exact : (c : Things) (l : Lexeme) (rest : Text) → Plain c Equals (λ s. op_name_from l rest) (OpNameFrom l rest)
+op_name_from_exact c (string raw) rest =
+    plain_behind c Equals rest (λ s. if length (string_bytes raw) == 0 then Wrong else Read (string_bytes raw, s)) (NameOf raw)
+    (choice_exact (known c) SameText c Equals (length (string_bytes raw) == 0) (λ s. Wrong) (λ s. Read (string_bytes raw, s)) (λ y old new. ⊥) (Done (string_bytes raw)) (nothing_exact (known c) SameText c Equals) (plain_done c (string_bytes raw)))
+op_name_from_exact c _ rest = nothing_exact (known c) SameText c Equals
+
+op_name_into : (y : List ℕ) (t t' : Text) → (l : Lexeme) × (rest : Text) × Token l t rest × OpNameFrom l rest y t t' → IsOpName y t t'
+op_name_into y t t' k = by_token k.0 k.1 k.2 k.3
+  where
+    by_token : (l : Lexeme) (rest : Text) → Token l t rest → OpNameFrom l rest y t t' → IsOpName y t t'
+    by_token (string raw) rest token (inl k) = absurd k.1
+    by_token (string raw) rest token (inr k) = (raw, subst (λ r. Token (string raw) t r) (sym k.1.1) token, k.0, k.1.0)
+    by_token _ rest token k = absurd k
+
+op_name_exact : (c : Things) → Plain c Equals op_name_at IsOpName
+unfolding op_name_at
+op_name_exact c =
+    exact_spelled (known c) SameText c Equals op_name_at (λ y old new. (l : Lexeme) × (rest : Text) × Token l old rest × OpNameFrom l rest y old new) IsOpName op_name_into (λ y t t' k. (string k.0, t', k.1, inr (k.2, (k.3, refl))))
+    (plain_token c Equals (λ s. op_name_from) OpNameFrom (op_name_from_exact c))
+
+-- ---- uses
+
+other_both : {A B : Type 0} (R : Things → A → B → Type 0) (z : Things) (o o' : Option A) (u u' : Option B) → Both R z o u → Both R z o' u' → Both R z (or_else o o') (or_else u u')
+other_both R z None o' None u' h k = k
+other_both R z None o' (Some y) u' h k = absurd h
+other_both R z (Some x) o' None u' h k = absurd h
+other_both R z (Some x) o' (Some y) u' h k = h
+
+test_both : {A B : Type 0} (R : Things → A → B → Type 0) (z : Things) (b : Bool) (x : A) (y : B) → R z x y → Both R z (if b then Some x else None) (if b then Some y else None)
+test_both R z true x y h = h
+test_both R z false x y h = tt
+
+-- what a name stands for, by numbers and by contents
+pub find_stands : (z : Things) (name : List ℕ) (here : List (Binding Bound)) (there : List (Binding BoundTerm)) → HereStands z here there → Both BoundStands z (find name here) (find name there)
+unfolding find
+find_stands z name [] [] h = tt
+find_stands z name [] (y ∷ ys) h = absurd h
+find_stands z name (b ∷ bs) [] h = absurd h
+find_stands z name (b ∷ bs) (y ∷ ys) h =
+    other_both BoundStands z (find name bs) (if bytes_eq b.name name then Some b.value else None) (find name ys) (if bytes_eq y.name name then Some y.value else None) (find_stands z name bs ys h.1)
+    (subst (λ n. Both BoundStands z (if bytes_eq b.name name then Some b.value else None) (if bytes_eq n name then Some y.value else None)) h.0.0 (test_both BoundStands z (bytes_eq b.name name) b.value y.value h.0.1))
+
+module _ (c : Things) (here : List (Binding Bound)) (there : List (Binding BoundTerm)) (stand : From (λ z. HereStands z here there) c) where
+  abbrev UseOf : List ℕ → Grammar Text BoundTerm
+  UseOf n y old new = (find n there ≡ Some y) × (new ≡ old)
+
+  abbrev UseFrom : Lexeme → Text → Grammar Text BoundTerm
+  UseFrom (value n) rest y old new = UseOf n y rest new
+  UseFrom _ rest y old new = ⊥
+
+  use_from_exact : (l : Lexeme) (rest : Text) → Plain c BoundStands (λ s. use_from here l rest) (UseFrom l rest)
+  use_from_exact (value n) rest =
+      plain_behind c BoundStands rest (λ s. of_option (find n here) >>= λ b. Read (b, s)) (UseOf n)
+      (both_exact (known c) SameText c BoundStands (find n here) (find n there) (λ z g w. find_stands z n here there (stand z g w)))
+  use_from_exact _ rest = nothing_exact (known c) SameText c BoundStands
+
+  use_into : (y : BoundTerm) (t t' : Text) → (l : Lexeme) × (rest : Text) × Token l t rest × UseFrom l rest y t t' → IsUse there y t t'
+  use_into y t t' k = by_token k.0 k.1 k.2 k.3
+    where
+      by_token : (l : Lexeme) (rest : Text) → Token l t rest → UseFrom l rest y t t' → IsUse there y t t'
+      by_token (value n) rest token k = (n, subst (λ r. Token (value n) t r) (sym k.1) token, k.0)
+      by_token _ rest token k = absurd k
+
+  use_exact : Plain c BoundStands (use_at here) (IsUse there)
+  unfolding use_at
+  use_exact =
+      exact_spelled (known c) SameText c BoundStands (use_at here) (λ y old new. (l : Lexeme) × (rest : Text) × Token l old rest × UseFrom l rest y old new) (IsUse there) use_into (λ y t t' k. (value k.0, t', k.1, (k.2, refl)))
+      (plain_token c BoundStands (λ s. use_from here) UseFrom use_from_exact)
+
+  uses_exact : Plain c (Each BoundStands) (uses_at here) (IsList IsMark CloseRound (λ before. IsUse there) 256)
+  unfolding uses_at
+  uses_exact = list_exact (known c) SameText after IsMark (text_marks c) BoundStands CloseRound (λ before. use_at here) (λ before. IsUse there) (λ d xs ys r. plain_from c BoundStands (use_at here) (IsUse there) use_exact d) 256 c
+
+  -- what stands before the dictionaries
+  pub start_exact : Plain c StartStands (start_at here) (IsStart there)
+  unfolding start_at
+  start_exact =
+      then_exact (known c) SameText c Equals StartStands _ _ _ _ (results_exact c) (λ d1 results results' g1 r1.
+      then_exact (known c) SameText d1 Equals StartStands _ _ _ _ (plain_from c Equals op_name_at IsOpName (op_name_exact c) d1) (λ d2 name name' g2 r2.
+      after_exact (known c) SameText after IsMark (text_marks c) d2 StartStands OpenRound _ _
+      (then_exact (known c) SameText d2 (Each BoundStands) StartStands _ _ _ _ (plain_from c (Each BoundStands) (uses_at here) (IsList IsMark CloseRound (λ before. IsUse there) 256) uses_exact d2) (λ d3 operands operands' g3 r3.
+      done_exact (known c) SameText d3 StartStands (record { results = results; name = name; operands = operands }) (record { results = results'; name = name'; operands = operands' })
+      (λ z k w. (r1 z (grows_trans d1 d2 z g2 (grows_trans d2 d3 z g3 k)) w, r2 z (grows_trans d2 d3 z g3 k) w, r3 z k w))))))

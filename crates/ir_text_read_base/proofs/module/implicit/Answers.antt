@@ -1,0 +1,11 @@
+use Rattle.ir_text_read_base.specs.States.{state_of}
+use Rattle.ir_text_read_base.proofs.Modules.{body_read, body_wrong, fails_wrong, named_module}
+use Rattle.ir_text_read_base.proofs.module.implicit.Goals as goal
+
+pub returns-in-Err-ops-clause-refused : goal.returns-in-Err-ops-clause-refused
+returns-in-Err-ops-clause-refused c = λ f e. body_wrong c.args.bytes.now c.module_name.new.ctx c.sound.ensures (fails_wrong c.in-Err-ops.e _ f (rw c.new.ensures at c.in-Err-ops.ensures) e)
+
+pub returns-in-Ok-root_of-clause-read : goal.returns-in-Ok-root_of-clause-read
+returns-in-Ok-root_of-clause-read c =
+    let named = named_module c.args.ctx.now c.module_name.new.ctx c.in-Ok.name c.in-Ok.ensures.ok in
+    rw c.in-Ok-root_of.ensures (body_read c.args.bytes.now c.module_name.new.ctx c.in-Ok.name _ (state_of _ c.ops.new.scope c.ops.new.ctx) c.sound.ensures named.0 named.1 (rw c.new.ensures at c.in-Ok-ops.ensures))

@@ -1,0 +1,218 @@
+//! Modules. Language Reference, "High-Level Structure"; Builtin Dialect, "builtin.module".
+ghost use Rattle.std.specs.Prelude.{◌≡◌, ◌&&◌, IfOk, IfErr, Err, is_some};
+ghost use Rattle.ir_types.specs.Interning.{with_name};
+ghost use Rattle.ir_text_base.specs.declared.token.Mark.TheVariants.{End};
+ghost use Rattle.ir_text_attr_base.specs.Marks.{after};
+ghost use Rattle.ir_types.specs.Terms.{name_term};
+ghost use Rattle.ir_types.specs.Words.{is_table};
+ghost use Rattle.ir_tree.specs.Meaning.{meaning, IsSoundIn, Operation};
+ghost use Rattle.ir_tree.specs.Tree.{head};
+ghost use Rattle.ir_text_base.specs.declared.fault.Fault.{Fault as TextFault};
+ghost use Rattle.ir_text_read_base.specs.Spelling.{begins_module, is_root, module_word, Spells};
+ghost use Rattle.ir_text_read_base.specs.Claims.{IsOnly, IsNone, IsRootOrNone, IsBody, IsSource, IsWhole, module_with};
+
+use crate::ops::{op, ops};
+use crate::scope::Scope;
+use ir_text_attr_base::error::{ReadError, wrong};
+use ir_text_attr_base::steps::after;
+use ir_text_base::fault::Fault;
+use ir_text_base::lexer::token;
+use ir_text_base::limits::check_text;
+use ir_text_base::names::Names;
+use ir_text_base::strings::string_value;
+use ir_text_base::token::{Mark, Token};
+use ir_tree::check::check;
+use ir_tree::numbered::numbered;
+use ir_tree::sound::sound;
+use ir_tree::tree::{TreeOp, TreeRegion};
+use ir_types::context::Context;
+use ir_types::ids::{NameId, OpId};
+use ir_types::refusal::Refusal;
+use std::alloc::{AllocError, Global};
+
+/// A text's root, where it is written; else what stood in the way, if anything was wrong.
+#[derive(Drop)]
+pub enum Root {
+    Is(TreeOp),
+    Other(Option<Fault>),
+}
+
+/// Whether a text begins with the name of a module.
+fn begins_module(alloc: Global, bytes: &[u8]) -> Result<bool, ReadError>
+    ensures ok { IfOk result (λ b. b ≡ begins_module bytes.now) }
+    ensures err { IfErr result (λ e. e ≡ ReadError.Memory) }
+{
+    let found = match token(bytes) {
+        Ok((found, _)) => found,
+        Err(_) => return Ok(false),
+    };
+    match found {
+        Token::String(raw) => {
+            let name = string_value(alloc, raw)?;
+            Ok(name.as_slice() == b"builtin.module".as_slice())
+        }
+        _ => Ok(false),
+    }
+}
+
+/// Whether an operation is a module without operands and results.
+fn is_root(ctx: &Context, op: &TreeOp) -> bool
+    ensures { result ≡ is_root (meaning ctx.now op.now) }
+{
+    ctx.table(op.name) && op.operands.is_empty() && op.results.is_empty()
+}
+
+/// Whether an operation is a module without operands and results, and nothing stands behind it.
+fn is_whole(ctx: &Context, op: &TreeOp, rest: &[u8]) -> bool
+    ensures { result ≡ (is_some (after End rest.now) && is_root (meaning ctx.now op.now)) }
+{
+    after(rest, Mark::End).is_some() && is_root(ctx, op)
+}
+
+/// The number of the name of a module.
+fn module_name(ctx: &mut Context, rest: &[u8]) -> Result<NameId, ReadError>
+    ensures ok { IfOk result (λ n. (n, ctx.new) ≡ with_name module_word ctx.old) }
+    ensures err { (f : TextFault) → result ≡ Err (ReadError.Refused f) → ⊥ }
+{
+    match ctx.name(b"builtin.module") {
+        Ok(id) => Ok(id),
+        Err(Refusal::TooMany) => Err(ReadError::Full(rest.len())),
+        Err(_) => Err(ReadError::Memory),
+    }
+}
+
+/// The root, where the text is one module without operands and results.
+fn explicit(alloc: Global, ctx: &mut Context, bytes: &[u8]) -> Result<Root, ReadError>
+    ensures ok { IfOk result (λ r. IsRootOrNone bytes.now ctx.new r) }
+    ensures err { (f : TextFault) → result ≡ Err (ReadError.Refused f) → ⊥ }
+{
+    ctx.sound();
+    match begins_module(alloc, bytes) {
+        Ok(true) => {}
+        Ok(false) => return Ok(Root::Other(None)),
+        Err(_) => return Err(ReadError::Memory),
+    }
+    let mut scope = Scope {
+        names: Names::new(alloc),
+        next: 0,
+    };
+    match op(alloc, &mut scope, ctx, bytes, 129) {
+        Ok((tree, rest)) => {
+            if is_whole(ctx, &tree, rest) {
+                Ok(Root::Is(tree))
+            } else {
+                Ok(Root::Other(None))
+            }
+        }
+        Err(ReadError::Refused(fault)) => Ok(Root::Other(Some(fault))),
+        Err(e) => Err(e),
+    }
+}
+
+/// A module of these operations.
+fn root_of(alloc: Global, name: NameId, body: Vec<TreeOp>) -> Result<TreeOp, AllocError>
+    ensures { IfOk result (λ t. t ≡ module_with name body.items) }
+{
+    let args = Vec::new(alloc);
+    let mut regions = Vec::new(alloc);
+    regions.push(TreeRegion::Block { args, ops: body })?;
+    Ok(TreeOp {
+        id: OpId::new(0),
+        name,
+        operands: Vec::new(alloc),
+        results: Vec::new(alloc),
+        props: Vec::new(alloc),
+        attrs: Vec::new(alloc),
+        regions,
+    })
+}
+
+/// An implicit root of the operations of a text.
+fn implicit(alloc: Global, ctx: &mut Context, bytes: &[u8]) -> Result<TreeOp, ReadError>
+    ensures read { IfOk result (λ t. IsOnly (IsBody bytes.now) ctx.new t) }
+    ensures refused { (f : TextFault) → result ≡ Err (ReadError.Refused f) → IsNone (IsBody bytes.now) }
+{
+    let name = match module_name(ctx, bytes) {
+        Ok(name) => name,
+        Err(e) => return Err(e),
+    };
+    ctx.sound();
+    let mut scope = Scope {
+        names: Names::new(alloc),
+        next: 1,
+    };
+    let (body, _) = match ops(alloc, &mut scope, ctx, Mark::End, bytes, 128) {
+        Ok(found) => found,
+        Err(e) => return Err(e),
+    };
+    match root_of(alloc, name, body) {
+        Ok(tree) => Ok(tree),
+        Err(_) => Err(ReadError::Memory),
+    }
+}
+
+/// The tree of a text, before its limits are looked at.
+fn source(alloc: Global, ctx: &mut Context, bytes: &[u8]) -> Result<TreeOp, ReadError>
+    ensures read { IfOk result (λ t. IsOnly (IsSource bytes.now) ctx.new t) }
+    ensures refused { (f : TextFault) → result ≡ Err (ReadError.Refused f) → IsNone (IsSource bytes.now) }
+{
+    let other = match explicit(alloc, ctx, bytes) {
+        Ok(Root::Is(tree)) => return Ok(tree),
+        Ok(Root::Other(other)) => other,
+        Err(e) => return Err(e),
+    };
+    match implicit(alloc, ctx, bytes) {
+        Ok(tree) => Ok(tree),
+        Err(ReadError::Refused(fault)) => Err(ReadError::Refused(other.unwrap_or(fault))),
+        Err(e) => Err(e),
+    }
+}
+
+/// Looks at a tree that was read: every operand must be seen, and no limit passed; its ids must be 0, 1, ..
+/// and its dictionaries sorted.
+fn looked_at(alloc: Global, ctx: &Context, tree: &TreeOp) -> Result<(), ReadError>
+    ensures ok { IfOk result (λ _. IsWhole ctx.now tree.now) }
+    ensures refused { (f : TextFault) → result ≡ Err (ReadError.Refused f) → IsWhole ctx.now tree.now → ⊥ }
+{
+    match check(alloc, ctx, tree) {
+        Ok(()) => {}
+        Err(Refusal::Memory) => return Err(ReadError::Memory),
+        Err(refusal) => return Err(ReadError::Refused(Fault { refusal, left: 0 })),
+    }
+    if !numbered(tree, 0) || !sound(ctx, tree) {
+        return Err(ReadError::Refused(Fault {
+            refusal: Refusal::Unexpected,
+            left: 0,
+        }));
+    }
+    Ok(())
+}
+
+/// The tree that a text spells. It is numbered from 0 in pre-order, and what it names is interned: the
+/// context only grows. A text that is one `builtin.module` without operands and results has it as its
+/// root; any other is the body of an implicit root (Language Reference, "High-Level Structure").
+///
+/// Refusals: those of texts and tokens; `Unexpected`, `UnknownValue`, `Redefined`, `TypeMismatch`, `BadWidth`,
+/// `BadValue`, `MultipleBlocks`, `Successors`, `TooDeep`, `TooMany`, `DuplicateKey`, `LeftOut`, with how many
+/// bytes are left where the fault stands; `Full` where the context is full; `Memory`.
+pub fn read(alloc: Global, ctx: &mut Context, bytes: &[u8]) -> Result<TreeOp, ReadError>
+    ensures read { IfOk result (λ t. IsOnly (Spells bytes.now) ctx.new t) }
+    ensures sound { IfOk result (λ t. IsSoundIn ctx.new t) }
+    ensures refused { (f : TextFault) → result ≡ Err (ReadError.Refused f) → IsNone (Spells bytes.now) }
+{
+    match check_text(bytes) {
+        Ok(()) => {}
+        Err((refusal, offset)) => {
+            let left = bytes.len().saturating_sub(offset);
+            return Err(ReadError::Refused(Fault { refusal, left }));
+        }
+    }
+    let tree = match source(alloc, ctx, bytes) {
+        Ok(tree) => tree,
+        Err(e) => return Err(e),
+    };
+    match looked_at(alloc, ctx, &tree) {
+        Ok(()) => Ok(tree),
+        Err(e) => Err(e),
+    }
+}
