@@ -33,11 +33,13 @@ module _ {B : Type 0} (meaning : B → Listener) where
   tried_back b back xs ys Memory h e = (place_shown (meaning b).kind xs ∙ h.1, ap (all_shown meaning) e)
   tried_back b back xs ys _ h e = absurd h
 
-  pub box_step : (bs : List B) (i : ℕ) (b : B) → i < length bs → b ≡ get_or bs i b → all_shown meaning (drop i bs) ≡ shown (meaning b) ∷ all_shown meaning (drop (i + 1) bs)
-  box_step bs i b h e = rw (add-one, drop-cons bs i b, ← e) refl
+  -- a box is tried, and then what the boxes that are left may give is what all may give
+  pub box_step : (left more : List B) (b : B) (old mid new : List Shown) (tried : Option Refusal) (there : Bool) (rest : List ℕ) →
+      left ≡ b ∷ more → BoxTried (shown (meaning b)) old mid tried → Attaches (all_shown meaning more) mid new there rest → Attaches (all_shown meaning left) old new (is_none tried && there) (box_line (meaning b).kind tried ++ rest)
+  box_step left more b old mid new tried there rest e t h = rw e (mid, tried, there, rest, t, h, refl, refl)
 
-  pub no_box_left : (bs : List B) (i : ℕ) (old : List Shown) → length bs ≤ i → Attaches (all_shown meaning (drop i bs)) old old true []
-  no_box_left bs i old h = let none : drop i bs ≡ [] = grind (arith, common_steps) in rw none (refl, refl, refl)
+  pub no_box_left : (left : List B) (old : List Shown) → left ≡ [] → Attaches (all_shown meaning left) old old true []
+  no_box_left left old e = rw e (refl, refl, refl)
 
 -- boxes may always be refused
 some_tried : (b : Shown) (old : List Shown) → (tried : Option Refusal) × BoxTried b old old tried
@@ -53,3 +55,18 @@ some_attaches (b ∷ bs) old =
     let tried = some_tried b old in
     let more = some_attaches bs old in
     (more.0, is_none tried.0 && more.1, box_line b.kind tried.0 ++ more.2, (old, tried.0, more.1, more.2, tried.1, more.3, refl, refl))
+
+pub both_there : (a b c : Bool) → (a && (b && c)) ≡ ((a && b) && c)
+both_there true b c = refl
+both_there false b c = refl
+
+pub all_there : (a : Bool) → (a && true) ≡ a
+all_there true = refl
+all_there false = refl
+
+pub one_less : {X : Type 0} (xs ys : List X) (x : X) (n m : ℕ) → xs ≡ x ∷ ys → m + 1 ≡ n → length xs ≡ n → length ys ≡ m
+one_less xs ys x n m e f h = let g : length (x ∷ ys) ≡ n = rw e at h in omega arith
+
+pub none_of_none : {X : Type 0} (xs : List X) (n : ℕ) → length xs ≡ n → n ≡ 0 → xs ≡ []
+none_of_none [] n h e = refl
+none_of_none (x ∷ xs) n h e = absurd (omega arith)

@@ -55,6 +55,7 @@ module _ {N T A M U B : Type 0} (f : N → M) (g : T → U) (h : A → B) where
       within : (o : Option (List T)) → option_and_then (λ args. slice_get args k) (option_map (map g) o) ≡ option_map g (option_and_then (λ args. slice_get args k) o)
       within None = refl
       within (Some args) = got_map g args k
+
       go : (o : Option (OpOf N T A)) → option_and_then (λ (o : OpOf M U B). option_and_then (λ args. slice_get args k) (arguments_at r o)) (option_map (map_tree f g h) o) ≡ option_map g (option_and_then (λ (o : OpOf N T A). option_and_then (λ args. slice_get args k) (arguments_at r o)) o)
       go None = refl
       go (Some y) = ap (option_and_then (λ args. slice_get args k)) (arguments_mean r y) ∙ within (arguments_at r y)

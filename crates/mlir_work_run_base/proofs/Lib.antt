@@ -4,3 +4,4 @@ pub mod Follow
 pub mod Listings
 pub mod Runs
 pub mod Attaching
+pub mod Sessions

@@ -39,8 +39,17 @@ pub run_step : (brief : Bool) (n : ℕ) (s : State) (text line more : List ℕ) 
     (later : ℕ) (rest : List ℕ) → Runs brief (n + 1) t (lines_of more) later rest → Runs brief n s (lines_of text) (worse (is_accepted reply) later) (told ++ rest)
 run_step brief n s text line more spoken reply shows t told e is f r told_is later rest h =
     rw e (line_replied (λ m t st o. Runs brief m t (lines_of more) st o) brief n s (line_says line) _ _ (rw (← is) (sym f)) (record {
-      reply = reply; shows = shows; after = t; text = told; later = later; rest = rest;
-      replies = rw (← is) r; replied = rw (← is) told_is; goes_on = h; status_is = refl; out_is = refl;
+      reply = reply;
+      shows = shows;
+      after = t;
+      text = told;
+      later = later;
+      rest = rest;
+      replies = rw (← is) r;
+      replied = rw (← is) told_is;
+      goes_on = h;
+      status_is = refl;
+      out_is = refl;
     }))
 
 ages_same : (ks : List Shown) → AllZip Ages ks ks
@@ -51,11 +60,23 @@ some_replied : (Rest : ℕ → State → ℕ → List ℕ → Type 0) (brief : B
 some_replied Rest brief n s spoken reply r some =
     let more = some_listing_if (not brief && not (asks spoken)) s in
     let rest = some (n + 1) s in
-    let told = reply_line n reply ++ ([] ++ more.0) in
-    (worse (is_accepted reply) rest.0, told ++ rest.1, record {
-      reply = reply; shows = []; after = s; text = told; later = rest.0; rest = rest.1;
-      replies = r; replied = (more.0, more.1, refl); goes_on = rest.2; status_is = refl; out_is = refl;
-    })
+    let told = reply_line n reply ++ ([] ++ more.0) in (
+      worse (is_accepted reply) rest.0,
+      told ++ rest.1,
+      record {
+        reply = reply;
+        shows = [];
+        after = s;
+        text = told;
+        later = rest.0;
+        rest = rest.1;
+        replies = r;
+        replied = (more.0, more.1, refl);
+        goes_on = rest.2;
+        status_is = refl;
+        out_is = refl;
+      },
+    )
 
 some_line : (Rest : ℕ → State → ℕ → List ℕ → Type 0) (brief : Bool) (n : ℕ) (s : State) (spoken : Spoken) → ((m : ℕ) (t : State) → (st : ℕ) × (o : List ℕ) × Rest m t st o) → (st : ℕ) × (o : List ℕ) × Line Rest brief n s spoken st o
 some_line Rest brief n s Nothing some = some n s
@@ -81,4 +102,3 @@ emptied text r e f = grind (arith, nat_tests)
 pub ran_weaker : {E : Type 0} (P Q : ℕ → List ℕ → Type 0) (a b : Option (List ℕ)) (r : Result ℕ E) → ((st : ℕ) (o : List ℕ) → P st o → Q st o) → RanOut P a b r → RanOut Q a b r
 ran_weaker P Q a b (Ok st) f (o, p, h) = (o, f st o p, h)
 ran_weaker P Q a b (Err e) f (st, o, p, h) = (st, o, f st o p, h)
-

@@ -148,10 +148,10 @@ pub record Session (brief : Bool) (boxes : List Shown) (m : Module) (script : Li
   pub out_is : out ≡ front ++ rest
 
 -- a script that is too long is one command that is none
-abbrev pub IsLong : List ℕ → ℕ → List ℕ → Type 0
-IsLong script status out = (MAX_SCRIPT_BYTES < length script) × ((status ≡ 1) × (out ≡ refused_line 1 BadCommand))
+abbrev pub IsBadScript : ℕ → List ℕ → Type 0
+IsBadScript status out = (status ≡ 1) × (out ≡ refused_line 1 BadCommand)
 
 -- this status and these bytes are an output of a script over a module, with these boxes
 abbrev pub IsSession : Bool → List Shown → Module → List ℕ → ℕ → List ℕ → Type 0
 IsSession brief boxes m script status out =
-    IsLong script status out ⊎ ((length script ≤ MAX_SCRIPT_BYTES) × Session brief boxes m script status out)
+    ((MAX_SCRIPT_BYTES < length script) × IsBadScript status out) ⊎ ((length script ≤ MAX_SCRIPT_BYTES) × Session brief boxes m script status out)

@@ -33,11 +33,7 @@ fn attach<L: Analysis>(world: &World, panel: &mut Panel<L>, listener: L) -> Opti
 }
 
 /// Writes the line of a listener that is refused.
-fn put_tried<W: Write>(
-    writer: &mut W,
-    kind: Kind,
-    tried: Option<Refusal>,
-) -> Result<(), WriteFault>
+fn put_tried<W: Write>(writer: &mut W, kind: Kind, tried: Option<Refusal>) -> Result<(), WriteFault>
     ensures { Puts (W.contents writer.old) (W.contents writer.new) (box_line kind tried) result }
 {
     match tried {

@@ -7,3 +7,4 @@ pub mod desk;
 pub mod listing;
 mod rows;
 pub mod script;
+pub mod session;

@@ -152,7 +152,11 @@ fn put_row(ctx: &Context, out: &mut Vec<u8>, row: &Row) -> Result<(), AllocError
 }
 
 /// The text of rows.
-pub(crate) fn text_of_rows(alloc: Global, ctx: &Context, rows: &[Row]) -> Result<Vec<u8>, AllocError>
+pub(crate) fn text_of_rows(
+    alloc: Global,
+    ctx: &Context,
+    rows: &[Row],
+) -> Result<Vec<u8>, AllocError>
     requires { All (RowIsOf ctx.now) rows.now }
     ensures { IfOk result (λ text. text.items ≡ rows_text (rows_meaning ctx.now rows.now)) }
 {
