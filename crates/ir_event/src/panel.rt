@@ -57,6 +57,13 @@ impl<L: Analysis> Panel<L> {
         }
     }
 
+    /// The listeners, in the order in which they were attached.
+    pub fn listeners(&self) -> &[L]
+        ensures { result.now ≡ self.now }
+    {
+        &self.listeners
+    }
+
     /// Begins a listener and adds it last, or hands it back.
     ///
     /// Refusals: `KindTaken` where one of its kind is attached, and then it is as it was; `Memory`.

@@ -1,0 +1,4 @@
+pub mod RowText
+pub mod Machine
+pub mod Output
+pub mod Ran

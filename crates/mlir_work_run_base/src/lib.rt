@@ -1,0 +1,10 @@
+//! What a script gives over a module and its listeners is an output of the script: the reply to each
+//! command, what it shows, and the module and the rows of each listener after it.
+#![tactic(auto)]
+
+pub mod boxes;
+pub mod desk;
+pub mod listing;
+mod rows;
+pub mod script;
+pub mod session;
