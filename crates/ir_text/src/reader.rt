@@ -17,8 +17,8 @@ use std::alloc::Global;
 ///
 /// `Refused` has the fault and how many bytes are left where it stands; such a text spells no tree.
 /// Refusals: `BadToken`, `Unexpected`, `UnknownValue`, `Redefined`, `TypeMismatch`, `BadWidth`, `BadValue`,
-/// `MultipleBlocks`, `TooDeep`, `TooMany`, `DuplicateKey`, `LeftOut`, `NotUtf8`. `Full` is answered where
-/// the context is full, and `Memory` where there is none.
+/// `MultipleBlocks`, `Successors`, `TooDeep`, `TooMany`, `DuplicateKey`, `LeftOut`, `NotUtf8`. `Full` is answered
+/// where the context is full, and `Memory` where there is none.
 pub fn read(alloc: Global, ctx: &mut Context, bytes: &[u8]) -> Result<TreeOp, ReadError>
     ensures read { IfOk result (λ t. IsOnly (Spells bytes.now) ctx.new t) }
     ensures sound { IfOk result (λ t. IsSoundIn ctx.new t) }
