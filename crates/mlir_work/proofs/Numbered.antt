@@ -1,0 +1,48 @@
+-- Ids that are 0, 1, .. are distinct, and below their number.
+use Rattle.ir_event.specs.Modules.{Module}
+use Rattle.ir_text_read_base.specs.Claims.{IsOnly}
+use Rattle.ir_text_read_base.specs.Spelling.{Spells}
+use Rattle.mlir_work.specs.Whole.{IsWorldOf}
+use Rattle.std.proofs.Common.{ap, ◌≡◌, ◌≢◌, ◌<◌, ◌∙◌, sym, subst, ℕ, List, length, All, eqb, arith, get_or, refl}
+use Rattle.std.specs.Cmp.{unsigned_Decides}
+use Rattle.std.specs.List.{AllPairs, IsDistinct, range_with_len}
+use Rattle.std.proofs.lemmas.List.FromFn.{length-range_with_len, get_or-range_with_len}
+use Rattle.std.proofs.lemmas.Map.Made.{IsDistinct-from_AllPairs}
+use Rattle.ir_types.specs.Things.{Things}
+use Rattle.ir_types.specs.Terms.{name_term, type_term, attr_term}
+use Rattle.ir_tree.specs.Tree.{Op}
+use Rattle.ir_tree.specs.Ids.{ids, op_count, IsNumberedFrom, HasDistinctIds}
+use Rattle.ir_tree.specs.Meaning.{Operation, meaning}
+use Rattle.ir_tree.proofs.Mapped.{map_ids}
+
+numbers_apart : (n : ℕ) → AllPairs (λ x y. x ≢ y) (range_with_len 0 n)
+numbers_apart n i j d lt within e =
+    let below : j < n = subst (λ (k : ℕ). j < k) (length-range_with_len 0 n) within in
+    let first = get_or-range_with_len 0 n i d (omega arith) in
+    let second = get_or-range_with_len 0 n j d below in
+    omega (arith, e, first, second)
+
+pub numbered_distinct : (t : Op) → IsNumberedFrom 0 t → HasDistinctIds t
+numbered_distinct t e = subst (IsDistinct eqb) (sym e) (IsDistinct-from_AllPairs unsigned_Decides _ (numbers_apart (op_count t)))
+
+numbers_below : (n : ℕ) → All (λ x. x < n) (range_with_len 0 n)
+numbers_below n k d lt =
+    let below : k < n = subst (λ (m : ℕ). k < m) (length-range_with_len 0 n) lt in
+    let is = get_or-range_with_len 0 n k d below in
+    omega (arith, is)
+
+pub numbered_below : (t : Op) (next : ℕ) → next ≡ op_count t → IsNumberedFrom 0 t → All (λ x. x < next) (ids t)
+numbered_below t next same e = rw same (subst (All (λ x. x < op_count t)) (sym e) (numbers_below (op_count t)))
+
+-- what a tree stands for is numbered as the tree
+pub numbered_meaning : (c : Things) (t : Op) → IsNumberedFrom 0 (meaning c t) → IsNumberedFrom 0 t
+numbered_meaning c t e = rw (map_ids (name_term c) (type_term c) (attr_term c) t) at e
+
+pub count_meaning : (c : Things) (t : Op) → op_count (meaning c t) ≡ op_count t
+count_meaning c t = rw (map_ids (name_term c) (type_term c) (attr_term c) t) refl
+
+-- a tree that was read gives the world of what its text spells
+pub world_is : (text : List ℕ) (c : Things) (t : Op) (m : Module) → IsOnly (Spells text) c t → m ≡ record { tree = meaning c t; next = op_count t } → IsWorldOf text m
+world_is text c t m h e =
+    let at : ℕ → Module = λ n. record { tree = meaning c t; next = n } in
+    (meaning c t, h.holds, e ∙ ap at (sym (count_meaning c t)))

@@ -1,0 +1,21 @@
+-- How a whole run ends.
+use Rattle.std.specs.Prelude.{◌≡◌, ℕ, List, ◌⊎◌, Option, Result, Ok, Err}
+use Rattle.std.specs.Io.KnownBytes.{Appends, Keeps}
+use Rattle.mlir_work_base.specs.Writes.{AppendsFront}
+use Rattle.mlir_work_base.specs.declared.writing.WriteFault.{WriteFault}
+use Rattle.mlir_work.specs.declared.run.Fault.{Fault}
+use Rattle.mlir_work.specs.declared.run.Fault.TheVariants.{Read as ReadFailed, Write as WriteFailed}
+
+abbrev pub ended_of : Result ℕ WriteFault → Result ℕ Fault
+ended_of (Ok status) = Ok status
+ended_of (Err e) = Err WriteFailed
+
+-- a status and an output with P; nothing after a read fault; a front of an output after a write fault
+abbrev pub EndedSo : (ℕ → List ℕ → Type 0) → Option (List ℕ) → Option (List ℕ) → Result ℕ Fault → Type 0
+EndedSo P old new (Ok status) = (out : List ℕ) × P status out × Appends old new out
+EndedSo P old new (Err ReadFailed) = Keeps old new
+EndedSo P old new (Err WriteFailed) = (status : ℕ) × (out : List ℕ) × P status out × AppendsFront old new out
+
+-- the same, where all that is known is the exit status: 4 for a fault
+abbrev pub HasStatus : (ℕ → List ℕ → Type 0) → Option (List ℕ) → Option (List ℕ) → ℕ → Type 0
+HasStatus P old new status = ((out : List ℕ) × P status out × Appends old new out) ⊎ ((status ≡ 4) × (Keeps old new ⊎ ((other : ℕ) × (out : List ℕ) × P other out × AppendsFront old new out)))

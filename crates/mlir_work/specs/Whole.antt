@@ -1,0 +1,42 @@
+-- The output of an input: the text of a module, and a script.
+use Rattle.std.specs.Prelude.{◌≡◌, ℕ, ◌<◌, List, Bool, ◌⊎◌, Option, Some, None, length}
+use Rattle.ir_types.specs.declared.refusal.Refusal.{Refusal}
+use Rattle.ir_types.specs.declared.refusal.Refusal.TheVariants.{TooMany, Memory}
+use Rattle.ir_tree.specs.Ids.{op_count}
+use Rattle.ir_tree.specs.Meaning.{Operation}
+use Rattle.ir_event.specs.Modules.{Module}
+use Rattle.ir_text_read_base.specs.Spelling.{Spells}
+use Rattle.mlir_work_base.specs.Parts.{module_text, script_text}
+use Rattle.mlir_work_base.specs.Replies.{module_refused_line}
+use Rattle.mlir_work_base.specs.declared.input.TheConstants.{MAX_INPUT_BYTES}
+use Rattle.mlir_work_run_base.specs.Machine.{Shown}
+use Rattle.mlir_work_run_base.specs.Output.{IsSession}
+
+-- the module is refused
+abbrev pub IsRefusal : Refusal → Option ℕ → ℕ → List ℕ → Type 0
+IsRefusal refusal offset status out = (status ≡ 3) × (out ≡ module_refused_line refusal offset)
+
+-- why a text isn't read: there is no memory, it spells no tree, or the context is full
+abbrev pub WhyNot : List ℕ → Refusal → Option ℕ → Type 0
+WhyNot text refusal None = refusal ≡ Memory
+WhyNot text refusal (Some offset) = ((y : Operation) → Spells text y → ⊥) ⊎ (refusal ≡ TooMany)
+
+-- the text is refused for that; its refusal and offset are open
+abbrev pub IsUnread : List ℕ → ℕ → List ℕ → Type 0
+IsUnread text status out = (refusal : Refusal) × (offset : Option ℕ) × WhyNot text refusal offset × IsRefusal refusal offset status out
+
+-- the module of the tree that a text spells
+abbrev pub IsWorldOf : List ℕ → Module → Type 0
+IsWorldOf text m = (t : Operation) × Spells text t × (m ≡ record { tree = t; next = op_count t })
+
+-- there are too many bytes
+abbrev pub IsTooMany : List ℕ → ℕ → List ℕ → Type 0
+IsTooMany input status out = (MAX_INPUT_BYTES < length input) × IsRefusal TooMany (Some MAX_INPUT_BYTES) status out
+
+-- the text spells a tree; boxes are attached to its module, and the script is run over it
+abbrev pub IsRead : Bool → List Shown → List ℕ → ℕ → List ℕ → Type 0
+IsRead brief boxes input status out = (m : Module) × IsWorldOf (module_text input) m × IsSession brief boxes m (script_text input) status out
+
+-- this status and these bytes are an output of the input, with these boxes
+abbrev pub IsOutput : Bool → List Shown → List ℕ → ℕ → List ℕ → Type 0
+IsOutput brief boxes input status out = IsTooMany input status out ⊎ (IsUnread (module_text input) status out ⊎ IsRead brief boxes input status out)

@@ -1,0 +1,224 @@
+//! A whole run, from bytes to bytes.
+ghost use Rattle.std.specs.Prelude.{◌≡◌, ◌≤◌, IfOk, IfErr, IfSome, None, Some};
+ghost use Rattle.std.specs.Io.KnownBytes.{Keeps};
+ghost use Rattle.ir_tree.specs.Ids.{IsNumberedFrom, op_count};
+ghost use Rattle.ir_tree.specs.Meaning.{meaning, isolated_in, IsSoundIn};
+ghost use Rattle.ir_tree.specs.WellFormed.{IsFormed};
+ghost use Rattle.ir_event.specs.Modules.{module_in};
+ghost use Rattle.ir_text_read_base.specs.Claims.{IsOnly};
+ghost use Rattle.ir_text_read_base.specs.Spelling.{Spells};
+ghost use Rattle.mlir_work_run_base.specs.Machine.{all_shown};
+ghost use Rattle.mlir_work_run_base.specs.Ran.{RanOut};
+ghost use Rattle.mlir_work.specs.Ends.{EndedSo, HasStatus, ended_of};
+ghost use Rattle.mlir_work.specs.Whole.{IsOutput, IsRefusal, WhyNot, IsWorldOf};
+
+use ir_event::analysis::Analysis;
+use ir_event::world::World;
+use ir_text::reader;
+use ir_text_attr_base::error::ReadError;
+use ir_tree::find::list_ids;
+use ir_tree::tree::TreeOp;
+use ir_types::context::Context;
+use ir_types::refusal::Refusal;
+use mlir_work_base::input::{MAX_INPUT_BYTES, ReadFault, read_all, split};
+use mlir_work_base::replies::put_module_refused;
+use mlir_work_base::writing::{WriteFault, flush};
+use mlir_work_run_base::session::run_session;
+use std::alloc::Global;
+use std::io::{Read, Write};
+
+/// What the command line says.
+#[derive(Clone, Copy, Debug)]
+pub struct Options {
+    /// The module and the rows don't follow each command.
+    pub brief: bool,
+}
+
+/// Why a run has no status of its own.
+#[derive(Clone, Copy, Debug, PartialEq, Eq)]
+pub enum Fault {
+    /// The input couldn't be read.
+    Read,
+    /// The output couldn't be written.
+    Write,
+}
+
+/// Why a text isn't read, and where: in bytes from the first.
+#[derive(Clone, Copy, Debug)]
+pub struct Unread {
+    pub refusal: Refusal,
+    pub offset: Option<usize>,
+}
+
+/// The tree that a text spells.
+fn tree_of(alloc: Global, ctx: &mut Context, text: &[u8]) -> Result<TreeOp, Unread>
+    ensures read { IfOk result (λ t. IsOnly (Spells text.now) ctx.new t) }
+    ensures sound { IfOk result (λ t. IsSoundIn ctx.new t) }
+    ensures unread { IfErr result (λ e. WhyNot text.now e.refusal e.offset) }
+{
+    match reader::read(alloc, ctx, text) {
+        Ok(tree) => Ok(tree),
+        Err(ReadError::Memory) => Err(Unread {
+            refusal: Refusal::Memory,
+            offset: None,
+        }),
+        Err(ReadError::Full(left)) => Err(Unread {
+            refusal: Refusal::TooMany,
+            offset: Some(text.len().saturating_sub(left)),
+        }),
+        Err(ReadError::Refused(fault)) => Err(Unread {
+            refusal: fault.refusal,
+            offset: Some(text.len().saturating_sub(fault.left)),
+        }),
+    }
+}
+
+/// How many operations a tree has, or none where there is no memory.
+fn count(alloc: Global, tree: &TreeOp) -> Option<u32>
+    ensures { IfSome result (λ n. n ≡ op_count tree.now) }
+{
+    let Ok(ids) = list_ids(alloc, tree) else {
+        return None;
+    };
+    u32::try_from(ids.len()).ok()
+}
+
+/// The world of a tree that was read, or none where there is no memory.
+fn load(alloc: Global, ctx: Context, tree: &TreeOp) -> Option<World>
+    requires sound { IsSoundIn ctx tree.now }
+    requires numbered { IsNumberedFrom 0 tree.now }
+    ensures { IfSome result (λ w. module_in w ≡ record { tree = meaning ctx tree.now; next = op_count tree.now }) }
+{
+    let Some(next) = count(alloc, tree) else {
+        return None;
+    };
+    match World::load(alloc, ctx, tree, next) {
+        Ok(world) => Some(world),
+        Err(_) => None,
+    }
+}
+
+/// Why there is no memory.
+fn no_memory() -> Unread
+    ensures refusal { result.refusal ≡ Refusal.Memory }
+    ensures offset { result.offset ≡ None }
+{
+    Unread {
+        refusal: Refusal::Memory,
+        offset: None,
+    }
+}
+
+/// The world of the tree that a text spells.
+fn world_of(alloc: Global, text: &[u8]) -> Result<World, Unread>
+    ensures read { IfOk result (λ w. IsWorldOf text.now (module_in w)) }
+    ensures unread { IfErr result (λ e. WhyNot text.now e.refusal e.offset) }
+{
+    let Ok(mut ctx) = Context::new(alloc) else {
+        return Err(no_memory());
+    };
+    let tree = match tree_of(alloc, &mut ctx, text) {
+        Ok(tree) => tree,
+        Err(unread) => return Err(unread),
+    };
+    let Some(world) = load(alloc, ctx, &tree) else {
+        return Err(no_memory());
+    };
+    Ok(world)
+}
+
+/// Hands on what a buffering writer still holds, and gives the status.
+fn finish<W: Write>(writer: &mut W, status: u8) -> Result<u8, WriteFault>
+    ensures keeps { Keeps (W.contents writer.old) (W.contents writer.new) }
+    ensures status { IfOk result (λ s. s ≡ status) }
+{
+    match flush(writer) {
+        Ok(()) => Ok(status),
+        Err(fault) => Err(fault),
+    }
+}
+
+/// Writes that the module is refused.
+fn refuse<W: Write>(writer: &mut W, unread: Unread) -> Result<u8, WriteFault>
+    ensures { RanOut (IsRefusal unread.refusal unread.offset) (W.contents writer.old) (W.contents writer.new) result }
+{
+    match put_module_refused(writer, unread.refusal, unread.offset) {
+        Ok(()) => finish(writer, 3),
+        Err(fault) => Err(fault),
+    }
+}
+
+/// Runs an input that was read.
+fn answer_input<W: Write, L: Analysis>(
+    alloc: Global,
+    options: Options,
+    input: &[u8],
+    writer: &mut W,
+    boxes: Vec<L>,
+) -> Result<u8, WriteFault>
+    ensures { RanOut (IsOutput options.brief (all_shown L.meaning boxes.items) input.now) (W.contents writer.old) (W.contents writer.new) result }
+{
+    let (module, script) = split(input);
+    let world = match world_of(alloc, module) {
+        Ok(world) => world,
+        Err(unread) => return refuse(writer, unread),
+    };
+    match run_session(alloc, options.brief, world, script, writer, boxes) {
+        Ok(status) => finish(writer, status),
+        Err(fault) => Err(fault),
+    }
+}
+
+fn ended(ran: Result<u8, WriteFault>) -> Result<u8, Fault>
+    ensures { result ≡ ended_of ran }
+{
+    match ran {
+        Ok(status) => Ok(status),
+        Err(WriteFault) => Err(Fault::Write),
+    }
+}
+
+/// Reads the whole input, and then runs it. After a read fault nothing is written; after a write fault a
+/// front of an output is.
+pub fn read_and_answer<R: Read, W: Write, L: Analysis>(
+    alloc: Global,
+    options: Options,
+    reader: &mut R,
+    writer: &mut W,
+    boxes: Vec<L>,
+) -> Result<u8, Fault>
+    ensures ran { IfSome (R.remaining reader.old) (λ input. EndedSo (IsOutput options.brief (all_shown L.meaning boxes.items) input) (W.contents writer.old) (W.contents writer.new) result) }
+    ensures unread { IfErr result (λ e. e ≡ Fault.Read → Keeps (W.contents writer.old) (W.contents writer.new)) }
+{
+    let input = match read_all(alloc, reader) {
+        Ok(input) => input,
+        Err(ReadFault::TooMany) => {
+            let unread = Unread {
+                refusal: Refusal::TooMany,
+                offset: Some(MAX_INPUT_BYTES),
+            };
+            return ended(refuse(writer, unread));
+        }
+        Err(ReadFault::Memory) => return ended(refuse(writer, no_memory())),
+        Err(ReadFault::Broken) => return Err(Fault::Read),
+    };
+    ended(answer_input(alloc, options, &input, writer, boxes))
+}
+
+/// Reads the whole input, a module and a script, then writes the output. What is written is an output of
+/// what was read, and the answer is the exit status: 0 where all was accepted, 1 where a command or a box
+/// was refused, 3 where the module was, 4 where a read or a write failed.
+pub fn run<L: Analysis, R: Read, W: Write>(
+    alloc: Global,
+    options: Options,
+    reader: &mut R,
+    writer: &mut W,
+    boxes: Vec<L>,
+) -> u8
+    ensures { IfSome (R.remaining reader.old) (λ input. HasStatus (IsOutput options.brief (all_shown L.meaning boxes.items) input) (W.contents writer.old) (W.contents writer.new) result) }
+{
+    match read_and_answer(alloc, options, reader, writer, boxes) {
+        Ok(status) => status,
+        Err(_) => 4,
+    }
+}
