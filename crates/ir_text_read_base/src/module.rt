@@ -152,6 +152,17 @@ fn implicit(alloc: Global, ctx: &mut Context, bytes: &[u8]) -> Result<TreeOp, Re
     }
 }
 
+/// The fault with a label outside any region as one that does not fit.
+fn fault_of_label(bytes: &[u8], fault: Fault) -> Fault {
+    match fault.refusal {
+        Refusal::MultipleBlocks if is_outside(bytes, fault.left) => Fault {
+            refusal: Refusal::Unexpected,
+            left: fault.left,
+        },
+        _ => fault,
+    }
+}
+
 /// The fault of the operations of a text without a root around them, or at the end of the text.
 fn without_root(
     alloc: Global,
@@ -168,7 +179,7 @@ fn without_root(
             refusal: fault.refusal,
             left: 0,
         }),
-        Err(ReadError::Refused(fault)) => Ok(fault),
+        Err(ReadError::Refused(fault)) => Ok(fault_of_label(bytes, fault)),
         Err(e) => Err(e),
     }
 }
@@ -183,11 +194,7 @@ fn as_written(
 ) -> Result<Fault, ReadError> {
     match fault.refusal {
         Refusal::TooDeep | Refusal::TooMany => without_root(alloc, ctx, bytes, fault),
-        Refusal::MultipleBlocks if is_outside(bytes, fault.left) => Ok(Fault {
-            refusal: Refusal::Unexpected,
-            left: fault.left,
-        }),
-        _ => Ok(fault),
+        _ => Ok(fault_of_label(bytes, fault)),
     }
 }
 

@@ -143,6 +143,20 @@ fn a_fault_before_the_end_comes_first(rt: HostRuntime) -> Result<(), AllocError>
 }
 
 #[test]
+fn a_label_behind_them_is_outside(rt: HostRuntime) -> Result<(), AllocError> {
+    let alloc = rt.alloc();
+    assert!(rt;
+        refuses(
+            alloc,
+            nested_before(alloc, 128, b" ^a:"),
+            Refusal::Unexpected,
+            2710
+        )?
+    );
+    Ok(())
+}
+
+#[test]
 fn operands_are_256(rt: HostRuntime) -> Result<(), AllocError> {
     let alloc = rt.alloc();
     assert!(rt; reads(alloc, users(alloc))?);
