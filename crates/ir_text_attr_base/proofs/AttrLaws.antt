@@ -33,21 +33,21 @@ use Rattle.ir_types.proofs.CallNumbers.{name_stands, attr_stands, place_in}
 use Rattle.ir_types.proofs.Calls.{no_first}
 use Rattle.ir_types.proofs.AcceptedCalls.{accepted_name, accepted_attr, neither_back}
 use Rattle.ir_text_attr_base.specs.declared.flag.Flag as code
-use Rattle.ir_text_attr_base.specs.Outcomes.{Outcome, Read, Wrong, Full, ◌>>=◌, of_option, interned, Parse}
-use Rattle.ir_text_attr_base.specs.Typed.{Typed, after_typed, name_step, attr_step}
+use Rattle.ir_text_type_base.specs.Outcomes.{Outcome, Read, Wrong, Full, ◌>>=◌, of_option, interned, Parse}
+use Rattle.ir_text_type_base.specs.Typed.{Typed, after_typed, name_step, attr_step}
 use Rattle.ir_text_attr_base.specs.Literals.{Word, Truth, UnitWord, TypeWord, word_of, truth_value, signed_number, value_of, overflow_word, none_word, flag_of, has_nsw, has_nuw}
-use Rattle.ir_text_attr_base.specs.TypeReading.{many, type_done, type_at}
+use Rattle.ir_text_type_base.specs.TypeReading.{many, type_done, type_at}
 use Rattle.ir_text_attr_base.specs.AttrReading.{attr_done, truth_at, string_at, type_attr_at, suffix_from, suffix_at, literal_done, literal_at, negative_from, negative_at, flag_from, flag_at, some_flags_at, no_flags_at, flags_from, flags_at, overflow_at, word_attr, mark_attr, attr_from, attr_at}
-use Rattle.ir_text_attr_base.specs.Grammars.{Grammar, Then, Done, DoneIf, After, IsMore, IsMark, Token}
-use Rattle.ir_text_attr_base.specs.TypeGrammar.{IsType}
+use Rattle.ir_text_type_base.specs.Grammars.{Grammar, Then, Done, DoneIf, After, IsMore, IsMark, Token}
+use Rattle.ir_text_type_base.specs.TypeGrammar.{IsType}
 use Rattle.ir_text_attr_base.specs.AttrGrammar.{IsFine, IsTypeAttr, IsSuffix, IsLiteralOf, IsLiteral, IsNegative, IsFlag, IsFlags, IsOverflow, IsWordAttr, IsMarkAttr, IsAttrFrom, IsAttr}
-use Rattle.ir_text_attr_base.specs.Worlds.{From}
-use Rattle.ir_text_attr_base.specs.Standing.{NameStands, TypeStands, AttrStands}
-use Rattle.ir_text_attr_base.specs.Laws.{Each, FillsUp}
-use Rattle.ir_text_attr_base.proofs.Worlds.{bind_read, bind_full, bind_assoc, Exact, Step, Comes, Reads, exact_where, exact_spelled, exact_for, nothing_exact, choice_exact, guard_exact, some_exact, then_exact, done_exact, after_exact, either_exact, more_exact}
-use Rattle.ir_text_attr_base.proofs.TextLaws.{things, Same, text_now, typed_marks}
-use Rattle.ir_text_attr_base.proofs.TokenLaws.{behind_exact, token_exact}
-use Rattle.ir_text_attr_base.proofs.TypeLaws.{read_interned, full_cases, full_interned, full_count, type_done_exact, type_exact}
+use Rattle.ir_text_type_base.specs.Worlds.{From}
+use Rattle.ir_text_type_base.specs.Standing.{NameStands, TypeStands, AttrStands}
+use Rattle.ir_text_type_base.specs.Laws.{Each, FillsUp}
+use Rattle.ir_text_type_base.proofs.Worlds.{bind_read, bind_full, bind_assoc, Exact, Step, Comes, Reads, exact_where, exact_spelled, exact_for, nothing_exact, choice_exact, guard_exact, some_exact, then_exact, done_exact, after_exact, either_exact, more_exact}
+use Rattle.ir_text_type_base.proofs.TextLaws.{things, Same, text_now, typed_marks}
+use Rattle.ir_text_type_base.proofs.TokenLaws.{behind_exact, token_exact}
+use Rattle.ir_text_type_base.proofs.TypeLaws.{read_interned, full_cases, full_interned, full_count, type_done_exact, type_exact}
 
 abbrev moved : Typed → ℕ × Things → ℕ × Typed
 moved s n = (n.0, (s.0, n.1))

@@ -1,11 +1,3 @@
-pub mod Stepping
-pub mod Widths
-pub mod ListSteps
-pub mod Known
-pub mod Worlds
-pub mod TextLaws
-pub mod TypeLaws
-pub mod Unique
-pub mod Numbered
-pub mod TokenLaws
+pub mod Suffixes
+pub mod UniqueAttributes
 pub mod AttrLaws

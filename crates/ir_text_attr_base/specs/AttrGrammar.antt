@@ -1,6 +1,6 @@
 -- The grammar of attributes, in terms of what is spelled. Language Reference, "Attributes"; Builtin
 -- Dialect, "Attributes".
-use Rattle.std.specs.Prelude.{◌≡◌, ◌⊎◌, ℕ, Bool, true, false, List, [], ◌∷◌, Some, None, ℤ}
+use Rattle.std.specs.Prelude.{◌≡◌, ◌⊎◌, ℕ, Bool, true, false, List, [], Some, None, ℤ}
 use Rattle.std.specs.Str.{bytes_eq}
 use Rattle.ir_text_base.specs.declared.token.Mark.{Mark}
 use Rattle.ir_text_base.specs.declared.token.Mark.TheVariants.{OpenRound, Less, Greater, Colon, Minus}
@@ -12,9 +12,9 @@ use Rattle.ir_types.specs.Terms.{TypeTerm, Integer, AttrTerm, IntegerOf, String,
 use Rattle.ir_types.specs.Ranges.{is_literal_number}
 use Rattle.ir_types.specs.Reasons.{attr_fault}
 use Rattle.ir_text_attr_base.specs.declared.flag.Flag as code
-use Rattle.ir_text_attr_base.specs.Grammars.{Grammar, Then, Done, DoneIf, After, Either, IsMore, Token, IsMark}
-use Rattle.ir_text_attr_base.specs.TypeReading.{many}
-use Rattle.ir_text_attr_base.specs.TypeGrammar.{Text, IsType}
+use Rattle.ir_text_type_base.specs.Grammars.{Grammar, Then, Done, DoneIf, After, Either, IsMore, Token, IsMark}
+use Rattle.ir_text_type_base.specs.TypeReading.{many}
+use Rattle.ir_text_type_base.specs.TypeGrammar.{Text, IsType}
 use Rattle.ir_text_attr_base.specs.Literals.{Word, Truth, UnitWord, TypeWord, word_of, truth_value, signed_number, value_of, overflow_word, none_word, flag_of, has_nsw, has_nuw}
 
 -- nothing more, where the attribute is one: its number is a value of its type, and it is not too deep

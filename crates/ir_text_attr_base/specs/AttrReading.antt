@@ -1,5 +1,5 @@
 -- Reading attributes into numbers of a context.
-use Rattle.std.specs.Prelude.{ℕ, Bool, true, false, if◌then◌else◌, List, [], ◌∷◌, Option, Some, None, ℤ}
+use Rattle.std.specs.Prelude.{ℕ, Bool, true, false, if◌then◌else◌, List, [], Option, Some, None, ℤ}
 use Rattle.std.specs.Str.{bytes_eq}
 use Rattle.ir_text_base.specs.declared.token.Mark.{Mark}
 use Rattle.ir_text_base.specs.declared.token.Mark.TheVariants.{OpenRound, Less, Greater, Colon, Minus}
@@ -14,10 +14,10 @@ use Rattle.ir_types.specs.Things.{Things}
 use Rattle.ir_types.specs.Terms.{type_term}
 use Rattle.ir_types.specs.Ranges.{is_literal_number}
 use Rattle.ir_text_attr_base.specs.declared.flag.Flag.{Flag}
-use Rattle.ir_text_attr_base.specs.Outcomes.{Outcome, Read, Wrong, ◌>>=◌, of_option, Parse}
-use Rattle.ir_text_attr_base.specs.Lists.{more_at}
-use Rattle.ir_text_attr_base.specs.Typed.{Typed, after_typed, name_step, attr_step}
-use Rattle.ir_text_attr_base.specs.TypeReading.{many, type_done, type_at}
+use Rattle.ir_text_type_base.specs.Outcomes.{Outcome, Read, Wrong, ◌>>=◌, of_option, Parse}
+use Rattle.ir_text_type_base.specs.Lists.{more_at}
+use Rattle.ir_text_type_base.specs.Typed.{Typed, after_typed, name_step, attr_step}
+use Rattle.ir_text_type_base.specs.TypeReading.{many, type_done, type_at}
 use Rattle.ir_text_attr_base.specs.Literals.{Word, Truth, UnitWord, TypeWord, word_of, truth_value, signed_number, value_of, overflow_word, none_word, flag_of, has_nsw, has_nuw}
 
 -- a node is interned, and the text stays where it is

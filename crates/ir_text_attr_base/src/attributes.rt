@@ -1,15 +1,15 @@
 //! Attributes. Language Reference, "Attributes"; Builtin Dialect, "Attributes".
 ghost use Rattle.std.specs.Prelude.{◌≡◌};
 ghost use Rattle.ir_types.specs.Things.{AttrIsOf};
-ghost use Rattle.ir_text_attr_base.specs.Outcomes.{Gives};
+ghost use Rattle.ir_text_type_base.specs.Outcomes.{Gives};
 ghost use Rattle.ir_text_attr_base.specs.Literals.{word_of};
 ghost use Rattle.ir_text_attr_base.specs.AttrReading.{attr_done, truth_at, string_at, type_attr_at, overflow_at, word_attr, mark_attr, attr_at};
 
-use crate::error::{ReadError, wrong};
+use ir_text_type_base::error::{ReadError, wrong};
 use crate::flags::{flags, has_nsw, has_nuw};
 use crate::literals::{literal, negative};
-use crate::steps::{self, expect, token};
-use crate::types::{self, MOST_DEPTH, token_refusal, ty};
+use ir_text_type_base::steps::{self, expect, token};
+use ir_text_type_base::types::{self, MOST_DEPTH, token_refusal, ty};
 use ir_text_base::strings::string_value;
 use ir_text_base::token::{Mark, Token};
 use ir_types::context::Context;

@@ -5,14 +5,14 @@ ghost use Rattle.ir_types.specs.Things.{IsType};
 ghost use Rattle.ir_types.specs.Terms.{TypeTerm, Integer, type_from, type_term};
 ghost use Rattle.ir_types.specs.Bits.{HasWidth};
 ghost use Rattle.ir_types.specs.Ranges.{is_literal_number};
-ghost use Rattle.ir_text_attr_base.specs.Outcomes.{Gives};
+ghost use Rattle.ir_text_type_base.specs.Outcomes.{Gives};
 ghost use Rattle.ir_text_attr_base.specs.Literals.{signed_number, value_of};
 ghost use Rattle.ir_text_attr_base.specs.AttrReading.{suffix_at, literal_done, literal_at, negative_at};
 
 use crate::attributes::kept;
-use crate::error::{ReadError, wrong};
-use crate::steps::{after, token};
-use crate::types::{self, MOST_DEPTH, ty};
+use ir_text_type_base::error::{ReadError, wrong};
+use ir_text_type_base::steps::{after, token};
+use ir_text_type_base::types::{self, MOST_DEPTH, ty};
 use ir_text_base::fault::Fault;
 use ir_text_base::numbers::integer_value;
 use ir_text_base::token::{Mark, Token};

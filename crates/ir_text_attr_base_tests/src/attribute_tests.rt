@@ -1,6 +1,6 @@
 //! Attributes with their readings, and texts with their refusals.
 use ir_text_attr_base::attributes::attr;
-use ir_text_attr_base::error::ReadError;
+use ir_text_type_base::error::ReadError;
 use ir_text_base::fault::Fault;
 use ir_types::context::Context;
 use ir_types::refusal::Refusal;

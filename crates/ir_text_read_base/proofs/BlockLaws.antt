@@ -18,18 +18,18 @@ use Rattle.ir_tree.specs.Maps.{map_ops}
 use Rattle.ir_tree.specs.Passing.{op_passes}
 use Rattle.ir_tree.specs.Meaning.{Operation, is_name, is_type, is_attr}
 use Rattle.ir_tree.proofs.Meanings.{both_hold}
-use Rattle.ir_text_attr_base.specs.Marks.{after}
-use Rattle.ir_text_attr_base.specs.Outcomes.{Outcome, Read, ◌>>=◌, of_option, Parse}
-use Rattle.ir_text_attr_base.specs.Grammars.{Grammar, Then, Done, After, Not, Either, IsMore, IsList}
-use Rattle.ir_text_attr_base.specs.Lists.{more_at}
-use Rattle.ir_text_attr_base.specs.TypeReading.{type_at}
-use Rattle.ir_text_attr_base.specs.TypeGrammar.{IsType}
-use Rattle.ir_text_attr_base.specs.Typed.{Typed}
-use Rattle.ir_text_attr_base.specs.Worlds.{From}
-use Rattle.ir_text_attr_base.specs.Standing.{TypeStands}
-use Rattle.ir_text_attr_base.specs.Laws.{Each}
-use Rattle.ir_text_attr_base.proofs.Worlds.{bind_assoc, later, Exact, exact_where, exact_spelled, then_exact, done_exact, after_exact, either_exact, list_exact, more_exact}
-use Rattle.ir_text_attr_base.proofs.TypeLaws.{type_exact}
+use Rattle.ir_text_type_base.specs.Marks.{after}
+use Rattle.ir_text_type_base.specs.Outcomes.{Outcome, Read, ◌>>=◌, of_option, Parse}
+use Rattle.ir_text_type_base.specs.Grammars.{Grammar, Then, Done, After, Not, Either, IsMore, IsList}
+use Rattle.ir_text_type_base.specs.Lists.{more_at}
+use Rattle.ir_text_type_base.specs.TypeReading.{type_at}
+use Rattle.ir_text_type_base.specs.TypeGrammar.{IsType}
+use Rattle.ir_text_type_base.specs.Typed.{Typed}
+use Rattle.ir_text_type_base.specs.Worlds.{From}
+use Rattle.ir_text_type_base.specs.Standing.{TypeStands}
+use Rattle.ir_text_type_base.specs.Laws.{Each}
+use Rattle.ir_text_type_base.proofs.Worlds.{bind_assoc, later, Exact, exact_where, exact_spelled, then_exact, done_exact, after_exact, either_exact, list_exact, more_exact}
+use Rattle.ir_text_type_base.proofs.TypeLaws.{type_exact}
 use Rattle.ir_text_read_base.specs.States.{State, to_bytes, after_in, typed, with_typed, with_scopes, inside, outside}
 use Rattle.ir_text_read_base.specs.FrontReading.{Text, name_at}
 use Rattle.ir_text_read_base.specs.Made.{region_of}

@@ -15,17 +15,17 @@ use Rattle.ir_types.specs.Words.{is_inherent}
 use Rattle.ir_types.specs.Sound.{IsSound}
 use Rattle.ir_types.proofs.Growth.{grows_trans, name_is, name_refl}
 use Rattle.ir_types.proofs.Terms.{name_term_one}
-use Rattle.ir_text_attr_base.specs.Outcomes.{Outcome, Read, Wrong, ◌>>=◌, Parse}
-use Rattle.ir_text_attr_base.specs.Grammars.{Grammar, Then, Done, After, Token, IsMark}
-use Rattle.ir_text_attr_base.specs.Typed.{Typed, after_typed, name_step}
+use Rattle.ir_text_type_base.specs.Outcomes.{Outcome, Read, Wrong, ◌>>=◌, Parse}
+use Rattle.ir_text_type_base.specs.Grammars.{Grammar, Then, Done, After, Token, IsMark}
+use Rattle.ir_text_type_base.specs.Typed.{Typed, after_typed, name_step}
 use Rattle.ir_text_attr_base.specs.AttrReading.{attr_done, attr_at}
 use Rattle.ir_text_attr_base.specs.AttrGrammar.{IsAttr, IsFine}
-use Rattle.ir_text_attr_base.specs.Worlds.{From}
-use Rattle.ir_text_attr_base.specs.Standing.{NameStands, AttrStands}
-use Rattle.ir_text_attr_base.specs.Laws.{Each}
-use Rattle.ir_text_attr_base.proofs.Worlds.{Exact, exact_where, exact_spelled, nothing_exact, then_exact, done_exact, after_exact, either_exact}
-use Rattle.ir_text_attr_base.proofs.TextLaws.{things, Same, typed_marks}
-use Rattle.ir_text_attr_base.proofs.TokenLaws.{behind_exact, token_exact}
+use Rattle.ir_text_type_base.specs.Worlds.{From}
+use Rattle.ir_text_type_base.specs.Standing.{NameStands, AttrStands}
+use Rattle.ir_text_type_base.specs.Laws.{Each}
+use Rattle.ir_text_type_base.proofs.Worlds.{Exact, exact_where, exact_spelled, nothing_exact, then_exact, done_exact, after_exact, either_exact}
+use Rattle.ir_text_type_base.proofs.TextLaws.{things, Same, typed_marks}
+use Rattle.ir_text_type_base.proofs.TokenLaws.{behind_exact, token_exact}
 use Rattle.ir_text_attr_base.proofs.AttrLaws.{IsNodeOf, name_exact, attr_done_exact, attr_exact}
 use Rattle.ir_text_read_base.specs.Entries.{moved, staying, is_refused}
 use Rattle.ir_text_read_base.specs.EntryReading.{Entries, is_property_in, refused_in, key_from, key_at, value_from, value_at, entry_at, entries_at, some_properties, properties_from, properties_at, attributes_from, attributes_at}

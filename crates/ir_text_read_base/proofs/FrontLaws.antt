@@ -10,14 +10,14 @@ use Rattle.ir_text_base.specs.Scopes.{Binding, find, or_else}
 use Rattle.ir_types.specs.Things.{Things, Grows}
 use Rattle.ir_types.specs.Sound.{IsSound}
 use Rattle.ir_types.proofs.Growth.{grows_refl, grows_trans}
-use Rattle.ir_text_attr_base.specs.Marks.{after}
-use Rattle.ir_text_attr_base.specs.Outcomes.{Outcome, Read, Wrong, ◌>>=◌, of_option, Parse}
-use Rattle.ir_text_attr_base.specs.Lists.{more_at, list_at}
-use Rattle.ir_text_attr_base.specs.Grammars.{Grammar, Then, Done, Not, IsMore, IsList, Token, IsMark}
-use Rattle.ir_text_attr_base.specs.Worlds.{From}
-use Rattle.ir_text_attr_base.specs.Laws.{Each}
-use Rattle.ir_text_attr_base.proofs.Worlds.{option_read, option_full, fills_on, later, Agree, Exact, Step, Reads, Marks, step_on, reads_on, exact_spelled, exact_for, nothing_exact, choice_exact, then_exact, done_exact, after_exact, more_exact, list_exact}
-use Rattle.ir_text_attr_base.proofs.TextLaws.{after_found, after_only, after_none, none_after}
+use Rattle.ir_text_type_base.specs.Marks.{after}
+use Rattle.ir_text_type_base.specs.Outcomes.{Outcome, Read, Wrong, ◌>>=◌, of_option, Parse}
+use Rattle.ir_text_type_base.specs.Lists.{more_at, list_at}
+use Rattle.ir_text_type_base.specs.Grammars.{Grammar, Then, Done, Not, IsMore, IsList, Token, IsMark}
+use Rattle.ir_text_type_base.specs.Worlds.{From}
+use Rattle.ir_text_type_base.specs.Laws.{Each}
+use Rattle.ir_text_type_base.proofs.Worlds.{option_read, option_full, fills_on, later, Agree, Exact, Step, Reads, Marks, step_on, reads_on, exact_spelled, exact_for, nothing_exact, choice_exact, then_exact, done_exact, after_exact, more_exact, list_exact}
+use Rattle.ir_text_type_base.proofs.TextLaws.{after_found, after_only, after_none, none_after}
 use Rattle.ir_text_read_base.specs.declared.bound.Bound.{Bound}
 use Rattle.ir_text_read_base.specs.FrontReading.{Text, name_from, name_at, names_at, results_from, results_at, op_name_from, op_name_at, use_from, use_at, uses_at, start_at}
 use Rattle.ir_text_read_base.specs.Seen.{BoundTerm}

@@ -13,8 +13,8 @@ use Rattle.std.proofs.lemmas.Option.{slice_get_within}
 use Rattle.ir_types.proofs.CallNumbers.{name_stands, new_name}
 use Rattle.ir_types.specs.Interning.{with_name}
 use Rattle.ir_text_base.specs.declared.fault.Fault.{Fault}
-use Rattle.ir_text_attr_base.specs.declared.error.ReadError.{ReadError}
-use Rattle.ir_text_attr_base.specs.declared.error.ReadError.TheVariants as errors
+use Rattle.ir_text_type_base.specs.declared.error.ReadError.{ReadError}
+use Rattle.ir_text_type_base.specs.declared.error.ReadError.TheVariants as errors
 use Rattle.std.specs.Prelude.{Result, Err}
 use Rattle.ir_tree.specs.Tree.{op, Op, region, block, no_regions, ops_of, next}
 use Rattle.std.specs.List.{range_with_len}
@@ -26,12 +26,12 @@ use Rattle.ir_tree.specs.Passing.{op_passes}
 use Rattle.ir_tree.specs.Meaning.{Operation, meaning, is_known, is_name, is_type, is_attr, key_before, key_before_in, rises, rises_after, dictionaries_rise}
 use Rattle.ir_tree.proofs.Mapped.{map_ids, map_operands_visible, map_depth, map_counts, map_every}
 use Rattle.ir_tree.specs.WellFormed.{IsFormed}
-use Rattle.ir_text_attr_base.specs.Grammars.{IsMark}
-use Rattle.ir_text_attr_base.specs.Laws.{Each}
-use Rattle.ir_text_attr_base.specs.Marks.{after}
-use Rattle.ir_text_attr_base.specs.Outcomes.{Outcome, Read, Wrong, Full, Fails}
-use Rattle.ir_text_attr_base.proofs.TextLaws.{after_found, after_only}
-use Rattle.ir_text_attr_base.proofs.Worlds.{Step, Agree}
+use Rattle.ir_text_type_base.specs.Grammars.{IsMark}
+use Rattle.ir_text_type_base.specs.Laws.{Each}
+use Rattle.ir_text_type_base.specs.Marks.{after}
+use Rattle.ir_text_type_base.specs.Outcomes.{Outcome, Read, Wrong, Full, Fails}
+use Rattle.ir_text_type_base.proofs.TextLaws.{after_found, after_only}
+use Rattle.ir_text_type_base.proofs.Worlds.{Step, Agree}
 use Rattle.ir_text_read_base.specs.States.{State, fresh}
 use Rattle.ir_text_read_base.specs.Seen.{seen_fresh}
 use Rattle.ir_text_read_base.specs.OpReading.{op_at, ops_at}

@@ -9,16 +9,16 @@ use Rattle.ir_types.specs.Sound.{IsSound}
 use Rattle.ir_types.proofs.Growth.{grows_refl, grows_trans}
 use Rattle.ir_tree.specs.declared.value.Value.TheVariants as values
 use Rattle.ir_types.specs.Terms.{TypeTerm}
-use Rattle.ir_text_attr_base.specs.Marks.{after}
-use Rattle.ir_text_attr_base.specs.Outcomes.{Outcome, Read, Wrong, Full, ◌>>=◌, of_option, Parse}
-use Rattle.ir_text_attr_base.specs.Grammars.{Grammar, Done, IsMark, Token}
-use Rattle.ir_text_attr_base.specs.Typed.{Typed}
-use Rattle.ir_text_attr_base.specs.Worlds.{From}
-use Rattle.ir_text_attr_base.specs.Standing.{TypeStands}
-use Rattle.ir_text_attr_base.specs.Laws.{Each}
-use Rattle.ir_text_attr_base.proofs.Worlds.{bind_read, bind_full, later, Agree, Exact, Step, Comes, Reads, Marks, done_exact}
-use Rattle.ir_text_attr_base.proofs.TextLaws.{after_found, after_only, after_none, none_after}
-use Rattle.ir_text_attr_base.proofs.TextLaws as typed
+use Rattle.ir_text_type_base.specs.Marks.{after}
+use Rattle.ir_text_type_base.specs.Outcomes.{Outcome, Read, Wrong, Full, ◌>>=◌, of_option, Parse}
+use Rattle.ir_text_type_base.specs.Grammars.{Grammar, Done, IsMark, Token}
+use Rattle.ir_text_type_base.specs.Typed.{Typed}
+use Rattle.ir_text_type_base.specs.Worlds.{From}
+use Rattle.ir_text_type_base.specs.Standing.{TypeStands}
+use Rattle.ir_text_type_base.specs.Laws.{Each}
+use Rattle.ir_text_type_base.proofs.Worlds.{bind_read, bind_full, later, Agree, Exact, Step, Comes, Reads, Marks, done_exact}
+use Rattle.ir_text_type_base.proofs.TextLaws.{after_found, after_only, after_none, none_after}
+use Rattle.ir_text_type_base.proofs.TextLaws as typed
 use Rattle.ir_text_read_base.specs.declared.bound.Bound.{Bound}
 use Rattle.ir_text_read_base.specs.States as states
 use Rattle.ir_text_read_base.specs.States.{State, to_bytes, after_in, with_typed, with_scopes, inside, outside}

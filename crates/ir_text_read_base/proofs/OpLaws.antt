@@ -15,17 +15,17 @@ use Rattle.ir_types.proofs.Terms.{type_term_one}
 use Rattle.ir_tree.specs.Tree.{Op, Region}
 use Rattle.ir_tree.specs.Meaning.{Operation, meaning, is_known, isolated_in, key_before}
 use Rattle.ir_tree.proofs.Meanings.{both_hold}
-use Rattle.ir_text_attr_base.specs.Marks.{after}
-use Rattle.ir_text_attr_base.specs.Outcomes.{Outcome, Read, Wrong, Full, ◌>>=◌, of_option, Parse}
-use Rattle.ir_text_attr_base.specs.Grammars.{Grammar, Then, Done, After}
-use Rattle.ir_text_attr_base.specs.Typed.{Typed, after_typed, name_step}
-use Rattle.ir_text_attr_base.specs.TypeReading.{function_type_at}
-use Rattle.ir_text_attr_base.specs.TypeGrammar.{IsFunctionType}
-use Rattle.ir_text_attr_base.specs.Worlds.{From}
-use Rattle.ir_text_attr_base.specs.Standing.{NameStands, TypeStands}
-use Rattle.ir_text_attr_base.specs.Laws.{Each, SignatureStands, FillsUp}
-use Rattle.ir_text_attr_base.proofs.Worlds.{bind_assoc, later, Exact, Step, Reads, exact_where, exact_spelled, nothing_exact, then_exact, after_exact}
-use Rattle.ir_text_attr_base.proofs.TypeLaws.{function_type_exact}
+use Rattle.ir_text_type_base.specs.Marks.{after}
+use Rattle.ir_text_type_base.specs.Outcomes.{Outcome, Read, Wrong, Full, ◌>>=◌, of_option, Parse}
+use Rattle.ir_text_type_base.specs.Grammars.{Grammar, Then, Done, After}
+use Rattle.ir_text_type_base.specs.Typed.{Typed, after_typed, name_step}
+use Rattle.ir_text_type_base.specs.TypeReading.{function_type_at}
+use Rattle.ir_text_type_base.specs.TypeGrammar.{IsFunctionType}
+use Rattle.ir_text_type_base.specs.Worlds.{From}
+use Rattle.ir_text_type_base.specs.Standing.{NameStands, TypeStands}
+use Rattle.ir_text_type_base.specs.Laws.{Each, SignatureStands, FillsUp}
+use Rattle.ir_text_type_base.proofs.Worlds.{bind_assoc, later, Exact, Step, Reads, exact_where, exact_spelled, nothing_exact, then_exact, after_exact}
+use Rattle.ir_text_type_base.proofs.TypeLaws.{function_type_exact}
 use Rattle.ir_text_attr_base.proofs.AttrLaws as attrs
 use Rattle.ir_text_read_base.specs.declared.bound.Bound.{Bound}
 use Rattle.ir_text_read_base.specs.States.{State, to_bytes, after_in, typed, with_typed, with_scopes, fresh}

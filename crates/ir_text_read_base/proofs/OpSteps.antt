@@ -2,9 +2,9 @@
 use Rattle.std.proofs.Common.{◌≡◌, ℕ, suc, ◌+◌, ◌-◌, ◌<◌, ◌≤◌, List, [], ◌∷◌, ◌++◌, Some, None, refl, sym, ◌∙◌, arith}
 use Rattle.ir_text_base.specs.declared.token.Mark.{Mark}
 use Rattle.ir_tree.specs.Tree.{Op}
-use Rattle.ir_text_attr_base.specs.declared.error.ReadError.{ReadError}
-use Rattle.ir_text_attr_base.specs.Outcomes.{Outcome, Read, Wrong, Parse, Fails}
-use Rattle.ir_text_attr_base.proofs.ListSteps.{fails_with}
+use Rattle.ir_text_type_base.specs.declared.error.ReadError.{ReadError}
+use Rattle.ir_text_type_base.specs.Outcomes.{Outcome, Read, Wrong, Parse, Fails}
+use Rattle.ir_text_type_base.proofs.ListSteps.{fails_with}
 use Rattle.ir_text_read_base.specs.States.{State, after_in}
 use Rattle.ir_text_read_base.specs.OpReading.{ops_at}
 

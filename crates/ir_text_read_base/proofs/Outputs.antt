@@ -3,11 +3,11 @@ use Rattle.std.proofs.Common.{◌≡◌, ℕ, zero, suc, ◌+◌, ◌≤◌, Lis
 use Rattle.std.proofs.lemmas.List.{length-append}
 use Rattle.ir_text_base.specs.declared.token.Mark.{Mark}
 use Rattle.ir_text_base.specs.declared.token.Mark.TheVariants.{Comma, OpenRound, CloseRound, Arrow}
-use Rattle.ir_text_attr_base.specs.Outcomes.{Outcome, Read, ◌>>=◌, of_option, Parse}
-use Rattle.ir_text_attr_base.specs.Lists.{more_from, more_at, list_from, list_at}
-use Rattle.ir_text_attr_base.specs.Typed.{Typed, after_typed}
-use Rattle.ir_text_attr_base.specs.TypeReading.{types_at, outputs_from, outputs_at, signature_at, many, type_at, function_type_at}
-use Rattle.ir_text_attr_base.proofs.Worlds.{bind_read, option_read}
+use Rattle.ir_text_type_base.specs.Outcomes.{Outcome, Read, ◌>>=◌, of_option, Parse}
+use Rattle.ir_text_type_base.specs.Lists.{more_from, more_at, list_from, list_at}
+use Rattle.ir_text_type_base.specs.Typed.{Typed, after_typed}
+use Rattle.ir_text_type_base.specs.TypeReading.{types_at, outputs_from, outputs_at, signature_at, many, type_at, function_type_at}
+use Rattle.ir_text_type_base.proofs.Worlds.{bind_read, option_read}
 
 abbrev pair : {A S : Type 0} → A → S → Outcome (A × S)
 pair x s = Read (x, s)

@@ -7,9 +7,9 @@ use Rattle.ir_types.specs.declared.node.AttrNode.TheVariants as attr
 use Rattle.ir_types.specs.Things.{Things}
 use Rattle.ir_types.specs.Terms.{name_term}
 use Rattle.ir_types.specs.Words.{is_inherent}
-use Rattle.ir_text_attr_base.specs.Outcomes.{Outcome, Read, Wrong, ◌>>=◌, of_option, Parse}
-use Rattle.ir_text_attr_base.specs.Lists.{list_at}
-use Rattle.ir_text_attr_base.specs.Typed.{Typed, after_typed, name_step}
+use Rattle.ir_text_type_base.specs.Outcomes.{Outcome, Read, Wrong, ◌>>=◌, of_option, Parse}
+use Rattle.ir_text_type_base.specs.Lists.{list_at}
+use Rattle.ir_text_type_base.specs.Typed.{Typed, after_typed, name_step}
 use Rattle.ir_text_attr_base.specs.AttrReading.{attr_done, attr_at}
 use Rattle.ir_text_read_base.specs.Entries as keyed
 

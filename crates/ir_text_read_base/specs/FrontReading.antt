@@ -4,9 +4,9 @@ use Rattle.ir_text_base.specs.declared.token.Mark.TheVariants.{OpenRound, CloseR
 use Rattle.ir_text_base.specs.Tokens.{Lexeme, value, string, next}
 use Rattle.ir_text_base.specs.Strings.{string_bytes}
 use Rattle.ir_text_base.specs.Scopes.{Binding, find}
-use Rattle.ir_text_attr_base.specs.Marks.{after}
-use Rattle.ir_text_attr_base.specs.Outcomes.{Outcome, Read, Wrong, ◌>>=◌, of_option, Parse}
-use Rattle.ir_text_attr_base.specs.Lists.{list_at, more_at}
+use Rattle.ir_text_type_base.specs.Marks.{after}
+use Rattle.ir_text_type_base.specs.Outcomes.{Outcome, Read, Wrong, ◌>>=◌, of_option, Parse}
+use Rattle.ir_text_type_base.specs.Lists.{list_at, more_at}
 use Rattle.ir_text_read_base.specs.declared.bound.Bound.{Bound}
 use Rattle.ir_text_read_base.specs.declared.front.Front.{Front}
 

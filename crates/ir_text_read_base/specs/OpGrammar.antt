@@ -12,8 +12,8 @@ use Rattle.ir_types.specs.Words.{is_isolated, is_inherent}
 use Rattle.ir_tree.specs.declared.value.Value.TheVariants as values
 use Rattle.ir_tree.specs.Tree.{RegionOf}
 use Rattle.ir_tree.specs.Meaning.{Operation, key_before}
-use Rattle.ir_text_attr_base.specs.Grammars.{Grammar, Then, Done, After, Not, Either, IsMore, IsList, Token, IsMark}
-use Rattle.ir_text_attr_base.specs.TypeGrammar.{Text, IsType, IsFunctionType}
+use Rattle.ir_text_type_base.specs.Grammars.{Grammar, Then, Done, After, Not, Either, IsMore, IsList, Token, IsMark}
+use Rattle.ir_text_type_base.specs.TypeGrammar.{Text, IsType, IsFunctionType}
 use Rattle.ir_text_attr_base.specs.AttrGrammar.{IsAttr, IsFine}
 use Rattle.ir_text_read_base.specs.Entries.{is_refused}
 use Rattle.ir_text_read_base.specs.Made.{region_of, made}

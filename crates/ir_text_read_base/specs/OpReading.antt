@@ -10,10 +10,10 @@ use Rattle.ir_tree.specs.declared.value.Value.{Value}
 use Rattle.ir_tree.specs.declared.value.Value.TheVariants as values
 use Rattle.ir_tree.specs.Tree.{Op, Region}
 use Rattle.ir_tree.specs.Meaning.{isolated_in, key_before_in}
-use Rattle.ir_text_attr_base.specs.Outcomes.{Outcome, Read, Wrong, ◌>>=◌, of_option, Parse}
-use Rattle.ir_text_attr_base.specs.Lists.{list_at, more_at}
-use Rattle.ir_text_attr_base.specs.Typed.{Typed, after_typed, name_step}
-use Rattle.ir_text_attr_base.specs.TypeReading.{type_at, function_type_at}
+use Rattle.ir_text_type_base.specs.Outcomes.{Outcome, Read, Wrong, ◌>>=◌, of_option, Parse}
+use Rattle.ir_text_type_base.specs.Lists.{list_at, more_at}
+use Rattle.ir_text_type_base.specs.Typed.{Typed, after_typed, name_step}
+use Rattle.ir_text_type_base.specs.TypeReading.{type_at, function_type_at}
 use Rattle.ir_text_read_base.specs.declared.bound.Bound.{Bound}
 use Rattle.ir_text_read_base.specs.States.{State, to_bytes, after_in, typed, with_typed, with_scopes, inside, outside}
 use Rattle.ir_text_read_base.specs.FrontReading.{Start, start_at, name_at}

@@ -11,7 +11,7 @@ use Rattle.ir_tree.specs.Limits.{every}
 use Rattle.ir_tree.specs.Meaning.{Operation, key_before, dictionaries_rise}
 use Rattle.ir_tree.specs.Ids.{IsNumberedFrom}
 use Rattle.ir_tree.specs.WellFormed.{IsFormed}
-use Rattle.ir_text_attr_base.specs.Grammars.{IsMark}
+use Rattle.ir_text_type_base.specs.Grammars.{IsMark}
 use Rattle.ir_text_read_base.specs.Seen.{Seen, seen_fresh}
 use Rattle.ir_text_read_base.specs.OpGrammar.{IsOp, IsOps}
 

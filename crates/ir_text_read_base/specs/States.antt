@@ -3,8 +3,8 @@ use Rattle.std.specs.Prelude.{ℕ, Bool, List, [], Option, option_map}
 use Rattle.ir_types.specs.Things.{Things}
 use Rattle.ir_text_base.specs.declared.token.Mark.{Mark}
 use Rattle.ir_text_base.specs.Scopes.{Scopes, entered, left}
-use Rattle.ir_text_attr_base.specs.Marks.{after}
-use Rattle.ir_text_attr_base.specs.Typed.{Typed}
+use Rattle.ir_text_type_base.specs.Marks.{after}
+use Rattle.ir_text_type_base.specs.Typed.{Typed}
 use Rattle.ir_text_read_base.specs.declared.bound.Bound.{Bound}
 use Rattle.ir_text_read_base.specs.declared.scope.Scope.{Scope}
 

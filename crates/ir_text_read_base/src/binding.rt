@@ -1,12 +1,12 @@
 //! Names that come into sight. Language Reference, "Identifiers and keywords".
 ghost use Rattle.std.specs.Prelude.{◌≡◌, map, option_map};
-ghost use Rattle.ir_text_attr_base.specs.Outcomes.{Gives};
+ghost use Rattle.ir_text_type_base.specs.Outcomes.{Gives};
 ghost use Rattle.ir_text_read_base.specs.OpReading.{bind, bind_results, finish, types_of, values_of};
 ghost use Rattle.std.specs.Prelude.{IfOk};
 ghost use Rattle.std.specs.Str.{bytes_eq};
 
 use crate::bound::Bound;
-use ir_text_attr_base::error::ReadError;
+use ir_text_type_base::error::ReadError;
 use ir_text_base::fault::Fault;
 use ir_text_base::names::Names;
 use ir_tree::value::Value;

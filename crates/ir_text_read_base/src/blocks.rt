@@ -1,7 +1,7 @@
 //! What stands before the operations of a block. Language Reference, "Blocks".
 ghost use Rattle.std.specs.Prelude.{◌≡◌, ◌≤◌, length, option_map};
-ghost use Rattle.ir_text_attr_base.specs.Outcomes.{Gives, of_option};
-ghost use Rattle.ir_text_attr_base.specs.Marks.{after};
+ghost use Rattle.ir_text_type_base.specs.Outcomes.{Gives, of_option};
+ghost use Rattle.ir_text_type_base.specs.Marks.{after};
 ghost use Rattle.ir_text_base.specs.declared.token.Mark.TheVariants.{Comma};
 ghost use Rattle.ir_text_read_base.specs.States.{state_of};
 ghost use Rattle.ir_text_read_base.specs.OpReading.{arg_at, args_at, some_args_at, label_args_at, head_at};
@@ -9,9 +9,9 @@ ghost use Rattle.ir_text_read_base.specs.OpReading.{arg_at, args_at, some_args_a
 use crate::binding::bind;
 use crate::front::{name, one_too_many};
 use crate::scope::Scope;
-use ir_text_attr_base::error::{ReadError, wrong};
-use ir_text_attr_base::steps::{after, expect, token};
-use ir_text_attr_base::types::{MOST_DEPTH, ty};
+use ir_text_type_base::error::{ReadError, wrong};
+use ir_text_type_base::steps::{after, expect, token};
+use ir_text_type_base::types::{MOST_DEPTH, ty};
 use ir_text_base::fault::Fault;
 use ir_text_base::lexer::{self, skip};
 use ir_text_base::token::{Mark, Token};
@@ -83,7 +83,7 @@ fn argument<'a>(
 }
 
 /// Arguments up to the closing parenthesis, at most 256.
-#[tactic(auto, unfolding(ir_text_attr_base::specs::Lists::list_at, crate::specs::OpReading::args_at))]
+#[tactic(auto, unfolding(ir_text_type_base::specs::Lists::list_at, crate::specs::OpReading::args_at))]
 fn arguments<'a>(
     alloc: Global,
     scope: &mut Scope<'a>,

@@ -1,12 +1,12 @@
 //! Dictionaries as they are written. Language Reference, "Attributes" and "Properties".
 ghost use Rattle.std.specs.Prelude.{◌≡◌, is_some};
-ghost use Rattle.ir_text_attr_base.specs.Outcomes.{Gives};
+ghost use Rattle.ir_text_type_base.specs.Outcomes.{Gives};
 ghost use Rattle.ir_text_read_base.specs.EntryReading.{refused_in, key_at, value_at, entry_at, entries_at, some_properties, properties_at, attributes_at};
 
 use crate::dictionaries::{Entry, has_key, no_room};
 use ir_text_attr_base::attributes::{attr, unit};
-use ir_text_attr_base::error::{ReadError, wrong};
-use ir_text_attr_base::steps::{self, after, expect, token};
+use ir_text_type_base::error::{ReadError, wrong};
+use ir_text_type_base::steps::{self, after, expect, token};
 use ir_text_base::strings::string_value;
 use ir_text_base::token::{Mark, Token};
 use ir_types::context::Context;
@@ -99,7 +99,7 @@ fn entry<'a>(
 }
 
 /// Entries up to the closing brace.
-#[tactic(auto, unfolding(ir_text_attr_base::specs::Lists::list_at, crate::specs::EntryReading::entries_at))]
+#[tactic(auto, unfolding(ir_text_type_base::specs::Lists::list_at, crate::specs::EntryReading::entries_at))]
 fn entries<'a>(
     alloc: Global,
     ctx: &mut Context,

@@ -1,13 +1,13 @@
 //! What stands before an operation's dictionaries: the names of its results, its name, its operands.
 ghost use Rattle.std.specs.Prelude.{◌≡◌, map, option_map};
-ghost use Rattle.ir_text_attr_base.specs.Outcomes.{Gives, of_option};
-ghost use Rattle.ir_text_attr_base.specs.Marks.{after};
+ghost use Rattle.ir_text_type_base.specs.Outcomes.{Gives, of_option};
+ghost use Rattle.ir_text_type_base.specs.Marks.{after};
 ghost use Rattle.ir_text_base.specs.declared.token.Mark.TheVariants.{Comma};
 ghost use Rattle.ir_text_read_base.specs.FrontReading.{name_at, names_at, results_at, op_name_at, use_at, uses_at, start_at, start_view};
 
 use crate::bound::Bound;
-use ir_text_attr_base::error::{ReadError, wrong};
-use ir_text_attr_base::steps::{after, expect, token};
+use ir_text_type_base::error::{ReadError, wrong};
+use ir_text_type_base::steps::{after, expect, token};
 use ir_text_base::fault::Fault;
 use ir_text_base::lexer;
 use ir_text_base::names::Names;
@@ -163,7 +163,7 @@ fn operand<'a>(names: &Names<'a, Bound>, bytes: &'a [u8]) -> Result<(Bound, &'a 
 }
 
 /// Operands up to the closing parenthesis, at most 256.
-#[tactic(auto, unfolding(ir_text_attr_base::specs::Lists::list_at, crate::specs::FrontReading::uses_at))]
+#[tactic(auto, unfolding(ir_text_type_base::specs::Lists::list_at, crate::specs::FrontReading::uses_at))]
 fn operands<'a>(
     alloc: Global,
     names: &Names<'a, Bound>,

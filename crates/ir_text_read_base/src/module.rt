@@ -2,7 +2,7 @@
 ghost use Rattle.std.specs.Prelude.{◌≡◌, ◌&&◌, IfOk, IfErr, Err, is_some};
 ghost use Rattle.ir_types.specs.Interning.{with_name};
 ghost use Rattle.ir_text_base.specs.declared.token.Mark.TheVariants.{End};
-ghost use Rattle.ir_text_attr_base.specs.Marks.{after};
+ghost use Rattle.ir_text_type_base.specs.Marks.{after};
 ghost use Rattle.ir_types.specs.Terms.{name_term};
 ghost use Rattle.ir_types.specs.Words.{is_table};
 ghost use Rattle.ir_tree.specs.Meaning.{meaning, IsSoundIn, Operation};
@@ -14,8 +14,8 @@ ghost use Rattle.ir_text_read_base.specs.Claims.{IsOnly, IsNone, IsRootOrNone, I
 use crate::ops::{op, ops};
 use crate::places::is_outside;
 use crate::scope::Scope;
-use ir_text_attr_base::error::{ReadError, wrong};
-use ir_text_attr_base::steps::after;
+use ir_text_type_base::error::{ReadError, wrong};
+use ir_text_type_base::steps::after;
 use ir_text_base::fault::Fault;
 use ir_text_base::lexer::token;
 use ir_text_base::limits::check_text;

@@ -1,8 +1,8 @@
 //! Where the faults of an operation stand. Language Reference, "Operations".
 use crate::bound::Bound;
 use crate::front::{begin_refusal, one_too_many};
-use ir_text_attr_base::error::wrong;
-use ir_text_attr_base::steps::after;
+use ir_text_type_base::error::wrong;
+use ir_text_type_base::steps::after;
 use ir_text_base::fault::Fault;
 use ir_text_base::lexer::{skip, token};
 use ir_text_base::names::Names;

@@ -1,11 +1,11 @@
 //! The names of results. Language Reference, "Operations".
 ghost use Rattle.std.specs.Prelude.{◌≡◌, ◌+◌, ◌≤◌, map, option_map, length};
-ghost use Rattle.ir_text_attr_base.specs.Outcomes.{Gives};
+ghost use Rattle.ir_text_type_base.specs.Outcomes.{Gives};
 ghost use Rattle.ir_text_read_base.specs.OpReading.{bind_results, finish};
 
 use crate::binding::bind;
 use crate::bound::Bound;
-use ir_text_attr_base::error::ReadError;
+use ir_text_type_base::error::ReadError;
 use ir_text_base::fault::Fault;
 use ir_text_base::names::Names;
 use ir_tree::value::Value;

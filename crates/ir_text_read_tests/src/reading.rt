@@ -4,7 +4,7 @@ ghost use Rattle.ir_tree.specs.Meaning.{IsSoundIn};
 
 use ir_text::printer::print;
 use ir_text::reader::read;
-use ir_text_attr_base::error::ReadError;
+use ir_text_type_base::error::ReadError;
 use ir_text_base::fault::Fault;
 use ir_tree::sound::sound;
 use ir_tree::tree::TreeOp;

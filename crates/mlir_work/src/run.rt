@@ -15,7 +15,7 @@ ghost use Rattle.mlir_work.specs.Whole.{IsOutput, IsRefusal, WhyNot, IsWorldOf};
 use ir_event::analysis::Analysis;
 use ir_event::world::World;
 use ir_text::reader;
-use ir_text_attr_base::error::ReadError;
+use ir_text_type_base::error::ReadError;
 use ir_tree::find::list_ids;
 use ir_tree::tree::TreeOp;
 use ir_types::context::Context;

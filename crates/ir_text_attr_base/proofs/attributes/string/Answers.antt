@@ -1,4 +1,4 @@
-use Rattle.ir_text_attr_base.proofs.Numbered.{name_known}
+use Rattle.ir_text_type_base.proofs.Numbered.{name_known}
 use Rattle.ir_text_attr_base.proofs.attributes.string.Goals as goal
 
 pub kept-requires : goal.kept-requires

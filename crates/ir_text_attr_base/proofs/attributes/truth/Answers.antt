@@ -1,6 +1,6 @@
 use Rattle.ir_types.specs.declared.node.Sign.TheVariants.{Signless}
 use Rattle.ir_types.specs.declared.node.TypeNode.TheVariants as type
-use Rattle.ir_text_attr_base.proofs.Numbered.{type_done_known}
+use Rattle.ir_text_type_base.proofs.Numbered.{type_done_known}
 use Rattle.ir_text_attr_base.proofs.attributes.truth.Goals as goal
 
 pub kept-requires-2 : goal.kept-requires-2

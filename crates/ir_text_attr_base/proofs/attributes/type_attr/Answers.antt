@@ -1,4 +1,4 @@
-use Rattle.ir_text_attr_base.proofs.Numbered.{type_known}
+use Rattle.ir_text_type_base.proofs.Numbered.{type_known}
 use Rattle.ir_text_attr_base.proofs.attributes.type_attr.Goals as goal
 
 pub kept-requires : goal.kept-requires

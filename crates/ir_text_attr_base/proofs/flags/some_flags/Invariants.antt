@@ -1,9 +1,9 @@
 use Rattle.std.proofs.Common.{◌≡◌, ◌-◌, length}
 use Rattle.ir_text_base.specs.declared.token.Mark.TheVariants.{Greater}
 use Rattle.ir_types.specs.Things.{Things}
-use Rattle.ir_text_attr_base.specs.Lists.{more_at}
-use Rattle.ir_text_attr_base.specs.Typed.{after_typed}
-use Rattle.ir_text_attr_base.specs.TypeReading.{many}
+use Rattle.ir_text_type_base.specs.Lists.{more_at}
+use Rattle.ir_text_type_base.specs.Typed.{after_typed}
+use Rattle.ir_text_type_base.specs.TypeReading.{many}
 use Rattle.ir_text_attr_base.specs.AttrReading.{flag_at, some_flags_at}
 use Rattle.ir_text_attr_base.proofs.flags.some_flags.Given as goal
 

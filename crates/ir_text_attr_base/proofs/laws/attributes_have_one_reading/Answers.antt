@@ -1,4 +1,4 @@
-use Rattle.ir_text_attr_base.proofs.Unique.{attr_one}
+use Rattle.ir_text_attr_base.proofs.UniqueAttributes.{attr_one}
 use Rattle.ir_text_attr_base.proofs.laws.attributes_have_one_reading.Goals as goal
 
 pub returns : goal.returns

@@ -1,4 +1,4 @@
-use Rattle.ir_text_attr_base.proofs.Numbered.{suffix_known}
+use Rattle.ir_text_attr_base.proofs.Suffixes.{suffix_known}
 use Rattle.ir_text_attr_base.proofs.literals.literal.Goals as goal
 
 pub literal_value-requires : goal.literal_value-requires

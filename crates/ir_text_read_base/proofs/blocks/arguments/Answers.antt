@@ -2,9 +2,9 @@ use Rattle.std.proofs.Common.{◌≡◌, ◌++◌, ◌∷◌, [], ◌+◌, Some,
 use Rattle.std.proofs.lemmas.Result.{err_from_is_err_and}
 use Rattle.std.proofs.lemmas.List.{length-append}
 use Rattle.ir_text_base.specs.declared.token.Mark.TheVariants.{CloseRound, Comma}
-use Rattle.ir_text_attr_base.specs.Marks.{after}
-use Rattle.ir_text_attr_base.specs.Outcomes.{of_option}
-use Rattle.ir_text_attr_base.proofs.ListSteps.{goes_on, closes, no_item, no_comma, is_full, fails_option, got}
+use Rattle.ir_text_type_base.specs.Marks.{after}
+use Rattle.ir_text_type_base.specs.Outcomes.{of_option}
+use Rattle.ir_text_type_base.proofs.ListSteps.{goes_on, closes, no_item, no_comma, is_full, fails_option, got}
 use Rattle.ir_text_read_base.specs.States.{after_in, state_of}
 use Rattle.ir_text_read_base.specs.OpReading.{arg_at}
 use Rattle.ir_text_read_base.proofs.blocks.arguments.Goals as goal

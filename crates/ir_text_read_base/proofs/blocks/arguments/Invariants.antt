@@ -1,6 +1,6 @@
 use Rattle.std.proofs.Common.{◌≡◌, ◌-◌, length}
 use Rattle.ir_text_base.specs.declared.token.Mark.TheVariants.{CloseRound}
-use Rattle.ir_text_attr_base.specs.Lists.{more_at}
+use Rattle.ir_text_type_base.specs.Lists.{more_at}
 use Rattle.ir_text_read_base.specs.States.{after_in, state_of}
 use Rattle.ir_text_read_base.specs.OpReading.{arg_at, args_at}
 use Rattle.ir_text_read_base.proofs.blocks.arguments.Given as goal

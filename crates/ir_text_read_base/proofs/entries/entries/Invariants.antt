@@ -1,7 +1,7 @@
 use Rattle.std.proofs.Common.{◌≡◌, ◌-◌, length}
 use Rattle.ir_text_base.specs.declared.token.Mark.TheVariants.{CloseCurly}
-use Rattle.ir_text_attr_base.specs.Typed.{after_typed}
-use Rattle.ir_text_attr_base.specs.Lists.{more_at}
+use Rattle.ir_text_type_base.specs.Typed.{after_typed}
+use Rattle.ir_text_type_base.specs.Lists.{more_at}
 use Rattle.ir_text_read_base.specs.EntryReading.{entry_at, entries_at}
 use Rattle.ir_text_read_base.proofs.entries.entries.Given as goal
 

@@ -1,7 +1,7 @@
 use Rattle.std.proofs.Common.{◌≡◌, ◌-◌, length, map}
 use Rattle.ir_text_base.specs.declared.token.Mark.TheVariants.{Equal}
-use Rattle.ir_text_attr_base.specs.Marks.{after}
-use Rattle.ir_text_attr_base.specs.Lists.{more_at}
+use Rattle.ir_text_type_base.specs.Marks.{after}
+use Rattle.ir_text_type_base.specs.Lists.{more_at}
 use Rattle.ir_text_read_base.specs.FrontReading.{name_at, names_at}
 use Rattle.ir_text_read_base.proofs.front.names.Given as goal
 

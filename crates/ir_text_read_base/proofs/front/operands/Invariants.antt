@@ -1,7 +1,7 @@
 use Rattle.std.proofs.Common.{◌≡◌, ◌-◌, length}
 use Rattle.ir_text_base.specs.declared.token.Mark.TheVariants.{CloseRound}
-use Rattle.ir_text_attr_base.specs.Marks.{after}
-use Rattle.ir_text_attr_base.specs.Lists.{more_at}
+use Rattle.ir_text_type_base.specs.Marks.{after}
+use Rattle.ir_text_type_base.specs.Lists.{more_at}
 use Rattle.ir_text_read_base.specs.FrontReading.{use_at, uses_at}
 use Rattle.ir_text_read_base.proofs.front.operands.Given as goal
 

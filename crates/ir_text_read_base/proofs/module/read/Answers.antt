@@ -1,5 +1,5 @@
 use Rattle.std.proofs.Common.{sym}
-use Rattle.ir_text_attr_base.specs.declared.error.ReadError.TheVariants as errors
+use Rattle.ir_text_type_base.specs.declared.error.ReadError.TheVariants as errors
 use Rattle.ir_text_read_base.proofs.Modules.{spelled_of, none_of, source_none, error_is}
 use Rattle.ir_text_read_base.proofs.module.read.Goals as goal
 

@@ -3,9 +3,9 @@ use Rattle.std.proofs.lemmas.Result.{err_from_is_err_and}
 use Rattle.std.proofs.lemmas.List.{map_push, length-append, length-map}
 use Rattle.ir_text_base.specs.declared.token.Mark.TheVariants.{CloseRound, CloseCurly, Comma}
 use Rattle.ir_tree.specs.View.{region_view}
-use Rattle.ir_text_attr_base.specs.Marks.{after}
-use Rattle.ir_text_attr_base.specs.Outcomes.{of_option}
-use Rattle.ir_text_attr_base.proofs.ListSteps.{goes_on, closes, no_item, no_comma, is_full, fails_option, got}
+use Rattle.ir_text_type_base.specs.Marks.{after}
+use Rattle.ir_text_type_base.specs.Outcomes.{of_option}
+use Rattle.ir_text_type_base.proofs.ListSteps.{goes_on, closes, no_item, no_comma, is_full, fails_option, got}
 use Rattle.ir_text_read_base.specs.declared.ops.TheConstants.{MOST_OPS}
 use Rattle.ir_text_read_base.specs.States.{after_in, state_of}
 use Rattle.ir_text_read_base.specs.OpReading.{region_at, op_at, ops_at}

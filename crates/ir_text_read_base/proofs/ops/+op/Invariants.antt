@@ -1,7 +1,7 @@
 use Rattle.std.proofs.Common.{◌≡◌, ◌*◌, ◌+◌, ◌-◌, [], length, map}
 use Rattle.ir_text_base.specs.declared.token.Mark.TheVariants.{CloseRound, CloseCurly}
 use Rattle.ir_tree.specs.View.{region_view}
-use Rattle.ir_text_attr_base.specs.Lists.{more_at}
+use Rattle.ir_text_type_base.specs.Lists.{more_at}
 use Rattle.ir_text_read_base.specs.declared.ops.TheConstants.{MOST_OPS}
 use Rattle.ir_text_read_base.specs.States.{after_in, state_of}
 use Rattle.ir_text_read_base.specs.OpReading.{region_at, regions_at, op_at, ops_at}

@@ -1,0 +1,10 @@
+pub mod Stepping
+pub mod Widths
+pub mod ListSteps
+pub mod Known
+pub mod Worlds
+pub mod TextLaws
+pub mod TypeLaws
+pub mod Unique
+pub mod Numbered
+pub mod TokenLaws

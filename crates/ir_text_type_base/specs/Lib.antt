@@ -1,0 +1,12 @@
+pub mod Outcomes
+pub mod Errors
+pub mod Marks
+pub mod Lists
+pub mod Grammars
+pub mod Worlds
+pub mod Typed
+pub mod Scalars
+pub mod TypeReading
+pub mod TypeGrammar
+pub mod Standing
+pub mod Laws

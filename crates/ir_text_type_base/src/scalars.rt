@@ -1,0 +1,71 @@
+//! The types that are one word.
+ghost use Rattle.std.specs.Prelude.{◌≡◌, IfSome, option_map};
+ghost use Rattle.std.specs.List.{list_all};
+ghost use Rattle.std.specs.Char.{is_ascii_digit};
+ghost use Rattle.ir_types.specs.Things.{Things, TypeIsOf};
+ghost use Rattle.ir_text_type_base.specs.Scalars.{width_of, scalar_of, within, begins_zero};
+
+use ir_text_base::numbers::integer_value;
+use ir_types::node::{Sign, TypeNode};
+
+fn begins_zero(digits: &[u8]) -> bool
+    ensures { result ≡ begins_zero digits.now }
+{
+    match digits {
+        [] => true,
+        [digit, ..] => *digit == b'0',
+    }
+}
+
+fn are_digits(bytes: &[u8]) -> bool
+    ensures { result ≡ list_all is_ascii_digit bytes.now }
+{
+    bytes.iter().all(|byte| byte.is_ascii_digit())
+}
+
+/// The number as a width, from 1 to 64.
+fn within(number: u128) -> Option<u32>
+    ensures { result ≡ within number }
+{
+    if number >= 1 && number <= 64 {
+        Some(number as u32)
+    } else {
+        None
+    }
+}
+
+/// The width that digits write, from 1 to 64, in decimal and without a zero in front.
+#[tactic(auto, using(crate::proofs::Widths::limit_is, crate::proofs::Widths::limit_passed))]
+fn width_of(digits: &[u8]) -> Option<u32>
+    ensures { result ≡ width_of digits.now }
+{
+    if begins_zero(digits) || !are_digits(digits) {
+        return None;
+    }
+    within(integer_value(digits)?)
+}
+
+/// The integer type of a signedness whose width the digits write.
+fn integer_type(sign: Sign, digits: &[u8]) -> Option<TypeNode>
+    ensures { result ≡ option_map (TypeNode.Int sign) (width_of digits.now) }
+{
+    let width = width_of(digits)?;
+    Some(TypeNode::Int { sign, width })
+}
+
+/// The type that a word is: `iN`, `siN`, `uiN` or `index` (Builtin Dialect, "Types").
+#[tactic(auto, unfolding(crate::specs::Scalars::scalar_of))]
+pub fn scalar_of(word: &[u8]) -> Option<TypeNode>
+    ensures scalar { result ≡ scalar_of word.now }
+    ensures parts { IfSome result (λ node. (c : Things) → TypeIsOf c node) }
+{
+    if word == b"index".as_slice() {
+        return Some(TypeNode::Index);
+    }
+    match word {
+        [b'i', digits @ ..] => integer_type(Sign::Signless, digits),
+        [b's', b'i', digits @ ..] => integer_type(Sign::Signed, digits),
+        [b'u', b'i', digits @ ..] => integer_type(Sign::Unsigned, digits),
+        _ => None,
+    }
+}
