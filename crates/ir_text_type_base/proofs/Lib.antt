@@ -4,6 +4,8 @@ pub mod ListSteps
 pub mod Known
 pub mod Worlds
 pub mod TextLaws
+pub mod ShapeSteps
+pub mod ShapeLaws
 pub mod TypeLaws
 pub mod Unique
 pub mod Numbered

@@ -1,13 +1,36 @@
--- What the next token decides.
-use Rattle.std.proofs.Common.{◌≡◌, ℕ, List, Some, refl, sym, subst}
+-- What the text decides, or its next token.
+use Rattle.std.proofs.Common.{◌≡◌, ℕ, List, Option, Some, refl, sym, ap, subst, ◌∙◌, inr}
 use Rattle.ir_text_base.specs.Tokens.{Lexeme, next}
 use Rattle.ir_types.specs.Things.{Things}
 use Rattle.ir_types.proofs.Growth.{grows_refl}
-use Rattle.ir_text_type_base.specs.Outcomes.{Outcome, ◌>>=◌, of_option, Parse}
+use Rattle.ir_text_type_base.specs.Outcomes.{Outcome, Read, Full, ◌>>=◌, of_option, Parse}
 use Rattle.ir_text_type_base.specs.Typed.{Typed}
 use Rattle.ir_text_type_base.specs.Grammars.{Grammar, Token}
-use Rattle.ir_text_type_base.proofs.Worlds.{option_read, option_full, Exact, step_on, reads_on}
+use Rattle.ir_text_type_base.proofs.Worlds.{option_read, option_full, Exact, Comes, step_on, reads_on}
 use Rattle.ir_text_type_base.proofs.TextLaws.{things, Same, text_now}
+
+abbrev kept : {A : Type 0} → Things → A × List ℕ → Outcome (A × Typed)
+kept c x = Read (x.0, (x.1, c))
+
+-- what is read of the text alone is what is spelled
+pub text_exact : {A : Type 0} (c : Things) (p : List ℕ → Option (A × List ℕ)) (P : Grammar (List ℕ) A)
+    → ((t t' : List ℕ) (x : A) → p t ≡ Some (x, t') → P x t t') → ((t t' : List ℕ) (x : A) → P x t t' → p t ≡ Some (x, t'))
+    → Exact things Same c (λ z x y. x ≡ y) (λ s. of_option (p s.0) >>= λ x. Read (x.0, (x.1, s.1))) P
+text_exact {A = A} c p P into from = record {
+  found = λ s t x s' g sound h e.
+      let b = option_read (p s.0) (kept s.1) (x, s') e in
+      let spelled : P b.0.0 t b.0.1 = subst (λ u. P b.0.0 u b.0.1) (text_now s t sound h) (into s.0 b.0.1 b.0.0 b.1) in
+      let same : (b.0.0, (b.0.1, s.1)) ≡ (x, s') = cc (b.2) in
+      subst (λ (q : A × Typed). Comes things Same (λ z x y. x ≡ y) P s t q.0 q.1) same
+      (b.0.0, b.0.1, spelled, record { grows = grows_refl s.1; sound = sound; stands = λ z j w. refl; agree = λ z j w. refl });
+  only = λ s t y t' g sound h k.
+      let read : p s.0 ≡ Some (y, t') = ap p (text_now s t sound h) ∙ from t t' y k in
+      rw read (inr (y, (t', s.1), refl, record { grows = grows_refl s.1; sound = sound; stands = λ z j w. refl; agree = λ z j w. refl }));
+  full = λ s t g sound h e.
+      let b = option_full (p s.0) (kept s.1) e in
+      let no : kept s.1 b.0 ≡ Full = b.2 in
+      absurd cc;
+}
 
 module _ {A B : Type 0} (c : Things) (R : Things → A → B → Type 0) where
   -- what is read behind the token

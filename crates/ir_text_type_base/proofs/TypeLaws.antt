@@ -6,7 +6,7 @@ use Rattle.std.specs.Str.{bytes_eq}
 use Rattle.std.specs.Char.{is_ascii_digit}
 use Rattle.std.proofs.lemmas.Option.{slice_get_within}
 use Rattle.std.proofs.lemmas.List.Elements.{All-from_recursion}
-use Rattle.ir_text_base.specs.declared.token.Mark.TheVariants.{OpenRound, CloseRound, Arrow}
+use Rattle.ir_text_base.specs.declared.token.Mark.TheVariants.{OpenRound, CloseRound, Less, Greater, Arrow}
 use Rattle.ir_text_base.specs.Numbers.{integer_of}
 use Rattle.ir_text_base.specs.Tokens.{Lexeme, bare, next}
 use Rattle.ir_types.specs.declared.node.Sign.{Sign}
@@ -29,17 +29,21 @@ use Rattle.ir_types.proofs.Terms.{type_term_is}
 use Rattle.ir_types.proofs.CallNumbers.{type_stands, place_in}
 use Rattle.ir_types.proofs.Calls.{no_first}
 use Rattle.ir_types.proofs.AcceptedCalls.{accepted_type, neither_back}
-use Rattle.ir_text_type_base.specs.Outcomes.{Outcome, Read, Full, ◌>>=◌, interned, Parse}
+use Rattle.ir_text_type_base.specs.Outcomes.{Outcome, Read, Wrong, Full, ◌>>=◌, of_option, interned, Parse}
 use Rattle.ir_text_type_base.specs.Typed.{Typed, after_typed, type_step}
-use Rattle.ir_text_type_base.specs.Scalars.{within, width_of, begins_zero, signed_of_word, integer_type_of, scalar_of, index_word}
-use Rattle.ir_text_type_base.specs.TypeReading.{many, type_done, scalar_from, scalar_at, types_at, outputs_from, outputs_at, signature_at, function_at, type_from as type_read_from, type_at, function_type_at}
-use Rattle.ir_text_type_base.specs.Grammars.{Grammar, Then, Done, DoneIf, IsMark, Token}
-use Rattle.ir_text_type_base.specs.TypeGrammar.{terms_of, IsScalar, IsTypes, IsOutputs, IsSignature, IsFunction, IsType, IsFunctionType}
+use Rattle.ir_text_type_base.specs.Scalars.{within, width_of, begins_zero, signed_of_word, integer_type_of, scalar_of, index_word, memref_word}
+use Rattle.ir_text_type_base.specs.ShapeGrammar.{IsShape}
+use Rattle.ir_text_type_base.specs.ShapeReading.{dimensions_at}
+use Rattle.ir_text_type_base.specs.TypeReading.{many, type_done, scalar_from, scalar_at, shape_at, memref_at, word_from, word_type_from, word_type_at, types_at, outputs_from, outputs_at, signature_at, function_at, type_from as type_read_from, type_at, function_type_at}
+use Rattle.ir_text_type_base.specs.Grammars.{Grammar, Then, Done, DoneIf, After, IsMark, Token}
+use Rattle.ir_text_type_base.specs.TypeGrammar.{terms_of, IsScalar, IsMemref, IsWordFrom, IsWordType, IsTypes, IsOutputs, IsSignature, IsFunction, IsType, IsFunctionType}
 use Rattle.ir_text_type_base.specs.Worlds.{From}
 use Rattle.ir_text_type_base.specs.Standing.{TypeStands}
 use Rattle.ir_text_type_base.specs.Laws.{FillsUp, TypesStand, SignatureStands}
-use Rattle.ir_text_type_base.proofs.Worlds.{bind_read, option_read, bind_full, option_full, Exact, Step, Comes, Reads, step_on, reads_on, then_exact, done_exact, after_exact, either_exact, list_exact}
+use Rattle.ir_text_type_base.proofs.Worlds.{bind_read, option_read, bind_full, option_full, Exact, Step, Comes, Reads, step_on, reads_on, exact_spelled, nothing_exact, then_exact, done_exact, after_exact, either_exact, list_exact}
 use Rattle.ir_text_type_base.proofs.TextLaws.{things, Same, text_now, typed_marks}
+use Rattle.ir_text_type_base.proofs.TokenLaws.{text_exact, behind_exact, token_exact}
+use Rattle.ir_text_type_base.proofs.ShapeLaws.{dimensions_only, dimensions_found}
 
 -- ---- a node that is interned
 
@@ -235,6 +239,84 @@ scalar_exact c = record {
       scalar_full s b.0.0 b.0.1 sound b.2;
 }
 
+-- ---- memrefs
+
+-- no dimension is too great
+abbrev IsGoodShape : Grammar (List ℕ) (List (Option ℕ))
+IsGoodShape dims old new = (list_all is_dimension dims ≡ true) × IsShape many dims old new
+
+shape_exact : (c : Things) → Exact things Same c (λ z x y. x ≡ y) shape_at IsGoodShape
+shape_exact c = text_exact c (dimensions_at many []) IsGoodShape found (λ t t' x k. dimensions_only many [] x t t' k.0 k.1.0 k.1.1)
+  where
+    found : (t t' : List ℕ) (x : List (Option ℕ)) → dimensions_at many [] t ≡ Some (x, t') → IsGoodShape x t t'
+    found t t' x e =
+        let f = dimensions_found many [] x t t' e in
+        subst (λ ds. IsGoodShape ds t t') (sym f.1) (f.2, f.3)
+
+dims_fine : (dims : List (Option ℕ)) (elem : TypeTerm) → type_fault (terms.Memref dims elem) ≡ None → list_all is_dimension dims ≡ true
+dims_fine dims elem e = by_case (list_all is_dimension dims) refl e
+  where
+    by_case : (b : Bool) → list_all is_dimension dims ≡ b → first_reason (if b then None else Some BadValue) (depth_reason (type_depth (terms.Memref dims elem))) ≡ None → list_all is_dimension dims ≡ true
+    by_case true h e = h
+    by_case false h e = absurd cc
+
+memref_stands : (z : Things) (dims ds : List (Option ℕ)) (n : ℕ) (y : TypeTerm) → dims ≡ ds → TypeStands z n y → IsNodeOf (node.Memref dims n) (terms.Memref ds y) z
+memref_stands z dims ds n y e h = (h.0, λ i. terms.Memref (e i) (h.1 i))
+
+-- what stands behind the dimensions
+abbrev IsElement : List (Option ℕ) → Grammar (List ℕ) TypeTerm
+IsElement dims = Then IsScalar (λ elem. After IsMark Greater (DoneIf (type_fault (terms.Memref dims elem) ≡ None) (terms.Memref dims elem)))
+
+pub memref_exact : (c : Things) → Exact things Same c TypeStands memref_at IsMemref
+unfolding memref_at IsMemref
+memref_exact c =
+    exact_spelled things Same c TypeStands memref_at (After IsMark Less (Then IsGoodShape IsElement)) IsMemref
+    (λ y t t' k. (k.0, k.1, (k.2.0, k.2.1, k.2.2.1, k.2.3)))
+    (λ y t t' k. (k.0, k.1, (k.2.0, k.2.1, (dims_fine k.2.0 k.2.3.0 k.2.3.3.2.0, k.2.2), k.2.3)))
+    (after_exact things Same after_typed IsMark typed_marks c TypeStands Less _ _
+    (then_exact things Same c (λ z x y. x ≡ y) TypeStands shape_at IsGoodShape _ IsElement (shape_exact c) (λ d dims ds g r.
+    then_exact things Same d TypeStands TypeStands scalar_at IsScalar _ _ (scalar_exact d) (λ e n y h k.
+    after_exact things Same after_typed IsMark typed_marks e TypeStands Greater _ _
+    (type_done_exact e (node.Memref dims n) (terms.Memref ds y) (λ z l w. memref_stands z dims ds n y (r z (grows_trans d e z h l) w) (k z l w)))))))
+
+-- ---- types that begin with a word
+
+-- what the type of a word is, where it has one
+node_exact : (word : List ℕ) (c : Things) (o : Option TypeNode) → scalar_of word ≡ o
+    → Exact things Same c TypeStands (λ s. of_option o >>= λ n. type_done n s) (λ y old new. (n : TypeNode) × (o ≡ Some n) × (y ≡ type_from [] n) × (new ≡ old))
+node_exact word c None e =
+    exact_spelled things Same c TypeStands (λ s. Wrong) (λ y old new. ⊥) (λ y old new. (n : TypeNode) × (None ≡ Some n) × (y ≡ type_from [] n) × (new ≡ old))
+    (λ y t t' k. absurd k) (λ y t t' k. let no : None ≡ Some k.0 = k.1 in absurd cc) (nothing_exact things Same c TypeStands)
+node_exact word c (Some v) e =
+    let w = scalar_word word v e in
+    exact_spelled things Same c TypeStands (type_done v) (DoneIf (type_fault (type_from [] v) ≡ None) (type_from [] v)) (λ y old new. (n : TypeNode) × (Some v ≡ Some n) × (y ≡ type_from [] n) × (new ≡ old))
+    (λ y t t' k. (v, refl, k.1, k.2)) (λ y t t' k. let same : v ≡ k.0 = cc (k.1) in (word_fine v w, k.2 ∙ ap (type_from []) (sym same), k.3))
+    (type_done_exact c v (type_from [] v) (λ z g k. word_stands v z w))
+
+word_exact : (b : Bool) (word : List ℕ) (c : Things) → Exact things Same c TypeStands (word_from b word) (IsWordFrom b word)
+word_exact true word c = memref_exact c
+word_exact false word c = node_exact word c (scalar_of word) refl
+
+-- a word and what stands behind it
+abbrev IsBehind : Lexeme → List ℕ → Grammar (List ℕ) TypeTerm
+IsBehind (bare word) rest y old new = IsWordFrom (bytes_eq word memref_word) word y rest new
+IsBehind _ rest y old new = ⊥
+
+behind_word : (c : Things) (l : Lexeme) (rest : List ℕ) → Exact things Same c TypeStands (λ s. word_type_from s.1 l rest) (IsBehind l rest)
+behind_word c (bare word) rest = behind_exact c TypeStands rest (word_from (bytes_eq word memref_word) word) (IsWordFrom (bytes_eq word memref_word) word) (word_exact (bytes_eq word memref_word) word c)
+behind_word c _ rest = nothing_exact things Same c TypeStands
+
+pub word_type_exact : (c : Things) → Exact things Same c TypeStands word_type_at IsWordType
+unfolding word_type_at
+word_type_exact c =
+    exact_spelled things Same c TypeStands word_type_at (λ y old new. (l : Lexeme) × (rest : List ℕ) × Token l old rest × IsBehind l rest y old new) IsWordType
+    (λ y t t' k. into k.0 k.1 y t t' k.2 k.3) (λ y t t' k. (bare k.0, k.1, k.2, k.3))
+    (token_exact c TypeStands (λ s l rest. word_type_from s.1 l rest) IsBehind (behind_word c))
+  where
+    into : (l : Lexeme) (rest : List ℕ) (y : TypeTerm) (t t' : List ℕ) → Token l t rest → IsBehind l rest y t t' → IsWordType y t t'
+    into (bare word) rest y t t' token k = (word, rest, token, k)
+    into _ rest y t t' token k = absurd k
+
 -- ---- types in parentheses
 
 each_below : (z : Things) (xs : List ℕ) (ys : List TypeTerm) → TypesStand z xs ys → AllByRecursion (λ t. t < length z.types) xs
@@ -287,8 +369,8 @@ pub type_exact : (depth : ℕ) (c : Things) → Exact things Same c TypeStands (
 unfolding type_at IsType
 type_exact zero c = record { found = λ s t x s' g sound h e. absurd cc; only = λ s t y t' g sound h k. absurd k; full = λ s t g sound h e. absurd cc }
 type_exact (suc depth) c =
-    either_exact things Same after_typed IsMark typed_marks c TypeStands OpenRound (type_read_from (type_at depth)) (function_at (type_at depth)) scalar_at (IsFunction (IsType depth)) IsScalar
-    (λ s mid. refl) (λ s. refl) (function_exact (type_at depth) (IsType depth) (type_exact depth) c) (scalar_exact c)
+    either_exact things Same after_typed IsMark typed_marks c TypeStands OpenRound (type_read_from (type_at depth)) (function_at (type_at depth)) word_type_at (IsFunction (IsType depth)) IsWordType
+    (λ s mid. refl) (λ s. refl) (function_exact (type_at depth) (IsType depth) (type_exact depth) c) (word_type_exact c)
 
 pub function_type_exact : (c : Things) → Exact things Same c SignatureStands function_type_at IsFunctionType
 unfolding function_type_at IsFunctionType

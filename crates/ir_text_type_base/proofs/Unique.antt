@@ -1,15 +1,18 @@
 -- Grammars by which a text has one reading.
-use Rattle.std.proofs.Common.{◌≡◌, ℕ, zero, suc, List, [], ◌∷◌, ◌++◌, Some, None, sym, ap, subst, ◌∙◌, ◌⊎◌, inl, inr}
+use Rattle.std.proofs.Common.{◌≡◌, ℕ, zero, suc, Bool, true, false, List, [], ◌∷◌, ◌++◌, Some, None, sym, ap, subst, ◌∙◌, ◌⊎◌, inl, inr}
+use Rattle.std.specs.Str.{bytes_eq}
 use Rattle.std.proofs.lemmas.Option.{some_pair_parts}
 use Rattle.ir_text_base.specs.declared.token.Mark.{Mark}
-use Rattle.ir_text_base.specs.declared.token.Mark.TheVariants.{OpenRound, CloseRound, Arrow, Comma}
+use Rattle.ir_text_base.specs.declared.token.Mark.TheVariants.{OpenRound, CloseRound, Less, Greater, Arrow, Comma}
 use Rattle.ir_text_base.specs.Tokens.{Lexeme, mark, bare}
-use Rattle.ir_types.specs.Terms.{TypeTerm, Function, type_from}
+use Rattle.ir_types.specs.Terms.{TypeTerm, Function, Memref, type_from}
 use Rattle.ir_types.specs.Reasons.{type_fault}
-use Rattle.ir_text_type_base.specs.Scalars.{scalar_of}
+use Rattle.ir_text_type_base.specs.Scalars.{scalar_of, memref_word}
+use Rattle.ir_text_type_base.specs.ShapeGrammar.{IsShape}
 use Rattle.ir_text_type_base.specs.TypeReading.{many}
 use Rattle.ir_text_type_base.specs.Grammars.{Grammar, Then, Done, DoneIf, After, Not, Either, IsMore, IsList, Token, IsMark}
-use Rattle.ir_text_type_base.specs.TypeGrammar.{terms_of, IsScalar, IsTypes, IsOutputs, IsSignature, IsFunction, IsType, IsFunctionType}
+use Rattle.ir_text_type_base.specs.TypeGrammar.{terms_of, IsScalar, IsMemref, IsWordFrom, IsWordType, IsTypes, IsOutputs, IsSignature, IsFunction, IsType, IsFunctionType}
+use Rattle.ir_text_type_base.proofs.ShapeLaws.{dimensions_one}
 
 module _ {T : Type 0} where
   -- what is spelled from a state is one, and so is what is left
@@ -87,6 +90,29 @@ scalar_one t y y' n n' k l =
     let node : k.1 ≡ l.1 = cc (some) in
     (k.4 ∙ ap (type_from []) node ∙ sym l.4, e.1)
 
+shape_one : (room : ℕ) → IsOne (IsShape room)
+shape_one room t y y' n n' k l = dimensions_one y y' t n n' k.1 l.1
+
+memref_one : IsOne IsMemref
+unfolding IsMemref
+memref_one =
+    after_one IsMark mark_one Less _ (then_one (IsShape many) _ (shape_one many) (λ dims. then_one IsScalar _ scalar_one (λ elem.
+    after_one IsMark mark_one Greater _ (done_if_one (type_fault (Memref dims elem) ≡ None) (Memref dims elem)))))
+
+word_one : (b : Bool) (word : List ℕ) → IsOne (IsWordFrom b word)
+word_one true word = memref_one
+word_one false word = λ t y y' n n' k l.
+    let some : Some k.0 ≡ Some l.0 = sym k.1 ∙ l.1 in
+    let node : k.0 ≡ l.0 = cc (some) in
+    (k.2 ∙ ap (type_from []) node ∙ sym l.2, k.3 ∙ sym l.3)
+
+word_type_one : IsOne IsWordType
+word_type_one t y y' n n' k l =
+    let e = token_one (bare k.0) (bare l.0) t k.1 l.1 k.2 l.2 in
+    let word : l.0 ≡ k.0 = cc (e.0) in
+    let same = subst (λ w. IsWordFrom (bytes_eq w memref_word) w y' l.1 n') word l.3 in
+    word_one (bytes_eq k.0 memref_word) k.0 k.1 y y' n n' k.3 (subst (λ rest. IsWordFrom (bytes_eq k.0 memref_word) k.0 y' rest n') (sym e.1) same)
+
 module _ (P : Grammar (List ℕ) TypeTerm) (item : IsOne P) where
   types_one : (room : ℕ) → IsOne (IsTypes P room)
   unfolding IsTypes
@@ -107,7 +133,7 @@ module _ (P : Grammar (List ℕ) TypeTerm) (item : IsOne P) where
 pub type_one : (depth : ℕ) → IsOne (IsType depth)
 unfolding IsType
 type_one zero t y y' n n' k l = absurd k
-type_one (suc depth) t y y' n n' k l = either_one IsMark mark_one OpenRound (IsFunction (IsType depth)) IsScalar (function_one (IsType depth) (type_one depth)) scalar_one t y y' n n' k l
+type_one (suc depth) t y y' n n' k l = either_one IsMark mark_one OpenRound (IsFunction (IsType depth)) IsWordType (function_one (IsType depth) (type_one depth)) word_type_one t y y' n n' k l
 
 pub function_type_one : IsOne IsFunctionType
 unfolding IsFunctionType

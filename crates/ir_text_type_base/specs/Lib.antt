@@ -6,6 +6,8 @@ pub mod Grammars
 pub mod Worlds
 pub mod Typed
 pub mod Scalars
+pub mod ShapeGrammar
+pub mod ShapeReading
 pub mod TypeReading
 pub mod TypeGrammar
 pub mod Standing

@@ -1,4 +1,4 @@
--- The types that are one word. Builtin Dialect, "Types".
+-- The types that are one word, and the word of memrefs. Builtin Dialect, "Types".
 use Rattle.std.specs.Prelude.{ℕ, Bool, true, not, ◌&&◌, ◌==◌, if◌then◌else◌, List, [], ◌∷◌, codes, Option, Some, None, option_map}
 use Rattle.std.specs.List.{list_all}
 use Rattle.std.specs.Str.{bytes_eq}
@@ -39,3 +39,7 @@ index_word = codes "index"
 -- the type that a word is
 unfoldable pub scalar_of : List ℕ → Option TypeNode
 scalar_of word = if bytes_eq word index_word then Some Index else integer_type_of word
+
+-- the word in front of a memref's dimensions and element
+abbrev pub memref_word : List ℕ
+memref_word = codes "memref"

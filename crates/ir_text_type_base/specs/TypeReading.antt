@@ -1,14 +1,16 @@
 -- Reading types into numbers of a context.
-use Rattle.std.specs.Prelude.{ℕ, zero, suc, List, [], ◌∷◌, Option, Some, None}
-use Rattle.ir_text_base.specs.declared.token.Mark.TheVariants.{OpenRound, CloseRound, Arrow}
+use Rattle.std.specs.Prelude.{ℕ, zero, suc, Bool, true, false, List, [], ◌∷◌, Option, Some, None}
+use Rattle.std.specs.Str.{bytes_eq}
+use Rattle.ir_text_base.specs.declared.token.Mark.TheVariants.{OpenRound, CloseRound, Less, Greater, Arrow}
 use Rattle.ir_text_base.specs.Tokens.{Lexeme, bare, next}
 use Rattle.ir_types.specs.declared.node.TypeNode.{TypeNode}
-use Rattle.ir_types.specs.declared.node.TypeNode.TheVariants.{Func}
+use Rattle.ir_types.specs.declared.node.TypeNode.TheVariants.{Func, Memref}
 use Rattle.ir_types.specs.Things.{Things}
 use Rattle.ir_text_type_base.specs.Outcomes.{Outcome, Read, Wrong, ◌>>=◌, of_option, Parse}
 use Rattle.ir_text_type_base.specs.Lists.{list_at}
 use Rattle.ir_text_type_base.specs.Typed.{Typed, after_typed, type_step}
-use Rattle.ir_text_type_base.specs.Scalars.{scalar_of}
+use Rattle.ir_text_type_base.specs.Scalars.{scalar_of, memref_word}
+use Rattle.ir_text_type_base.specs.ShapeReading.{dimensions_at}
 
 -- the most items of a list that has no limit of its own: no text has more
 abbrev pub many : ℕ
@@ -20,12 +22,42 @@ type_done node s = do
   n ← type_step node s.1
   Read (n.0, (s.0, n.1))
 
+-- the integer type or index that a word is, behind the word
+abbrev pub scalar_done : List ℕ → Parse Typed ℕ
+scalar_done word s = of_option (scalar_of word) >>= λ node. type_done node s
+
 abbrev pub scalar_from : Things → Lexeme → List ℕ → Outcome (ℕ × Typed)
-scalar_from c (bare word) rest = of_option (scalar_of word) >>= λ node. type_done node (rest, c)
+scalar_from c (bare word) rest = scalar_done word (rest, c)
 scalar_from c _ rest = Wrong
 
 unfoldable pub scalar_at : Parse Typed ℕ
 scalar_at s = of_option (next s.0) >>= λ t. scalar_from s.1 t.0 t.1
+
+-- dimensions
+abbrev pub shape_at : Parse Typed (List (Option ℕ))
+shape_at s = of_option (dimensions_at many [] s.0) >>= λ x. Read (x.0, (x.1, s.1))
+
+-- a memref behind its word
+unfoldable pub memref_at : Parse Typed ℕ
+memref_at s = do
+  a ← of_option (after_typed Less s)
+  dims ← shape_at a
+  elem ← scalar_at dims.1
+  c ← of_option (after_typed Greater elem.1)
+  type_done (Memref dims.0 elem.0) c
+
+-- a memref, an integer type or index, behind its word
+abbrev pub word_from : Bool → List ℕ → Parse Typed ℕ
+word_from true word s = memref_at s
+word_from false word s = scalar_done word s
+
+abbrev pub word_type_from : Things → Lexeme → List ℕ → Outcome (ℕ × Typed)
+word_type_from c (bare word) rest = word_from (bytes_eq word memref_word) word (rest, c)
+word_type_from c _ rest = Wrong
+
+-- a type that begins with a word
+unfoldable pub word_type_at : Parse Typed ℕ
+word_type_at s = of_option (next s.0) >>= λ t. word_type_from s.1 t.0 t.1
 
 module _ (p : Parse Typed ℕ) where
   -- types up to a closing parenthesis, at most so many
@@ -55,7 +87,7 @@ module _ (p : Parse Typed ℕ) where
 
 abbrev pub type_from : Parse Typed ℕ → Typed → Option Typed → Outcome (ℕ × Typed)
 type_from p s (Some c) = function_at p c
-type_from p s None = scalar_at s
+type_from p s None = word_type_at s
 
 -- a type of at most that depth
 unfoldable pub type_at : ℕ → Parse Typed ℕ

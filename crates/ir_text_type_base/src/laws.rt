@@ -33,4 +33,3 @@ pub fn types_have_one_reading()
     ensures ty { (depth : ℕ) (bytes rest other : List ℕ) (y z : TypeTerm) → IsType depth y bytes rest → IsType depth z bytes other → (y ≡ z) × (rest ≡ other) }
     ensures function { (bytes rest other : List ℕ) (y z : List TypeTerm × List TypeTerm) → IsFunctionType y bytes rest → IsFunctionType z bytes other → (y ≡ z) × (rest ≡ other) }
 {}
-

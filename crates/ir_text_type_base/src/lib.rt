@@ -5,5 +5,6 @@
 pub mod error;
 pub mod laws;
 mod scalars;
+mod shapes;
 pub mod steps;
 pub mod types;

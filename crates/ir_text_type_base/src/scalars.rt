@@ -1,9 +1,10 @@
-//! The types that are one word.
+//! The types that are one word, and the word of memrefs.
 ghost use Rattle.std.specs.Prelude.{◌≡◌, IfSome, option_map};
 ghost use Rattle.std.specs.List.{list_all};
 ghost use Rattle.std.specs.Char.{is_ascii_digit};
+ghost use Rattle.std.specs.Str.{bytes_eq};
 ghost use Rattle.ir_types.specs.Things.{Things, TypeIsOf};
-ghost use Rattle.ir_text_type_base.specs.Scalars.{width_of, scalar_of, within, begins_zero};
+ghost use Rattle.ir_text_type_base.specs.Scalars.{width_of, scalar_of, within, begins_zero, memref_word};
 
 use ir_text_base::numbers::integer_value;
 use ir_types::node::{Sign, TypeNode};
@@ -68,4 +69,11 @@ pub fn scalar_of(word: &[u8]) -> Option<TypeNode>
         [b'u', b'i', digits @ ..] => integer_type(Sign::Unsigned, digits),
         _ => None,
     }
+}
+
+/// Whether a word is `memref`.
+pub fn is_memref(word: &[u8]) -> bool
+    ensures { result ≡ bytes_eq word.now memref_word }
+{
+    word == b"memref".as_slice()
 }

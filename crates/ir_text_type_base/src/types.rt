@@ -2,12 +2,15 @@
 ghost use Rattle.std.specs.Prelude.{◌≡◌, ◌∷◌, [], IfOk, option_map};
 ghost use Rattle.std.specs.List.{All};
 ghost use Rattle.ir_types.specs.Things.{Things, IsType, TypeIsOf, Grows};
+ghost use Rattle.ir_text_base.specs.declared.token.Mark.TheVariants.{Greater};
 ghost use Rattle.ir_text_base.specs.Tokens.{lexeme_of};
-ghost use Rattle.ir_text_type_base.specs.Outcomes.{Gives};
-ghost use Rattle.ir_text_type_base.specs.TypeReading.{type_done, scalar_at, types_at, outputs_at, signature_at, function_at, type_at, function_type_at, many};
+ghost use Rattle.ir_text_type_base.specs.Outcomes.{Gives, of_option};
+ghost use Rattle.ir_text_type_base.specs.Marks.{after};
+ghost use Rattle.ir_text_type_base.specs.TypeReading.{type_done, scalar_done, scalar_at, memref_at, word_type_at, types_at, outputs_at, signature_at, function_at, type_at, function_type_at, many};
 
 use crate::error::{ReadError, wrong};
-use crate::scalars::scalar_of;
+use crate::scalars::{is_memref, scalar_of};
+use crate::shapes::dimensions;
 use crate::steps::{self, after, expect, token};
 use ir_text_base::token::{Mark, Token};
 use ir_types::context::Context;
@@ -37,17 +40,94 @@ pub fn kept<'a>(
     Ok((id, rest))
 }
 
-/// A type that is one word.
+/// The integer type or index that a word is, which stands at `start`.
+fn scalar<'a>(
+    ctx: &mut Context,
+    word: &[u8],
+    start: &[u8],
+    rest: &'a [u8],
+) -> Result<(TypeId, &'a [u8]), ReadError>
+    ensures { Gives (λ x. (x.0, (x.1.now, ctx.new))) result (scalar_done word.now (rest.now, ctx.old)) }
+{
+    match scalar_of(word) {
+        Some(node) => kept(ctx, node, rest),
+        None => Err(ReadError::Refused(wrong(word_refusal(word), start))),
+    }
+}
+
+/// The element of a memref: a type that is one word.
+///
+/// Refusals: `BadWidth`; `LeftOut` where another type begins, or a `*`; else `Unexpected`.
 #[tactic(auto, unfolding(crate::specs::TypeReading::scalar_at))]
-fn scalar<'a>(ctx: &mut Context, bytes: &'a [u8]) -> Result<(TypeId, &'a [u8]), ReadError>
+fn element<'a>(ctx: &mut Context, bytes: &'a [u8]) -> Result<(TypeId, &'a [u8]), ReadError>
     ensures reads { Gives (λ x. (x.0, (x.1.now, ctx.new))) result (scalar_at (bytes.now, ctx.old)) }
 {
     let (found, rest) = token(bytes)?;
     match found {
-        Token::Bare(word) => match scalar_of(word) {
-            Some(node) => kept(ctx, node, rest),
-            None => Err(ReadError::Refused(wrong(word_refusal(word), bytes))),
-        },
+        Token::Bare(word) => scalar(ctx, word, bytes, rest),
+        _ => Err(ReadError::Refused(wrong(element_refusal(&found), bytes))),
+    }
+}
+
+/// What follows the closing mark of a memref, or `LeftOut` where a layout or memory space stands.
+fn closed(bytes: &[u8]) -> Result<&[u8], ReadError>
+    ensures { Gives (λ r. r.now) result (of_option (after Greater bytes.now)) }
+{
+    match after(bytes, Mark::Greater) {
+        Some(rest) => Ok(rest),
+        None => Err(ReadError::Refused(wrong(closing_refusal(bytes), bytes))),
+    }
+}
+
+/// A memref behind its word: dimensions and an element in angle brackets (Builtin Dialect,
+/// "MemRefType").
+///
+/// Refusals: `Unexpected`; `BadValue` at a dimension that is too great; those of the element;
+/// `LeftOut` at a comma behind it.
+#[tactic(auto, unfolding(crate::specs::TypeReading::memref_at))]
+fn memref<'a>(
+    alloc: Global,
+    ctx: &mut Context,
+    bytes: &'a [u8],
+) -> Result<(TypeId, &'a [u8]), ReadError>
+    ensures { Gives (λ x. (x.0, (x.1.now, ctx.new))) result (memref_at (bytes.now, ctx.old)) }
+{
+    ctx.sound();
+    let rest = expect(bytes, Mark::Less)?;
+    let (dims, rest) = match dimensions(alloc, rest) {
+        Ok(found) => found,
+        Err(e) => return Err(e),
+    };
+    let (elem, rest) = match element(ctx, rest) {
+        Ok(found) => found,
+        Err(e) => return Err(e),
+    };
+    let rest = closed(rest)?;
+    let node = TypeNode::Memref {
+        dims: Items::new(dims),
+        elem,
+    };
+    kept(ctx, node, rest)
+}
+
+/// A type that begins with a word: a memref, an integer type or index.
+#[tactic(auto, unfolding(crate::specs::TypeReading::word_type_at))]
+fn word_type<'a>(
+    alloc: Global,
+    ctx: &mut Context,
+    bytes: &'a [u8],
+) -> Result<(TypeId, &'a [u8]), ReadError>
+    ensures { Gives (λ x. (x.0, (x.1.now, ctx.new))) result (word_type_at (bytes.now, ctx.old)) }
+{
+    let (found, rest) = token(bytes)?;
+    match found {
+        Token::Bare(word) => {
+            if is_memref(word) {
+                memref(alloc, ctx, rest)
+            } else {
+                scalar(ctx, word, bytes, rest)
+            }
+        }
         _ => Err(ReadError::Refused(wrong(token_refusal(&found), bytes))),
     }
 }
@@ -75,6 +155,23 @@ pub fn token_refusal(found: &Token<'_>) -> Refusal {
         Token::Hash(_) => Refusal::LeftOut,
         Token::Float(_) => Refusal::LeftOut,
         _ => Refusal::Unexpected,
+    }
+}
+
+/// Why a token is no memref's element.
+fn element_refusal(found: &Token<'_>) -> Refusal {
+    match found {
+        Token::Mark(Mark::OpenRound) => Refusal::LeftOut,
+        Token::Mark(Mark::Star) => Refusal::LeftOut,
+        _ => token_refusal(found),
+    }
+}
+
+/// Why a memref isn't closed behind its element.
+fn closing_refusal(bytes: &[u8]) -> Refusal {
+    match after(bytes, Mark::Comma) {
+        Some(_) => Refusal::LeftOut,
+        None => Refusal::Unexpected,
     }
 }
 
@@ -190,7 +287,8 @@ fn function<'a>(
 /// A type of at most that depth. It is interned, and so are its parts.
 ///
 /// Refusals, each at the first byte of its token: what the lexer refuses; `Unexpected`; `LeftOut` for
-/// a type that is left out; `BadWidth`; `TooDeep` at the part that is too deep.
+/// a type that is left out; `BadWidth`; `BadValue` at a dimension above 9,223,372,036,854,775,807;
+/// `TooDeep` at the part that is too deep.
 #[cycle(types)]
 #[tactic(auto, unfolding(crate::specs::TypeReading::type_at))]
 pub fn ty<'a>(
@@ -206,7 +304,7 @@ pub fn ty<'a>(
     }
     match after(bytes, Mark::OpenRound) {
         Some(rest) => function(alloc, ctx, rest, depth - 1),
-        None => scalar(ctx, bytes),
+        None => word_type(alloc, ctx, bytes),
     }
 }
 
