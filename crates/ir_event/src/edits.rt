@@ -74,6 +74,21 @@ impl World {
         Ok(World { ctx, store })
     }
 
+    /// The same world of a tree that is handed over.
+    ///
+    /// Refusals: `UnknownValue`, `TooDeep`, `TooMany` in this order; `Memory`.
+    pub fn hold(alloc: Global, ctx: Context, tree: TreeOp, next: u32) -> Result<World, Refusal>
+        requires sound { IsSoundIn ctx tree }
+        requires distinct { HasDistinctIds tree }
+        requires below { All (λ x. x < next) (ids tree) }
+        ensures ctx { IfOk result (λ w. w.ctx ≡ ctx) }
+        ensures store { IfOk result (λ w. w.store ≡ record { tree = tree; next = next }) }
+        ensures refused { IfErr result (λ e. (e ≡ Refusal.Memory) ⊎ (fault (isolated_in ctx) tree ≡ Some e)) }
+    {
+        let store = Store::hold(alloc, &ctx, tree, next)?;
+        Ok(World { ctx, store })
+    }
+
     /// Makes a value an operand of an operation, in place of the one that was there, and gives the event.
     ///
     /// Refusals: `NoSuchOp`; `NoSuchIndex` where it has no such operand; `NoSuchValue`; `NotVisible` where

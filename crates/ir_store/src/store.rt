@@ -61,6 +61,32 @@ impl Store {
         Ok(Store { alloc, root, next })
     }
 
+    /// The same module of a tree that is handed over.
+    ///
+    /// Refusals: `UnknownValue`, `TooDeep`, `TooMany` in this order; `Memory`.
+    pub fn hold(alloc: Global, ctx: &Context, tree: TreeOp, next: u32) -> Result<Store, Refusal>
+        requires sound { IsSoundIn ctx.now tree }
+        requires distinct { HasDistinctIds tree }
+        requires below { All (λ x. x < next) (ids tree) }
+        ensures ok { IfOk result (λ s. s ≡ record { tree = tree; next = next }) }
+        ensures held { IfOk result (λ s. IsWellFormed (isolated_in ctx.now) s) }
+        ensures refused { IfErr result (λ e. (e ≡ Refusal.Memory) ⊎ (fault (isolated_in ctx.now) tree ≡ Some e)) }
+    {
+        check(alloc, ctx, &tree)?;
+        Ok(Store {
+            alloc,
+            root: tree,
+            next,
+        })
+    }
+
+    /// A look at the tree of the module.
+    pub fn root(&self) -> &TreeOp
+        ensures { result.now ≡ self.now.tree }
+    {
+        &self.root
+    }
+
     /// The tree of the module.
     pub fn tree(&self) -> Result<TreeOp, AllocError>
         ensures { IfOk result (λ t. t ≡ self.now.tree) }

@@ -43,10 +43,7 @@ impl Uses {
 fn table_in(alloc: Global, world: &World) -> Result<BTreeSet<Key>, Memory>
     ensures { IfOk result (λ t. t.keys ≡ keys_of (uses_of world.now.store.tree)) }
 {
-    let Ok(tree) = world.store.tree() else {
-        return Err(Memory);
-    };
-    let Ok(uses) = collect(alloc, &tree) else {
+    let Ok(uses) = collect(alloc, world.store.root()) else {
         return Err(Memory);
     };
     table_of(alloc, &uses)

@@ -84,15 +84,15 @@ fn count(alloc: Global, tree: &TreeOp) -> Option<u32>
 }
 
 /// The world of a tree that was read, or none where there is no memory.
-fn load(alloc: Global, ctx: Context, tree: &TreeOp) -> Option<World>
-    requires sound { IsSoundIn ctx tree.now }
-    requires numbered { IsNumberedFrom 0 tree.now }
-    ensures { IfSome result (λ w. module_in w ≡ record { tree = meaning ctx tree.now; next = op_count tree.now }) }
+fn hold(alloc: Global, ctx: Context, tree: TreeOp) -> Option<World>
+    requires sound { IsSoundIn ctx tree }
+    requires numbered { IsNumberedFrom 0 tree }
+    ensures { IfSome result (λ w. module_in w ≡ record { tree = meaning ctx tree; next = op_count tree }) }
 {
-    let Some(next) = count(alloc, tree) else {
+    let Some(next) = count(alloc, &tree) else {
         return None;
     };
-    match World::load(alloc, ctx, tree, next) {
+    match World::hold(alloc, ctx, tree, next) {
         Ok(world) => Some(world),
         Err(_) => None,
     }
@@ -121,7 +121,7 @@ fn world_of(alloc: Global, text: &[u8]) -> Result<World, Unread>
         Ok(tree) => tree,
         Err(unread) => return Err(unread),
     };
-    let Some(world) = load(alloc, ctx, &tree) else {
+    let Some(world) = hold(alloc, ctx, tree) else {
         return Err(no_memory());
     };
     Ok(world)
