@@ -1,3 +1,10 @@
 pub mod Suffixes
 pub mod UniqueAttributes
+pub mod NodeLaws
+pub mod LeafLaws
+pub mod SymbolLaws
+pub mod PartSteps
+pub mod MarkSteps
+pub mod DenseLaws
+pub mod PartLaws
 pub mod AttrLaws

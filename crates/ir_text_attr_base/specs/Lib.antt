@@ -1,3 +1,4 @@
 pub mod Literals
+pub mod Elements
 pub mod AttrReading
 pub mod AttrGrammar

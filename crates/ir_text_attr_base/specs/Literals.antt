@@ -11,6 +11,7 @@ use Rattle.ir_text_attr_base.specs.declared.flag.Flag.TheVariants.{NoSignedWrap,
 pub data Word : Type 0 where
   Truth : Bool → Word
   UnitWord : Word
+  ArrayWord : Word
   TypeWord : Word
 
 abbrev pub true_word : List ℕ
@@ -22,11 +23,15 @@ false_word = codes "false"
 abbrev pub unit_word : List ℕ
 unit_word = codes "unit"
 
+abbrev pub array_word : List ℕ
+array_word = codes "array"
+
 abbrev pub word_of : List ℕ → Word
 word_of w =
     if bytes_eq w true_word then Truth true
     else if bytes_eq w false_word then Truth false
     else if bytes_eq w unit_word then UnitWord
+    else if bytes_eq w array_word then ArrayWord
     else TypeWord
 
 -- the number of a truth value, which is a signed integer of one bit

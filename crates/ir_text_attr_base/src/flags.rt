@@ -5,11 +5,11 @@ ghost use Rattle.ir_text_type_base.specs.Outcomes.{Gives};
 ghost use Rattle.ir_text_attr_base.specs.Literals.{flag_of, is_nsw, is_nuw, has_nsw, has_nuw};
 ghost use Rattle.ir_text_attr_base.specs.AttrReading.{flag_at, some_flags_at, no_flags_at, flags_at};
 
-use ir_text_type_base::error::{ReadError, wrong};
 use crate::flag::Flag;
+use ir_text_base::token::{Mark, Token};
+use ir_text_type_base::error::{ReadError, wrong};
 use ir_text_type_base::steps::{after, expect, token};
 use ir_text_type_base::types::MANY;
-use ir_text_base::token::{Mark, Token};
 use ir_types::refusal::Refusal;
 use std::alloc::Global;
 

@@ -10,12 +10,12 @@ ghost use Rattle.ir_text_attr_base.specs.Literals.{signed_number, value_of};
 ghost use Rattle.ir_text_attr_base.specs.AttrReading.{suffix_at, literal_done, literal_at, negative_at};
 
 use crate::attributes::kept;
-use ir_text_type_base::error::{ReadError, wrong};
-use ir_text_type_base::steps::{after, token};
-use ir_text_type_base::types::{self, MOST_DEPTH, ty};
 use ir_text_base::fault::Fault;
 use ir_text_base::numbers::integer_value;
 use ir_text_base::token::{Mark, Token};
+use ir_text_type_base::error::{ReadError, wrong};
+use ir_text_type_base::steps::{after, token};
+use ir_text_type_base::types::{self, MOST_DEPTH, ty};
 use ir_types::context::Context;
 use ir_types::ids::{AttrId, TypeId};
 use ir_types::node::{AttrNode, Sign, TypeNode};
@@ -44,7 +44,7 @@ fn suffix<'a>(
 }
 
 /// A magnitude of at most 64 bits with its sign.
-fn signed_number(negative: bool, magnitude: u64) -> i128
+pub(crate) fn signed_number(negative: bool, magnitude: u64) -> i128
     ensures { result ≡ signed_number negative magnitude }
 {
     if negative {
@@ -55,7 +55,7 @@ fn signed_number(negative: bool, magnitude: u64) -> i128
 }
 
 /// The number as it is printed of a signless type: from 2^(w-1) on, 2^w is taken off.
-fn as_signed(width: u32, value: i128) -> i128
+pub(crate) fn as_signed(width: u32, value: i128) -> i128
     requires low { 1 ≤ width }
     requires high { width ≤ 64 }
     ensures { result ≡ value_of (Integer Signless width) value }

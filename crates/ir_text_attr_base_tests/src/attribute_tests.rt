@@ -1,7 +1,8 @@
 //! Attributes with their readings, and texts with their refusals.
 use ir_text_attr_base::attributes::attr;
-use ir_text_type_base::error::ReadError;
 use ir_text_base::fault::Fault;
+use ir_text_type_base::error::ReadError;
+use ir_text_type_base::types::MOST_DEPTH;
 use ir_types::context::Context;
 use ir_types::refusal::Refusal;
 use std::alloc::Global;
@@ -11,7 +12,7 @@ fn left(alloc: Global, text: &[u8]) -> Option<usize> {
     let Ok(mut ctx) = Context::new(alloc) else {
         return None;
     };
-    match attr(alloc, &mut ctx, text) {
+    match attr(alloc, &mut ctx, text, MOST_DEPTH) {
         Ok((_, rest)) => Some(rest.len()),
         Err(_) => None,
     }
@@ -22,10 +23,10 @@ fn is_same(alloc: Global, first: &[u8], second: &[u8]) -> bool {
     let Ok(mut ctx) = Context::new(alloc) else {
         return false;
     };
-    let Ok((a, _)) = attr(alloc, &mut ctx, first) else {
+    let Ok((a, _)) = attr(alloc, &mut ctx, first, MOST_DEPTH) else {
         return false;
     };
-    match attr(alloc, &mut ctx, second) {
+    match attr(alloc, &mut ctx, second, MOST_DEPTH) {
         Ok((b, _)) => a == b,
         Err(_) => false,
     }
@@ -35,7 +36,7 @@ fn fault_of(alloc: Global, text: &[u8]) -> Option<Fault> {
     let Ok(mut ctx) = Context::new(alloc) else {
         return None;
     };
-    match attr(alloc, &mut ctx, text) {
+    match attr(alloc, &mut ctx, text, MOST_DEPTH) {
         Err(ReadError::Refused(fault)) => Some(fault),
         _ => None,
     }
@@ -158,19 +159,6 @@ fn a_minus_wants_an_integer(rt: HostRuntime) {
     let alloc = rt.alloc();
     assert!(rt; is_refused(alloc, b"- 1.5".as_slice(), Refusal::LeftOut, 2));
     assert!(rt; is_refused(alloc, b"-true".as_slice(), Refusal::Unexpected, 1));
-}
-
-#[test]
-fn other_attributes_are_left_out(rt: HostRuntime) {
-    let alloc = rt.alloc();
-    for text in [
-        b"[".as_slice(),
-        b"{".as_slice(),
-        b"@a".as_slice(),
-        b"array".as_slice(),
-    ] {
-        assert!(rt; is_refused(alloc, text, Refusal::LeftOut, 0));
-    }
 }
 
 #[test]

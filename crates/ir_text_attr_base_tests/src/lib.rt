@@ -3,3 +3,5 @@
 
 #[cfg(test)]
 mod attribute_tests;
+#[cfg(test)]
+mod part_tests;

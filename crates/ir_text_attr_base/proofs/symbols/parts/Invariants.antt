@@ -1,0 +1,10 @@
+use Rattle.std.proofs.Common.{◌≡◌, ◌-◌, [], length}
+use Rattle.ir_text_type_base.specs.TypeReading.{many}
+use Rattle.ir_text_attr_base.specs.AttrReading.{parts_at}
+use Rattle.ir_text_attr_base.proofs.symbols.parts.Given as goal
+
+abbrev pub invariant-items : goal.invariant-items
+invariant-items l = record {
+  reads : parts_at (many - l.counter) l.items.items (l.rest, l.ctx) ≡ parts_at many [] (l.bytes, l.fn.ctx);
+  count : length l.items.items ≡ l.counter;
+}
