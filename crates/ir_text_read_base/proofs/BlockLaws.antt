@@ -34,7 +34,7 @@ use Rattle.ir_text_read_base.specs.States.{State, to_bytes, after_in, typed, wit
 use Rattle.ir_text_read_base.specs.FrontReading.{Text, name_at}
 use Rattle.ir_text_read_base.specs.Made.{region_of}
 use Rattle.ir_text_read_base.specs.OpReading.{bind, arg_named, arg_at, args_at, label_args_from, label_args_at, head_from, head_at, ops_from, ops_at, region_at, regions_from, regions_at}
-use Rattle.ir_text_read_base.specs.Seen.{BoundTerm, Seen, seen_scopes, seen_inside, seen_outside, IsMarkSeen, InText, IsBound}
+use Rattle.ir_text_read_base.specs.Seen.{PackTerm, Seen, seen_scopes, seen_inside, seen_outside, IsMarkSeen, InText, IsBound}
 use Rattle.ir_text_read_base.specs.OpGrammar.{IsName, IsArg, IsLabelArgs, IsHeadFrom, IsHead, IsOps, RegionTerm, IsRegion, IsRegions}
 use Rattle.ir_text_read_base.specs.Standing.{Equals, Both, StateStands, OpStands, RegionStands}
 use Rattle.ir_text_read_base.proofs.FrontLaws.{name_exact, begin_exact}
@@ -44,7 +44,7 @@ use Rattle.ir_text_read_base.proofs.NameLaws.{held, state_marks, behind_exact, s
 -- ---- arguments
 
 abbrev binding : ℕ → ℕ → ℕ → List ℕ → ℕ → State → Outcome (ℕ × State)
-binding id r k n y s = bind n (record { value = values.Arg id r k; ty = y }) s.scopes >>= λ u. Read (y, with_scopes s u)
+binding id r k n y s = bind n ((record { value = values.Arg id r k; ty = y }) ∷ []) s.scopes >>= λ u. Read (y, with_scopes s u)
 
 abbrev arg_type : ℕ → ℕ → ℕ → List ℕ → State → Outcome (ℕ × State)
 arg_type id r k n s = in_typed (type_at 32) s >>= λ y. binding id r k n y.0 y.1
@@ -59,7 +59,7 @@ named_same id r k n s = by_rest (after Colon s.bytes)
     put rest x = Read (x.0, with_typed (to_bytes s rest) x.1)
 
     by_rest : (o : Option Text)
-        → (of_option (option_map (to_bytes s) o) >>= λ c. type_at 32 (typed c) >>= λ y. bind n (record { value = values.Arg id r k; ty = y.0 }) s.scopes >>= λ u. Read (y.0, with_scopes (with_typed s y.1) u))
+        → (of_option (option_map (to_bytes s) o) >>= λ c. type_at 32 (typed c) >>= λ y. bind n ((record { value = values.Arg id r k; ty = y.0 }) ∷ []) s.scopes >>= λ u. Read (y.0, with_scopes (with_typed s y.1) u))
         ≡ (of_option (option_map (to_bytes s) o) >>= arg_type id r k n)
     by_rest None = refl
     by_rest (Some rest) = sym (bind_assoc (type_at 32 (rest, s.things)) (λ x. Read (x.0, with_typed (to_bytes s rest) x.1)) (λ y. binding id r k n y.0 y.1))
@@ -74,13 +74,13 @@ arg_same id r before s =
     ∙ sym (bind_assoc (name_at s.bytes) (λ n. Read (n.0, to_bytes s n.1)) (λ n. arg_rest id r (length before) n.0 n.1))
 
 abbrev Binds : ℕ → ℕ → ℕ → List ℕ → TypeTerm → Grammar Seen TypeTerm
-Binds id r k n t y old new = (scopes : Scopes BoundTerm) × IsBound n (record { value = values.Arg id r k; type = t }) old.scopes scopes × (y ≡ t) × (new ≡ seen_scopes old scopes)
+Binds id r k n t y old new = (scopes : Scopes PackTerm) × IsBound n ((record { value = values.Arg id r k; type = t }) ∷ []) old.scopes scopes × (y ≡ t) × (new ≡ seen_scopes old scopes)
 
 bound_exact : (id r k j : ℕ) (n m : List ℕ) (y : ℕ) (t : TypeTerm) (c : Things) → k ≡ j → n ≡ m → From (λ z. TypeStands z y t) c → Exact held StateStands c TypeStands (binding id r k n y) (Binds id r j m t)
 bound_exact id r k j n m y t c place same stands =
     subst (λ l. Exact held StateStands c TypeStands (binding id r k n y) (Binds id r j l t)) same
-    (scoped_exact c TypeStands y t stands (bind n (record { value = values.Arg id r k; ty = y })) (IsBound n (record { value = values.Arg id r j; type = t }))
-    (bind_scoped c n (record { value = values.Arg id r k; ty = y }) (record { value = values.Arg id r j; type = t }) (λ z g w. (ap (values.Arg id r) place, stands z g w))))
+    (scoped_exact c TypeStands y t stands (bind n ((record { value = values.Arg id r k; ty = y }) ∷ [])) (IsBound n ((record { value = values.Arg id r j; type = t }) ∷ []))
+    (bind_scoped c n ((record { value = values.Arg id r k; ty = y }) ∷ []) ((record { value = values.Arg id r j; type = t }) ∷ []) (λ z g w. ((ap (values.Arg id r) place, stands z g w), tt))))
 
 arg_exact : (id r : ℕ) (c : Things) (xs : List ℕ) (ys : List TypeTerm) → length xs ≡ length ys → Exact held StateStands c TypeStands (arg_at id r xs) (IsArg id r ys)
 arg_exact id r c xs ys len =

@@ -1,28 +1,33 @@
 -- What stands before the dictionaries of an operation: what is read is spelled, and what is spelled is read.
-use Rattle.std.specs.Prelude.{if◌then◌else◌, ◌==◌}
+use Rattle.std.specs.Prelude.{if◌then◌else◌, ◌==◌, nat_le, slice_get}
+use Rattle.std.specs.List.{list_all}
+use Rattle.std.specs.Char.{is_ascii_digit}
 use Rattle.std.specs.Str.{bytes_eq}
-use Rattle.std.proofs.Common.{◌≡◌, ℕ, Bool, true, false, List, [], ◌∷◌, length, Option, Some, None, refl, sym, ap, subst, ◌⊎◌, inl, inr}
+use Rattle.std.proofs.Common.{◌≡◌, ◌≤◌, ◌+◌, ℕ, zero, suc, Bool, true, false, true≢false, List, [], ◌∷◌, length, Option, Some, None, refl, sym, ap, subst, ◌∙◌, ◌⊎◌, inl, inr}
+use Rattle.std.proofs.lemmas.Bool.{le-leb, leb-true}
 use Rattle.ir_text_base.specs.declared.token.Mark.{Mark}
-use Rattle.ir_text_base.specs.declared.token.Mark.TheVariants.{OpenRound, CloseRound, Equal}
-use Rattle.ir_text_base.specs.Tokens.{Lexeme, value, string, next}
+use Rattle.ir_text_base.specs.declared.token.Mark.TheVariants.{OpenRound, CloseRound, Equal, Colon}
+use Rattle.ir_text_base.specs.Tokens.{Lexeme, integer, value, string, hash, next}
 use Rattle.ir_text_base.specs.Strings.{string_bytes}
+use Rattle.ir_text_base.specs.Numbers.{integer_of, place_value}
 use Rattle.ir_text_base.specs.Scopes.{Binding, find, or_else}
 use Rattle.ir_types.specs.Things.{Things, Grows}
 use Rattle.ir_types.specs.Sound.{IsSound}
 use Rattle.ir_types.proofs.Growth.{grows_refl, grows_trans}
 use Rattle.ir_text_type_base.specs.Marks.{after}
-use Rattle.ir_text_type_base.specs.Outcomes.{Outcome, Read, Wrong, ◌>>=◌, of_option, Parse}
+use Rattle.ir_text_type_base.specs.Outcomes.{Outcome, Read, Wrong, Full, ◌>>=◌, of_option, Parse}
 use Rattle.ir_text_type_base.specs.Lists.{more_at, list_at}
-use Rattle.ir_text_type_base.specs.Grammars.{Grammar, Then, Done, Not, IsMore, IsList, Token, IsMark}
+use Rattle.ir_text_type_base.specs.Grammars.{Grammar, Then, Done, Not, Either, IsMore, IsList, Token, IsMark}
 use Rattle.ir_text_type_base.specs.Worlds.{From}
 use Rattle.ir_text_type_base.specs.Laws.{Each}
-use Rattle.ir_text_type_base.proofs.Worlds.{option_read, option_full, fills_on, later, Agree, Exact, Step, Reads, Marks, step_on, reads_on, exact_spelled, exact_for, nothing_exact, choice_exact, then_exact, done_exact, after_exact, more_exact, list_exact}
+use Rattle.ir_text_type_base.proofs.Worlds.{bind_assoc, option_read, option_full, fills_on, later, Agree, Exact, Step, Reads, Marks, step_on, reads_on, exact_where, exact_spelled, exact_for, nothing_exact, choice_exact, guard_exact, then_exact, done_exact, after_exact, either_exact, more_exact, list_exact}
 use Rattle.ir_text_type_base.proofs.TextLaws.{after_found, after_only, after_none, none_after}
 use Rattle.ir_text_read_base.specs.declared.bound.Bound.{Bound}
-use Rattle.ir_text_read_base.specs.FrontReading.{Text, name_from, name_at, names_at, results_from, results_at, op_name_from, op_name_at, use_from, use_at, uses_at, start_at}
-use Rattle.ir_text_read_base.specs.Seen.{BoundTerm}
-use Rattle.ir_text_read_base.specs.OpGrammar.{IsName, IsNames, IsResultsFrom, IsResults, IsOpName, IsUse, IsStart}
-use Rattle.ir_text_read_base.specs.Standing.{Equals, Both, BoundStands, HereStands, StartStands}
+use Rattle.ir_text_read_base.specs.FrontReading.{Text, name_from, name_at, number_from, number_at, some_count, count_at, result_at, names_at, results_from, results_at, op_name_from, op_name_at, place_of, place_from, place_at, member_at, use_from, use_at, uses_at, start_at}
+use Rattle.ir_text_read_base.specs.Packs.{counts}
+use Rattle.ir_text_read_base.specs.Seen.{BoundTerm, PackTerm, When}
+use Rattle.ir_text_read_base.specs.OpGrammar.{IsName, IsNumber, IsCount, IsResult, IsNames, IsResultsFrom, IsResults, IsOpName, IsPlace, IsUse, IsStart}
+use Rattle.ir_text_read_base.specs.Standing.{Equals, Both, BoundStands, PackStands, HereStands, StartStands}
 
 -- ---- readers over any state
 
@@ -227,11 +232,91 @@ each_equal z [] (y ∷ ys) h = absurd h
 each_equal z (x ∷ xs) [] h = absurd h
 each_equal z (x ∷ xs) (y ∷ ys) h = λ i. h.0 i ∷ each_equal z xs ys h.1 i
 
+-- ---- counts
+
+-- a reader of what is spelled itself
+module _ {A : Type 0} (p : Parse Text A) (P : Grammar Text A) (found : (s : Text) (x : A) (s' : Text) → p s ≡ Read (x, s') → P x s s') (only : (s : Text) (x : A) (s' : Text) → P x s s' → p s ≡ Read (x, s')) (full : (s : Text) → p s ≡ Full → ⊥) where
+  plain_equal : (c : Things) → Plain c Equals p P
+  plain_equal c = record {
+    found = λ s t x s' g sound h e. (x, s', subst (λ b. P x b s') (h c (grows_refl c) sound) (found s x s' e), record { grows = grows_refl c; sound = sound; stands = λ z j w. refl; agree = λ z j w. refl });
+    only = λ s t y t' g sound h k. inr (y, t', only s y t' (subst (λ b. P y b t') (sym (h c (grows_refl c) sound)) k), record { grows = grows_refl c; sound = sound; stands = λ z j w. refl; agree = λ z j w. refl });
+    full = λ s t g sound h e. absurd (full s e);
+  }
+
+pub if_read : {A : Type 0} (b : Bool) (x y : A) → (if b then Read x else Wrong) ≡ Read y → (b ≡ true) × (x ≡ y)
+if_read true x y e = (refl, cc)
+if_read false x y e = absurd cc
+
+if_full : {A : Type 0} (b : Bool) (x : A) → (if b then Read x else Wrong) ≡ Full → ⊥
+if_full true x e = absurd cc
+if_full false x e = absurd cc
+
+abbrev pair : ℕ → Text → ℕ × Text
+pair k s = (k, s)
+
+pair_parts : (k n : ℕ) (s t : Text) → pair k s ≡ pair n t → (k ≡ n) × (s ≡ t)
+pair_parts k n s t e = (ap (λ (q : ℕ × Text). q.0) e, ap (λ (q : ℕ × Text). q.1) e)
+
+number_found : (s : Text) (k : ℕ) (s' : Text) → number_at s ≡ Read (k, s') → IsNumber k s s'
+unfolding number_at
+number_found s k s' e =
+    let b = option_read (next s) (λ t. number_from t.0 t.1) (k, s') e in
+    by_token b.0.0 b.0.1 b.1 b.2
+  where
+    by_token : (l : Lexeme) (rest : Text) → Token l s rest → number_from l rest ≡ Read (k, s') → IsNumber k s s'
+    by_token (integer digits) rest token e =
+        let r = if_read (nat_le 1 (integer_of digits)) (integer_of digits, rest) (k, s') e in
+        let same = pair_parts (integer_of digits) k rest s' r.1 in
+        let low = leb-true 1 (integer_of digits) r.0 in
+        (digits, subst (λ r. Token (integer digits) s r) same.1 token, sym same.0, subst (λ n. 1 ≤ n) same.0 low)
+    by_token _ rest token e = absurd cc
+
+number_only : (s : Text) (k : ℕ) (s' : Text) → IsNumber k s s' → number_at s ≡ Read (k, s')
+unfolding number_at
+number_only s k s' h =
+    let low : nat_le 1 (integer_of h.0) ≡ true = le-leb 1 (integer_of h.0) (subst (λ n. 1 ≤ n) h.2 h.3) in
+    rw (h.1, low, h.2) refl
+
+number_full : (s : Text) → number_at s ≡ Full → ⊥
+unfolding number_at
+number_full s e =
+    let b = option_full (next s) (λ t. number_from t.0 t.1) e in
+    by_token b.0.0 b.0.1 b.2
+  where
+    by_token : (l : Lexeme) (rest : Text) → number_from l rest ≡ Full → ⊥
+    by_token (integer digits) rest e = if_full (nat_le 1 (integer_of digits)) (integer_of digits, rest) e
+    by_token _ rest e = absurd cc
+
+number_exact : (c : Things) → Plain c Equals number_at IsNumber
+number_exact c = plain_equal number_at IsNumber number_found number_only number_full c
+
+within_exact : (before k : ℕ) (c : Things) → Plain c Equals (λ s. if nat_le (before + k) 256 then Read (k, s) else Wrong) (When (before + k ≤ 256) (Done k))
+within_exact before k c =
+    exact_spelled (known c) SameText c Equals (λ s. if nat_le (before + k) 256 then Read (k, s) else Wrong) (λ y old new. (nat_le (before + k) 256 ≡ true) × Done k y old new) (When (before + k ≤ 256) (Done k))
+    (λ y t t' j. (leb-true (before + k) 256 j.0, j.1)) (λ y t t' j. (le-leb (before + k) 256 j.0, j.1)) (guard_exact (known c) SameText c Equals (nat_le (before + k) 256) (λ s. Read (k, s)) (Done k) (plain_done c k))
+
+count_exact : (before : ℕ) (c : Things) → Plain c Equals (count_at before) (IsCount before)
+unfolding count_at
+count_exact before c =
+    then_exact (known c) SameText c Equals Equals (λ s. some_count s (after Colon s)) (Either IsMark Colon IsNumber (Done 1)) (λ k s. if nat_le (before + k) 256 then Read (k, s) else Wrong) (λ k. When (before + k ≤ 256) (Done k))
+    (either_exact (known c) SameText after IsMark (text_marks c) c Equals Colon some_count number_at (λ s. Read (1, s)) IsNumber (Done 1) (λ s mid. refl) (λ s. refl) (number_exact c) (plain_done c 1)) (λ d k n g same.
+    begin_exact (known c) SameText d Equals (λ u s. if nat_le (before + k) 256 then Read (k, s) else Wrong) (λ t. When (before + n ≤ 256) (Done n)) (λ s t up sound h.
+    subst (λ m. Plain c Equals (λ s. if nat_le (before + k) 256 then Read (k, s) else Wrong) (When (before + m ≤ 256) (Done m))) (same c up sound) (within_exact before k c)))
+
+result_exact : (before : ℕ) (c : Things) → Plain c Equals (result_at before) (IsResult before)
+unfolding result_at
+result_exact before c =
+    then_exact (known c) SameText c Equals Equals name_at IsName (λ n s. count_at before s >>= λ k. Read ((n, k.0), k.1)) (λ n. Then (IsCount before) (λ k. Done (n, k))) (name_exact c) (λ d n n' g names.
+    then_exact (known c) SameText d Equals Equals (count_at before) (IsCount before) (λ k s. Read ((n, k), s)) (λ k. Done (n', k)) (plain_from c Equals (count_at before) (IsCount before) (count_exact before c) d) (λ e k k' up same.
+    done_exact (known c) SameText e Equals (n, k) (n', k') (λ z j w. λ i. (names z (grows_trans d e z up j) w i, same z j w i))))
+
 names_exact : (c : Things) → Plain c Equals names_at IsNames
 unfolding names_at
 names_exact c =
     exact_for (known c) SameText c (Each Equals) Equals names_at IsNames each_equal
-    (more_exact (known c) SameText after IsMark (text_marks c) Equals Equal (λ before. name_at) (λ before. IsName) (λ d xs ys r. plain_from c Equals name_at IsName (name_exact c) d) 256 c [] [] (λ z g k. tt))
+    (more_exact (known c) SameText after IsMark (text_marks c) Equals Equal (λ before. result_at (counts before)) (λ before. IsResult (counts before)) (λ d xs ys r.
+    begin_exact (known c) SameText d Equals (λ s. result_at (counts xs)) (λ t. IsResult (counts ys)) (λ s t up sound h.
+    subst (λ zs. Plain c Equals (result_at (counts xs)) (IsResult (counts zs))) (each_equal c xs ys (r c up sound)) (result_exact (counts xs) c))) 256 c [] [] (λ z g k. tt))
 
 -- ---- the names of results, and the name of an operation
 
@@ -290,40 +375,135 @@ test_both R z true x y h = h
 test_both R z false x y h = tt
 
 -- what a name stands for, by numbers and by contents
-pub find_stands : (z : Things) (name : List ℕ) (here : List (Binding Bound)) (there : List (Binding BoundTerm)) → HereStands z here there → Both BoundStands z (find name here) (find name there)
+pub find_stands : (z : Things) (name : List ℕ) (here : List (Binding (List Bound))) (there : List (Binding PackTerm)) → HereStands z here there → Both PackStands z (find name here) (find name there)
 unfolding find
 find_stands z name [] [] h = tt
 find_stands z name [] (y ∷ ys) h = absurd h
 find_stands z name (b ∷ bs) [] h = absurd h
 find_stands z name (b ∷ bs) (y ∷ ys) h =
-    other_both BoundStands z (find name bs) (if bytes_eq b.name name then Some b.value else None) (find name ys) (if bytes_eq y.name name then Some y.value else None) (find_stands z name bs ys h.1)
-    (subst (λ n. Both BoundStands z (if bytes_eq b.name name then Some b.value else None) (if bytes_eq n name then Some y.value else None)) h.0.0 (test_both BoundStands z (bytes_eq b.name name) b.value y.value h.0.1))
+    other_both PackStands z (find name bs) (if bytes_eq b.name name then Some b.value else None) (find name ys) (if bytes_eq y.name name then Some y.value else None) (find_stands z name bs ys h.1)
+    (subst (λ n. Both PackStands z (if bytes_eq b.name name then Some b.value else None) (if bytes_eq n name then Some y.value else None)) h.0.0 (test_both PackStands z (bytes_eq b.name name) b.value y.value h.0.1))
 
-module _ (c : Things) (here : List (Binding Bound)) (there : List (Binding BoundTerm)) (stand : From (λ z. HereStands z here there) c) where
+abbrev names_hash : Lexeme → Bool
+names_hash (hash word) = true
+names_hash _ = false
+
+-- whether the next token is a hash sign with its name
+abbrev is_hash : Option (Lexeme × Text) → Bool
+is_hash None = false
+is_hash (Some t) = names_hash t.0
+
+-- which of a pack
+place_found : (s : Text) (k : ℕ) (s' : Text) → place_at s ≡ Read (k, s') → IsPlace k s s'
+unfolding place_at
+place_found s k s' e = by_next (next s) refl e
+  where
+    by_token : (l : Lexeme) (rest : Text) → Token l s rest → place_of s l rest ≡ Read (k, s') → IsPlace k s s'
+    by_token (hash digits) rest token e =
+        let r = if_read (list_all is_ascii_digit digits) (place_value 10 digits, rest) (k, s') e in
+        let same = pair_parts (place_value 10 digits) k rest s' r.1 in
+        inl (digits, subst (λ r. Token (hash digits) s r) same.1 token, r.0, sym same.0)
+    by_token _ rest token e =
+        let same : pair 0 s ≡ pair k s' = cc in
+        let parts = pair_parts 0 k s s' same in
+        inr (λ word r other. true≢false (sym (ap is_hash (sym token ∙ other))), sym parts.0, sym parts.1)
+
+    by_next : (o : Option (Lexeme × Text)) → next s ≡ o → place_from s o ≡ Read (k, s') → IsPlace k s s'
+    by_next None none e =
+        let same : pair 0 s ≡ pair k s' = cc in
+        let parts = pair_parts 0 k s s' same in
+        inr (λ word r other. let clash = sym none ∙ other in absurd cc, sym parts.0, sym parts.1)
+    by_next (Some t) token e = by_token t.0 t.1 token e
+
+place_only : (s : Text) (k : ℕ) (s' : Text) → IsPlace k s s' → place_at s ≡ Read (k, s')
+unfolding place_at
+place_only s k s' (inl h) = rw (h.1, h.2, h.3) refl
+place_only s k s' (inr h) = by_next (next s) refl ∙ λ i. Read (sym h.1 i, sym h.2 i)
+  where
+    by_token : (l : Lexeme) (rest : Text) → Token l s rest → place_of s l rest ≡ Read (0, s)
+    by_token (hash digits) rest token = absurd (h.0 digits rest token)
+    by_token _ rest token = refl
+
+    by_next : (o : Option (Lexeme × Text)) → next s ≡ o → place_from s o ≡ Read (0, s)
+    by_next None none = refl
+    by_next (Some t) token = by_token t.0 t.1 token
+
+place_full : (s : Text) → place_at s ≡ Full → ⊥
+unfolding place_at
+place_full s e = by_next (next s) e
+  where
+    by_token : (l : Lexeme) (rest : Text) → place_of s l rest ≡ Full → ⊥
+    by_token (hash digits) rest e = if_full (list_all is_ascii_digit digits) (place_value 10 digits, rest) e
+    by_token _ rest e = absurd cc
+
+    by_next : (o : Option (Lexeme × Text)) → place_from s o ≡ Full → ⊥
+    by_next None e = absurd cc
+    by_next (Some t) e = by_token t.0 t.1 e
+
+place_exact : (c : Things) → Plain c Equals place_at IsPlace
+place_exact c = plain_equal place_at IsPlace place_found place_only place_full c
+
+-- the values at one place
+place_stands : (z : Things) (k : ℕ) (xs : List Bound) (ys : PackTerm) → PackStands z xs ys → Both BoundStands z (slice_get xs k) (slice_get ys k)
+place_stands z k [] [] h = tt
+place_stands z k [] (y ∷ ys) h = absurd h
+place_stands z k (x ∷ xs) [] h = absurd h
+place_stands z zero (x ∷ xs) (y ∷ ys) h = h.0
+place_stands z (suc k) (x ∷ xs) (y ∷ ys) h = place_stands z k xs ys h.1
+
+abbrev MemberAt : PackTerm → ℕ → Grammar Text BoundTerm
+MemberAt pack k y old new = (slice_get pack k ≡ Some y) × (new ≡ old)
+
+abbrev IsMember : PackTerm → Grammar Text BoundTerm
+IsMember pack = Then IsPlace (MemberAt pack)
+
+member_exact : (c d : Things) (xs : List Bound) (ys : PackTerm) → From (λ z. PackStands z xs ys) d → Exact (known c) SameText d BoundStands (member_at xs) (IsMember ys)
+unfolding member_at
+member_exact c d xs ys stand =
+    then_exact (known c) SameText d Equals BoundStands place_at IsPlace (λ k s. of_option (slice_get xs k) >>= λ b. Read (b, s)) (MemberAt ys) (plain_from c Equals place_at IsPlace (place_exact c) d) (λ e k n g same.
+    both_exact (known c) SameText e BoundStands (slice_get xs k) (slice_get ys n) (λ z j w.
+    subst (λ m. Both BoundStands z (slice_get xs k) (slice_get ys m)) (same z j w) (place_stands z k xs ys (stand z (grows_trans d e z g j) w))))
+
+module _ (c : Things) (here : List (Binding (List Bound))) (there : List (Binding PackTerm)) (stand : From (λ z. HereStands z here there) c) where
+  abbrev found_at : List ℕ → Parse Text (List Bound)
+  found_at n s = of_option (find n here) >>= λ pack. Read (pack, s)
+
+  abbrev Found : List ℕ → Grammar Text PackTerm
+  Found n pack old new = (find n there ≡ Some pack) × (new ≡ old)
+
   abbrev UseOf : List ℕ → Grammar Text BoundTerm
-  UseOf n y old new = (find n there ≡ Some y) × (new ≡ old)
+  UseOf n = Then (Found n) IsMember
 
   abbrev UseFrom : Lexeme → Text → Grammar Text BoundTerm
   UseFrom (value n) rest y old new = UseOf n y rest new
   UseFrom _ rest y old new = ⊥
 
+  use_of_exact : (n : List ℕ) → Plain c BoundStands (λ s. of_option (find n here) >>= λ pack. member_at pack s) (UseOf n)
+  use_of_exact n =
+      exact_where (known c) SameText c BoundStands (λ s. of_option (find n here) >>= λ pack. member_at pack s) (λ s. found_at n s >>= λ x. member_at x.0 x.1) (UseOf n) (λ s g sound. sym (bind_assoc (of_option (find n here)) (λ pack. Read (pack, s)) (λ x. member_at x.0 x.1)))
+      (then_exact (known c) SameText c PackStands BoundStands (found_at n) (Found n) member_at IsMember (both_exact (known c) SameText c PackStands (find n here) (find n there) (λ z g w. find_stands z n here there (stand z g w)))
+      (λ d xs ys g r. member_exact c d xs ys r))
+
   use_from_exact : (l : Lexeme) (rest : Text) → Plain c BoundStands (λ s. use_from here l rest) (UseFrom l rest)
-  use_from_exact (value n) rest =
-      plain_behind c BoundStands rest (λ s. of_option (find n here) >>= λ b. Read (b, s)) (UseOf n)
-      (both_exact (known c) SameText c BoundStands (find n here) (find n there) (λ z g w. find_stands z n here there (stand z g w)))
+  use_from_exact (value n) rest = plain_behind c BoundStands rest (λ s. of_option (find n here) >>= λ pack. member_at pack s) (UseOf n) (use_of_exact n)
   use_from_exact _ rest = nothing_exact (known c) SameText c BoundStands
 
   use_into : (y : BoundTerm) (t t' : Text) → (l : Lexeme) × (rest : Text) × Token l t rest × UseFrom l rest y t t' → IsUse there y t t'
   use_into y t t' k = by_token k.0 k.1 k.2 k.3
     where
       by_token : (l : Lexeme) (rest : Text) → Token l t rest → UseFrom l rest y t t' → IsUse there y t t'
-      by_token (value n) rest token k = (n, subst (λ r. Token (value n) t r) (sym k.1) token, k.0)
+      by_token (value n) rest token k =
+          let place : IsPlace k.3.0 rest t' = subst (λ r. IsPlace k.3.0 rest r) (sym k.3.3.1) (subst (λ r. IsPlace k.3.0 r k.3.1) k.2.1 k.3.2) in
+          (n, rest, k.0, k.3.0, token, k.2.0, place, k.3.3.0)
       by_token _ rest token k = absurd k
+
+  use_back : (y : BoundTerm) (t t' : Text) → IsUse there y t t' → (l : Lexeme) × (rest : Text) × Token l t rest × UseFrom l rest y t t'
+  use_back y t t' k = (value k.0, k.1, k.4, (k.2, k.1, (k.5, refl), (k.3, t', k.6, (k.7, refl))))
 
   use_exact : Plain c BoundStands (use_at here) (IsUse there)
   unfolding use_at
   use_exact =
-      exact_spelled (known c) SameText c BoundStands (use_at here) (λ y old new. (l : Lexeme) × (rest : Text) × Token l old rest × UseFrom l rest y old new) (IsUse there) use_into (λ y t t' k. (value k.0, t', k.1, (k.2, refl)))
+      exact_spelled (known c) SameText c BoundStands (use_at here) (λ y old new. (l : Lexeme) × (rest : Text) × Token l old rest × UseFrom l rest y old new) (IsUse there) use_into use_back
       (plain_token c BoundStands (λ s. use_from here) UseFrom use_from_exact)
 
   uses_exact : Plain c (Each BoundStands) (uses_at here) (IsList IsMark CloseRound (λ before. IsUse there) 256)

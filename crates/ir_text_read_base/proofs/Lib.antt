@@ -1,7 +1,9 @@
 pub mod BlockLaws
+pub mod Counts
 pub mod EntryLaws
 pub mod FrontLaws
 pub mod MadeLaws
+pub mod Members
 pub mod Modules
 pub mod NameLaws
 pub mod OpLaws

@@ -1,6 +1,7 @@
 -- Names and the state of a reader: what they stand for, step by step.
-use Rattle.std.specs.Prelude.{if◌then◌else◌, option_map, is_some}
-use Rattle.std.proofs.Common.{◌≡◌, ◌+◌, ℕ, Bool, true, false, List, [], ◌∷◌, ◌++◌, Option, Some, None, refl, sym, ap, subst, ◌∙◌, inl, inr, ⊎_elim}
+use Rattle.std.specs.Prelude.{if◌then◌else◌, ◌==◌, option_map, is_some, take, drop}
+use Rattle.std.proofs.lemmas.Bool.{eqb-true, eq-eqb}
+use Rattle.std.proofs.Common.{◌≡◌, ◌+◌, ℕ, zero, suc, length, Bool, true, false, List, [], ◌∷◌, ◌++◌, Option, Some, None, refl, sym, ap, subst, ◌∙◌, inl, inr, ⊎_elim}
 use Rattle.ir_text_base.specs.declared.token.Mark.{Mark}
 use Rattle.ir_text_base.specs.Tokens.{Lexeme, next}
 use Rattle.ir_text_base.specs.Scopes.{Binding, Scopes, find, bound, entered, left, left_to}
@@ -22,11 +23,13 @@ use Rattle.ir_text_type_base.proofs.TextLaws as typed
 use Rattle.ir_text_read_base.specs.declared.bound.Bound.{Bound}
 use Rattle.ir_text_read_base.specs.States as states
 use Rattle.ir_text_read_base.specs.States.{State, to_bytes, after_in, with_typed, with_scopes, inside, outside}
-use Rattle.ir_text_read_base.specs.OpReading.{bind, bind_results, finish}
-use Rattle.ir_text_read_base.specs.Seen.{BoundTerm, Seen, seen_rest, seen_scopes, seen_inside, seen_outside, IsMarkSeen, InText, IsBound}
+use Rattle.ir_text_read_base.specs.OpReading.{bind, results_of, bind_results, finish}
+use Rattle.ir_text_read_base.specs.Seen.{PackTerm, Seen, seen_rest, seen_scopes, seen_inside, seen_outside, IsMarkSeen, InText, IsBound}
 use Rattle.ir_text_read_base.specs.FrontReading.{Text}
-use Rattle.ir_text_read_base.specs.OpGrammar.{IsBoundResults, IsFinished}
-use Rattle.ir_text_read_base.specs.Standing.{Both, BoundStands, BindingStands, HereStands, ScopesStand, StateStands}
+use Rattle.ir_text_read_base.specs.OpGrammar.{result_terms, IsBoundResults, IsFinished}
+use Rattle.ir_text_read_base.specs.Packs.{Counted, counts}
+use Rattle.ir_text_read_base.specs.Standing.{Both, PackStands, BindingStands, HereStands, ScopesStand, StateStands}
+use Rattle.ir_text_read_base.proofs.EntryLaws.{each_length}
 use Rattle.ir_text_read_base.proofs.FrontLaws.{known, SameText, Plain, find_stands, shift_exact, token_exact}
 
 abbrev pub held : State → Things
@@ -142,17 +145,17 @@ each_more R z [] (v ∷ ys) x y h r = absurd h
 each_more R z (u ∷ xs) [] x y h r = absurd h
 each_more R z (u ∷ xs) (v ∷ ys) x y h r = (h.0, each_more R z xs ys x y h.1 r)
 
-bound_stand : (z : Things) (name : List ℕ) (b : Bound) (y : BoundTerm) (s : Scopes Bound) (t : Scopes BoundTerm) → BoundStands z b y → ScopesStand z s t → ScopesStand z (bound name b s) (bound name y t)
+bound_stand : (z : Things) (name : List ℕ) (b : List Bound) (y : PackTerm) (s : Scopes (List Bound)) (t : Scopes PackTerm) → PackStands z b y → ScopesStand z s t → ScopesStand z (bound name b s) (bound name y t)
 bound_stand z name b y s t r h = (each_more BindingStands z s.here t.here (record { name = name; value = b }) (record { name = name; value = y }) h.0 (refl, r), h.1)
 
-entered_stand : (z : Things) (isolated : Bool) (s : Scopes Bound) (t : Scopes BoundTerm) → ScopesStand z s t → ScopesStand z (entered isolated s) (entered isolated t)
+entered_stand : (z : Things) (isolated : Bool) (s : Scopes (List Bound)) (t : Scopes PackTerm) → ScopesStand z s t → ScopesStand z (entered isolated s) (entered isolated t)
 entered_stand z true s t h = (tt, (h.0, h.1))
 entered_stand z false s t h = (h.0, (h.0, h.1))
 
-left_stand : (z : Things) (s : Scopes Bound) (t : Scopes BoundTerm) → ScopesStand z s t → ScopesStand z (left s) (left t)
+left_stand : (z : Things) (s : Scopes (List Bound)) (t : Scopes PackTerm) → ScopesStand z s t → ScopesStand z (left s) (left t)
 left_stand z s t h = by_outer s.outer t.outer h.1
   where
-    by_outer : (us : List (List (Binding Bound))) (vs : List (List (Binding BoundTerm))) → Each HereStands z us vs → ScopesStand z (left_to s us) (left_to t vs)
+    by_outer : (us : List (List (Binding (List Bound)))) (vs : List (List (Binding PackTerm))) → Each HereStands z us vs → ScopesStand z (left_to s us) (left_to t vs)
     by_outer [] [] k = h
     by_outer [] (v ∷ vs) k = absurd k
     by_outer (u ∷ us) [] k = absurd k
@@ -169,10 +172,10 @@ module _ {A B : Type 0} (c : Things) (R : Things → A → B → Type 0) where
       shift_exact held StateStands c R outside seen_outside (λ s. Read (x, s)) (Done y) (λ s t sound a. (grows_refl s.things, sound, λ z g w. let now = a z g w in (now.0, left_stand z s.scopes t.scopes now.1, now.2))) (done_exact held StateStands c R x y r)
 
 -- what binds names, and what the grammar says of it
-pub record Scoped (c : Things) (f : Scopes Bound → Outcome (Scopes Bound)) (F : Scopes BoundTerm → Scopes BoundTerm → Type 0) : Type 0 where
-  pub found : (d : Things) (s : Scopes Bound) (t : Scopes BoundTerm) (s' : Scopes Bound) → Grows c d → IsSound d → From (λ z. ScopesStand z s t) d → f s ≡ Read s' → (t' : Scopes BoundTerm) × F t t' × From (λ z. ScopesStand z s' t') d
-  pub only : (d : Things) (s : Scopes Bound) (t t' : Scopes BoundTerm) → Grows c d → IsSound d → From (λ z. ScopesStand z s t) d → F t t' → (s' : Scopes Bound) × (f s ≡ Read s') × From (λ z. ScopesStand z s' t') d
-  pub full : (d : Things) (s : Scopes Bound) (t : Scopes BoundTerm) → Grows c d → IsSound d → From (λ z. ScopesStand z s t) d → f s ≡ Full → ⊥
+pub record Scoped (c : Things) (f : Scopes (List Bound) → Outcome (Scopes (List Bound))) (F : Scopes PackTerm → Scopes PackTerm → Type 0) : Type 0 where
+  pub found : (d : Things) (s : Scopes (List Bound)) (t : Scopes PackTerm) (s' : Scopes (List Bound)) → Grows c d → IsSound d → From (λ z. ScopesStand z s t) d → f s ≡ Read s' → (t' : Scopes PackTerm) × F t t' × From (λ z. ScopesStand z s' t') d
+  pub only : (d : Things) (s : Scopes (List Bound)) (t t' : Scopes PackTerm) → Grows c d → IsSound d → From (λ z. ScopesStand z s t) d → F t t' → (s' : Scopes (List Bound)) × (f s ≡ Read s') × From (λ z. ScopesStand z s' t') d
+  pub full : (d : Things) (s : Scopes (List Bound)) (t : Scopes PackTerm) → Grows c d → IsSound d → From (λ z. ScopesStand z s t) d → f s ≡ Full → ⊥
 
 none_there : {A B : Type 0} (R : Things → A → B → Type 0) (z : Things) (o : Option A) (u : Option B) → Both R z o u → o ≡ None → u ≡ None
 none_there R z o None h e = refl
@@ -184,25 +187,25 @@ none_here R z None u h e = refl
 none_here R z (Some x) None h e = absurd h
 none_here R z (Some x) (Some y) h e = absurd cc
 
-free_read : {A : Type 0} (o : Option A) (s s' : Scopes Bound) → (if is_some o then Wrong else Read s) ≡ Read s' → (o ≡ None) × (s ≡ s')
+free_read : {A : Type 0} (o : Option A) (s s' : Scopes (List Bound)) → (if is_some o then Wrong else Read s) ≡ Read s' → (o ≡ None) × (s ≡ s')
 free_read None s s' e = (refl, cc)
 free_read (Some x) s s' e = absurd cc
 
-never_full : {A : Type 0} (o : Option A) (s : Scopes Bound) → (if is_some o then Wrong else Read s) ≡ Full → ⊥
+never_full : {A : Type 0} (o : Option A) (s : Scopes (List Bound)) → (if is_some o then Wrong else Read s) ≡ Full → ⊥
 never_full None s e = absurd cc
 never_full (Some x) s e = absurd cc
 
-pub bind_scoped : (c : Things) (name : List ℕ) (b : Bound) (y : BoundTerm) → From (λ z. BoundStands z b y) c → Scoped c (bind name b) (IsBound name y)
+pub bind_scoped : (c : Things) (name : List ℕ) (b : List Bound) (y : PackTerm) → From (λ z. PackStands z b y) c → Scoped c (bind name b) (IsBound name y)
 unfolding bind
 bind_scoped c name b y r = record {
   found = λ d s t s' g sound h e.
       let k = free_read (find name s.here) (bound name b s) s' e in (
         bound name y t,
-        (none_there BoundStands d (find name s.here) (find name t.here) (find_stands d name s.here t.here (h d (grows_refl d) sound).0) k.0, refl),
+        (none_there PackStands d (find name s.here) (find name t.here) (find_stands d name s.here t.here (h d (grows_refl d) sound).0) k.0, refl),
         subst (λ u. From (λ z. ScopesStand z u (bound name y t)) d) k.1 (λ z j w. bound_stand z name b y s t (r z (grows_trans c d z g j) w) (h z j w)),
       );
   only = λ d s t t' g sound h k.
-      let free : find name s.here ≡ None = none_here BoundStands d (find name s.here) (find name t.here) (find_stands d name s.here t.here (h d (grows_refl d) sound).0) k.0 in
+      let free : find name s.here ≡ None = none_here PackStands d (find name s.here) (find name t.here) (find_stands d name s.here t.here (h d (grows_refl d) sound).0) k.0 in
       (bound name b s, rw free refl, subst (λ u. From (λ z. ScopesStand z (bound name b s) u) d) (sym k.1) (λ z j w. bound_stand z name b y s t (r z (grows_trans c d z g j) w) (h z j w)));
   full = λ d s t g sound h e. never_full (find name s.here) (bound name b s) e;
 }
@@ -214,7 +217,7 @@ same_scoped c = record {
   full = λ d s t g sound h e. absurd cc;
 }
 
-then_scoped : (c : Things) (f g : Scopes Bound → Outcome (Scopes Bound)) (F G : Scopes BoundTerm → Scopes BoundTerm → Type 0) → Scoped c f F → Scoped c g G → Scoped c (λ s. f s >>= g) (λ old new. (mid : Scopes BoundTerm) × F old mid × G mid new)
+then_scoped : (c : Things) (f g : Scopes (List Bound) → Outcome (Scopes (List Bound))) (F G : Scopes PackTerm → Scopes PackTerm → Type 0) → Scoped c f F → Scoped c g G → Scoped c (λ s. f s >>= g) (λ old new. (mid : Scopes PackTerm) × F old mid × G mid new)
 then_scoped c f g F G first second = record {
   found = λ d s t s' up sound h e.
       let b = bind_read (f s) g s' e in
@@ -227,35 +230,76 @@ then_scoped c f g F G first second = record {
       (n.0, ap (λ o. o >>= g) k.1 ∙ n.1, n.2);
   full = λ d s t up sound h e. ⊎_elim
       (λ (k : f s ≡ Full). first.full d s t up sound h k)
-      (λ (a : (x : Scopes Bound) × (f s ≡ Read x) × (g x ≡ Full)). let k = first.found d s t a.0 up sound h a.1 in second.full d a.0 k.0 up sound k.2 a.2)
+      (λ (a : (x : Scopes (List Bound)) × (f s ≡ Read x) × (g x ≡ Full)). let k = first.found d s t a.0 up sound h a.1 in second.full d a.0 k.0 up sound k.2 a.2)
       (bind_full (f s) g e);
 }
 
-results_scoped : (id k : ℕ) (c : Things) (names : List (List ℕ)) (xs : List ℕ) (ys : List TypeTerm) → From (λ z. Each TypeStands z xs ys) c → Scoped c (bind_results id k names xs) (IsBoundResults id k names ys)
-unfolding bind_results
-results_scoped id k c [] [] [] r = same_scoped c
-results_scoped id k c (n ∷ ns) [] [] r = record { found = λ d s t s' g sound h e. absurd cc; only = λ d s t t' g sound h j. absurd j; full = λ d s t g sound h e. absurd cc }
-results_scoped id k c [] (x ∷ xs) (y ∷ ys) r = record { found = λ d s t s' g sound h e. absurd cc; only = λ d s t t' g sound h j. absurd j; full = λ d s t g sound h e. absurd cc }
-results_scoped id k c names [] (y ∷ ys) r = record { found = λ d s t s' g sound h e. absurd (r d g sound); only = λ d s t t' g sound h j. absurd (r d g sound); full = λ d s t g sound h e. r d g sound }
-results_scoped id k c names (x ∷ xs) [] r = record { found = λ d s t s' g sound h e. absurd (r d g sound); only = λ d s t t' g sound h j. absurd (r d g sound); full = λ d s t g sound h e. r d g sound }
-results_scoped id k c (n ∷ ns) (x ∷ xs) (y ∷ ys) r =
-    then_scoped c (bind n (record { value = values.Result id k; ty = x })) (bind_results id (k + 1) ns xs) (IsBound n (record { value = values.Result id k; type = y })) (IsBoundResults id (k + 1) ns ys)
-    (bind_scoped c n (record { value = values.Result id k; ty = x }) (record { value = values.Result id k; type = y }) (λ z g w. (refl, (r z g w).0)))
-    (results_scoped id (k + 1) c ns xs ys (λ z g w. (r z g w).1))
+results_stand : (z : Things) (id k : ℕ) (xs : List ℕ) (ys : List TypeTerm) → Each TypeStands z xs ys → PackStands z (results_of id k xs) (result_terms id k ys)
+unfolding results_of
+results_stand z id k [] [] h = tt
+results_stand z id k [] (y ∷ ys) h = absurd h
+results_stand z id k (x ∷ xs) [] h = absurd h
+results_stand z id k (x ∷ xs) (y ∷ ys) h = ((refl, h.0), results_stand z id (k + 1) xs ys h.1)
 
-pub finish_scoped : (id : ℕ) (c : Things) (names : Option (List (List ℕ))) (xs : List ℕ) (ys : List TypeTerm) → From (λ z. Each TypeStands z xs ys) c → Scoped c (finish id names xs) (IsFinished id names ys)
+module _ {A B : Type 0} (R : Things → A → B → Type 0) (z : Things) where
+  each_take : (n : ℕ) (xs : List A) (ys : List B) → Each R z xs ys → Each R z (take n xs) (take n ys)
+  each_take zero xs ys h = tt
+  each_take (suc n) [] [] h = tt
+  each_take (suc n) [] (y ∷ ys) h = absurd h
+  each_take (suc n) (x ∷ xs) [] h = absurd h
+  each_take (suc n) (x ∷ xs) (y ∷ ys) h = (h.0, each_take n xs ys h.1)
+
+  each_drop : (n : ℕ) (xs : List A) (ys : List B) → Each R z xs ys → Each R z (drop n xs) (drop n ys)
+  each_drop zero xs ys h = h
+  each_drop (suc n) [] [] h = tt
+  each_drop (suc n) [] (y ∷ ys) h = absurd h
+  each_drop (suc n) (x ∷ xs) [] h = absurd h
+  each_drop (suc n) (x ∷ xs) (y ∷ ys) h = each_drop n xs ys h.1
+
+results_scoped : (id k : ℕ) (c : Things) (names : List Counted) (xs : List ℕ) (ys : List TypeTerm) → From (λ z. Each TypeStands z xs ys) c → Scoped c (bind_results id k names xs) (IsBoundResults id k names ys)
+unfolding bind_results
+results_scoped id k c [] xs ys r = same_scoped c
+results_scoped id k c (n ∷ ns) xs ys r =
+    then_scoped c (bind n.0 (results_of id k (take n.1 xs))) (bind_results id (k + n.1) ns (drop n.1 xs)) (IsBound n.0 (result_terms id k (take n.1 ys))) (IsBoundResults id (k + n.1) ns (drop n.1 ys))
+    (bind_scoped c n.0 (results_of id k (take n.1 xs)) (result_terms id k (take n.1 ys)) (λ z g w. results_stand z id k (take n.1 xs) (take n.1 ys) (each_take TypeStands z n.1 xs ys (r z g w))))
+    (results_scoped id (k + n.1) c ns (drop n.1 xs) (drop n.1 ys) (λ z g w. each_drop TypeStands z n.1 xs ys (r z g w)))
+
+-- where as many are counted as there are
+counted_scoped : (c : Things) (n : ℕ) (xs : List ℕ) (ys : List TypeTerm) (f : Scopes (List Bound) → Outcome (Scopes (List Bound))) (F : Scopes PackTerm → Scopes PackTerm → Type 0) → From (λ z. Each TypeStands z xs ys) c → Scoped c f F
+    → Scoped c (λ s. if n == length xs then f s else Wrong) (λ old new. (n ≡ length ys) × F old new)
+counted_scoped c n xs ys f F r k = record {
+  found = λ d s t s' g sound h e.
+      let test = test_read (n == length xs) (f s) s' e in
+      let m = k.found d s t s' g sound h test.1 in
+      (m.0, (eqb-true n (length xs) test.0 ∙ each_length TypeStands d xs ys (r d g sound), m.1), m.2);
+  only = λ d s t t' g sound h j.
+      let m = k.only d s t t' g sound h j.1 in
+      let test : (n == length xs) ≡ true = eq-eqb n (length xs) (j.0 ∙ sym (each_length TypeStands d xs ys (r d g sound))) in
+      (m.0, rw test m.1, m.2);
+  full = λ d s t g sound h e. k.full d s t g sound h (test_full (n == length xs) (f s) e);
+}
+  where
+    test_read : (b : Bool) (o : Outcome (Scopes (List Bound))) (s' : Scopes (List Bound)) → (if b then o else Wrong) ≡ Read s' → (b ≡ true) × (o ≡ Read s')
+    test_read true o s' e = (refl, e)
+    test_read false o s' e = absurd cc
+
+    test_full : (b : Bool) (o : Outcome (Scopes (List Bound))) → (if b then o else Wrong) ≡ Full → o ≡ Full
+    test_full true o e = e
+    test_full false o e = absurd cc
+
+pub finish_scoped : (id : ℕ) (c : Things) (names : Option (List Counted)) (xs : List ℕ) (ys : List TypeTerm) → From (λ z. Each TypeStands z xs ys) c → Scoped c (finish id names xs) (IsFinished id names ys)
 finish_scoped id c None xs ys r = same_scoped c
-finish_scoped id c (Some names) xs ys r = results_scoped id 0 c names xs ys r
+finish_scoped id c (Some names) xs ys r = counted_scoped c (counts names) xs ys (bind_results id 0 names xs) (IsBoundResults id 0 names ys) r (results_scoped id 0 c names xs ys r)
 
 -- binding in a state
-module _ {A B : Type 0} (c : Things) (R : Things → A → B → Type 0) (x : A) (y : B) (stands : From (λ z. R z x y) c) (f : Scopes Bound → Outcome (Scopes Bound)) (F : Scopes BoundTerm → Scopes BoundTerm → Type 0) (k : Scoped c f F) where
+module _ {A B : Type 0} (c : Things) (R : Things → A → B → Type 0) (x : A) (y : B) (stands : From (λ z. R z x y) c) (f : Scopes (List Bound) → Outcome (Scopes (List Bound))) (F : Scopes PackTerm → Scopes PackTerm → Type 0) (k : Scoped c f F) where
   abbrev Scoping : Grammar Seen B
-  Scoping v old new = (scopes : Scopes BoundTerm) × F old.scopes scopes × (v ≡ y) × (new ≡ seen_scopes old scopes)
+  Scoping v old new = (scopes : Scopes PackTerm) × F old.scopes scopes × (v ≡ y) × (new ≡ seen_scopes old scopes)
 
-  scoped_step : (s : State) (t : Seen) (u : Scopes Bound) (v : Scopes BoundTerm) → Grows c s.things → IsSound s.things → Agree held StateStands s t → From (λ z. ScopesStand z u v) s.things → Step held StateStands R s x y (with_scopes s u) (seen_scopes t v)
+  scoped_step : (s : State) (t : Seen) (u : Scopes (List Bound)) (v : Scopes PackTerm) → Grows c s.things → IsSound s.things → Agree held StateStands s t → From (λ z. ScopesStand z u v) s.things → Step held StateStands R s x y (with_scopes s u) (seen_scopes t v)
   scoped_step s t u v g sound h new = record { grows = grows_refl s.things; sound = sound; stands = later (λ z. R z x y) c s.things g stands; agree = λ z j w. let now = h z j w in (now.0, new z j w, now.2) }
 
-  abbrev put_scopes : State → Scopes Bound → Outcome (A × State)
+  abbrev put_scopes : State → Scopes (List Bound) → Outcome (A × State)
   put_scopes s u = Read (x, with_scopes s u)
 
   pub scoped_exact : Exact held StateStands c R (λ s. f s.scopes >>= λ u. Read (x, with_scopes s u)) Scoping
@@ -270,6 +314,6 @@ module _ {A B : Type 0} (c : Things) (R : Things → A → B → Type 0) (x : A)
         rw (j.2, j.3) (inr (x, with_scopes s n.0, ap (λ o. o >>= put_scopes s) n.1, scoped_step s t n.0 j.0 g sound h n.2));
     full = λ s t g sound h e. ⊎_elim
         (λ (e : f s.scopes ≡ Full). absurd (k.full s.things s.scopes t.scopes g sound (λ z i w. (h z i w).1) e))
-        (λ (a : (u : Scopes Bound) × (f s.scopes ≡ Read u) × (put_scopes s u ≡ Full)). let e : put_scopes s a.0 ≡ Full = a.2 in absurd cc)
+        (λ (a : (u : Scopes (List Bound)) × (f s.scopes ≡ Read u) × (put_scopes s u ≡ Full)). let e : put_scopes s a.0 ≡ Full = a.2 in absurd cc)
         (bind_full (f s.scopes) (put_scopes s) e);
   }

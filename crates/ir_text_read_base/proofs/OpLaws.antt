@@ -33,7 +33,7 @@ use Rattle.ir_text_read_base.specs.FrontReading.{Text, Start, start_at}
 use Rattle.ir_text_read_base.specs.EntryReading.{Entries, properties_at, attributes_at}
 use Rattle.ir_text_read_base.specs.Made.{made}
 use Rattle.ir_text_read_base.specs.OpReading.{finish, types_of, op_of, regions_at, ops_at, tail_at, begun, op_with, op_at}
-use Rattle.ir_text_read_base.specs.Seen.{BoundTerm, Seen, seen_rest, seen_scopes, seen_fresh, IsMarkSeen, InText, When}
+use Rattle.ir_text_read_base.specs.Seen.{BoundTerm, PackTerm, Seen, seen_rest, seen_scopes, seen_fresh, IsMarkSeen, InText, When}
 use Rattle.ir_text_read_base.specs.OpGrammar.{StartTerm, EntryTerm, RegionTerm, is_property, IsStart, IsProperties, IsAttributes, IsRegions, IsFinished, IsOps, IsTail, IsOpWith, IsOp}
 use Rattle.ir_text_read_base.specs.Standing.{BoundStands, HereStands, StateStands, StartStands, EntryStands, RegionStands, OpStands}
 use Rattle.ir_text_read_base.proofs.FrontLaws.{begin_exact, shift_exact, start_exact}
@@ -130,7 +130,7 @@ module _ (id name : ℕ) (h : Start) (ps : Entries) (gs : List Region) where
   module _ (begin : StartTerm) (qs : List EntryTerm) (ys : List RegionTerm) where
     abbrev Ends : List EntryTerm → List TypeTerm → Grammar Seen Operation
     Ends fs outputs y old new =
-        (scopes : Scopes BoundTerm) × IsFinished id begin.results outputs old.scopes scopes × (new ≡ seen_scopes old scopes)
+        (scopes : Scopes PackTerm) × IsFinished id begin.results outputs old.scopes scopes × (new ≡ seen_scopes old scopes)
         × (y ≡ made (is_property (Some begin.name)) key_before id begin.name (map (λ b. b.value) begin.operands) qs fs outputs ys)
 
     abbrev Checked : List EntryTerm → SignatureTerm → Grammar Seen Operation
@@ -156,7 +156,7 @@ module _ (id name : ℕ) (h : Start) (ps : Entries) (gs : List Region) where
       finished_exact =
           let results : h.results ≡ begin.results = (starts c (grows_refl c) sound).0 in
           exact_spelled held StateStands c OpStands finishing
-          (λ v old new. (scopes : Scopes BoundTerm) × IsFinished id h.results terms.1 old.scopes scopes × (v ≡ term_now) × (new ≡ seen_scopes old scopes)) (Ends fs terms.1)
+          (λ v old new. (scopes : Scopes PackTerm) × IsFinished id h.results terms.1 old.scopes scopes × (v ≡ term_now) × (new ≡ seen_scopes old scopes)) (Ends fs terms.1)
           (λ y t t' k. (k.0, subst (λ r. IsFinished id r terms.1 t.scopes k.0) results k.1, k.3, k.2)) (λ y t t' k. (k.0, subst (λ r. IsFinished id r terms.1 t.scopes k.0) (sym results) k.1, k.3, k.2))
           (scoped_exact c OpStands op_now term_now op_now_stands (finish id h.results sig.1) (IsFinished id h.results terms.1) (finish_scoped id c h.results sig.1 terms.1 (λ z g w. (types z g w).1)))
 
@@ -221,7 +221,7 @@ module _ (p : Parse State (List Op)) (P : Grammar Seen (List Operation)) (body :
   abbrev at_name : ℕ → Start → State → Outcome (Op × State)
   at_name id h s = in_typed (name_in h.name) s >>= λ n. at_properties id h n.0 (isolated_in n.1.things n.0) n.1
 
-  abbrev at_start : List (Binding Bound) → ℕ → State → Outcome (Op × State)
+  abbrev at_start : List (Binding (List Bound)) → ℕ → State → Outcome (Op × State)
   at_start here id s = in_text (start_at here) s >>= λ h. at_name id h.0 h.1
 
   properties_same : (id : ℕ) (h : Start) (n : ℕ) (isolated : Bool) (s : State) → (properties_at (typed s) >>= λ e. at_regions id h n isolated e.0 (begun s e.1)) ≡ at_properties id h n isolated s
@@ -248,7 +248,7 @@ module _ (p : Parse State (List Op)) (P : Grammar Seen (List Operation)) (body :
   abbrev Propertied : ℕ → StartTerm → Grammar Seen Operation
   Propertied id begin = Then (InText IsProperties) (λ qs. Next id begin qs)
 
-  abbrev Started : List (Binding BoundTerm) → ℕ → Grammar Seen Operation
+  abbrev Started : List (Binding PackTerm) → ℕ → Grammar Seen Operation
   Started there id = Then (InText (IsStart there)) (λ begin. Propertied id begin)
 
   started_into : (y : Operation) (t t' : Seen) → Started t.scopes.here t.next y t t' → IsOpWith P y t t'
@@ -290,7 +290,7 @@ module _ (p : Parse State (List Op)) (P : Grammar Seen (List Operation)) (body :
         subst (λ b. Exact held StateStands s.things OpStands (at_properties id h n b) (Propertied id begin)) (sym (ap is_isolated (names s.things k fine).1))
         (propertied_exact s.things n (later (λ z. StartStands z h begin) c s.things (grows_trans c d s.things g k) starts) (later (λ z. NameStands z n begin.name) d s.things k names)))))
 
-  started_exact : (c : Things) (here : List (Binding Bound)) (there : List (Binding BoundTerm)) (id : ℕ) → From (λ z. HereStands z here there) c → Exact held StateStands c OpStands (at_start here id) (Started there id)
+  started_exact : (c : Things) (here : List (Binding (List Bound))) (there : List (Binding PackTerm)) (id : ℕ) → From (λ z. HereStands z here there) c → Exact held StateStands c OpStands (at_start here id) (Started there id)
   started_exact c here there id stand =
       then_exact held StateStands c StartStands OpStands (in_text (start_at here)) (InText (IsStart there)) (at_name id) (λ begin. Propertied id begin)
       (text_exact c StartStands (start_at here) (IsStart there) (λ d g. start_exact d here there (later (λ z. HereStands z here there) c d g stand))) (λ d h begin g starts.

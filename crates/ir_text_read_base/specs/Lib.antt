@@ -1,3 +1,4 @@
+pub mod Packs
 pub mod States
 pub mod FrontReading
 pub mod Entries

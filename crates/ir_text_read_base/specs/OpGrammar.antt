@@ -1,11 +1,14 @@
 -- The grammar of operations, in terms of what is spelled. Language Reference, "Operations", "Regions",
 -- "Blocks"; Traits, "IsolatedFromAbove".
-use Rattle.std.specs.Prelude.{◌≡◌, ◌⊎◌, ℕ, zero, suc, ◌+◌, ◌<◌, ◌==◌, Bool, false, List, [], ◌∷◌, ◌++◌, length, map, Option, Some, None}
+use Rattle.std.specs.Prelude.{◌≡◌, ◌⊎◌, ℕ, zero, suc, ◌+◌, ◌<◌, ◌≤◌, ◌==◌, Bool, true, false, List, [], ◌∷◌, ◌++◌, length, map, take, drop, slice_get, Option, Some, None}
+use Rattle.std.specs.List.{list_all}
+use Rattle.std.specs.Char.{is_ascii_digit}
 use Rattle.std.specs.Str.{bytes_eq}
 use Rattle.ir_text_base.specs.declared.token.Mark.{Mark}
 use Rattle.ir_text_base.specs.declared.token.Mark.TheVariants.{OpenRound, CloseRound, OpenCurly, CloseCurly, Less, Greater, Equal, Colon}
-use Rattle.ir_text_base.specs.Tokens.{Lexeme, value, string, bare, label}
+use Rattle.ir_text_base.specs.Tokens.{Lexeme, integer, value, string, bare, label, hash}
 use Rattle.ir_text_base.specs.Strings.{string_bytes}
+use Rattle.ir_text_base.specs.Numbers.{integer_of, place_value}
 use Rattle.ir_text_base.specs.Scopes.{Binding, Scopes, find}
 use Rattle.ir_types.specs.Terms.{TypeTerm, AttrTerm, Flag}
 use Rattle.ir_types.specs.Words.{is_isolated, is_inherent}
@@ -17,7 +20,8 @@ use Rattle.ir_text_type_base.specs.TypeGrammar.{Text, IsType, IsFunctionType}
 use Rattle.ir_text_attr_base.specs.AttrGrammar.{IsAttr, IsFine}
 use Rattle.ir_text_read_base.specs.Entries.{is_refused}
 use Rattle.ir_text_read_base.specs.Made.{region_of, made}
-use Rattle.ir_text_read_base.specs.Seen.{BoundTerm, Seen, seen_rest, seen_scopes, seen_inside, seen_outside, IsMarkSeen, InText, When, IsBound}
+use Rattle.ir_text_read_base.specs.Packs.{Counted, counts}
+use Rattle.ir_text_read_base.specs.Seen.{BoundTerm, PackTerm, Seen, seen_rest, seen_scopes, seen_inside, seen_outside, IsMarkSeen, InText, When, IsBound}
 
 -- ---- before the dictionaries
 
@@ -25,32 +29,50 @@ use Rattle.ir_text_read_base.specs.Seen.{BoundTerm, Seen, seen_rest, seen_scopes
 abbrev pub IsName : Grammar Text (List ℕ)
 IsName n old new = Token (value n) old new
 
--- names up to an equal sign
-abbrev pub IsNames : Grammar Text (List (List ℕ))
-IsNames = IsMore IsMark Equal (λ before. IsName) 256 []
+-- a number, decimal or hexadecimal, that isn't 0
+abbrev pub IsNumber : Grammar Text ℕ
+IsNumber k old new = (digits : List ℕ) × Token (integer digits) old new × (k ≡ integer_of digits) × (1 ≤ k)
 
-abbrev pub IsResultsFrom : Lexeme → Grammar Text (Option (List (List ℕ)))
-IsResultsFrom (value n) y old new = (ns : List (List ℕ)) × IsNames ns old new × (y ≡ Some ns)
+-- how many results a name stands for, behind names of so many: 1 where no count stands; all have at most 256
+abbrev pub IsCount : ℕ → Grammar Text ℕ
+IsCount before = Then (Either IsMark Colon IsNumber (Done 1)) (λ k. When (before + k ≤ 256) (Done k))
+
+abbrev pub IsResult : ℕ → Grammar Text Counted
+IsResult before = Then IsName (λ n. Then (IsCount before) (λ k. Done (n, k)))
+
+-- names up to an equal sign
+abbrev pub IsNames : Grammar Text (List Counted)
+IsNames = IsMore IsMark Equal (λ before. IsResult (counts before)) 256 []
+
+abbrev pub IsResultsFrom : Lexeme → Grammar Text (Option (List Counted))
+IsResultsFrom (value n) y old new = (ns : List Counted) × IsNames ns old new × (y ≡ Some ns)
 IsResultsFrom _ y old new = (y ≡ None) × (new ≡ old)
 
 -- the names of the results, where a name comes first
-abbrev pub IsResults : Grammar Text (Option (List (List ℕ)))
+abbrev pub IsResults : Grammar Text (Option (List Counted))
 IsResults y old new = (t : Lexeme) × (rest : Text) × Token t old rest × IsResultsFrom t y old new
 
 -- the name of an operation, which has one byte or more
 abbrev pub IsOpName : Grammar Text (List ℕ)
 IsOpName n old new = (raw : List ℕ) × Token (string raw) old new × ((length (string_bytes raw) == 0) ≡ false) × (n ≡ string_bytes raw)
 
--- a name that can be seen
-abbrev pub IsUse : List (Binding BoundTerm) → Grammar Text BoundTerm
-IsUse here b old new = (n : List ℕ) × Token (value n) old new × (find n here ≡ Some b)
+-- which of a pack is meant: the one whose decimal number stands behind a hash sign, or the first where no hash sign is next
+abbrev pub IsPlace : Grammar Text ℕ
+IsPlace k old new =
+    ((digits : List ℕ) × Token (hash digits) old new × (list_all is_ascii_digit digits ≡ true) × (k ≡ place_value 10 digits))
+    ⊎ (((word rest : List ℕ) → Token (hash word) old rest → ⊥) × (k ≡ 0) × (new ≡ old))
+
+-- a name that can be seen, and one of the values for which it stands
+abbrev pub IsUse : List (Binding PackTerm) → Grammar Text BoundTerm
+IsUse here b old new =
+    (n : List ℕ) × (mid : Text) × (pack : PackTerm) × (k : ℕ) × Token (value n) old mid × (find n here ≡ Some pack) × IsPlace k mid new × (slice_get pack k ≡ Some b)
 
 pub record StartTerm : Type 0 where
-  pub results : Option (List (List ℕ))
+  pub results : Option (List Counted)
   pub name : List ℕ
   pub operands : List BoundTerm
 
-abbrev pub IsStart : List (Binding BoundTerm) → Grammar Text StartTerm
+abbrev pub IsStart : List (Binding PackTerm) → Grammar Text StartTerm
 IsStart here =
     Then IsResults (λ results. Then IsOpName (λ name. After IsMark OpenRound (Then (IsList IsMark CloseRound (λ before. IsUse here) 256) (λ operands.
     Done (record { results = results; name = name; operands = operands })))))
@@ -95,7 +117,7 @@ abbrev pub IsArg : ℕ → ℕ → List TypeTerm → Grammar Seen TypeTerm
 IsArg id r before = Then (InText IsName) (λ n. After IsMarkSeen Colon (Then (InText (IsType 32)) (λ t. binds n t)))
   where
     binds : List ℕ → TypeTerm → Grammar Seen TypeTerm
-    binds n t y old new = (scopes : Scopes BoundTerm) × IsBound n (record { value = values.Arg id r (length before); type = t }) old.scopes scopes × (y ≡ t) × (new ≡ seen_scopes old scopes)
+    binds n t y old new = (scopes : Scopes PackTerm) × IsBound n ((record { value = values.Arg id r (length before); type = t }) ∷ []) old.scopes scopes × (y ≡ t) × (new ≡ seen_scopes old scopes)
 
 -- arguments in parentheses or none, and a colon
 abbrev pub IsLabelArgs : ℕ → ℕ → Grammar Seen (List TypeTerm)
@@ -137,18 +159,20 @@ IsRegions P id isolated = Either IsMarkSeen OpenRound (IsMore IsMarkSeen CloseRo
 
 -- ---- operations
 
--- the names of the results from place k on, one for each type
-abbrev pub IsBoundResults : ℕ → ℕ → List (List ℕ) → List TypeTerm → (old new : Scopes BoundTerm) → Type 0
-IsBoundResults id k [] [] old new = new ≡ old
-IsBoundResults id k [] (y ∷ ys) old new = ⊥
-IsBoundResults id k (n ∷ ns) [] old new = ⊥
-IsBoundResults id k (n ∷ ns) (y ∷ ys) old new =
-    (mid : Scopes BoundTerm) × IsBound n (record { value = values.Result id k; type = y }) old mid × IsBoundResults id (k + 1) ns ys mid new
+-- the results from place k on, by their types
+abbrev pub result_terms : ℕ → ℕ → List TypeTerm → PackTerm
+result_terms id k [] = []
+result_terms id k (y ∷ ys) = record { value = values.Result id k; type = y } ∷ result_terms id (k + 1) ys
 
--- where names are written
-abbrev pub IsFinished : ℕ → Option (List (List ℕ)) → List TypeTerm → (old new : Scopes BoundTerm) → Type 0
+-- each name stands for as many of the results as it counts, from place k on
+abbrev pub IsBoundResults : ℕ → ℕ → List Counted → List TypeTerm → (old new : Scopes PackTerm) → Type 0
+IsBoundResults id k [] ys old new = new ≡ old
+IsBoundResults id k (n ∷ ns) ys old new = (mid : Scopes PackTerm) × IsBound n.0 (result_terms id k (take n.1 ys)) old mid × IsBoundResults id (k + n.1) ns (drop n.1 ys) mid new
+
+-- where names are written, their counts are as many as the results
+abbrev pub IsFinished : ℕ → Option (List Counted) → List TypeTerm → (old new : Scopes PackTerm) → Type 0
 IsFinished id None outputs old new = new ≡ old
-IsFinished id (Some names) outputs old new = IsBoundResults id 0 names outputs old new
+IsFinished id (Some names) outputs old new = (counts names ≡ length outputs) × IsBoundResults id 0 names outputs old new
 
 -- behind the regions: the attributes, and the function type, whose inputs are the types of the operands
 abbrev pub IsTail : ℕ → StartTerm → List EntryTerm → List RegionTerm → Grammar Seen Operation
@@ -157,7 +181,7 @@ IsTail id h properties regions =
   where
     ends : List EntryTerm → List TypeTerm → Grammar Seen Operation
     ends es outputs y old new =
-        (scopes : Scopes BoundTerm) × IsFinished id h.results outputs old.scopes scopes × (new ≡ seen_scopes old scopes)
+        (scopes : Scopes PackTerm) × IsFinished id h.results outputs old.scopes scopes × (new ≡ seen_scopes old scopes)
         × (y ≡ made (is_property (Some h.name)) key_before id h.name (map (λ b. b.value) h.operands) properties es outputs regions)
 
 abbrev pub IsOpWith : Grammar Seen (List Operation) → Grammar Seen Operation

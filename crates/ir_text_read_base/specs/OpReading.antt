@@ -1,5 +1,5 @@
 -- Reading operations.
-use Rattle.std.specs.Prelude.{ℕ, zero, suc, ◌+◌, Bool, nat_lt, if◌then◌else◌, List, [], ◌∷◌, ◌++◌, length, map, is_some, Option, Some, None}
+use Rattle.std.specs.Prelude.{ℕ, zero, suc, ◌+◌, ◌==◌, Bool, nat_lt, if◌then◌else◌, List, [], ◌∷◌, ◌++◌, length, map, take, drop, is_some, Option, Some, None}
 use Rattle.std.specs.Str.{bytes_eq}
 use Rattle.ir_text_base.specs.declared.token.Mark.{Mark}
 use Rattle.ir_text_base.specs.declared.token.Mark.TheVariants.{OpenRound, CloseRound, OpenCurly, CloseCurly, Colon}
@@ -18,25 +18,29 @@ use Rattle.ir_text_read_base.specs.declared.bound.Bound.{Bound}
 use Rattle.ir_text_read_base.specs.States.{State, to_bytes, after_in, typed, with_typed, with_scopes, inside, outside}
 use Rattle.ir_text_read_base.specs.FrontReading.{Start, start_at, name_at}
 use Rattle.ir_text_read_base.specs.Made.{region_of, made}
+use Rattle.ir_text_read_base.specs.Packs.{Counted, counts}
 use Rattle.ir_text_read_base.specs.EntryReading.{Entries, is_property_in, properties_at, attributes_at}
 
 -- ---- names
 
 -- a name that is not bound yet
-unfoldable pub bind : List ℕ → Bound → Scopes Bound → Outcome (Scopes Bound)
-bind name b s = if is_some (find name s.here) then Wrong else Read (bound name b s)
+unfoldable pub bind : List ℕ → List Bound → Scopes (List Bound) → Outcome (Scopes (List Bound))
+bind name pack s = if is_some (find name s.here) then Wrong else Read (bound name pack s)
 
--- the names of the results from place k on, one for each type
-unfoldable pub bind_results : ℕ → ℕ → List (List ℕ) → List ℕ → Scopes Bound → Outcome (Scopes Bound)
-bind_results id k [] [] s = Read s
-bind_results id k [] (y ∷ ys) s = Wrong
-bind_results id k (n ∷ ns) [] s = Wrong
-bind_results id k (n ∷ ns) (y ∷ ys) s = bind n (record { value = values.Result id k; ty = y }) s >>= bind_results id (k + 1) ns ys
+-- the results from place k on, by their types
+unfoldable pub results_of : ℕ → ℕ → List ℕ → List Bound
+results_of id k [] = []
+results_of id k (y ∷ ys) = record { value = values.Result id k; ty = y } ∷ results_of id (k + 1) ys
 
--- where names are written
-abbrev pub finish : ℕ → Option (List (List ℕ)) → List ℕ → Scopes Bound → Outcome (Scopes Bound)
+-- each name stands for as many of the results as it counts, from place k on
+unfoldable pub bind_results : ℕ → ℕ → List Counted → List ℕ → Scopes (List Bound) → Outcome (Scopes (List Bound))
+bind_results id k [] ys s = Read s
+bind_results id k (n ∷ ns) ys s = bind n.0 (results_of id k (take n.1 ys)) s >>= bind_results id (k + n.1) ns (drop n.1 ys)
+
+-- where names are written, their counts are as many as the results
+abbrev pub finish : ℕ → Option (List Counted) → List ℕ → Scopes (List Bound) → Outcome (Scopes (List Bound))
 finish id None outputs s = Read s
-finish id (Some names) outputs s = bind_results id 0 names outputs s
+finish id (Some names) outputs s = if counts names == length outputs then bind_results id 0 names outputs s else Wrong
 
 -- ---- blocks
 
@@ -44,7 +48,7 @@ abbrev pub arg_named : ℕ → ℕ → ℕ → State → List ℕ → Outcome (�
 arg_named id r k s name = do
   c ← of_option (after_in Colon s)
   y ← type_at 32 (typed c)
-  scopes ← bind name (record { value = values.Arg id r k; ty = y.0 }) s.scopes
+  scopes ← bind name ((record { value = values.Arg id r k; ty = y.0 }) ∷ []) s.scopes
   Read (y.0, with_scopes (with_typed s y.1) scopes)
 
 -- an argument, bound as it is read

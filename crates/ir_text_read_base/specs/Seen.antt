@@ -11,15 +11,19 @@ pub record BoundTerm : Type 0 where
   pub value : Value
   pub type : TypeTerm
 
+-- what a name stands for: one value, or all that a count speaks of
+abbrev pub PackTerm : Type 0
+PackTerm = List BoundTerm
+
 pub record Seen : Type 0 where
   pub bytes : List ℕ
-  pub scopes : Scopes BoundTerm
+  pub scopes : Scopes PackTerm
   pub next : ℕ
 
 abbrev pub seen_rest : Seen → List ℕ → Seen
 seen_rest s rest = record { bytes = rest; scopes = s.scopes; next = s.next }
 
-abbrev pub seen_scopes : Seen → Scopes BoundTerm → Seen
+abbrev pub seen_scopes : Seen → Scopes PackTerm → Seen
 seen_scopes s scopes = record { bytes = s.bytes; scopes = scopes; next = s.next }
 
 abbrev pub seen_inside : Bool → Seen → Seen
@@ -43,6 +47,6 @@ InText P y old new = (rest : List ℕ) × P y old.bytes rest × (new ≡ seen_re
 abbrev pub When : {T B : Type 0} → Type 0 → Grammar T B → Grammar T B
 When F P y old new = F × P y old new
 
--- a name that is not bound yet, and stands for the value from here on
-abbrev pub IsBound : List ℕ → BoundTerm → (old new : Scopes BoundTerm) → Type 0
+-- a name that is not bound yet, and stands for the pack from here on
+abbrev pub IsBound : List ℕ → PackTerm → (old new : Scopes PackTerm) → Type 0
 IsBound name b old new = (find name old.here ≡ None) × (new ≡ bound name b old)

@@ -14,7 +14,7 @@ use Rattle.ir_text_type_base.specs.Laws.{Each}
 use Rattle.ir_text_read_base.specs.declared.bound.Bound.{Bound}
 use Rattle.ir_text_read_base.specs.States.{State}
 use Rattle.ir_text_read_base.specs.FrontReading.{Start}
-use Rattle.ir_text_read_base.specs.Seen.{BoundTerm, Seen}
+use Rattle.ir_text_read_base.specs.Seen.{BoundTerm, PackTerm, Seen}
 use Rattle.ir_text_read_base.specs.OpGrammar.{StartTerm, EntryTerm, RegionTerm}
 
 -- what is read as it is spelled
@@ -34,13 +34,16 @@ Both R z (Some x) (Some y) = R z x y
 abbrev pub BoundStands : Things → Bound → BoundTerm → Type 0
 BoundStands z b y = (b.value ≡ y.value) × TypeStands z b.ty y.type
 
-abbrev pub BindingStands : Things → Binding Bound → Binding BoundTerm → Type 0
-BindingStands z b y = (b.name ≡ y.name) × BoundStands z b.value y.value
+abbrev pub PackStands : Things → List Bound → PackTerm → Type 0
+PackStands = Each BoundStands
 
-abbrev pub HereStands : Things → List (Binding Bound) → List (Binding BoundTerm) → Type 0
+abbrev pub BindingStands : Things → Binding (List Bound) → Binding PackTerm → Type 0
+BindingStands z b y = (b.name ≡ y.name) × PackStands z b.value y.value
+
+abbrev pub HereStands : Things → List (Binding (List Bound)) → List (Binding PackTerm) → Type 0
 HereStands = Each BindingStands
 
-abbrev pub ScopesStand : Things → Scopes Bound → Scopes BoundTerm → Type 0
+abbrev pub ScopesStand : Things → Scopes (List Bound) → Scopes PackTerm → Type 0
 ScopesStand z s t = HereStands z s.here t.here × Each HereStands z s.outer t.outer
 
 -- where reading is and where the grammar is

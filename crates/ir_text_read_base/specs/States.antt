@@ -10,7 +10,7 @@ use Rattle.ir_text_read_base.specs.declared.scope.Scope.{Scope}
 
 pub record State : Type 0 where
   pub bytes : List ℕ
-  pub scopes : Scopes Bound
+  pub scopes : Scopes (List Bound)
   pub next : ℕ
   pub things : Things
 
@@ -31,7 +31,7 @@ typed s = (s.bytes, s.things)
 abbrev pub with_typed : State → Typed → State
 with_typed s t = record { bytes = t.0; scopes = s.scopes; next = s.next; things = t.1 }
 
-abbrev pub with_scopes : State → Scopes Bound → State
+abbrev pub with_scopes : State → Scopes (List Bound) → State
 with_scopes s scopes = record { bytes = s.bytes; scopes = scopes; next = s.next; things = s.things }
 
 -- a region begins, and ends

@@ -1,29 +1,29 @@
 //! Names that come into sight. Language Reference, "Identifiers and keywords".
-ghost use Rattle.std.specs.Prelude.{◌≡◌, map, option_map};
+ghost use Rattle.std.specs.Prelude.{◌≡◌};
 ghost use Rattle.ir_text_type_base.specs.Outcomes.{Gives};
-ghost use Rattle.ir_text_read_base.specs.OpReading.{bind, bind_results, finish, types_of, values_of};
+ghost use Rattle.ir_text_read_base.specs.OpReading.{bind, types_of, values_of};
 ghost use Rattle.std.specs.Prelude.{IfOk};
 ghost use Rattle.std.specs.Str.{bytes_eq};
 
 use crate::bound::Bound;
-use ir_text_type_base::error::ReadError;
+use crate::pack::Pack;
 use ir_text_base::fault::Fault;
 use ir_text_base::names::Names;
+use ir_text_type_base::error::ReadError;
 use ir_tree::value::Value;
-use ir_types::ids::{OpId, TypeId};
+use ir_types::ids::TypeId;
 use ir_types::refusal::Refusal;
 use std::alloc::{AllocError, Global};
 
 /// Binds a name that is not bound yet; so many bytes are left where it stands.
 #[tactic(auto, unfolding(crate::specs::OpReading::bind))]
 pub fn bind<'a>(
-    names: &mut Names<'a, Bound>,
+    names: &mut Names<'a, Pack>,
     name: &'a [u8],
-    value: Value,
-    ty: TypeId,
+    pack: Pack,
     left: usize,
 ) -> Result<(), ReadError>
-    ensures { Gives (λ _. names.new) result (bind name.now (record { value = value; ty = ty }) names.old) }
+    ensures { Gives (λ _. names.new) result (bind name.now pack names.old) }
 {
     if names.find(name).is_some() {
         return Err(ReadError::Refused(Fault {
@@ -31,7 +31,7 @@ pub fn bind<'a>(
             left,
         }));
     }
-    names.bind(name, Bound { value, ty })?;
+    names.bind(name, pack)?;
     Ok(())
 }
 

@@ -7,14 +7,16 @@ ghost use Rattle.ir_text_read_base.specs.States.{state_of};
 ghost use Rattle.ir_text_read_base.specs.OpReading.{arg_at, args_at, some_args_at, label_args_at, head_at};
 
 use crate::binding::bind;
-use crate::front::{name, one_too_many};
+use crate::bound::Bound;
+use crate::named::{name, one_too_many};
+use crate::pack::Pack;
 use crate::scope::Scope;
-use ir_text_type_base::error::{ReadError, wrong};
-use ir_text_type_base::steps::{after, expect, token};
-use ir_text_type_base::types::{MOST_DEPTH, ty};
 use ir_text_base::fault::Fault;
 use ir_text_base::lexer::{self, skip};
 use ir_text_base::token::{Mark, Token};
+use ir_text_type_base::error::{ReadError, wrong};
+use ir_text_type_base::steps::{after, expect, token};
+use ir_text_type_base::types::{MOST_DEPTH, ty};
 use ir_tree::value::Value;
 use ir_types::context::Context;
 use ir_types::ids::{OpId, TypeId};
@@ -78,7 +80,8 @@ fn argument<'a>(
         Err(e) => return Err(e),
     };
     let value = Value::Arg(OpId::new(id), region, before.len() as u32);
-    bind(&mut scope.names, name, value, ty, skip(bytes).len())?;
+    let pack = Pack::one(Bound { value, ty });
+    bind(&mut scope.names, name, pack, skip(bytes).len())?;
     Ok((ty, rest))
 }
 

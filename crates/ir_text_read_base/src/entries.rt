@@ -5,10 +5,10 @@ ghost use Rattle.ir_text_read_base.specs.EntryReading.{refused_in, key_at, value
 
 use crate::dictionaries::{Entry, has_key, no_room};
 use ir_text_attr_base::attributes::{attr, unit};
-use ir_text_type_base::error::{ReadError, wrong};
-use ir_text_type_base::steps::{self, after, expect, token};
 use ir_text_base::strings::string_value;
 use ir_text_base::token::{Mark, Token};
+use ir_text_type_base::error::{ReadError, wrong};
+use ir_text_type_base::steps::{self, after, expect, token};
 use ir_types::context::Context;
 use ir_types::ids::{AttrId, NameId};
 use ir_types::refusal::Refusal;

@@ -1,121 +1,30 @@
 //! What stands before an operation's dictionaries: the names of its results, its name, its operands.
-ghost use Rattle.std.specs.Prelude.{◌≡◌, map, option_map};
-ghost use Rattle.ir_text_type_base.specs.Outcomes.{Gives, of_option};
-ghost use Rattle.ir_text_type_base.specs.Marks.{after};
-ghost use Rattle.ir_text_base.specs.declared.token.Mark.TheVariants.{Comma};
-ghost use Rattle.ir_text_read_base.specs.FrontReading.{name_at, names_at, results_at, op_name_at, use_at, uses_at, start_at, start_view};
+ghost use Rattle.std.specs.Prelude.{◌≡◌, IsTrue, slice_get};
+ghost use Rattle.std.specs.List.{list_all};
+ghost use Rattle.std.specs.Char.{is_ascii_digit};
+ghost use Rattle.ir_text_base.specs.Numbers.{place_value};
+ghost use Rattle.ir_text_type_base.specs.Outcomes.{Gives};
+ghost use Rattle.ir_text_read_base.specs.FrontReading.{op_name_at, member_at, use_at, uses_at, start_at, start_view};
 
 use crate::bound::Bound;
-use ir_text_type_base::error::{ReadError, wrong};
-use ir_text_type_base::steps::{after, expect, token};
-use ir_text_base::fault::Fault;
+use crate::named::{Named, one_too_many, results};
+use crate::pack::Pack;
 use ir_text_base::lexer;
 use ir_text_base::names::Names;
+use ir_text_base::numbers::integer_value;
 use ir_text_base::strings::string_value;
 use ir_text_base::token::{Mark, Token};
+use ir_text_type_base::error::{ReadError, wrong};
+use ir_text_type_base::steps::{after, expect, token};
 use ir_types::refusal::Refusal;
 use std::alloc::Global;
 
 /// The names of the results, where they are written, the name of the operation, and its operands.
 #[derive(Drop)]
 pub struct Front<'a> {
-    pub results: Option<Vec<&'a [u8]>>,
+    pub results: Option<Vec<Named<'a>>>,
     pub name: Vec<u8>,
     pub operands: Vec<Bound>,
-}
-
-/// A name behind its sign.
-#[tactic(auto, unfolding(crate::specs::FrontReading::name_at))]
-pub fn name(bytes: &[u8]) -> Result<(&[u8], &[u8]), ReadError>
-    ensures { Gives (λ x. (x.0.now, x.1.now)) result (name_at bytes.now) }
-{
-    let (found, rest) = token(bytes)?;
-    match found {
-        Token::Value(name) => Ok((name, rest)),
-        _ => Err(ReadError::Refused(wrong(Refusal::Unexpected, bytes))),
-    }
-}
-
-/// The fault at a name that is one too many, or at what is no name.
-pub(crate) fn one_too_many(bytes: &[u8]) -> Fault {
-    match lexer::token(bytes) {
-        Ok((Token::Value(_), _)) => wrong(Refusal::TooMany, bytes),
-        _ => wrong(Refusal::Unexpected, bytes),
-    }
-}
-
-/// Why no comma follows the name of a result: a count of results is left out.
-fn result_refusal(bytes: &[u8]) -> Refusal {
-    match after(bytes, Mark::Colon) {
-        Some(_) => Refusal::LeftOut,
-        None => Refusal::Unexpected,
-    }
-}
-
-/// What follows the comma behind the name of a result.
-fn next_result(bytes: &[u8]) -> Result<&[u8], ReadError>
-    ensures { Gives (λ r. r.now) result (of_option (after Comma bytes.now)) }
-{
-    match after(bytes, Mark::Comma) {
-        Some(rest) => Ok(rest),
-        None => Err(ReadError::Refused(wrong(result_refusal(bytes), bytes))),
-    }
-}
-
-/// Why no comma follows an operand: the number of a result is left out.
-fn operand_refusal(bytes: &[u8]) -> Refusal {
-    match lexer::token(bytes) {
-        Ok((Token::Hash(word), _)) if word.iter().all(|byte| byte.is_ascii_digit()) => {
-            Refusal::LeftOut
-        }
-        _ => Refusal::Unexpected,
-    }
-}
-
-/// What follows the comma behind an operand.
-fn next_operand(bytes: &[u8]) -> Result<&[u8], ReadError>
-    ensures { Gives (λ r. r.now) result (of_option (after Comma bytes.now)) }
-{
-    match after(bytes, Mark::Comma) {
-        Some(rest) => Ok(rest),
-        None => Err(ReadError::Refused(wrong(operand_refusal(bytes), bytes))),
-    }
-}
-
-/// Names up to an equal sign, at most 256.
-#[tactic(auto, unfolding(crate::specs::FrontReading::names_at))]
-fn names<'a>(alloc: Global, bytes: &'a [u8]) -> Result<(Vec<&'a [u8]>, &'a [u8]), ReadError>
-    ensures { Gives (λ x. (map (λ n. n.now) x.0.items, x.1.now)) result (names_at bytes.now) }
-{
-    let mut items = Vec::new(alloc);
-    let mut rest = bytes;
-    'items: for _ in 0..256usize {
-        let (item, tail) = name(rest)?;
-        items.push(item)?;
-        if let Some(end) = after(tail, Mark::Equal) {
-            return Ok((items, end));
-        }
-        rest = next_result(tail)?;
-    }
-    Err(ReadError::Refused(one_too_many(rest)))
-}
-
-/// The names of the results, where a name comes first.
-#[tactic(auto, unfolding(crate::specs::FrontReading::results_at))]
-fn results<'a>(
-    alloc: Global,
-    bytes: &'a [u8],
-) -> Result<(Option<Vec<&'a [u8]>>, &'a [u8]), ReadError>
-    ensures { Gives (λ x. (option_map (λ v. map (λ n. n.now) v.items) x.0, x.1.now)) result (results_at bytes.now) }
-{
-    let (found, _) = token(bytes)?;
-    match found {
-        Token::Value(_) => {
-            let (names, rest) = names(alloc, bytes)?;
-            Ok((Some(names), rest))
-        }
-        _ => Ok((None, bytes)),
-    }
 }
 
 /// Why no name of an operation begins with a token, which may stand behind the names of results.
@@ -147,15 +56,56 @@ fn op_name(alloc: Global, bytes: &[u8], named: bool) -> Result<(Vec<u8>, &[u8]),
     }
 }
 
-/// A name that can be seen.
+/// Whether all bytes are digits.
+fn are_digits(bytes: &[u8]) -> bool
+    ensures { result ≡ list_all is_ascii_digit bytes.now }
+{
+    bytes.iter().all(|byte| byte.is_ascii_digit())
+}
+
+/// The value of a pack whose number the digits write.
+#[tactic(auto, using(crate::proofs::Members::place_is))]
+fn numbered(pack: &Pack, digits: &[u8]) -> Option<Bound>
+    requires { IsTrue (list_all is_ascii_digit digits.now) }
+    ensures { result ≡ slice_get pack.now (place_value 10 digits.now) }
+{
+    let count = pack.len() as u128;
+    let place = integer_value(digits)?;
+    if place >= count {
+        return None;
+    }
+    pack.get(place as usize).copied()
+}
+
+/// One of the values of a pack: the one whose number stands behind a hash sign, or else the first.
+#[tactic(auto, unfolding(crate::specs::FrontReading::member_at, crate::specs::FrontReading::place_at))]
+fn member<'a>(pack: &Pack, bytes: &'a [u8]) -> Result<(Bound, &'a [u8]), ReadError>
+    ensures { Gives (λ x. (x.0, x.1.now)) result (member_at pack.now bytes.now) }
+{
+    let (found, rest) = match lexer::token(bytes) {
+        Ok((Token::Hash(digits), rest)) => {
+            if !are_digits(digits) {
+                return Err(ReadError::Refused(wrong(Refusal::Unexpected, bytes)));
+            }
+            (numbered(pack, digits), rest)
+        }
+        _ => (pack.get(0).copied(), bytes),
+    };
+    match found {
+        Some(value) => Ok((value, rest)),
+        None => Err(ReadError::Refused(wrong(Refusal::UnknownValue, bytes))),
+    }
+}
+
+/// A name that can be seen, and one of its values.
 #[tactic(auto, unfolding(crate::specs::FrontReading::use_at))]
-fn operand<'a>(names: &Names<'a, Bound>, bytes: &'a [u8]) -> Result<(Bound, &'a [u8]), ReadError>
+fn operand<'a>(names: &Names<'a, Pack>, bytes: &'a [u8]) -> Result<(Bound, &'a [u8]), ReadError>
     ensures { Gives (λ x. (x.0, x.1.now)) result (use_at names.now.here bytes.now) }
 {
     let (found, rest) = token(bytes)?;
     match found {
         Token::Value(name) => match names.find(name) {
-            Some(bound) => Ok((*bound, rest)),
+            Some(pack) => member(pack, rest),
             None => Err(ReadError::Refused(wrong(Refusal::UnknownValue, bytes))),
         },
         _ => Err(ReadError::Refused(wrong(Refusal::Unexpected, bytes))),
@@ -166,7 +116,7 @@ fn operand<'a>(names: &Names<'a, Bound>, bytes: &'a [u8]) -> Result<(Bound, &'a 
 #[tactic(auto, unfolding(ir_text_type_base::specs::Lists::list_at, crate::specs::FrontReading::uses_at))]
 fn operands<'a>(
     alloc: Global,
-    names: &Names<'a, Bound>,
+    names: &Names<'a, Pack>,
     bytes: &'a [u8],
 ) -> Result<(Vec<Bound>, &'a [u8]), ReadError>
     ensures { Gives (λ x. (x.0.items, x.1.now)) result (uses_at names.now.here bytes.now) }
@@ -185,7 +135,7 @@ fn operands<'a>(
         if let Some(end) = after(tail, Mark::CloseRound) {
             return Ok((items, end));
         }
-        rest = next_operand(tail)?;
+        rest = expect(tail, Mark::Comma)?;
     }
     Err(ReadError::Refused(one_too_many(rest)))
 }
@@ -194,7 +144,7 @@ fn operands<'a>(
 #[tactic(auto, unfolding(crate::specs::FrontReading::start_at))]
 pub fn start<'a>(
     alloc: Global,
-    names: &Names<'a, Bound>,
+    names: &Names<'a, Pack>,
     bytes: &'a [u8],
 ) -> Result<(Front<'a>, &'a [u8]), ReadError>
     ensures { Gives (λ x. (start_view x.0, x.1.now)) result (start_at names.now.here bytes.now) }

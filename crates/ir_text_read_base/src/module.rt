@@ -14,14 +14,14 @@ ghost use Rattle.ir_text_read_base.specs.Claims.{IsOnly, IsNone, IsRootOrNone, I
 use crate::ops::{op, ops};
 use crate::places::is_outside;
 use crate::scope::Scope;
-use ir_text_type_base::error::{ReadError, wrong};
-use ir_text_type_base::steps::after;
 use ir_text_base::fault::Fault;
 use ir_text_base::lexer::token;
 use ir_text_base::limits::check_text;
 use ir_text_base::names::Names;
 use ir_text_base::strings::string_value;
 use ir_text_base::token::{Mark, Token};
+use ir_text_type_base::error::{ReadError, wrong};
+use ir_text_type_base::steps::after;
 use ir_tree::check::check;
 use ir_tree::numbered::numbered;
 use ir_tree::sound::sound;

@@ -17,11 +17,11 @@ use crate::front::{Front, start};
 use crate::places::{fault_at_name, placed, region_too_many};
 use crate::results::finish;
 use crate::scope::Scope;
+use ir_text_base::fault::Fault;
+use ir_text_base::token::Mark;
 use ir_text_type_base::error::{ReadError, wrong};
 use ir_text_type_base::steps::{self, after, expect};
 use ir_text_type_base::types::function_type;
-use ir_text_base::fault::Fault;
-use ir_text_base::token::Mark;
 use ir_tree::tree::{TreeOp, TreeRegion};
 use ir_types::context::Context;
 use ir_types::ids::{NameId, OpId, TypeId};
@@ -76,7 +76,14 @@ fn tail<'a>(
     if !agrees(&front.operands, &inputs) {
         return Err(ReadError::Refused(colon));
     }
-    finish(&mut scope.names, id, &front.results, &results, colon.left)?;
+    finish(
+        alloc,
+        &mut scope.names,
+        id,
+        &front.results,
+        &results,
+        colon.left,
+    )?;
     let operands = values_of(alloc, &front.operands)?;
     let props = properties_of(alloc, ctx, name, &written, &others)?;
     let attrs = attributes_of(alloc, ctx, name, &others)?;
@@ -197,11 +204,13 @@ pub fn op<'a>(
     ensures { Gives (λ x. (x.0, state_of x.1.now scope.new ctx.new)) result (op_at depth (state_of bytes.now scope.old ctx.old)) }
 {
     if depth == 0 {
-        return Err(ReadError::Refused(fault_at_name(Refusal::TooDeep, bytes)));
+        let fault = fault_at_name(alloc, Refusal::TooDeep, bytes)?;
+        return Err(ReadError::Refused(fault));
     }
     let id = scope.next;
     if id >= MOST_OPS {
-        return Err(ReadError::Refused(fault_at_name(Refusal::TooMany, bytes)));
+        let fault = fault_at_name(alloc, Refusal::TooMany, bytes)?;
+        return Err(ReadError::Refused(fault));
     }
     let (front, behind) = match start(alloc, &scope.names, bytes) {
         Ok(found) => found,

@@ -1,40 +1,17 @@
 //! Where the faults of an operation stand. Language Reference, "Operations".
-use crate::bound::Bound;
-use crate::front::{begin_refusal, one_too_many};
-use ir_text_type_base::error::wrong;
-use ir_text_type_base::steps::after;
+use crate::front::begin_refusal;
+use crate::named::{counted, results};
+use crate::pack::Pack;
 use ir_text_base::fault::Fault;
 use ir_text_base::lexer::{skip, token};
 use ir_text_base::names::Names;
 use ir_text_base::token::{Mark, Token};
+use ir_text_type_base::error::{ReadError, wrong};
+use ir_text_type_base::steps::after;
 use ir_tree::value::Value;
 use ir_types::ids::OpId;
 use ir_types::refusal::Refusal;
-
-/// What follows the name of a result.
-fn behind_name(bytes: &[u8]) -> Result<&[u8], Fault> {
-    let (found, rest) = token(bytes)?;
-    match found {
-        Token::Value(_) => Ok(rest),
-        _ => Err(wrong(Refusal::Unexpected, bytes)),
-    }
-}
-
-/// What follows the names of the results and their equal sign.
-fn behind_names(bytes: &[u8]) -> Result<&[u8], Fault> {
-    let mut rest = bytes;
-    for _ in 0..256usize {
-        let tail = behind_name(rest)?;
-        if let Some(end) = after(tail, Mark::Equal) {
-            return Ok(end);
-        }
-        let Some(next) = after(tail, Mark::Comma) else {
-            return Err(wrong(Refusal::Unexpected, tail));
-        };
-        rest = next;
-    }
-    Err(one_too_many(rest))
-}
+use std::alloc::{AllocError, Global};
 
 /// The fault at the name of an operation, or at what is none.
 fn fault_at(refusal: Refusal, bytes: &[u8], named: bool) -> Fault {
@@ -47,34 +24,53 @@ fn fault_at(refusal: Refusal, bytes: &[u8], named: bool) -> Fault {
 }
 
 /// The fault of an operation that may not stand here: it is told at the name.
-pub(crate) fn fault_at_name(refusal: Refusal, bytes: &[u8]) -> Fault {
-    match token(bytes) {
-        Ok((Token::Value(_), _)) => match behind_names(bytes) {
-            Ok(rest) => fault_at(refusal, rest, true),
-            Err(fault) => fault,
-        },
-        _ => fault_at(refusal, bytes, false),
+pub(crate) fn fault_at_name(
+    alloc: Global,
+    refusal: Refusal,
+    bytes: &[u8],
+) -> Result<Fault, AllocError> {
+    match results(alloc, bytes) {
+        Ok((names, rest)) => Ok(fault_at(refusal, rest, names.is_some())),
+        Err(ReadError::Refused(fault)) => Ok(fault),
+        Err(_) => Err(AllocError),
     }
 }
 
-/// Whether a name stands for a result of an operation.
-fn is_result<'a>(names: &Names<'a, Bound>, name: &'a [u8], id: u32, place: u32) -> bool {
-    match names.find(name) {
+/// Whether a name stands for the results of an operation from a place on.
+fn is_result<'a>(names: &Names<'a, Pack>, name: &'a [u8], id: u32, place: u32) -> bool {
+    let Some(pack) = names.find(name) else {
+        return false;
+    };
+    match pack.get(0) {
         Some(bound) => bound.value == Value::Result(OpId::new(id), place),
         None => false,
     }
 }
 
-/// The fault at the first name among the results of an operation that does not stand for its result.
-fn redefined<'a>(names: &Names<'a, Bound>, id: u32, bytes: &'a [u8]) -> Fault {
+/// The count behind the name of a result, and what follows it.
+fn behind_name(bytes: &[u8]) -> (u32, &[u8]) {
+    let Some(rest) = after(bytes, Mark::Colon) else {
+        return (1, bytes);
+    };
+    match token(rest) {
+        Ok((Token::Integer(digits), rest)) => (counted(digits, 0).unwrap_or(1), rest),
+        _ => (1, bytes),
+    }
+}
+
+/// The fault at the first name among the results of an operation that does not stand for its results.
+fn redefined<'a>(names: &Names<'a, Pack>, id: u32, bytes: &'a [u8]) -> Fault {
     let mut rest = bytes;
-    for place in 0..256u32 {
+    let mut place = 0u32;
+    for _ in 0..256usize {
         let Ok((Token::Value(name), tail)) = token(rest) else {
             return wrong(Refusal::Redefined, rest);
         };
         if !is_result(names, name, id, place) {
             return wrong(Refusal::Redefined, rest);
         }
+        let (count, tail) = behind_name(tail);
+        place = place.saturating_add(count);
         match after(tail, Mark::Comma) {
             Some(next) => rest = next,
             None => return wrong(Refusal::Redefined, rest),
@@ -86,7 +82,7 @@ fn redefined<'a>(names: &Names<'a, Bound>, id: u32, bytes: &'a [u8]) -> Fault {
 /// The fault behind an operation's regions: `Successors` where they stand behind its operands, and a
 /// name that is bound already at the name. The operation begins at `bytes`.
 pub(crate) fn placed<'a>(
-    names: &Names<'a, Bound>,
+    names: &Names<'a, Pack>,
     id: u32,
     bytes: &'a [u8],
     behind_operands: &'a [u8],

@@ -1,92 +1,129 @@
 //! The names of results. Language Reference, "Operations".
-ghost use Rattle.std.specs.Prelude.{◌≡◌, ◌+◌, ◌≤◌, map, option_map, length};
+ghost use Rattle.std.specs.Prelude.{◌≡◌, ◌+◌, ◌≤◌, ◌==◌, map, option_map, length, IfOk};
 ghost use Rattle.ir_text_type_base.specs.Outcomes.{Gives};
-ghost use Rattle.ir_text_read_base.specs.OpReading.{bind_results, finish};
+ghost use Rattle.ir_text_read_base.specs.Packs.{counts, named_view};
+ghost use Rattle.ir_text_read_base.specs.OpReading.{results_of, bind_results, finish};
 
 use crate::binding::bind;
 use crate::bound::Bound;
-use ir_text_type_base::error::ReadError;
+use crate::named::Named;
+use crate::pack::Pack;
 use ir_text_base::fault::Fault;
 use ir_text_base::names::Names;
+use ir_text_type_base::error::ReadError;
 use ir_tree::value::Value;
 use ir_types::ids::{OpId, TypeId};
 use ir_types::refusal::Refusal;
+use std::alloc::{AllocError, Global};
 
-/// Binds the names of the results, one for each type; so many bytes are left at the function type.
+/// The results of an operation from a place on, by their types.
+#[tactic(auto, unfolding(crate::specs::OpReading::results_of))]
+fn many_results(
+    alloc: Global,
+    id: u32,
+    place: u32,
+    types: &[TypeId],
+) -> Result<Vec<Bound>, AllocError>
+    requires { place + length types.now ≤ 256 }
+    ensures { IfOk result (λ v. v.items ≡ results_of id place types.now) }
+{
+    let mut values = Vec::new(alloc);
+    let mut rest = types;
+    let mut next = place;
+    'types: while let [ty, tail @ ..] = rest {
+        let value = Value::Result(OpId::new(id), next);
+        values.push(Bound { value, ty: *ty })?;
+        next += 1;
+        rest = tail;
+    }
+    Ok(values)
+}
+
+/// The pack of the results of an operation from a place on. One alone takes no memory.
+#[tactic(auto, unfolding(crate::specs::OpReading::results_of))]
+fn results_of(alloc: Global, id: u32, place: u32, types: &[TypeId]) -> Result<Pack, AllocError>
+    requires { place + length types.now ≤ 256 }
+    ensures { IfOk result (λ p. p ≡ results_of id place types.now) }
+{
+    if let [ty] = types {
+        let value = Value::Result(OpId::new(id), place);
+        return Ok(Pack::one(Bound { value, ty: *ty }));
+    }
+    let values = many_results(alloc, id, place, types)?;
+    Ok(Pack::many(values))
+}
+
+/// Binds the names of the results, each to as many as it counts; so many bytes are left at the function type.
 #[tactic(auto, unfolding(crate::specs::OpReading::bind_results))]
 fn bind_results<'a>(
-    names: &mut Names<'a, Bound>,
+    alloc: Global,
+    names: &mut Names<'a, Pack>,
     id: u32,
-    results: &[&'a [u8]],
+    results: &[Named<'a>],
     types: &[TypeId],
     left: usize,
 ) -> Result<(), ReadError>
-    requires { length types.now ≤ 256 }
-    ensures { Gives (λ _. names.new) result (bind_results id 0 (map (λ n. n.now) results.now) types.now names.old) }
+    requires few { length types.now ≤ 256 }
+    requires counted { counts (map named_view results.now) ≡ length types.now }
+    ensures { Gives (λ _. names.new) result (bind_results id 0 (map named_view results.now) types.now names.old) }
 {
     let mut rest = results;
     let mut others = types;
     let mut place = 0u32;
-    'names: while let [name, more @ ..] = rest {
-        let [ty, tail @ ..] = others else {
-            return Err(mismatch(left));
-        };
-        let value = Value::Result(OpId::new(id), place);
-        match bind(names, name, value, *ty, left) {
+    'names: while let [item, more @ ..] = rest {
+        let (mine, tail) = others.split_at(item.count as usize);
+        let pack = results_of(alloc, id, place, mine)?;
+        match bind(names, item.name, pack, left) {
             Ok(()) => {}
             Err(e) => return Err(e),
         }
-        place += 1;
+        place += item.count;
         rest = more;
         others = tail;
     }
-    if others.is_empty() {
-        Ok(())
-    } else {
-        Err(mismatch(left))
-    }
+    Ok(())
 }
 
-fn mismatch(left: usize) -> ReadError
-    ensures { result ≡ ReadError.Refused (record { refusal = Refusal.TypeMismatch; left = left }) }
+/// Whether the names stand together for so many results.
+fn is_total(results: &[Named<'_>], wanted: usize) -> bool
+    ensures { result ≡ (counts (map named_view results.now) == wanted) }
 {
-    ReadError::Refused(Fault {
-        refusal: Refusal::TypeMismatch,
-        left,
-    })
+    let mut rest = results;
+    let mut left = wanted;
+    'names: while let [item, tail @ ..] = rest {
+        let count = item.count as usize;
+        if count > left {
+            return false;
+        }
+        left -= count;
+        rest = tail;
+    }
+    left == 0
 }
 
-/// The fault at the function type, where the numbers of names and results differ, or else that of a name.
-fn counted(agrees: bool, left: usize, fault: Fault) -> Fault {
-    if agrees {
-        return fault;
-    }
-    Fault {
-        refusal: Refusal::TypeMismatch,
-        left,
-    }
-}
-
-/// Binds the names of the results, where they are written.
+/// Binds the names of the results, where they are written. `TypeMismatch` at the function type, where the
+/// counts are not as many as the results.
 pub fn finish<'a>(
-    names: &mut Names<'a, Bound>,
+    alloc: Global,
+    names: &mut Names<'a, Pack>,
     id: u32,
-    results: &Option<Vec<&'a [u8]>>,
+    results: &Option<Vec<Named<'a>>>,
     types: &[TypeId],
     left: usize,
 ) -> Result<(), ReadError>
     requires { length types.now ≤ 256 }
-    ensures { Gives (λ _. names.new) result (finish id (option_map (λ v. map (λ n. n.now) v.items) results.now) types.now names.old) }
+    ensures { Gives (λ _. names.new) result (finish id (option_map (λ v. map named_view v.items) results.now) types.now names.old) }
 {
     match results {
         None => Ok(()),
-        Some(results) => match bind_results(names, id, results, types, left) {
-            Ok(()) => Ok(()),
-            Err(ReadError::Refused(fault)) => {
-                let agrees = results.len() == types.len();
-                Err(ReadError::Refused(counted(agrees, left, fault)))
+        Some(results) => {
+            if !is_total(results, types.len()) {
+                return Err(ReadError::Refused(Fault {
+                    refusal: Refusal::TypeMismatch,
+                    left,
+                }));
             }
-            Err(e) => Err(e),
-        },
+            bind_results(alloc, names, id, results, types, left)
+        }
     }
 }

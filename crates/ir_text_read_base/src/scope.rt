@@ -1,10 +1,10 @@
 //! Where a reader is.
-use crate::bound::Bound;
+use crate::pack::Pack;
 use ir_text_base::names::Names;
 
 /// The names that are bound, and the next free id.
 #[derive(Drop)]
 pub struct Scope<'a> {
-    pub names: Names<'a, Bound>,
+    pub names: Names<'a, Pack>,
     pub next: u32,
 }

@@ -8,6 +8,8 @@ mod function_tests;
 #[cfg(test)]
 mod limit_tests;
 #[cfg(test)]
+mod pack_tests;
+#[cfg(test)]
 mod reading;
 #[cfg(test)]
 mod refusal_tests;
