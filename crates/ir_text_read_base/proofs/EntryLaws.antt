@@ -18,20 +18,21 @@ use Rattle.ir_types.proofs.Terms.{name_term_one}
 use Rattle.ir_text_type_base.specs.Outcomes.{Outcome, Read, Wrong, ◌>>=◌, Parse}
 use Rattle.ir_text_type_base.specs.Grammars.{Grammar, Then, Done, After, Token, IsMark}
 use Rattle.ir_text_type_base.specs.Typed.{Typed, after_typed, name_step}
-use Rattle.ir_text_attr_base.specs.AttrReading.{attr_done, attr_at}
-use Rattle.ir_text_attr_base.specs.AttrGrammar.{IsAttr, IsFine}
+use Rattle.ir_text_attr_base.specs.AttrReading.{key_at, value_at, attr_at}
+use Rattle.ir_text_attr_base.specs.AttrGrammar.{EntryTerm, IsKey, IsAttr}
 use Rattle.ir_text_type_base.specs.Worlds.{From}
 use Rattle.ir_text_type_base.specs.Standing.{NameStands, AttrStands}
 use Rattle.ir_text_type_base.specs.Laws.{Each}
 use Rattle.ir_text_type_base.proofs.Worlds.{Exact, exact_where, exact_spelled, nothing_exact, then_exact, done_exact, after_exact, either_exact}
 use Rattle.ir_text_type_base.proofs.TextLaws.{things, Same, typed_marks}
 use Rattle.ir_text_type_base.proofs.TokenLaws.{behind_exact, token_exact}
-use Rattle.ir_text_attr_base.proofs.AttrLaws.{IsNodeOf, name_exact, attr_done_exact, attr_exact}
+use Rattle.ir_text_attr_base.proofs.PartLaws.{key_exact, value_exact}
+use Rattle.ir_text_attr_base.proofs.AttrLaws.{attr_exact}
 use Rattle.ir_text_read_base.specs.Entries.{moved, staying, is_refused}
-use Rattle.ir_text_read_base.specs.EntryReading.{Entries, is_property_in, refused_in, key_from, key_at, value_from, value_at, entry_at, entries_at, some_properties, properties_from, properties_at, attributes_from, attributes_at}
+use Rattle.ir_text_read_base.specs.EntryReading.{Entries, is_property_in, refused_in, entry_at, entries_at, some_properties, properties_from, properties_at, attributes_from, attributes_at}
 use Rattle.ir_text_read_base.specs.Seen.{When}
 use Rattle.ir_text_read_base.specs.FrontReading.{Text}
-use Rattle.ir_text_read_base.specs.OpGrammar.{EntryTerm, is_property, IsKey, IsValue, IsEntry, IsEntries, IsProperties, IsAttributes}
+use Rattle.ir_text_read_base.specs.OpGrammar.{is_property, IsEntryValue, IsEntry, IsEntries, IsProperties, IsAttributes}
 use Rattle.ir_text_read_base.specs.Standing.{Both, EntryStands}
 use Rattle.ir_text_read_base.proofs.FrontLaws.{items_exact}
 
@@ -97,75 +98,35 @@ refused_same z op name ps qs k y es fs sound o p h e =
     let others = each_length EntryStands z (staying (is_property_in z op) es) (staying (is_property name) fs) (each_filter EntryStands z (λ x. not (is_property_in z op x.0)) (λ v. not (is_property name v.0)) (λ x v r. ap not (property x v r)) es fs e) in
     λ i. (before i || here i) || (if test i then nat_le 256 (all i + some i) else nat_le 256 (others i))
 
--- ---- a key and a value
-
-abbrev KeyFrom : Lexeme → Text → Grammar Text (List ℕ)
-KeyFrom (bare w) rest y old new = Done w y rest new
-KeyFrom (string raw) rest y old new = Done (string_bytes raw) y rest new
-KeyFrom _ rest y old new = ⊥
-
-abbrev name_in : List ℕ → Parse Typed ℕ
-name_in bytes s = name_step bytes s.1 >>= λ n. Read (n.0, (s.0, n.1))
-
-key_from_exact : (c : Things) (l : Lexeme) (rest : Text) → Exact things Same c NameStands (λ s. key_from s.1 l rest) (KeyFrom l rest)
-key_from_exact c (bare w) rest = behind_exact c NameStands rest (name_in w) (Done w) (name_exact c w)
-key_from_exact c (string raw) rest = behind_exact c NameStands rest (name_in (string_bytes raw)) (Done (string_bytes raw)) (name_exact c (string_bytes raw))
-key_from_exact c _ rest = nothing_exact things Same c NameStands
-
-key_into : (y : List ℕ) (t t' : Text) → (l : Lexeme) × (rest : Text) × Token l t rest × KeyFrom l rest y t t' → IsKey y t t'
-key_into y t t' k = by_token k.0 k.1 k.2 k.3
-  where
-    by_token : (l : Lexeme) (rest : Text) → Token l t rest → KeyFrom l rest y t t' → IsKey y t t'
-    by_token (bare w) rest token k = rw (k.0, k.1) (inl token)
-    by_token (string raw) rest token k = inr (raw, subst (λ r. Token (string raw) t r) (sym k.1) token, k.0)
-    by_token _ rest token k = absurd k
-
-key_back : (y : List ℕ) (t t' : Text) → IsKey y t t' → (l : Lexeme) × (rest : Text) × Token l t rest × KeyFrom l rest y t t'
-key_back y t t' (inl k) = (bare y, t', k, (refl, refl))
-key_back y t t' (inr k) = (string k.0, t', k.1, (k.2, refl))
-
-key_exact : (c : Things) → Exact things Same c NameStands key_at IsKey
-unfolding key_at
-key_exact c =
-    exact_spelled things Same c NameStands key_at (λ y old new. (l : Lexeme) × (rest : Text) × Token l old rest × KeyFrom l rest y old new) IsKey key_into key_back
-    (token_exact c NameStands (λ s l rest. key_from s.1 l rest) KeyFrom (key_from_exact c))
-
-unit_is : (z : Things) → IsNodeOf attr.Unit Flag z
-unfolding kept
-unit_is z = (tt, refl)
-
-value_exact : (c : Things) → Exact things Same c AttrStands value_at IsValue
-unfolding value_at
-value_exact c =
-    either_exact things Same after_typed IsMark typed_marks c AttrStands Equal value_from attr_at (attr_done attr.Unit) IsAttr (IsFine Flag) (λ s mid. refl) (λ s. refl) (attr_exact c)
-    (attr_done_exact c attr.Unit Flag (refl, refl) (λ z k w. unit_is z))
-
 -- ---- entries
+
+value_read : (c : Things) → Exact things Same c AttrStands (value_at 32) IsEntryValue
+value_read c = value_exact 32 (attr_at 32) (IsAttr 32) (attr_exact 32) c
 
 abbrev with_value : ℕ → Outcome (ℕ × Typed) → Outcome ((ℕ × ℕ) × Typed)
 with_value k o = o >>= λ a. Read ((k, a.0), a.1)
 
 module _ (d : Things) (k : ℕ) (y : List ℕ) (stands : From (λ z. NameStands z k y) d) where
-  allowed_exact : (b : Bool) → Exact things Same d EntryStands (λ s. with_value k (if b then Wrong else value_at s)) (When (b ≡ false) (Then IsValue (λ a. Done (y, a))))
+  allowed_exact : (b : Bool) → Exact things Same d EntryStands (λ s. with_value k (if b then Wrong else value_at 32 s)) (When (b ≡ false) (Then IsEntryValue (λ a. Done (y, a))))
   allowed_exact true =
-      exact_spelled things Same d EntryStands (λ s. Wrong) (λ v old new. ⊥) (When (true ≡ false) (Then IsValue (λ a. Done (y, a)))) (λ v t t' e. absurd e) (λ v t t' e. absurd (true≢false e.0))
+      exact_spelled things Same d EntryStands (λ s. Wrong) (λ v old new. ⊥) (When (true ≡ false) (Then IsEntryValue (λ a. Done (y, a)))) (λ v t t' e. absurd e) (λ v t t' e. absurd (true≢false e.0))
       (nothing_exact things Same d EntryStands)
   allowed_exact false =
-      exact_spelled things Same d EntryStands (λ s. with_value k (value_at s)) (Then IsValue (λ a. Done (y, a))) (When (false ≡ false) (Then IsValue (λ a. Done (y, a)))) (λ v t t' e. (refl, e)) (λ v t t' e. e.1)
-      (then_exact things Same d AttrStands EntryStands value_at IsValue (λ a s. Read ((k, a), s)) (λ a. Done (y, a)) (value_exact d) (λ e a v g r.
+      exact_spelled things Same d EntryStands (λ s. with_value k (value_at 32 s)) (Then IsEntryValue (λ a. Done (y, a))) (When (false ≡ false) (Then IsEntryValue (λ a. Done (y, a)))) (λ v t t' e. (refl, e)) (λ v t t' e. e.1)
+      (then_exact things Same d AttrStands EntryStands (value_at 32) IsEntryValue (λ a s. Read ((k, a), s)) (λ a. Done (y, a)) (value_read d) (λ e a v g r.
       done_exact things Same e EntryStands (k, a) (y, v) (λ z j w. (stands z (grows_trans d e z g j) w, r z j w))))
 
 module _ (base : Things) (op : Option ℕ) (name : Option (List ℕ)) (ps : Entries) (qs : List EntryTerm) (names : From (λ z. Both NameStands z op name) base) (before : From (λ z. Each EntryStands z ps qs) base) where
   entry_exact : (c : Things) (es : Entries) (fs : List EntryTerm) → Grows base c → From (λ z. Each EntryStands z es fs) c → Exact things Same c EntryStands (entry_at op ps es) (IsEntry name qs fs)
   unfolding entry_at
   entry_exact c es fs b front =
-      then_exact things Same c NameStands EntryStands key_at IsKey (λ k s. with_value k (if refused_in s.1 op ps k es then Wrong else value_at s)) (λ y. When (is_refused bytes_eq (is_property name) qs y fs ≡ false) (Then IsValue (λ a. Done (y, a))))
+      then_exact things Same c NameStands EntryStands key_at IsKey (λ k s. with_value k (if refused_in s.1 op ps k es then Wrong else value_at 32 s)) (λ y. When (is_refused bytes_eq (is_property name) qs y fs ≡ false) (Then IsEntryValue (λ a. Done (y, a))))
       (key_exact c) (λ d k y g r.
-      exact_where things Same d EntryStands (λ s. with_value k (if refused_in s.1 op ps k es then Wrong else value_at s)) (λ s. with_value k (if is_refused bytes_eq (is_property name) qs y fs then Wrong else value_at s)) (When (is_refused bytes_eq (is_property name) qs y fs ≡ false) (Then IsValue (λ a. Done (y, a))))
+      exact_where things Same d EntryStands (λ s. with_value k (if refused_in s.1 op ps k es then Wrong else value_at 32 s)) (λ s. with_value k (if is_refused bytes_eq (is_property name) qs y fs then Wrong else value_at 32 s)) (When (is_refused bytes_eq (is_property name) qs y fs ≡ false) (Then IsEntryValue (λ a. Done (y, a))))
       (λ s h sound.
       let up = grows_trans c d s.1 g h in
       let all = grows_trans base c s.1 b up in
-      ap (λ t. with_value k (if t then Wrong else value_at s)) (refused_same s.1 op name ps qs k y es fs sound (names s.1 all sound) (before s.1 all sound) (r s.1 h sound) (front s.1 up sound)))
+      ap (λ t. with_value k (if t then Wrong else value_at 32 s)) (refused_same s.1 op name ps qs k y es fs sound (names s.1 all sound) (before s.1 all sound) (r s.1 h sound) (front s.1 up sound)))
       (allowed_exact d k y r (is_refused bytes_eq (is_property name) qs y fs)))
 
   entries_exact : Exact things Same base (Each EntryStands) (entries_at op ps) (IsEntries name qs)

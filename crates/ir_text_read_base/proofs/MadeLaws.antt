@@ -21,7 +21,8 @@ use Rattle.ir_text_read_base.specs.EntryReading.{Entries, is_property_in}
 use Rattle.ir_text_read_base.specs.Made.{made}
 use Rattle.ir_text_read_base.specs.OpReading.{values_of, op_of}
 use Rattle.ir_text_read_base.specs.Seen.{BoundTerm}
-use Rattle.ir_text_read_base.specs.OpGrammar.{EntryTerm, RegionTerm, is_property}
+use Rattle.ir_text_attr_base.specs.AttrGrammar.{EntryTerm}
+use Rattle.ir_text_read_base.specs.OpGrammar.{RegionTerm, is_property}
 use Rattle.ir_text_read_base.specs.Standing.{BoundStands, EntryStands, RegionStands, OpStands}
 use Rattle.ir_text_read_base.proofs.EntryLaws.{each_filter, property_agrees}
 use Rattle.ir_text_read_base.proofs.BlockLaws.{types_known, types_are}

@@ -26,7 +26,7 @@ use Rattle.ir_text_type_base.specs.Standing.{NameStands, TypeStands}
 use Rattle.ir_text_type_base.specs.Laws.{Each, SignatureStands, FillsUp}
 use Rattle.ir_text_type_base.proofs.Worlds.{bind_assoc, later, Exact, Step, Reads, exact_where, exact_spelled, nothing_exact, then_exact, after_exact}
 use Rattle.ir_text_type_base.proofs.TypeLaws.{function_type_exact}
-use Rattle.ir_text_attr_base.proofs.AttrLaws as attrs
+use Rattle.ir_text_attr_base.proofs.NodeLaws as attrs
 use Rattle.ir_text_read_base.specs.declared.bound.Bound.{Bound}
 use Rattle.ir_text_read_base.specs.States.{State, to_bytes, after_in, typed, with_typed, with_scopes, fresh}
 use Rattle.ir_text_read_base.specs.FrontReading.{Text, Start, start_at}
@@ -34,7 +34,8 @@ use Rattle.ir_text_read_base.specs.EntryReading.{Entries, properties_at, attribu
 use Rattle.ir_text_read_base.specs.Made.{made}
 use Rattle.ir_text_read_base.specs.OpReading.{finish, types_of, op_of, regions_at, ops_at, tail_at, begun, op_with, op_at}
 use Rattle.ir_text_read_base.specs.Seen.{BoundTerm, PackTerm, Seen, seen_rest, seen_scopes, seen_fresh, IsMarkSeen, InText, When}
-use Rattle.ir_text_read_base.specs.OpGrammar.{StartTerm, EntryTerm, RegionTerm, is_property, IsStart, IsProperties, IsAttributes, IsRegions, IsFinished, IsOps, IsTail, IsOpWith, IsOp}
+use Rattle.ir_text_attr_base.specs.AttrGrammar.{EntryTerm}
+use Rattle.ir_text_read_base.specs.OpGrammar.{StartTerm, RegionTerm, is_property, IsStart, IsProperties, IsAttributes, IsRegions, IsFinished, IsOps, IsTail, IsOpWith, IsOp}
 use Rattle.ir_text_read_base.specs.Standing.{BoundStands, HereStands, StateStands, StartStands, EntryStands, RegionStands, OpStands}
 use Rattle.ir_text_read_base.proofs.FrontLaws.{begin_exact, shift_exact, start_exact}
 use Rattle.ir_text_read_base.proofs.EntryLaws.{properties_exact, attributes_exact}

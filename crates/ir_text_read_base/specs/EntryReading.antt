@@ -1,16 +1,13 @@
 -- Reading dictionaries.
 use Rattle.std.specs.Prelude.{ℕ, nat_eq, Bool, false, if◌then◌else◌, List, [], Option, Some, None}
-use Rattle.ir_text_base.specs.declared.token.Mark.TheVariants.{OpenCurly, CloseCurly, Less, Greater, Equal}
-use Rattle.ir_text_base.specs.Tokens.{Lexeme, bare, string, next}
-use Rattle.ir_text_base.specs.Strings.{string_bytes}
-use Rattle.ir_types.specs.declared.node.AttrNode.TheVariants as attr
+use Rattle.ir_text_base.specs.declared.token.Mark.TheVariants.{OpenCurly, CloseCurly, Less, Greater}
 use Rattle.ir_types.specs.Things.{Things}
 use Rattle.ir_types.specs.Terms.{name_term}
 use Rattle.ir_types.specs.Words.{is_inherent}
 use Rattle.ir_text_type_base.specs.Outcomes.{Outcome, Read, Wrong, ◌>>=◌, of_option, Parse}
 use Rattle.ir_text_type_base.specs.Lists.{list_at}
-use Rattle.ir_text_type_base.specs.Typed.{Typed, after_typed, name_step}
-use Rattle.ir_text_attr_base.specs.AttrReading.{attr_done, attr_at}
+use Rattle.ir_text_type_base.specs.Typed.{Typed, after_typed}
+use Rattle.ir_text_attr_base.specs.AttrReading.{key_at, value_at}
 use Rattle.ir_text_read_base.specs.Entries as keyed
 
 abbrev pub Entries : Type 0
@@ -25,26 +22,10 @@ is_property_in c (Some op) k = is_inherent (name_term c op) (name_term c k)
 abbrev pub refused_in : Things → Option ℕ → Entries → ℕ → Entries → Bool
 refused_in c op properties k es = keyed.is_refused nat_eq (is_property_in c op) properties k es
 
-abbrev pub key_from : Things → Lexeme → List ℕ → Outcome (ℕ × Typed)
-key_from c (bare w) rest = name_step w c >>= λ n. Read (n.0, (rest, n.1))
-key_from c (string raw) rest = name_step (string_bytes raw) c >>= λ n. Read (n.0, (rest, n.1))
-key_from c _ rest = Wrong
-
-unfoldable pub key_at : Parse Typed ℕ
-key_at s = of_option (next s.0) >>= λ t. key_from s.1 t.0 t.1
-
-abbrev pub value_from : Typed → Option Typed → Outcome (ℕ × Typed)
-value_from s (Some c) = attr_at c
-value_from s None = attr_done attr.Unit s
-
--- the attribute behind an equal sign, or unit where none stands
-unfoldable pub value_at : Parse Typed ℕ
-value_at s = value_from s (after_typed Equal s)
-
 unfoldable pub entry_at : Option ℕ → Entries → Entries → Parse Typed (ℕ × ℕ)
 entry_at op properties before s = do
   k ← key_at s
-  a ← (if refused_in k.1.1 op properties k.0 before then Wrong else value_at k.1)
+  a ← (if refused_in k.1.1 op properties k.0 before then Wrong else value_at 32 k.1)
   Read ((k.0, a.0), a.1)
 
 -- entries up to the closing brace; more than 512 are refused before

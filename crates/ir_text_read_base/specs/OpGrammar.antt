@@ -17,7 +17,7 @@ use Rattle.ir_tree.specs.Tree.{RegionOf}
 use Rattle.ir_tree.specs.Meaning.{Operation, key_before}
 use Rattle.ir_text_type_base.specs.Grammars.{Grammar, Then, Done, After, Not, Either, IsMore, IsList, Token, IsMark}
 use Rattle.ir_text_type_base.specs.TypeGrammar.{Text, IsType, IsFunctionType}
-use Rattle.ir_text_attr_base.specs.AttrGrammar.{IsAttr, IsFine}
+use Rattle.ir_text_attr_base.specs.AttrGrammar.{EntryTerm, IsKey, IsValue, IsAttr}
 use Rattle.ir_text_read_base.specs.Entries.{is_refused}
 use Rattle.ir_text_read_base.specs.Made.{region_of, made}
 use Rattle.ir_text_read_base.specs.Packs.{Counted, counts}
@@ -79,25 +79,19 @@ IsStart here =
 
 -- ---- dictionaries
 
-abbrev pub EntryTerm : Type 0
-EntryTerm = List ℕ × AttrTerm
-
 -- whether a key is a property of an operation wherever it stands; no key is where no operation is given
 abbrev pub is_property : Option (List ℕ) → List ℕ → Bool
 is_property None k = false
 is_property (Some op) k = is_inherent op k
 
-abbrev pub IsKey : Grammar Text (List ℕ)
-IsKey k old new = Token (bare k) old new ⊎ ((raw : List ℕ) × Token (string raw) old new × (k ≡ string_bytes raw))
-
--- the attribute behind an equal sign, or unit where none stands
-abbrev pub IsValue : Grammar Text AttrTerm
-IsValue = Either IsMark Equal IsAttr (IsFine Flag)
+-- the attribute of an entry, which may be 32 deep
+abbrev pub IsEntryValue : Grammar Text AttrTerm
+IsEntryValue = IsValue 32 (IsAttr 32)
 
 -- an entry whose key does not stand before it, nor among the properties, and for which there is room
 abbrev pub IsEntry : Option (List ℕ) → List EntryTerm → List EntryTerm → Grammar Text EntryTerm
 IsEntry op properties before =
-    Then IsKey (λ k. When (is_refused bytes_eq (is_property op) properties k before ≡ false) (Then IsValue (λ a. Done (k, a))))
+    Then IsKey (λ k. When (is_refused bytes_eq (is_property op) properties k before ≡ false) (Then IsEntryValue (λ a. Done (k, a))))
 
 abbrev pub IsEntries : Option (List ℕ) → List EntryTerm → Grammar Text (List EntryTerm)
 IsEntries op properties = IsList IsMark CloseCurly (IsEntry op properties) 513

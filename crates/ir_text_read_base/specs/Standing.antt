@@ -11,11 +11,12 @@ use Rattle.ir_tree.specs.Passing.{op_passes}
 use Rattle.ir_tree.specs.Meaning.{Operation, meaning, is_name, is_type, is_attr, is_known}
 use Rattle.ir_text_type_base.specs.Standing.{NameStands, TypeStands, AttrStands}
 use Rattle.ir_text_type_base.specs.Laws.{Each}
+use Rattle.ir_text_attr_base.specs.AttrGrammar.{EntryTerm}
 use Rattle.ir_text_read_base.specs.declared.bound.Bound.{Bound}
 use Rattle.ir_text_read_base.specs.States.{State}
 use Rattle.ir_text_read_base.specs.FrontReading.{Start}
 use Rattle.ir_text_read_base.specs.Seen.{BoundTerm, PackTerm, Seen}
-use Rattle.ir_text_read_base.specs.OpGrammar.{StartTerm, EntryTerm, RegionTerm}
+use Rattle.ir_text_read_base.specs.OpGrammar.{StartTerm, RegionTerm}
 
 -- what is read as it is spelled
 abbrev pub Equals : {A : Type 0} → Things → A → A → Type 0

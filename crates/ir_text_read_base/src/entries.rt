@@ -1,57 +1,18 @@
 //! Dictionaries as they are written. Language Reference, "Attributes" and "Properties".
 ghost use Rattle.std.specs.Prelude.{◌≡◌, is_some};
 ghost use Rattle.ir_text_type_base.specs.Outcomes.{Gives};
-ghost use Rattle.ir_text_read_base.specs.EntryReading.{refused_in, key_at, value_at, entry_at, entries_at, some_properties, properties_at, attributes_at};
+ghost use Rattle.ir_text_read_base.specs.EntryReading.{refused_in, entry_at, entries_at, some_properties, properties_at, attributes_at};
 
 use crate::dictionaries::{Entry, has_key, no_room};
-use ir_text_attr_base::attributes::{attr, unit};
-use ir_text_base::strings::string_value;
-use ir_text_base::token::{Mark, Token};
+use ir_text_attr_base::dictionaries::{key, value};
+use ir_text_base::token::Mark;
 use ir_text_type_base::error::{ReadError, wrong};
-use ir_text_type_base::steps::{self, after, expect, token};
+use ir_text_type_base::steps::{after, expect};
+use ir_text_type_base::types::MOST_DEPTH;
 use ir_types::context::Context;
-use ir_types::ids::{AttrId, NameId};
+use ir_types::ids::NameId;
 use ir_types::refusal::Refusal;
 use std::alloc::Global;
-
-/// The number of a key: a bare identifier or a string.
-#[tactic(auto, unfolding(crate::specs::EntryReading::key_at))]
-fn key<'a>(
-    alloc: Global,
-    ctx: &mut Context,
-    bytes: &'a [u8],
-) -> Result<(NameId, &'a [u8]), ReadError>
-    ensures { Gives (λ x. (x.0, (x.1.now, ctx.new))) result (key_at (bytes.now, ctx.old)) }
-{
-    let (found, rest) = token(bytes)?;
-    match found {
-        Token::Bare(word) => {
-            let id = steps::name(ctx, word, rest)?;
-            Ok((id, rest))
-        }
-        Token::String(raw) => {
-            let word = string_value(alloc, raw)?;
-            let id = steps::name(ctx, &word, rest)?;
-            Ok((id, rest))
-        }
-        _ => Err(ReadError::Refused(wrong(Refusal::Unexpected, bytes))),
-    }
-}
-
-/// The attribute behind an equal sign, or unit where none stands.
-#[tactic(auto, unfolding(crate::specs::EntryReading::value_at))]
-fn value<'a>(
-    alloc: Global,
-    ctx: &mut Context,
-    bytes: &'a [u8],
-) -> Result<(AttrId, &'a [u8]), ReadError>
-    ensures { Gives (λ x. (x.0, (x.1.now, ctx.new))) result (value_at (bytes.now, ctx.old)) }
-{
-    if let Some(rest) = after(bytes, Mark::Equal) {
-        return attr(alloc, ctx, rest);
-    }
-    unit(ctx, bytes)
-}
 
 /// Why a key may not come behind these entries: it stands there, or there is no room.
 fn refusal(
@@ -91,7 +52,7 @@ fn entry<'a>(
     if let Some(refusal) = refusal(ctx, op, properties, key, before) {
         return Err(ReadError::Refused(wrong(refusal, bytes)));
     }
-    let (attr, rest) = match value(alloc, ctx, rest) {
+    let (attr, rest) = match value(alloc, ctx, bytes, rest, MOST_DEPTH) {
         Ok(found) => found,
         Err(e) => return Err(e),
     };
