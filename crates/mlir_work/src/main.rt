@@ -1,7 +1,11 @@
 //! Runs a script over a module: `mlir_work [--brief]`.
 #![tactic(auto)]
 
+#[cfg(test)]
+mod fault_tests;
 mod run;
+#[cfg(test)]
+mod run_tests;
 
 use crate::run::{Options, run};
 use clap::{Arg, ArgAction, Command, Error};
