@@ -119,7 +119,11 @@ fn stopped_behind(ran: &Ran, wanted: &[u8], count: usize) -> bool {
 }
 
 /// The first number of bytes after which a fault doesn't end the run.
-fn first_unstopped(alloc: Global, wanted: &[u8], fault: Fault) -> Result<Option<usize>, AllocError> {
+fn first_unstopped(
+    alloc: Global,
+    wanted: &[u8],
+    fault: Fault,
+) -> Result<Option<usize>, AllocError> {
     for room in 0..wanted.len() {
         let ran = run_narrow(alloc, room, fault)?;
         if !stopped_behind(&ran, wanted, room) {

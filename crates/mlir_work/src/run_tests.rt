@@ -6,7 +6,8 @@ use std::alloc::{AllocError, Global};
 use std::io::{Read, Write};
 
 /// A function that adds a constant to its argument.
-pub(crate) const TEXT: &[u8] = b"\"func.func\"() <{function_type = (i32) -> i32, sym_name = \"f\"}> ({
+pub(crate) const TEXT: &[u8] =
+    b"\"func.func\"() <{function_type = (i32) -> i32, sym_name = \"f\"}> ({
 ^bb0(%a: i32):
   %c = \"arith.constant\"() <{value = 2 : i32}> : () -> i32
   %s = \"arith.addi\"(%a, %c) <{overflowFlags = #arith.overflow<none>}> : (i32, i32) -> i32
@@ -98,13 +99,7 @@ fn run_with(alloc: Global, count: u32, input: &[u8]) -> Result<Ran, AllocError> 
     let boxes = listeners(alloc, count)?;
     let mut reader = input;
     let mut out: Vec<u8> = Vec::new(alloc);
-    let status = run(
-        alloc,
-        Options { brief: true },
-        &mut reader,
-        &mut out,
-        boxes,
-    );
+    let status = run(alloc, Options { brief: true }, &mut reader, &mut out, boxes);
     Ok(Ran { status, out })
 }
 
@@ -136,7 +131,10 @@ print
 fn refused_module(rt: HostRuntime) -> Result<(), AllocError> {
     let text = b"\"test.a\"() {a = 256 : i8} : () -> ()\n";
     let ran = run_of(rt.alloc(), false, &[text, DIVIDER, b"print\n"])?;
-    assert_eq!(rt; ran.out.as_slice(), b"module refused 7 BadValue at 16\n".as_slice());
+    assert_eq!(rt;
+        ran.out.as_slice(),
+        b"module refused 7 BadValue at 16\n".as_slice()
+    );
     assert_eq!(rt; ran.status, 3);
     Ok(())
 }
@@ -170,19 +168,20 @@ fn no_divider(rt: HostRuntime) -> Result<(), AllocError> {
 #[test]
 fn almost_a_divider(rt: HostRuntime) -> Result<(), AllocError> {
     let ran = run_of(rt.alloc(), false, &[b"// ----- \nprint\n"])?;
-    assert_eq!(rt; ran.out.as_slice(), b"module refused 13 LeftOut at 10\n".as_slice());
+    assert_eq!(rt;
+        ran.out.as_slice(),
+        b"module refused 13 LeftOut at 10\n".as_slice()
+    );
     assert_eq!(rt; ran.status, 3);
     Ok(())
 }
 
 #[test]
 fn carriage_returns(rt: HostRuntime) -> Result<(), AllocError> {
-    let script = b"report uses\r\n\r\n// a comment\r\n \tset-operand  #3 0\t%v2.0 \r\nreport uses\r";
+    let script =
+        b"report uses\r\n\r\n// a comment\r\n \tset-operand  #3 0\t%v2.0 \r\nreport uses\r";
     let ran = run_of(rt.alloc(), true, &[TEXT, DIVIDER, script])?;
-    let wanted = joined(
-        rt.alloc(),
-        &[b"1 ok\n", USES, b"2 ok\n3 ok\n", EDITED_USES],
-    )?;
+    let wanted = joined(rt.alloc(), &[b"1 ok\n", USES, b"2 ok\n3 ok\n", EDITED_USES])?;
     assert_eq!(rt; ran.out.as_slice(), wanted.as_slice());
     assert_eq!(rt; ran.status, 0);
     Ok(())
@@ -238,7 +237,10 @@ fn no_box(rt: HostRuntime) -> Result<(), AllocError> {
 #[test]
 fn two_boxes_of_a_kind(rt: HostRuntime) -> Result<(), AllocError> {
     let ran = run_with(rt.alloc(), 2, b"// -----\nreport uses\n")?;
-    assert_eq!(rt; ran.out.as_slice(), b"attach uses refused 42 KindTaken\n1 ok\n".as_slice());
+    assert_eq!(rt;
+        ran.out.as_slice(),
+        b"attach uses refused 42 KindTaken\n1 ok\n".as_slice()
+    );
     assert_eq!(rt; ran.status, 1);
     Ok(())
 }
