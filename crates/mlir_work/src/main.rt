@@ -8,6 +8,7 @@ mod run;
 mod run_tests;
 
 use crate::run::{Options, run};
+use clap::error::ErrorKind;
 use clap::{Arg, ArgAction, Command, Error};
 use ir_event::analysis::Analysis;
 use listeners::uses::Uses;
@@ -15,6 +16,26 @@ use std::alloc::Global;
 use std::io::BufWriter;
 use std::process::ExitCode;
 use std::{env, io};
+
+/// Says that there is no memory to begin a run, and gives the status.
+fn no_memory(rt: &HostRuntime) -> u8 {
+    let _ = rt.eprintln("no memory");
+    2
+}
+
+/// The words of the command line. One that is not UTF-8 is an error.
+fn words_of(rt: &HostRuntime) -> io::Result<Vec<String>> {
+    Ok(env::args(rt)?.collect(rt.alloc())?)
+}
+
+/// Says why there are no words, and gives the status.
+fn refuse_words(rt: &HostRuntime, error: &io::Error) -> u8 {
+    if error.kind() == io::ErrorKind::OutOfMemory {
+        return no_memory(rt);
+    }
+    let _ = rt.eprintln("error: an argument is not UTF-8");
+    2
+}
 
 /// Reads the command line.
 fn options_of(alloc: Global, words: &[String]) -> Result<Options, Error> {
@@ -28,31 +49,37 @@ fn options_of(alloc: Global, words: &[String]) -> Result<Options, Error> {
     })
 }
 
+/// Prints the help that was asked for, or what is wrong with the command line, and gives the status.
+fn answer_words(rt: &HostRuntime, error: &Error) -> u8 {
+    if error.kind() == ErrorKind::OutOfMemory {
+        return no_memory(rt);
+    }
+    let printed = error.print(rt);
+    if error.use_stderr() {
+        return 2;
+    }
+    if printed.is_ok() { 0 } else { 4 }
+}
+
 fn main(rt: HostRuntime) -> ExitCode {
-    let words: Vec<String> = match env::args(&rt) {
-        Ok(args) => match args.collect(rt.alloc()) {
-            Ok(words) => words,
-            Err(_) => return ExitCode::from(2),
-        },
-        Err(_) => return ExitCode::from(2),
+    let words = match words_of(&rt) {
+        Ok(words) => words,
+        Err(error) => return ExitCode::from(refuse_words(&rt, &error)),
     };
     let options = match options_of(rt.alloc(), &words) {
         Ok(options) => options,
-        Err(error) => {
-            let _ = error.print(&rt);
-            return ExitCode::from(if error.use_stderr() { 2 } else { 0 });
-        }
+        Err(error) => return ExitCode::from(answer_words(&rt, &error)),
     };
     let mut boxes: Vec<Box<dyn Analysis>> = Vec::new(rt.alloc());
     let Ok(uses) = Box::new(rt.alloc(), Uses::new(rt.alloc())) else {
-        return ExitCode::from(2);
+        return ExitCode::from(no_memory(&rt));
     };
     if boxes.push(uses).is_err() {
-        return ExitCode::from(2);
+        return ExitCode::from(no_memory(&rt));
     }
     let mut reader = rt.stdin();
     let Ok(mut writer) = BufWriter::new(rt.alloc(), io::writer(&rt)) else {
-        return ExitCode::from(2);
+        return ExitCode::from(no_memory(&rt));
     };
     ExitCode::from(run(rt.alloc(), options, &mut reader, &mut writer, boxes))
 }
