@@ -9,7 +9,7 @@ ghost use Rattle.ir_text_read_base.specs.Claims.{IsOnly};
 ghost use Rattle.ir_text_read_base.specs.Spelling.{Spells};
 ghost use Rattle.mlir_work_run_base.specs.Machine.{all_shown};
 ghost use Rattle.mlir_work_run_base.specs.Ran.{RanOut};
-ghost use Rattle.mlir_work.specs.Ends.{EndedSo, HasStatus, ended_of};
+ghost use Rattle.mlir_work.specs.Ends.{EndedSo, HasStatus, ended_of, status_of};
 ghost use Rattle.mlir_work.specs.Whole.{IsOutput, IsRefusal, WhyNot, IsWorldOf};
 
 use ir_event::analysis::Analysis;
@@ -205,9 +205,18 @@ pub fn read_and_answer<R: Read, W: Write, L: Analysis>(
     ended(answer_input(alloc, options, &input, writer, boxes))
 }
 
+fn exit_status(ended: Result<u8, Fault>) -> u8
+    ensures { result ≡ status_of ended }
+{
+    match ended {
+        Ok(status) => status,
+        Err(_) => 4,
+    }
+}
+
 /// Reads the whole input, a module and a script, then writes the output. What is written is an output of
 /// what was read, and the answer is the exit status: 0 where all was accepted, 1 where a command or a box
-/// was refused, 3 where the module was, 4 where a read or a write failed.
+/// was refused, 3 where the module was, 4 where a read or a write failed, and only there.
 pub fn run<L: Analysis, R: Read, W: Write>(
     alloc: Global,
     options: Options,
@@ -217,8 +226,5 @@ pub fn run<L: Analysis, R: Read, W: Write>(
 ) -> u8
     ensures { IfSome (R.remaining reader.old) (λ input. HasStatus (IsOutput options.brief (all_shown L.meaning boxes.items) input) (W.contents writer.old) (W.contents writer.new) result) }
 {
-    match read_and_answer(alloc, options, reader, writer, boxes) {
-        Ok(status) => status,
-        Err(_) => 4,
-    }
+    exit_status(read_and_answer(alloc, options, reader, writer, boxes))
 }
