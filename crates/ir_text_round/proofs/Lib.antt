@@ -4,3 +4,9 @@ pub mod Rows
 pub mod Words
 pub mod Shapes
 pub mod Types
+pub mod Values
+pub mod Leaves
+pub mod Keys
+pub mod Entries
+pub mod Attributes
+pub mod OpEntries

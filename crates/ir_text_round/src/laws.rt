@@ -9,7 +9,17 @@ ghost use Rattle.ir_text.specs.Printing.{types_of};
 ghost use Rattle.ir_text.specs.TypeText.{type_text};
 ghost use Rattle.ir_text_type_base.specs.TypeGrammar.{IsFunctionType, IsType};
 ghost use Rattle.ir_text_type_base.specs.TypeReading.{many};
+ghost use Rattle.ir_text.specs.AttrText.{attr_text};
+ghost use Rattle.ir_text.specs.Printing.{attributes_text, properties_text};
+ghost use Rattle.ir_tree.specs.Meaning.{key_before, rises};
+ghost use Rattle.ir_types.specs.Terms.{AttrTerm};
+ghost use Rattle.ir_types.specs.Words.{is_inherent};
+ghost use Rattle.ir_text_base.specs.declared.token.Mark.TheVariants.{Less, OpenCurly};
+ghost use Rattle.ir_text_type_base.specs.Grammars.{IsMark, Not};
+ghost use Rattle.ir_text_attr_base.specs.AttrGrammar.{IsAttr};
+ghost use Rattle.ir_text_read_base.specs.OpGrammar.{EntryTerm, IsAttributes, IsProperties};
 ghost use Rattle.ir_text_round.specs.Written.{FitsType};
+ghost use Rattle.ir_text_round.specs.WrittenAttributes.{EndsAttr, FitsAttr, FitsDictionary, AreOthers};
 
 /// A type that is printed is spelled by its text, and all of that is read.
 pub fn types_are_read_back()
@@ -20,4 +30,17 @@ pub fn types_are_read_back()
 /// 256 outputs.
 pub fn function_types_are_read_back()
     ensures { (inputs outputs : List TypeTerm) (rest : List ℕ) → length inputs ≤ many → length outputs ≤ 256 → AllByRecursion (FitsType 32) inputs → AllByRecursion (FitsType 32) outputs → Stops is_word rest → IsFunctionType (inputs, outputs) (type_text (Function (types_of inputs) (types_of outputs)) ++ rest) rest }
+{}
+
+/// An attribute that is printed is spelled by its text, and all of that is read, where what stands
+/// behind it does not go on a name and does not begin with `::`.
+pub fn attributes_are_read_back()
+    ensures { (a : AttrTerm) (rest : List ℕ) → FitsAttr 32 a → EndsAttr rest → IsAttr a (attr_text a ++ rest) rest }
+{}
+
+/// The dictionaries of an operation that are printed are spelled by their texts: the properties, where
+/// no `<` stands behind them, and the attributes, where no `{` does.
+pub fn dictionaries_are_read_back()
+    ensures properties { (es : List EntryTerm) (rest : List ℕ) → FitsDictionary es → Not IsMark Less rest → IsProperties es (properties_text es ++ rest) rest }
+    ensures attributes { (op : List ℕ) (properties es : List EntryTerm) (rest : List ℕ) → FitsDictionary es → AreOthers op properties es → Not IsMark OpenCurly rest → IsAttributes op properties es (attributes_text es ++ rest) rest }
 {}

@@ -1,0 +1,5 @@
+use Rattle.ir_text_round.proofs.Attributes.{attr_again}
+use Rattle.ir_text_round.proofs.laws.attributes_are_read_back.Goals as goal
+
+pub returns : goal.returns
+returns c = attr_again
