@@ -1,9 +1,9 @@
 -- Entries of dictionaries that are printed are read again.
-use Rattle.std.proofs.Common.{◌≡◌, ℕ, Bool, true, false, List, ◌∷◌, ◌++◌, map, refl, sym, ap, subst, ◌∙◌, append_assoc, inl, inr}
+use Rattle.std.proofs.Common.{◌≡◌, ℕ, Bool, true, false, List, [], ◌∷◌, ◌++◌, map, refl, sym, ap, subst, ◌∙◌, append_assoc, inl, inr}
 use Rattle.std.specs.Prelude.{codes}
 use Rattle.ir_types.specs.Terms.{AttrTerm, IntegerOf, String, TypeOf, Flag, Array, Dictionary, Symbol, DenseArray, Overflow, EntryTerms, no_entries, next_entry}
 use Rattle.ir_text_base.specs.declared.token.Mark.{Mark}
-use Rattle.ir_text_base.specs.declared.token.Mark.TheVariants.{CloseCurly, Comma, DoubleColon, Equal}
+use Rattle.ir_text_base.specs.declared.token.Mark.TheVariants.{CloseCurly, CloseSquare, Comma, DoubleColon, Equal, End}
 use Rattle.ir_text_base.specs.Bytes.{is_word}
 use Rattle.ir_text_base.specs.Tokens.{mark, bare, string}
 use Rattle.ir_text_base.specs.Printing.{AreBytes, Stops, is_bare_id, key_text, raw_text}
@@ -11,7 +11,7 @@ use Rattle.ir_text_base.proofs.Escapes.{either, value_again}
 use Rattle.ir_text_base.proofs.Printed.{mark_token, bare_key, string_key}
 use Rattle.ir_text.specs.AttrText.{is_flag, entry_text, attr_text, entry_texts}
 use Rattle.ir_text_type_base.specs.Grammars.{Grammar, Not, Either, IsMark}
-use Rattle.ir_text_read_base.specs.OpGrammar.{EntryTerm, IsKey}
+use Rattle.ir_text_attr_base.specs.AttrGrammar.{EntryTerm, IsKey}
 use Rattle.ir_text_round.specs.WrittenAttributes.{entries_list, EndsAttr}
 use Rattle.ir_text_round.proofs.Small.{lacks_token}
 use Rattle.ir_text_round.proofs.Ahead.{Ahead, Lacks, space, space_token}
@@ -41,11 +41,20 @@ EndsEntry rest = Stops is_word rest × Not IsMark Equal rest × EndsAttr rest
 pub comma_ends : (rest : List ℕ) → EndsAttr (44 ∷ rest)
 comma_ends rest = (refl, lacks_token (mark Comma) DoubleColon (44 ∷ rest) rest (mark_token Comma rest tt) (λ e. absurd cc))
 
+pub square_ends : (rest : List ℕ) → EndsAttr (93 ∷ rest)
+square_ends rest = (refl, lacks_token (mark CloseSquare) DoubleColon (93 ∷ rest) rest (mark_token CloseSquare rest tt) (λ e. absurd cc))
+
+pub curly_ends : (rest : List ℕ) → EndsAttr (125 ∷ rest)
+curly_ends rest = (refl, lacks_token (mark CloseCurly) DoubleColon (125 ∷ rest) rest (mark_token CloseCurly rest tt) (λ e. absurd cc))
+
+pub nothing_ends : EndsAttr []
+nothing_ends = (tt, lacks_token (mark End) DoubleColon [] [] (mark_token End [] refl) (λ e. absurd cc))
+
 pub comma_entry : (rest : List ℕ) → EndsEntry (44 ∷ rest)
 comma_entry rest = (refl, lacks_token (mark Comma) Equal (44 ∷ rest) rest (mark_token Comma rest tt) (λ e. absurd cc), comma_ends rest)
 
 pub close_entry : (rest : List ℕ) → EndsEntry (125 ∷ rest)
-close_entry rest = (refl, lacks_token (mark CloseCurly) Equal (125 ∷ rest) rest (mark_token CloseCurly rest tt) (λ e. absurd cc), (refl, lacks_token (mark CloseCurly) DoubleColon (125 ∷ rest) rest (mark_token CloseCurly rest tt) (λ e. absurd cc)))
+close_entry rest = (refl, lacks_token (mark CloseCurly) Equal (125 ∷ rest) rest (mark_token CloseCurly rest tt) (λ e. absurd cc), curly_ends rest)
 
 abbrev pub text_of_entry : EntryTerm → List ℕ
 text_of_entry e = entry_text e.0 (is_flag e.1) (attr_text e.1)

@@ -22,10 +22,10 @@ use Rattle.ir_text.specs.AttrText.{is_truth, number_text, integer_text, flags_te
 use Rattle.ir_text_type_base.specs.Grammars.{Token}
 use Rattle.ir_text_type_base.specs.TypeGrammar.{IsType}
 use Rattle.ir_text_attr_base.specs.Literals.{TypeWord, word_of, true_word, false_word, unit_word, none_word, overflow_word, signed_number}
-use Rattle.ir_text_attr_base.specs.AttrGrammar.{IsSuffix, IsLiteral, IsFlags, IsWordAttr, IsAttrFrom}
+use Rattle.ir_text_attr_base.specs.AttrGrammar.{IsSuffix, IsLiteral, IsFlags, IsWordAttr, IsAttrFrom, IsAttr}
 use Rattle.ir_text_attr_base.specs.declared.flag.Flag as code
 use Rattle.ir_text_attr_base.specs.declared.flag.Flag.TheVariants.{NoSignedWrap, NoUnsignedWrap}
-use Rattle.ir_text_attr_base.specs.Literals.{has_nsw, has_nuw}
+use Rattle.ir_text_attr_base.specs.Literals.{array_word, has_nsw, has_nuw}
 use Rattle.ir_text_base.proofs.Escapes.{either}
 use Rattle.ir_types.proofs.Growth.{name_is}
 use Rattle.ir_types.specs.declared.node.TypeNode.{TypeNode}
@@ -39,8 +39,8 @@ use Rattle.ir_text_round.proofs.Types.{type_ahead, type_again}
 use Rattle.ir_text_round.proofs.Values.{plain, minus, limit, fine, no_less}
 
 -- what an attribute is, by its first token
-abbrev pub Begins : AttrTerm → (old new : List ℕ) → Type 0
-Begins y old new = (t : Lexeme) × (rest : List ℕ) × Token t old rest × IsAttrFrom t rest y old new
+abbrev pub Begins : ℕ → AttrTerm → (old new : List ℕ) → Type 0
+Begins depth y old new = (t : Lexeme) × (rest : List ℕ) × Token t old rest × IsAttrFrom depth (IsAttr depth) t rest y old new
 
 -- ---- integers
 
@@ -63,12 +63,12 @@ literal_again negative n ty z rest e lt t v s =
     (n, rw (integer_again n lt) (limit n lt), (ty, rest, suffix_again ty z rest t v s, rw (e, p.literal, p.value) (refl, (fine ty z v, refl, refl))))
 
 -- a number with its type
-number_again : (ty : TypeTerm) (z : ℤ) (rest : List ℕ) → is_written_type ty ≡ true → is_value_number ty z ≡ true → Stops is_word rest → Begins (IntegerOf ty z) (signed_decimal z ++ (32 ∷ 58 ∷ 32 ∷ (type_text ty ++ rest))) rest
-number_again ty (pos n) rest t v s =
+number_again : (depth : ℕ) (ty : TypeTerm) (z : ℤ) (rest : List ℕ) → is_written_type ty ≡ true → is_value_number ty z ≡ true → Stops is_word rest → Begins depth (IntegerOf ty z) (signed_decimal z ++ (32 ∷ 58 ∷ 32 ∷ (type_text ty ++ rest))) rest
+number_again depth ty (pos n) rest t v s =
     let back = 32 ∷ 58 ∷ 32 ∷ (type_text ty ++ rest) in
     let p = plain ty (pos n) t v in
     (integer (decimal n), back, decimal_token n back p.small refl, literal_again false n ty (pos n) rest refl p.small t v s)
-number_again ty (negsuc n) rest t v s =
+number_again depth ty (negsuc n) rest t v s =
     let back = 32 ∷ 58 ∷ 32 ∷ (type_text ty ++ rest) in
     let p = plain ty (negsuc n) t v in
     (mark Minus, decimal (suc n) ++ back, minus_token (suc n) back p.small, (decimal (suc n), back, decimal_token (suc n) back p.small refl, literal_again true (suc n) ty (negsuc n) rest (minus n) p.small t v s))
@@ -87,17 +87,17 @@ truth_sign (negsuc (suc n)) v = absurd (large n v)
     large n e = grind (arith, nat_tests)
 
 -- a truth value
-truth_again : (z : ℤ) (rest : List ℕ) → is_value_number (Integer Signless 1) z ≡ true → Stops is_word rest → Begins (IntegerOf (Integer Signless 1) z) (number_text true z ++ rest) rest
+truth_again : (depth : ℕ) (z : ℤ) (rest : List ℕ) → is_value_number (Integer Signless 1) z ≡ true → Stops is_word rest → Begins depth (IntegerOf (Integer Signless 1) z) (number_text true z ++ rest) rest
 unfolding number_text
-truth_again z rest v s = from (truth_sign z v)
+truth_again depth z rest v s = from (truth_sign z v)
   where
-    from : (z ≡ pos 0) ⊎ (z ≡ negsuc 0) → Begins (IntegerOf (Integer Signless 1) z) (number_text true z ++ rest) rest
+    from : (z ≡ pos 0) ⊎ (z ≡ negsuc 0) → Begins depth (IntegerOf (Integer Signless 1) z) (number_text true z ++ rest) rest
     from (inl e) = rw e (bare false_word, rest, bare_token false_word rest refl s, (refl, refl, refl))
     from (inr e) = rw e (bare true_word, rest, bare_token true_word rest refl s, (refl, refl, refl))
 
-pub integer_read : (ty : TypeTerm) (z : ℤ) (rest : List ℕ) → is_written_type ty ≡ true → is_value_number ty z ≡ true → Stops is_word rest → Begins (IntegerOf ty z) (integer_text ty z ++ rest) rest
+pub integer_read : (depth : ℕ) (ty : TypeTerm) (z : ℤ) (rest : List ℕ) → is_written_type ty ≡ true → is_value_number ty z ≡ true → Stops is_word rest → Begins depth (IntegerOf ty z) (integer_text ty z ++ rest) rest
 unfolding number_text
-integer_read ty z rest t v s = from (is_truth ty) refl
+integer_read depth ty z rest t v s = from (is_truth ty) refl
   where
     is_one : (ty : TypeTerm) → is_truth ty ≡ true → ty ≡ Integer Signless 1
     is_one (Integer Signless w) e = ap (Integer Signless) (eqb-true w 1 e)
@@ -110,17 +110,17 @@ integer_read ty z rest t v s = from (is_truth ty) refl
     apart : is_truth ty ≡ false → integer_text ty z ++ rest ≡ signed_decimal z ++ (32 ∷ 58 ∷ 32 ∷ (type_text ty ++ rest))
     apart e = rw e (append_assoc (signed_decimal z) (codes " : " ++ type_text ty) rest)
 
-    from : (b : Bool) → is_truth ty ≡ b → Begins (IntegerOf ty z) (integer_text ty z ++ rest) rest
-    from true e = subst (λ u. is_value_number u z ≡ true → Begins (IntegerOf u z) (integer_text u z ++ rest) rest) (sym (is_one ty e)) (λ w. truth_again z rest w s) v
-    from false e = rw (apart e) (number_again ty z rest t v s)
+    from : (b : Bool) → is_truth ty ≡ b → Begins depth (IntegerOf ty z) (integer_text ty z ++ rest) rest
+    from true e = subst (λ u. is_value_number u z ≡ true → Begins depth (IntegerOf u z) (integer_text u z ++ rest) rest) (sym (is_one ty e)) (λ w. truth_again depth z rest w s) v
+    from false e = rw (apart e) (number_again depth ty z rest t v s)
 
 -- ---- strings, unit and types
 
-pub string_read : (v rest : List ℕ) → AreBytes v → Begins (String v) (string_text v ++ rest) rest
-string_read v rest h = (string (raw_text v), rest, string_token v rest h, (refl, ap String (sym (value_again v h)), refl))
+pub string_read : (depth : ℕ) (v rest : List ℕ) → AreBytes v → Begins depth (String v) (string_text v ++ rest) rest
+string_read depth v rest h = (string (raw_text v), rest, string_token v rest h, (refl, ap String (sym (value_again v h)), refl))
 
-pub unit_read : (rest : List ℕ) → Stops is_word rest → Begins Flag (codes "unit" ++ rest) rest
-unit_read rest s = (bare unit_word, rest, bare_token unit_word rest refl s, (refl, refl, refl))
+pub unit_read : (depth : ℕ) (rest : List ℕ) → Stops is_word rest → Begins depth Flag (codes "unit" ++ rest) rest
+unit_read depth rest s = (bare unit_word, rest, bare_token unit_word rest refl s, (refl, refl, refl))
 
 -- ---- flags
 
@@ -142,8 +142,8 @@ flags_again true true rest =
     let comma = lacks_token (mark Comma) Greater (44 ∷ 32 ∷ more) (32 ∷ more) (mark_token Comma (32 ∷ more) tt) (λ e. absurd cc) in
     (NoSignedWrap ∷ NoUnsignedWrap ∷ [], (nsw_word, 44 ∷ 32 ∷ more, bare_token nsw_word (44 ∷ 32 ∷ more) refl refl, inr (refl, (NoSignedWrap, 44 ∷ 32 ∷ more, (nsw_word, bare_token nsw_word (44 ∷ 32 ∷ more) refl refl, refl), inr (comma, 32 ∷ more, mark_token Comma (32 ∷ more) tt, (NoUnsignedWrap, 62 ∷ rest, (nuw_word, space_token (bare nuw_word) more (62 ∷ rest) (bare_token nuw_word (62 ∷ rest) refl refl), refl), inl (mark_token Greater rest tt, refl)))))), refl, refl)
 
-pub overflow_read : (nsw nuw : Bool) (rest : List ℕ) → Begins (Overflow nsw nuw) (attr_text (Overflow nsw nuw) ++ rest) rest
-overflow_read nsw nuw rest =
+pub overflow_read : (depth : ℕ) (nsw nuw : Bool) (rest : List ℕ) → Begins depth (Overflow nsw nuw) (attr_text (Overflow nsw nuw) ++ rest) rest
+overflow_read depth nsw nuw rest =
     let f = flags_again nsw nuw rest in
     let inside = flags_text nsw nuw ++ 62 ∷ rest in
     let apart : attr_text (Overflow nsw nuw) ++ rest ≡ 35 ∷ (overflow_word ++ 60 ∷ inside) = ap (λ (l : List ℕ). 35 ∷ (overflow_word ++ 60 ∷ l)) (append_assoc (flags_text nsw nuw) (62 ∷ []) rest) in
@@ -163,22 +163,22 @@ no_type w k y rest new other none h = elim (either (bytes_eq w k)) [
     nothing : (k : List ℕ) (node : TypeNode) → scalar_of k ≡ None → scalar_of k ≡ Some node → ⊥
     nothing k node e f = absurd cc
 
-none_of : (scalar_of true_word ≡ None) × (scalar_of false_word ≡ None) × (scalar_of unit_word ≡ None)
+none_of : (scalar_of true_word ≡ None) × (scalar_of false_word ≡ None) × (scalar_of unit_word ≡ None) × (scalar_of array_word ≡ None)
 unfolding scalar_of
-none_of = (refl, refl, refl)
+none_of = (refl, refl, refl, refl)
 
 -- a word that is a type stands for no other attribute
 type_word : (w : List ℕ) (y : TypeTerm) (rest new : List ℕ) → IsWordFrom (bytes_eq w memref_word) w y rest new → word_of w ≡ TypeWord
 type_word w y rest new h =
-    rw (no_type w true_word y rest new refl none_of.0 h, no_type w false_word y rest new refl none_of.1 h, no_type w unit_word y rest new refl none_of.2 h) refl
+    rw (no_type w true_word y rest new refl none_of.0 h, no_type w false_word y rest new refl none_of.1 h, no_type w unit_word y rest new refl none_of.2 h, no_type w array_word y rest new refl none_of.3 h) refl
 
-type_begins : (ty : TypeTerm) (a new : List ℕ) → attr_fault (TypeOf ty) ≡ None → IsType 32 ty a new → Begins (TypeOf ty) a new
+type_begins : (depth : ℕ) (ty : TypeTerm) (a new : List ℕ) → attr_fault (TypeOf ty) ≡ None → IsType (suc depth) ty a new → Begins depth (TypeOf ty) a new
 unfolding IsType
-type_begins ty a new e (inl h) = (mark OpenRound, h.0, h.1, (ty, new, inl h, (e, refl, refl)))
-type_begins ty a new e (inr h) = (bare h.1.0, h.1.1, h.1.2, subst (λ k. IsWordAttr k h.1.1 (TypeOf ty) a new) (sym (type_word h.1.0 ty h.1.1 new h.1.3)) (ty, new, inr h, (e, refl, refl)))
+type_begins depth ty a new e (inl h) = (mark OpenRound, h.0, h.1, (ty, new, inl h, (e, refl, refl)))
+type_begins depth ty a new e (inr h) = (bare h.1.0, h.1.1, h.1.2, subst (λ k. IsWordAttr depth (IsAttr depth) k h.1.1 (TypeOf ty) a new) (sym (type_word h.1.0 ty h.1.1 new h.1.3)) (ty, new, inr h, (e, refl, refl)))
 
 shallow : (ty : TypeTerm) → type_depth ty ≤ 32 → attr_fault (TypeOf ty) ≡ None
 shallow ty le = let e : nat_le (type_depth ty) 32 ≡ true = grind (arith, nat_tests) in rw e refl
 
-pub type_read : (ty : TypeTerm) (rest : List ℕ) → type_depth ty ≤ 32 → is_written_type ty ≡ true → Stops is_word rest → Begins (TypeOf ty) (type_text ty ++ rest) rest
-type_read ty rest le e s = type_begins ty (type_text ty ++ rest) rest (shallow ty le) (type_again 32 (omega arith) ty rest le e s)
+pub type_read : (depth : ℕ) (ty : TypeTerm) (rest : List ℕ) → suc depth ≤ 32 → type_depth ty ≤ suc depth → is_written_type ty ≡ true → Stops is_word rest → Begins depth (TypeOf ty) (type_text ty ++ rest) rest
+type_read depth ty rest small le e s = type_begins depth ty (type_text ty ++ rest) rest (shallow ty (omega arith)) (type_again (suc depth) small ty rest le e s)

@@ -6,7 +6,10 @@ pub mod Shapes
 pub mod Types
 pub mod Values
 pub mod Leaves
+pub mod Symbols
+pub mod Dense
 pub mod Keys
 pub mod Entries
 pub mod Attributes
 pub mod OpEntries
+pub mod Sorted

@@ -16,9 +16,9 @@ use Rattle.ir_text.specs.Rows.{parted}
 use Rattle.ir_text.specs.AttrText.{entry_texts}
 use Rattle.ir_text.specs.Printing.{entries_of, properties_text, attributes_text}
 use Rattle.ir_text_type_base.specs.Grammars.{Not, IsMark}
-use Rattle.ir_text_attr_base.specs.AttrGrammar.{IsAttr, IsFine}
+use Rattle.ir_text_attr_base.specs.AttrGrammar.{EntryTerm, IsAttr, IsFine}
 use Rattle.ir_text_read_base.specs.Entries.{has_key, staying, is_refused}
-use Rattle.ir_text_read_base.specs.OpGrammar.{EntryTerm, is_property, IsKey, IsEntry, IsEntries, IsProperties, IsAttributes}
+use Rattle.ir_text_read_base.specs.OpGrammar.{is_property, IsKey, IsEntry, IsEntries, IsProperties, IsAttributes}
 use Rattle.ir_text_round.specs.WrittenAttributes.{entries_list, are_bytes as are_bytes_test, FitsAttr, FitsDictionary, AreOthers}
 use Rattle.ir_text_round.proofs.Small.{lacks_token, are_bytes}
 use Rattle.ir_text_round.proofs.Ahead.{then_ahead, space_token}
@@ -33,7 +33,7 @@ FitsEntry op properties before e = (is_refused bytes_eq (is_property op) propert
 
 entry_read : (op : Option (List ℕ)) (properties front : List EntryTerm) (e : EntryTerm) (rest : List ℕ) → FitsEntry op properties front e → EndsEntry rest → IsEntry op properties front e (text_of_entry e ++ rest) rest
 entry_read op properties front e rest fit s =
-    let k = entry_parts IsAttr (IsFine Flag) attr_ahead e.0 e.1 rest fit.1 s (attr_again e.1 rest fit.2 s.2) (λ f. (refl, refl, refl)) in
+    let k = entry_parts (IsAttr 32) (IsFine Flag) (attr_ahead 32) e.0 e.1 rest fit.1 s (attr_again 32 (omega arith) e.1 rest fit.2 s.2) (λ f. (refl, refl, refl)) in
     (e.0, k.0, k.1, (fit.0, (e.1, rest, k.2, (refl, refl))))
 
 entry_items : (op : Option (List ℕ)) (properties : List EntryTerm) → Items CloseCurly (IsEntry op properties) text_of_entry (FitsEntry op properties) EndsEntry

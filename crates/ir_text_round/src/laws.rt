@@ -1,25 +1,23 @@
 //! Laws of what is printed. A text is what is printed and whatever stands behind it, where that does
 //! not go on the last word.
-ghost use Rattle.std.specs.Prelude.{◌≡◌, ◌≤◌, ◌++◌, ℕ, List, length};
+ghost use Rattle.std.specs.Prelude.{◌≡◌, ◌≤◌, ◌++◌, ℕ, List, [], Some, codes, length, true};
 ghost use Rattle.std.specs.List.{AllByRecursion};
-ghost use Rattle.ir_types.specs.Terms.{TypeTerm, Function};
+ghost use Rattle.ir_types.specs.Terms.{AttrTerm, Function, TypeTerm};
+ghost use Rattle.ir_tree.specs.Meaning.{key_before, rises};
+ghost use Rattle.ir_text_base.specs.declared.token.Mark.TheVariants.{Less, OpenCurly};
 ghost use Rattle.ir_text_base.specs.Bytes.{is_word};
 ghost use Rattle.ir_text_base.specs.Printing.{Stops};
-ghost use Rattle.ir_text.specs.Printing.{types_of};
-ghost use Rattle.ir_text.specs.TypeText.{type_text};
+ghost use Rattle.ir_text_type_base.specs.Grammars.{IsMark, Not};
 ghost use Rattle.ir_text_type_base.specs.TypeGrammar.{IsFunctionType, IsType};
 ghost use Rattle.ir_text_type_base.specs.TypeReading.{many};
+ghost use Rattle.ir_text_attr_base.specs.AttrGrammar.{EntryTerm, IsAttr};
+ghost use Rattle.ir_text_read_base.specs.Entries.{attributes_of, properties_of};
+ghost use Rattle.ir_text_read_base.specs.OpGrammar.{IsAttributes, IsProperties, is_property};
 ghost use Rattle.ir_text.specs.AttrText.{attr_text};
-ghost use Rattle.ir_text.specs.Printing.{attributes_text, properties_text};
-ghost use Rattle.ir_tree.specs.Meaning.{key_before, rises};
-ghost use Rattle.ir_types.specs.Terms.{AttrTerm};
-ghost use Rattle.ir_types.specs.Words.{is_inherent};
-ghost use Rattle.ir_text_base.specs.declared.token.Mark.TheVariants.{Less, OpenCurly};
-ghost use Rattle.ir_text_type_base.specs.Grammars.{IsMark, Not};
-ghost use Rattle.ir_text_attr_base.specs.AttrGrammar.{IsAttr};
-ghost use Rattle.ir_text_read_base.specs.OpGrammar.{EntryTerm, IsAttributes, IsProperties};
+ghost use Rattle.ir_text.specs.Printing.{attributes_text, properties_text, types_of};
+ghost use Rattle.ir_text.specs.TypeText.{type_text};
 ghost use Rattle.ir_text_round.specs.Written.{FitsType};
-ghost use Rattle.ir_text_round.specs.WrittenAttributes.{EndsAttr, FitsAttr, FitsDictionary, AreOthers};
+ghost use Rattle.ir_text_round.specs.WrittenAttributes.{AreOthers, EndsAttr, FitsAttr, FitsDictionary};
 
 /// A type that is printed is spelled by its text, and all of that is read.
 pub fn types_are_read_back()
@@ -35,7 +33,15 @@ pub fn function_types_are_read_back()
 /// An attribute that is printed is spelled by its text, and all of that is read, where what stands
 /// behind it does not go on a name and does not begin with `::`.
 pub fn attributes_are_read_back()
-    ensures { (a : AttrTerm) (rest : List ℕ) → FitsAttr 32 a → EndsAttr rest → IsAttr a (attr_text a ++ rest) rest }
+    ensures { (depth : ℕ) (a : AttrTerm) (rest : List ℕ) → depth ≤ 32 → FitsAttr depth a → EndsAttr rest → IsAttr depth a (attr_text a ++ rest) rest }
+{}
+
+/// A comma or a closing bracket may stand behind an attribute, or nothing.
+pub fn attributes_end_before_marks()
+    ensures comma { (rest : List ℕ) → EndsAttr (codes "," ++ rest) }
+    ensures square { (rest : List ℕ) → EndsAttr (codes "]" ++ rest) }
+    ensures curly { (rest : List ℕ) → EndsAttr (codes "}" ++ rest) }
+    ensures nothing { EndsAttr [] }
 {}
 
 /// The dictionaries of an operation that are printed are spelled by their texts: the properties, where
@@ -43,4 +49,10 @@ pub fn attributes_are_read_back()
 pub fn dictionaries_are_read_back()
     ensures properties { (es : List EntryTerm) (rest : List ℕ) → FitsDictionary es → Not IsMark Less rest → IsProperties es (properties_text es ++ rest) rest }
     ensures attributes { (op : List ℕ) (properties es : List EntryTerm) (rest : List ℕ) → FitsDictionary es → AreOthers op properties es → Not IsMark OpenCurly rest → IsAttributes op properties es (attributes_text es ++ rest) rest }
+{}
+
+/// Where the attributes of an operation are no properties, sorted dictionaries are read as they are.
+pub fn sorted_dictionaries_stay()
+    ensures properties { (op : List ℕ) (properties es : List EntryTerm) → rises key_before properties ≡ true → AreOthers op properties es → properties_of (is_property (Some op)) key_before properties es ≡ properties }
+    ensures attributes { (op : List ℕ) (properties es : List EntryTerm) → rises key_before es ≡ true → AreOthers op properties es → attributes_of (is_property (Some op)) key_before es ≡ es }
 {}
