@@ -16,9 +16,9 @@ use Rattle.ir_text.specs.Rows.{parted}
 use Rattle.ir_text.specs.AttrText.{entry_texts}
 use Rattle.ir_text.specs.Printing.{entries_of, properties_text, attributes_text}
 use Rattle.ir_text_type_base.specs.Grammars.{Not, IsMark}
-use Rattle.ir_text_attr_base.specs.AttrGrammar.{EntryTerm, IsAttr, IsFine}
+use Rattle.ir_text_attr_base.specs.AttrGrammar.{EntryTerm, IsAttr, IsFine, IsKey}
 use Rattle.ir_text_read_base.specs.Entries.{has_key, staying, is_refused}
-use Rattle.ir_text_read_base.specs.OpGrammar.{is_property, IsKey, IsEntry, IsEntries, IsProperties, IsAttributes}
+use Rattle.ir_text_read_base.specs.OpGrammar.{is_property, IsEntry, IsEntries, IsProperties, IsAttributes}
 use Rattle.ir_text_round.specs.WrittenAttributes.{entries_list, are_bytes as are_bytes_test, FitsAttr, FitsDictionary, AreOthers}
 use Rattle.ir_text_round.proofs.Small.{lacks_token, are_bytes}
 use Rattle.ir_text_round.proofs.Ahead.{then_ahead, space_token}
