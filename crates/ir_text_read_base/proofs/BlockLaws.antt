@@ -7,7 +7,7 @@ use Rattle.ir_text_base.specs.declared.token.Mark.{Mark}
 use Rattle.ir_text_base.specs.declared.token.Mark.TheVariants.{OpenRound, CloseRound, OpenCurly, Colon}
 use Rattle.ir_text_base.specs.Tokens.{Lexeme, label}
 use Rattle.ir_text_base.specs.Scopes.{Scopes}
-use Rattle.ir_types.specs.Things.{Things}
+use Rattle.ir_types.specs.Things.{Things, Grows}
 use Rattle.ir_types.specs.Terms.{TypeTerm, name_term, type_term, attr_term}
 use Rattle.ir_types.proofs.Growth.{grows_trans}
 use Rattle.ir_tree.specs.declared.value.Value.TheVariants as values
@@ -28,7 +28,7 @@ use Rattle.ir_text_type_base.specs.Typed.{Typed}
 use Rattle.ir_text_type_base.specs.Worlds.{From}
 use Rattle.ir_text_type_base.specs.Standing.{TypeStands}
 use Rattle.ir_text_type_base.specs.Laws.{Each}
-use Rattle.ir_text_type_base.proofs.Worlds.{bind_assoc, later, Exact, exact_where, exact_spelled, then_exact, done_exact, after_exact, either_exact, list_exact, more_exact}
+use Rattle.ir_text_type_base.proofs.Worlds.{bind_assoc, later, Exact, exact_where, exact_spelled, then_exact, done_exact, after_exact, either_exact, list_exact}
 use Rattle.ir_text_type_base.proofs.TypeLaws.{type_exact}
 use Rattle.ir_text_read_base.specs.States.{State, to_bytes, after_in, typed, with_typed, with_scopes, inside, outside}
 use Rattle.ir_text_read_base.specs.FrontReading.{Text, name_at}
@@ -37,7 +37,7 @@ use Rattle.ir_text_read_base.specs.OpReading.{bind, arg_named, arg_at, args_at, 
 use Rattle.ir_text_read_base.specs.Seen.{PackTerm, Seen, seen_scopes, seen_inside, seen_outside, IsMarkSeen, InText, IsBound}
 use Rattle.ir_text_read_base.specs.OpGrammar.{IsName, IsArg, IsLabelArgs, IsHeadFrom, IsHead, IsOps, RegionTerm, IsRegion, IsRegions}
 use Rattle.ir_text_read_base.specs.Standing.{Equals, Both, StateStands, OpStands, RegionStands}
-use Rattle.ir_text_read_base.proofs.FrontLaws.{name_exact, begin_exact}
+use Rattle.ir_text_read_base.proofs.FrontLaws.{name_exact, begin_exact, some_items_exact}
 use Rattle.ir_text_read_base.proofs.EntryLaws.{each_length}
 use Rattle.ir_text_read_base.proofs.NameLaws.{held, state_marks, behind_exact, state_token, in_typed, in_text, typed_exact, text_exact, inside_exact, outside_exact, each_more, bind_scoped, scoped_exact}
 
@@ -129,7 +129,7 @@ head_exact id r c = state_token c HeadStands (head_from id r) (IsHeadFrom id r) 
 
 -- ---- operations up to a mark
 
-module _ (close : Mark) (p : Parse State Op) (P : Grammar Seen Operation) (item : (c : Things) → Exact held StateStands c OpStands p P) where
+module _ (close : Mark) (p : Parse State Op) (P : Grammar Seen Operation) (base : Things) (item : (c : Things) → Grows base c → Exact held StateStands c OpStands p P) where
   abbrev Goes : ℕ → List Operation → Grammar Seen (List Operation)
   Goes room front = Either IsMarkSeen close (Done front) (Then P (λ y. IsOps close P room (front ++ y ∷ [])))
 
@@ -144,15 +144,15 @@ module _ (close : Mark) (p : Parse State Op) (P : Grammar Seen Operation) (item 
   goes_back room front ys t t' (inl k) = inl (t', k.0, (k.1, refl))
   goes_back room front ys t t' (inr k) = inr (k.0, (k.1, k.2, k.3, k.4))
 
-  pub ops_exact : (room : ℕ) (c : Things) (xs : List Op) (ys : List Operation) → From (λ z. Each OpStands z xs ys) c → Exact held StateStands c (Each OpStands) (ops_at close p room xs) (IsOps close P room ys)
+  pub ops_exact : (room : ℕ) (c : Things) → Grows base c → (xs : List Op) (ys : List Operation) → From (λ z. Each OpStands z xs ys) c → Exact held StateStands c (Each OpStands) (ops_at close p room xs) (IsOps close P room ys)
   unfolding ops_at IsOps
-  ops_exact zero c xs ys r = record { found = λ s t x s' g sound h e. absurd cc; only = λ s t y t' g sound h k. absurd k; full = λ s t g sound h e. absurd cc }
-  ops_exact (suc room) c xs ys r =
+  ops_exact zero c b xs ys r = record { found = λ s t x s' g sound h e. absurd cc; only = λ s t y t' g sound h k. absurd k; full = λ s t g sound h e. absurd cc }
+  ops_exact (suc room) c b xs ys r =
       exact_spelled held StateStands c (Each OpStands) (λ s. ops_from close p (ops_at close p room) xs s (after_in close s)) (Goes room ys) (Ends room ys) (goes_into room ys) (goes_back room ys)
       (either_exact held StateStands after_in IsMarkSeen state_marks c (Each OpStands) close (ops_from close p (ops_at close p room) xs) (λ s. Read (xs, s)) (λ s. p s >>= λ x. ops_at close p room (xs ++ x.0 ∷ []) x.1) (Done ys) (Then P (λ y. IsOps close P room (ys ++ y ∷ [])))
       (λ s mid. refl) (λ s. refl) (done_exact held StateStands c (Each OpStands) xs ys r)
-      (then_exact held StateStands c OpStands (Each OpStands) p P (λ x. ops_at close p room (xs ++ x ∷ [])) (λ y. IsOps close P room (ys ++ y ∷ [])) (item c) (λ d x y g stand.
-      ops_exact room d (xs ++ x ∷ []) (ys ++ y ∷ []) (λ z k w. each_more OpStands z xs ys x y (r z (grows_trans c d z g k) w) (stand z k w)))))
+      (then_exact held StateStands c OpStands (Each OpStands) p P (λ x. ops_at close p room (xs ++ x ∷ [])) (λ y. IsOps close P room (ys ++ y ∷ [])) (item c b) (λ d x y g stand.
+      ops_exact room d (grows_trans base c d b g) (xs ++ x ∷ []) (ys ++ y ∷ []) (λ z k w. each_more OpStands z xs ys x y (r z (grows_trans c d z g k) w) (stand z k w)))))
 
 -- ---- regions
 
@@ -189,7 +189,7 @@ region_stands z None None [] (y ∷ ys) h k = absurd k
 region_stands z None None (x ∷ xs) [] h k = absurd k
 region_stands z None None (x ∷ xs) (y ∷ ys) h k = (refl, ops_known z (x ∷ xs) (y ∷ ys) k, λ i. tree.block [] (ops_are z (x ∷ xs) (y ∷ ys) k i))
 
-module _ (p : Parse State (List Op)) (P : Grammar Seen (List Operation)) (body : (c : Things) → Exact held StateStands c (Each OpStands) p P) (id : ℕ) (isolated : Bool) where
+module _ (p : Parse State (List Op)) (P : Grammar Seen (List Operation)) (base : Things) (body : (c : Things) → Grows base c → Exact held StateStands c (Each OpStands) p P) (id : ℕ) (isolated : Bool) where
   abbrev Leaves : RegionTerm → Grammar Seen RegionTerm
   Leaves g y old new = (y ≡ g) × (new ≡ seen_outside old)
 
@@ -199,25 +199,25 @@ module _ (p : Parse State (List Op)) (P : Grammar Seen (List Operation)) (body :
   abbrev IsBlock : ℕ → Grammar Seen RegionTerm
   IsBlock k = Then (IsHead id k) (λ h. Then P (λ os. Leaves (region_of h os)))
 
-  block_exact : (k : ℕ) (c : Things) → Exact held StateStands c RegionStands (block_in k) (IsBlock k)
-  block_exact k c =
+  block_exact : (k : ℕ) (c : Things) → Grows base c → Exact held StateStands c RegionStands (block_in k) (IsBlock k)
+  block_exact k c b =
       then_exact held StateStands c HeadStands RegionStands (head_at id k) (IsHead id k) (λ h s. p s >>= λ os. Read (region_of h os.0, outside os.1)) (λ h. Then P (λ os. Leaves (region_of h os))) (head_exact id k c) (λ d h h' g heads.
-      then_exact held StateStands d (Each OpStands) RegionStands p P (λ os s. Read (region_of h os, outside s)) (λ os. Leaves (region_of h' os)) (body d) (λ e os os' up stand.
+      then_exact held StateStands d (Each OpStands) RegionStands p P (λ os s. Read (region_of h os, outside s)) (λ os. Leaves (region_of h' os)) (body d (grows_trans base c d b g)) (λ e os os' up stand.
       outside_exact e RegionStands (region_of h os) (region_of h' os') (λ z j w. region_stands z h h' os os' (heads z (grows_trans d e z up j) w) (stand z j w))))
 
-  region_exact : (c : Things) (xs : List Region) (ys : List RegionTerm) → length xs ≡ length ys → Exact held StateStands c RegionStands (region_at p id isolated xs) (IsRegion P id isolated ys)
+  region_exact : (c : Things) → Grows base c → (xs : List Region) (ys : List RegionTerm) → length xs ≡ length ys → Exact held StateStands c RegionStands (region_at p id isolated xs) (IsRegion P id isolated ys)
   unfolding region_at
-  region_exact c xs ys len =
+  region_exact c b xs ys len =
       after_exact held StateStands after_in IsMarkSeen state_marks c RegionStands OpenCurly (λ s. block_in (length xs) (inside isolated s)) (λ y old new. IsBlock (length ys) y (seen_inside isolated old) new)
-      (inside_exact c RegionStands isolated (block_in (length xs)) (IsBlock (length ys)) (subst (λ k. Exact held StateStands c RegionStands (block_in (length xs)) (IsBlock k)) len (block_exact (length xs) c)))
+      (inside_exact c RegionStands isolated (block_in (length xs)) (IsBlock (length ys)) (subst (λ k. Exact held StateStands c RegionStands (block_in (length xs)) (IsBlock k)) len (block_exact (length xs) c b)))
 
-  one_region_exact : (c : Things) (xs : List Region) (ys : List RegionTerm) → From (λ z. Each RegionStands z xs ys) c → Exact held StateStands c RegionStands (region_at p id isolated xs) (IsRegion P id isolated ys)
-  one_region_exact c xs ys stand =
-      begin_exact held StateStands c RegionStands (λ s. region_at p id isolated xs) (λ t. IsRegion P id isolated ys) (λ s t g sound h. region_exact s.things xs ys (each_length RegionStands s.things xs ys (stand s.things g sound)))
+  one_region_exact : (c : Things) → Grows base c → (xs : List Region) (ys : List RegionTerm) → From (λ z. Each RegionStands z xs ys) c → Exact held StateStands c RegionStands (region_at p id isolated xs) (IsRegion P id isolated ys)
+  one_region_exact c b xs ys stand =
+      begin_exact held StateStands c RegionStands (λ s. region_at p id isolated xs) (λ t. IsRegion P id isolated ys) (λ s t g sound h. region_exact s.things (grows_trans base c s.things b g) xs ys (each_length RegionStands s.things xs ys (stand s.things g sound)))
 
-  pub regions_exact : (c : Things) → Exact held StateStands c (Each RegionStands) (regions_at p id isolated) (IsRegions P id isolated)
+  pub regions_exact : (c : Things) → Grows base c → Exact held StateStands c (Each RegionStands) (regions_at p id isolated) (IsRegions P id isolated)
   unfolding regions_at
-  regions_exact c =
+  regions_exact c b =
       either_exact held StateStands after_in IsMarkSeen state_marks c (Each RegionStands) OpenRound (regions_from p id isolated) (more_at after_in CloseRound (region_at p id isolated) 16 []) (λ s. Read ([], s)) (IsMore IsMarkSeen CloseRound (IsRegion P id isolated) 16 []) (Done [])
-      (λ s mid. refl) (λ s. refl) (more_exact held StateStands after_in IsMarkSeen state_marks RegionStands CloseRound (region_at p id isolated) (IsRegion P id isolated) one_region_exact 16 c [] [] (λ z g w. tt))
+      (λ s mid. refl) (λ s. refl) (some_items_exact held StateStands c after_in IsMarkSeen state_marks RegionStands CloseRound (region_at p id isolated) (IsRegion P id isolated) (λ d xs ys g stand. one_region_exact d (grows_trans base c d b g) xs ys stand) 16)
       (done_exact held StateStands c (Each RegionStands) [] [] (λ z g w. tt))

@@ -1,5 +1,5 @@
 -- What stands before the dictionaries of an operation: what is read is spelled, and what is spelled is read.
-use Rattle.std.specs.Prelude.{if◌then◌else◌, ◌==◌, nat_le, slice_get}
+use Rattle.std.specs.Prelude.{if◌then◌else◌, ◌==◌, nat_le, slice_get, option_map}
 use Rattle.std.specs.List.{list_all}
 use Rattle.std.specs.Char.{is_ascii_digit}
 use Rattle.std.specs.Str.{bytes_eq}
@@ -23,11 +23,12 @@ use Rattle.ir_text_type_base.specs.Laws.{Each}
 use Rattle.ir_text_type_base.proofs.Worlds.{bind_assoc, option_read, option_full, fills_on, later, Agree, Exact, Step, Reads, Marks, step_on, reads_on, exact_where, exact_spelled, exact_for, nothing_exact, choice_exact, guard_exact, then_exact, done_exact, after_exact, either_exact, more_exact, list_exact}
 use Rattle.ir_text_type_base.proofs.TextLaws.{after_found, after_only, after_none, none_after}
 use Rattle.ir_text_read_base.specs.declared.bound.Bound.{Bound}
-use Rattle.ir_text_read_base.specs.FrontReading.{Text, name_from, name_at, number_from, number_at, some_count, count_at, result_at, names_at, results_from, results_at, op_name_from, op_name_at, place_of, place_from, place_at, member_at, use_from, use_at, uses_at, start_at}
+use Rattle.ir_text_read_base.specs.FrontReading.{Text, Frees, member_of, name_from, name_at, number_from, number_at, some_count, count_at, result_at, names_at, results_from, results_at, op_name_from, op_name_at, place_of, place_from, place_at, member_at, use_from, use_at, uses_at, start_at}
+use Rattle.ir_text_read_base.specs.Free.{seen_as}
 use Rattle.ir_text_read_base.specs.Packs.{counts}
 use Rattle.ir_text_read_base.specs.Seen.{BoundTerm, PackTerm, When}
-use Rattle.ir_text_read_base.specs.OpGrammar.{IsName, IsNumber, IsCount, IsResult, IsNames, IsResultsFrom, IsResults, IsOpName, IsPlace, IsUse, IsStart}
-use Rattle.ir_text_read_base.specs.Standing.{Equals, Both, BoundStands, PackStands, HereStands, StartStands}
+use Rattle.ir_text_read_base.specs.OpGrammar.{FreeTerms, IsName, IsNumber, IsCount, IsResult, IsNames, IsResultsFrom, IsResults, IsOpName, IsPlace, IsUse, IsStart}
+use Rattle.ir_text_read_base.specs.Standing.{Equals, Both, BoundStands, PackStands, HereStands, FreeStands, StartStands}
 
 -- ---- readers over any state
 
@@ -464,12 +465,23 @@ member_exact c d xs ys stand =
     both_exact (known c) SameText e BoundStands (slice_get xs k) (slice_get ys n) (λ z j w.
     subst (λ m. Both BoundStands z (slice_get xs k) (slice_get ys m)) (same z j w) (place_stands z k xs ys (stand z (grows_trans d e z g j) w))))
 
-module _ (c : Things) (here : List (Binding (List Bound))) (there : List (Binding PackTerm)) (stand : From (λ z. HereStands z here there) c) where
+-- a free name stands for one value
+one_stands : (z : Things) (o : Option Bound) (u : Option BoundTerm) → Both BoundStands z o u → Both PackStands z (option_map (λ b. b ∷ []) o) (option_map (λ b. b ∷ []) u)
+one_stands z None None h = tt
+one_stands z None (Some y) h = absurd h
+one_stands z (Some x) None h = absurd h
+one_stands z (Some x) (Some y) h = (h, tt)
+
+seen_stands : (z : Things) (free : Frees) (outer : FreeTerms) (n : List ℕ) (here : List (Binding (List Bound))) (there : List (Binding PackTerm)) → FreeStands z free outer → HereStands z here there → Both PackStands z (seen_as free here n) (seen_as outer there n)
+seen_stands z free outer n here there frees h =
+    other_both PackStands z (find n here) (option_map (λ b. b ∷ []) (free n)) (find n there) (option_map (λ b. b ∷ []) (outer n)) (find_stands z n here there h) (one_stands z (free n) (outer n) (frees n))
+
+module _ (c : Things) (free : Frees) (outer : FreeTerms) (here : List (Binding (List Bound))) (there : List (Binding PackTerm)) (frees : From (λ z. FreeStands z free outer) c) (stand : From (λ z. HereStands z here there) c) where
   abbrev found_at : List ℕ → Parse Text (List Bound)
-  found_at n s = of_option (find n here) >>= λ pack. Read (pack, s)
+  found_at n s = of_option (seen_as free here n) >>= λ pack. Read (pack, s)
 
   abbrev Found : List ℕ → Grammar Text PackTerm
-  Found n pack old new = (find n there ≡ Some pack) × (new ≡ old)
+  Found n pack old new = (seen_as outer there n ≡ Some pack) × (new ≡ old)
 
   abbrev UseOf : List ℕ → Grammar Text BoundTerm
   UseOf n = Then (Found n) IsMember
@@ -478,45 +490,45 @@ module _ (c : Things) (here : List (Binding (List Bound))) (there : List (Bindin
   UseFrom (value n) rest y old new = UseOf n y rest new
   UseFrom _ rest y old new = ⊥
 
-  use_of_exact : (n : List ℕ) → Plain c BoundStands (λ s. of_option (find n here) >>= λ pack. member_at pack s) (UseOf n)
+  use_of_exact : (n : List ℕ) → Plain c BoundStands (member_of (seen_as free here n)) (UseOf n)
   use_of_exact n =
-      exact_where (known c) SameText c BoundStands (λ s. of_option (find n here) >>= λ pack. member_at pack s) (λ s. found_at n s >>= λ x. member_at x.0 x.1) (UseOf n) (λ s g sound. sym (bind_assoc (of_option (find n here)) (λ pack. Read (pack, s)) (λ x. member_at x.0 x.1)))
-      (then_exact (known c) SameText c PackStands BoundStands (found_at n) (Found n) member_at IsMember (both_exact (known c) SameText c PackStands (find n here) (find n there) (λ z g w. find_stands z n here there (stand z g w)))
+      exact_where (known c) SameText c BoundStands (member_of (seen_as free here n)) (λ s. found_at n s >>= λ x. member_at x.0 x.1) (UseOf n) (λ s g sound. sym (bind_assoc (of_option (seen_as free here n)) (λ pack. Read (pack, s)) (λ x. member_at x.0 x.1)))
+      (then_exact (known c) SameText c PackStands BoundStands (found_at n) (Found n) member_at IsMember (both_exact (known c) SameText c PackStands (seen_as free here n) (seen_as outer there n) (λ z g w. seen_stands z free outer n here there (frees z g w) (stand z g w)))
       (λ d xs ys g r. member_exact c d xs ys r))
 
-  use_from_exact : (l : Lexeme) (rest : Text) → Plain c BoundStands (λ s. use_from here l rest) (UseFrom l rest)
-  use_from_exact (value n) rest = plain_behind c BoundStands rest (λ s. of_option (find n here) >>= λ pack. member_at pack s) (UseOf n) (use_of_exact n)
+  use_from_exact : (l : Lexeme) (rest : Text) → Plain c BoundStands (λ s. use_from free here l rest) (UseFrom l rest)
+  use_from_exact (value n) rest = plain_behind c BoundStands rest (member_of (seen_as free here n)) (UseOf n) (use_of_exact n)
   use_from_exact _ rest = nothing_exact (known c) SameText c BoundStands
 
-  use_into : (y : BoundTerm) (t t' : Text) → (l : Lexeme) × (rest : Text) × Token l t rest × UseFrom l rest y t t' → IsUse there y t t'
+  use_into : (y : BoundTerm) (t t' : Text) → (l : Lexeme) × (rest : Text) × Token l t rest × UseFrom l rest y t t' → IsUse outer there y t t'
   use_into y t t' k = by_token k.0 k.1 k.2 k.3
     where
-      by_token : (l : Lexeme) (rest : Text) → Token l t rest → UseFrom l rest y t t' → IsUse there y t t'
+      by_token : (l : Lexeme) (rest : Text) → Token l t rest → UseFrom l rest y t t' → IsUse outer there y t t'
       by_token (value n) rest token k =
           let place : IsPlace k.3.0 rest t' = subst (λ r. IsPlace k.3.0 rest r) (sym k.3.3.1) (subst (λ r. IsPlace k.3.0 r k.3.1) k.2.1 k.3.2) in
           (n, rest, k.0, k.3.0, token, k.2.0, place, k.3.3.0)
       by_token _ rest token k = absurd k
 
-  use_back : (y : BoundTerm) (t t' : Text) → IsUse there y t t' → (l : Lexeme) × (rest : Text) × Token l t rest × UseFrom l rest y t t'
+  use_back : (y : BoundTerm) (t t' : Text) → IsUse outer there y t t' → (l : Lexeme) × (rest : Text) × Token l t rest × UseFrom l rest y t t'
   use_back y t t' k = (value k.0, k.1, k.4, (k.2, k.1, (k.5, refl), (k.3, t', k.6, (k.7, refl))))
 
-  use_exact : Plain c BoundStands (use_at here) (IsUse there)
+  use_exact : Plain c BoundStands (use_at free here) (IsUse outer there)
   unfolding use_at
   use_exact =
-      exact_spelled (known c) SameText c BoundStands (use_at here) (λ y old new. (l : Lexeme) × (rest : Text) × Token l old rest × UseFrom l rest y old new) (IsUse there) use_into use_back
-      (plain_token c BoundStands (λ s. use_from here) UseFrom use_from_exact)
+      exact_spelled (known c) SameText c BoundStands (use_at free here) (λ y old new. (l : Lexeme) × (rest : Text) × Token l old rest × UseFrom l rest y old new) (IsUse outer there) use_into use_back
+      (plain_token c BoundStands (λ s. use_from free here) UseFrom use_from_exact)
 
-  uses_exact : Plain c (Each BoundStands) (uses_at here) (IsList IsMark CloseRound (λ before. IsUse there) 256)
+  uses_exact : Plain c (Each BoundStands) (uses_at free here) (IsList IsMark CloseRound (λ before. IsUse outer there) 256)
   unfolding uses_at
-  uses_exact = list_exact (known c) SameText after IsMark (text_marks c) BoundStands CloseRound (λ before. use_at here) (λ before. IsUse there) (λ d xs ys r. plain_from c BoundStands (use_at here) (IsUse there) use_exact d) 256 c
+  uses_exact = list_exact (known c) SameText after IsMark (text_marks c) BoundStands CloseRound (λ before. use_at free here) (λ before. IsUse outer there) (λ d xs ys r. plain_from c BoundStands (use_at free here) (IsUse outer there) use_exact d) 256 c
 
   -- what stands before the dictionaries
-  pub start_exact : Plain c StartStands (start_at here) (IsStart there)
+  pub start_exact : Plain c StartStands (start_at free here) (IsStart outer there)
   unfolding start_at
   start_exact =
       then_exact (known c) SameText c Equals StartStands _ _ _ _ (results_exact c) (λ d1 results results' g1 r1.
       then_exact (known c) SameText d1 Equals StartStands _ _ _ _ (plain_from c Equals op_name_at IsOpName (op_name_exact c) d1) (λ d2 name name' g2 r2.
       after_exact (known c) SameText after IsMark (text_marks c) d2 StartStands OpenRound _ _
-      (then_exact (known c) SameText d2 (Each BoundStands) StartStands _ _ _ _ (plain_from c (Each BoundStands) (uses_at here) (IsList IsMark CloseRound (λ before. IsUse there) 256) uses_exact d2) (λ d3 operands operands' g3 r3.
+      (then_exact (known c) SameText d2 (Each BoundStands) StartStands _ _ _ _ (plain_from c (Each BoundStands) (uses_at free here) (IsList IsMark CloseRound (λ before. IsUse outer there) 256) uses_exact d2) (λ d3 operands operands' g3 r3.
       done_exact (known c) SameText d3 StartStands (record { results = results; name = name; operands = operands }) (record { results = results'; name = name'; operands = operands' })
       (λ z k w. (r1 z (grows_trans d1 d2 z g2 (grows_trans d2 d3 z g3 k)) w, r2 z (grows_trans d2 d3 z g3 k) w, r3 z k w))))))

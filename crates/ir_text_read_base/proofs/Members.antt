@@ -2,11 +2,12 @@
 use Rattle.std.specs.Prelude.{◌&&◌, ◌==◌, slice_get}
 use Rattle.std.specs.List.{list_all}
 use Rattle.std.specs.Char.{is_ascii_digit}
-use Rattle.std.proofs.Common.{◌≡◌, ◌^◌, ◌<◌, ◌≤◌, ℕ, Bool, true, false, true≢false, List, [], ◌∷◌, length, Option, Some, None, refl, sym, ap, ◌∙◌, arith}
+use Rattle.std.proofs.Common.{◌≡◌, ◌^◌, ◌<◌, ◌≤◌, ℕ, Bool, true, false, true≢false, List, [], ◌∷◌, length, Option, Some, None, refl, sym, ap, subst, ◌∙◌, arith}
 use Rattle.std.proofs.lemmas.Bool.{eqb-true}
 use Rattle.std.proofs.lemmas.Bool.Decides.{nat_tests}
 use Rattle.std.proofs.lemmas.Option.{slice_get_past}
 use Rattle.ir_text_base.specs.Numbers.{place_value, begins_hex, integer_of, below_limit}
+use Rattle.ir_text_read_base.specs.Free.{small}
 
 both_are : (x y : Bool) → (x && y) ≡ true → (x ≡ true) × (y ≡ true)
 both_are true true e = (refl, refl)
@@ -50,3 +51,12 @@ past_all xs ds k h e le = slice_get_past xs (place_value 10 ds) (omega (arith, l
 
 pub place_is : (ds : List ℕ) (k : ℕ) → list_all is_ascii_digit ds ≡ true → below_limit (integer_of ds) ≡ Some k → k ≡ place_value 10 ds
 place_is ds k h e = sym (limit_is (integer_of ds) k e) ∙ decimal ds h
+
+-- a number within an id's limit, read or written
+pub small_is : (ds : List ℕ) (k : ℕ) → list_all is_ascii_digit ds ≡ true → below_limit (integer_of ds) ≡ Some k → small k ≡ small (place_value 10 ds)
+small_is ds k h e = ap small (place_is ds k h e)
+
+pub small_passed : (ds : List ℕ) → list_all is_ascii_digit ds ≡ true → below_limit (integer_of ds) ≡ None → small (place_value 10 ds) ≡ None
+small_passed ds h e =
+    let big : 2 ^ 128 ≤ place_value 10 ds = subst (λ n. 2 ^ 128 ≤ n) (decimal ds h) (limit_passed (integer_of ds) e) in
+    grind (arith, nat_tests)

@@ -1,6 +1,6 @@
 -- The tree of a text, by the laws of operations.
 use Rattle.std.proofs.Common.{◌≡◌, ℕ, true, false, ◌&&◌, List, [], ◌∷◌, map, length, Option, Some, None, is_some, refl, sym, ap, subst, ◌∙◌, inl, inr, ⊎_elim, arith, lt-ltb}
-use Rattle.std.specs.Prelude.{IsTrue}
+use Rattle.std.specs.Prelude.{IsTrue, option_map, option_and_then}
 use Rattle.ir_text_base.specs.declared.token.Mark.TheVariants.{End}
 use Rattle.ir_text_base.specs.Limits.{text_reason}
 use Rattle.ir_types.specs.Things.{Things, IsName, Grows}
@@ -26,21 +26,43 @@ use Rattle.ir_tree.specs.Passing.{op_passes}
 use Rattle.ir_tree.specs.Meaning.{Operation, meaning, is_known, is_name, is_type, is_attr, key_before, key_before_in, rises, rises_after, dictionaries_rise}
 use Rattle.ir_tree.proofs.Mapped.{map_ids, map_operands_visible, map_depth, map_counts, map_every}
 use Rattle.ir_tree.specs.WellFormed.{IsFormed}
-use Rattle.ir_text_type_base.specs.Grammars.{IsMark}
+use Rattle.ir_text_type_base.specs.Grammars.{Grammar, IsMark}
+use Rattle.ir_text_type_base.specs.Worlds.{From}
 use Rattle.ir_text_type_base.specs.Laws.{Each}
 use Rattle.ir_text_type_base.specs.Marks.{after}
-use Rattle.ir_text_type_base.specs.Outcomes.{Outcome, Read, Wrong, Full, Fails}
+use Rattle.ir_text_type_base.specs.Outcomes.{Outcome, Read, Wrong, Full, Parse, Fails}
 use Rattle.ir_text_type_base.proofs.TextLaws.{after_found, after_only}
 use Rattle.ir_text_type_base.proofs.Worlds.{Step, Agree}
 use Rattle.ir_text_read_base.specs.States.{State, fresh}
-use Rattle.ir_text_read_base.specs.Seen.{seen_fresh}
+use Rattle.ir_text_read_base.specs.Seen.{Seen, seen_fresh}
+use Rattle.ir_tree.specs.declared.value.Value.{Value}
+use Rattle.ir_text_read_base.specs.Free.{value_named, free_bound, no_types, no_names}
+use Rattle.ir_text_read_base.specs.FrontReading.{Frees}
 use Rattle.ir_text_read_base.specs.OpReading.{op_at, ops_at}
 use Rattle.ir_text_read_base.specs.OpGrammar.{IsOp}
-use Rattle.ir_text_read_base.specs.Standing.{StateStands, OpStands}
+use Rattle.ir_text_read_base.specs.Standing.{Both, BoundStands, FreeStands, StateStands, OpStands}
 use Rattle.ir_text_read_base.specs.Spelling.{begins_module, is_root, module_word, module_of, IsExplicit, IsImplicit, Spells}
 use Rattle.ir_text_read_base.specs.Claims.{IsOnly, IsNone, IsBody, IsSource, IsWhole, module_with}
 use Rattle.ir_text_read_base.proofs.NameLaws.{held, bytes_now}
 use Rattle.ir_text_read_base.proofs.OpLaws.{op_exact, source_exact}
+
+-- no module is around, and so no name is free
+abbrev pub no_free : Frees
+no_free = free_bound no_types
+
+nothing_free : (z : Things) (v : Option Value) → Both BoundStands z (option_and_then (λ x. option_map (λ ty. record { value = x; ty = ty }) (no_types x)) v) None
+nothing_free z None = tt
+nothing_free z (Some x) = tt
+
+no_frees : (c : Things) → From (λ z. FreeStands z no_free no_names) c
+unfolding free_bound
+no_frees c = λ z g w name. nothing_free z (value_named name)
+
+abbrev pub reading : ℕ → Parse State Op
+reading depth = op_at no_free 1048576 depth
+
+abbrev pub spelling : ℕ → Grammar Seen Operation
+spelling depth = IsOp no_names 1048576 depth
 
 fresh_agrees : (first : ℕ) (bytes : List ℕ) (c : Things) → Agree held StateStands (fresh first bytes c) (seen_fresh first bytes)
 fresh_agrees first bytes c z g w = (refl, (tt, tt), refl)
@@ -61,34 +83,34 @@ unfolding IsExplicit
 not_begun bytes e y h = let g = h.0 in absurd cc
 
 -- what is spelled was read
-explicit_is : (bytes : List ℕ) (c : Things) (x : Op) (s : State) → IsSound c → op_at 129 (fresh 0 bytes c) ≡ Read (x, s) → (y : Operation) → IsExplicit bytes y
+explicit_is : (bytes : List ℕ) (c : Things) (x : Op) (s : State) → IsSound c → reading 129 (fresh 0 bytes c) ≡ Read (x, s) → (y : Operation) → IsExplicit bytes y
     → (y ≡ meaning s.things x) × ((rest : List ℕ) × IsMark End s.bytes rest) × (is_root y ≡ true)
 unfolding IsExplicit
 explicit_is bytes c x s sound e y h = ⊎_elim
-    (λ (f : op_at 129 (fresh 0 bytes c) ≡ Full). absurd cc)
-    (λ (f : (x' : Op) × (s' : State) × (op_at 129 (fresh 0 bytes c) ≡ Read (x', s')) × Step held StateStands OpStands (fresh 0 bytes c) x' y s' h.1.0).
+    (λ (f : reading 129 (fresh 0 bytes c) ≡ Full). absurd cc)
+    (λ (f : (x' : Op) × (s' : State) × (reading 129 (fresh 0 bytes c) ≡ Read (x', s')) × Step held StateStands OpStands (fresh 0 bytes c) x' y s' h.1.0).
     let q = read_parts f.0 x f.1 s (sym f.2 ∙ e) in
     let r = f.3.stands f.1.things (grows_refl f.1.things) f.3.sound in (
       sym r.1 ∙ ap (λ (u : Op × State). meaning u.1.things u.0) (λ i. (q.0 i, q.1 i)),
       (h.1.1, subst (λ b. IsMark End b h.1.1) (sym (bytes_now f.1 h.1.0 f.3.sound f.3.agree) ∙ ap (λ (u : State). u.bytes) q.1) h.1.3),
       h.2,
     ))
-    ((op_exact 129 c).only (fresh 0 bytes c) (seen_fresh 0 bytes) y h.1.0 (grows_refl c) sound (fresh_agrees 0 bytes c) h.1.2)
+    ((op_exact no_free no_names 1048576 c (no_frees c) 129 c (grows_refl c)).only (fresh 0 bytes c) (seen_fresh 0 bytes) y h.1.0 (grows_refl c) sound (fresh_agrees 0 bytes c) h.1.2)
 
-pub explicit_read : (bytes : List ℕ) (c : Things) (x : Op) (s : State) (rest : List ℕ) → IsSound c → begins_module bytes ≡ true → op_at 129 (fresh 0 bytes c) ≡ Read (x, s)
+pub explicit_read : (bytes : List ℕ) (c : Things) (x : Op) (s : State) (rest : List ℕ) → IsSound c → begins_module bytes ≡ true → reading 129 (fresh 0 bytes c) ≡ Read (x, s)
     → after End s.bytes ≡ Some rest → is_root (meaning s.things x) ≡ true → IsOnly (IsExplicit bytes) s.things x
 unfolding IsExplicit
 explicit_read bytes c x s rest sound begins e ends root =
-    let f = (op_exact 129 c).found (fresh 0 bytes c) (seen_fresh 0 bytes) x s (grows_refl c) sound (fresh_agrees 0 bytes c) e in
+    let f = (op_exact no_free no_names 1048576 c (no_frees c) 129 c (grows_refl c)).found (fresh 0 bytes c) (seen_fresh 0 bytes) x s (grows_refl c) sound (fresh_agrees 0 bytes c) e in
     let r = f.3.stands s.things (grows_refl s.things) f.3.sound in
     let mark : IsMark End f.1.bytes rest = subst (λ b. IsMark End b rest) (bytes_now s f.1 f.3.sound f.3.agree) (after_found End s.bytes rest ends) in
     record {
       known = r.0;
-      holds = (begins, (f.1, rest, subst (λ y. IsOp 129 y (seen_fresh 0 bytes) f.1) (sym r.1) f.2, mark), root);
+      holds = (begins, (f.1, rest, subst (λ y. spelling 129 y (seen_fresh 0 bytes) f.1) (sym r.1) f.2, mark), root);
       only = λ y h. (explicit_is bytes c x s sound e y h).0;
     }
 
-pub explicit_whole : (bytes : List ℕ) (c : Things) (x : Op) (s : State) → IsSound c → begins_module bytes ≡ true → op_at 129 (fresh 0 bytes c) ≡ Read (x, s)
+pub explicit_whole : (bytes : List ℕ) (c : Things) (x : Op) (s : State) → IsSound c → begins_module bytes ≡ true → reading 129 (fresh 0 bytes c) ≡ Read (x, s)
     → (is_some (after End s.bytes) && is_root (meaning s.things x)) ≡ true → IsOnly (IsExplicit bytes) s.things x
 explicit_whole bytes c x s sound begins e whole = by (after End s.bytes) refl whole
   where
@@ -111,7 +133,7 @@ pub named_module : (c d : Things) (n : ℕ) → (n, d) ≡ with_name module_word
 named_module c d n e = subst (λ (p : ℕ × Things). IsName p.1 p.0 × (name_term p.1 p.0 ≡ module_word)) (sym e)
     (slice_get_within _ _ _ (name_stands module_word c), new_name module_word c)
 
-pub explicit_other : (bytes : List ℕ) (c : Things) (x : Op) (s : State) → IsSound c → op_at 129 (fresh 0 bytes c) ≡ Read (x, s)
+pub explicit_other : (bytes : List ℕ) (c : Things) (x : Op) (s : State) → IsSound c → reading 129 (fresh 0 bytes c) ≡ Read (x, s)
     → (is_some (after End s.bytes) && is_root (meaning s.things x)) ≡ false → IsNone (IsExplicit bytes)
 explicit_other bytes c x s sound e not_whole y h =
     let k = explicit_is bytes c x s sound e y h in
@@ -119,12 +141,12 @@ explicit_other bytes c x s sound e not_whole y h =
     let root : is_root (meaning s.things x) ≡ true = ap is_root (sym k.0) ∙ k.2 in
     let g = sym not_whole ∙ (λ i. is_some (ends i) && root i) in absurd cc
 
-pub explicit_wrong : (bytes : List ℕ) (c : Things) → IsSound c → op_at 129 (fresh 0 bytes c) ≡ Wrong → IsNone (IsExplicit bytes)
+pub explicit_wrong : (bytes : List ℕ) (c : Things) → IsSound c → reading 129 (fresh 0 bytes c) ≡ Wrong → IsNone (IsExplicit bytes)
 unfolding IsExplicit
 explicit_wrong bytes c sound e y h = ⊎_elim
-    (λ (f : op_at 129 (fresh 0 bytes c) ≡ Full). absurd cc)
-    (λ (f : (x' : Op) × (s' : State) × (op_at 129 (fresh 0 bytes c) ≡ Read (x', s')) × Step held StateStands OpStands (fresh 0 bytes c) x' y s' h.1.0). let g = f.2 in absurd cc)
-    ((op_exact 129 c).only (fresh 0 bytes c) (seen_fresh 0 bytes) y h.1.0 (grows_refl c) sound (fresh_agrees 0 bytes c) h.1.2)
+    (λ (f : reading 129 (fresh 0 bytes c) ≡ Full). absurd cc)
+    (λ (f : (x' : Op) × (s' : State) × (reading 129 (fresh 0 bytes c) ≡ Read (x', s')) × Step held StateStands OpStands (fresh 0 bytes c) x' y s' h.1.0). let g = f.2 in absurd cc)
+    ((op_exact no_free no_names 1048576 c (no_frees c) 129 c (grows_refl c)).only (fresh 0 bytes c) (seen_fresh 0 bytes) y h.1.0 (grows_refl c) sound (fresh_agrees 0 bytes c) h.1.2)
 
 -- ---- an implicit one
 
@@ -150,21 +172,21 @@ known_parts : (z : Things) (n : ℕ) (xs : List Op) (ys : List Operation) → is
 known_parts z n xs ys name h = rw (name, ops_known z xs ys h) refl
 
 -- the operations that are spelled were read
-body_is : (bytes : List ℕ) (c : Things) (xs : List Op) (s : State) → IsSound c → ops_at End (op_at 128) 1048576 [] (fresh 1 bytes c) ≡ Read (xs, s) → (y : Operation) → IsBody bytes y
+body_is : (bytes : List ℕ) (c : Things) (xs : List Op) (s : State) → IsSound c → ops_at End (reading 128) 1048576 [] (fresh 1 bytes c) ≡ Read (xs, s) → (y : Operation) → IsBody bytes y
     → (os : List Operation) × Each OpStands s.things xs os × (y ≡ module_of os)
 unfolding IsBody
 body_is bytes c xs s sound e y h = ⊎_elim
-    (λ (f : ops_at End (op_at 128) 1048576 [] (fresh 1 bytes c) ≡ Full). absurd cc)
-    (λ (f : (xs' : List Op) × (s' : State) × (ops_at End (op_at 128) 1048576 [] (fresh 1 bytes c) ≡ Read (xs', s')) × Step held StateStands (Each OpStands) (fresh 1 bytes c) xs' h.0 s' h.1).
+    (λ (f : ops_at End (reading 128) 1048576 [] (fresh 1 bytes c) ≡ Full). absurd cc)
+    (λ (f : (xs' : List Op) × (s' : State) × (ops_at End (reading 128) 1048576 [] (fresh 1 bytes c) ≡ Read (xs', s')) × Step held StateStands (Each OpStands) (fresh 1 bytes c) xs' h.0 s' h.1).
     let q = read_parts f.0 xs f.1 s (sym f.2 ∙ e) in
     (h.0, subst (λ (u : List Op × State). Each OpStands u.1.things u.0 h.0) (λ i. (q.0 i, q.1 i)) (f.3.stands f.1.things (grows_refl f.1.things) f.3.sound), h.3))
-    ((source_exact 128 c).only (fresh 1 bytes c) (seen_fresh 1 bytes) h.0 h.1 (grows_refl c) sound (fresh_agrees 1 bytes c) h.2)
+    ((source_exact no_free no_names 1048576 c (no_frees c) 128 c (grows_refl c)).only (fresh 1 bytes c) (seen_fresh 1 bytes) h.0 h.1 (grows_refl c) sound (fresh_agrees 1 bytes c) h.2)
 
-pub body_read : (bytes : List ℕ) (c : Things) (n : ℕ) (xs : List Op) (s : State) → IsSound c → IsName c n → name_term c n ≡ module_word → ops_at End (op_at 128) 1048576 [] (fresh 1 bytes c) ≡ Read (xs, s)
+pub body_read : (bytes : List ℕ) (c : Things) (n : ℕ) (xs : List Op) (s : State) → IsSound c → IsName c n → name_term c n ≡ module_word → ops_at End (reading 128) 1048576 [] (fresh 1 bytes c) ≡ Read (xs, s)
     → IsOnly (IsBody bytes) s.things (module_with n xs)
 unfolding IsBody
 body_read bytes c n xs s sound of_c name e =
-    let f = (source_exact 128 c).found (fresh 1 bytes c) (seen_fresh 1 bytes) xs s (grows_refl c) sound (fresh_agrees 1 bytes c) e in
+    let f = (source_exact no_free no_names 1048576 c (no_frees c) 128 c (grows_refl c)).found (fresh 1 bytes c) (seen_fresh 1 bytes) xs s (grows_refl c) sound (fresh_agrees 1 bytes c) e in
     let r = f.3.stands s.things (grows_refl s.things) f.3.sound in
     let named : name_term s.things n ≡ module_word = name_stays c s.things n f.3.grows of_c ∙ name in
     record {
@@ -173,12 +195,12 @@ body_read bytes c n xs s sound of_c name e =
       only = λ y h. let k = body_is bytes c xs s sound e y h in k.2 ∙ sym (with_parts s.things n xs k.0 named k.1);
     }
 
-pub body_wrong : (bytes : List ℕ) (c : Things) → IsSound c → ops_at End (op_at 128) 1048576 [] (fresh 1 bytes c) ≡ Wrong → IsNone (IsBody bytes)
+pub body_wrong : (bytes : List ℕ) (c : Things) → IsSound c → ops_at End (reading 128) 1048576 [] (fresh 1 bytes c) ≡ Wrong → IsNone (IsBody bytes)
 unfolding IsBody
 body_wrong bytes c sound e y h = ⊎_elim
-    (λ (f : ops_at End (op_at 128) 1048576 [] (fresh 1 bytes c) ≡ Full). absurd cc)
-    (λ (f : (xs' : List Op) × (s' : State) × (ops_at End (op_at 128) 1048576 [] (fresh 1 bytes c) ≡ Read (xs', s')) × Step held StateStands (Each OpStands) (fresh 1 bytes c) xs' h.0 s' h.1). let g = f.2 in absurd cc)
-    ((source_exact 128 c).only (fresh 1 bytes c) (seen_fresh 1 bytes) h.0 h.1 (grows_refl c) sound (fresh_agrees 1 bytes c) h.2)
+    (λ (f : ops_at End (reading 128) 1048576 [] (fresh 1 bytes c) ≡ Full). absurd cc)
+    (λ (f : (xs' : List Op) × (s' : State) × (ops_at End (reading 128) 1048576 [] (fresh 1 bytes c) ≡ Read (xs', s')) × Step held StateStands (Each OpStands) (fresh 1 bytes c) xs' h.0 s' h.1). let g = f.2 in absurd cc)
+    ((source_exact no_free no_names 1048576 c (no_frees c) 128 c (grows_refl c)).only (fresh 1 bytes c) (seen_fresh 1 bytes) h.0 h.1 (grows_refl c) sound (fresh_agrees 1 bytes c) h.2)
 
 -- ---- the one or the other
 

@@ -29,14 +29,14 @@ use Rattle.ir_text_type_base.proofs.TypeLaws.{function_type_exact}
 use Rattle.ir_text_attr_base.proofs.NodeLaws as attrs
 use Rattle.ir_text_read_base.specs.declared.bound.Bound.{Bound}
 use Rattle.ir_text_read_base.specs.States.{State, to_bytes, after_in, typed, with_typed, with_scopes, fresh}
-use Rattle.ir_text_read_base.specs.FrontReading.{Text, Start, start_at}
+use Rattle.ir_text_read_base.specs.FrontReading.{Text, Frees, Start, start_at}
 use Rattle.ir_text_read_base.specs.EntryReading.{Entries, properties_at, attributes_at}
 use Rattle.ir_text_read_base.specs.Made.{made}
 use Rattle.ir_text_read_base.specs.OpReading.{finish, types_of, op_of, regions_at, ops_at, tail_at, begun, op_with, op_at}
 use Rattle.ir_text_read_base.specs.Seen.{BoundTerm, PackTerm, Seen, seen_rest, seen_scopes, seen_fresh, IsMarkSeen, InText, When}
 use Rattle.ir_text_attr_base.specs.AttrGrammar.{EntryTerm}
-use Rattle.ir_text_read_base.specs.OpGrammar.{StartTerm, RegionTerm, is_property, IsStart, IsProperties, IsAttributes, IsRegions, IsFinished, IsOps, IsTail, IsOpWith, IsOp}
-use Rattle.ir_text_read_base.specs.Standing.{BoundStands, HereStands, StateStands, StartStands, EntryStands, RegionStands, OpStands}
+use Rattle.ir_text_read_base.specs.OpGrammar.{FreeTerms, StartTerm, RegionTerm, is_property, IsStart, IsProperties, IsAttributes, IsRegions, IsFinished, IsOps, IsTail, IsOpWith, IsOp}
+use Rattle.ir_text_read_base.specs.Standing.{BoundStands, FreeStands, HereStands, StateStands, StartStands, EntryStands, RegionStands, OpStands}
 use Rattle.ir_text_read_base.proofs.FrontLaws.{begin_exact, shift_exact, start_exact}
 use Rattle.ir_text_read_base.proofs.EntryLaws.{properties_exact, attributes_exact}
 use Rattle.ir_text_read_base.proofs.NameLaws.{held, state_marks, in_typed, in_text, typed_exact, text_exact, finish_scoped, scoped_exact}
@@ -212,7 +212,7 @@ done_alone Q y t t' k = subst (λ m. Q y m t') k.2.1 k.3
 alone_done : {B : Type 0} (Q : Grammar Seen B) (y : B) (t t' : Seen) → Q y t t' → Then (Done {B = Unit {0}} tt) (λ u. Q) y t t'
 alone_done Q y t t' k = (tt, t, (refl, refl), k)
 
-module _ (p : Parse State (List Op)) (P : Grammar Seen (List Operation)) (body : (c : Things) → Exact held StateStands c (Each OpStands) p P) where
+module _ (free : Frees) (outer : FreeTerms) (base : Things) (frees : From (λ z. FreeStands z free outer) base) (p : Parse State (List Op)) (P : Grammar Seen (List Operation)) (body : (c : Things) → Grows base c → Exact held StateStands c (Each OpStands) p P) where
   abbrev at_regions : ℕ → Start → ℕ → Bool → Entries → State → Outcome (Op × State)
   at_regions id h n isolated es s = regions_at p id isolated s >>= λ rs. tail_at id n h es rs.0 rs.1
 
@@ -223,7 +223,7 @@ module _ (p : Parse State (List Op)) (P : Grammar Seen (List Operation)) (body :
   at_name id h s = in_typed (name_in h.name) s >>= λ n. at_properties id h n.0 (isolated_in n.1.things n.0) n.1
 
   abbrev at_start : List (Binding (List Bound)) → ℕ → State → Outcome (Op × State)
-  at_start here id s = in_text (start_at here) s >>= λ h. at_name id h.0 h.1
+  at_start here id s = in_text (start_at free here) s >>= λ h. at_name id h.0 h.1
 
   properties_same : (id : ℕ) (h : Start) (n : ℕ) (isolated : Bool) (s : State) → (properties_at (typed s) >>= λ e. at_regions id h n isolated e.0 (begun s e.1)) ≡ at_properties id h n isolated s
   properties_same id h n isolated s = sym (bind_assoc (properties_at (typed s)) (λ x. Read (x.0, with_typed s x.1)) (λ e. at_regions id h n isolated e.0 (next_id e.1)))
@@ -234,11 +234,11 @@ module _ (p : Parse State (List Op)) (P : Grammar Seen (List Operation)) (body :
       ∙ sym (bind_assoc (name_step h.name s.things) (λ n. Read (n.0, (s.bytes, n.1))) (λ n. at_properties id h n.0 (isolated_in n.1.1 n.0) (with_typed s n.1)))
       ∙ sym (bind_assoc (name_in h.name (typed s)) (λ x. Read (x.0, with_typed s x.1)) (λ n. at_properties id h n.0 (isolated_in n.1.things n.0) n.1))
 
-  op_same : (s : State) → op_with p s ≡ at_start s.scopes.here s.next s
+  op_same : (s : State) → op_with free p s ≡ at_start s.scopes.here s.next s
   unfolding op_with
   op_same s =
-      (λ i. start_at s.scopes.here s.bytes >>= λ h. name_same s.next h.0 (to_bytes s h.1) i)
-      ∙ sym (bind_assoc (start_at s.scopes.here s.bytes) (λ x. Read (x.0, to_bytes s x.1)) (λ h. at_name s.next h.0 h.1))
+      (λ i. start_at free s.scopes.here s.bytes >>= λ h. name_same s.next h.0 (to_bytes s h.1) i)
+      ∙ sym (bind_assoc (start_at free s.scopes.here s.bytes) (λ x. Read (x.0, to_bytes s x.1)) (λ h. at_name s.next h.0 h.1))
 
   abbrev Regioned : ℕ → StartTerm → List EntryTerm → Grammar Seen Operation
   Regioned id begin qs = Then (IsRegions P id (is_isolated begin.name)) (λ ys. IsTail id begin qs ys)
@@ -250,9 +250,9 @@ module _ (p : Parse State (List Op)) (P : Grammar Seen (List Operation)) (body :
   Propertied id begin = Then (InText IsProperties) (λ qs. Next id begin qs)
 
   abbrev Started : List (Binding PackTerm) → ℕ → Grammar Seen Operation
-  Started there id = Then (InText (IsStart there)) (λ begin. Propertied id begin)
+  Started there id = Then (InText (IsStart outer there)) (λ begin. Propertied id begin)
 
-  started_into : (y : Operation) (t t' : Seen) → Started t.scopes.here t.next y t t' → IsOpWith P y t t'
+  started_into : (y : Operation) (t t' : Seen) → Started t.scopes.here t.next y t t' → IsOpWith outer P y t t'
   started_into y t t' k =
       let start = k.2 in
       let rest = k.3 in
@@ -261,87 +261,73 @@ module _ (p : Parse State (List Op)) (P : Grammar Seen (List Operation)) (body :
       let second : rest.1 ≡ seen_rest t props.0 = props.2 ∙ ap (λ m. seen_rest m props.0) first in
       (k.0, start.0, rest.0, props.0, start.1, subst (λ m. IsProperties rest.0 m.bytes props.0) first props.1, subst (λ m. Regioned t.next k.0 rest.0 y (seen_next m) t') second rest.3)
 
-  started_back : (y : Operation) (t t' : Seen) → IsOpWith P y t t' → Started t.scopes.here t.next y t t'
+  started_back : (y : Operation) (t t' : Seen) → IsOpWith outer P y t t' → Started t.scopes.here t.next y t t'
   started_back y t t' k = (k.0, seen_rest t k.1, (k.1, k.4, refl), (k.2, seen_rest t k.3, (k.3, k.5, refl), k.6))
 
   module _ (id : ℕ) (h : Start) (begin : StartTerm) where
-    regioned_exact : (c : Things) (n : ℕ) (es : Entries) (qs : List EntryTerm) → From (λ z. StartStands z h begin) c → From (λ z. NameStands z n begin.name) c → From (λ z. Each EntryStands z es qs) c
+    regioned_exact : (c : Things) → Grows base c → (n : ℕ) (es : Entries) (qs : List EntryTerm) → From (λ z. StartStands z h begin) c → From (λ z. NameStands z n begin.name) c → From (λ z. Each EntryStands z es qs) c
         → Exact held StateStands c OpStands (at_regions id h n (is_isolated begin.name) es) (Regioned id begin qs)
-    regioned_exact c n es qs starts names before =
-        then_exact held StateStands c (Each RegionStands) OpStands (regions_at p id (is_isolated begin.name)) (IsRegions P id (is_isolated begin.name)) (λ gs. tail_at id n h es gs) (λ ys. IsTail id begin qs ys) (regions_exact p P body id (is_isolated begin.name) c) (λ d gs ys g stand.
+    regioned_exact c b n es qs starts names before =
+        then_exact held StateStands c (Each RegionStands) OpStands (regions_at p id (is_isolated begin.name)) (IsRegions P id (is_isolated begin.name)) (λ gs. tail_at id n h es gs) (λ ys. IsTail id begin qs ys) (regions_exact p P base body id (is_isolated begin.name) c b) (λ d gs ys g stand.
         tail_exact id n h es gs begin qs ys d (later (λ z. StartStands z h begin) c d g starts) (later (λ z. NameStands z n begin.name) c d g names) (later (λ z. Each EntryStands z es qs) c d g before) stand)
 
-    propertied_exact : (c : Things) (n : ℕ) → From (λ z. StartStands z h begin) c → From (λ z. NameStands z n begin.name) c → Exact held StateStands c OpStands (at_properties id h n (is_isolated begin.name)) (Propertied id begin)
-    propertied_exact c n starts names =
+    propertied_exact : (c : Things) → Grows base c → (n : ℕ) → From (λ z. StartStands z h begin) c → From (λ z. NameStands z n begin.name) c → Exact held StateStands c OpStands (at_properties id h n (is_isolated begin.name)) (Propertied id begin)
+    propertied_exact c b n starts names =
         then_exact held StateStands c (Each EntryStands) OpStands (in_typed properties_at) (InText IsProperties) (λ es s. at_regions id h n (is_isolated begin.name) es (next_id s)) (λ qs. Next id begin qs) (typed_exact c (Each EntryStands) properties_at IsProperties (properties_exact c)) (λ d es qs g before.
         shift_exact held StateStands d OpStands next_id seen_next (at_regions id h n (is_isolated begin.name) es) (Regioned id begin qs) (λ s t sound a. (grows_refl s.things, sound, λ z k w. let now = a z k w in (now.0, now.1, ap (λ m. m + 1) now.2)))
-        (regioned_exact d n es qs (later (λ z. StartStands z h begin) c d g starts) (later (λ z. NameStands z n begin.name) c d g names) before))
+        (regioned_exact d (grows_trans base c d b g) n es qs (later (λ z. StartStands z h begin) c d g starts) (later (λ z. NameStands z n begin.name) c d g names) before))
 
     in_name : (c : Things) → h.name ≡ begin.name → Exact held StateStands c NameStands (in_typed (name_in h.name)) (Done begin.name)
     in_name c same =
         exact_spelled held StateStands c NameStands (in_typed (name_in h.name)) (InText (Done h.name)) (Done begin.name) (λ y t t' k. (k.1.0 ∙ same, k.2 ∙ ap (seen_rest t) k.1.1)) (λ y t t' k. (t.bytes, (k.0 ∙ sym same, refl), k.1))
         (typed_exact c NameStands (name_in h.name) (Done h.name) (attrs.name_exact c h.name))
 
-    named_exact : (c : Things) → IsSound c → From (λ z. StartStands z h begin) c → Exact held StateStands c OpStands (at_name id h) (Propertied id begin)
-    named_exact c sound starts =
+    named_exact : (c : Things) → Grows base c → IsSound c → From (λ z. StartStands z h begin) c → Exact held StateStands c OpStands (at_name id h) (Propertied id begin)
+    named_exact c b sound starts =
         exact_spelled held StateStands c OpStands (at_name id h) (Then (Done {B = Unit {0}} tt) (λ u. Propertied id begin)) (Propertied id begin) (done_alone (Propertied id begin)) (alone_done (Propertied id begin))
         (then_exact held StateStands c (λ z n (u : Unit {0}). NameStands z n begin.name) OpStands (in_typed (name_in h.name)) (Done tt) (λ n s. at_properties id h n (isolated_in s.things n) s) (λ u. Propertied id begin)
         (alone_exact c NameStands (in_typed (name_in h.name)) begin.name (in_name c (starts c (grows_refl c) sound).1)) (λ d n u g names.
         begin_exact held StateStands d OpStands (λ s. at_properties id h n (isolated_in s.things n)) (λ t. Propertied id begin) (λ s t k fine now.
-        subst (λ b. Exact held StateStands s.things OpStands (at_properties id h n b) (Propertied id begin)) (sym (ap is_isolated (names s.things k fine).1))
-        (propertied_exact s.things n (later (λ z. StartStands z h begin) c s.things (grows_trans c d s.things g k) starts) (later (λ z. NameStands z n begin.name) d s.things k names)))))
+        subst (λ i. Exact held StateStands s.things OpStands (at_properties id h n i) (Propertied id begin)) (sym (ap is_isolated (names s.things k fine).1))
+        (propertied_exact s.things (grows_trans base c s.things b (grows_trans c d s.things g k)) n (later (λ z. StartStands z h begin) c s.things (grows_trans c d s.things g k) starts) (later (λ z. NameStands z n begin.name) d s.things k names)))))
 
-  started_exact : (c : Things) (here : List (Binding (List Bound))) (there : List (Binding PackTerm)) (id : ℕ) → From (λ z. HereStands z here there) c → Exact held StateStands c OpStands (at_start here id) (Started there id)
-  started_exact c here there id stand =
-      then_exact held StateStands c StartStands OpStands (in_text (start_at here)) (InText (IsStart there)) (at_name id) (λ begin. Propertied id begin)
-      (text_exact c StartStands (start_at here) (IsStart there) (λ d g. start_exact d here there (later (λ z. HereStands z here there) c d g stand))) (λ d h begin g starts.
-      begin_exact held StateStands d OpStands (λ s. at_name id h) (λ t. Propertied id begin) (λ s t k sound now. named_exact id h begin s.things sound (later (λ z. StartStands z h begin) d s.things k starts)))
+  started_exact : (c : Things) → Grows base c → (here : List (Binding (List Bound))) (there : List (Binding PackTerm)) (id : ℕ) → From (λ z. HereStands z here there) c → Exact held StateStands c OpStands (at_start here id) (Started there id)
+  started_exact c b here there id stand =
+      then_exact held StateStands c StartStands OpStands (in_text (start_at free here)) (InText (IsStart outer there)) (at_name id) (λ begin. Propertied id begin)
+      (text_exact c StartStands (start_at free here) (IsStart outer there) (λ d g. start_exact d free outer here there (later (λ z. FreeStands z free outer) base d (grows_trans base c d b g) frees) (later (λ z. HereStands z here there) c d g stand))) (λ d h begin g starts.
+      begin_exact held StateStands d OpStands (λ s. at_name id h) (λ t. Propertied id begin) (λ s t k sound now.
+      named_exact id h begin s.things (grows_trans base d s.things (grows_trans base c d b g) k) sound (later (λ z. StartStands z h begin) d s.things k starts)))
 
-  pub op_with_exact : (c : Things) → Exact held StateStands c OpStands (op_with p) (IsOpWith P)
-  op_with_exact c =
-      exact_where held StateStands c OpStands (op_with p) (λ s. at_start s.scopes.here s.next s) (IsOpWith P) (λ s g sound. op_same s)
-      (exact_spelled held StateStands c OpStands (λ s. at_start s.scopes.here s.next s) (λ y old new. Started old.scopes.here old.next y old new) (IsOpWith P) started_into started_back
+  pub op_with_exact : (c : Things) → Grows base c → Exact held StateStands c OpStands (op_with free p) (IsOpWith outer P)
+  op_with_exact c b =
+      exact_where held StateStands c OpStands (op_with free p) (λ s. at_start s.scopes.here s.next s) (IsOpWith outer P) (λ s g sound. op_same s)
+      (exact_spelled held StateStands c OpStands (λ s. at_start s.scopes.here s.next s) (λ y old new. Started old.scopes.here old.next y old new) (IsOpWith outer P) started_into started_back
       (begin_exact held StateStands c OpStands (λ s. at_start s.scopes.here s.next) (λ t. Started t.scopes.here t.next) (λ s t g sound now.
       subst (λ n. Exact held StateStands s.things OpStands (at_start s.scopes.here s.next) (Started t.scopes.here n)) (now s.things (grows_refl s.things) sound).2
-      (started_exact s.things s.scopes.here t.scopes.here s.next (λ z k w. (now z k w).1.0)))))
+      (started_exact s.things (grows_trans base c s.things b g) s.scopes.here t.scopes.here s.next (λ z k w. (now z k w).1.0)))))
 
-pub op_exact : (depth : ℕ) (c : Things) → Exact held StateStands c OpStands (op_at depth) (IsOp depth)
-unfolding op_at IsOp
-op_exact zero c = record { found = λ s t x s' g sound h e. absurd cc; only = λ s t y t' g sound h k. absurd k; full = λ s t g sound h e. absurd cc }
-op_exact (suc depth) c =
-    begin_exact held StateStands c OpStands (λ u s. if nat_lt u.next 1048576 then op_with (ops_at CloseCurly (op_at depth) 1048576 []) s else Wrong) (λ v. When (v.next < 1048576) (IsOpWith (IsOps CloseCurly (IsOp depth) 1048576 []))) (λ s t g sound now.
-    let next = (now s.things (grows_refl s.things) sound).2 in
-    when_exact s.things OpStands (nat_lt s.next 1048576) (t.next < 1048576) (op_with (ops_at CloseCurly (op_at depth) 1048576 [])) (IsOpWith (IsOps CloseCurly (IsOp depth) 1048576 []))
-    (λ e. subst (λ n. n < 1048576) next (ltb-true s.next 1048576 e)) (λ k. lt-ltb s.next 1048576 (subst (λ n. n < 1048576) (sym next) k))
-    (op_with_exact (ops_at CloseCurly (op_at depth) 1048576 []) (IsOps CloseCurly (IsOp depth) 1048576 []) (λ d. ops_exact CloseCurly (op_at depth) (IsOp depth) (op_exact depth) 1048576 d [] [] (λ z k w. tt)) s.things))
+module _ (free : Frees) (outer : FreeTerms) (last : ℕ) (base : Things) (frees : From (λ z. FreeStands z free outer) base) where
+  pub op_exact : (depth : ℕ) (c : Things) → Grows base c → Exact held StateStands c OpStands (op_at free last depth) (IsOp outer last depth)
+  unfolding op_at IsOp
+  op_exact zero c b = record { found = λ s t x s' g sound h e. absurd cc; only = λ s t y t' g sound h k. absurd k; full = λ s t g sound h e. absurd cc }
+  op_exact (suc depth) c b =
+      let p = ops_at CloseCurly (op_at free last depth) 1048576 [] in
+      let P = IsOps CloseCurly (IsOp outer last depth) 1048576 [] in
+      begin_exact held StateStands c OpStands (λ u s. if nat_lt u.next last then op_with free p s else Wrong) (λ v. When (v.next < last) (IsOpWith outer P)) (λ s t g sound now.
+      let next = (now s.things (grows_refl s.things) sound).2 in
+      when_exact s.things OpStands (nat_lt s.next last) (t.next < last) (op_with free p) (IsOpWith outer P)
+      (λ e. subst (λ n. n < last) next (ltb-true s.next last e)) (λ k. lt-ltb s.next last (subst (λ n. n < last) (sym next) k))
+      (op_with_exact free outer base frees p P (λ d up. ops_exact CloseCurly (op_at free last depth) (IsOp outer last depth) base (op_exact depth) 1048576 d up [] [] (λ z k w. tt)) s.things (grows_trans base c s.things b g)))
 
--- operations up to the end of a text
-pub source_exact : (depth : ℕ) (c : Things) → Exact held StateStands c (Each OpStands) (ops_at End (op_at depth) 1048576 []) (IsOps End (IsOp depth) 1048576 [])
-source_exact depth c = ops_exact End (op_at depth) (IsOp depth) (op_exact depth) 1048576 c [] [] (λ z k w. tt)
+  -- operations up to the end of a text
+  pub source_exact : (depth : ℕ) (c : Things) → Grows base c → Exact held StateStands c (Each OpStands) (ops_at End (op_at free last depth) 1048576 []) (IsOps End (IsOp outer last depth) 1048576 [])
+  source_exact depth c b = ops_exact End (op_at free last depth) (IsOp outer last depth) base (op_exact depth) 1048576 c b [] [] (λ z k w. tt)
 
 -- ---- from a text
 
 -- at the beginning no name is bound
 fresh_agrees : (next : ℕ) (bytes : Text) (c : Things) → From (λ z. StateStands z (fresh next bytes c) (seen_fresh next bytes)) c
 fresh_agrees next bytes c = λ z g w. (refl, (tt, tt), refl)
-
-pub op_read : (depth next : ℕ) (c : Things) (bytes : Text) (o : Op) (s : State) → IsSound c → op_at depth (fresh next bytes c) ≡ Read (o, s)
-    → Grows c s.things × IsSound s.things × IsTrue (is_known s.things o) × (t : Seen) × IsOp depth (meaning s.things o) (seen_fresh next bytes) t × StateStands s.things s t
-op_read depth next c bytes o s sound e =
-    let f = (op_exact depth c).found (fresh next bytes c) (seen_fresh next bytes) o s (grows_refl c) sound (fresh_agrees next bytes c) e in
-    let r = f.3.stands s.things (grows_refl s.things) f.3.sound in
-    (f.3.grows, f.3.sound, r.0, f.1, subst (λ y. IsOp depth y (seen_fresh next bytes) f.1) (sym r.1) f.2, f.3.agree s.things (grows_refl s.things) f.3.sound)
-
-pub op_spelled : (depth next : ℕ) (c : Things) (bytes : Text) (y : Operation) (t : Seen) → IsSound c → IsOp depth y (seen_fresh next bytes) t
-    → (op_at depth (fresh next bytes c) ≡ Full) ⊎ ((o : Op) × (s : State) × (op_at depth (fresh next bytes c) ≡ Read (o, s)) × Grows c s.things × IsSound s.things × OpStands s.things o y × StateStands s.things s t)
-op_spelled depth next c bytes y t sound k = ⊎_elim
-    (λ (e : op_at depth (fresh next bytes c) ≡ Full). inl e)
-    (λ (f : (o : Op) × (s : State) × (op_at depth (fresh next bytes c) ≡ Read (o, s)) × Step held StateStands OpStands (fresh next bytes c) o y s t).
-    inr (f.0, f.1, f.2, f.3.grows, f.3.sound, f.3.stands f.1.things (grows_refl f.1.things) f.3.sound, f.3.agree f.1.things (grows_refl f.1.things) f.3.sound))
-    ((op_exact depth c).only (fresh next bytes c) (seen_fresh next bytes) y t (grows_refl c) sound (fresh_agrees next bytes c) k)
-
-pub op_full : (depth next : ℕ) (c : Things) (bytes : Text) → IsSound c → op_at depth (fresh next bytes c) ≡ Full → FillsUp c
-op_full depth next c bytes sound e = (op_exact depth c).full (fresh next bytes c) (seen_fresh next bytes) (grows_refl c) sound (fresh_agrees next bytes c) e
 
 -- ---- and all operations of a text
 
@@ -357,21 +343,40 @@ each_meaning z [] (y ∷ ys) h = absurd h
 each_meaning z (x ∷ xs) [] h = absurd h
 each_meaning z (x ∷ xs) (y ∷ ys) h = λ i. h.0.1 i ∷ each_meaning z xs ys h.1 i
 
-pub ops_read : (depth next : ℕ) (c : Things) (bytes : Text) (os : List Op) (s : State) → IsSound c → ops_at End (op_at depth) 1048576 [] (fresh next bytes c) ≡ Read (os, s)
-    → Grows c s.things × IsSound s.things × IsTrue (list_all (is_known s.things) os) × (t : Seen) × IsOps End (IsOp depth) 1048576 [] (map (meaning s.things) os) (seen_fresh next bytes) t × StateStands s.things s t
-ops_read depth next c bytes os s sound e =
-    let f = (source_exact depth c).found (fresh next bytes c) (seen_fresh next bytes) os s (grows_refl c) sound (fresh_agrees next bytes c) e in
-    let r = f.3.stands s.things (grows_refl s.things) f.3.sound in
-    (f.3.grows, f.3.sound, each_known s.things os f.0 r, f.1, subst (λ ys. IsOps End (IsOp depth) 1048576 [] ys (seen_fresh next bytes) f.1) (sym (each_meaning s.things os f.0 r)) f.2, f.3.agree s.things (grows_refl s.things) f.3.sound)
+module _ (free : Frees) (outer : FreeTerms) (last : ℕ) where
+  pub op_read : (depth next : ℕ) (c : Things) (bytes : Text) (o : Op) (s : State) → IsSound c → From (λ z. FreeStands z free outer) c → op_at free last depth (fresh next bytes c) ≡ Read (o, s)
+      → Grows c s.things × IsSound s.things × IsTrue (is_known s.things o) × (t : Seen) × IsOp outer last depth (meaning s.things o) (seen_fresh next bytes) t × StateStands s.things s t
+  op_read depth next c bytes o s sound frees e =
+      let f = (op_exact free outer last c frees depth c (grows_refl c)).found (fresh next bytes c) (seen_fresh next bytes) o s (grows_refl c) sound (fresh_agrees next bytes c) e in
+      let r = f.3.stands s.things (grows_refl s.things) f.3.sound in
+      (f.3.grows, f.3.sound, r.0, f.1, subst (λ y. IsOp outer last depth y (seen_fresh next bytes) f.1) (sym r.1) f.2, f.3.agree s.things (grows_refl s.things) f.3.sound)
 
-pub ops_spelled : (depth next : ℕ) (c : Things) (bytes : Text) (ys : List Operation) (t : Seen) → IsSound c → IsOps End (IsOp depth) 1048576 [] ys (seen_fresh next bytes) t
-    → (ops_at End (op_at depth) 1048576 [] (fresh next bytes c) ≡ Full)
-    ⊎ ((os : List Op) × (s : State) × (ops_at End (op_at depth) 1048576 [] (fresh next bytes c) ≡ Read (os, s)) × Grows c s.things × IsSound s.things × Each OpStands s.things os ys × StateStands s.things s t)
-ops_spelled depth next c bytes ys t sound k = ⊎_elim
-    (λ (e : ops_at End (op_at depth) 1048576 [] (fresh next bytes c) ≡ Full). inl e)
-    (λ (f : (os : List Op) × (s : State) × (ops_at End (op_at depth) 1048576 [] (fresh next bytes c) ≡ Read (os, s)) × Step held StateStands (Each OpStands) (fresh next bytes c) os ys s t).
-    inr (f.0, f.1, f.2, f.3.grows, f.3.sound, f.3.stands f.1.things (grows_refl f.1.things) f.3.sound, f.3.agree f.1.things (grows_refl f.1.things) f.3.sound))
-    ((source_exact depth c).only (fresh next bytes c) (seen_fresh next bytes) ys t (grows_refl c) sound (fresh_agrees next bytes c) k)
+  pub op_spelled : (depth next : ℕ) (c : Things) (bytes : Text) (y : Operation) (t : Seen) → IsSound c → From (λ z. FreeStands z free outer) c → IsOp outer last depth y (seen_fresh next bytes) t
+      → (op_at free last depth (fresh next bytes c) ≡ Full) ⊎ ((o : Op) × (s : State) × (op_at free last depth (fresh next bytes c) ≡ Read (o, s)) × Grows c s.things × IsSound s.things × OpStands s.things o y × StateStands s.things s t)
+  op_spelled depth next c bytes y t sound frees k = ⊎_elim
+      (λ (e : op_at free last depth (fresh next bytes c) ≡ Full). inl e)
+      (λ (f : (o : Op) × (s : State) × (op_at free last depth (fresh next bytes c) ≡ Read (o, s)) × Step held StateStands OpStands (fresh next bytes c) o y s t).
+      inr (f.0, f.1, f.2, f.3.grows, f.3.sound, f.3.stands f.1.things (grows_refl f.1.things) f.3.sound, f.3.agree f.1.things (grows_refl f.1.things) f.3.sound))
+      ((op_exact free outer last c frees depth c (grows_refl c)).only (fresh next bytes c) (seen_fresh next bytes) y t (grows_refl c) sound (fresh_agrees next bytes c) k)
 
-pub ops_full : (depth next : ℕ) (c : Things) (bytes : Text) → IsSound c → ops_at End (op_at depth) 1048576 [] (fresh next bytes c) ≡ Full → FillsUp c
-ops_full depth next c bytes sound e = (source_exact depth c).full (fresh next bytes c) (seen_fresh next bytes) (grows_refl c) sound (fresh_agrees next bytes c) e
+  pub op_full : (depth next : ℕ) (c : Things) (bytes : Text) → IsSound c → From (λ z. FreeStands z free outer) c → op_at free last depth (fresh next bytes c) ≡ Full → FillsUp c
+  op_full depth next c bytes sound frees e = (op_exact free outer last c frees depth c (grows_refl c)).full (fresh next bytes c) (seen_fresh next bytes) (grows_refl c) sound (fresh_agrees next bytes c) e
+
+  pub ops_read : (depth next : ℕ) (c : Things) (bytes : Text) (os : List Op) (s : State) → IsSound c → From (λ z. FreeStands z free outer) c → ops_at End (op_at free last depth) 1048576 [] (fresh next bytes c) ≡ Read (os, s)
+      → Grows c s.things × IsSound s.things × IsTrue (list_all (is_known s.things) os) × (t : Seen) × IsOps End (IsOp outer last depth) 1048576 [] (map (meaning s.things) os) (seen_fresh next bytes) t × StateStands s.things s t
+  ops_read depth next c bytes os s sound frees e =
+      let f = (source_exact free outer last c frees depth c (grows_refl c)).found (fresh next bytes c) (seen_fresh next bytes) os s (grows_refl c) sound (fresh_agrees next bytes c) e in
+      let r = f.3.stands s.things (grows_refl s.things) f.3.sound in
+      (f.3.grows, f.3.sound, each_known s.things os f.0 r, f.1, subst (λ ys. IsOps End (IsOp outer last depth) 1048576 [] ys (seen_fresh next bytes) f.1) (sym (each_meaning s.things os f.0 r)) f.2, f.3.agree s.things (grows_refl s.things) f.3.sound)
+
+  pub ops_spelled : (depth next : ℕ) (c : Things) (bytes : Text) (ys : List Operation) (t : Seen) → IsSound c → From (λ z. FreeStands z free outer) c → IsOps End (IsOp outer last depth) 1048576 [] ys (seen_fresh next bytes) t
+      → (ops_at End (op_at free last depth) 1048576 [] (fresh next bytes c) ≡ Full)
+      ⊎ ((os : List Op) × (s : State) × (ops_at End (op_at free last depth) 1048576 [] (fresh next bytes c) ≡ Read (os, s)) × Grows c s.things × IsSound s.things × Each OpStands s.things os ys × StateStands s.things s t)
+  ops_spelled depth next c bytes ys t sound frees k = ⊎_elim
+      (λ (e : ops_at End (op_at free last depth) 1048576 [] (fresh next bytes c) ≡ Full). inl e)
+      (λ (f : (os : List Op) × (s : State) × (ops_at End (op_at free last depth) 1048576 [] (fresh next bytes c) ≡ Read (os, s)) × Step held StateStands (Each OpStands) (fresh next bytes c) os ys s t).
+      inr (f.0, f.1, f.2, f.3.grows, f.3.sound, f.3.stands f.1.things (grows_refl f.1.things) f.3.sound, f.3.agree f.1.things (grows_refl f.1.things) f.3.sound))
+      ((source_exact free outer last c frees depth c (grows_refl c)).only (fresh next bytes c) (seen_fresh next bytes) ys t (grows_refl c) sound (fresh_agrees next bytes c) k)
+
+  pub ops_full : (depth next : ℕ) (c : Things) (bytes : Text) → IsSound c → From (λ z. FreeStands z free outer) c → ops_at End (op_at free last depth) 1048576 [] (fresh next bytes c) ≡ Full → FillsUp c
+  ops_full depth next c bytes sound frees e = (source_exact free outer last c frees depth c (grows_refl c)).full (fresh next bytes c) (seen_fresh next bytes) (grows_refl c) sound (fresh_agrees next bytes c) e

@@ -9,6 +9,7 @@ use Rattle.ir_tree.specs.WellFormed.{IsFormed}
 use Rattle.ir_text_read_base.specs.declared.module.Root.{Root}
 use Rattle.ir_text_read_base.specs.declared.module.Root.TheVariants as root
 use Rattle.ir_text_read_base.specs.Seen.{Seen, seen_fresh}
+use Rattle.ir_text_read_base.specs.Free.{no_names}
 use Rattle.ir_text_read_base.specs.OpGrammar.{IsOp, IsOps}
 use Rattle.ir_text_read_base.specs.Spelling.{IsExplicit, IsImplicit, module_of}
 
@@ -29,7 +30,7 @@ IsRootOrNone bytes c (root.Other fault) = IsNone (IsExplicit bytes)
 
 -- the operations of an implicit root
 unfoldable pub IsBody : List ℕ → Operation → Type 0
-IsBody bytes t = (os : List Operation) × (end : Seen) × IsOps End (IsOp 128) 1048576 [] os (seen_fresh 1 bytes) end × (t ≡ module_of os)
+IsBody bytes t = (os : List Operation) × (end : Seen) × IsOps End (IsOp no_names 1048576 128) 1048576 [] os (seen_fresh 1 bytes) end × (t ≡ module_of os)
 
 -- the one or the other
 abbrev pub IsSource : List ℕ → Operation → Type 0

@@ -6,12 +6,13 @@ use Rattle.ir_text_base.specs.declared.token.Mark.TheVariants.{OpenRound, CloseR
 use Rattle.ir_text_base.specs.Tokens.{Lexeme, integer, value, string, hash, next}
 use Rattle.ir_text_base.specs.Strings.{string_bytes}
 use Rattle.ir_text_base.specs.Numbers.{integer_of, place_value}
-use Rattle.ir_text_base.specs.Scopes.{Binding, find}
+use Rattle.ir_text_base.specs.Scopes.{Binding}
 use Rattle.ir_text_type_base.specs.Marks.{after}
 use Rattle.ir_text_type_base.specs.Outcomes.{Outcome, Read, Wrong, ◌>>=◌, of_option, Parse}
 use Rattle.ir_text_type_base.specs.Lists.{list_at, more_at}
 use Rattle.ir_text_read_base.specs.declared.bound.Bound.{Bound}
 use Rattle.ir_text_read_base.specs.declared.front.Front.{Front}
+use Rattle.ir_text_read_base.specs.Free.{seen_as}
 use Rattle.ir_text_read_base.specs.Packs.{Counted, counts, named_view}
 
 abbrev pub Text : Type 0
@@ -90,16 +91,23 @@ place_at bytes = place_from bytes (next bytes)
 unfoldable pub member_at : List Bound → Parse Text Bound
 member_at pack bytes = place_at bytes >>= λ k. of_option (slice_get pack k.0) >>= λ b. Read (b, k.1)
 
-abbrev pub use_from : List (Binding (List Bound)) → Lexeme → List ℕ → Outcome (Bound × Text)
-use_from here (value n) rest = of_option (find n here) >>= λ pack. member_at pack rest
-use_from here _ rest = Wrong
+abbrev pub member_of : Option (List Bound) → Parse Text Bound
+member_of pack bytes = of_option pack >>= λ values. member_at values bytes
 
--- a name that can be seen
-unfoldable pub use_at : List (Binding (List Bound)) → Parse Text Bound
-use_at here bytes = of_option (next bytes) >>= λ t. use_from here t.0 t.1
+-- what free names stand for
+abbrev pub Frees : Type 0
+Frees = List ℕ → Option Bound
 
-unfoldable pub uses_at : List (Binding (List Bound)) → Parse Text (List Bound)
-uses_at here = list_at after CloseRound (λ before. use_at here) 256
+abbrev pub use_from : Frees → List (Binding (List Bound)) → Lexeme → List ℕ → Outcome (Bound × Text)
+use_from free here (value n) rest = member_of (seen_as free here n) rest
+use_from free here _ rest = Wrong
+
+-- a name that can be seen, or is free
+unfoldable pub use_at : Frees → List (Binding (List Bound)) → Parse Text Bound
+use_at free here bytes = of_option (next bytes) >>= λ t. use_from free here t.0 t.1
+
+unfoldable pub uses_at : Frees → List (Binding (List Bound)) → Parse Text (List Bound)
+uses_at free here = list_at after CloseRound (λ before. use_at free here) 256
 
 pub record Start : Type 0 where
   pub results : Option (List Counted)
@@ -109,10 +117,10 @@ pub record Start : Type 0 where
 abbrev pub start_view : Front → Start
 start_view f = record { results = option_map (λ v. map named_view v.items) f.results; name = f.name.items; operands = f.operands.items }
 
-unfoldable pub start_at : List (Binding (List Bound)) → Parse Text Start
-start_at here bytes = do
+unfoldable pub start_at : Frees → List (Binding (List Bound)) → Parse Text Start
+start_at free here bytes = do
   results ← results_at bytes
   name ← op_name_at results.1
   o ← of_option (after OpenRound name.1)
-  operands ← uses_at here o
+  operands ← uses_at free here o
   Read (record { results = results.0; name = name.0; operands = operands.0 }, operands.1)

@@ -1,3 +1,4 @@
+pub mod Free
 pub mod Packs
 pub mod States
 pub mod FrontReading

@@ -9,7 +9,7 @@ use Rattle.ir_text_base.specs.declared.token.Mark.TheVariants.{OpenRound, CloseR
 use Rattle.ir_text_base.specs.Tokens.{Lexeme, integer, value, string, bare, label, hash}
 use Rattle.ir_text_base.specs.Strings.{string_bytes}
 use Rattle.ir_text_base.specs.Numbers.{integer_of, place_value}
-use Rattle.ir_text_base.specs.Scopes.{Binding, Scopes, find}
+use Rattle.ir_text_base.specs.Scopes.{Binding, Scopes}
 use Rattle.ir_types.specs.Terms.{TypeTerm, AttrTerm, Flag}
 use Rattle.ir_types.specs.Words.{is_isolated, is_inherent}
 use Rattle.ir_tree.specs.declared.value.Value.TheVariants as values
@@ -20,6 +20,7 @@ use Rattle.ir_text_type_base.specs.TypeGrammar.{Text, IsType, IsFunctionType}
 use Rattle.ir_text_attr_base.specs.AttrGrammar.{EntryTerm, IsKey, IsValue, IsAttr}
 use Rattle.ir_text_read_base.specs.Entries.{is_refused}
 use Rattle.ir_text_read_base.specs.Made.{region_of, made}
+use Rattle.ir_text_read_base.specs.Free.{seen_as}
 use Rattle.ir_text_read_base.specs.Packs.{Counted, counts}
 use Rattle.ir_text_read_base.specs.Seen.{BoundTerm, PackTerm, Seen, seen_rest, seen_scopes, seen_inside, seen_outside, IsMarkSeen, InText, When, IsBound}
 
@@ -62,19 +63,23 @@ IsPlace k old new =
     ((digits : List ℕ) × Token (hash digits) old new × (list_all is_ascii_digit digits ≡ true) × (k ≡ place_value 10 digits))
     ⊎ (((word rest : List ℕ) → Token (hash word) old rest → ⊥) × (k ≡ 0) × (new ≡ old))
 
--- a name that can be seen, and one of the values for which it stands
-abbrev pub IsUse : List (Binding PackTerm) → Grammar Text BoundTerm
-IsUse here b old new =
-    (n : List ℕ) × (mid : Text) × (pack : PackTerm) × (k : ℕ) × Token (value n) old mid × (find n here ≡ Some pack) × IsPlace k mid new × (slice_get pack k ≡ Some b)
+-- what free names stand for
+abbrev pub FreeTerms : Type 0
+FreeTerms = List ℕ → Option BoundTerm
+
+-- a name that can be seen, or is free, and one of the values for which it stands
+abbrev pub IsUse : FreeTerms → List (Binding PackTerm) → Grammar Text BoundTerm
+IsUse free here b old new =
+    (n : List ℕ) × (mid : Text) × (pack : PackTerm) × (k : ℕ) × Token (value n) old mid × (seen_as free here n ≡ Some pack) × IsPlace k mid new × (slice_get pack k ≡ Some b)
 
 pub record StartTerm : Type 0 where
   pub results : Option (List Counted)
   pub name : List ℕ
   pub operands : List BoundTerm
 
-abbrev pub IsStart : List (Binding PackTerm) → Grammar Text StartTerm
-IsStart here =
-    Then IsResults (λ results. Then IsOpName (λ name. After IsMark OpenRound (Then (IsList IsMark CloseRound (λ before. IsUse here) 256) (λ operands.
+abbrev pub IsStart : FreeTerms → List (Binding PackTerm) → Grammar Text StartTerm
+IsStart free here =
+    Then IsResults (λ results. Then IsOpName (λ name. After IsMark OpenRound (Then (IsList IsMark CloseRound (λ before. IsUse free here) 256) (λ operands.
     Done (record { results = results; name = name; operands = operands })))))
 
 -- ---- dictionaries
@@ -178,13 +183,13 @@ IsTail id h properties regions =
         (scopes : Scopes PackTerm) × IsFinished id h.results outputs old.scopes scopes × (new ≡ seen_scopes old scopes)
         × (y ≡ made (is_property (Some h.name)) key_before id h.name (map (λ b. b.value) h.operands) properties es outputs regions)
 
-abbrev pub IsOpWith : Grammar Seen (List Operation) → Grammar Seen Operation
-IsOpWith P y old new =
+abbrev pub IsOpWith : FreeTerms → Grammar Seen (List Operation) → Grammar Seen Operation
+IsOpWith free P y old new =
     (h : StartTerm) × (mid : Text) × (properties : List EntryTerm) × (rest : Text)
-    × IsStart old.scopes.here h old.bytes mid × IsProperties properties mid rest
+    × IsStart free old.scopes.here h old.bytes mid × IsProperties properties mid rest
     × Then (IsRegions P old.next (is_isolated h.name)) (λ regions. IsTail old.next h properties regions) y (record { bytes = rest; scopes = old.scopes; next = old.next + 1 }) new
 
--- an operation with at most that many levels, of which it is one; ids are given in pre-order
-unfoldable pub IsOp : ℕ → Grammar Seen Operation
-IsOp zero y old new = ⊥
-IsOp (suc depth) y old new = (old.next < 1048576) × IsOpWith (IsOps CloseCurly (IsOp depth) 1048576 []) y old new
+-- an operation with at most that many levels, of which it is one; ids are given in pre-order, each below `last`
+unfoldable pub IsOp : FreeTerms → ℕ → ℕ → Grammar Seen Operation
+IsOp free last zero y old new = ⊥
+IsOp free last (suc depth) y old new = (old.next < last) × IsOpWith free (IsOps CloseCurly (IsOp free last depth) 1048576 []) y old new

@@ -16,7 +16,7 @@ use Rattle.ir_text_type_base.specs.Typed.{Typed, after_typed, name_step}
 use Rattle.ir_text_type_base.specs.TypeReading.{type_at, function_type_at}
 use Rattle.ir_text_read_base.specs.declared.bound.Bound.{Bound}
 use Rattle.ir_text_read_base.specs.States.{State, to_bytes, after_in, typed, with_typed, with_scopes, inside, outside}
-use Rattle.ir_text_read_base.specs.FrontReading.{Start, start_at, name_at}
+use Rattle.ir_text_read_base.specs.FrontReading.{Frees, Start, start_at, name_at}
 use Rattle.ir_text_read_base.specs.Made.{region_of, made}
 use Rattle.ir_text_read_base.specs.Packs.{Counted, counts}
 use Rattle.ir_text_read_base.specs.EntryReading.{Entries, is_property_in, properties_at, attributes_at}
@@ -133,15 +133,15 @@ tail_at id name h properties regions s = do
 abbrev pub begun : State → Typed → State
 begun s t = record { bytes = t.0; scopes = s.scopes; next = s.next + 1; things = t.1 }
 
-unfoldable pub op_with : Parse State (List Op) → Parse State Op
-op_with p s = do
-  h ← start_at s.scopes.here s.bytes
+unfoldable pub op_with : Frees → Parse State (List Op) → Parse State Op
+op_with free p s = do
+  h ← start_at free s.scopes.here s.bytes
   n ← name_step h.0.name s.things
   e ← properties_at (h.1, n.1)
   rs ← regions_at p s.next (isolated_in n.1 n.0) (begun s e.1)
   tail_at s.next n.0 h.0 e.0 rs.0 rs.1
 
--- an operation with at most that many levels, of which it is one
-unfoldable pub op_at : ℕ → Parse State Op
-op_at zero s = Wrong
-op_at (suc depth) s = if nat_lt s.next 1048576 then op_with (ops_at CloseCurly (op_at depth) 1048576 []) s else Wrong
+-- an operation with at most that many levels, of which it is one; ids are below `last`
+unfoldable pub op_at : Frees → ℕ → ℕ → Parse State Op
+op_at free last zero s = Wrong
+op_at free last (suc depth) s = if nat_lt s.next last then op_with free (ops_at CloseCurly (op_at free last depth) 1048576 []) s else Wrong

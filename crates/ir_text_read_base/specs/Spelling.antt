@@ -13,6 +13,7 @@ use Rattle.ir_tree.specs.Ids.{IsNumberedFrom}
 use Rattle.ir_tree.specs.WellFormed.{IsFormed}
 use Rattle.ir_text_type_base.specs.Grammars.{IsMark}
 use Rattle.ir_text_read_base.specs.Seen.{Seen, seen_fresh}
+use Rattle.ir_text_read_base.specs.Free.{no_names}
 use Rattle.ir_text_read_base.specs.OpGrammar.{IsOp, IsOps}
 
 abbrev pub module_word : List ℕ
@@ -37,7 +38,7 @@ is_root t = is_table (head t).name && (length (head t).operands == 0 && length (
 -- the text is one operation, and that is such a module: it is the root
 unfoldable pub IsExplicit : List ℕ → Operation → Type 0
 IsExplicit bytes t =
-    (begins_module bytes ≡ true) × ((end : Seen) × (rest : List ℕ) × IsOp 129 t (seen_fresh 0 bytes) end × IsMark End end.bytes rest) × (is_root t ≡ true)
+    (begins_module bytes ≡ true) × ((end : Seen) × (rest : List ℕ) × IsOp no_names 1048576 129 t (seen_fresh 0 bytes) end × IsMark End end.bytes rest) × (is_root t ≡ true)
 
 -- a module of these operations
 abbrev pub module_of : List Operation → Operation
@@ -47,7 +48,7 @@ module_of os = op (record { id = 0; name = module_word; operands = []; results =
 unfoldable pub IsImplicit : List ℕ → Operation → Type 0
 IsImplicit bytes t =
     ((o : Operation) → IsExplicit bytes o → ⊥)
-    × ((os : List Operation) × (end : Seen) × IsOps End (IsOp 128) 1048576 [] os (seen_fresh 1 bytes) end × (t ≡ module_of os))
+    × ((os : List Operation) × (end : Seen) × IsOps End (IsOp no_names 1048576 128) 1048576 [] os (seen_fresh 1 bytes) end × (t ≡ module_of os))
 
 -- a text spells a tree whose ids are 0, 1, .. in pre-order, whose operations see their operands, which passes
 -- no limit, and whose dictionaries are sorted, each key once

@@ -14,9 +14,9 @@ use Rattle.ir_text_type_base.specs.Laws.{Each}
 use Rattle.ir_text_attr_base.specs.AttrGrammar.{EntryTerm}
 use Rattle.ir_text_read_base.specs.declared.bound.Bound.{Bound}
 use Rattle.ir_text_read_base.specs.States.{State}
-use Rattle.ir_text_read_base.specs.FrontReading.{Start}
+use Rattle.ir_text_read_base.specs.FrontReading.{Frees, Start}
 use Rattle.ir_text_read_base.specs.Seen.{BoundTerm, PackTerm, Seen}
-use Rattle.ir_text_read_base.specs.OpGrammar.{StartTerm, RegionTerm}
+use Rattle.ir_text_read_base.specs.OpGrammar.{FreeTerms, StartTerm, RegionTerm}
 
 -- what is read as it is spelled
 abbrev pub Equals : {A : Type 0} → Things → A → A → Type 0
@@ -46,6 +46,10 @@ HereStands = Each BindingStands
 
 abbrev pub ScopesStand : Things → Scopes (List Bound) → Scopes PackTerm → Type 0
 ScopesStand z s t = HereStands z s.here t.here × Each HereStands z s.outer t.outer
+
+-- free names stand for the same values
+abbrev pub FreeStands : Things → Frees → FreeTerms → Type 0
+FreeStands z free outer = (name : List ℕ) → Both BoundStands z (free name) (outer name)
 
 -- where reading is and where the grammar is
 abbrev pub StateStands : Things → State → Seen → Type 0

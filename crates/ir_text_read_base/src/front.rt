@@ -1,12 +1,14 @@
 //! What stands before an operation's dictionaries: the names of its results, its name, its operands.
-ghost use Rattle.std.specs.Prelude.{◌≡◌, IsTrue, slice_get};
+ghost use Rattle.std.specs.Prelude.{◌≡◌, ◌∷◌, [], IsTrue, slice_get, option_map};
 ghost use Rattle.std.specs.List.{list_all};
 ghost use Rattle.std.specs.Char.{is_ascii_digit};
 ghost use Rattle.ir_text_base.specs.Numbers.{place_value};
 ghost use Rattle.ir_text_type_base.specs.Outcomes.{Gives};
-ghost use Rattle.ir_text_read_base.specs.FrontReading.{op_name_at, member_at, use_at, uses_at, start_at, start_view};
+ghost use Rattle.ir_text_read_base.specs.Free.{free_bound};
+ghost use Rattle.ir_text_read_base.specs.FrontReading.{op_name_at, member_at, member_of, use_at, uses_at, start_at, start_view};
 
 use crate::bound::Bound;
+use crate::free::{are_digits, free_bound};
 use crate::named::{Named, one_too_many, results};
 use crate::pack::Pack;
 use ir_text_base::lexer;
@@ -16,6 +18,7 @@ use ir_text_base::strings::string_value;
 use ir_text_base::token::{Mark, Token};
 use ir_text_type_base::error::{ReadError, wrong};
 use ir_text_type_base::steps::{after, expect, token};
+use ir_tree::outer::Outer;
 use ir_types::refusal::Refusal;
 use std::alloc::Global;
 
@@ -56,13 +59,6 @@ fn op_name(alloc: Global, bytes: &[u8], named: bool) -> Result<(Vec<u8>, &[u8]),
     }
 }
 
-/// Whether all bytes are digits.
-fn are_digits(bytes: &[u8]) -> bool
-    ensures { result ≡ list_all is_ascii_digit bytes.now }
-{
-    bytes.iter().all(|byte| byte.is_ascii_digit())
-}
-
 /// The value of a pack whose number the digits write.
 #[tactic(auto, using(crate::proofs::Members::place_is))]
 fn numbered(pack: &Pack, digits: &[u8]) -> Option<Bound>
@@ -97,16 +93,35 @@ fn member<'a>(pack: &Pack, bytes: &'a [u8]) -> Result<(Bound, &'a [u8]), ReadErr
     }
 }
 
-/// A name that can be seen, and one of its values.
+/// A name that isn't bound and begins at `start`: the value that it writes, where it is free.
+fn free_member<'a, O: Outer>(
+    outer: &O,
+    name: &[u8],
+    start: &[u8],
+    bytes: &'a [u8],
+) -> Result<(Bound, &'a [u8]), ReadError>
+    ensures { Gives (λ x. (x.0, x.1.now)) result (member_of (option_map (λ b. b ∷ []) (free_bound (O.types outer.now) name.now)) bytes.now) }
+{
+    match free_bound(outer, name) {
+        Some(value) => member(&Pack::one(value), bytes),
+        None => Err(ReadError::Refused(wrong(Refusal::UnknownValue, start))),
+    }
+}
+
+/// A name that can be seen, or is free, and one of its values.
 #[tactic(auto, unfolding(crate::specs::FrontReading::use_at))]
-fn operand<'a>(names: &Names<'a, Pack>, bytes: &'a [u8]) -> Result<(Bound, &'a [u8]), ReadError>
-    ensures { Gives (λ x. (x.0, x.1.now)) result (use_at names.now.here bytes.now) }
+fn operand<'a, O: Outer>(
+    outer: &O,
+    names: &Names<'a, Pack>,
+    bytes: &'a [u8],
+) -> Result<(Bound, &'a [u8]), ReadError>
+    ensures { Gives (λ x. (x.0, x.1.now)) result (use_at (free_bound (O.types outer.now)) names.now.here bytes.now) }
 {
     let (found, rest) = token(bytes)?;
     match found {
         Token::Value(name) => match names.find(name) {
             Some(pack) => member(pack, rest),
-            None => Err(ReadError::Refused(wrong(Refusal::UnknownValue, bytes))),
+            None => free_member(outer, name, bytes, rest),
         },
         _ => Err(ReadError::Refused(wrong(Refusal::Unexpected, bytes))),
     }
@@ -114,12 +129,13 @@ fn operand<'a>(names: &Names<'a, Pack>, bytes: &'a [u8]) -> Result<(Bound, &'a [
 
 /// Operands up to the closing parenthesis, at most 256.
 #[tactic(auto, unfolding(ir_text_type_base::specs::Lists::list_at, crate::specs::FrontReading::uses_at))]
-fn operands<'a>(
+fn operands<'a, O: Outer>(
     alloc: Global,
+    outer: &O,
     names: &Names<'a, Pack>,
     bytes: &'a [u8],
 ) -> Result<(Vec<Bound>, &'a [u8]), ReadError>
-    ensures { Gives (λ x. (x.0.items, x.1.now)) result (uses_at names.now.here bytes.now) }
+    ensures { Gives (λ x. (x.0.items, x.1.now)) result (uses_at (free_bound (O.types outer.now)) names.now.here bytes.now) }
 {
     let mut items = Vec::new(alloc);
     if let Some(rest) = after(bytes, Mark::CloseRound) {
@@ -127,7 +143,7 @@ fn operands<'a>(
     }
     let mut rest = bytes;
     'items: for _ in 0..256usize {
-        let (item, tail) = match operand(names, rest) {
+        let (item, tail) = match operand(outer, names, rest) {
             Ok(found) => found,
             Err(e) => return Err(e),
         };
@@ -142,17 +158,18 @@ fn operands<'a>(
 
 /// What stands before an operation's dictionaries.
 #[tactic(auto, unfolding(crate::specs::FrontReading::start_at))]
-pub fn start<'a>(
+pub fn start<'a, O: Outer>(
     alloc: Global,
+    outer: &O,
     names: &Names<'a, Pack>,
     bytes: &'a [u8],
 ) -> Result<(Front<'a>, &'a [u8]), ReadError>
-    ensures { Gives (λ x. (start_view x.0, x.1.now)) result (start_at names.now.here bytes.now) }
+    ensures { Gives (λ x. (start_view x.0, x.1.now)) result (start_at (free_bound (O.types outer.now)) names.now.here bytes.now) }
 {
     let (results, rest) = results(alloc, bytes)?;
     let (name, rest) = op_name(alloc, rest, results.is_some())?;
     let rest = expect(rest, Mark::OpenRound)?;
-    let (operands, rest) = match operands(alloc, names, rest) {
+    let (operands, rest) = match operands(alloc, outer, names, rest) {
         Ok(found) => found,
         Err(e) => return Err(e),
     };

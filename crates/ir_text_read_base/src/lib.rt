@@ -6,6 +6,7 @@ mod blocks;
 pub mod bound;
 mod dictionaries;
 mod entries;
+pub mod free;
 pub mod front;
 pub mod laws;
 pub mod module;

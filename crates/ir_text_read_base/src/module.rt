@@ -11,7 +11,8 @@ ghost use Rattle.ir_text_base.specs.declared.fault.Fault.{Fault as TextFault};
 ghost use Rattle.ir_text_read_base.specs.Spelling.{begins_module, is_root, module_word, Spells};
 ghost use Rattle.ir_text_read_base.specs.Claims.{IsOnly, IsNone, IsRootOrNone, IsBody, IsSource, IsWhole, module_with};
 
-use crate::ops::{op, ops};
+use crate::free::{Around, NoOuter};
+use crate::ops::{MOST_OPS, op, ops};
 use crate::places::is_outside;
 use crate::scope::Scope;
 use ir_text_base::fault::Fault;
@@ -97,7 +98,11 @@ fn explicit(alloc: Global, ctx: &mut Context, bytes: &[u8]) -> Result<Root, Read
         names: Names::new(alloc),
         next: 0,
     };
-    match op(alloc, &mut scope, ctx, bytes, 129) {
+    let around = Around {
+        outer: &NoOuter,
+        last: MOST_OPS,
+    };
+    match op(alloc, &mut scope, ctx, &around, bytes, 129) {
         Ok((tree, rest)) => {
             if is_whole(ctx, &tree, rest) {
                 Ok(Root::Is(tree))
@@ -142,7 +147,11 @@ fn implicit(alloc: Global, ctx: &mut Context, bytes: &[u8]) -> Result<TreeOp, Re
         names: Names::new(alloc),
         next: 1,
     };
-    let (body, _) = match ops(alloc, &mut scope, ctx, Mark::End, bytes, 128) {
+    let around = Around {
+        outer: &NoOuter,
+        last: MOST_OPS,
+    };
+    let (body, _) = match ops(alloc, &mut scope, ctx, &around, Mark::End, bytes, 128) {
         Ok(found) => found,
         Err(e) => return Err(e),
     };
@@ -174,7 +183,11 @@ fn without_root(
         names: Names::new(alloc),
         next: 0,
     };
-    match ops(alloc, &mut scope, ctx, Mark::End, bytes, 129) {
+    let around = Around {
+        outer: &NoOuter,
+        last: MOST_OPS,
+    };
+    match ops(alloc, &mut scope, ctx, &around, Mark::End, bytes, 129) {
         Ok(_) => Ok(Fault {
             refusal: fault.refusal,
             left: 0,

@@ -1,18 +1,20 @@
 //! Operations. Language Reference, "Operations" and "Regions"; Traits, "IsolatedFromAbove".
-ghost use Rattle.std.specs.Prelude.{◌≡◌, [], List, length, map, option_map};
+ghost use Rattle.std.specs.Prelude.{◌≡◌, ◌<◌, [], List, length, map, option_map};
 ghost use Rattle.ir_text_base.specs.declared.token.Mark.TheVariants.{CloseCurly};
 ghost use Rattle.ir_tree.specs.Tree.{Region};
 ghost use Rattle.ir_tree.specs.View.{region_view};
 ghost use Rattle.ir_text_type_base.specs.Outcomes.{Gives};
 ghost use Rattle.ir_text_read_base.specs.States.{state_of};
+ghost use Rattle.ir_text_read_base.specs.Free.{free_bound};
 ghost use Rattle.ir_text_read_base.specs.FrontReading.{start_view};
 ghost use Rattle.ir_text_read_base.specs.Made.{region_of};
-ghost use Rattle.ir_text_read_base.specs.OpReading.{tail_at, region_at, regions_at, ops_at, op_at};
+ghost use Rattle.ir_text_read_base.specs.OpReading.{tail_at, region_at, regions_at, ops_at, op_with, op_at};
 
 use crate::binding::{agrees, values_of};
 use crate::blocks::head;
 use crate::dictionaries::{Entry, attributes_of, properties_of};
 use crate::entries::{attributes, properties};
+use crate::free::Around;
 use crate::front::{Front, start};
 use crate::places::{fault_at_name, placed, region_too_many};
 use crate::results::finish;
@@ -22,6 +24,7 @@ use ir_text_base::token::Mark;
 use ir_text_type_base::error::{ReadError, wrong};
 use ir_text_type_base::steps::{self, after, expect};
 use ir_text_type_base::types::function_type;
+use ir_tree::outer::Outer;
 use ir_tree::tree::{TreeOp, TreeRegion};
 use ir_types::context::Context;
 use ir_types::ids::{NameId, OpId, TypeId};
@@ -104,17 +107,18 @@ fn tail<'a>(
 /// A region. Its names are hidden again at its end; in one of an isolated operation no others are seen.
 #[cycle(op)]
 #[tactic(auto, unfolding(crate::specs::OpReading::region_at))]
-fn region<'a>(
+fn region<'a, O: Outer>(
     alloc: Global,
     scope: &mut Scope<'a>,
     ctx: &mut Context,
+    around: &Around<'_, O>,
     id: u32,
     region: u32,
     isolated: bool,
     bytes: &'a [u8],
     depth: u32,
 ) -> Result<(TreeRegion, &'a [u8]), ReadError>
-    ensures { (before : List Region) → length before ≡ region → Gives (λ x. (region_view x.0, state_of x.1.now scope.new ctx.new)) result (region_at (ops_at CloseCurly (op_at depth) MOST_OPS []) id isolated before (state_of bytes.now scope.old ctx.old)) }
+    ensures { (before : List Region) → length before ≡ region → Gives (λ x. (region_view x.0, state_of x.1.now scope.new ctx.new)) result (region_at (ops_at CloseCurly (op_at (free_bound (O.types around.now.outer.now)) around.now.last depth) MOST_OPS []) id isolated before (state_of bytes.now scope.old ctx.old)) }
 {
     let rest = expect(bytes, Mark::OpenCurly)?;
     scope.names.enter(isolated)?;
@@ -122,7 +126,7 @@ fn region<'a>(
         Ok(found) => found,
         Err(e) => return Err(e),
     };
-    let (ops, rest) = match ops(alloc, scope, ctx, Mark::CloseCurly, rest, depth) {
+    let (ops, rest) = match ops(alloc, scope, ctx, around, Mark::CloseCurly, rest, depth) {
         Ok(found) => found,
         Err(e) => return Err(e),
     };
@@ -133,16 +137,17 @@ fn region<'a>(
 /// Regions in parentheses, at most 16, or none.
 #[cycle(op)]
 #[tactic(auto, unfolding(crate::specs::OpReading::regions_at))]
-fn regions<'a>(
+fn regions<'a, O: Outer>(
     alloc: Global,
     scope: &mut Scope<'a>,
     ctx: &mut Context,
+    around: &Around<'_, O>,
     id: u32,
     isolated: bool,
     bytes: &'a [u8],
     depth: u32,
 ) -> Result<(Vec<TreeRegion>, &'a [u8]), ReadError>
-    ensures { Gives (λ x. (map region_view x.0.items, state_of x.1.now scope.new ctx.new)) result (regions_at (ops_at CloseCurly (op_at depth) MOST_OPS []) id isolated (state_of bytes.now scope.old ctx.old)) }
+    ensures { Gives (λ x. (map region_view x.0.items, state_of x.1.now scope.new ctx.new)) result (regions_at (ops_at CloseCurly (op_at (free_bound (O.types around.now.outer.now)) around.now.last depth) MOST_OPS []) id isolated (state_of bytes.now scope.old ctx.old)) }
 {
     let mut items = Vec::new(alloc);
     let Some(rest) = after(bytes, Mark::OpenRound) else {
@@ -150,7 +155,9 @@ fn regions<'a>(
     };
     let mut rest = rest;
     'items: for count in 0..16 {
-        let (item, tail) = match region(alloc, scope, ctx, id, count, isolated, rest, depth) {
+        let (item, tail) = match region(
+            alloc, scope, ctx, around, id, count, isolated, rest, depth,
+        ) {
             Ok(found) => found,
             Err(e) => return Err(e),
         };
@@ -165,15 +172,16 @@ fn regions<'a>(
 
 /// Operations up to a closing mark.
 #[cycle(op)]
-pub fn ops<'a>(
+pub fn ops<'a, O: Outer>(
     alloc: Global,
     scope: &mut Scope<'a>,
     ctx: &mut Context,
+    around: &Around<'_, O>,
     close: Mark,
     bytes: &'a [u8],
     depth: u32,
 ) -> Result<(Vec<TreeOp>, &'a [u8]), ReadError>
-    ensures { Gives (λ x. (x.0.items, state_of x.1.now scope.new ctx.new)) result (ops_at close (op_at depth) MOST_OPS [] (state_of bytes.now scope.old ctx.old)) }
+    ensures { Gives (λ x. (x.0.items, state_of x.1.now scope.new ctx.new)) result (ops_at close (op_at (free_bound (O.types around.now.outer.now)) around.now.last depth) MOST_OPS [] (state_of bytes.now scope.old ctx.old)) }
 {
     let mut items = Vec::new(alloc);
     let mut rest = bytes;
@@ -181,7 +189,7 @@ pub fn ops<'a>(
         if let Some(end) = after(rest, close) {
             return Ok((items, end));
         }
-        let (item, tail) = match op(alloc, scope, ctx, rest, depth) {
+        let (item, tail) = match op(alloc, scope, ctx, around, rest, depth) {
             Ok(found) => found,
             Err(e) => return Err(e),
         };
@@ -191,28 +199,22 @@ pub fn ops<'a>(
     Err(ReadError::Refused(wrong(Refusal::TooMany, rest)))
 }
 
-/// An operation with at most that many levels, of which it is one.
+/// An operation in which others stand with at most that many levels.
 #[cycle(op)]
-#[tactic(auto, unfolding(crate::specs::OpReading::op_at, crate::specs::OpReading::op_with))]
-pub fn op<'a>(
+#[tactic(auto, unfolding(crate::specs::OpReading::op_with))]
+fn op_with<'a, O: Outer>(
     alloc: Global,
     scope: &mut Scope<'a>,
     ctx: &mut Context,
+    around: &Around<'_, O>,
     bytes: &'a [u8],
     depth: u32,
 ) -> Result<(TreeOp, &'a [u8]), ReadError>
-    ensures { Gives (λ x. (x.0, state_of x.1.now scope.new ctx.new)) result (op_at depth (state_of bytes.now scope.old ctx.old)) }
+    requires { scope.old.next < around.now.last }
+    ensures { Gives (λ x. (x.0, state_of x.1.now scope.new ctx.new)) result (op_with (free_bound (O.types around.now.outer.now)) (ops_at CloseCurly (op_at (free_bound (O.types around.now.outer.now)) around.now.last depth) MOST_OPS []) (state_of bytes.now scope.old ctx.old)) }
 {
-    if depth == 0 {
-        let fault = fault_at_name(alloc, Refusal::TooDeep, bytes)?;
-        return Err(ReadError::Refused(fault));
-    }
     let id = scope.next;
-    if id >= MOST_OPS {
-        let fault = fault_at_name(alloc, Refusal::TooMany, bytes)?;
-        return Err(ReadError::Refused(fault));
-    }
-    let (front, behind) = match start(alloc, &scope.names, bytes) {
+    let (front, behind) = match start(alloc, around.outer, &scope.names, bytes) {
         Ok(found) => found,
         Err(e) => return Err(e),
     };
@@ -223,7 +225,7 @@ pub fn op<'a>(
         Err(e) => return Err(e),
     };
     scope.next = id + 1;
-    let (regions, rest) = match regions(alloc, scope, ctx, id, isolated, rest, depth - 1) {
+    let (regions, rest) = match regions(alloc, scope, ctx, around, id, isolated, rest, depth) {
         Ok(found) => found,
         Err(e) => return Err(e),
     };
@@ -235,4 +237,28 @@ pub fn op<'a>(
         }
         Err(e) => Err(e),
     }
+}
+
+/// An operation with at most that many levels, of which it is one.
+#[cycle(op)]
+#[tactic(auto, unfolding(crate::specs::OpReading::op_at))]
+pub fn op<'a, O: Outer>(
+    alloc: Global,
+    scope: &mut Scope<'a>,
+    ctx: &mut Context,
+    around: &Around<'_, O>,
+    bytes: &'a [u8],
+    depth: u32,
+) -> Result<(TreeOp, &'a [u8]), ReadError>
+    ensures { Gives (λ x. (x.0, state_of x.1.now scope.new ctx.new)) result (op_at (free_bound (O.types around.now.outer.now)) around.now.last depth (state_of bytes.now scope.old ctx.old)) }
+{
+    if depth == 0 {
+        let fault = fault_at_name(alloc, Refusal::TooDeep, bytes)?;
+        return Err(ReadError::Refused(fault));
+    }
+    if scope.next >= around.last {
+        let fault = fault_at_name(alloc, Refusal::TooMany, bytes)?;
+        return Err(ReadError::Refused(fault));
+    }
+    op_with(alloc, scope, ctx, around, bytes, depth - 1)
 }

@@ -2,11 +2,12 @@ use Rattle.std.proofs.Common.{◌≡◌, ◌-◌, length}
 use Rattle.ir_text_base.specs.declared.token.Mark.TheVariants.{CloseRound}
 use Rattle.ir_text_type_base.specs.Marks.{after}
 use Rattle.ir_text_type_base.specs.Lists.{more_at}
+use Rattle.ir_text_read_base.specs.Free.{free_bound}
 use Rattle.ir_text_read_base.specs.FrontReading.{use_at, uses_at}
 use Rattle.ir_text_read_base.proofs.front.operands.Given as goal
 
 abbrev pub invariant-items : goal.invariant-items
-invariant-items l = record {
-  reads : more_at after CloseRound (λ before. use_at l.names.here) (256 - l.counter) l.items.items l.rest ≡ uses_at l.names.here l.bytes;
+invariant-items g l = record {
+  reads : more_at after CloseRound (λ before. use_at (free_bound (g.O.Outer.types l.outer)) l.names.here) (256 - l.counter) l.items.items l.rest ≡ uses_at (free_bound (g.O.Outer.types l.outer)) l.names.here l.bytes;
   count : length l.items.items ≡ l.counter;
 }

@@ -3,27 +3,31 @@ use Rattle.ir_text_base.specs.declared.token.Mark.TheVariants.{CloseRound, Close
 use Rattle.ir_tree.specs.View.{region_view}
 use Rattle.ir_text_type_base.specs.Lists.{more_at}
 use Rattle.ir_text_read_base.specs.declared.ops.TheConstants.{MOST_OPS}
+use Rattle.ir_text_read_base.specs.Free.{free_bound}
 use Rattle.ir_text_read_base.specs.States.{after_in, state_of}
 use Rattle.ir_text_read_base.specs.OpReading.{region_at, regions_at, op_at, ops_at}
 use Rattle.ir_text_read_base.proofs.ops.+op.Given as goal
 
 abbrev pub decreases-op : goal.decreases-op
-decreases-op l = 4 * l.depth
+decreases-op g l = 5 * l.depth
 
 abbrev pub decreases-ops : goal.decreases-ops
-decreases-ops l = 4 * l.depth + 1
+decreases-ops g l = 5 * l.depth + 1
 
 abbrev pub decreases-region : goal.decreases-region
-decreases-region l = 4 * l.depth + 2
+decreases-region g l = 5 * l.depth + 2
 
 abbrev pub decreases-regions : goal.decreases-regions
-decreases-regions l = 4 * l.depth + 3
+decreases-regions g l = 5 * l.depth + 3
+
+abbrev pub decreases-op_with : goal.decreases-op_with
+decreases-op_with g l = 5 * l.depth + 4
 
 abbrev pub invariant-regions-items : goal.invariant-regions-items
-invariant-regions-items l = record {
-  reads : more_at after_in CloseRound (region_at (ops_at CloseCurly (op_at l.depth) MOST_OPS []) l.id l.isolated) (16 - l.count) (map region_view l.items.items) (state_of l.rest l.scope l.ctx) ≡ regions_at (ops_at CloseCurly (op_at l.depth) MOST_OPS []) l.id l.isolated (state_of l.bytes l.initial.scope l.initial.ctx);
+invariant-regions-items g l = record {
+  reads : more_at after_in CloseRound (region_at (ops_at CloseCurly (op_at (free_bound (g.O.Outer.types l.around.outer.now)) l.around.last l.depth) MOST_OPS []) l.id l.isolated) (16 - l.count) (map region_view l.items.items) (state_of l.rest l.scope l.ctx) ≡ regions_at (ops_at CloseCurly (op_at (free_bound (g.O.Outer.types l.around.outer.now)) l.around.last l.depth) MOST_OPS []) l.id l.isolated (state_of l.bytes l.initial.scope l.initial.ctx);
   count : length l.items.items ≡ l.count;
 }
 
 abbrev pub invariant-ops-items : goal.invariant-ops-items
-invariant-ops-items l = ops_at l.close (op_at l.depth) (MOST_OPS - l.counter) l.items.items (state_of l.rest l.scope l.ctx) ≡ ops_at l.close (op_at l.depth) MOST_OPS [] (state_of l.bytes l.initial.scope l.initial.ctx)
+invariant-ops-items g l = ops_at l.close (op_at (free_bound (g.O.Outer.types l.around.outer.now)) l.around.last l.depth) (MOST_OPS - l.counter) l.items.items (state_of l.rest l.scope l.ctx) ≡ ops_at l.close (op_at (free_bound (g.O.Outer.types l.around.outer.now)) l.around.last l.depth) MOST_OPS [] (state_of l.bytes l.initial.scope l.initial.ctx)
