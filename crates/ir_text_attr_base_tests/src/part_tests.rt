@@ -117,93 +117,129 @@ fn units_refused(
     }
 }
 
+// Whether each text is an attribute, with nothing behind it.
+fn all_read(alloc: Global, texts: &[&[u8]]) -> bool {
+    for text in texts {
+        if left(alloc, text) != Some(0) {
+            return false;
+        }
+    }
+    true
+}
+
+// Whether the texts of each pair are one attribute, or two.
+fn all_same(alloc: Global, pairs: &[(&[u8], &[u8])], wanted: bool) -> bool {
+    for (first, second) in pairs {
+        if is_same(alloc, first, second) != wanted {
+            return false;
+        }
+    }
+    true
+}
+
+// Whether each text is refused at its byte.
+fn all_refused(alloc: Global, refusal: Refusal, cases: &[(&[u8], usize)]) -> bool {
+    for (text, offset) in cases {
+        if !is_refused(alloc, text, refusal, *offset) {
+            return false;
+        }
+    }
+    true
+}
+
 #[test]
 fn arrays_hold_attributes(rt: HostRuntime) {
     let alloc = rt.alloc();
-    for text in [
+    let texts = [
         b"[]".as_slice(),
         b"[ unit ]".as_slice(),
         b"[1 : i8, \"a\", i32, [true], {a}, @b, array<i8>, #arith.overflow<nsw>]".as_slice(),
-    ] {
-        assert!(rt; left(alloc, text) == Some(0));
-    }
-    assert!(rt; left(alloc, b"[unit], x".as_slice()) == Some(3));
+    ];
+    assert!(rt; all_read(alloc, &texts));
 }
 
 #[test]
 fn arrays_keep_their_order(rt: HostRuntime) {
     let alloc = rt.alloc();
-    assert!(rt;
-        is_same(
-            alloc,
-            b"[1, 2]".as_slice(),
-            b"[ 1 : i64,2 : i64 ]".as_slice()
-        )
-    );
-    assert!(rt; !is_same(alloc, b"[1, 2]".as_slice(), b"[2, 1]".as_slice()));
-    assert!(rt; !is_same(alloc, b"[1]".as_slice(), b"[1, 1]".as_slice()));
+    let same = [(b"[1, 2]".as_slice(), b"[ 1 : i64,2 : i64 ]".as_slice())];
+    let others = [
+        (b"[1, 2]".as_slice(), b"[2, 1]".as_slice()),
+        (b"[1]".as_slice(), b"[1, 1]".as_slice()),
+    ];
+    assert!(rt; all_same(alloc, &same, true));
+    assert!(rt; all_same(alloc, &others, false));
 }
 
 #[test]
 fn arrays_are_closed(rt: HostRuntime) {
     let alloc = rt.alloc();
-    assert!(rt; is_refused(alloc, b"[".as_slice(), Refusal::Unexpected, 1));
-    assert!(rt; is_refused(alloc, b"[1".as_slice(), Refusal::Unexpected, 2));
-    assert!(rt; is_refused(alloc, b"[1 }".as_slice(), Refusal::Unexpected, 3));
-    assert!(rt; is_refused(alloc, b"[1,]".as_slice(), Refusal::Unexpected, 3));
-    assert!(rt; is_refused(alloc, b"[,]".as_slice(), Refusal::Unexpected, 1));
-    assert!(rt; is_refused(alloc, b"[1, !a.b]".as_slice(), Refusal::LeftOut, 4));
-    assert!(rt; is_refused(alloc, b"[1, #a.b]".as_slice(), Refusal::LeftOut, 4));
+    let cases = [
+        (b"[".as_slice(), 1),
+        (b"[1".as_slice(), 2),
+        (b"[1 }".as_slice(), 3),
+        (b"[1,]".as_slice(), 3),
+        (b"[,]".as_slice(), 1),
+    ];
+    assert!(rt; all_refused(alloc, Refusal::Unexpected, &cases));
+}
+
+#[test]
+fn arrays_hold_nothing_that_is_left_out(rt: HostRuntime) {
+    let alloc = rt.alloc();
+    let cases = [(b"[1, !a.b]".as_slice(), 4), (b"[1, #a.b]".as_slice(), 4)];
+    assert!(rt; all_refused(alloc, Refusal::LeftOut, &cases));
 }
 
 #[test]
 fn entries_come_in_any_order(rt: HostRuntime) {
     let alloc = rt.alloc();
-    assert!(rt; left(alloc, b"{}".as_slice()) == Some(0));
-    assert!(rt;
-        is_same(
-            alloc,
-            b"{b = 1, a}".as_slice(),
-            b"{a = unit, b = 1}".as_slice()
-        )
-    );
-    assert!(rt; is_same(alloc, b"{\"a\" = 1}".as_slice(), b"{a = 1}".as_slice()));
-    assert!(rt; is_same(alloc, b"{\"\\61\"}".as_slice(), b"{a}".as_slice()));
-    assert!(rt; !is_same(alloc, b"{a = 1}".as_slice(), b"{b = 1}".as_slice()));
-    assert!(rt; !is_same(alloc, b"{a = 1}".as_slice(), b"{a = 2}".as_slice()));
+    let same = [
+        (b"{b = 1, a}".as_slice(), b"{a = unit, b = 1}".as_slice()),
+        (b"{\"a\" = 1}".as_slice(), b"{a = 1}".as_slice()),
+        (b"{\"\\61\"}".as_slice(), b"{a}".as_slice()),
+    ];
+    let others = [
+        (b"{a = 1}".as_slice(), b"{b = 1}".as_slice()),
+        (b"{a = 1}".as_slice(), b"{a = 2}".as_slice()),
+    ];
+    assert!(rt; all_same(alloc, &same, true));
+    assert!(rt; all_same(alloc, &others, false));
 }
 
 #[test]
 fn dictionaries_hold_attributes(rt: HostRuntime) {
     let alloc = rt.alloc();
-    assert!(rt; left(alloc, b"{a = {b = {c}}, \"x y\" = [unit], d} e".as_slice()) == Some(2));
+    let texts = [
+        b"{}".as_slice(),
+        b"{a = {a}, b = {a}}".as_slice(),
+        b"{a = {b = {c}}, \"x y\" = [unit], d}".as_slice(),
+    ];
+    assert!(rt; all_read(alloc, &texts));
 }
 
 #[test]
 fn keys_stand_once(rt: HostRuntime) {
     let alloc = rt.alloc();
-    assert!(rt; is_refused(alloc, b"{a, b, a}".as_slice(), Refusal::DuplicateKey, 7));
-    assert!(rt;
-        is_refused(
-            alloc,
-            b"{a = 1, \"a\"}".as_slice(),
-            Refusal::DuplicateKey,
-            8
-        )
-    );
-    assert!(rt; is_refused(alloc, b"{a, a = $}".as_slice(), Refusal::DuplicateKey, 4));
-    assert!(rt; left(alloc, b"{a = {a}, b = {a}}".as_slice()) == Some(0));
+    let cases = [
+        (b"{a, b, a}".as_slice(), 7),
+        (b"{a = 1, \"a\"}".as_slice(), 8),
+        (b"{a, a = $}".as_slice(), 4),
+    ];
+    assert!(rt; all_refused(alloc, Refusal::DuplicateKey, &cases));
 }
 
 #[test]
 fn dictionaries_are_closed(rt: HostRuntime) {
     let alloc = rt.alloc();
-    assert!(rt; is_refused(alloc, b"{".as_slice(), Refusal::Unexpected, 1));
-    assert!(rt; is_refused(alloc, b"{a".as_slice(), Refusal::Unexpected, 2));
-    assert!(rt; is_refused(alloc, b"{a =}".as_slice(), Refusal::Unexpected, 4));
-    assert!(rt; is_refused(alloc, b"{a ]".as_slice(), Refusal::Unexpected, 3));
-    assert!(rt; is_refused(alloc, b"{a,}".as_slice(), Refusal::Unexpected, 3));
-    assert!(rt; is_refused(alloc, b"{@a}".as_slice(), Refusal::Unexpected, 1));
+    let cases = [
+        (b"{".as_slice(), 1),
+        (b"{a".as_slice(), 2),
+        (b"{a =}".as_slice(), 4),
+        (b"{a ]".as_slice(), 3),
+        (b"{a,}".as_slice(), 3),
+        (b"{@a}".as_slice(), 1),
+    ];
+    assert!(rt; all_refused(alloc, Refusal::Unexpected, &cases));
 }
 
 #[test]
@@ -253,166 +289,117 @@ fn attributes_are_no_deeper(rt: HostRuntime) {
 #[test]
 fn symbols_have_parts(rt: HostRuntime) {
     let alloc = rt.alloc();
-    assert!(rt; left(alloc, b"@a".as_slice()) == Some(0));
-    assert!(rt; left(alloc, b"@a::@b :: @c, x".as_slice()) == Some(3));
+    let texts = [
+        b"@a".as_slice(),
+        b"@a::@b :: @c".as_slice(),
+        b"@\"a b\"::@\"\"".as_slice(),
+    ];
+    assert!(rt; all_read(alloc, &texts));
     assert!(rt; left(alloc, b"@a : x".as_slice()) == Some(4));
-    assert!(rt; is_same(alloc, b"@\"a\"::@b".as_slice(), b"@a::@\"b\"".as_slice()));
-    assert!(rt; left(alloc, b"@\"a b\"::@\"\"".as_slice()) == Some(0));
-    assert!(rt; !is_same(alloc, b"@a::@b".as_slice(), b"@b::@a".as_slice()));
-    assert!(rt; !is_same(alloc, b"@a".as_slice(), b"\"a\"".as_slice()));
+}
+
+#[test]
+fn symbols_are_their_parts(rt: HostRuntime) {
+    let alloc = rt.alloc();
+    let same = [(b"@\"a\"::@b".as_slice(), b"@a::@\"b\"".as_slice())];
+    let others = [
+        (b"@a::@b".as_slice(), b"@b::@a".as_slice()),
+        (b"@a".as_slice(), b"\"a\"".as_slice()),
+    ];
+    assert!(rt; all_same(alloc, &same, true));
+    assert!(rt; all_same(alloc, &others, false));
 }
 
 #[test]
 fn symbols_go_on_with_symbols(rt: HostRuntime) {
     let alloc = rt.alloc();
-    assert!(rt; is_refused(alloc, b"@a:: b".as_slice(), Refusal::Unexpected, 5));
-    assert!(rt; is_refused(alloc, b"@a::".as_slice(), Refusal::Unexpected, 4));
+    let cases = [(b"@a:: b".as_slice(), 5), (b"@a::".as_slice(), 4)];
+    assert!(rt; all_refused(alloc, Refusal::Unexpected, &cases));
 }
 
 #[test]
 fn dense_arrays_hold_literals(rt: HostRuntime) {
     let alloc = rt.alloc();
-    for text in [
+    let texts = [
         b"array<i1>".as_slice(),
         b"array<i1: true, false, 0, 1, -1>".as_slice(),
         b"array < i8 : -128, 255 >".as_slice(),
         b"array<i16: -32768, 65535>".as_slice(),
         b"array<i32: -2147483648, 4294967295, 0x10>".as_slice(),
         b"array<i64: -9223372036854775808, 18446744073709551615>".as_slice(),
-    ] {
-        assert!(rt; left(alloc, text) == Some(0));
-    }
+    ];
+    assert!(rt; all_read(alloc, &texts));
 }
 
 #[test]
 fn items_are_modular(rt: HostRuntime) {
     let alloc = rt.alloc();
-    assert!(rt;
-        is_same(
-            alloc,
-            b"array<i8: -1>".as_slice(),
-            b"array<i8: 255>".as_slice()
-        )
-    );
-    assert!(rt;
-        is_same(
-            alloc,
-            b"array<i1: true>".as_slice(),
-            b"array<i1: -1>".as_slice()
-        )
-    );
-    assert!(rt;
-        is_same(
-            alloc,
-            b"array<i1: false>".as_slice(),
-            b"array<i1: 0>".as_slice()
-        )
-    );
-    assert!(rt;
-        !is_same(
-            alloc,
-            b"array<i8: 1>".as_slice(),
-            b"array<i16: 1>".as_slice()
-        )
-    );
-    assert!(rt; !is_same(alloc, b"array<i8: 1>".as_slice(), b"[1 : i8]".as_slice()));
+    let same = [
+        (b"array<i8: -1>".as_slice(), b"array<i8: 255>".as_slice()),
+        (b"array<i1: true>".as_slice(), b"array<i1: -1>".as_slice()),
+        (b"array<i1: false>".as_slice(), b"array<i1: 0>".as_slice()),
+    ];
+    let others = [
+        (b"array<i8: 1>".as_slice(), b"array<i16: 1>".as_slice()),
+        (b"array<i8: 1>".as_slice(), b"[1 : i8]".as_slice()),
+    ];
+    assert!(rt; all_same(alloc, &same, true));
+    assert!(rt; all_same(alloc, &others, false));
 }
 
 #[test]
 fn items_fit_their_type(rt: HostRuntime) {
     let alloc = rt.alloc();
-    assert!(rt; is_refused(alloc, b"array<i8: 256>".as_slice(), Refusal::BadValue, 10));
-    assert!(rt;
-        is_refused(
-            alloc,
-            b"array<i8: 1, -129>".as_slice(),
-            Refusal::BadValue,
-            13
-        )
-    );
-    assert!(rt; is_refused(alloc, b"array<i1: 2>".as_slice(), Refusal::BadValue, 10));
-    assert!(rt;
-        is_refused(
-            alloc,
-            b"array<i64: 18446744073709551616>".as_slice(),
-            Refusal::BadValue,
-            11
-        )
-    );
-    assert!(rt;
-        is_refused(
-            alloc,
-            b"array<i64: - 9223372036854775809>".as_slice(),
-            Refusal::BadValue,
-            11
-        )
-    );
-    assert!(rt;
-        is_refused(
-            alloc,
+    let cases = [
+        (b"array<i8: 256>".as_slice(), 10),
+        (b"array<i8: 1, -129>".as_slice(), 13),
+        (b"array<i1: 2>".as_slice(), 10),
+        (b"array<i64: 18446744073709551616>".as_slice(), 11),
+        (b"array<i64: - 9223372036854775809>".as_slice(), 11),
+        (
             b"array<i64: 0x100000000000000000000000000000000>".as_slice(),
-            Refusal::BadValue,
-            11
-        )
-    );
+            11,
+        ),
+    ];
+    assert!(rt; all_refused(alloc, Refusal::BadValue, &cases));
 }
 
 #[test]
 fn items_are_integers(rt: HostRuntime) {
     let alloc = rt.alloc();
-    assert!(rt; is_refused(alloc, b"array<i8: 1.5>".as_slice(), Refusal::Unexpected, 10));
-    assert!(rt;
-        is_refused(
-            alloc,
-            b"array<i8: -1.5>".as_slice(),
-            Refusal::Unexpected,
-            11
-        )
-    );
-    assert!(rt;
-        is_refused(
-            alloc,
-            b"array<i8: true>".as_slice(),
-            Refusal::Unexpected,
-            10
-        )
-    );
-    assert!(rt;
-        is_refused(
-            alloc,
-            b"array<i8: 1 : i8>".as_slice(),
-            Refusal::Unexpected,
-            12
-        )
-    );
-    assert!(rt; is_refused(alloc, b"array<i8: >".as_slice(), Refusal::Unexpected, 10));
-    assert!(rt; is_refused(alloc, b"array<i8: 1,>".as_slice(), Refusal::Unexpected, 12));
-    assert!(rt; is_refused(alloc, b"array<i8 1>".as_slice(), Refusal::Unexpected, 9));
+    let cases = [
+        (b"array<i8: 1.5>".as_slice(), 10),
+        (b"array<i8: -1.5>".as_slice(), 11),
+        (b"array<i8: true>".as_slice(), 10),
+        (b"array<i8: 1 : i8>".as_slice(), 12),
+        (b"array<i8: >".as_slice(), 10),
+        (b"array<i8: 1,>".as_slice(), 12),
+        (b"array<i8 1>".as_slice(), 9),
+        (b"array".as_slice(), 5),
+        (b"array [".as_slice(), 6),
+        (b"array<>".as_slice(), 6),
+    ];
+    assert!(rt; all_refused(alloc, Refusal::Unexpected, &cases));
 }
 
 #[test]
 fn elements_have_few_types(rt: HostRuntime) {
     let alloc = rt.alloc();
-    assert!(rt; is_refused(alloc, b"array".as_slice(), Refusal::Unexpected, 5));
-    assert!(rt; is_refused(alloc, b"array [".as_slice(), Refusal::Unexpected, 6));
-    assert!(rt; is_refused(alloc, b"array<>".as_slice(), Refusal::Unexpected, 6));
-    for text in [
-        b"array<i5>".as_slice(),
-        b"array<si8>".as_slice(),
-        b"array<index>".as_slice(),
-        b"array<f32>".as_slice(),
-        b"array<() -> ()>".as_slice(),
-        b"array<!a.b>".as_slice(),
-        b"array<i>".as_slice(),
-    ] {
-        assert!(rt; is_refused(alloc, text, Refusal::LeftOut, 6));
-    }
-    for text in [
-        b"array<i65>".as_slice(),
-        b"array<i0>".as_slice(),
-        b"array<ui01>".as_slice(),
-        b"array<i08>".as_slice(),
-    ] {
-        assert!(rt; is_refused(alloc, text, Refusal::BadWidth, 6));
-    }
+    let others = [
+        (b"array<i5>".as_slice(), 6),
+        (b"array<si8>".as_slice(), 6),
+        (b"array<index>".as_slice(), 6),
+        (b"array<f32>".as_slice(), 6),
+        (b"array<() -> ()>".as_slice(), 6),
+        (b"array<!a.b>".as_slice(), 6),
+        (b"array<i>".as_slice(), 6),
+    ];
+    let widths = [
+        (b"array<i65>".as_slice(), 6),
+        (b"array<i0>".as_slice(), 6),
+        (b"array<ui01>".as_slice(), 6),
+        (b"array<i08>".as_slice(), 6),
+    ];
+    assert!(rt; all_refused(alloc, Refusal::LeftOut, &others));
+    assert!(rt; all_refused(alloc, Refusal::BadWidth, &widths));
 }
