@@ -5,8 +5,9 @@ ghost use Rattle.ir_text_base.specs.declared.fault.Fault.{Fault as TextFault};
 ghost use Rattle.ir_text_read_base.specs.Spelling.{Spells};
 ghost use Rattle.ir_text_read_base.specs.Claims.{IsOnly, IsNone};
 
-use ir_text_type_base::error::ReadError;
 use ir_text_read_base::module;
+pub use ir_text_read_base::single::read_op;
+use ir_text_type_base::error::ReadError;
 use ir_tree::tree::TreeOp;
 use ir_types::context::Context;
 use std::alloc::Global;

@@ -9,3 +9,4 @@ pub mod NameLaws
 pub mod OpLaws
 pub mod OpSteps
 pub mod Outputs
+pub mod Singles

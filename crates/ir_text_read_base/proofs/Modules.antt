@@ -64,14 +64,14 @@ reading depth = op_at no_free 1048576 depth
 abbrev pub spelling : ℕ → Grammar Seen Operation
 spelling depth = IsOp no_names 1048576 depth
 
-fresh_agrees : (first : ℕ) (bytes : List ℕ) (c : Things) → Agree held StateStands (fresh first bytes c) (seen_fresh first bytes)
+pub fresh_agrees : (first : ℕ) (bytes : List ℕ) (c : Things) → Agree held StateStands (fresh first bytes c) (seen_fresh first bytes)
 fresh_agrees first bytes c z g w = (refl, (tt, tt), refl)
 
 -- what was read
 abbrev pair : {A S : Type 0} → A → S → Outcome (A × S)
 pair x s = Read (x, s)
 
-read_parts : {A S : Type 0} (x y : A) (s t : S) → pair x s ≡ pair y t → (x ≡ y) × (s ≡ t)
+pub read_parts : {A S : Type 0} (x y : A) (s t : S) → pair x s ≡ pair y t → (x ≡ y) × (s ≡ t)
 read_parts {A} {S} x y s t e =
     let p : (x, s) ≡ (y, t) = cc in
     (ap (λ (q : A × S). q.0) p, ap (λ (q : A × S). q.1) p)
@@ -238,10 +238,10 @@ module _ (c : Things) where
   op_rises : (t : Op) → dictionaries_rise key_before (meaning c t) ≡ dictionaries_rise (key_before_in c) t
   op_rises (op h rs) = λ i. entries_rise h.properties i && entries_rise h.attributes i
 
-  all_rise : (t : Op) → every (dictionaries_rise key_before) (meaning c t) ≡ every (dictionaries_rise (key_before_in c)) t
+  pub all_rise : (t : Op) → every (dictionaries_rise key_before) (meaning c t) ≡ every (dictionaries_rise (key_before_in c)) t
   all_rise t = map_every (name_term c) (type_term c) (attr_term c) (dictionaries_rise (key_before_in c)) (dictionaries_rise key_before) op_rises t
 
-  numbers_are : (t : Op) → ids (meaning c t) ≡ ids t
+  pub numbers_are : (t : Op) → ids (meaning c t) ≡ ids t
   numbers_are t = map_ids (name_term c) (type_term c) (attr_term c) t
 
   pub spelled_of : (bytes : List ℕ) (t : Op) → IsOnly (IsSource bytes) c t → text_reason bytes ≡ None → IsWhole c t → IsOnly (Spells bytes) c t

@@ -1,9 +1,10 @@
 -- What is read against what is spelled.
-use Rattle.std.specs.Prelude.{◌≡◌, ◌⊎◌, ℕ, List, [], IsTrue}
+use Rattle.std.specs.Prelude.{◌≡◌, ◌≤◌, ◌⊎◌, ℕ, List, [], IsTrue}
 use Rattle.ir_text_base.specs.declared.token.Mark.TheVariants.{End}
 use Rattle.ir_types.specs.Things.{Things}
 use Rattle.ir_tree.specs.Tree.{Op, op, region, block, no_regions, ops_of}
 use Rattle.ir_tree.specs.Ids.{IsNumberedFrom}
+use Rattle.ir_tree.specs.Limits.{depth, counts_fit, most_around}
 use Rattle.ir_tree.specs.Meaning.{Operation, meaning, is_known, isolated_in, IsSoundIn}
 use Rattle.ir_tree.specs.WellFormed.{IsFormed}
 use Rattle.ir_text_read_base.specs.declared.module.Root.{Root}
@@ -39,6 +40,10 @@ IsSource bytes t = IsExplicit bytes t ⊎ IsImplicit bytes t
 -- a tree of numbers that may be a module's
 abbrev pub IsWhole : Things → Op → Type 0
 IsWhole c t = IsFormed (isolated_in c) t × IsNumberedFrom 0 t × IsSoundIn c t
+
+-- a tree of numbers that may be that of an operation alone, whose ids begin with the next one
+abbrev pub IsPart : ℕ → Things → Op → Type 0
+IsPart next c t = (depth t ≤ most_around) × IsTrue (counts_fit t) × IsNumberedFrom next t × IsSoundIn c t
 
 -- a module of these operations, whose name has that number
 abbrev pub module_with : ℕ → List Op → Op

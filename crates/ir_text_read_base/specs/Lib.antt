@@ -7,6 +7,7 @@ pub mod EntryReading
 pub mod Made
 pub mod OpReading
 pub mod Seen
+pub mod SingleReading
 pub mod OpGrammar
 pub mod Spelling
 pub mod Claims

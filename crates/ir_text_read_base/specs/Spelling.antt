@@ -1,5 +1,5 @@
 -- Which tree a text spells. Language Reference, "High-Level Structure" and "Regions"; Builtin Dialect, "builtin.module".
-use Rattle.std.specs.Prelude.{◌≡◌, ◌⊎◌, ℕ, ◌==◌, Bool, true, false, ◌&&◌, List, [], length, codes, Option, Some, None, IsTrue}
+use Rattle.std.specs.Prelude.{◌≡◌, ◌≤◌, ◌+◌, min, ◌⊎◌, ℕ, ◌==◌, Bool, true, false, ◌&&◌, List, [], length, codes, Option, Some, None, IsTrue}
 use Rattle.std.specs.Str.{bytes_eq}
 use Rattle.ir_text_base.specs.declared.token.Mark.TheVariants.{End}
 use Rattle.ir_text_base.specs.Tokens.{Lexeme, string, next}
@@ -7,14 +7,14 @@ use Rattle.ir_text_base.specs.Strings.{string_bytes}
 use Rattle.ir_text_base.specs.Limits.{text_reason}
 use Rattle.ir_types.specs.Words.{is_isolated, is_table}
 use Rattle.ir_tree.specs.Tree.{op, region, no_regions, block, ops_of, head}
-use Rattle.ir_tree.specs.Limits.{every}
+use Rattle.ir_tree.specs.Limits.{every, depth, counts_fit, most_around}
 use Rattle.ir_tree.specs.Meaning.{Operation, key_before, dictionaries_rise}
 use Rattle.ir_tree.specs.Ids.{IsNumberedFrom}
 use Rattle.ir_tree.specs.WellFormed.{IsFormed}
 use Rattle.ir_text_type_base.specs.Grammars.{IsMark}
 use Rattle.ir_text_read_base.specs.Seen.{Seen, seen_fresh}
 use Rattle.ir_text_read_base.specs.Free.{no_names}
-use Rattle.ir_text_read_base.specs.OpGrammar.{IsOp, IsOps}
+use Rattle.ir_text_read_base.specs.OpGrammar.{FreeTerms, IsOp, IsOps}
 
 abbrev pub module_word : List ℕ
 module_word = codes "builtin.module"
@@ -57,4 +57,25 @@ pub record Spells (bytes : List ℕ) (t : Operation) : Type 0 where
   pub spelled : IsExplicit bytes t ⊎ IsImplicit bytes t
   pub formed : IsFormed is_isolated t
   pub numbered : IsNumberedFrom 0 t
+  pub sorted : IsTrue (every (dictionaries_rise key_before) t)
+
+-- ---- one operation alone
+
+-- the first id that none may have, where ids begin with the next one: so many are read, and all are below the limit of ids
+abbrev pub last_from : ℕ → ℕ
+last_from next = min (next + 1048576) 4294967295
+
+-- the text is one operation and nothing after it; the names that it leaves free stand for values of the module around
+unfoldable pub IsSingle : FreeTerms → ℕ → ℕ → List ℕ → Operation → Type 0
+IsSingle free last next bytes t = (end : Seen) × (rest : List ℕ) × IsOp free last 129 t (seen_fresh next bytes) end × IsMark End end.bytes rest
+
+-- a text spells an operation whose ids are next, next + 1, .. in pre-order, each below 4,294,967,295, which
+-- passes no limit, and whose dictionaries are sorted, each key once. Its operands are seen where they stand,
+-- as the grammar has it, or free
+pub record SpellsOp (free : FreeTerms) (next : ℕ) (bytes : List ℕ) (t : Operation) : Type 0 where
+  pub text : text_reason bytes ≡ None
+  pub spelled : IsSingle free (last_from next) next bytes t
+  pub shallow : depth t ≤ most_around
+  pub counts : IsTrue (counts_fit t)
+  pub numbered : IsNumberedFrom next t
   pub sorted : IsTrue (every (dictionaries_rise key_before) t)

@@ -32,8 +32,8 @@ fn sooner<'a>(scope: &Scope<'a>, name: &'a [u8], bytes: &'a [u8], fault: Fault) 
     }
 }
 
-/// Why no comma follows an argument: a location is left out.
-fn argument_refusal(bytes: &[u8]) -> Refusal {
+/// Why a token does not fit behind a type: a location is left out.
+pub(crate) fn location_refusal(bytes: &[u8]) -> Refusal {
     match lexer::token(bytes) {
         Ok((Token::Bare(word), _)) if word == b"loc".as_slice() => Refusal::LeftOut,
         _ => Refusal::Unexpected,
@@ -46,7 +46,7 @@ fn next_argument(bytes: &[u8]) -> Result<&[u8], ReadError>
 {
     match after(bytes, Mark::Comma) {
         Some(rest) => Ok(rest),
-        None => Err(ReadError::Refused(wrong(argument_refusal(bytes), bytes))),
+        None => Err(ReadError::Refused(wrong(location_refusal(bytes), bytes))),
     }
 }
 

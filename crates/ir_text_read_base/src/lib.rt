@@ -16,3 +16,4 @@ pub mod pack;
 mod places;
 mod results;
 pub mod scope;
+pub mod single;

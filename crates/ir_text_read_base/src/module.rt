@@ -162,7 +162,7 @@ fn implicit(alloc: Global, ctx: &mut Context, bytes: &[u8]) -> Result<TreeOp, Re
 }
 
 /// The fault with a label outside any region as one that does not fit.
-fn fault_of_label(bytes: &[u8], fault: Fault) -> Fault {
+pub(crate) fn fault_of_label(bytes: &[u8], fault: Fault) -> Fault {
     match fault.refusal {
         Refusal::MultipleBlocks if is_outside(bytes, fault.left) => Fault {
             refusal: Refusal::Unexpected,

@@ -8,6 +8,8 @@ mod function_tests;
 #[cfg(test)]
 mod limit_tests;
 #[cfg(test)]
+mod op_tests;
+#[cfg(test)]
 mod pack_tests;
 #[cfg(test)]
 mod reading;

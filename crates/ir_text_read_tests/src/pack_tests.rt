@@ -38,10 +38,7 @@ fn counts_that_do_not_add_up(rt: HostRuntime) {
         (b"%a:2 = \"t\"() : () -> i32", 13),
         (b"%a:2 = \"t\"() : () -> (i32, i32, i32)", 13),
         (b"%a:2, %b = \"t\"() : () -> (i32, i32)", 17),
-        (
-            b"%a = \"t\"() : () -> i32\n%a:2 = \"t\"() : () -> i32",
-            36,
-        ),
+        (b"%a = \"t\"() : () -> i32\n%a:2 = \"t\"() : () -> i32", 36),
         (
             b"%a:2 = \"t\"() : () -> (i32, i64)\n\"u\"(%a#1) : (i32) -> ()",
             42,
@@ -97,7 +94,10 @@ fn places_past_a_count(rt: HostRuntime) {
             b"%a = \"t\"() : () -> i32\n\"u\"(%a#1000000000000000000000000000000000000000) : (i32) -> ()",
             29,
         ),
-        (b"\"t\"() ({^a(%b: i32): \"u\"(%b#1) : (i32) -> ()}) : () -> ()", 27),
+        (
+            b"\"t\"() ({^a(%b: i32): \"u\"(%b#1) : (i32) -> ()}) : () -> ()",
+            27,
+        ),
     ];
     assert_eq!(rt; first_wrong(rt.alloc(), Refusal::UnknownValue, &rows), None);
 }
@@ -110,7 +110,10 @@ fn what_is_no_count_and_no_place(rt: HostRuntime) {
         (b"%a::2 = \"t\"() : () -> i32", 2),
         (b"%a:2 3 = \"t\"() : () -> i32", 5),
         (b"%a = \"t\"() : () -> i32\n\"u\"(%a#x) : (i32) -> ()", 29),
-        (b"%a = \"t\"() : () -> i32\n\"u\"(%a#0 #0) : (i32) -> ()", 32),
+        (
+            b"%a = \"t\"() : () -> i32\n\"u\"(%a#0 #0) : (i32) -> ()",
+            32,
+        ),
     ];
     assert_eq!(rt; first_wrong(rt.alloc(), Refusal::Unexpected, &rows), None);
 }
@@ -119,7 +122,10 @@ fn what_is_no_count_and_no_place(rt: HostRuntime) {
 fn packs_that_are_bound_already(rt: HostRuntime) {
     let rows: [Row; 4] = [
         (b"%a:2, %a = \"t\"() : () -> (i1, i1, i1)", 6),
-        (b"%a, %b:2, %a:3 = \"t\"() : () -> (i1, i1, i1, i1, i1, i1)", 10),
+        (
+            b"%a, %b:2, %a:3 = \"t\"() : () -> (i1, i1, i1, i1, i1, i1)",
+            10,
+        ),
         (
             b"%a = \"t\"() : () -> i32\n%b:3, %a:2 = \"t\"() : () -> (i1, i1, i1, i1, i1)",
             29,

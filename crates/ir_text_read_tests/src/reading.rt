@@ -4,8 +4,8 @@ ghost use Rattle.ir_tree.specs.Meaning.{IsSoundIn};
 
 use ir_text::printer::print;
 use ir_text::reader::read;
-use ir_text_type_base::error::ReadError;
 use ir_text_base::fault::Fault;
+use ir_text_type_base::error::ReadError;
 use ir_tree::sound::sound;
 use ir_tree::tree::TreeOp;
 use ir_types::context::Context;
