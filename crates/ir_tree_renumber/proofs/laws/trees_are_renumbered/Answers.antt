@@ -1,0 +1,15 @@
+use Rattle.ir_tree_renumber.proofs.Kept.{numbered, distinct_renumbered}
+use Rattle.ir_tree_renumber.proofs.Formed.{formed_renumbered, visible_renumbered}
+use Rattle.ir_tree_renumber.proofs.laws.trees_are_renumbered.Goals as goal
+
+pub returns-clause-numbered : goal.returns-clause-numbered
+returns-clause-numbered c t d = numbered t d
+
+pub returns-clause-distinct : goal.returns-clause-distinct
+returns-clause-distinct c t d = distinct_renumbered t d
+
+pub returns-clause-formed : goal.returns-clause-formed
+returns-clause-formed c isolated t w = formed_renumbered isolated t w
+
+pub returns-clause-sight : goal.returns-clause-sight
+returns-clause-sight c isolated t x v = visible_renumbered isolated t x v
