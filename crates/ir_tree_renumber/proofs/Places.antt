@@ -13,10 +13,10 @@ eqb_turned x y = elim (eqb_tells x y) [
 ]
 
 -- the places of what is not the first
-later : (x : ℕ) (xs : List ℕ) (y : ℕ) → eqb y x ≡ false → place_in (x ∷ xs) y ≡ 1 + place_in xs y
+pub later : (x : ℕ) (xs : List ℕ) (y : ℕ) → eqb y x ≡ false → place_in (x ∷ xs) y ≡ 1 + place_in xs y
 later x xs y e = ap (λ b. cond (not b) (1 + place_in xs y) 0) e
 
-first : (x : ℕ) (xs : List ℕ) (y : ℕ) → eqb y x ≡ true → place_in (x ∷ xs) y ≡ 0
+pub first : (x : ℕ) (xs : List ℕ) (y : ℕ) → eqb y x ≡ true → place_in (x ∷ xs) y ≡ 0
 first x xs y e = ap (λ b. cond (not b) (1 + place_in xs y) 0) e
 
 -- the places of a list's numbers, behind n others

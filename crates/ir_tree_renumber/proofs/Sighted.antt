@@ -28,7 +28,7 @@ or_false : (b : Bool) → (b || false) ≡ b
 or_false true = refl
 or_false false = refl
 
-shown_last : (s : List Frame) (g : Frame) (v : Value) → in_scope (s ++ g ∷ []) v ≡ (in_scope s v || shows v g)
+pub shown_last : (s : List Frame) (g : Frame) (v : Value) → in_scope (s ++ g ∷ []) v ≡ (in_scope s v || shows v g)
 shown_last s g v = list_any-append (shows v) s (g ∷ []) ∙ ap (λ b. in_scope s v || b) (or_false (shows v g))
 
 module _ (f : ℕ → ℕ) where

@@ -44,10 +44,11 @@ pub fn places_tell_apart()
 {}
 
 /// A tree that is renumbered has the ids 0, 1, .. in pre-order where those of the tree are distinct, and it
-/// has the sight of the tree and is formed where the tree is.
+/// has the sight of the tree and is formed where the tree is. A formed tree that has these ids stays as it is.
 pub fn trees_are_renumbered()
     ensures numbered { (t : Operation) → HasDistinctIds t → IsNumberedFrom 0 (renumbered t) }
     ensures distinct { (t : Operation) → HasDistinctIds t → HasDistinctIds (renumbered t) }
     ensures formed { (isolated : List ℕ → Bool) (t : Operation) → IsFormed isolated t → IsFormed isolated (renumbered t) }
     ensures sight { (isolated : List ℕ → Bool) (t : Operation) (x : ℕ) (v : Value) → visible isolated (renumbered t) (place_in (ids t) x) (value_with_id (place_in (ids t)) v) ≡ visible isolated t x v }
+    ensures stays { (isolated : List ℕ → Bool) (t : Operation) → IsFormed isolated t → IsNumberedFrom 0 t → renumbered t ≡ t }
 {}

@@ -1,5 +1,6 @@
 use Rattle.ir_tree_renumber.proofs.Kept.{numbered, distinct_renumbered}
 use Rattle.ir_tree_renumber.proofs.Formed.{formed_renumbered, visible_renumbered}
+use Rattle.ir_tree_renumber.proofs.Fixed.{renumbered_stays}
 use Rattle.ir_tree_renumber.proofs.laws.trees_are_renumbered.Goals as goal
 
 pub returns-clause-numbered : goal.returns-clause-numbered
@@ -13,3 +14,6 @@ returns-clause-formed c isolated t w = formed_renumbered isolated t w
 
 pub returns-clause-sight : goal.returns-clause-sight
 returns-clause-sight c isolated t x v = visible_renumbered isolated t x v
+
+pub returns-clause-stays : goal.returns-clause-stays
+returns-clause-stays c isolated t w e = renumbered_stays isolated t w e
