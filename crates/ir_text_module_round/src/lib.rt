@@ -1,0 +1,4 @@
+//! What is printed for a module is read again as that.
+#![tactic(auto)]
+
+pub mod laws;
