@@ -2,3 +2,5 @@ pub mod Texts
 pub mod Words
 pub mod Values
 pub mod Joined
+pub mod Front
+pub mod Blocks
