@@ -4,3 +4,5 @@ pub mod Values
 pub mod Joined
 pub mod Front
 pub mod Blocks
+pub mod Grown
+pub mod Labels
