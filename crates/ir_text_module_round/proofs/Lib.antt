@@ -6,3 +6,4 @@ pub mod Front
 pub mod Blocks
 pub mod Grown
 pub mod Labels
+pub mod Tails
