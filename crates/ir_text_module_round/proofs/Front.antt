@@ -173,12 +173,12 @@ equal_next : (rest : List ℕ) → Token (mark Equal) (equal_then rest) (32 ∷ 
 equal_next rest = space_token (mark Equal) (61 ∷ 32 ∷ rest) (32 ∷ rest) (mark_token Equal (32 ∷ rest) tt)
 
 -- a name with its count
-record ResultRead (m many : ℕ) (rest : List ℕ) : Type 0 where
+pub record ResultRead (m many : ℕ) (rest : List ℕ) : Type 0 where
   pub mid : List ℕ
   pub name : Token (value (decimal m)) (results_text m many ++ rest) mid
   pub count : IsCount 0 many mid (equal_then rest)
 
-result_read : (m count : ℕ) (rest : List ℕ) → m < 2 ^ 128 → 1 ≤ count → count ≤ 256 → ResultRead m count rest
+pub result_read : (m count : ℕ) (rest : List ℕ) → m < 2 ^ 128 → 1 ≤ count → count ≤ 256 → ResultRead m count rest
 result_read m count rest lt some few = from (count == 1) refl
   where
     back : Bool → List ℕ

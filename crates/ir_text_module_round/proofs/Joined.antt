@@ -136,7 +136,7 @@ read_kept f here v y word pack fresh r = record { pack = r.pack; bound = find_ke
 abbrev pub OwnNames : Names → ℕ → List TypeTerm → ℕ → Type 0
 OwnNames m x ts n = (i : ℕ) (t : TypeTerm) → slice_get ts i ≡ Some t → found m.named (source.Result x i) ≡ Some (record { name = result_name (length ts == 1) n i; type = t })
 
-result_shown : (v : Value) (x n : ℕ) → shows v (results x n) ≡ true → (k : ℕ) × (v ≡ Result x k) × (k < n)
+pub result_shown : (v : Value) (x n : ℕ) → shows v (results x n) ≡ true → (k : ℕ) × (v ≡ Result x k) × (k < n)
 result_shown (Result y k) x n e = let p = both (y == x) (nat_lt k n) e in (k, ap (λ a. Result a k) (eqb-true y x p.0), grind (arith, nat_tests))
 result_shown (Arg y s k) x n e = absurd cc
 

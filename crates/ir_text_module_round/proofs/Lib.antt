@@ -7,3 +7,4 @@ pub mod Blocks
 pub mod Grown
 pub mod Labels
 pub mod Tails
+pub mod Fresh

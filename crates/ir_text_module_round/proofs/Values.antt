@@ -101,7 +101,7 @@ result_away : (s : Source) (x k : ℕ) → (source_id s == x) ≡ false → same
 result_away (Result y j) x k e = rw e refl
 result_away (Argument y r j) x k e = refl
 
-argument_away : (s : Source) (x r k : ℕ) → (source_id s == x) ≡ false → same_source s (Argument x r k) ≡ false
+pub argument_away : (s : Source) (x r k : ℕ) → (source_id s == x) ≡ false → same_source s (Argument x r k) ≡ false
 argument_away (Result y j) x r k e = refl
 argument_away (Argument y q j) x r k e = rw e refl
 
