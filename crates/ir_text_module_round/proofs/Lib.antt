@@ -8,3 +8,4 @@ pub mod Grown
 pub mod Labels
 pub mod Tails
 pub mod Fresh
+pub mod Ops

@@ -1,0 +1,156 @@
+-- Operations that are printed are read again, with their new ids.
+use Rattle.std.proofs.Common.{◌≡◌, ◌⊎◌, ℕ, zero, suc, ◌+◌, ◌*◌, ◌^◌, ◌<◌, ◌≤◌, Bool, true, false, eqb, List, [], ◌∷◌, ◌++◌, map, length, Option, Some, None, refl, sym, ap, subst, ◌∙◌, append_assoc, arith, inl, inr, ⊎_elim}
+use Rattle.std.specs.Prelude.{codes, ◌==◌, ◌&&◌, nat_lt, if◌then◌else◌}
+use Rattle.std.specs.List.{AllByRecursion}
+use Rattle.std.proofs.lemmas.Bool.{eqb-true}
+use Rattle.std.proofs.lemmas.Bool.Decides.{nat_tests}
+use Rattle.std.proofs.lemmas.List.{length-append}
+use Rattle.ir_types.specs.Terms.{TypeTerm}
+use Rattle.ir_types.specs.Words.{is_isolated}
+use Rattle.ir_tree.specs.declared.value.Value.{Value}
+use Rattle.ir_tree.specs.declared.value.Value.TheVariants.{Result, Arg}
+use Rattle.ir_tree.specs.Ids.{ids, regions_ids, region_ids, ops_ids}
+use Rattle.ir_tree.specs.Limits.{depth, regions_depth, region_depth, ops_depth}
+use Rattle.ir_tree.specs.Meaning.{Operation}
+use Rattle.ir_tree.specs.Sites.{Frame, results, arguments, shows, in_scope, inside, results_of}
+use Rattle.ir_tree.specs.Tree.{op, no_regions, region, region_count, region_list, empty, block, no_ops, next, op_list}
+use Rattle.ir_text_base.specs.declared.token.Mark.{Mark}
+use Rattle.ir_text_base.specs.declared.token.Mark.TheVariants.{OpenRound, CloseRound, OpenCurly, CloseCurly, Comma, Less, Colon}
+use Rattle.ir_text_base.specs.Tokens.{mark, next as next_token}
+use Rattle.ir_text_base.specs.Scopes.{Scopes, find, entered, left}
+use Rattle.ir_text_base.proofs.Printed.{mark_token, blank_passed}
+use Rattle.ir_text_type_base.specs.Grammars.{Grammar, Not, IsMore, IsMark, Token}
+use Rattle.ir_text_read_base.specs.Free.{no_names}
+use Rattle.ir_text_read_base.specs.Seen.{PackTerm, Seen, seen_rest, seen_inside, seen_outside, IsMarkSeen}
+use Rattle.ir_text_read_base.specs.OpGrammar.{IsHead, IsOps, IsRegion, IsRegions, IsOp, IsOpWith, RegionTerm}
+use Rattle.ir_text.specs.Naming.{naming_of, source_of}
+use Rattle.ir_text.specs.Printing.{deeper, properties_text}
+use Rattle.ir_text_round.proofs.Ahead.{space_token}
+use Rattle.ir_text_round.proofs.OpEntries.{properties_again}
+use Rattle.ir_text_round.proofs.Small.{both, lacks_token, are_bytes}
+use Rattle.ir_text_module_round.specs.Renumbered.{with_ids, regions_with, region_with, ops_with}
+use Rattle.ir_text_module_round.specs.WrittenTrees.{FitsOp, FitsRegions, FitsRegion, FitsOps}
+use Rattle.ir_text_module_round.proofs.Texts.{Head, Names, Regions, Region, Ops, results_names, arguments_names, op_names, regions_names, region_names, ops_names, tail_then, op_then, regions_then, region_then, ops_then}
+use Rattle.ir_text_module_round.proofs.Values.{source_id, Away, all_front, all_back, argument_away, results_names_keep, regions_keep, region_keeps, own_results}
+use Rattle.ir_text_module_round.proofs.Joined.{Here, IsSeen, Joined, joined_later, in_last, result_shown}
+use Rattle.ir_text_module_round.proofs.Front.{start_again}
+use Rattle.ir_text_module_round.proofs.Blocks.{AreBlank, blanks_passed, blanks_deeper, mark_seen, not_seen}
+use Rattle.ir_text_module_round.proofs.Grown.{Grown, grown_results, grown_op, grown_regions, grown_region, grown_arguments}
+use Rattle.ir_text_module_round.proofs.Labels.{Plain, PlainFirst, label_again}
+use Rattle.ir_text_module_round.proofs.Tails.{tail_lacks, finished, finished_outer, tail_again}
+use Rattle.ir_text_module_round.proofs.Fresh.{Runs, distinct_first, Fresh, fresh_front, fresh_back, in_inside, joined_inside, left_is, all_so, types_fit, same_types, types_count, joined_end, plain_head, op_from, ops_close, ops_one, more_last, more_one}
+
+-- ---- each operation sees its operands
+
+abbrev mutual
+  pub SeesOp : List Frame → Operation → Type 0
+  SeesOp scope (op h rs) = AllByRecursion (λ v. in_scope scope v ≡ true) h.operands × SeesRegions (inside is_isolated h scope) h.id 0 rs
+
+  pub SeesRegions : List Frame → ℕ → ℕ → Regions → Type 0
+  SeesRegions scope x r no_regions = Unit {0}
+  SeesRegions scope x r (region g rs) = SeesRegion scope x r g × SeesRegions scope x (r + 1) rs
+
+  pub SeesRegion : List Frame → ℕ → ℕ → Region → Type 0
+  SeesRegion scope x r empty = Unit {0}
+  SeesRegion scope x r (block args os) = SeesOps (scope ++ arguments x r (length args) ∷ []) os
+
+  pub SeesOps : List Frame → Ops → Type 0
+  SeesOps scope no_ops = Unit {0}
+  SeesOps scope (next t ts) = SeesOp scope t × SeesOps (scope ++ results_of t ∷ []) ts
+
+-- ---- small facts
+
+result_away : (v : Value) (x n : ℕ) (xs : List ℕ) → AllByRecursion (λ y. (x == y) ≡ false) xs → shows v (results x n) ≡ true → Away (source_of v) xs
+result_away v x n xs h e = let r = result_shown v x n e in subst (λ u. Away (source_of u) xs) (sym r.1) h
+
+shown_away : (v : Value) (x r n : ℕ) (xs : List ℕ) → AllByRecursion (λ y. (x == y) ≡ false) xs → shows v (arguments x r n) ≡ true → Away (source_of v) xs
+shown_away (Result y k) x r n xs h e = absurd cc
+shown_away (Arg y s k) x r n xs h e = subst (λ (u : ℕ). Away (source_of (Arg u s k)) xs) (sym (eqb-true y x (both (y == x) ((s == r) && nat_lt k n) e).0)) h
+
+pub op_plain : (margin : List ℕ) (t : Operation) (n : Names) (rest : List ℕ) → FitsOp t → n.results < 2 ^ 128 → Plain (op_then margin t n rest)
+op_plain margin (op h rs) n rest fit lt = plain_head n.results h.results h (results_names h.id h.results n).named _ fit.0 lt fit.0.results
+
+first_plain : (margin : List ℕ) (os : Ops) (n : Names) (rest : List ℕ) → AreBlank margin → FitsOps os → n.results < 2 ^ 128 → PlainFirst os (ops_then margin os n rest)
+first_plain margin no_ops n rest blank fit lt = tt
+first_plain margin (next t ts) n rest blank fit lt =
+    let behind = ops_then margin ts (op_names t n) rest in
+    let p = op_plain margin t n behind fit.0 lt in
+    record { lexeme = p.lexeme; behind = p.behind; token = blanks_passed margin (op_then margin t n behind) blank ∙ p.token; no_label = p.no_label; no_mark = p.no_mark }
+
+-- ---- operations
+
+module _ (f : ℕ → ℕ) (last : ℕ) where
+  abbrev One : ℕ → Grammar Seen Operation
+  One d = IsOp no_names last d
+
+  abbrev Row : ℕ → Grammar Seen (List Operation)
+  Row d = IsOps CloseCurly (One d) 1048576 []
+
+  -- an operation that is read with its new id
+  pub record OpRead (d : ℕ) (scope : List Frame) (t : Operation) (n : Names) (s : Seen) (rest : List ℕ) : Type 0 where
+    pub scopes : Scopes PackTerm
+    pub reads : IsOp no_names last d (with_ids f t) s (record { bytes = 10 ∷ rest; scopes = scopes; next = s.next + length (ids t) })
+    pub joined : Joined f (scope ++ results_of t ∷ []) (op_names t n) scopes.here
+    pub outer : scopes.outer ≡ s.scopes.outer
+
+  pub record OpsRead (d room : ℕ) (front : List Operation) (os : Ops) (s : Seen) (rest : List ℕ) : Type 0 where
+    pub scopes : Scopes PackTerm
+    pub reads : IsOps CloseCurly (IsOp no_names last d) room front (front ++ op_list (ops_with f os)) s (record { bytes = rest; scopes = scopes; next = s.next + length (ops_ids os) })
+    pub outer : scopes.outer ≡ s.scopes.outer
+
+  -- that one operation is read, as a premise
+  abbrev pub ReadsOp : ℕ → Operation → Type 0
+  ReadsOp d t = (margin : List ℕ) (scope : List Frame) (n : Names) (s : Seen) (rest : List ℕ) → AreBlank margin → FitsOp t → SeesOp scope t → depth t < d → Fresh f last scope n s.next 0 (ids t) → Joined f scope n s.scopes.here → next_token s.bytes ≡ next_token (op_then margin t n rest) → OpRead d scope t n s rest
+
+  -- that a row is read, as a premise
+  abbrev pub ReadsOps : ℕ → Ops → Type 0
+  ReadsOps d os = (room : ℕ) (front : List Operation) (margin close : List ℕ) (rest : List ℕ) (scope : List Frame) (n : Names) (s : Seen) → AreBlank margin → FitsOps os → SeesOps scope os → ops_depth os ≤ d → length (ops_ids os) < room → Fresh f last scope n s.next 0 (ops_ids os) → Joined f scope n s.scopes.here
+      → Token (mark CloseCurly) close rest → next_token s.bytes ≡ next_token (ops_then margin os n close) → OpsRead d room front os s rest
+
+  nothing_more : (front : List Operation) → front ++ [] ≡ front
+  nothing_more [] = refl
+  nothing_more (x ∷ xs) = ap (λ (l : List Operation). x ∷ l) (nothing_more xs)
+
+  some_id : (t : Operation) → 1 ≤ length (ids t)
+  some_id (op h rs) = omega arith
+
+  pub no_ops_read : (d : ℕ) → ReadsOps d no_ops
+  no_ops_read d room front margin close rest scope n s blank fit sees deep few fresh j closed e =
+      let count : s.next ≡ s.next + 0 = omega arith in
+      let h = ops_close (One d) room front s (seen_rest s rest) (omega (arith, few)) (mark_seen CloseCurly s rest (e ∙ closed)) in
+      record {
+        scopes = s.scopes;
+        reads = subst (λ l. IsOps CloseCurly (One d) room front l s (record { bytes = rest; scopes = s.scopes; next = s.next + 0 })) (sym (nothing_more front)) (subst (λ (i : ℕ). IsOps CloseCurly (One d) room front front s (record { bytes = rest; scopes = s.scopes; next = i })) count h);
+        outer = refl;
+      }
+
+  -- one operation, and then those behind it
+  pub next_read : (d : ℕ) (h : Head) (rs : Regions) (ts : Ops) → ReadsOp d (op h rs) → ReadsOps d ts → ReadsOps d (next (op h rs) ts)
+  next_read d h rs ts first others zero front margin close rest scope n s blank fit sees deep few fresh j closed e = absurd (omega (arith, few))
+  next_read d h rs ts first others (suc room) front margin close rest scope n s blank fit sees deep few fresh j closed e =
+      let t = op h rs in
+      let m = op_names t n in
+      let behind = ops_then margin ts m close in
+      let here = e ∙ blanks_passed margin (op_then margin t n behind) blank in
+      let count = length-append (ids t) (ops_ids ts) in
+      let own = distinct_first h.id (regions_ids rs ++ ops_ids ts) fresh.distinct in
+      let away : (v : Value) → in_scope (scope ++ results_of t ∷ []) v ≡ true → Away (source_of v) (ops_ids ts) = λ v i. ⊎_elim
+          (λ (k : in_scope scope v ≡ true). all_back _ (ids t) (ops_ids ts) (fresh.away v k))
+          (λ (k : shows v (results_of t) ≡ true). result_away v h.id (length h.results) (ops_ids ts) (all_back _ (regions_ids rs) (ops_ids ts) own.0) k)
+          (in_last scope (results_of t) v i) in
+      let one = first margin scope n s behind blank fit.0 sees.0 (omega (arith, deep)) (fresh_front f last scope n s.next 0 0 (ids t) (ops_ids ts) fresh (omega arith)) j here in
+      let mid : Seen = record { bytes = 10 ∷ behind; scopes = one.scopes; next = s.next + length (ids t) } in
+      let fresh_more = fresh_back f last scope (scope ++ results_of t ∷ []) n m s.next 0 0 (4096 * length (ids t)) (ids t) (ops_ids ts) fresh (grown_op t n fit.0) (omega arith) away in
+      let more = others room (front ++ with_ids f t ∷ []) margin close rest (scope ++ results_of t ∷ []) m mid blank fit.1 sees.1 (omega (arith, deep)) (omega (arith, few, count, some_id t)) fresh_more one.joined closed (blank_passed 10 behind refl) in
+      let plain = op_plain margin t n behind fit.0 (omega (arith, fresh.few_results)) in
+      let lacks = not_seen CloseCurly s (lacks_token plain.lexeme CloseCurly s.bytes plain.behind (here ∙ plain.token) (plain.no_mark CloseCurly)) in
+      let ys = front ++ op_list (ops_with f (next t ts)) in
+      let all : (front ++ with_ids f t ∷ []) ++ op_list (ops_with f ts) ≡ ys = append_assoc front (with_ids f t ∷ []) (op_list (ops_with f ts)) in
+      let sum : s.next + length (ids t) + length (ops_ids ts) ≡ s.next + length (ops_ids (next t ts)) = omega (arith, count) in
+      let whole = ops_one (One d) room front _ (with_ids f t) s mid _ lacks one.reads more.reads in
+      record {
+        scopes = more.scopes;
+        reads = subst (λ l. IsOps CloseCurly (One d) (suc room) front l s (record { bytes = rest; scopes = more.scopes; next = s.next + length (ops_ids (next t ts)) })) all
+          (subst (λ (i : ℕ). IsOps CloseCurly (One d) (suc room) front ((front ++ with_ids f t ∷ []) ++ op_list (ops_with f ts)) s (record { bytes = rest; scopes = more.scopes; next = i })) sum whole);
+        outer = more.outer ∙ one.outer;
+      }
