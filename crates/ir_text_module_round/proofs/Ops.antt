@@ -30,7 +30,7 @@ use Rattle.ir_text_round.proofs.OpEntries.{properties_again}
 use Rattle.ir_text_round.proofs.Small.{both, lacks_token, are_bytes}
 use Rattle.ir_text_module_round.specs.Renumbered.{with_ids, regions_with, region_with, ops_with}
 use Rattle.ir_text_module_round.specs.WrittenTrees.{FitsOp, FitsRegions, FitsRegion, FitsOps}
-use Rattle.ir_text_module_round.proofs.Texts.{Head, Names, Regions, Region, Ops, results_names, arguments_names, op_names, regions_names, region_names, ops_names, tail_then, op_then, regions_then, region_then, ops_then}
+use Rattle.ir_text_module_round.proofs.Texts.{Head, Names, Regions, Region, Ops, results_names, arguments_names, op_names, regions_names, region_names, ops_names, tail_then, label_then, head_then, op_then, regions_then, region_then, ops_then}
 use Rattle.ir_text_module_round.proofs.Values.{source_id, Away, all_front, all_back, argument_away, results_names_keep, regions_keep, region_keeps, own_results}
 use Rattle.ir_text_module_round.proofs.Joined.{Here, IsSeen, Joined, joined_later, in_last, result_shown}
 use Rattle.ir_text_module_round.proofs.Front.{start_again}
@@ -154,3 +154,101 @@ module _ (f : ℕ → ℕ) (last : ℕ) where
           (subst (λ (i : ℕ). IsOps CloseCurly (One d) (suc room) front ((front ++ with_ids f t ∷ []) ++ op_list (ops_with f ts)) s (record { bytes = rest; scopes = more.scopes; next = i })) sum whole);
         outer = more.outer ∙ one.outer;
       }
+
+  -- ---- regions
+
+  -- the state behind, where so many ids were given
+  abbrev pub behind : Seen → List ℕ → ℕ → Seen
+  behind s rest count = record { bytes = rest; scopes = s.scopes; next = s.next + count }
+
+  -- that a region is read, as a premise
+  abbrev pub ReadsRegion : ℕ → Region → Type 0
+  ReadsRegion d g = (margin : List ℕ) (isolated : Bool) (scope : List Frame) (x r : ℕ) (front : List RegionTerm) (n : Names) (s : Seen) (rest : List ℕ) → AreBlank margin → FitsRegion g → SeesRegion scope x r g → region_depth g ≤ d → length (region_ids g) < 1048576 → length front ≡ r → Fresh f last scope n s.next 256 (region_ids g) → AllByRecursion (λ y. (x == y) ≡ false) (region_ids g) → ((v : Value) → in_scope scope v ≡ true → (source_id (source_of v) == x) ≡ false)
+      → Joined f scope n (if isolated then [] else s.scopes.here) → next_token s.bytes ≡ next_token (region_then margin x r g n rest) → IsRegion (Row d) (f x) isolated front (region_with f g) s (behind s rest (length (region_ids g)))
+
+  pub empty_read : (d : ℕ) → ReadsRegion d empty
+  empty_read d margin isolated scope x r front n s rest blank fit sees deep few place fresh own apart j e =
+      let close = 125 ∷ rest in
+      let closed = mark_token CloseCurly rest tt in
+      let opened = seen_rest s close in
+      let within = seen_inside isolated opened in
+      let fresh_none : Fresh f last scope n s.next 0 [] = record { runs = tt; distinct = fresh.distinct; away = λ v i. tt; below = fresh.below; few_results = fresh.few_results; few_arguments = omega (arith, fresh.few_arguments) } in
+      let row = no_ops_read d 1048576 [] margin close rest scope n within blank tt tt (omega arith) (omega arith) fresh_none j closed refl in
+      let scopes_back = left_is row.scopes s.scopes row.outer in
+      let state : behind s rest 0 ≡ seen_outside (record { bytes = rest; scopes = row.scopes; next = s.next + 0 }) = ap (λ (l : Scopes PackTerm). record { bytes = rest; scopes = l; next = s.next + 0 }) (sym scopes_back) in
+      (opened, mark_seen OpenCurly s close (e ∙ mark_token OpenCurly close tt), (None, within, (mark CloseCurly, rest, closed, (refl, refl)), ([], record { bytes = rest; scopes = row.scopes; next = s.next + 0 }, row.reads, (refl, state))))
+
+  pub block_read : (d : ℕ) (args : List TypeTerm) (os : Ops) → ReadsOps d os → ReadsRegion d (block args os)
+  block_read d args os ops margin isolated scope x r front n s rest blank fit sees deep few place fresh own apart j e =
+      let m = arguments_names x r 0 args n in
+      let close = margin ++ 125 ∷ rest in
+      let closed : Token (mark CloseCurly) close rest = blanks_passed margin (125 ∷ rest) blank ∙ mark_token CloseCurly rest tt in
+      let far = deeper margin in
+      let wide = blanks_deeper margin blank in
+      let inner = ops_then far os m close in
+      let text = 10 ∷ label_then margin args os n inner in
+      let opened = seen_rest s text in
+      let within = seen_inside isolated opened in
+      let named = grown_arguments x r 0 args n in
+      let label = label_again f scope x r apart margin args os n within inner blank j (omega (arith, fresh.few_arguments, fit.0)) fit.1 fit.0 (blank_passed 10 (label_then margin args os n inner) refl) (first_plain far os m close wide fit.2 (omega (arith, fresh.few_results, named.few_results))) in
+      let sight = scope ++ arguments x r (length args) ∷ [] in
+      let fresh_ops : Fresh f last sight m s.next 0 (ops_ids os) = record {
+        runs = fresh.runs;
+        distinct = fresh.distinct;
+        away = λ v i. ⊎_elim (λ (k : in_scope scope v ≡ true). fresh.away v k) (λ (k : shows v (arguments x r (length args)) ≡ true). shown_away v x r (length args) (ops_ids os) own k) (in_last scope (arguments x r (length args)) v i);
+        below = fresh.below;
+        few_results = omega (arith, fresh.few_results, named.few_results);
+        few_arguments = omega (arith, fresh.few_arguments, named.few_arguments, fit.0);
+      } in
+      let row = ops 1048576 [] far close rest sight m label.now wide fit.2 sees deep few (subst (λ (i : ℕ). Fresh f last sight m i 0 (ops_ids os)) (sym label.same) fresh_ops) label.joined closed label.text in
+      let ended : Seen = record { bytes = rest; scopes = row.scopes; next = label.now.next + length (ops_ids os) } in
+      let scopes_back = left_is row.scopes s.scopes (row.outer ∙ label.outer) in
+      let state : behind s rest (length (ops_ids os)) ≡ seen_outside ended =
+          ap (λ (l : Scopes PackTerm). record { bytes = rest; scopes = l; next = s.next + length (ops_ids os) }) (sym scopes_back)
+          ∙ ap (λ (i : ℕ). record { bytes = rest; scopes = left row.scopes; next = i + length (ops_ids os) }) (sym label.same) in
+      (opened, mark_seen OpenCurly s text (e ∙ mark_token OpenCurly text tt), (label.front, label.now, subst (λ (i : ℕ). IsHead (f x) i label.front within label.now) (sym place) label.reads, (op_list (ops_with f os), ended, row.reads, (sym label.made, state))))
+
+  -- that regions are read up to the closing parenthesis, as a premise
+  abbrev pub ReadsRegions : ℕ → Region → Regions → Type 0
+  ReadsRegions d g rs = (room : ℕ) (margin : List ℕ) (isolated : Bool) (scope : List Frame) (x r : ℕ) (front : List RegionTerm) (n : Names) (s : Seen) (rest : List ℕ) → AreBlank margin → FitsRegions (region g rs) → SeesRegions scope x r (region g rs) → regions_depth (region g rs) ≤ d → length (regions_ids (region g rs)) < 1048576 → region_count (region g rs) ≤ room → length front ≡ r → Fresh f last scope n s.next (256 * region_count (region g rs)) (regions_ids (region g rs)) → AllByRecursion (λ y. (x == y) ≡ false) (regions_ids (region g rs)) → ((v : Value) → in_scope scope v ≡ true → (source_id (source_of v) == x) ≡ false)
+      → Joined f scope n (if isolated then [] else s.scopes.here) → next_token s.bytes ≡ next_token (region_then margin x r g n (regions_then margin x (r + 1) rs (region_names x r g n) (41 ∷ rest)))
+      → IsMore IsMarkSeen CloseRound (IsRegion (Row d) (f x) isolated) room front (front ++ region_list (regions_with f (region g rs))) s (behind s rest (length (regions_ids (region g rs))))
+
+  pub last_read : (d : ℕ) (g : Region) → ReadsRegion d g → ReadsRegions d g no_regions
+  last_read d g one zero margin isolated scope x r front n s rest blank fit sees deep few count place fresh own apart j e = absurd (omega (arith, count))
+  last_read d g one (suc room) margin isolated scope x r front n s rest blank fit sees deep few count place fresh own apart j e =
+      let sum = length-append (region_ids g) [] in
+      let same : length (region_ids g) ≡ length (regions_ids (region g no_regions)) = omega (arith, sum) in
+      let fresh_one = fresh_front f last scope n s.next (256 * region_count (region g no_regions)) 256 (region_ids g) [] fresh (omega arith) in
+      let read = one margin isolated scope x r front n s (41 ∷ rest) blank fit.0 sees.0 (omega (arith, deep)) (omega (arith, few, same)) place fresh_one (all_front _ (region_ids g) [] own) apart j e in
+      let mid = behind s (41 ∷ rest) (length (region_ids g)) in
+      subst (λ (i : ℕ). IsMore IsMarkSeen CloseRound (IsRegion (Row d) (f x) isolated) (suc room) front (front ++ region_with f g ∷ []) s (behind s rest i)) same
+      (more_last (IsRegion (Row d) (f x) isolated) room front (region_with f g) s mid (seen_rest mid rest) read (mark_seen CloseRound mid rest (mark_token CloseRound rest tt)))
+
+  pub further_read : (d : ℕ) (g k : Region) (rs : Regions) → ReadsRegion d g → ReadsRegions d k rs → ReadsRegions d g (region k rs)
+  further_read d g k rs one others zero margin isolated scope x r front n s rest blank fit sees deep few count place fresh own apart j e = absurd (omega (arith, count))
+  further_read d g k rs one others (suc room) margin isolated scope x r front n s rest blank fit sees deep few count place fresh own apart j e =
+      let m = region_names x r g n in
+      let tail = regions_ids (region k rs) in
+      let sum = length-append (region_ids g) tail in
+      let ahead = region_then margin x (r + 1) k m (regions_then margin x (r + 1 + 1) rs (region_names x (r + 1) k m) (41 ∷ rest)) in
+      let no_first : (r + 1 == 0) ≡ false = grind (arith, nat_tests) in
+      let comma : regions_then margin x (r + 1) (region k rs) m (41 ∷ rest) ≡ 44 ∷ 32 ∷ ahead = rw no_first refl in
+      let here = e ∙ ap (λ (l : List ℕ). next_token (region_then margin x r g n l)) comma in
+      let fresh_one = fresh_front f last scope n s.next (256 * region_count (region g (region k rs))) 256 (region_ids g) tail fresh (omega arith) in
+      let read = one margin isolated scope x r front n s (44 ∷ 32 ∷ ahead) blank fit.0 sees.0 (omega (arith, deep)) (omega (arith, few, sum)) place fresh_one (all_front _ (region_ids g) tail own) apart j here in
+      let mid = behind s (44 ∷ 32 ∷ ahead) (length (region_ids g)) in
+      let after = seen_rest mid (32 ∷ ahead) in
+      let grown = grown_region x r g n fit.0 in
+      let fresh_more = fresh_back f last scope scope n m s.next (256 * region_count (region g (region k rs))) (256 * region_count (region k rs)) (256 + 4096 * length (region_ids g)) (region_ids g) tail fresh grown (omega arith) (λ v i. all_back _ (region_ids g) tail (fresh.away v i)) in
+      let keep : (v : Value) → in_scope scope v ≡ true → naming_of m.named v ≡ naming_of n.named v = λ v i. region_keeps (source_of v) x r g n (λ q a. argument_away (source_of v) x q a (apart v i)) (all_front _ (region_ids g) tail (fresh.away v i)) in
+      let joined = joined_later f scope n m (if isolated then [] else s.scopes.here) j keep grown.results grown.arguments in
+      let front' = front ++ region_with f g ∷ [] in
+      let placed : length front' ≡ r + 1 = length-append front (region_with f g ∷ []) ∙ omega (arith, place) in
+      let more = others room margin isolated scope x (r + 1) front' m after rest blank fit.1 sees.1 (omega (arith, deep)) (omega (arith, few, sum)) (omega (arith, count)) placed fresh_more (all_back _ (region_ids g) tail own) apart joined (blank_passed 32 ahead refl) in
+      let open_yet = not_seen CloseRound mid (lacks_token (mark Comma) CloseRound (44 ∷ 32 ∷ ahead) (32 ∷ ahead) (mark_token Comma (32 ∷ ahead) tt) (λ e. absurd cc)) in
+      let all : front' ++ region_list (regions_with f (region k rs)) ≡ front ++ region_list (regions_with f (region g (region k rs))) = append_assoc front (region_with f g ∷ []) (region_list (regions_with f (region k rs))) in
+      let total : s.next + length (region_ids g) + length tail ≡ s.next + length (regions_ids (region g (region k rs))) = omega (arith, sum) in
+      let whole = more_one (IsRegion (Row d) (f x) isolated) room front _ (region_with f g) s mid after _ read open_yet (mark_seen Comma mid (32 ∷ ahead) (mark_token Comma (32 ∷ ahead) tt)) more in
+      subst (λ l. IsMore IsMarkSeen CloseRound (IsRegion (Row d) (f x) isolated) (suc room) front l s (behind s rest (length (regions_ids (region g (region k rs)))))) all
+      (subst (λ (i : ℕ). IsMore IsMarkSeen CloseRound (IsRegion (Row d) (f x) isolated) (suc room) front (front' ++ region_list (regions_with f (region k rs))) s (record { bytes = rest; scopes = s.scopes; next = i })) total whole)
