@@ -22,9 +22,9 @@ use Rattle.ir_text_base.proofs.Printed.{mark_token, blank_passed}
 use Rattle.ir_text_type_base.specs.Grammars.{Grammar, Not, IsMore, IsMark, Token}
 use Rattle.ir_text_read_base.specs.Free.{no_names}
 use Rattle.ir_text_read_base.specs.Seen.{PackTerm, Seen, seen_rest, seen_inside, seen_outside, IsMarkSeen}
-use Rattle.ir_text_read_base.specs.OpGrammar.{IsHead, IsOps, IsRegion, IsRegions, IsOp, IsOpWith, RegionTerm}
-use Rattle.ir_text.specs.Naming.{naming_of, source_of}
-use Rattle.ir_text.specs.Printing.{deeper, properties_text}
+use Rattle.ir_text_read_base.specs.OpGrammar.{IsHead, IsOps, IsRegion, IsRegions, IsOp, IsOpWith, IsTail, RegionTerm}
+use Rattle.ir_text.specs.Naming.{Named, naming_of, value_type, source_of}
+use Rattle.ir_text.specs.Printing.{deeper, opening, closing, properties_text}
 use Rattle.ir_text_round.proofs.Ahead.{space_token}
 use Rattle.ir_text_round.proofs.OpEntries.{properties_again}
 use Rattle.ir_text_round.proofs.Small.{both, lacks_token, are_bytes}
@@ -33,7 +33,7 @@ use Rattle.ir_text_module_round.specs.WrittenTrees.{FitsOp, FitsRegions, FitsReg
 use Rattle.ir_text_module_round.proofs.Texts.{Head, Names, Regions, Region, Ops, results_names, arguments_names, op_names, regions_names, region_names, ops_names, tail_then, label_then, head_then, op_then, regions_then, region_then, ops_then}
 use Rattle.ir_text_module_round.proofs.Values.{source_id, Away, all_front, all_back, argument_away, results_names_keep, regions_keep, region_keeps, own_results}
 use Rattle.ir_text_module_round.proofs.Joined.{Here, IsSeen, Joined, joined_later, in_last, result_shown}
-use Rattle.ir_text_module_round.proofs.Front.{start_again}
+use Rattle.ir_text_module_round.proofs.Front.{start_of, start_again}
 use Rattle.ir_text_module_round.proofs.Blocks.{AreBlank, blanks_passed, blanks_deeper, mark_seen, not_seen}
 use Rattle.ir_text_module_round.proofs.Grown.{Grown, grown_results, grown_op, grown_regions, grown_region, grown_arguments}
 use Rattle.ir_text_module_round.proofs.Labels.{Plain, PlainFirst, label_again}
@@ -252,3 +252,132 @@ module _ (f : ℕ → ℕ) (last : ℕ) where
       let whole = more_one (IsRegion (Row d) (f x) isolated) room front _ (region_with f g) s mid after _ read open_yet (mark_seen Comma mid (32 ∷ ahead) (mark_token Comma (32 ∷ ahead) tt)) more in
       subst (λ l. IsMore IsMarkSeen CloseRound (IsRegion (Row d) (f x) isolated) (suc room) front l s (behind s rest (length (regions_ids (region g (region k rs)))))) all
       (subst (λ (i : ℕ). IsMore IsMarkSeen CloseRound (IsRegion (Row d) (f x) isolated) (suc room) front (front' ++ region_list (regions_with f (region k rs))) s (record { bytes = rest; scopes = s.scopes; next = i })) total whole)
+
+  -- ---- one operation
+
+  -- what stands between the properties and the attributes
+  abbrev pub middle : List ℕ → Head → Regions → Names → List ℕ → List ℕ
+  middle margin h rs m tail = opening rs ++ regions_then margin h.id 0 rs m (closing rs ++ tail)
+
+  pub record MiddleRead (d : ℕ) (margin : List ℕ) (h : Head) (rs : Regions) (m : Names) (s : Seen) (tail : List ℕ) : Type 0 where
+    pub no_less : Not IsMark Less (middle margin h rs m tail)
+    pub reads : IsRegions (Row d) (f h.id) (is_isolated h.name) (region_list (regions_with f rs)) s (behind s tail (length (regions_ids rs)))
+
+  -- that the regions of an operation are read, as a premise
+  abbrev pub ReadsMiddle : ℕ → Regions → Type 0
+  ReadsMiddle d rs = (margin : List ℕ) (scope : List Frame) (h : Head) (m : Names) (s : Seen) (named : Named) (rest : List ℕ) → AreBlank margin → FitsRegions rs → SeesRegions scope h.id 0 rs → regions_depth rs ≤ d → length (regions_ids rs) < 1048576 → region_count rs ≤ 16 → Fresh f last scope m s.next (256 * region_count rs) (regions_ids rs) → AllByRecursion (λ y. (h.id == y) ≡ false) (regions_ids rs) → ((v : Value) → in_scope scope v ≡ true → (source_id (source_of v) == h.id) ≡ false)
+      → Joined f scope m (if is_isolated h.name then [] else s.scopes.here) → s.bytes ≡ middle margin h rs m (tail_then h named rest) → MiddleRead d margin h rs m s (tail_then h named rest)
+
+  pub none_read : (d : ℕ) → ReadsMiddle d no_regions
+  none_read d margin scope h m s named rest blank fit sees deep few count fresh own apart j e =
+      let tail = tail_then h named rest in
+      let lacks = tail_lacks OpenRound (λ k. absurd cc) (λ k. absurd cc) h named rest in
+      let zero_on : s.next ≡ s.next + 0 = omega arith in
+      let state : behind s tail 0 ≡ s = ap (λ (i : ℕ). record { bytes = tail; scopes = s.scopes; next = i }) (sym zero_on) ∙ ap (λ (l : List ℕ). record { bytes = l; scopes = s.scopes; next = s.next }) (sym e) in
+      record {
+        no_less = tail_lacks Less (λ k. absurd cc) (λ k. absurd cc) h named rest;
+        reads = inr (not_seen OpenRound s (subst (Not IsMark OpenRound) (sym e) lacks), (refl, state));
+      }
+
+  pub some_read : (d : ℕ) (g : Region) (rs : Regions) → ReadsRegions d g rs → ReadsMiddle d (region g rs)
+  some_read d g rs all margin scope h m s named rest blank fit sees deep few count fresh own apart j e =
+      let tail = tail_then h named rest in
+      let inner = region_then margin h.id 0 g m (regions_then margin h.id (0 + 1) rs (region_names h.id 0 g m) (41 ∷ tail)) in
+      let opened = space_token (mark OpenRound) (40 ∷ inner) inner (mark_token OpenRound inner tt) in
+      let here = subst (λ l. Token (mark OpenRound) l inner) (sym e) opened in
+      let mid = seen_rest s inner in
+      record {
+        no_less = lacks_token (mark OpenRound) Less (32 ∷ 40 ∷ inner) inner opened (λ k. absurd cc);
+        reads = inl (mid, mark_seen OpenRound s inner here, all 16 margin (is_isolated h.name) scope h.id 0 [] m mid tail blank fit sees deep few count refl fresh own apart j refl);
+      }
+
+  pub head_read : (small : last ≤ 1048576) (d : ℕ) (h : Head) (rs : Regions) → ReadsMiddle d rs → ReadsOp (suc d) (op h rs)
+  head_read small d h rs regions margin scope n s rest blank fit sees deep fresh j e =
+      let m = results_names h.id h.results n in
+      let p = regions_names h.id 0 rs m in
+      let tail = tail_then h p.named rest in
+      let isolated = is_isolated h.name in
+      let sight = inside is_isolated h scope in
+      let own = distinct_first h.id (regions_ids rs) fresh.distinct in
+      let named = grown_results h.id h.results n in
+      let inner = grown_regions h.id 0 rs m fit.2 in
+      let lt : n.results < 2 ^ 128 = omega (arith, fresh.few_results) in
+      let apart : (v : Value) → in_scope scope v ≡ true → (source_id (source_of v) == h.id) ≡ false = λ v i. (fresh.away v i).0 in
+      let keep_m : (v : Value) → in_scope scope v ≡ true → naming_of m.named v ≡ naming_of n.named v = λ v i. results_names_keep (source_of v) h.id h.results n (apart v i) in
+      let keep_p : (v : Value) → in_scope scope v ≡ true → naming_of p.named v ≡ naming_of m.named v = λ v i. regions_keep (source_of v) h.id 0 rs m (λ r k. argument_away (source_of v) h.id r k (apart v i)) (fresh.away v i).1 in
+      let jm = joined_later f scope n m s.scopes.here j keep_m named.results named.arguments in
+      let jp = joined_later f scope m p s.scopes.here jm keep_p inner.results inner.arguments in
+      let seen_m = all_so (λ v. in_scope scope v ≡ true) (IsSeen f m.named s.scopes.here) (λ v i. jm.seen v i) h.operands sees.0 in
+      let seen_p = all_so (λ v. in_scope scope v ≡ true) (IsSeen f p.named s.scopes.here) (λ v i. jp.seen v i) h.operands sees.0 in
+      let alike = same_types m.named p.named h.operands (all_so (λ v. in_scope scope v ≡ true) (λ v. naming_of m.named v ≡ naming_of p.named v) (λ v i. sym (keep_p v i)) h.operands sees.0) in
+      let fresh_rs : Fresh f last sight m (s.next + 1) (256 * region_count rs) (regions_ids rs) = record {
+        runs = fresh.runs.1;
+        distinct = own.1;
+        away = λ v i. (fresh.away v (in_inside isolated scope v i)).1;
+        below = omega (arith, fresh.below);
+        few_results = omega (arith, fresh.few_results, named.few_results);
+        few_arguments = omega (arith, fresh.few_arguments, named.few_arguments, fit.1);
+      } in
+      let back = middle margin h rs m tail in
+      let begun : Seen = record { bytes = back; scopes = s.scopes; next = s.next + 1 } in
+      let mid = regions margin sight h m begun p.named rest blank fit.2 sees.1 (omega (arith, deep)) (omega (arith, fresh.below, small)) fit.1 fresh_rs own.0 (λ v i. apart v (in_inside isolated scope v i)) (joined_inside f isolated scope m s.scopes.here jm) refl in
+      let start = start_again f m.named s.scopes.here n.results h s.bytes back lt (are_bytes h.name fit.0.bytes) fit.0.named fit.0.operands fit.0.results seen_m e in
+      let properties = properties_again h.properties back fit.0.properties mid.no_less in
+      let after : Seen = behind begun tail (length (regions_ids rs)) in
+      let few_types : length (map (value_type p.named) h.operands) ≤ 256 = omega (arith, types_count p.named h.operands, fit.0.operands) in
+      let ended = tail_again f n.results m.named p.named h rs s.next after rest fit.0 (types_fit f p.named s.scopes.here h.operands seen_p) few_types alike fresh.runs.0 (j.fresh n.results (omega arith) lt) refl in
+      let count : s.next + 1 + length (regions_ids rs) ≡ s.next + length (ids (op h rs)) = omega arith in
+      let scopes = finished n.results s.next h.results s.scopes in
+      let y = with_ids f (op h rs) in
+      let kids = region_list (regions_with f rs) in
+      let first = start_of f m.named n.results h in
+      let tail_read = subst (λ (i : ℕ). IsTail s.next first h.properties kids y after (record { bytes = 10 ∷ rest; scopes = scopes; next = i })) count ended in
+      let regions_read = subst (λ (i : ℕ). IsRegions (Row d) i isolated kids begun after) fresh.runs.0 mid.reads in
+      let keep_all : (v : Value) → in_scope scope v ≡ true → naming_of p.named v ≡ naming_of n.named v = λ v i. keep_p v i ∙ keep_m v i in
+      let more_arguments : n.arguments ≤ p.arguments = omega (arith, named.arguments, inner.arguments) in
+      let end = joined_end f scope n p s.scopes h.id h.results j keep_all fit.0.results fit.0.types (λ i t k. own_results h.id 0 rs h.results n i t own.0 k) lt inner.results more_arguments in
+      record {
+        scopes = scopes;
+        reads = op_from last d y s (record { bytes = 10 ∷ rest; scopes = scopes; next = s.next + length (ids (op h rs)) }) (omega (arith, fresh.below)) (first, properties_text h.properties ++ back, h.properties, back, start, properties, (kids, after, regions_read, tail_read));
+        joined = subst (λ (i : ℕ). Joined f (scope ++ results h.id (length h.results) ∷ []) p (finished n.results i h.results s.scopes).here) fresh.runs.0 end;
+        outer = finished_outer n.results s.next h.results s.scopes;
+      }
+
+  -- ---- all operations
+
+  no_level : (t : Operation) → ReadsOp zero t
+  no_level t margin scope n s rest blank fit sees deep fresh j e = absurd (omega (arith, deep))
+
+  -- that the regions of an operation are read, where it has any
+  abbrev ReadsAll : ℕ → Regions → Type 0
+  ReadsAll d no_regions = Unit {0}
+  ReadsAll d (region g rs) = ReadsRegions d g rs
+
+  regions_read : (d : ℕ) (g : Region) (rs : Regions) → ReadsRegion d g → ReadsAll d rs → ReadsRegions d g rs
+  regions_read d g no_regions one others = last_read d g one
+  regions_read d g (region k rs) one others = further_read d g k rs one others
+
+  middle_read : (d : ℕ) (rs : Regions) → ReadsAll d rs → ReadsMiddle d rs
+  middle_read d no_regions all = none_read d
+  middle_read d (region g rs) all = some_read d g rs all
+
+  row_read : (d : ℕ) (t : Operation) (ts : Ops) → ReadsOp d t → ReadsOps d ts → ReadsOps d (next t ts)
+  row_read d (op h rs) ts one others = next_read d h rs ts one others
+
+  module _ (small : last ≤ 1048576) where
+    mutual
+      pub op_again : (d : ℕ) (t : Operation) → ReadsOp d t
+      op_again zero t = no_level t
+      op_again (suc d) (op h rs) = head_read small d h rs (middle_read d rs (regions_again d rs))
+
+      regions_again : (d : ℕ) (rs : Regions) → ReadsAll d rs
+      regions_again d no_regions = tt
+      regions_again d (region g rs) = regions_read d g rs (region_again d g) (regions_again d rs)
+
+      region_again : (d : ℕ) (g : Region) → ReadsRegion d g
+      region_again d empty = empty_read d
+      region_again d (block args os) = block_read d args os (ops_again d os)
+
+      ops_again : (d : ℕ) (os : Ops) → ReadsOps d os
+      ops_again d no_ops = no_ops_read d
+      ops_again d (next t ts) = row_read d t ts (op_again d t) (ops_again d ts)
