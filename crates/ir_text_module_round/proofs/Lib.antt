@@ -9,3 +9,5 @@ pub mod Labels
 pub mod Tails
 pub mod Fresh
 pub mod Ops
+pub mod Visible
+pub mod Whole

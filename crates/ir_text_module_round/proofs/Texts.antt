@@ -210,7 +210,7 @@ mutual
 
 -- ---- behind what is written
 
-nothing_behind : (xs : List ℕ) → xs ++ [] ≡ xs
+pub nothing_behind : (xs : List ℕ) → xs ++ [] ≡ xs
 nothing_behind [] = refl
 nothing_behind (x ∷ xs) = ap (λ (l : List ℕ). x ∷ l) (nothing_behind xs)
 
