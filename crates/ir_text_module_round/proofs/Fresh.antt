@@ -22,6 +22,7 @@ use Rattle.ir_text_read_base.specs.OpGrammar.{IsOps, IsOpWith, IsOp}
 use Rattle.ir_text.specs.Naming.{Named, naming_of, naming_type, value_type, source_of}
 use Rattle.ir_text_round.specs.Written.{FitsType}
 use Rattle.ir_text_round.proofs.Small.{are_bytes}
+use Rattle.ir_text_module_round.specs.Renumbered.{Runs}
 use Rattle.ir_text_module_round.specs.WrittenTrees.{FitsHead}
 use Rattle.ir_text_module_round.proofs.Texts.{Head, Names, results_names, results_then, name_then}
 use Rattle.ir_text_module_round.proofs.Values.{Away, all_front, all_back}
@@ -32,11 +33,6 @@ use Rattle.ir_text_module_round.proofs.Labels.{Plain}
 use Rattle.ir_text_module_round.proofs.Tails.{finished}
 
 -- ---- ids
-
--- f gives the ids next, next + 1, ..
-abbrev pub Runs : (ℕ → ℕ) → ℕ → List ℕ → Type 0
-Runs f next [] = Unit {0}
-Runs f next (x ∷ xs) = (f x ≡ next) × Runs f (next + 1) xs
 
 runs_front : (f : ℕ → ℕ) (next : ℕ) (xs ys : List ℕ) → Runs f next (xs ++ ys) → Runs f next xs
 runs_front f next [] ys h = tt

@@ -38,7 +38,7 @@ use Rattle.ir_text_module_round.proofs.Blocks.{AreBlank, blanks_passed, blanks_d
 use Rattle.ir_text_module_round.proofs.Grown.{Grown, grown_results, grown_op, grown_regions, grown_region, grown_arguments}
 use Rattle.ir_text_module_round.proofs.Labels.{Plain, PlainFirst, label_again}
 use Rattle.ir_text_module_round.proofs.Tails.{tail_lacks, finished, finished_outer, tail_again}
-use Rattle.ir_text_module_round.proofs.Fresh.{Runs, distinct_first, Fresh, fresh_front, fresh_back, in_inside, joined_inside, left_is, all_so, types_fit, same_types, types_count, joined_end, plain_head, op_from, ops_close, ops_one, more_last, more_one}
+use Rattle.ir_text_module_round.proofs.Fresh.{distinct_first, Fresh, fresh_front, fresh_back, in_inside, joined_inside, left_is, all_so, types_fit, same_types, types_count, joined_end, plain_head, op_from, ops_close, ops_one, more_last, more_one}
 
 -- ---- each operation sees its operands
 

@@ -13,11 +13,11 @@ use Rattle.ir_text_read_base.specs.Free.{no_names}
 use Rattle.ir_text_read_base.specs.Seen.{seen_fresh}
 use Rattle.ir_text_read_base.specs.Spelling.{IsSingle}
 use Rattle.ir_text.specs.Printing.{text_of, put_op, blank}
-use Rattle.ir_text_module_round.specs.Renumbered.{with_ids}
+use Rattle.ir_text_module_round.specs.Renumbered.{Runs, with_ids}
 use Rattle.ir_text_module_round.specs.WrittenTrees.{FitsOp}
 use Rattle.ir_text_module_round.proofs.Texts.{Names, names_of, op_then, puts_op, nothing_behind}
 use Rattle.ir_text_module_round.proofs.Joined.{joined_nothing}
-use Rattle.ir_text_module_round.proofs.Fresh.{Runs, Fresh}
+use Rattle.ir_text_module_round.proofs.Fresh.{Fresh}
 use Rattle.ir_text_module_round.proofs.Ops.{op_again}
 use Rattle.ir_text_module_round.proofs.Visible.{sees_op}
 

@@ -1,5 +1,5 @@
 -- Trees with other ids.
-use Rattle.std.specs.Prelude.{ℕ, map, nat_eq}
+use Rattle.std.specs.Prelude.{◌≡◌, ℕ, ◌+◌, List, [], ◌∷◌, map, nat_eq}
 use Rattle.std.specs.List.{position_or_len}
 
 use Rattle.ir_tree.specs.declared.value.Value.{Value}
@@ -35,3 +35,8 @@ abbrev mutual
 -- each operation by its place in pre-order
 abbrev pub renumbered : {N T A : Type 0} → OpOf N T A → OpOf N T A
 renumbered t = with_ids (λ x. position_or_len (nat_eq x) (ids t)) t
+
+-- f gives the ids n, n + 1, .. to these, in their order
+abbrev pub Runs : (ℕ → ℕ) → ℕ → List ℕ → Type 0
+Runs f n [] = Unit {0}
+Runs f n (x ∷ xs) = (f x ≡ n) × Runs f (n + 1) xs
