@@ -1,37 +1,35 @@
 -- The label and the arguments of a block that is printed are read again.
-use Rattle.std.proofs.Common.{◌≡◌, ◌⊎◌, ℕ, zero, suc, ◌+◌, ◌^◌, ◌<◌, ◌≤◌, Bool, true, false, List, [], ◌∷◌, ◌++◌, map, length, Option, Some, None, refl, sym, ap, subst, ◌∙◌, append_assoc, arith, inl, inr, ⊎_elim}
-use Rattle.std.specs.Prelude.{codes, ◌==◌, if◌then◌else◌}
+use Rattle.std.proofs.Common.{◌≡◌, ◌⊎◌, ℕ, zero, suc, ◌+◌, ◌^◌, ◌<◌, ◌≤◌, true, false, List, [], ◌∷◌, ◌++◌, length, None, refl, sym, ap, subst, ◌∙◌, append_assoc, arith, inl, inr}
+use Rattle.std.specs.Prelude.{codes, ◌==◌}
 use Rattle.std.specs.Fmt.{decimal}
 use Rattle.std.specs.List.{AllByRecursion}
 use Rattle.std.proofs.lemmas.Bool.Decides.{nat_tests}
 use Rattle.std.proofs.lemmas.List.{length-append}
 use Rattle.ir_types.specs.Terms.{TypeTerm}
 use Rattle.ir_tree.specs.declared.value.Value.{Value}
-use Rattle.ir_tree.specs.declared.value.Value.TheVariants.{Result, Arg}
-use Rattle.ir_tree.specs.Sites.{Frame, arguments, shows, in_scope}
-use Rattle.ir_tree.specs.Tree.{no_ops, next, block, op_list, ops_of}
+use Rattle.ir_tree.specs.declared.value.Value.TheVariants.{Arg}
+use Rattle.ir_tree.specs.Sites.{Frame, arguments, in_scope}
 use Rattle.ir_text_base.specs.declared.token.Mark.{Mark}
-use Rattle.ir_text_base.specs.declared.token.Mark.TheVariants.{OpenRound, CloseRound, Comma, Colon}
+use Rattle.ir_text_base.specs.declared.token.Mark.TheVariants.{CloseRound, Comma, Colon}
 use Rattle.ir_text_base.specs.Bytes.{is_blank}
-use Rattle.ir_text_base.specs.Tokens.{Lexeme, mark, value, label, next as next_token}
+use Rattle.ir_text_base.specs.Tokens.{mark, value, next as next_token}
 use Rattle.ir_text_base.specs.Scopes.{Scopes, find, bound}
-use Rattle.ir_text_base.proofs.Printed.{mark_token, value_token, label_token, blank_passed}
-use Rattle.ir_text_type_base.specs.Grammars.{Not, IsMore, IsList, IsMark, Token}
+use Rattle.ir_text_base.proofs.Printed.{mark_token, value_token, blank_passed}
+use Rattle.ir_text_type_base.specs.Grammars.{Not, IsMore, IsMark, Token}
 use Rattle.ir_text_type_base.specs.TypeGrammar.{IsType}
-use Rattle.ir_text_read_base.specs.Seen.{BoundTerm, PackTerm, Seen, seen_rest, seen_scopes, IsMarkSeen}
-use Rattle.ir_text_read_base.specs.Made.{region_of}
-use Rattle.ir_text_read_base.specs.OpGrammar.{IsArg, IsLabelArgs, IsHeadFrom, IsHead}
+use Rattle.ir_text_read_base.specs.Seen.{PackTerm, Seen, seen_rest, IsMarkSeen}
+use Rattle.ir_text_read_base.specs.OpGrammar.{IsArg}
 use Rattle.ir_text.specs.Naming.{source_of}
-use Rattle.ir_text.specs.Printing.{comma_at, argument_text}
+use Rattle.ir_text.specs.Printing.{argument_text}
 use Rattle.ir_text.specs.TypeText.{type_text}
 use Rattle.ir_text_round.specs.Written.{FitsType}
 use Rattle.ir_text_round.proofs.Ahead.{space}
 use Rattle.ir_text_round.proofs.Small.{lacks_token}
 use Rattle.ir_text_round.proofs.Types.{type_again, type_ahead}
-use Rattle.ir_text_module_round.proofs.Texts.{Names, Ops, argument_names, arguments_names, arguments_then, label_then}
+use Rattle.ir_text_module_round.proofs.Texts.{Names, argument_names, arguments_names, arguments_then}
 use Rattle.ir_text_module_round.proofs.Words.{argument_word}
 use Rattle.ir_text_module_round.proofs.Values.{source_id}
-use Rattle.ir_text_module_round.proofs.Joined.{Here, Joined, joined_argument, in_last}
+use Rattle.ir_text_module_round.proofs.Joined.{Joined, joined_argument}
 use Rattle.ir_text_module_round.proofs.Front.{argument_name}
 
 -- ---- blanks

@@ -1,21 +1,19 @@
 -- Ids that are given in order, each once, and none of a value in sight; and small steps of the grammar.
-use Rattle.std.proofs.Common.{◌≡◌, ◌⊎◌, ℕ, zero, suc, ◌+◌, ◌*◌, ◌^◌, ◌<◌, ◌≤◌, Bool, true, false, eqb, List, [], ◌∷◌, ◌++◌, map, length, Option, Some, None, refl, sym, ap, subst, ◌∙◌, append_assoc, arith, inl, inr, ⊎_elim}
-use Rattle.std.specs.Prelude.{◌==◌, if◌then◌else◌}
+use Rattle.std.proofs.Common.{◌≡◌, ℕ, zero, suc, ◌+◌, ◌*◌, ◌^◌, ◌<◌, ◌≤◌, Bool, true, false, eqb, List, [], ◌∷◌, ◌++◌, map, length, refl, ap, subst, ◌∙◌, arith, inl, inr}
+use Rattle.std.specs.Prelude.{if◌then◌else◌}
 use Rattle.std.specs.Fmt.{decimal}
 use Rattle.std.specs.List.{AllByRecursion, IsDistinct}
 use Rattle.std.proofs.lemmas.List.{length-append}
 use Rattle.ir_types.specs.Terms.{TypeTerm}
 use Rattle.ir_tree.specs.declared.value.Value.{Value}
 use Rattle.ir_tree.specs.Sites.{Frame, results, in_scope}
-use Rattle.ir_tree.specs.Tree.{op}
 use Rattle.ir_tree.specs.Meaning.{Operation}
-use Rattle.ir_text_base.specs.declared.token.Mark.{Mark}
 use Rattle.ir_text_base.specs.declared.token.Mark.TheVariants.{CloseCurly, CloseRound, Comma}
-use Rattle.ir_text_base.specs.Tokens.{Lexeme, mark, value, string, next as next_token}
+use Rattle.ir_text_base.specs.Tokens.{value, string}
 use Rattle.ir_text_base.specs.Printing.{raw_text}
 use Rattle.ir_text_base.specs.Scopes.{Scopes, left, left_to}
 use Rattle.ir_text_base.proofs.Printed.{string_token}
-use Rattle.ir_text_type_base.specs.Grammars.{Grammar, Not, IsMore, IsMark, Token}
+use Rattle.ir_text_type_base.specs.Grammars.{Grammar, Not, IsMore}
 use Rattle.ir_text_read_base.specs.Free.{no_names}
 use Rattle.ir_text_read_base.specs.Seen.{PackTerm, Seen, IsMarkSeen}
 use Rattle.ir_text_read_base.specs.OpGrammar.{IsOps, IsOpWith, IsOp}
@@ -25,7 +23,7 @@ use Rattle.ir_text_round.proofs.Small.{are_bytes}
 use Rattle.ir_text_module_round.specs.Renumbered.{Runs}
 use Rattle.ir_text_module_round.specs.WrittenTrees.{FitsHead}
 use Rattle.ir_text_module_round.proofs.Texts.{Head, Names, results_names, results_then, name_then}
-use Rattle.ir_text_module_round.proofs.Values.{Away, all_front, all_back}
+use Rattle.ir_text_module_round.proofs.Values.{Away, all_front}
 use Rattle.ir_text_module_round.proofs.Grown.{Grown}
 use Rattle.ir_text_module_round.proofs.Joined.{Here, IsSeen, Joined, OwnNames, joined_nothing, joined_no_results, joined_results}
 use Rattle.ir_text_module_round.proofs.Front.{result_read}

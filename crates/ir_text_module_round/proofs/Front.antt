@@ -1,43 +1,39 @@
 -- What is printed of an operation in front of its regions is read again.
-use Rattle.std.proofs.Common.{◌≡◌, ℕ, zero, suc, ◌+◌, ◌^◌, ◌<◌, ◌≤◌, Bool, true, false, List, [], ◌∷◌, ◌++◌, map, length, Option, Some, None, refl, sym, ap, subst, ◌∙◌, append_assoc, arith, inl, inr}
-use Rattle.std.specs.Prelude.{codes, ◌==◌, not, if◌then◌else◌, slice_get}
+use Rattle.std.proofs.Common.{◌≡◌, ℕ, zero, suc, ◌^◌, ◌<◌, ◌≤◌, Bool, true, false, List, [], ◌∷◌, ◌++◌, map, length, Option, Some, None, refl, sym, ap, subst, ◌∙◌, append_assoc, arith, inl, inr}
+use Rattle.std.specs.Prelude.{codes, ◌==◌, if◌then◌else◌}
 use Rattle.std.specs.Char.{is_ascii_digit}
 use Rattle.std.specs.Fmt.{decimal}
-use Rattle.std.specs.List.{AllByRecursion, prefix_len}
+use Rattle.std.specs.List.{AllByRecursion}
 use Rattle.std.proofs.lemmas.Bool.{eqb-true}
 use Rattle.std.proofs.lemmas.Bool.Decides.{nat_tests}
 use Rattle.std.proofs.lemmas.Option.{some_pair_parts}
 use Rattle.ir_types.specs.Terms.{TypeTerm}
 use Rattle.ir_tree.specs.declared.value.Value.{Value}
-use Rattle.ir_text_base.specs.declared.token.Mark.{Mark}
 use Rattle.ir_text_base.specs.declared.token.Mark.TheVariants.{OpenRound, CloseRound, Comma, Colon, Equal}
 use Rattle.ir_text_base.specs.Bytes.{is_suffix}
-use Rattle.ir_text_base.specs.Tokens.{Lexeme, mark, value, hash, string, integer, next, digits_len, suffix_len}
-use Rattle.ir_text_base.specs.Strings.{string_bytes}
-use Rattle.ir_text_base.specs.Numbers.{integer_of}
-use Rattle.ir_text_base.specs.Printing.{AreBytes, Stops, is_suffix_id, raw_text, string_text}
-use Rattle.ir_text_base.specs.Scopes.{Binding, or_else, find}
-use Rattle.ir_text_base.proofs.Escapes.{either, value_again}
+use Rattle.ir_text_base.specs.Tokens.{Lexeme, mark, value, hash, string, next, digits_len, suffix_len}
+use Rattle.ir_text_base.specs.Printing.{AreBytes, Stops, is_suffix_id, raw_text}
+use Rattle.ir_text_base.proofs.Escapes.{value_again}
 use Rattle.ir_text_base.proofs.Decimals.{decimal_number, integer_again, eqb_self, first_passes}
 use Rattle.ir_text_base.proofs.Printed.{mark_token, value_token, hash_token, string_token, decimal_token, decimal_name}
 use Rattle.ir_text_type_base.specs.Grammars.{Not, IsMore, IsList, IsMark, Token}
 use Rattle.ir_text_read_base.specs.Free.{no_names, seen_as}
 use Rattle.ir_text_read_base.specs.Packs.{Counted, counts}
-use Rattle.ir_text_read_base.specs.Seen.{BoundTerm, PackTerm}
-use Rattle.ir_text_read_base.specs.OpGrammar.{IsName, IsCount, IsResult, IsNames, IsResults, IsOpName, IsPlace, IsUse, IsStart, StartTerm}
+use Rattle.ir_text_read_base.specs.Seen.{BoundTerm}
+use Rattle.ir_text_read_base.specs.OpGrammar.{IsCount, IsResult, IsResults, IsOpName, IsPlace, IsUse, IsStart, StartTerm}
 use Rattle.ir_text.specs.declared.naming.ValueName.{ValueName}
 use Rattle.ir_text.specs.declared.naming.ValueName.TheVariants.{Only, Part, Argument}
-use Rattle.ir_text.specs.Naming.{Named, Naming, naming_of, naming_text, naming_type, name_text, value_text, value_type}
+use Rattle.ir_text.specs.Naming.{Named, name_text, value_text, value_type}
 use Rattle.ir_text.specs.Printing.{properties_text, results_text}
 use Rattle.ir_text.specs.Rows.{parted}
 use Rattle.ir_text.specs.TypeText.{in_round}
-use Rattle.ir_text_round.proofs.Ahead.{Ahead, more_ahead, space, space_token, space_not}
+use Rattle.ir_text_round.proofs.Ahead.{Ahead, more_ahead, space, space_token}
 use Rattle.ir_text_round.proofs.Small.{lacks_token}
 use Rattle.ir_text_round.proofs.Words.{run_within, all_digits, digit_word}
 use Rattle.ir_text_module_round.specs.Renumbered.{value_with}
-use Rattle.ir_text_module_round.proofs.Texts.{Head, Names, results_names, results_then, name_then, head_then}
+use Rattle.ir_text_module_round.proofs.Texts.{Head, results_then, name_then}
 use Rattle.ir_text_module_round.proofs.Words.{argument_word}
-use Rattle.ir_text_module_round.proofs.Joined.{Here, IsSmall, IsSeen, IsRead, word_of, place_of, term_of}
+use Rattle.ir_text_module_round.proofs.Joined.{Here, IsSmall, IsSeen, word_of, place_of, term_of}
 
 -- ---- names
 

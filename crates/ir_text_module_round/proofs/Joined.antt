@@ -1,10 +1,9 @@
 -- The names that a printer gave and those that a reader sees: each value in sight is seen by its name, and the
 -- next names are free.
-use Rattle.std.proofs.Common.{◌≡◌, ◌⊎◌, ℕ, zero, suc, ◌+◌, ◌^◌, ◌<◌, ◌≤◌, Bool, true, false, List, [], ◌∷◌, ◌++◌, length, Option, Some, None, refl, sym, ap, subst, ◌∙◌, arith, inl, inr, ⊎_elim}
-use Rattle.std.specs.Prelude.{◌==◌, ◌&&◌, ◌||◌, nat_lt, cond, slice_get}
+use Rattle.std.proofs.Common.{◌≡◌, ◌⊎◌, ℕ, zero, suc, ◌+◌, ◌^◌, ◌<◌, ◌≤◌, Bool, true, false, List, [], ◌∷◌, ◌++◌, length, Some, None, refl, sym, ap, subst, ◌∙◌, arith, inl, inr, ⊎_elim}
+use Rattle.std.specs.Prelude.{◌==◌, ◌&&◌, nat_lt, slice_get}
 use Rattle.std.specs.Fmt.{decimal}
-use Rattle.std.specs.List.{AllByRecursion, list_any}
-use Rattle.std.specs.Str.{bytes_eq}
+use Rattle.std.specs.List.{AllByRecursion}
 use Rattle.std.proofs.lemmas.Bool.{eqb-true}
 use Rattle.std.proofs.lemmas.Bool.Decides.{nat_tests}
 use Rattle.ir_types.specs.Terms.{TypeTerm}
@@ -13,7 +12,6 @@ use Rattle.ir_tree.specs.declared.value.Value.TheVariants.{Result, Arg}
 use Rattle.ir_tree.specs.Sites.{Frame, results, arguments, shows, in_scope}
 use Rattle.ir_text_base.specs.Scopes.{Binding, find}
 use Rattle.ir_text_base.proofs.Escapes.{either}
-use Rattle.ir_text_base.proofs.Decimals.{eqb_self}
 use Rattle.ir_text_read_base.specs.Seen.{BoundTerm, PackTerm}
 use Rattle.ir_text_read_base.specs.OpGrammar.{result_terms}
 use Rattle.ir_text.specs.declared.naming.ValueName.{ValueName}

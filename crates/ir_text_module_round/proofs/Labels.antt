@@ -1,5 +1,5 @@
 -- What stands in front of the operations of a block is read again.
-use Rattle.std.proofs.Common.{◌≡◌, ◌⊎◌, ℕ, zero, suc, ◌+◌, ◌^◌, ◌<◌, ◌≤◌, Bool, true, false, List, [], ◌∷◌, ◌++◌, map, length, Option, Some, None, refl, sym, ap, subst, ◌∙◌, append_assoc, arith, inl, inr, ⊎_elim}
+use Rattle.std.proofs.Common.{◌≡◌, ℕ, ◌+◌, ◌^◌, ◌<◌, ◌≤◌, true, false, List, [], ◌∷◌, ◌++◌, length, Option, Some, None, refl, ap, subst, ◌∙◌, append_assoc, arith, inl, inr, ⊎_elim}
 use Rattle.std.specs.Prelude.{codes, ◌==◌, ◌&&◌, nat_lt}
 use Rattle.std.specs.Fmt.{decimal}
 use Rattle.std.specs.List.{AllByRecursion}
@@ -9,28 +9,26 @@ use Rattle.ir_tree.specs.declared.value.Value.{Value}
 use Rattle.ir_tree.specs.declared.value.Value.TheVariants.{Result, Arg}
 use Rattle.ir_tree.specs.Sites.{Frame, arguments, shows, in_scope}
 use Rattle.ir_tree.specs.Tree.{no_ops, next, block, op_list, ops_of}
-use Rattle.ir_tree.specs.Meaning.{Operation}
 use Rattle.ir_text_base.specs.declared.token.Mark.{Mark}
 use Rattle.ir_text_base.specs.declared.token.Mark.TheVariants.{OpenRound, CloseRound, Colon}
 use Rattle.ir_text_base.specs.Tokens.{Lexeme, mark, value, label, next as next_token}
-use Rattle.ir_text_base.specs.Scopes.{Scopes, find, bound}
 use Rattle.ir_text_base.proofs.Printed.{mark_token, value_token, label_token, blank_passed}
-use Rattle.ir_text_type_base.specs.Grammars.{Not, IsMore, IsList, IsMark, Token}
-use Rattle.ir_text_read_base.specs.Seen.{BoundTerm, PackTerm, Seen, seen_rest, seen_scopes, IsMarkSeen}
+use Rattle.ir_text_type_base.specs.Grammars.{Not, IsList, IsMark, Token}
+use Rattle.ir_text_read_base.specs.Seen.{Seen, seen_rest}
 use Rattle.ir_text_read_base.specs.Made.{region_of}
-use Rattle.ir_text_read_base.specs.OpGrammar.{IsArg, IsLabelArgs, IsHeadFrom, IsHead}
+use Rattle.ir_text_read_base.specs.OpGrammar.{IsHeadFrom, IsHead}
 use Rattle.ir_text.specs.Naming.{source_of}
 use Rattle.ir_text.specs.Printing.{argument_text}
 use Rattle.ir_text.specs.TypeText.{type_text}
 use Rattle.ir_text_round.specs.Written.{FitsType}
 use Rattle.ir_text_round.proofs.Small.{both, lacks_token}
 use Rattle.ir_text_module_round.specs.Renumbered.{ops_with, with_ids}
-use Rattle.ir_text_module_round.proofs.Texts.{Names, Ops, argument_names, arguments_names, arguments_then, label_then}
+use Rattle.ir_text_module_round.proofs.Texts.{Names, Ops, arguments_names, arguments_then, label_then}
 use Rattle.ir_text_module_round.proofs.Words.{argument_word}
 use Rattle.ir_text_module_round.proofs.Values.{source_id}
-use Rattle.ir_text_module_round.proofs.Joined.{Here, Joined, joined_later, in_last}
+use Rattle.ir_text_module_round.proofs.Joined.{Here, Joined, in_last}
 use Rattle.ir_text_module_round.proofs.Front.{argument_name}
-use Rattle.ir_text_module_round.proofs.Blocks.{AreBlank, blanks_passed, mark_seen, not_seen, ArgumentsRead, arguments_more}
+use Rattle.ir_text_module_round.proofs.Blocks.{AreBlank, blanks_passed, mark_seen, not_seen, arguments_more}
 
 -- a token with which an operation may begin: no label and no mark
 pub record Plain (bytes : List ℕ) : Type 0 where

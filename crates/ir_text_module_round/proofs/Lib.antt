@@ -11,3 +11,4 @@ pub mod Fresh
 pub mod Ops
 pub mod Visible
 pub mod Whole
+pub mod Numbered

@@ -1,6 +1,6 @@
 -- Operations that are printed are read again, with their new ids.
-use Rattle.std.proofs.Common.{◌≡◌, ◌⊎◌, ℕ, zero, suc, ◌+◌, ◌*◌, ◌^◌, ◌<◌, ◌≤◌, Bool, true, false, eqb, List, [], ◌∷◌, ◌++◌, map, length, Option, Some, None, refl, sym, ap, subst, ◌∙◌, append_assoc, arith, inl, inr, ⊎_elim}
-use Rattle.std.specs.Prelude.{codes, ◌==◌, ◌&&◌, nat_lt, if◌then◌else◌}
+use Rattle.std.proofs.Common.{◌≡◌, ℕ, zero, suc, ◌+◌, ◌*◌, ◌^◌, ◌<◌, ◌≤◌, Bool, true, false, List, [], ◌∷◌, ◌++◌, map, length, None, refl, sym, ap, subst, ◌∙◌, append_assoc, arith, inl, inr, ⊎_elim}
+use Rattle.std.specs.Prelude.{◌==◌, ◌&&◌, nat_lt, if◌then◌else◌}
 use Rattle.std.specs.List.{AllByRecursion}
 use Rattle.std.proofs.lemmas.Bool.{eqb-true}
 use Rattle.std.proofs.lemmas.Bool.Decides.{nat_tests}
@@ -14,15 +14,14 @@ use Rattle.ir_tree.specs.Limits.{depth, regions_depth, region_depth, ops_depth}
 use Rattle.ir_tree.specs.Meaning.{Operation}
 use Rattle.ir_tree.specs.Sites.{Frame, results, arguments, shows, in_scope, inside, results_of}
 use Rattle.ir_tree.specs.Tree.{op, no_regions, region, region_count, region_list, empty, block, no_ops, next, op_list}
-use Rattle.ir_text_base.specs.declared.token.Mark.{Mark}
-use Rattle.ir_text_base.specs.declared.token.Mark.TheVariants.{OpenRound, CloseRound, OpenCurly, CloseCurly, Comma, Less, Colon}
+use Rattle.ir_text_base.specs.declared.token.Mark.TheVariants.{OpenRound, CloseRound, OpenCurly, CloseCurly, Comma, Less}
 use Rattle.ir_text_base.specs.Tokens.{mark, next as next_token}
-use Rattle.ir_text_base.specs.Scopes.{Scopes, find, entered, left}
+use Rattle.ir_text_base.specs.Scopes.{Scopes, left}
 use Rattle.ir_text_base.proofs.Printed.{mark_token, blank_passed}
 use Rattle.ir_text_type_base.specs.Grammars.{Grammar, Not, IsMore, IsMark, Token}
 use Rattle.ir_text_read_base.specs.Free.{no_names}
 use Rattle.ir_text_read_base.specs.Seen.{PackTerm, Seen, seen_rest, seen_inside, seen_outside, IsMarkSeen}
-use Rattle.ir_text_read_base.specs.OpGrammar.{IsHead, IsOps, IsRegion, IsRegions, IsOp, IsOpWith, IsTail, RegionTerm}
+use Rattle.ir_text_read_base.specs.OpGrammar.{IsHead, IsOps, IsRegion, IsRegions, IsOp, IsTail, RegionTerm}
 use Rattle.ir_text.specs.Naming.{Named, naming_of, value_type, source_of}
 use Rattle.ir_text.specs.Printing.{deeper, opening, closing, properties_text}
 use Rattle.ir_text_round.proofs.Ahead.{space_token}
@@ -30,12 +29,12 @@ use Rattle.ir_text_round.proofs.OpEntries.{properties_again}
 use Rattle.ir_text_round.proofs.Small.{both, lacks_token, are_bytes}
 use Rattle.ir_text_module_round.specs.Renumbered.{with_ids, regions_with, region_with, ops_with}
 use Rattle.ir_text_module_round.specs.WrittenTrees.{FitsOp, FitsRegions, FitsRegion, FitsOps}
-use Rattle.ir_text_module_round.proofs.Texts.{Head, Names, Regions, Region, Ops, results_names, arguments_names, op_names, regions_names, region_names, ops_names, tail_then, label_then, head_then, op_then, regions_then, region_then, ops_then}
+use Rattle.ir_text_module_round.proofs.Texts.{Head, Names, Regions, Region, Ops, results_names, arguments_names, op_names, regions_names, region_names, tail_then, label_then, op_then, regions_then, region_then, ops_then}
 use Rattle.ir_text_module_round.proofs.Values.{source_id, Away, all_front, all_back, argument_away, results_names_keep, regions_keep, region_keeps, own_results}
-use Rattle.ir_text_module_round.proofs.Joined.{Here, IsSeen, Joined, joined_later, in_last, result_shown}
+use Rattle.ir_text_module_round.proofs.Joined.{IsSeen, Joined, joined_later, in_last, result_shown}
 use Rattle.ir_text_module_round.proofs.Front.{start_of, start_again}
 use Rattle.ir_text_module_round.proofs.Blocks.{AreBlank, blanks_passed, blanks_deeper, mark_seen, not_seen}
-use Rattle.ir_text_module_round.proofs.Grown.{Grown, grown_results, grown_op, grown_regions, grown_region, grown_arguments}
+use Rattle.ir_text_module_round.proofs.Grown.{grown_results, grown_op, grown_regions, grown_region, grown_arguments}
 use Rattle.ir_text_module_round.proofs.Labels.{Plain, PlainFirst, label_again}
 use Rattle.ir_text_module_round.proofs.Tails.{tail_lacks, finished, finished_outer, tail_again}
 use Rattle.ir_text_module_round.proofs.Fresh.{distinct_first, Fresh, fresh_front, fresh_back, in_inside, joined_inside, left_is, all_so, types_fit, same_types, types_count, joined_end, plain_head, op_from, ops_close, ops_one, more_last, more_one}

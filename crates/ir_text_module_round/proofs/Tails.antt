@@ -1,11 +1,10 @@
 -- What is printed of an operation behind its regions is read again.
-use Rattle.std.proofs.Common.{◌≡◌, ℕ, zero, suc, ◌+◌, ◌^◌, ◌<◌, ◌≤◌, Bool, true, false, List, [], ◌∷◌, ◌++◌, map, length, take, Option, Some, None, refl, sym, ap, subst, ◌∙◌, append_assoc, arith, inl, inr}
+use Rattle.std.proofs.Common.{◌≡◌, ℕ, ◌+◌, ◌≤◌, true, List, [], ◌∷◌, ◌++◌, map, length, Some, None, refl, sym, ap, ◌∙◌, arith}
 use Rattle.std.specs.Prelude.{codes}
 use Rattle.std.specs.Fmt.{decimal}
 use Rattle.std.specs.List.{AllByRecursion}
 use Rattle.std.proofs.Math.Seq.{take-length}
-use Rattle.ir_types.specs.Terms.{TypeTerm, AttrTerm, Function}
-use Rattle.ir_tree.specs.declared.value.Value.{Value}
+use Rattle.ir_types.specs.Terms.{TypeTerm, Function}
 use Rattle.ir_tree.specs.Tree.{op, regions_of, region_list, no_regions, region}
 use Rattle.ir_tree.specs.Meaning.{key_before}
 use Rattle.ir_text_base.specs.declared.token.Mark.{Mark}
@@ -17,21 +16,20 @@ use Rattle.ir_text_type_base.specs.Grammars.{Not, IsMark, Token}
 use Rattle.ir_text_type_base.specs.TypeGrammar.{IsFunctionType}
 use Rattle.ir_text_attr_base.specs.AttrGrammar.{EntryTerm}
 use Rattle.ir_text_read_base.specs.Made.{made}
-use Rattle.ir_text_read_base.specs.Seen.{BoundTerm, PackTerm, Seen, seen_rest, seen_scopes, IsMarkSeen}
-use Rattle.ir_text_read_base.specs.OpGrammar.{is_property, result_terms, IsBoundResults, IsFinished, IsTail, RegionTerm}
+use Rattle.ir_text_read_base.specs.Seen.{BoundTerm, PackTerm, Seen, seen_rest}
+use Rattle.ir_text_read_base.specs.OpGrammar.{is_property, result_terms, IsFinished, IsTail}
 use Rattle.ir_text.specs.AttrText.{entry_texts}
 use Rattle.ir_text.specs.Naming.{Named, value_type}
 use Rattle.ir_text.specs.Printing.{attributes_text, types_of, entries_of}
 use Rattle.ir_text.specs.Rows.{parted}
 use Rattle.ir_text.specs.TypeText.{type_text}
 use Rattle.ir_text_round.specs.Written.{FitsType}
-use Rattle.ir_text_round.proofs.Ahead.{space_token, space_not}
+use Rattle.ir_text_round.proofs.Ahead.{space_token}
 use Rattle.ir_text_round.proofs.OpEntries.{attributes_again}
 use Rattle.ir_text_round.proofs.Small.{lacks_token}
 use Rattle.ir_text_round.proofs.Sorted.{properties_stay, attributes_stay}
-use Rattle.ir_text_round.proofs.Ahead.{space}
 use Rattle.ir_text_round.proofs.Types.{function_type_again}
-use Rattle.ir_text_module_round.specs.Renumbered.{head_with, regions_with, with_ids}
+use Rattle.ir_text_module_round.specs.Renumbered.{regions_with, with_ids}
 use Rattle.ir_text_module_round.specs.WrittenTrees.{FitsHead}
 use Rattle.ir_text_module_round.proofs.Texts.{Head, Regions, tail_then}
 use Rattle.ir_text_module_round.proofs.Front.{start_of, bound_of, bound_types, bound_values, result_words}

@@ -1,18 +1,18 @@
 -- Values that are named stay named, and by which names.
-use Rattle.std.proofs.Common.{◌≡◌, ℕ, zero, suc, ◌+◌, ◌*◌, ◌<◌, ◌≤◌, Bool, true, false, List, [], ◌∷◌, ◌++◌, length, Option, Some, None, refl, sym, ap, subst, ◌∙◌, arith, inl, inr}
+use Rattle.std.proofs.Common.{◌≡◌, ℕ, zero, suc, ◌+◌, ◌<◌, ◌≤◌, Bool, true, false, List, [], ◌∷◌, ◌++◌, length, Option, Some, refl, ap, subst, ◌∙◌, arith, inl, inr}
 use Rattle.std.specs.Prelude.{◌==◌, ◌&&◌, cond, slice_get}
-use Rattle.std.specs.List.{AllByRecursion, IsDistinct}
+use Rattle.std.specs.List.{AllByRecursion}
 use Rattle.std.specs.Map.{lookup}
 use Rattle.std.proofs.lemmas.Bool.{eqb-true}
 use Rattle.std.proofs.lemmas.Bool.Decides.{nat_tests}
 use Rattle.indexmap.specs.IndexMap.{insert_entry}
-use Rattle.ir_types.specs.Terms.{TypeTerm, AttrTerm}
+use Rattle.ir_types.specs.Terms.{TypeTerm}
 use Rattle.ir_tree.specs.Tree.{op, no_regions, region, empty, block, no_ops, next}
 use Rattle.ir_tree.specs.Ids.{ids, regions_ids, region_ids, ops_ids}
 use Rattle.ir_tree.specs.Meaning.{Operation}
 use Rattle.ir_text.specs.declared.naming.Source.{Source}
 use Rattle.ir_text.specs.declared.naming.Source.TheVariants.{Result, Argument}
-use Rattle.ir_text.specs.Naming.{Named, Naming, same_source, result_name, name_result, name_results, name_argument}
+use Rattle.ir_text.specs.Naming.{Named, Naming, same_source, result_name, name_result, name_results}
 use Rattle.ir_text_base.proofs.Escapes.{either}
 use Rattle.ir_text_base.proofs.Decimals.{eqb_self}
 use Rattle.ir_text_round.proofs.Small.{both}

@@ -1,5 +1,5 @@
 -- The whole text of an operation is read again.
-use Rattle.std.proofs.Common.{◌≡◌, ℕ, ◌+◌, ◌*◌, ◌^◌, ◌<◌, ◌≤◌, true, eqb, List, [], ◌∷◌, ◌++◌, length, refl, sym, ap, subst, ◌∙◌, arith}
+use Rattle.std.proofs.Common.{◌≡◌, ℕ, ◌+◌, ◌≤◌, true, eqb, [], ◌∷◌, length, refl, sym, ap, ◌∙◌, arith}
 use Rattle.std.specs.List.{IsDistinct, list_all}
 use Rattle.ir_types.specs.Words.{is_isolated}
 use Rattle.ir_tree.specs.Ids.{ids}
@@ -12,10 +12,10 @@ use Rattle.ir_text_base.specs.Tokens.{next as next_token}
 use Rattle.ir_text_read_base.specs.Free.{no_names}
 use Rattle.ir_text_read_base.specs.Seen.{seen_fresh}
 use Rattle.ir_text_read_base.specs.Spelling.{IsSingle}
-use Rattle.ir_text.specs.Printing.{text_of, put_op, blank}
+use Rattle.ir_text.specs.Printing.{text_of, blank}
 use Rattle.ir_text_module_round.specs.Renumbered.{Runs, with_ids}
 use Rattle.ir_text_module_round.specs.WrittenTrees.{FitsOp}
-use Rattle.ir_text_module_round.proofs.Texts.{Names, names_of, op_then, puts_op, nothing_behind}
+use Rattle.ir_text_module_round.proofs.Texts.{names_of, op_then, puts_op, nothing_behind}
 use Rattle.ir_text_module_round.proofs.Joined.{joined_nothing}
 use Rattle.ir_text_module_round.proofs.Fresh.{Fresh}
 use Rattle.ir_text_module_round.proofs.Ops.{op_again}
