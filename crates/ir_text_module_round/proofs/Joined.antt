@@ -226,9 +226,9 @@ module _ (f : ℕ → ℕ) (scope : List Frame) (n : Names) (here : Here) (x r k
     seen = λ v e. ⊎_elim
         (λ (i : in_scope scope v ≡ true). old v (in_first scope (arguments x r k) v i) (elsewhere v x r k (away v i)))
         (λ (i : shows v (arguments x r (k + 1)) ≡ true). ⊎_elim
-            (λ (l : shows v (arguments x r k) ≡ true). old v (in_it v l) (earlier v x r k l))
-            (λ (l : v ≡ Arg x r k). subst (IsSeen f named all) (sym l) new)
-            (argument_shown v x r k i))
+        (λ (l : shows v (arguments x r k) ≡ true). old v (in_it v l) (earlier v x r k l))
+        (λ (l : v ≡ Arg x r k). subst (IsSeen f named all) (sym l) new)
+        (argument_shown v x r k i))
         (in_last scope (arguments x r (k + 1)) v e);
     fresh = λ i le lt. find_old (decimal i) word here pack (argument_no_decimal n.arguments i lt) ∙ j.fresh i le lt;
     fresh_arguments = λ i le lt. find_old (argument_word i) word here pack (arguments_apart n.arguments i small lt (λ e. omega (arith, le, e))) ∙ j.fresh_arguments i (omega (arith, le)) lt;

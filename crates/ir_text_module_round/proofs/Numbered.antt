@@ -9,5 +9,6 @@ runs_from f n (x ∷ xs) e = (first, runs_from f (n + 1) xs others)
   where
     first : f x ≡ n
     first = cc
+
     others : map f xs ≡ range_with_len (n + 1) (length xs)
     others = cc

@@ -134,9 +134,9 @@ module _ (f : ℕ → ℕ) (last : ℕ) where
       let count = length-append (ids t) (ops_ids ts) in
       let own = distinct_first h.id (regions_ids rs ++ ops_ids ts) fresh.distinct in
       let away : (v : Value) → in_scope (scope ++ results_of t ∷ []) v ≡ true → Away (source_of v) (ops_ids ts) = λ v i. ⊎_elim
-          (λ (k : in_scope scope v ≡ true). all_back _ (ids t) (ops_ids ts) (fresh.away v k))
-          (λ (k : shows v (results_of t) ≡ true). result_away v h.id (length h.results) (ops_ids ts) (all_back _ (regions_ids rs) (ops_ids ts) own.0) k)
-          (in_last scope (results_of t) v i) in
+      (λ (k : in_scope scope v ≡ true). all_back _ (ids t) (ops_ids ts) (fresh.away v k))
+      (λ (k : shows v (results_of t) ≡ true). result_away v h.id (length h.results) (ops_ids ts) (all_back _ (regions_ids rs) (ops_ids ts) own.0) k)
+      (in_last scope (results_of t) v i) in
       let one = first margin scope n s behind blank fit.0 sees.0 (omega (arith, deep)) (fresh_front f last scope n s.next 0 0 (ids t) (ops_ids ts) fresh (omega arith)) j here in
       let mid : Seen = record { bytes = 10 ∷ behind; scopes = one.scopes; next = s.next + length (ids t) } in
       let fresh_more = fresh_back f last scope (scope ++ results_of t ∷ []) n m s.next 0 0 (4096 * length (ids t)) (ids t) (ops_ids ts) fresh (grown_op t n fit.0) (omega arith) away in
@@ -150,7 +150,7 @@ module _ (f : ℕ → ℕ) (last : ℕ) where
       record {
         scopes = more.scopes;
         reads = subst (λ l. IsOps CloseCurly (One d) (suc room) front l s (record { bytes = rest; scopes = more.scopes; next = s.next + length (ops_ids (next t ts)) })) all
-          (subst (λ (i : ℕ). IsOps CloseCurly (One d) (suc room) front ((front ++ with_ids f t ∷ []) ++ op_list (ops_with f ts)) s (record { bytes = rest; scopes = more.scopes; next = i })) sum whole);
+            (subst (λ (i : ℕ). IsOps CloseCurly (One d) (suc room) front ((front ++ with_ids f t ∷ []) ++ op_list (ops_with f ts)) s (record { bytes = rest; scopes = more.scopes; next = i })) sum whole);
         outer = more.outer ∙ one.outer;
       }
 
@@ -203,8 +203,8 @@ module _ (f : ℕ → ℕ) (last : ℕ) where
       let ended : Seen = record { bytes = rest; scopes = row.scopes; next = label.now.next + length (ops_ids os) } in
       let scopes_back = left_is row.scopes s.scopes (row.outer ∙ label.outer) in
       let state : behind s rest (length (ops_ids os)) ≡ seen_outside ended =
-          ap (λ (l : Scopes PackTerm). record { bytes = rest; scopes = l; next = s.next + length (ops_ids os) }) (sym scopes_back)
-          ∙ ap (λ (i : ℕ). record { bytes = rest; scopes = left row.scopes; next = i + length (ops_ids os) }) (sym label.same) in
+      ap (λ (l : Scopes PackTerm). record { bytes = rest; scopes = l; next = s.next + length (ops_ids os) }) (sym scopes_back)
+      ∙ ap (λ (i : ℕ). record { bytes = rest; scopes = left row.scopes; next = i + length (ops_ids os) }) (sym label.same) in
       (opened, mark_seen OpenCurly s text (e ∙ mark_token OpenCurly text tt), (label.front, label.now, subst (λ (i : ℕ). IsHead (f x) i label.front within label.now) (sym place) label.reads, (op_list (ops_with f os), ended, row.reads, (sym label.made, state))))
 
   -- that regions are read up to the closing parenthesis, as a premise

@@ -71,9 +71,9 @@ results_found x only n k (u ∷ us) named zero t e =
     let same : u ≡ t = cc in
     let place : k + 0 ≡ k = omega arith in
     rw place (
-      results_keep (Result x k) x only n (k + 1) us (name_result x only n k u named) (λ i le. later_apart x k i (omega (arith, le)))
-      ∙ found_new named (Result x k) (record { name = result_name only n k; type = u })
-      ∙ ap (λ y. Some (record { name = result_name only n k; type = y })) same)
+    results_keep (Result x k) x only n (k + 1) us (name_result x only n k u named) (λ i le. later_apart x k i (omega (arith, le)))
+    ∙ found_new named (Result x k) (record { name = result_name only n k; type = u })
+    ∙ ap (λ y. Some (record { name = result_name only n k; type = y })) same)
 results_found x only n k (u ∷ us) named (suc i) t e =
     let place : k + suc i ≡ k + 1 + i = omega arith in
     rw place (results_found x only n (k + 1) us (name_result x only n k u named) i t e)
