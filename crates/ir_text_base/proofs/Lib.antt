@@ -5,3 +5,4 @@ pub mod Decimals
 pub mod Printed
 pub mod Fronts
 pub mod Wholes
+pub mod Marks

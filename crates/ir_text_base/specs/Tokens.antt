@@ -167,6 +167,32 @@ first_token (b ∷ bs) = token_at b bs
 unfoldable pub next : List ℕ → Option (Lexeme × List ℕ)
 next bytes = first_token (skip bytes)
 
+-- whether a token that is no punctuation begins with the byte, where one does
+abbrev pub begins_other : ℕ → Bool
+begins_other b = is_ascii_digit b || is_letter b || (b == 34 || b == 37 || b == 94 || b == 35 || b == 33 || b == 64)
+
+-- the mark that a token is, with what follows it
+abbrev pub mark_with : Lexeme → List ℕ → Option (Mark × List ℕ)
+mark_with (mark m) rest = Some (m, rest)
+mark_with (integer s) rest = None
+mark_with (float s) rest = None
+mark_with (string s) rest = None
+mark_with (bare s) rest = None
+mark_with (value s) rest = None
+mark_with (label s) rest = None
+mark_with (hash s) rest = None
+mark_with (bang s) rest = None
+mark_with (symbol s) rest = None
+mark_with (quoted s) rest = None
+
+abbrev pub only_mark : Option (Lexeme × List ℕ) → Option (Mark × List ℕ)
+only_mark None = None
+only_mark (Some t) = mark_with t.0 t.1
+
+-- the mark that is the next token and what follows it, or nothing where another token stands or none
+unfoldable pub next_mark : List ℕ → Option (Mark × List ℕ)
+next_mark bytes = only_mark (next bytes)
+
 -- ---- what a function returned
 
 abbrev pub lexeme_of : Token → Lexeme

@@ -1,8 +1,8 @@
 //! Tokens are taken from the front of a text by longest match.
-ghost use Rattle.std.specs.Prelude.{◌≡◌, ◌+◌, ◌≤◌, ◌∷◌, ℕ, length, IfErr};
+ghost use Rattle.std.specs.Prelude.{◌≡◌, ◌+◌, ◌≤◌, ◌∷◌, ℕ, length, option_map, IfErr};
 ghost use Rattle.std.specs.List.{prefix_len};
 ghost use Rattle.ir_text_base.specs.Reading.{Gives};
-ghost use Rattle.ir_text_base.specs.Tokens.{exponent_len, fraction_len, hex_len, lexeme_of, longer, mark_at, mark_of, name_parts, next, number_at, sign_at, sign_len, skip, skip_line, string_parts, suffix_len, symbol_at, token_at};
+ghost use Rattle.ir_text_base.specs.Tokens.{begins_other, exponent_len, fraction_len, hex_len, lexeme_of, longer, mark, mark_at, mark_of, name_parts, next, next_mark, number_at, sign_at, sign_len, skip, skip_line, string_parts, suffix_len, symbol_at, token_at};
 ghost use Rattle.ir_types.specs.declared.refusal.Refusal.{Refusal};
 
 use crate::fault::Fault;
@@ -167,12 +167,12 @@ fn symbol<'a>(all: &'a [u8], tail: &'a [u8]) -> Result<(Token<'a>, &'a [u8]), us
 }
 
 /// The longer mark where the byte follows, else the shorter.
-fn longer(byte: u8, long: Mark, short: Mark, tail: &[u8]) -> (Token<'_>, &[u8])
-    ensures { longer byte long short tail.now ≡ Some (lexeme_of result.0, result.1.now) }
+fn longer(byte: u8, long: Mark, short: Mark, tail: &[u8]) -> (Mark, &[u8])
+    ensures { longer byte long short tail.now ≡ Some (mark result.0, result.1.now) }
 {
     match tail {
-        [next, rest @ ..] if *next == byte => (Token::Mark(long), rest),
-        _ => (Token::Mark(short), tail),
+        [next, rest @ ..] if *next == byte => (long, rest),
+        _ => (short, tail),
     }
 }
 
@@ -196,18 +196,28 @@ fn mark_of(byte: u8) -> Option<Mark>
     }
 }
 
+/// Punctuation that begins with the byte, and what follows it.
+fn mark_at(byte: u8, tail: &[u8]) -> Option<(Mark, &[u8])>
+    ensures { option_map (λ x. (mark x.0, x.1.now)) result ≡ mark_at byte tail.now }
+{
+    if byte == b':' {
+        return Some(longer(b':', Mark::DoubleColon, Mark::Colon, tail));
+    }
+    if byte == b'-' {
+        return Some(longer(b'>', Mark::Arrow, Mark::Minus, tail));
+    }
+    match mark_of(byte) {
+        Some(mark) => Some((mark, tail)),
+        None => None,
+    }
+}
+
 /// Punctuation that begins with the byte, with which all begins.
 fn punctuation<'a>(byte: u8, all: &'a [u8], tail: &'a [u8]) -> Result<(Token<'a>, &'a [u8]), usize>
     ensures { Gives (λ x. (lexeme_of x.0, x.1.now)) result (mark_at byte tail.now) }
 {
-    if byte == b':' {
-        return Ok(longer(b':', Mark::DoubleColon, Mark::Colon, tail));
-    }
-    if byte == b'-' {
-        return Ok(longer(b'>', Mark::Arrow, Mark::Minus, tail));
-    }
-    match mark_of(byte) {
-        Some(mark) => Ok((Token::Mark(mark), tail)),
+    match mark_at(byte, tail) {
+        Some((mark, rest)) => Ok((Token::Mark(mark), rest)),
         None => Err(all.len()),
     }
 }
@@ -276,4 +286,29 @@ pub fn token(bytes: &[u8]) -> Result<(Token<'_>, &[u8]), Fault>
             left,
         }),
     }
+}
+
+/// Whether a token that is no punctuation begins with the byte, where one does.
+fn begins_other(byte: u8) -> bool
+    ensures { result ≡ begins_other byte }
+{
+    byte.is_ascii_digit()
+        || is_letter(byte)
+        || matches!(byte, b'"' | b'%' | b'^' | b'#' | b'!' | b'@')
+}
+
+/// The mark that is the next token, and what follows it, or none where another token stands or none. No
+/// other token is read for that.
+#[tactic(auto, using(crate::proofs::Marks::other_is_none, crate::proofs::Marks::mark_is_one), unfolding(crate::specs::Tokens::next_mark, crate::specs::Tokens::next))]
+pub fn mark(bytes: &[u8]) -> Option<(Mark, &[u8])>
+    ensures { option_map (λ x. (x.0, x.1.now)) result ≡ next_mark bytes.now }
+{
+    let all = skip(bytes);
+    let [byte, tail @ ..] = all else {
+        return Some((Mark::End, all));
+    };
+    if begins_other(*byte) {
+        return None;
+    }
+    mark_at(*byte, tail)
 }

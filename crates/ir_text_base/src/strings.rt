@@ -93,7 +93,7 @@ fn escape(bytes: &[u8]) -> Option<(u8, &[u8])>
 pub fn string_value(alloc: Global, raw: &[u8]) -> Result<Vec<u8>, AllocError>
     ensures { IfOk result (λ v. v.items ≡ string_bytes raw.now) }
 {
-    let mut out = Vec::new(alloc);
+    let mut out = Vec::with_capacity(alloc, raw.len())?;
     let mut rest = raw;
     'parts: while let [byte, tail @ ..] = rest {
         if *byte != b'\\' {

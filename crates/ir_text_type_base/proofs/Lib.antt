@@ -10,3 +10,4 @@ pub mod TypeLaws
 pub mod Unique
 pub mod Numbered
 pub mod TokenLaws
+pub mod Marked

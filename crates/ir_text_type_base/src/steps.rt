@@ -39,19 +39,15 @@ fn code(mark: Mark) -> u8
 }
 
 /// What follows the mark, where it is the next token.
-#[tactic(auto, unfolding(crate::specs::Marks::after))]
+#[tactic(auto, using(crate::proofs::Marked::after_is), unfolding(crate::specs::Marks::after))]
 pub fn after(bytes: &[u8], mark: Mark) -> Option<&[u8]>
     ensures { option_map (λ r. r.now) result ≡ after mark bytes.now }
 {
-    match lexer::token(bytes) {
-        Ok((Token::Mark(found), rest)) => {
-            if code(found) == code(mark) {
-                Some(rest)
-            } else {
-                None
-            }
-        }
-        _ => None,
+    let (found, rest) = lexer::mark(bytes)?;
+    if code(found) == code(mark) {
+        Some(rest)
+    } else {
+        None
     }
 }
 
