@@ -6,11 +6,9 @@ use Rattle.std.specs.Str.{bytes_eq}
 use Rattle.std.specs.Borrow.{Bor}
 use Rattle.std.proofs.lemmas.List.{map-append, length-append, length-map, take-append-le, drop-append-le, take-map, take-take}
 use Rattle.std.proofs.lemmas.Slice.Eq.{bytes_eq-Decides}
-use Rattle.std.specs.BTreeMap.{BTreeMap, get}
-use Rattle.std.specs.Ordering.{is_eq}
-use Rattle.std.proofs.lemmas.Map.Text.{is_eq-slice_cmp}
+use Rattle.std.specs.HashMap.{HashMap, get}
 use Rattle.ir_text_base.specs.Scopes.{Binding, Scopes, or_else, find, bound, entered, left}
-use Rattle.ir_text_base.specs.Places.{key_cmp, joined, binding_view, views, top, pick, Linked, Agrees}
+use Rattle.ir_text_base.specs.Places.{key_eq, joined, binding_view, views, top, pick, Linked, Agrees}
 use Rattle.ir_text_base.specs.Inside.{seen_at, seen_onto, Standing}
 use Rattle.ir_text_base.specs.declared.names.Entry.{Entry}
 use Rattle.ir_text_base.specs.declared.names.Floor.{Floor}
@@ -91,11 +89,6 @@ none_of : {A : Type 0} (xs : List A) → length xs ≡ 0 → xs ≡ []
 none_of [] e = refl
 none_of (x ∷ xs) e = absurd (omega (arith, e))
 
--- the map with a key, by the key's bytes
-pub with_key : (m n : BTreeMap (Bor (List ℕ)) (Option ℕ)) (key : Bor (List ℕ)) (w : Option (Option ℕ)) → ((q : Bor (List ℕ)) → get key_cmp n q ≡ cond (is_eq (key_cmp key q)) w (get key_cmp m q))
-    → (q : Bor (List ℕ)) → get key_cmp n q ≡ cond (bytes_eq key.now q.now) w (get key_cmp m q)
-with_key m n key w h q = h q ∙ ap (λ t. cond t w (get key_cmp m q)) (is_eq-slice_cmp key.now q.now)
-
 abbrev some_place : ℕ → Option ℕ
 some_place i = Some i
 
@@ -170,18 +163,18 @@ module _ {T : Type 0} where
   pub seen_cut : (bs : List (Binding T)) (ms : List Floor) (m : Floor) (count : ℕ) → Standing (ms ++ m ∷ []) count → seen_onto (take m.count bs) [] ms ≡ seen_onto bs [] ms
   seen_cut bs ms m count h = seen_same bs (take m.count bs) [] ms (λ i k at. take-take k.count m.count bs (h.rising i (length ms) k m (get_below ms i k at) (get_front ms (m ∷ []) i k at) (last_get ms m)))
 
-  module _ (m n : BTreeMap (Bor (List ℕ)) (Option ℕ)) (es : List (Entry T)) (e : Entry T) where
-    pub agrees_push : Agrees m es → ((q : Bor (List ℕ)) → get key_cmp n q ≡ cond (bytes_eq e.name.now q.now) (Some (Some (length es))) (get key_cmp m q)) → e.hidden ≡ joined (get key_cmp m e.name) → Agrees n (es ++ e ∷ [])
+  module _ {S : Type 0} (m n : HashMap (Bor (List ℕ)) (Option ℕ) S) (es : List (Entry T)) (e : Entry T) where
+    pub agrees_push : Agrees m es → ((q : Bor (List ℕ)) → get key_eq n q ≡ cond (bytes_eq e.name.now q.now) (Some (Some (length es))) (get key_eq m q)) → e.hidden ≡ joined (get key_eq m e.name) → Agrees n (es ++ e ∷ [])
     agrees_push h put same = record {
-      found = λ q. ap joined (put q) ∙ joined_cond (bytes_eq e.name.now q.now) (Some (length es)) (get key_cmp m q)
+      found = λ q. ap joined (put q) ∙ joined_cond (bytes_eq e.name.now q.now) (Some (length es)) (get key_eq m q)
           ∙ (λ i. cond (bytes_eq e.name.now q.now) (Some (sym (length-map es binding_view) i)) (h.found q i))
           ∙ sym (top_push q.now (views es) (binding_view e)) ∙ ap (top q.now) (sym (views_push es e));
       linked = linked_push es e h.linked (same ∙ h.found e.name);
     }
 
-    pub agrees_pop : Agrees m (es ++ e ∷ []) → ((q : Bor (List ℕ)) → get key_cmp n q ≡ cond (bytes_eq e.name.now q.now) (Some e.hidden) (get key_cmp m q)) → Agrees n es
+    pub agrees_pop : Agrees m (es ++ e ∷ []) → ((q : Bor (List ℕ)) → get key_eq n q ≡ cond (bytes_eq e.name.now q.now) (Some e.hidden) (get key_eq m q)) → Agrees n es
     agrees_pop h put = record {
-      found = λ q. ap joined (put q) ∙ joined_cond (bytes_eq e.name.now q.now) e.hidden (get key_cmp m q)
+      found = λ q. ap joined (put q) ∙ joined_cond (bytes_eq e.name.now q.now) e.hidden (get key_eq m q)
           ∙ (λ i. cond (bytes_eq e.name.now q.now) e.hidden ((h.found q ∙ ap (top q.now) (views_push es e) ∙ top_push q.now (views es) (binding_view e)) i))
           ∙ before q;
       linked = linked_pop es e h.linked;
@@ -190,13 +183,13 @@ module _ {T : Type 0} where
         before : (q : Bor (List ℕ)) → cond (bytes_eq e.name.now q.now) e.hidden (cond (bytes_eq e.name.now q.now) (Some (length (views es))) (top q.now (views es))) ≡ top q.now (views es)
         before q = (elim (bytes_eq e.name.now q.now) as (λ t. bytes_eq e.name.now q.now ≡ t → cond t e.hidden (cond t (Some (length (views es))) (top q.now (views es))) ≡ top q.now (views es)) [ true ↦ λ f. linked_last es e h.linked ∙ ap (λ n. top n (views es)) ((bytes_eq-Decides e.name.now q.now).0 f) | false ↦ λ f. refl ]) refl
 
-    pub is_there : Agrees m (es ++ e ∷ []) → get key_cmp m e.name ≡ None → ⊥
+    pub is_there : Agrees m (es ++ e ∷ []) → get key_eq m e.name ≡ None → ⊥
     is_there h none =
         let k : None ≡ top e.name.now (views (es ++ e ∷ [])) = ap joined (sym none) ∙ h.found e.name in
         let l : top e.name.now (views (es ++ e ∷ [])) ≡ Some (length (views es)) = ap (top e.name.now) (views_push es e) ∙ top_push e.name.now (views es) (binding_view e) ∙ rw ((bytes_eq-Decides e.name.now e.name.now).1 refl) refl in
         absurd cc
 
-  pub no_entries : (m : BTreeMap (Bor (List ℕ)) (Option ℕ)) → m.entries ≡ [] → Agrees {T = T} m []
+  pub no_entries : {S : Type 0} (m : HashMap (Bor (List ℕ)) (Option ℕ) S) → m.entries ≡ [] → Agrees {T = T} m []
   unfolding top
   no_entries m e = record { found = λ q. rw e refl; linked = λ i x at. absurd (none i x at) }
     where

@@ -1,17 +1,14 @@
 -- How the names are kept: a list of bindings, and a map from each name to its last place there.
-use Rattle.std.specs.Prelude.{◌≡◌, ℕ, suc, nat_lt, if◌then◌else◌, List, [], ◌∷◌, take, map, Option, Some, None, option_map, slice_get}
-use Rattle.std.specs.declared.cmp.Ordering.{Ordering}
-use Rattle.std.specs.Ordering.{nat_cmp}
-use Rattle.std.specs.Cmp.Lexicographic.{slice_cmp}
+use Rattle.std.specs.Prelude.{◌≡◌, ℕ, Bool, suc, nat_lt, if◌then◌else◌, List, [], ◌∷◌, take, map, Option, Some, None, option_map, slice_get}
 use Rattle.std.specs.Str.{bytes_eq}
 use Rattle.std.specs.Borrow.{Bor}
-use Rattle.std.specs.BTreeMap.{BTreeMap, get}
+use Rattle.std.specs.HashMap.{HashMap, get}
 use Rattle.ir_text_base.specs.Scopes.{Binding, or_else}
 use Rattle.ir_text_base.specs.declared.names.Entry.{Entry}
 
--- the order of the map's keys
-abbrev pub key_cmp : Bor (List ℕ) → Bor (List ℕ) → Ordering
-key_cmp x y = slice_cmp nat_cmp x.now y.now
+-- when two keys of the map are one
+abbrev pub key_eq : Bor (List ℕ) → Bor (List ℕ) → Bool
+key_eq x y = bytes_eq x.now y.now
 
 abbrev pub joined : {A : Type 0} → Option (Option A) → Option A
 joined None = None
@@ -37,6 +34,6 @@ pick bs floor (Some i) = if nat_lt i floor then None else option_map (λ b. b.va
 abbrev pub Linked : {T : Type 0} → List (Entry T) → Type 0
 Linked {T} es = (i : ℕ) (e : Entry T) → slice_get es i ≡ Some e → e.hidden ≡ top e.name.now (take i (views es))
 
-pub record Agrees {T : Type 0} (latest : BTreeMap (Bor (List ℕ)) (Option ℕ)) (es : List (Entry T)) : Type 0 where
-  pub found : (q : Bor (List ℕ)) → joined (get key_cmp latest q) ≡ top q.now (views es)
+pub record Agrees {T S : Type 0} (latest : HashMap (Bor (List ℕ)) (Option ℕ) S) (es : List (Entry T)) : Type 0 where
+  pub found : (q : Bor (List ℕ)) → joined (get key_eq latest q) ≡ top q.now (views es)
   pub linked : Linked es

@@ -1,11 +1,11 @@
 //! The names that a text has bound, by scopes.
 ghost use Rattle.std.specs.Prelude.{◌≡◌, [], ◌∷◌, ◌++◌, OnOk, OnErr, option_map, take};
-ghost use Rattle.std.specs.BTreeMap.{get};
+ghost use Rattle.std.specs.HashMap.{get};
 ghost use Rattle.ir_text_base.specs.Scopes.{Scopes, bound, entered, find, left};
-ghost use Rattle.ir_text_base.specs.Places.{Agrees, joined, key_cmp, pick, views};
+ghost use Rattle.ir_text_base.specs.Places.{Agrees, joined, key_eq, pick, views};
 
 use std::alloc::{AllocError, Global};
-use std::collections::BTreeMap;
+use std::collections::HashMap;
 use std::marker::Model;
 
 /// A name, what it stands for, and the place of the entry with the same name that it hides.
@@ -26,7 +26,7 @@ pub(crate) struct Floor {
 /// The names that are bound, with those that can be seen. MLIR Language Reference, "Regions".
 #[derive(Drop)]
 pub struct Names<'a, T> {
-    latest: BTreeMap<&'a [u8], Option<usize>>,
+    latest: HashMap<&'a [u8], Option<usize>>,
     entries: Vec<Entry<'a, T>>,
     floors: Vec<Floor>,
     first: usize,
@@ -47,8 +47,8 @@ impl<'a, T> Model for Names<'a, T> {
 }
 
 /// The place that the map has for a name.
-fn place_of<'a>(latest: &BTreeMap<&'a [u8], Option<usize>>, name: &'a [u8]) -> Option<usize>
-    ensures { result ≡ joined (get key_cmp latest.now name.entry) }
+fn place_of<'a>(latest: &HashMap<&'a [u8], Option<usize>>, name: &'a [u8]) -> Option<usize>
+    ensures { result ≡ joined (get key_eq latest.now name.entry) }
 {
     match latest.get(&name) {
         Some(place) => *place,
@@ -70,7 +70,7 @@ fn pick<'s, 'a, T>(entries: &'s [Entry<'a, T>], first: usize, place: Option<usiz
 
 /// Puts an entry last.
 fn put<'a, T: Drop>(
-    latest: &mut BTreeMap<&'a [u8], Option<usize>>,
+    latest: &mut HashMap<&'a [u8], Option<usize>>,
     entries: &mut Vec<Entry<'a, T>>,
     name: &'a [u8],
     value: T,
@@ -98,7 +98,7 @@ fn put<'a, T: Drop>(
 
 /// Takes entries away until there are so many.
 fn cut<'a, T: Drop>(
-    latest: &mut BTreeMap<&'a [u8], Option<usize>>,
+    latest: &mut HashMap<&'a [u8], Option<usize>>,
     entries: &mut Vec<Entry<'a, T>>,
     count: usize,
 )
@@ -121,15 +121,15 @@ impl<'a, T: Drop> Names<'a, T> {
         ensures { result ≡ record { here = []; outer = [] } }
     {
         Names {
-            latest: BTreeMap::new(alloc),
+            latest: HashMap::new(alloc),
             entries: Vec::new(alloc),
             floors: Vec::new(alloc),
             first: 0,
         }
     }
 
-    /// What the name stands for, where it can be seen. It takes time that grows with the logarithm of
-    /// the number of names.
+    /// What the name stands for, where it can be seen. It takes time that does not grow with the
+    /// number of names.
     pub fn find(&self, name: &'a [u8]) -> Option<&T>
         ensures { option_map (λ value. value.now) result ≡ find name.now self.now.here }
     {
