@@ -6,19 +6,19 @@ use ir_types::ids::{OpId, TypeId};
 /// block of one of its regions.
 #[derive(Clone, Copy, Debug, PartialEq, Eq, Hash)]
 pub enum Source {
-    Result(OpId, usize),
-    Argument(OpId, usize, usize),
+    Result(OpId, u32),
+    Argument(OpId, u32, u32),
 }
 
 /// The name of a value.
 #[derive(Clone, Copy, Debug, PartialEq, Eq)]
 pub enum ValueName {
     /// The only result of an operation, as `%0`.
-    Only(u64),
+    Only(u32),
     /// One of several results, as `%0#1`.
-    Part(u64, usize),
+    Part(u32, u32),
     /// An argument of a block, as `%arg0`.
-    Argument(u64),
+    Argument(u32),
 }
 
 /// A value that has a name.
@@ -34,6 +34,6 @@ pub struct NamedValue {
 pub struct Printer {
     pub text: Vec<u8>,
     pub named: IndexMap<Source, NamedValue>,
-    pub results: u64,
-    pub arguments: u64,
+    pub results: u32,
+    pub arguments: u32,
 }

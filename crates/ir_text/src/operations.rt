@@ -37,11 +37,11 @@ fn put(out: &mut Printer, bytes: &[u8]) -> Result<(), AllocError>
 }
 
 /// Appends what stands in front of an operation with results.
-fn put_pack(out: &mut Vec<u8>, number: u64, count: usize) -> Result<(), AllocError>
+fn put_pack(out: &mut Vec<u8>, number: u32, count: usize) -> Result<(), AllocError>
     ensures { OnOk result (out.new.items ≡ out.old.items ++ results_text number count) }
 {
     out.extend_from_slice(b"%")?;
-    put_number(out, number)?;
+    put_number(out, u64::from(number))?;
     if count != 1 {
         out.extend_from_slice(b":")?;
         put_number(out, count as u64)?;
@@ -49,8 +49,8 @@ fn put_pack(out: &mut Vec<u8>, number: u64, count: usize) -> Result<(), AllocErr
     out.extend_from_slice(b" = ")
 }
 
-/// The number after another one. There are never so many that it is past a u64.
-fn number_after(number: u64) -> Result<u64, AllocError>
+/// The number after another one. There are never so many that it is past a u32.
+fn number_after(number: u32) -> Result<u32, AllocError>
     ensures { IfOk result (λ n. n ≡ number + 1) }
 {
     match number.checked_add(1) {
@@ -197,14 +197,14 @@ fn put_comma(out: &mut Printer, place: usize) -> Result<(), AllocError>
 fn put_argument_text(
     ctx: &Context,
     out: &mut Vec<u8>,
-    number: u64,
+    number: u32,
     ty: TypeId,
 ) -> Result<(), AllocError>
     requires { IsType ctx.now ty }
     ensures { OnOk result (out.new.items ≡ out.old.items ++ argument_text number (type_term ctx.now ty)) }
 {
     out.extend_from_slice(b"%arg")?;
-    put_number(out, number)?;
+    put_number(out, u64::from(number))?;
     out.extend_from_slice(b": ")?;
     put_type(ctx, out, ty)
 }

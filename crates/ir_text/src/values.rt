@@ -1,5 +1,5 @@
 //! The names of values: how they are given, looked up and written.
-ghost use Rattle.std.specs.Prelude.{◌≡◌, ◌++◌, OnOk, true, map, length, ◌==◌, codes};
+ghost use Rattle.std.specs.Prelude.{◌≡◌, ◌++◌, IfOk, OnOk, true, map, length, ◌==◌, codes};
 ghost use Rattle.std.specs.Option.{option_map};
 ghost use Rattle.ir_types.specs.Things.{Things};
 ghost use Rattle.ir_types.specs.Terms.{type_term};
@@ -22,8 +22,8 @@ fn source_of(value: Value) -> Source
     ensures { result ≡ source_of value }
 {
     match value {
-        Value::Result(op, place) => Source::Result(op, place as usize),
-        Value::Arg(op, region, place) => Source::Argument(op, region as usize, place as usize),
+        Value::Result(op, place) => Source::Result(op, place),
+        Value::Arg(op, region, place) => Source::Argument(op, region, place),
     }
 }
 
@@ -41,17 +41,17 @@ fn put_name(out: &mut Vec<u8>, name: ValueName) -> Result<(), AllocError>
     match name {
         ValueName::Only(number) => {
             out.extend_from_slice(b"%")?;
-            put_number(out, number)
+            put_number(out, u64::from(number))
         }
         ValueName::Part(number, place) => {
             out.extend_from_slice(b"%")?;
-            put_number(out, number)?;
+            put_number(out, u64::from(number))?;
             out.extend_from_slice(b"#")?;
-            put_number(out, place as u64)
+            put_number(out, u64::from(place))
         }
         ValueName::Argument(number) => {
             out.extend_from_slice(b"%arg")?;
-            put_number(out, number)
+            put_number(out, u64::from(number))
         }
     }
 }
@@ -149,17 +149,28 @@ pub(crate) fn put_operand_types(
     Ok(())
 }
 
+/// A place or the number of a region. There are never so many that it is past a u32.
+fn small(number: usize) -> Result<u32, AllocError>
+    ensures { IfOk result (λ n. n ≡ number) }
+{
+    match u32::try_from(number) {
+        Ok(number) => Ok(number),
+        Err(_) => Err(AllocError),
+    }
+}
+
 /// Names a result of an operation.
 fn name_result(
     named: &mut IndexMap<Source, NamedValue>,
     op: OpId,
     only: bool,
-    number: u64,
+    number: u32,
     place: usize,
     ty: TypeId,
 ) -> Result<(), AllocError>
     ensures { (c : Things) → OnOk result (named_in c named.new.entries ≡ name_result op only number place (type_term c ty) (named_in c named.old.entries)) }
 {
+    let place = small(place)?;
     let name = if only {
         ValueName::Only(number)
     } else {
@@ -173,7 +184,7 @@ fn name_result(
 pub(crate) fn name_results(
     named: &mut IndexMap<Source, NamedValue>,
     op: OpId,
-    number: u64,
+    number: u32,
     results: &[TypeId],
 ) -> Result<(), AllocError>
     ensures { (c : Things) → OnOk result (named_in c named.new.entries ≡ name_results op (length (map (type_term c) results.now) == 1) number 0 (map (type_term c) results.now) (named_in c named.old.entries)) }
@@ -191,12 +202,13 @@ pub(crate) fn name_argument(
     op: OpId,
     region: usize,
     place: usize,
-    number: u64,
+    number: u32,
     ty: TypeId,
 ) -> Result<(), AllocError>
     ensures { (c : Things) → OnOk result (named_in c named.new.entries ≡ name_argument op region place number (type_term c ty) (named_in c named.old.entries)) }
 {
+    let source = Source::Argument(op, small(region)?, small(place)?);
     let name = ValueName::Argument(number);
-    named.insert(Source::Argument(op, region, place), NamedValue { name, ty })?;
+    named.insert(source, NamedValue { name, ty })?;
     Ok(())
 }

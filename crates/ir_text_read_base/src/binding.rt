@@ -59,7 +59,7 @@ pub fn agrees(operands: &[Bound], inputs: &[TypeId]) -> bool
 pub fn values_of(alloc: Global, operands: &[Bound]) -> Result<Vec<Value>, AllocError>
     ensures { IfOk result (λ v. v.items ≡ values_of operands.now) }
 {
-    let mut values = Vec::new(alloc);
+    let mut values = Vec::with_capacity(alloc, operands.len())?;
     'items: for operand in operands {
         values.push(operand.value)?;
     }

@@ -153,7 +153,7 @@ pub fn properties_of(
 ) -> Result<Vec<Entry>, AllocError>
     ensures { IfOk result (λ v. v.items ≡ properties_of (is_property_in ctx.now (Some op)) (key_before_in ctx.now) properties.now attributes.now) }
 {
-    let mut sorted = Vec::new(alloc);
+    let mut sorted = Vec::with_capacity(alloc, properties.len())?;
     put_all(ctx, &mut sorted, properties)?;
     put_moved(ctx, &Some(op), &mut sorted, attributes)?;
     Ok(sorted)
@@ -168,7 +168,7 @@ pub fn attributes_of(
 ) -> Result<Vec<Entry>, AllocError>
     ensures { IfOk result (λ v. v.items ≡ attributes_of (is_property_in ctx.now (Some op)) (key_before_in ctx.now) attributes.now) }
 {
-    let mut sorted = Vec::new(alloc);
+    let mut sorted = Vec::with_capacity(alloc, attributes.len())?;
     put_staying(ctx, &Some(op), &mut sorted, attributes)?;
     Ok(sorted)
 }

@@ -163,6 +163,7 @@ fn regions<'a, O: Outer>(
         };
         items.push(item)?;
         if let Some(end) = after(tail, Mark::CloseRound) {
+            items.shrink_to_fit();
             return Ok((items, end));
         }
         rest = expect(tail, Mark::Comma)?;
@@ -187,6 +188,7 @@ pub fn ops<'a, O: Outer>(
     let mut rest = bytes;
     'items: for _ in 0..MOST_OPS {
         if let Some(end) = after(rest, close) {
+            items.shrink_to_fit();
             return Ok((items, end));
         }
         let (item, tail) = match op(alloc, scope, ctx, around, rest, depth) {

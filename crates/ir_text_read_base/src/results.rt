@@ -27,7 +27,7 @@ fn many_results(
     requires { place + length types.now ≤ 256 }
     ensures { IfOk result (λ v. v.items ≡ results_of id place types.now) }
 {
-    let mut values = Vec::new(alloc);
+    let mut values = Vec::with_capacity(alloc, types.len())?;
     let mut rest = types;
     let mut next = place;
     'types: while let [ty, tail @ ..] = rest {

@@ -16,7 +16,7 @@ use Rattle.ir_text_read_base.proofs.ops.+op.Goals as goal
 pub ops-returns-in-Some : goal.ops-returns-in-Some
 ops-returns-in-Some g t c =
     let k : after_in c.args.close (state_of c.items.rest.now c.items.scope c.items.ctx) ≡ Some (state_of c.in-Some.end.now c.items.scope c.items.ctx) = rw (← c.in-Some.ensures) refl in
-    one.closes c.args.close (op_at (free_bound (g.O.Outer.types c.args.around.now.outer.now)) c.args.around.now.last c.args.depth) c.items.items.items MOST_OPS c.items.counter (state_of c.items.rest.now c.items.scope c.items.ctx) _ c.items.invariant c.items-test.true (state_of c.in-Some.end.now c.items.scope c.items.ctx) k
+    rw c.shrink_to_fit.ensures.items (one.closes c.args.close (op_at (free_bound (g.O.Outer.types c.args.around.now.outer.now)) c.args.around.now.last c.args.depth) c.items.items.items MOST_OPS c.items.counter (state_of c.items.rest.now c.items.scope c.items.ctx) _ c.items.invariant c.items-test.true (state_of c.in-Some.end.now c.items.scope c.items.ctx) k)
 
 pub ops-returns-in-Err : goal.ops-returns-in-Err
 ops-returns-in-Err g t c =
@@ -39,7 +39,7 @@ regions-returns-in-Err g t c =
 pub regions-returns-in-Some-after : goal.regions-returns-in-Some-after
 regions-returns-in-Some-after g t c =
     let k : after_in CloseRound (state_of c.in-Ok.found.1.now c.region.new.scope c.region.new.ctx) ≡ Some (state_of c.in-Some-after.end.now c.region.new.scope c.region.new.ctx) = rw (← c.in-Some-after.ensures) refl in
-    let e : map region_view c.push.new.self.items ≡ (map region_view c.items.items.items) ++ (region_view c.in-Ok.found.0) ∷ [] = rw c.in_ok-push.ensures.items (map_push _ c.items.items.items _) in
+    let e : map region_view c.shrink_to_fit.new.self.items ≡ (map region_view c.items.items.items) ++ (region_view c.in-Ok.found.0) ∷ [] = rw (c.shrink_to_fit.ensures.items, c.in_ok-push.ensures.items) (map_push _ c.items.items.items _) in
     let ens = c.in-Ok.ensures (map region_view c.items.items.items) (length-map c.items.items.items region_view ∙ c.items.invariant.count) in
     rw e (closes after_in CloseRound (region_at (ops_at CloseCurly (op_at (free_bound (g.O.Outer.types c.args.around.now.outer.now)) c.args.around.now.last c.args.depth) MOST_OPS []) c.args.id c.args.isolated) (map region_view c.items.items.items) 16 c.items.count (state_of c.items.rest.now c.items.scope c.items.ctx) _ c.items.invariant.reads c.items-test.true (region_view c.in-Ok.found.0) (state_of c.in-Ok.found.1.now c.region.new.scope c.region.new.ctx) (state_of c.in-Some-after.end.now c.region.new.scope c.region.new.ctx) ens k)
 
