@@ -16,7 +16,7 @@ use ir_event::analysis::Analysis;
 use ir_event::world::World;
 use ir_text::reader;
 use ir_text_type_base::error::ReadError;
-use ir_tree::find::list_ids;
+use ir_tree::count::op_count;
 use ir_tree::tree::TreeOp;
 use ir_types::context::Context;
 use ir_types::refusal::Refusal;
@@ -73,14 +73,11 @@ fn tree_of(alloc: Global, ctx: &mut Context, text: &[u8]) -> Result<TreeOp, Unre
     }
 }
 
-/// How many operations a tree has, or none where there is no memory.
-fn count(alloc: Global, tree: &TreeOp) -> Option<u32>
+/// How many operations a tree has, where an id can be so great.
+fn next_free(tree: &TreeOp) -> Option<u32>
     ensures { IfSome result (λ n. n ≡ op_count tree.now) }
 {
-    let Ok(ids) = list_ids(alloc, tree) else {
-        return None;
-    };
-    u32::try_from(ids.len()).ok()
+    u32::try_from(op_count(tree)).ok()
 }
 
 /// The world of a tree that was read, or none where there is no memory.
@@ -89,7 +86,7 @@ fn hold(alloc: Global, ctx: Context, tree: TreeOp) -> Option<World>
     requires numbered { IsNumberedFrom 0 tree }
     ensures { IfSome result (λ w. module_in w ≡ record { tree = meaning ctx tree; next = op_count tree }) }
 {
-    let Some(next) = count(alloc, &tree) else {
+    let Some(next) = next_free(&tree) else {
         return None;
     };
     match World::hold(alloc, ctx, tree, next) {
@@ -152,18 +149,23 @@ fn refuse<W: Write>(writer: &mut W, unread: Unread) -> Result<u8, WriteFault>
 fn answer_input<W: Write, L: Analysis>(
     alloc: Global,
     options: Options,
-    input: &[u8],
+    input: Vec<u8>,
     writer: &mut W,
     boxes: Vec<L>,
 ) -> Result<u8, WriteFault>
-    ensures { RanOut (IsOutput options.brief (all_shown L.meaning boxes.items) input.now) (W.contents writer.old) (W.contents writer.new) result }
+    ensures { RanOut (IsOutput options.brief (all_shown L.meaning boxes.items) input.items) (W.contents writer.old) (W.contents writer.new) result }
 {
-    let (module, script) = split(input);
+    let (module, script) = split(&input);
     let world = match world_of(alloc, module) {
         Ok(world) => world,
         Err(unread) => return refuse(writer, unread),
     };
-    match run_session(alloc, options.brief, world, script, writer, boxes) {
+    // The text of the module is not needed any more, and may be as large as the module.
+    let Ok(script) = Vec::from_slice(alloc, script) else {
+        return refuse(writer, no_memory());
+    };
+    drop(input);
+    match run_session(alloc, options.brief, world, &script, writer, boxes) {
         Ok(status) => finish(writer, status),
         Err(fault) => Err(fault),
     }
@@ -202,7 +204,7 @@ pub fn read_and_answer<R: Read, W: Write, L: Analysis>(
         Err(ReadFault::Memory) => return ended(refuse(writer, no_memory())),
         Err(ReadFault::Broken) => return Err(Fault::Read),
     };
-    ended(answer_input(alloc, options, &input, writer, boxes))
+    ended(answer_input(alloc, options, input, writer, boxes))
 }
 
 fn exit_status(ended: Result<u8, Fault>) -> u8

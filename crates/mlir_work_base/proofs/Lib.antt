@@ -5,3 +5,4 @@ pub mod Digits
 pub mod Printed
 pub mod KindWords
 pub mod Dividing
+pub mod Dividers

@@ -1,7 +1,7 @@
 //! The input of a run: read whole, under limits, and split into a module and a script.
 ghost use Rattle.std.specs.Prelude.{◌≡◌, ◌<◌, ◌≤◌, length, IfErr, IfOk, IfSome, IsTrue, ◌↔◌};
 ghost use Rattle.mlir_work_base.specs.declared.input.ReadFault.TheVariants.{TooMany};
-ghost use Rattle.mlir_work_base.specs.Parts.{module_text, script_text};
+ghost use Rattle.mlir_work_base.specs.Parts.{at_divider, module_text, script_text};
 
 use crate::lines::split_line;
 use std::alloc::Global;
@@ -63,6 +63,24 @@ pub fn read_all<R: Read>(alloc: Global, reader: &mut R) -> Result<Vec<u8>, ReadF
     Err(ReadFault::Broken)
 }
 
+/// Whether the first line of a text is exactly the divider. Of another line than a comment only the first
+/// byte is looked at.
+#[tactic(auto, using(crate::proofs::Dividers::no_slash))]
+fn at_divider(text: &[u8]) -> bool
+    ensures { result ≡ at_divider text.now }
+{
+    match text {
+        [] => false,
+        [byte, ..] => {
+            if *byte != b'/' {
+                return false;
+            }
+            let (line, _) = split_line(text);
+            line == DIVIDER
+        }
+    }
+}
+
 /// The text of the module and the script of an input: what stands before and after the first line that is
 /// exactly `// -----`. Without such a line the script is empty.
 pub fn split(input: &[u8]) -> (&[u8], &[u8])
@@ -71,11 +89,9 @@ pub fn split(input: &[u8]) -> (&[u8], &[u8])
 {
     let mut start = true;
     for at in 0..input.len() {
-        if start {
-            let (line, rest) = split_line(&input[at..]);
-            if line == DIVIDER {
-                return (&input[..at], rest);
-            }
+        if start && at_divider(&input[at..]) {
+            let (_, rest) = split_line(&input[at..]);
+            return (&input[..at], rest);
         }
         start = input[at] == b'\n';
     }

@@ -1,4 +1,4 @@
-use Rattle.std.proofs.Common.{◌≡◌, ◌∙◌, ap, rules}
+use Rattle.std.proofs.Common.{◌≡◌, ◌∙◌, ℕ, ap, rules}
 use Rattle.ir_types.specs.Terms.{type_term}
 use Rattle.indexmap.specs.IndexMap.{insert_entry}
 use Rattle.ir_text.specs.declared.naming.Source.TheVariants.{Result}
@@ -11,5 +11,7 @@ use Rattle.ir_text.proofs.values.name_result.Goals as goal
 
 pub returns : goal.returns
 returns c = λ d.
-    let name : c.if-only.name ≡ result_name c.args.only c.args.number c.args.place = elim c.if-only.branch [ then-only w ↦ search rules | else-only w ↦ search rules ] in
-    ap (named_in d) c.in_ok-insert.ensures.entries ∙ put_in d c.args.named.now.entries _ _ ∙ ap (λ (n : ValueName). insert_entry same_source (named_in d c.args.named.now.entries) (Result c.args.op c.args.place) (record { name = n; type = type_term d c.args.ty })) name
+    let place : c.in_ok-place.place ≡ c.args.place = c.in_ok-place.ensures in
+    let name : c.if-only.name ≡ result_name c.args.only c.args.number c.in_ok-place.place = elim c.if-only.branch [ then-only w ↦ search rules | else-only w ↦ search rules ] in
+    let named = λ (k : ℕ) (n : ValueName). insert_entry same_source (named_in d c.args.named.now.entries) (Result c.args.op k) (record { name = n; type = type_term d c.args.ty }) in
+    ap (named_in d) c.in_ok-insert.ensures.entries ∙ put_in d c.args.named.now.entries _ _ ∙ ap (named c.in_ok-place.place) name ∙ ap (λ k. named k (result_name c.args.only c.args.number k)) place
