@@ -149,23 +149,18 @@ fn refuse<W: Write>(writer: &mut W, unread: Unread) -> Result<u8, WriteFault>
 fn answer_input<W: Write, L: Analysis>(
     alloc: Global,
     options: Options,
-    input: Vec<u8>,
+    input: &[u8],
     writer: &mut W,
     boxes: Vec<L>,
 ) -> Result<u8, WriteFault>
-    ensures { RanOut (IsOutput options.brief (all_shown L.meaning boxes.items) input.items) (W.contents writer.old) (W.contents writer.new) result }
+    ensures { RanOut (IsOutput options.brief (all_shown L.meaning boxes.items) input.now) (W.contents writer.old) (W.contents writer.new) result }
 {
-    let (module, script) = split(&input);
+    let (module, script) = split(input);
     let world = match world_of(alloc, module) {
         Ok(world) => world,
         Err(unread) => return refuse(writer, unread),
     };
-    // The text of the module is not needed any more, and may be as large as the module.
-    let Ok(script) = Vec::from_slice(alloc, script) else {
-        return refuse(writer, no_memory());
-    };
-    drop(input);
-    match run_session(alloc, options.brief, world, &script, writer, boxes) {
+    match run_session(alloc, options.brief, world, script, writer, boxes) {
         Ok(status) => finish(writer, status),
         Err(fault) => Err(fault),
     }
@@ -204,7 +199,7 @@ pub fn read_and_answer<R: Read, W: Write, L: Analysis>(
         Err(ReadFault::Memory) => return ended(refuse(writer, no_memory())),
         Err(ReadFault::Broken) => return Err(Fault::Read),
     };
-    ended(answer_input(alloc, options, input, writer, boxes))
+    ended(answer_input(alloc, options, &input, writer, boxes))
 }
 
 fn exit_status(ended: Result<u8, Fault>) -> u8
