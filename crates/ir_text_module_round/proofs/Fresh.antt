@@ -20,7 +20,7 @@ use Rattle.ir_text_read_base.specs.OpGrammar.{IsOps, IsOpWith, IsOp}
 use Rattle.ir_text.specs.Naming.{Named, naming_of, naming_type, value_type, source_of}
 use Rattle.ir_text_round.specs.Written.{FitsType}
 use Rattle.ir_text_round.proofs.Small.{are_bytes}
-use Rattle.ir_text_module_round.specs.Renumbered.{Runs}
+use Rattle.ir_text_module_round.specs.Runs.{Runs}
 use Rattle.ir_text_module_round.specs.WrittenTrees.{FitsHead}
 use Rattle.ir_text_module_round.proofs.Texts.{Head, Names, results_names, results_then, name_then}
 use Rattle.ir_text_module_round.proofs.Values.{Away, all_front}

@@ -30,7 +30,7 @@ use Rattle.ir_text.specs.TypeText.{in_round}
 use Rattle.ir_text_round.proofs.Ahead.{Ahead, more_ahead, space, space_token}
 use Rattle.ir_text_round.proofs.Small.{lacks_token}
 use Rattle.ir_text_round.proofs.Words.{run_within, all_digits, digit_word}
-use Rattle.ir_text_module_round.specs.Renumbered.{value_with}
+use Rattle.ir_tree_renumber.specs.Renumbered.{value_with_id}
 use Rattle.ir_text_module_round.proofs.Texts.{Head, results_then, name_then}
 use Rattle.ir_text_module_round.proofs.Words.{argument_word}
 use Rattle.ir_text_module_round.proofs.Joined.{Here, IsSmall, IsSeen, word_of, place_of, term_of}
@@ -144,9 +144,9 @@ module _ (f : ℕ → ℕ) (named : Named) (here : Here) where
   bound_types [] = refl
   bound_types (v ∷ vs) = ap (λ (l : List TypeTerm). value_type named v ∷ l) (bound_types vs)
 
-  pub bound_values : (vs : List Value) → map (λ b. b.value) (map bound_of vs) ≡ map (value_with f) vs
+  pub bound_values : (vs : List Value) → map (λ b. b.value) (map bound_of vs) ≡ map (value_with_id f) vs
   bound_values [] = refl
-  bound_values (v ∷ vs) = ap (λ (l : List Value). value_with f v ∷ l) (bound_values vs)
+  bound_values (v ∷ vs) = ap (λ (l : List Value). value_with_id f v ∷ l) (bound_values vs)
 
 -- ---- results
 

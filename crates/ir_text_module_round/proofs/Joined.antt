@@ -20,7 +20,7 @@ use Rattle.ir_text.specs.declared.naming.Source.TheVariants as source
 use Rattle.ir_text.specs.Naming.{Named, Naming, naming_of, same_source, source_of, result_name}
 use Rattle.ir_text_round.specs.Written.{FitsType}
 use Rattle.ir_text_round.proofs.Small.{both}
-use Rattle.ir_text_module_round.specs.Renumbered.{value_with}
+use Rattle.ir_tree_renumber.specs.Renumbered.{value_with_id}
 use Rattle.ir_text_module_round.proofs.Texts.{Names, argument_names}
 use Rattle.ir_text_module_round.proofs.Words.{argument_word, decimals_apart, arguments_apart, argument_no_decimal, decimal_no_argument, find_new, find_old, find_kept}
 use Rattle.ir_text_module_round.proofs.Values.{found, found_new, found_old, source_id}
@@ -46,7 +46,7 @@ abbrev pub Here : Type 0
 Here = List (Binding PackTerm)
 
 abbrev pub term_of : (ℕ → ℕ) → Value → TypeTerm → BoundTerm
-term_of f v t = record { value = value_with f v; type = t }
+term_of f v t = record { value = value_with_id f v; type = t }
 
 -- the value is read by its name
 pub record IsRead (f : ℕ → ℕ) (here : Here) (v : Value) (y : Naming) : Type 0 where

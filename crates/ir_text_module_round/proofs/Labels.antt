@@ -22,7 +22,7 @@ use Rattle.ir_text.specs.Printing.{argument_text}
 use Rattle.ir_text.specs.TypeText.{type_text}
 use Rattle.ir_text_round.specs.Written.{FitsType}
 use Rattle.ir_text_round.proofs.Small.{both, lacks_token}
-use Rattle.ir_text_module_round.specs.Renumbered.{ops_with, with_ids}
+use Rattle.ir_tree_renumber.specs.Renumbered.{ops_with_ids, with_ids}
 use Rattle.ir_text_module_round.proofs.Texts.{Names, Ops, arguments_names, arguments_then, label_then}
 use Rattle.ir_text_module_round.proofs.Words.{argument_word}
 use Rattle.ir_text_module_round.proofs.Values.{source_id}
@@ -76,7 +76,7 @@ module _ (f : ℕ → ℕ) (scope : List Frame) (x r : ℕ) (away : (v : Value) 
     pub joined : Joined f (scope ++ arguments x r (length args) ∷ []) (arguments_names x r 0 args n) now.scopes.here
     pub outer : now.scopes.outer ≡ s.scopes.outer
     pub same : now.next ≡ s.next
-    pub made : region_of front (op_list (ops_with f os)) ≡ block args (ops_with f os)
+    pub made : region_of front (op_list (ops_with_ids f os)) ≡ block args (ops_with_ids f os)
 
   pub label_again : (margin : List ℕ) (args : List TypeTerm) (os : Ops) (n : Names) (s : Seen) (rest : List ℕ) → AreBlank margin → Joined f scope n s.scopes.here → n.arguments + length args < 2 ^ 128 → AllByRecursion (FitsType 32) args → length args ≤ 256
       → next_token s.bytes ≡ next_token (label_then margin args os n rest) → PlainFirst os rest → LabelRead args os n s rest
@@ -104,7 +104,7 @@ module _ (f : ℕ → ℕ) (scope : List Frame) (x r : ℕ) (away : (v : Value) 
     joined = joined_no_arguments f scope n s.scopes.here x r j;
     outer = refl;
     same = refl;
-    made = ap (λ (o : Ops). block [] (next (with_ids f t) o)) (lists_back (ops_with f ts));
+    made = ap (λ (o : Ops). block [] (next (with_ids f t) o)) (lists_back (ops_with_ids f ts));
   }
   label_again margin (t ∷ ts) os n s rest blank j small fit few e plain =
       let last = 41 ∷ 58 ∷ 10 ∷ rest in
@@ -124,5 +124,5 @@ module _ (f : ℕ → ℕ) (scope : List Frame) (x r : ℕ) (away : (v : Value) 
         joined = subst (λ (i : ℕ). Joined f (scope ++ arguments x r i ∷ []) (arguments_names x r 0 (t ∷ ts) n) more.scopes.here) count more.joined;
         outer = more.outer;
         same = refl;
-        made = ap (block (t ∷ ts)) (lists_back (ops_with f os));
+        made = ap (block (t ∷ ts)) (lists_back (ops_with_ids f os));
       }

@@ -12,3 +12,5 @@ pub mod Ops
 pub mod Visible
 pub mod Whole
 pub mod Numbered
+pub mod Writable
+pub mod Modules

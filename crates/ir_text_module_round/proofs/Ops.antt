@@ -27,7 +27,7 @@ use Rattle.ir_text.specs.Printing.{deeper, opening, closing, properties_text}
 use Rattle.ir_text_round.proofs.Ahead.{space_token}
 use Rattle.ir_text_round.proofs.OpEntries.{properties_again}
 use Rattle.ir_text_round.proofs.Small.{both, lacks_token, are_bytes}
-use Rattle.ir_text_module_round.specs.Renumbered.{with_ids, regions_with, region_with, ops_with}
+use Rattle.ir_tree_renumber.specs.Renumbered.{with_ids, regions_with_ids, region_with_ids, ops_with_ids}
 use Rattle.ir_text_module_round.specs.WrittenTrees.{FitsOp, FitsRegions, FitsRegion, FitsOps}
 use Rattle.ir_text_module_round.proofs.Texts.{Head, Names, Regions, Region, Ops, results_names, arguments_names, op_names, regions_names, region_names, tail_then, label_then, op_then, regions_then, region_then, ops_then}
 use Rattle.ir_text_module_round.proofs.Values.{source_id, Away, all_front, all_back, argument_away, results_names_keep, regions_keep, region_keeps, own_results}
@@ -94,7 +94,7 @@ module _ (f : ℕ → ℕ) (last : ℕ) where
 
   pub record OpsRead (d room : ℕ) (front : List Operation) (os : Ops) (s : Seen) (rest : List ℕ) : Type 0 where
     pub scopes : Scopes PackTerm
-    pub reads : IsOps CloseCurly (IsOp no_names last d) room front (front ++ op_list (ops_with f os)) s (record { bytes = rest; scopes = scopes; next = s.next + length (ops_ids os) })
+    pub reads : IsOps CloseCurly (IsOp no_names last d) room front (front ++ op_list (ops_with_ids f os)) s (record { bytes = rest; scopes = scopes; next = s.next + length (ops_ids os) })
     pub outer : scopes.outer ≡ s.scopes.outer
 
   -- that one operation is read, as a premise
@@ -143,14 +143,14 @@ module _ (f : ℕ → ℕ) (last : ℕ) where
       let more = others room (front ++ with_ids f t ∷ []) margin close rest (scope ++ results_of t ∷ []) m mid blank fit.1 sees.1 (omega (arith, deep)) (omega (arith, few, count, some_id t)) fresh_more one.joined closed (blank_passed 10 behind refl) in
       let plain = op_plain margin t n behind fit.0 (omega (arith, fresh.few_results)) in
       let lacks = not_seen CloseCurly s (lacks_token plain.lexeme CloseCurly s.bytes plain.behind (here ∙ plain.token) (plain.no_mark CloseCurly)) in
-      let ys = front ++ op_list (ops_with f (next t ts)) in
-      let all : (front ++ with_ids f t ∷ []) ++ op_list (ops_with f ts) ≡ ys = append_assoc front (with_ids f t ∷ []) (op_list (ops_with f ts)) in
+      let ys = front ++ op_list (ops_with_ids f (next t ts)) in
+      let all : (front ++ with_ids f t ∷ []) ++ op_list (ops_with_ids f ts) ≡ ys = append_assoc front (with_ids f t ∷ []) (op_list (ops_with_ids f ts)) in
       let sum : s.next + length (ids t) + length (ops_ids ts) ≡ s.next + length (ops_ids (next t ts)) = omega (arith, count) in
       let whole = ops_one (One d) room front _ (with_ids f t) s mid _ lacks one.reads more.reads in
       record {
         scopes = more.scopes;
         reads = subst (λ l. IsOps CloseCurly (One d) (suc room) front l s (record { bytes = rest; scopes = more.scopes; next = s.next + length (ops_ids (next t ts)) })) all
-            (subst (λ (i : ℕ). IsOps CloseCurly (One d) (suc room) front ((front ++ with_ids f t ∷ []) ++ op_list (ops_with f ts)) s (record { bytes = rest; scopes = more.scopes; next = i })) sum whole);
+            (subst (λ (i : ℕ). IsOps CloseCurly (One d) (suc room) front ((front ++ with_ids f t ∷ []) ++ op_list (ops_with_ids f ts)) s (record { bytes = rest; scopes = more.scopes; next = i })) sum whole);
         outer = more.outer ∙ one.outer;
       }
 
@@ -163,7 +163,7 @@ module _ (f : ℕ → ℕ) (last : ℕ) where
   -- that a region is read, as a premise
   abbrev pub ReadsRegion : ℕ → Region → Type 0
   ReadsRegion d g = (margin : List ℕ) (isolated : Bool) (scope : List Frame) (x r : ℕ) (front : List RegionTerm) (n : Names) (s : Seen) (rest : List ℕ) → AreBlank margin → FitsRegion g → SeesRegion scope x r g → region_depth g ≤ d → length (region_ids g) < 1048576 → length front ≡ r → Fresh f last scope n s.next 256 (region_ids g) → AllByRecursion (λ y. (x == y) ≡ false) (region_ids g) → ((v : Value) → in_scope scope v ≡ true → (source_id (source_of v) == x) ≡ false)
-      → Joined f scope n (if isolated then [] else s.scopes.here) → next_token s.bytes ≡ next_token (region_then margin x r g n rest) → IsRegion (Row d) (f x) isolated front (region_with f g) s (behind s rest (length (region_ids g)))
+      → Joined f scope n (if isolated then [] else s.scopes.here) → next_token s.bytes ≡ next_token (region_then margin x r g n rest) → IsRegion (Row d) (f x) isolated front (region_with_ids f g) s (behind s rest (length (region_ids g)))
 
   pub empty_read : (d : ℕ) → ReadsRegion d empty
   empty_read d margin isolated scope x r front n s rest blank fit sees deep few place fresh own apart j e =
@@ -205,13 +205,13 @@ module _ (f : ℕ → ℕ) (last : ℕ) where
       let state : behind s rest (length (ops_ids os)) ≡ seen_outside ended =
       ap (λ (l : Scopes PackTerm). record { bytes = rest; scopes = l; next = s.next + length (ops_ids os) }) (sym scopes_back)
       ∙ ap (λ (i : ℕ). record { bytes = rest; scopes = left row.scopes; next = i + length (ops_ids os) }) (sym label.same) in
-      (opened, mark_seen OpenCurly s text (e ∙ mark_token OpenCurly text tt), (label.front, label.now, subst (λ (i : ℕ). IsHead (f x) i label.front within label.now) (sym place) label.reads, (op_list (ops_with f os), ended, row.reads, (sym label.made, state))))
+      (opened, mark_seen OpenCurly s text (e ∙ mark_token OpenCurly text tt), (label.front, label.now, subst (λ (i : ℕ). IsHead (f x) i label.front within label.now) (sym place) label.reads, (op_list (ops_with_ids f os), ended, row.reads, (sym label.made, state))))
 
   -- that regions are read up to the closing parenthesis, as a premise
   abbrev pub ReadsRegions : ℕ → Region → Regions → Type 0
   ReadsRegions d g rs = (room : ℕ) (margin : List ℕ) (isolated : Bool) (scope : List Frame) (x r : ℕ) (front : List RegionTerm) (n : Names) (s : Seen) (rest : List ℕ) → AreBlank margin → FitsRegions (region g rs) → SeesRegions scope x r (region g rs) → regions_depth (region g rs) ≤ d → length (regions_ids (region g rs)) < 1048576 → region_count (region g rs) ≤ room → length front ≡ r → Fresh f last scope n s.next (256 * region_count (region g rs)) (regions_ids (region g rs)) → AllByRecursion (λ y. (x == y) ≡ false) (regions_ids (region g rs)) → ((v : Value) → in_scope scope v ≡ true → (source_id (source_of v) == x) ≡ false)
       → Joined f scope n (if isolated then [] else s.scopes.here) → next_token s.bytes ≡ next_token (region_then margin x r g n (regions_then margin x (r + 1) rs (region_names x r g n) (41 ∷ rest)))
-      → IsMore IsMarkSeen CloseRound (IsRegion (Row d) (f x) isolated) room front (front ++ region_list (regions_with f (region g rs))) s (behind s rest (length (regions_ids (region g rs))))
+      → IsMore IsMarkSeen CloseRound (IsRegion (Row d) (f x) isolated) room front (front ++ region_list (regions_with_ids f (region g rs))) s (behind s rest (length (regions_ids (region g rs))))
 
   pub last_read : (d : ℕ) (g : Region) → ReadsRegion d g → ReadsRegions d g no_regions
   last_read d g one zero margin isolated scope x r front n s rest blank fit sees deep few count place fresh own apart j e = absurd (omega (arith, count))
@@ -221,8 +221,8 @@ module _ (f : ℕ → ℕ) (last : ℕ) where
       let fresh_one = fresh_front f last scope n s.next (256 * region_count (region g no_regions)) 256 (region_ids g) [] fresh (omega arith) in
       let read = one margin isolated scope x r front n s (41 ∷ rest) blank fit.0 sees.0 (omega (arith, deep)) (omega (arith, few, same)) place fresh_one (all_front _ (region_ids g) [] own) apart j e in
       let mid = behind s (41 ∷ rest) (length (region_ids g)) in
-      subst (λ (i : ℕ). IsMore IsMarkSeen CloseRound (IsRegion (Row d) (f x) isolated) (suc room) front (front ++ region_with f g ∷ []) s (behind s rest i)) same
-      (more_last (IsRegion (Row d) (f x) isolated) room front (region_with f g) s mid (seen_rest mid rest) read (mark_seen CloseRound mid rest (mark_token CloseRound rest tt)))
+      subst (λ (i : ℕ). IsMore IsMarkSeen CloseRound (IsRegion (Row d) (f x) isolated) (suc room) front (front ++ region_with_ids f g ∷ []) s (behind s rest i)) same
+      (more_last (IsRegion (Row d) (f x) isolated) room front (region_with_ids f g) s mid (seen_rest mid rest) read (mark_seen CloseRound mid rest (mark_token CloseRound rest tt)))
 
   pub further_read : (d : ℕ) (g k : Region) (rs : Regions) → ReadsRegion d g → ReadsRegions d k rs → ReadsRegions d g (region k rs)
   further_read d g k rs one others zero margin isolated scope x r front n s rest blank fit sees deep few count place fresh own apart j e = absurd (omega (arith, count))
@@ -242,15 +242,15 @@ module _ (f : ℕ → ℕ) (last : ℕ) where
       let fresh_more = fresh_back f last scope scope n m s.next (256 * region_count (region g (region k rs))) (256 * region_count (region k rs)) (256 + 4096 * length (region_ids g)) (region_ids g) tail fresh grown (omega arith) (λ v i. all_back _ (region_ids g) tail (fresh.away v i)) in
       let keep : (v : Value) → in_scope scope v ≡ true → naming_of m.named v ≡ naming_of n.named v = λ v i. region_keeps (source_of v) x r g n (λ q a. argument_away (source_of v) x q a (apart v i)) (all_front _ (region_ids g) tail (fresh.away v i)) in
       let joined = joined_later f scope n m (if isolated then [] else s.scopes.here) j keep grown.results grown.arguments in
-      let front' = front ++ region_with f g ∷ [] in
-      let placed : length front' ≡ r + 1 = length-append front (region_with f g ∷ []) ∙ omega (arith, place) in
+      let front' = front ++ region_with_ids f g ∷ [] in
+      let placed : length front' ≡ r + 1 = length-append front (region_with_ids f g ∷ []) ∙ omega (arith, place) in
       let more = others room margin isolated scope x (r + 1) front' m after rest blank fit.1 sees.1 (omega (arith, deep)) (omega (arith, few, sum)) (omega (arith, count)) placed fresh_more (all_back _ (region_ids g) tail own) apart joined (blank_passed 32 ahead refl) in
       let open_yet = not_seen CloseRound mid (lacks_token (mark Comma) CloseRound (44 ∷ 32 ∷ ahead) (32 ∷ ahead) (mark_token Comma (32 ∷ ahead) tt) (λ e. absurd cc)) in
-      let all : front' ++ region_list (regions_with f (region k rs)) ≡ front ++ region_list (regions_with f (region g (region k rs))) = append_assoc front (region_with f g ∷ []) (region_list (regions_with f (region k rs))) in
+      let all : front' ++ region_list (regions_with_ids f (region k rs)) ≡ front ++ region_list (regions_with_ids f (region g (region k rs))) = append_assoc front (region_with_ids f g ∷ []) (region_list (regions_with_ids f (region k rs))) in
       let total : s.next + length (region_ids g) + length tail ≡ s.next + length (regions_ids (region g (region k rs))) = omega (arith, sum) in
-      let whole = more_one (IsRegion (Row d) (f x) isolated) room front _ (region_with f g) s mid after _ read open_yet (mark_seen Comma mid (32 ∷ ahead) (mark_token Comma (32 ∷ ahead) tt)) more in
+      let whole = more_one (IsRegion (Row d) (f x) isolated) room front _ (region_with_ids f g) s mid after _ read open_yet (mark_seen Comma mid (32 ∷ ahead) (mark_token Comma (32 ∷ ahead) tt)) more in
       subst (λ l. IsMore IsMarkSeen CloseRound (IsRegion (Row d) (f x) isolated) (suc room) front l s (behind s rest (length (regions_ids (region g (region k rs)))))) all
-      (subst (λ (i : ℕ). IsMore IsMarkSeen CloseRound (IsRegion (Row d) (f x) isolated) (suc room) front (front' ++ region_list (regions_with f (region k rs))) s (record { bytes = rest; scopes = s.scopes; next = i })) total whole)
+      (subst (λ (i : ℕ). IsMore IsMarkSeen CloseRound (IsRegion (Row d) (f x) isolated) (suc room) front (front' ++ region_list (regions_with_ids f (region k rs))) s (record { bytes = rest; scopes = s.scopes; next = i })) total whole)
 
   -- ---- one operation
 
@@ -260,7 +260,7 @@ module _ (f : ℕ → ℕ) (last : ℕ) where
 
   pub record MiddleRead (d : ℕ) (margin : List ℕ) (h : Head) (rs : Regions) (m : Names) (s : Seen) (tail : List ℕ) : Type 0 where
     pub no_less : Not IsMark Less (middle margin h rs m tail)
-    pub reads : IsRegions (Row d) (f h.id) (is_isolated h.name) (region_list (regions_with f rs)) s (behind s tail (length (regions_ids rs)))
+    pub reads : IsRegions (Row d) (f h.id) (is_isolated h.name) (region_list (regions_with_ids f rs)) s (behind s tail (length (regions_ids rs)))
 
   -- that the regions of an operation are read, as a premise
   abbrev pub ReadsMiddle : ℕ → Regions → Type 0
@@ -328,7 +328,7 @@ module _ (f : ℕ → ℕ) (last : ℕ) where
       let count : s.next + 1 + length (regions_ids rs) ≡ s.next + length (ids (op h rs)) = omega arith in
       let scopes = finished n.results s.next h.results s.scopes in
       let y = with_ids f (op h rs) in
-      let kids = region_list (regions_with f rs) in
+      let kids = region_list (regions_with_ids f rs) in
       let first = start_of f m.named n.results h in
       let tail_read = subst (λ (i : ℕ). IsTail s.next first h.properties kids y after (record { bytes = 10 ∷ rest; scopes = scopes; next = i })) count ended in
       let regions_read = subst (λ (i : ℕ). IsRegions (Row d) i isolated kids begun after) fresh.runs.0 mid.reads in

@@ -29,7 +29,7 @@ use Rattle.ir_text_round.proofs.OpEntries.{attributes_again}
 use Rattle.ir_text_round.proofs.Small.{lacks_token}
 use Rattle.ir_text_round.proofs.Sorted.{properties_stay, attributes_stay}
 use Rattle.ir_text_round.proofs.Types.{function_type_again}
-use Rattle.ir_text_module_round.specs.Renumbered.{regions_with, with_ids}
+use Rattle.ir_tree_renumber.specs.Renumbered.{regions_with_ids, with_ids}
 use Rattle.ir_text_module_round.specs.WrittenTrees.{FitsHead}
 use Rattle.ir_text_module_round.proofs.Texts.{Head, Regions, tail_then}
 use Rattle.ir_text_module_round.proofs.Front.{start_of, bound_of, bound_types, bound_values, result_words}
@@ -73,18 +73,18 @@ regions_back (region g rs) = ap (region g) (regions_back rs)
 
 -- the operation is made of what is read
 made_again : (f : ℕ → ℕ) (id : ℕ) (named : Named) (h : Head) (rs : Regions) → FitsHead h → f h.id ≡ id
-    → with_ids f (op h rs) ≡ made (is_property (Some h.name)) key_before id h.name (map (λ (b : BoundTerm). b.value) (map (bound_of f named []) h.operands)) h.properties h.attributes h.results (region_list (regions_with f rs))
+    → with_ids f (op h rs) ≡ made (is_property (Some h.name)) key_before id h.name (map (λ (b : BoundTerm). b.value) (map (bound_of f named []) h.operands)) h.properties h.attributes h.results (region_list (regions_with_ids f rs))
 made_again f id named h rs fit e =
     let p = properties_stay h.name h.properties h.attributes fit.properties.sorted fit.others in
     let a = attributes_stay h.name h.properties h.attributes fit.attributes.sorted fit.others in
-    rw (bound_values f named [] h.operands, p, a, regions_back (regions_with f rs), sym e) refl
+    rw (bound_values f named [] h.operands, p, a, regions_back (regions_with_ids f rs), sym e) refl
 
 type_spaced : (ins outs : List TypeTerm) (back rest : List ℕ) → IsFunctionType (ins, outs) back rest → IsFunctionType (ins, outs) (32 ∷ back) rest
 unfolding IsFunctionType
 type_spaced ins outs back rest k = (k.0, space_token _ back k.0 k.1, k.2)
 
 pub tail_again : (f : ℕ → ℕ) (m : ℕ) (first named : Named) (h : Head) (rs : Regions) (id : ℕ) (s : Seen) (rest : List ℕ) → FitsHead h → AllByRecursion (FitsType 32) (map (value_type named) h.operands) → length (map (value_type named) h.operands) ≤ 256 → map (value_type first) h.operands ≡ map (value_type named) h.operands → f h.id ≡ id
-    → find (decimal m) s.scopes.here ≡ None → s.bytes ≡ tail_then h named rest → IsTail id (start_of f first m h) h.properties (region_list (regions_with f rs)) (with_ids f (op h rs)) s (record { bytes = 10 ∷ rest; scopes = finished m id h.results s.scopes; next = s.next })
+    → find (decimal m) s.scopes.here ≡ None → s.bytes ≡ tail_then h named rest → IsTail id (start_of f first m h) h.properties (region_list (regions_with_ids f rs)) (with_ids f (op h rs)) s (record { bytes = 10 ∷ rest; scopes = finished m id h.results s.scopes; next = s.next })
 tail_again f m first named h rs id s rest fit types few same e fresh bytes =
     let ins = map (value_type named) h.operands in
     let back = types_then h named rest in

@@ -13,7 +13,8 @@ use Rattle.ir_text_read_base.specs.Free.{no_names}
 use Rattle.ir_text_read_base.specs.Seen.{seen_fresh}
 use Rattle.ir_text_read_base.specs.Spelling.{IsSingle}
 use Rattle.ir_text.specs.Printing.{text_of, blank}
-use Rattle.ir_text_module_round.specs.Renumbered.{Runs, with_ids}
+use Rattle.ir_tree_renumber.specs.Renumbered.{with_ids}
+use Rattle.ir_text_module_round.specs.Runs.{Runs}
 use Rattle.ir_text_module_round.specs.WrittenTrees.{FitsOp}
 use Rattle.ir_text_module_round.proofs.Texts.{names_of, op_then, puts_op, nothing_behind}
 use Rattle.ir_text_module_round.proofs.Joined.{joined_nothing}
@@ -21,7 +22,7 @@ use Rattle.ir_text_module_round.proofs.Fresh.{Fresh}
 use Rattle.ir_text_module_round.proofs.Ops.{op_again}
 use Rattle.ir_text_module_round.proofs.Visible.{sees_op}
 
-whole_text : (t : Operation) → text_of t ≡ op_then [] t (names_of blank) []
+pub whole_text : (t : Operation) → text_of t ≡ op_then [] t (names_of blank) []
 whole_text t = sym (nothing_behind (text_of t)) ∙ (puts_op [] t).text blank []
 
 -- where f gives the ids 0, 1, .. in pre-order

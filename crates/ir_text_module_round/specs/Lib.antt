@@ -1,3 +1,3 @@
 pub mod Standing
-pub mod Renumbered
+pub mod Runs
 pub mod WrittenTrees
