@@ -7,8 +7,6 @@ use Rattle.ir_types.specs.Terms.{name_term, type_term, attr_term}
 use Rattle.ir_tree.specs.Tree.{Op as Tree}
 use Rattle.ir_tree.specs.Meaning.{meaning}
 use Rattle.ir_tree.specs.declared.value.Value.{Value}
-use Rattle.ir_tree.specs.declared.value.Value.TheVariants.{Result, Arg}
-use Rattle.ir_tree.specs.Frames.{owner_of, place_of}
 use Rattle.ir_event.specs.declared.event.Event.{Event}
 use Rattle.ir_event.specs.declared.event.Event.TheVariants.{Put, Take, SetOperand, SetEntry, Shift}
 use Rattle.ir_event.specs.declared.row.Cell.{Cell}
@@ -22,6 +20,7 @@ use Rattle.listeners.specs.declared.key.Key.{Key}
 use Rattle.listeners.specs.Uses.{in_order, uses_of, use_row}
 use Rattle.listeners.specs.Keys.{key_of, keys_of, value_at, key_cells, IsFollowed}
 use Rattle.listeners.proofs.Orders.{put_among}
+use Rattle.listeners.proofs.Sorted.{value_back}
 use Rattle.listeners.proofs.Places.{one_use, set_uses, mapped_uses}
 
 -- a table that followed an event is that of the module after it
@@ -35,10 +34,6 @@ followed_agrees c (SetOperand x k old new) m n ks ls s f is =
     ∙ sym (ap (λ t. keys_of (uses_of t)) s.changes.after ∙ ap (λ l. keys_of (in_order l)) r.is ∙ ap keys_of (put_among r.front r.back (one_use new x k)))
 followed_agrees c (SetEntry x part key old new) m n ks ls s f is = absurd f
 followed_agrees c (Shift x old new) m n ks ls s f is = absurd f
-
-value_back : (v : Value) → value_at (owner_of v).0 (owner_of v).1 (place_of v) ≡ v
-value_back (Result x k) = refl
-value_back (Arg x r k) = refl
 
 -- the row of a key says its use
 row_says : (c : Things) (row : Row) (u : Use) → row.cells.items ≡ key_cells (key_of u) → row_meaning c row ≡ use_row u

@@ -1,27 +1,21 @@
 -- Uses put into a table of keys, and taken out.
-use Rattle.std.proofs.Common.{◌≡◌, refl, ap, sym, ◌∙◌, Bool, true, false, true≢false, cond, not, ◌||◌, ℕ, ◌+◌, ◌<◌, List, [], ◌∷◌, ◌++◌, length, take, get_or, append-nil}
-use Rattle.std.proofs.lemmas.List.{take_more}
+use Rattle.std.proofs.Common.{◌≡◌, refl, ap, sym, ◌∙◌, Bool, true, false, true≢false, cond, not, ◌||◌, ℕ, ◌+◌, ◌<◌, List, [], ◌∷◌, ◌++◌, length, take, get_or, append-nil, map}
+use Rattle.std.proofs.lemmas.List.{take_more, map-append}
 use Rattle.std.specs.Bool.{OnTrue}
 use Rattle.std.specs.declared.cmp.Ordering.{Ordering}
 use Rattle.std.specs.declared.cmp.Ordering.TheVariants.{Less, Equal, Greater}
 use Rattle.std.specs.List.{list_any}
-use Rattle.std.specs.Ordering.{ordering_then, match_ordering, nat_cmp, is_gt, is_eq}
-use Rattle.std.specs.Option.{option_cmp}
+use Rattle.std.specs.Ordering.{match_ordering, is_gt, is_eq}
 use Rattle.std.specs.BTreeMap.{is_at}
 use Rattle.std.specs.BTreeSet.{insert_key}
 use Rattle.std.specs.Set.{remove_key}
 use Rattle.listeners.specs.declared.key.Use.{Use}
 use Rattle.listeners.specs.declared.key.Key.{Key}
 use Rattle.listeners.specs.Uses.{use_cmp, put_use, in_order}
-use Rattle.listeners.specs.Keys.{key_of, keys_of}
+use Rattle.listeners.specs.Keys.{key_of, keys_of, use_of}
 use Rattle.listeners.specs.Drops.{drop_use}
-use Rattle.listeners.proofs.Orders.{put_among}
-
--- the order of keys
-abbrev pub key_cmp : Key → Key → Ordering
-key_cmp a b =
-    ordering_then (nat_cmp a.owner b.owner)
-    (ordering_then (option_cmp nat_cmp a.region b.region) (ordering_then (nat_cmp a.place b.place) (ordering_then (nat_cmp a.user b.user) (nat_cmp a.operand b.operand))))
+use Rattle.listeners.proofs.Orders.{put_among, order_again}
+use Rattle.listeners.proofs.Sorted.{key_cmp, uses_back}
 
 -- a key that is not there yet is put where its use is
 pub insert_put : (u : Use) (us : List Use) → list_any (is_at (key_cmp (key_of u))) (keys_of us) ≡ false → insert_key key_cmp (keys_of us) (key_of u) ≡ keys_of (put_use u us)
@@ -59,13 +53,17 @@ added_put true old new k u us is b n o = n ∙ (λ i. insert_key key_cmp (o i) (
 pub removed_drop : (old new : List Key) (k : Key) (u : Use) (us : List Use) → k ≡ key_of u → new ≡ remove_key (is_at (key_cmp k)) old → old ≡ keys_of us → new ≡ keys_of (drop_use u us)
 removed_drop old new k u us is n o = n ∙ (λ i. remove_key (is_at (key_cmp (is i))) (o i)) ∙ remove_drop u us
 
--- one use more of those that are put in order
-pub next_put : (uses : List Use) (i : ℕ) (u : Use) → i < length uses → u ≡ get_or uses i u → in_order (take (i + 1) uses) ≡ put_use u (in_order (take i uses))
-next_put uses i u lt is =
-    ap in_order (take_more uses i u lt)
-    ∙ (λ j. in_order (take i uses ++ sym is j ∷ []))
-    ∙ put_among (take i uses) [] u
-    ∙ ap (λ l. put_use u (in_order l)) (append-nil (take i uses))
+-- one key more of those whose uses are put in order
+pub next_put : (keys : List Key) (i : ℕ) (k : Key) → i < length keys → k ≡ get_or keys i k → in_order (map use_of (take (i + 1) keys)) ≡ put_use (use_of k) (in_order (map use_of (take i keys)))
+next_put keys i k lt is =
+    ap (λ l. in_order (map use_of l)) (take_more keys i k lt ∙ (λ j. take i keys ++ sym is j ∷ []))
+    ∙ ap in_order (map-append use_of (take i keys) (k ∷ []))
+    ∙ put_among (map use_of (take i keys)) [] (use_of k)
+    ∙ ap (λ l. put_use (use_of k) (in_order l)) (append-nil (map use_of (take i keys)))
+
+-- the table of keys of uses in order
+pub table_keys : (ks ls : List Key) (us : List Use) → ls ≡ keys_of (in_order us) → ks ≡ keys_of (in_order (map use_of ls)) → ks ≡ keys_of (in_order us)
+table_keys ks ls us is made = made ∙ ap (λ l. keys_of (in_order l)) (ap (map use_of) is ∙ uses_back (in_order us)) ∙ ap keys_of (order_again us)
 
 pub was_true : (b : Bool) (P : Type 0) → b ≡ true → OnTrue b P → P
 was_true true P e p = p

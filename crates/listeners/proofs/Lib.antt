@@ -1,4 +1,6 @@
 pub mod Orders
+pub mod Sorted
+pub mod Listed
 pub mod Keys
 pub mod Places
 pub mod Following

@@ -87,7 +87,7 @@ not_both u v a = ap is_gt (use_total.antisymm v u ∙ ap ordering_reverse (great
 put_behind : (u v : Use) (vs : List Use) → is_gt (use_cmp u v) ≡ true → put_use u (v ∷ vs) ≡ v ∷ put_use u vs
 put_behind u v vs e = ap (λ b. cond b (v ∷ put_use u vs) (u ∷ v ∷ vs)) e
 
-put_first : (u v : Use) (vs : List Use) → is_gt (use_cmp u v) ≡ false → put_use u (v ∷ vs) ≡ u ∷ v ∷ vs
+pub put_first : (u v : Use) (vs : List Use) → is_gt (use_cmp u v) ≡ false → put_use u (v ∷ vs) ≡ u ∷ v ∷ vs
 put_first u v vs e = ap (λ b. cond b (v ∷ put_use u vs) (u ∷ v ∷ vs)) e
 
 -- two uses may be put in either order
@@ -115,6 +115,19 @@ put_twice u v (w ∷ ws) = go (put_twice u v ws) (is_gt (use_cmp u w)) (is_gt (u
 pub put_among : (xs ys : List Use) (u : Use) → in_order (xs ++ u ∷ ys) ≡ put_use u (in_order (xs ++ ys))
 put_among [] ys u = refl
 put_among (x ∷ xs) ys u = ap (put_use x) (put_among xs ys u) ∙ put_twice x u (in_order (xs ++ ys))
+
+-- uses that are in order stay as they are
+put_later : (u : Use) (us : List Use) → in_order (put_use u us) ≡ put_use u (in_order us)
+put_later u [] = refl
+put_later u (v ∷ vs) = go (put_later u vs) (is_gt (use_cmp u v)) refl
+  where
+    go : in_order (put_use u vs) ≡ put_use u (in_order vs) → (b : Bool) → is_gt (use_cmp u v) ≡ b → in_order (put_use u (v ∷ vs)) ≡ put_use u (in_order (v ∷ vs))
+    go later true e = ap in_order (put_behind u v vs e) ∙ ap (put_use v) later ∙ put_twice v u (in_order vs)
+    go later false e = ap in_order (put_first u v vs e)
+
+pub order_again : (us : List Use) → in_order (in_order us) ≡ in_order us
+order_again [] = refl
+order_again (u ∷ us) = put_later u (in_order us) ∙ ap (put_use u) (order_again us)
 
 -- what was put is dropped again
 pub drop_put : (u : Use) (us : List Use) → drop_use u (put_use u us) ≡ us

@@ -24,6 +24,10 @@ abbrev pub value_at : ℕ → Option ℕ → ℕ → Value
 value_at x None k = Result x k
 value_at x (Some r) k = Arg x r k
 
+-- the use of a key
+abbrev pub use_of : Key → Use
+use_of k = record { value = value_at k.owner k.region k.place; user = k.user; operand = k.operand }
+
 -- the cells of a key's row
 abbrev pub key_cells : Key → List Cell
 key_cells key = cell.Val (value_at key.owner key.region key.place) ∷ cell.Op key.user ∷ cell.Num key.operand ∷ []

@@ -4,13 +4,14 @@ use Rattle.ir_event.specs.Listener.{Listener}
 use Rattle.listeners.specs.declared.uses.Uses.{Uses}
 use Rattle.listeners.specs.Uses.{uses_of, uses_rows}
 use Rattle.listeners.specs.Keys.{keys_of}
+use Rattle.listeners.specs.KeptKeys.{kept_keys}
 
--- the uses of a module are kept by their keys
+-- the uses of a module are kept, in order or so that their order is known
 abbrev pub uses_listener : Uses → Listener
 uses_listener s = record {
   kind = 1;
   analysis = uses_rows;
-  agrees = λ c m. (s.stale ≡ false) × (s.table.keys ≡ keys_of (uses_of m.tree));
+  agrees = λ c m. (s.stale ≡ false) × (kept_keys s.kept ≡ keys_of (uses_of m.tree));
   stale = s.stale;
   heard = None;
   fresh = λ c m h. h.0;

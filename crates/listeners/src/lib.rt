@@ -2,6 +2,8 @@
 #![tactic(auto)]
 
 mod collect;
+mod kept;
 pub mod key;
+mod listing;
 mod table;
 pub mod uses;

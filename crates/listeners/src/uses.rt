@@ -1,18 +1,16 @@
 //! The listener that keeps the uses of values.
-ghost use Rattle.std.specs.Prelude.{◌≡◌, true, IfOk};
-ghost use Rattle.listeners.specs.Uses.{uses_of};
-ghost use Rattle.listeners.specs.Keys.{keys_of};
+ghost use Rattle.std.specs.Prelude.{◌≡◌, true};
 
 use crate::collect::collect;
-use crate::key::Key;
-use crate::table::{follow, rows, table_of};
+use crate::kept::Kept;
+use crate::listing::Listing;
+use crate::table::{follow, rows};
 use ir_event::analysis::Analysis;
 use ir_event::event::Event;
 use ir_event::row::{Kind, Memory, ReportFault, Row};
 use ir_event::view::View;
 use ir_event::world::World;
 use std::alloc::Global;
-use std::collections::BTreeSet;
 
 /// The analysis `uses`: each use of each value, in order.
 ///
@@ -20,7 +18,7 @@ use std::collections::BTreeSet;
 #[derive(Drop)]
 pub struct Uses {
     alloc: Global,
-    table: BTreeSet<Key>,
+    kept: Kept,
     stale: bool,
 }
 
@@ -33,20 +31,10 @@ impl Uses {
     {
         Uses {
             alloc,
-            table: BTreeSet::new(alloc),
+            kept: Kept::Listed(Listing::new(alloc)),
             stale: true,
         }
     }
-}
-
-/// The table of a world's uses.
-fn table_in(alloc: Global, world: &World) -> Result<BTreeSet<Key>, Memory>
-    ensures { IfOk result (λ t. t.keys ≡ keys_of (uses_of world.now.store.tree)) }
-{
-    let Ok(uses) = collect(alloc, world.store.root()) else {
-        return Err(Memory);
-    };
-    table_of(alloc, &uses)
 }
 
 impl Analysis for Uses {
@@ -59,13 +47,15 @@ impl Analysis for Uses {
     }
 
     fn begin(&mut self, world: &World) -> Result<(), Memory> {
-        match table_in(self.alloc, world) {
-            Ok(table) => {
-                self.table = table;
+        // What was kept goes first, so that there is room for what is listed now.
+        self.kept = Kept::Listed(Listing::new(self.alloc));
+        match collect(self.alloc, world.store.root()) {
+            Ok(uses) => {
+                self.kept = Kept::Listed(uses);
                 self.stale = false;
                 Ok(())
             }
-            Err(Memory) => {
+            Err(_) => {
                 self.stale = true;
                 Err(Memory)
             }
@@ -76,7 +66,7 @@ impl Analysis for Uses {
         if self.stale {
             return view;
         }
-        if !follow(&mut self.table, &event) {
+        if !follow(self.alloc, &mut self.kept, &event) {
             self.stale = true;
             return view;
         }
@@ -91,7 +81,7 @@ impl Analysis for Uses {
         if self.stale {
             return Err(ReportFault::Stale);
         }
-        match rows(alloc, &self.table) {
+        match rows(alloc, &self.kept) {
             Ok(rows) => Ok(rows),
             Err(_) => Err(ReportFault::Memory),
         }

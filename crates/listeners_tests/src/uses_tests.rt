@@ -36,6 +36,24 @@ fn follows_an_operand_back(rt: HostRuntime) -> Result<(), Refusal> {
 }
 
 #[test]
+fn reports_alike_before_and_after_events(rt: HostRuntime) -> Result<(), Refusal> {
+    let alloc = rt.alloc();
+    let mut world = a_world(alloc)?;
+    let mut panel: Panel<Uses> = Panel::new(alloc);
+    let at_first = [(arg(1, 0, 0), 3, 1), (result(2, 0), 3, 0)];
+    assert!(rt; panel.attach(&world, Uses::new(alloc)).is_ok());
+    assert!(rt; reports(alloc, &panel, &at_first));
+    assert!(rt; reports(alloc, &panel, &at_first));
+    assert!(rt; set_and_tell(&mut world, &mut panel, 3, 0, result(2, 0)));
+    assert!(rt; reports(alloc, &panel, &at_first));
+    assert!(rt; set_and_tell(&mut world, &mut panel, 3, 1, result(2, 0)));
+    assert!(rt; reports(alloc, &panel, &[(result(2, 0), 3, 0), (result(2, 0), 3, 1)]));
+    assert!(rt; panel.resync(&world, Kind::new(1)).is_ok());
+    assert!(rt; reports(alloc, &panel, &[(result(2, 0), 3, 0), (result(2, 0), 3, 1)]));
+    Ok(())
+}
+
+#[test]
 fn is_stale_at_first(rt: HostRuntime) -> Result<(), Refusal> {
     let alloc = rt.alloc();
     let mut uses = Uses::new(alloc);

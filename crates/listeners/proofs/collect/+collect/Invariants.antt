@@ -6,7 +6,7 @@ use Rattle.listeners.proofs.collect.+collect.Given as goal
 
 abbrev pub invariant-push_uses-loop-region : goal.invariant-push_uses-loop-region
 invariant-push_uses-loop-region l =
-    l.out.items ++ regions_uses (regions_of (map region_view (drop l.region-index l.region-items))) ≡ l.initial.out.items ++ regions_uses (regions_of (map region_view l.region-items))
+    l.out ++ regions_uses (regions_of (map region_view (drop l.region-index l.region-items))) ≡ l.initial.out ++ regions_uses (regions_of (map region_view l.region-items))
 
 abbrev pub invariant-push_region_uses-loop-op : goal.invariant-push_region_uses-loop-op
-invariant-push_region_uses-loop-op l = l.out.items ++ ops_uses (ops_of (drop l.op-index l.op-items)) ≡ l.initial.out.items ++ ops_uses (ops_of l.op-items)
+invariant-push_region_uses-loop-op l = l.out ++ ops_uses (ops_of (drop l.op-index l.op-items)) ≡ l.initial.out ++ ops_uses (ops_of l.op-items)

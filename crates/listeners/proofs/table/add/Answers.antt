@@ -2,4 +2,4 @@ use Rattle.listeners.proofs.Keys.{added_put}
 use Rattle.listeners.proofs.table.add.Goals as goal
 
 pub returns-in-Ok : goal.returns-in-Ok
-returns-in-Ok c us is = added_put c.in-Ok.added c.args.table.now.keys c.insert.new.self.keys c.key.result c.args.entry.now us c.key.ensures c.in-Ok.ensures.added c.in-Ok.ensures.keys is
+returns-in-Ok c u us key is = added_put c.in-Ok.added c.args.table.now.keys c.insert.new.self.keys c.args.added u us key c.in-Ok.ensures.added c.in-Ok.ensures.keys is

@@ -8,4 +8,5 @@ use Rattle.listeners.proofs.table.exchange.Goals as goal
 pub returns : goal.returns
 returns c us is =
     let before : Use = record { value = c.args.old.now; user = c.args.user; operand = c.args.operand } in
-    c.add.ensures us (c.take.ensures (put_use before us) is ∙ ap keys_of (drop_put before us))
+    let after : Use = record { value = c.args.new.now; user = c.args.user; operand = c.args.operand } in
+    c.add.ensures after us c.key.ensures (c.take.ensures (put_use before us) is ∙ ap keys_of (drop_put before us))

@@ -1,11 +1,11 @@
-use Rattle.std.proofs.Common.{◌≡◌, true, ap, sym, ◌∙◌, arith, rules, take}
+use Rattle.std.proofs.Common.{◌≡◌, ◌∙◌, map}
+use Rattle.std.proofs.lemmas.Result.{IfOk-weaker}
 use Rattle.listeners.specs.Uses.{in_order}
-use Rattle.listeners.specs.Keys.{keys_of}
-use Rattle.listeners.proofs.Keys.{next_put, was_true}
+use Rattle.listeners.specs.Keys.{keys_of, use_of}
+use Rattle.listeners.proofs.Keys.{table_keys}
 use Rattle.listeners.proofs.table.table_of.Goals as goal
 
-pub loop-entry-preserved : goal.loop-entry-preserved
-loop-entry-preserved c =
-    let yes : c.add.result ≡ true = search rules in
-    was_true c.add.result _ yes (c.add.ensures (in_order (take c.loop-entry.entry-index c.args.uses.now)) c.loop-entry.invariant)
-    ∙ sym (ap keys_of (next_put c.args.uses.now c.loop-entry.entry-index c.entry-item.result (omega arith) c.entry-item.is))
+pub returns : goal.returns
+returns c =
+    let is = c.deref.ensures.value ∙ c.in_ok-keys.ensures in
+    IfOk-weaker c.table_of_keys.result (λ t. t.keys ≡ keys_of (in_order (map use_of c.deref.result.now))) (λ t. t.keys ≡ keys_of (in_order c.args.uses.now)) (λ t made. table_keys t.keys c.deref.result.now c.args.uses.now is made) c.table_of_keys.ensures
