@@ -167,6 +167,11 @@ first_token (b ∷ bs) = token_at b bs
 unfoldable pub next : List ℕ → Option (Lexeme × List ℕ)
 next bytes = first_token (skip bytes)
 
+-- what follows the byte, where it is the first
+abbrev pub behind_first : ℕ → List ℕ → Option (List ℕ)
+behind_first b [] = None
+behind_first b (c ∷ cs) = if c == b then Some cs else None
+
 -- whether a token that is no punctuation begins with the byte, where one does
 abbrev pub begins_other : ℕ → Bool
 begins_other b = is_ascii_digit b || is_letter b || (b == 34 || b == 37 || b == 94 || b == 35 || b == 33 || b == 64)

@@ -2,7 +2,7 @@
 ghost use Rattle.std.specs.Prelude.{◌≡◌, ◌+◌, ◌≤◌, ◌∷◌, ℕ, length, option_map, IfErr};
 ghost use Rattle.std.specs.List.{prefix_len};
 ghost use Rattle.ir_text_base.specs.Reading.{Gives};
-ghost use Rattle.ir_text_base.specs.Tokens.{begins_other, exponent_len, fraction_len, hex_len, lexeme_of, longer, mark, mark_at, mark_of, name_parts, next, next_mark, number_at, sign_at, sign_len, skip, skip_line, string_parts, suffix_len, symbol_at, token_at};
+ghost use Rattle.ir_text_base.specs.Tokens.{behind_first, begins_other, exponent_len, fraction_len, hex_len, lexeme_of, longer, mark, mark_at, mark_of, name_parts, next, next_mark, number_at, sign_at, sign_len, skip, skip_line, string_parts, suffix_len, symbol_at, token_at};
 ghost use Rattle.ir_types.specs.declared.refusal.Refusal.{Refusal};
 
 use crate::fault::Fault;
@@ -285,6 +285,16 @@ pub fn token(bytes: &[u8]) -> Result<(Token<'_>, &[u8]), Fault>
             refusal: Refusal::BadToken,
             left,
         }),
+    }
+}
+
+/// What follows the byte, where it is the first behind the blanks and comments at the front.
+pub fn after_byte(bytes: &[u8], byte: u8) -> Option<&[u8]>
+    ensures { option_map (λ r. r.now) result ≡ behind_first byte (skip bytes.now) }
+{
+    match skip(bytes) {
+        [first, rest @ ..] if *first == byte => Some(rest),
+        _ => None,
     }
 }
 

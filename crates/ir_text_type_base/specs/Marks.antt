@@ -1,5 +1,5 @@
 -- Punctuation that must stand next, or may.
-use Rattle.std.specs.Prelude.{ℕ, Bool, false, ◌==◌, if◌then◌else◌, List, Option, Some, None, option_and_then}
+use Rattle.std.specs.Prelude.{ℕ, Bool, true, false, ◌==◌, if◌then◌else◌, List, Option, Some, None, option_and_then}
 use Rattle.ir_text_base.specs.declared.token.Mark.{Mark}
 use Rattle.ir_text_base.specs.declared.token.Mark.TheVariants.{OpenRound, CloseRound, OpenCurly, CloseCurly, OpenSquare, CloseSquare, Less, Greater, Comma, Equal, Colon, DoubleColon, Minus, Arrow, Question, Star, End}
 use Rattle.ir_text_base.specs.Tokens.{Lexeme, mark, integer, float, string, bare, value, label, hash, bang, symbol, quoted, next}
@@ -23,6 +23,26 @@ mark_code Arrow = 1
 mark_code Question = 63
 mark_code Star = 42
 mark_code End = 0
+
+-- whether a mark has one byte, with which no longer mark begins
+abbrev pub is_single : Mark → Bool
+is_single OpenRound = true
+is_single CloseRound = true
+is_single OpenCurly = true
+is_single CloseCurly = true
+is_single OpenSquare = true
+is_single CloseSquare = true
+is_single Less = true
+is_single Greater = true
+is_single Comma = true
+is_single Equal = true
+is_single Colon = false
+is_single DoubleColon = false
+is_single Minus = false
+is_single Arrow = false
+is_single Question = true
+is_single Star = true
+is_single End = false
 
 abbrev pub is_mark : Mark → Lexeme → Bool
 is_mark m (mark k) = mark_code k == mark_code m

@@ -3,7 +3,7 @@ ghost use Rattle.std.specs.Prelude.{◌≡◌, option_map, length};
 ghost use Rattle.ir_types.specs.Things.{TypeIsOf, AttrIsOf};
 ghost use Rattle.ir_text_base.specs.Tokens.{lexeme_of, next};
 ghost use Rattle.ir_text_type_base.specs.Outcomes.{Gives, of_option};
-ghost use Rattle.ir_text_type_base.specs.Marks.{mark_code, after};
+ghost use Rattle.ir_text_type_base.specs.Marks.{mark_code, is_single, after};
 ghost use Rattle.ir_text_type_base.specs.Typed.{name_step, type_step, attr_step};
 
 use crate::error::{ReadError, refused_by_context, wrong};
@@ -38,9 +38,23 @@ fn code(mark: Mark) -> u8
     }
 }
 
-/// What follows the mark, where it is the next token.
+/// Whether a mark has one byte, with which no longer mark begins.
+fn is_single(mark: Mark) -> bool
+    ensures { result ≡ is_single mark }
+{
+    match mark {
+        Mark::Colon => false,
+        Mark::DoubleColon => false,
+        Mark::Minus => false,
+        Mark::Arrow => false,
+        Mark::End => false,
+        _ => true,
+    }
+}
+
+/// What follows a mark, where it is the next token.
 #[tactic(auto, using(crate::proofs::Marked::after_is), unfolding(crate::specs::Marks::after))]
-pub fn after(bytes: &[u8], mark: Mark) -> Option<&[u8]>
+fn after_any(bytes: &[u8], mark: Mark) -> Option<&[u8]>
     ensures { option_map (λ r. r.now) result ≡ after mark bytes.now }
 {
     let (found, rest) = lexer::mark(bytes)?;
@@ -49,6 +63,17 @@ pub fn after(bytes: &[u8], mark: Mark) -> Option<&[u8]>
     } else {
         None
     }
+}
+
+/// What follows the mark, where it is the next token.
+#[tactic(auto, using(crate::proofs::Marked::single_is))]
+pub fn after(bytes: &[u8], mark: Mark) -> Option<&[u8]>
+    ensures { option_map (λ r. r.now) result ≡ after mark bytes.now }
+{
+    if is_single(mark) {
+        return lexer::after_byte(bytes, code(mark));
+    }
+    after_any(bytes, mark)
 }
 
 /// What follows the mark, which must be the next token.
