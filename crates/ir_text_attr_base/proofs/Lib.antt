@@ -8,3 +8,4 @@ pub mod MarkSteps
 pub mod DenseLaws
 pub mod PartLaws
 pub mod AttrLaws
+pub mod Singles

@@ -2,3 +2,6 @@ pub mod Literals
 pub mod Elements
 pub mod AttrReading
 pub mod AttrGrammar
+pub mod SingleReading
+pub mod Spelling
+pub mod Claims

@@ -10,4 +10,5 @@ pub mod flag;
 mod flags;
 pub mod laws;
 mod literals;
+pub mod single;
 mod symbols;
