@@ -5,3 +5,5 @@
 mod attribute_tests;
 #[cfg(test)]
 mod part_tests;
+#[cfg(test)]
+mod single_tests;
