@@ -5,6 +5,7 @@ ghost use Rattle.ir_text_base.specs.declared.fault.Fault.{Fault as TextFault};
 ghost use Rattle.ir_text_read_base.specs.Spelling.{Spells};
 ghost use Rattle.ir_text_read_base.specs.Claims.{IsOnly, IsNone};
 
+pub use ir_text_attr_base::single::parse_attr;
 use ir_text_read_base::module;
 pub use ir_text_read_base::single::read_op;
 use ir_text_type_base::error::ReadError;
