@@ -1,0 +1,44 @@
+#!/bin/sh
+# Reads modules of as many operations as there may be, and of one more, and compares the answers. Run at the top of
+# the repository, after `./run` has built the program:
+#
+#     bench/limits.sh
+set -eu
+program=$(dirname "$0")/../crates/mlir_work/out/mlir_work
+work=$(mktemp -d)
+trap 'rm -rf "$work"' EXIT
+failed=0
+
+# So many operations, of 12 bytes each.
+operations() {
+    yes '"t"():()->()' | head -n "$1" | tr -d '\n'
+}
+
+# Runs the program over the module, and compares what it prints with the text.
+answers() {
+    printf '\n// -----\n' >>"$work/in"
+    "$program" --brief <"$work/in" >"$work/out" || true
+    if [ "$(cat "$work/out")" = "$2" ]; then
+        echo "$1: as it must be"
+    else
+        failed=1
+        echo "$1: '$(head -c 200 "$work/out")' and not '$2'"
+    fi
+}
+
+operations 1048575 >"$work/in"
+answers 'operations with a root around them, 1,048,576 in all' ''
+
+operations 1048576 >"$work/in"
+answers 'one more, at the end of the text' 'module refused 11 TooMany at 12582913'
+
+operations 1048577 >"$work/in"
+answers 'two more, at the name of the last' 'module refused 11 TooMany at 12582912'
+
+{ printf '"builtin.module"()({' && operations 1048575 && printf '}):()->()'; } >"$work/in"
+answers 'a module of operations, 1,048,576 in all' ''
+
+{ printf '"builtin.module"()({' && operations 1048576 && printf '}):()->()'; } >"$work/in"
+answers 'one more, at its name' 'module refused 11 TooMany at 12582920'
+
+[ "$failed" = 0 ]
