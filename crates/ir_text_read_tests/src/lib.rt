@@ -4,13 +4,19 @@
 #[cfg(test)]
 mod byte_tests;
 #[cfg(test)]
+mod depth_tests;
+#[cfg(test)]
 mod function_tests;
+#[cfg(test)]
+mod golden_tests;
 #[cfg(test)]
 mod limit_tests;
 #[cfg(test)]
 mod op_tests;
 #[cfg(test)]
 mod pack_tests;
+#[cfg(test)]
+mod range_tests;
 #[cfg(test)]
 mod reading;
 #[cfg(test)]

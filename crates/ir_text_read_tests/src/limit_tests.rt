@@ -1,22 +1,7 @@
 //! Texts at their limits.
-use crate::reading::{followed, is_read, is_refused, repeated};
+use crate::reading::{closed, followed, is_read, is_refused, nested, repeated};
 use ir_types::refusal::Refusal;
 use std::alloc::{AllocError, Global};
-
-/// The rest of so many operations that hold another.
-fn closed(text: Vec<u8>, count: usize) -> Result<Vec<u8>, AllocError> {
-    let mut all = text;
-    for _ in 0..count {
-        all.extend_from_slice(b"}) : () -> ()")?;
-    }
-    Ok(all)
-}
-
-/// An operation in so many others.
-fn nested(alloc: Global, count: usize) -> Result<Vec<u8>, AllocError> {
-    let text = repeated(alloc, b"", b"\"t\"() ({", count)?;
-    closed(followed(text, b"%a = \"u\"() : () -> i1")?, count)
-}
 
 /// An operation in a module and so many others.
 fn within_module(alloc: Global, count: usize) -> Result<Vec<u8>, AllocError> {
@@ -233,6 +218,45 @@ fn results_are_256(rt: HostRuntime) -> Result<(), AllocError> {
     Ok(())
 }
 
+/// An operation of 256 results, each with a name of its own.
+fn named_results(alloc: Global) -> Result<Vec<u8>, AllocError> {
+    let names = followed(counted(alloc, b"", b"%", b",", 254)?, b"%255 = ")?;
+    let results = parts(alloc, b"\"t\"() : () -> (", b"i1,", 255, b"i1)")?;
+    followed(names, results.as_slice())
+}
+
+/// An operation of 256 results under one name, and what stands behind it.
+fn pack_before(alloc: Global, back: &[u8]) -> Result<Vec<u8>, AllocError> {
+    parts(alloc, b"%a:256 = \"t\"() : () -> (", b"i1,", 255, back)
+}
+
+#[test]
+fn results_have_256_names(rt: HostRuntime) -> Result<(), AllocError> {
+    let alloc = rt.alloc();
+    assert!(rt; reads(alloc, named_results(alloc))?);
+    Ok(())
+}
+
+#[test]
+fn a_name_stands_for_256_results(rt: HostRuntime) -> Result<(), AllocError> {
+    let alloc = rt.alloc();
+    assert!(rt;
+        reads(
+            alloc,
+            pack_before(alloc, b"i1)\n\"u\"(%a#255) : (i1) -> ()")
+        )?
+    );
+    assert!(rt;
+        refuses(
+            alloc,
+            pack_before(alloc, b"i1)\n\"u\"(%a#256) : (i1) -> ()"),
+            Refusal::UnknownValue,
+            799
+        )?
+    );
+    Ok(())
+}
+
 #[test]
 fn the_result_after_them_is_refused(rt: HostRuntime) -> Result<(), AllocError> {
     let alloc = rt.alloc();
@@ -376,6 +400,45 @@ fn a_property_among_256_attributes_is_counted_apart(rt: HostRuntime) -> Result<(
 }
 
 #[test]
+fn a_property_after_256_is_refused_at_its_key(rt: HostRuntime) -> Result<(), AllocError> {
+    let alloc = rt.alloc();
+    assert!(rt;
+        refuses(
+            alloc,
+            entries(
+                alloc,
+                b"\"func.func\"() <{",
+                254,
+                b"k255}> {sym_name = \"f\"} : () -> ()"
+            ),
+            Refusal::TooMany,
+            1299
+        )?
+    );
+    Ok(())
+}
+
+#[test]
+fn entries_of_an_attribute_are_256(rt: HostRuntime) -> Result<(), AllocError> {
+    let alloc = rt.alloc();
+    assert!(rt;
+        reads(
+            alloc,
+            entries(alloc, b"\"t\"() {a = {", 254, b"k255}} : () -> ()")
+        )?
+    );
+    assert!(rt;
+        refuses(
+            alloc,
+            entries(alloc, b"\"t\"() {a = {", 255, b"k256}} : () -> ()"),
+            Refusal::TooMany,
+            1292
+        )?
+    );
+    Ok(())
+}
+
+#[test]
 fn regions_are_16(rt: HostRuntime) -> Result<(), AllocError> {
     let alloc = rt.alloc();
     assert!(rt;
@@ -432,12 +495,19 @@ fn no_part_of_a_type_below_them_is_unexpected(rt: HostRuntime) -> Result<(), All
 }
 
 #[test]
+fn texts_have_16777216_bytes(rt: HostRuntime) -> Result<(), AllocError> {
+    let alloc = rt.alloc();
+    assert!(rt; reads(alloc, repeated(alloc, b"", b"                ", 1_048_576))?);
+    Ok(())
+}
+
+#[test]
 fn a_long_text_is_refused_at_its_limit(rt: HostRuntime) -> Result<(), AllocError> {
     let alloc = rt.alloc();
     assert!(rt;
         refuses(
             alloc,
-            repeated(alloc, b"", b"                ", 1_048_577),
+            repeated(alloc, b"\xFF", b"                ", 1_048_576),
             Refusal::TooMany,
             16777216
         )?

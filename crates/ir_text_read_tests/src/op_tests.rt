@@ -2,6 +2,8 @@
 ghost use Rattle.std.specs.Prelude.{◌≡◌, IfSome};
 ghost use Rattle.ir_types.specs.Things.{IsType};
 
+use crate::golden_tests::{Golden, golden, is_numbered};
+use crate::reading::nested;
 use ir_text::reader::read_op;
 use ir_text_base::fault::Fault;
 use ir_text_type_base::error::ReadError;
@@ -13,7 +15,7 @@ use ir_types::context::Context;
 use ir_types::ids::{OpId, TypeId};
 use ir_types::node::{Sign, TypeNode};
 use ir_types::refusal::Refusal;
-use std::alloc::Global;
+use std::alloc::{AllocError, Global};
 
 /// A module of which every value has one type, or that has no value.
 #[derive(Drop)]
@@ -87,6 +89,42 @@ fn free_names_are_values_of_the_module_around(rt: HostRuntime) -> Result<(), Ref
     let inner = Value::Arg(OpId::new(12), 0, 1);
     assert!(rt; uses(&op, value, inner));
     assert!(rt; numbered(&op, 40));
+    Ok(())
+}
+
+#[test]
+fn an_isolated_operation_hides_no_value_of_the_module_around(
+    rt: HostRuntime,
+) -> Result<(), Refusal> {
+    let alloc = rt.alloc();
+    let mut ctx = Context::new(alloc)?;
+    let text = b"\"builtin.module\"(%v3.0) ({\n  \"u\"(%v3.0) : (i32) -> ()\n}) : (i32) -> ()";
+    let Ok(op) = among(alloc, &mut ctx, 9, text) else {
+        return Err(Refusal::Unexpected);
+    };
+    assert!(rt;
+        uses(
+            &op,
+            Value::Result(OpId::new(3), 0),
+            Value::Result(OpId::new(3), 0)
+        )
+    );
+    Ok(())
+}
+
+#[test]
+fn free_names_have_numbers_of_32_bits(rt: HostRuntime) -> Result<(), Refusal> {
+    let alloc = rt.alloc();
+    let mut ctx = Context::new(alloc)?;
+    let text =
+        b"\"t\"(%v4294967295.4294967295) ({\n  \"u\"(%a4294967295.4294967295.4294967295) : (i32) -> ()\n}) : (i32) -> ()";
+    let Ok(op) = among(alloc, &mut ctx, 9, text) else {
+        return Err(Refusal::Unexpected);
+    };
+    let last = 4_294_967_295u32;
+    let value = Value::Result(OpId::new(last), last);
+    let inner = Value::Arg(OpId::new(last), last, last);
+    assert!(rt; uses(&op, value, inner));
     Ok(())
 }
 
@@ -203,14 +241,15 @@ fn last_ids(alloc: Global, next: u32, text: &[u8]) -> Option<Option<Fault>> {
     }
 }
 
+const PAIR: &[u8] = b"\"t\"() ({ \"u\"() : () -> () }) : () -> ()";
+
+/// Whether ids run out at the end of the pair.
 fn is_exhausted(answer: Option<Option<Fault>>) -> bool {
     match answer {
-        Some(Some(fault)) => fault.refusal == Refusal::IdsExhausted,
-        _ => false,
+        Some(fault) => is_numbered(fault, &(PAIR, 32, PAIR.len())),
+        None => false,
     }
 }
-
-const PAIR: &[u8] = b"\"t\"() ({ \"u\"() : () -> () }) : () -> ()";
 
 const WRONG_PAIR: &[u8] = b"\"t\"() ({ \"u\"() : () -> () }) : () -> (i65)";
 
@@ -225,4 +264,47 @@ fn ids_run_out_behind_every_other_fault(rt: HostRuntime) {
         None => None,
     };
     assert!(rt; is_fault(fault, WRONG_PAIR, Refusal::BadWidth, 38));
+}
+
+/// The place of the first text that has another fault where it is read alone.
+fn first_other(alloc: Global, rows: &[Golden]) -> Option<usize> {
+    let mut place = 0usize;
+    for row in rows {
+        let fault = match last_ids(alloc, 7, row.0) {
+            Some(fault) => fault,
+            None => None,
+        };
+        if !is_numbered(fault, row) {
+            return Some(place);
+        }
+        place = place.saturating_add(1);
+    }
+    None
+}
+
+#[test]
+fn each_number_is_that_of_a_module(rt: HostRuntime) {
+    assert_eq!(rt; first_other(rt.alloc(), &golden()), None);
+}
+
+/// Where an operation in so many others is refused.
+fn nested_fault(alloc: Global, count: usize) -> Result<Option<Option<Fault>>, AllocError> {
+    let text = nested(alloc, count)?;
+    Ok(last_ids(alloc, 7, text.as_slice()))
+}
+
+fn is_too_deep(alloc: Global, count: usize, offset: usize) -> Result<bool, AllocError> {
+    let text = nested(alloc, count)?;
+    Ok(match last_ids(alloc, 7, text.as_slice()) {
+        Some(fault) => is_fault(fault, text.as_slice(), Refusal::TooDeep, offset),
+        None => false,
+    })
+}
+
+#[test]
+fn operations_stand_in_128_others(rt: HostRuntime) -> Result<(), AllocError> {
+    let alloc = rt.alloc();
+    assert!(rt; matches!(nested_fault(alloc, 128)?, Some(None)));
+    assert!(rt; is_too_deep(alloc, 129, 1037)?);
+    Ok(())
 }

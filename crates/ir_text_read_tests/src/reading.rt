@@ -63,7 +63,8 @@ pub(crate) fn is_answered(alloc: Global, ctx: &mut Context, text: &[u8]) -> bool
     }
 }
 
-fn fault_of(alloc: Global, text: &[u8]) -> Option<Fault> {
+/// Where a text is refused.
+pub(crate) fn fault_of(alloc: Global, text: &[u8]) -> Option<Fault> {
     let Ok(mut ctx) = Context::new(alloc) else {
         return None;
     };
@@ -93,6 +94,18 @@ pub(crate) fn first_wrong(alloc: Global, refusal: Refusal, rows: &[Row]) -> Opti
     None
 }
 
+/// The place of the first text that is not read.
+pub(crate) fn first_unread(alloc: Global, texts: &[&'static [u8]]) -> Option<usize> {
+    let mut place = 0usize;
+    for text in texts {
+        if !is_read(alloc, text) {
+            return Some(place);
+        }
+        place = place.saturating_add(1);
+    }
+    None
+}
+
 /// A part so many times behind a text.
 pub(crate) fn repeated(
     alloc: Global,
@@ -112,4 +125,19 @@ pub(crate) fn repeated(
 pub(crate) fn followed(mut text: Vec<u8>, back: &[u8]) -> Result<Vec<u8>, AllocError> {
     text.extend_from_slice(back)?;
     Ok(text)
+}
+
+/// The rest of so many operations that hold another.
+pub(crate) fn closed(text: Vec<u8>, count: usize) -> Result<Vec<u8>, AllocError> {
+    let mut all = text;
+    for _ in 0..count {
+        all.extend_from_slice(b"}) : () -> ()")?;
+    }
+    Ok(all)
+}
+
+/// An operation in so many others.
+pub(crate) fn nested(alloc: Global, count: usize) -> Result<Vec<u8>, AllocError> {
+    let text = repeated(alloc, b"", b"\"t\"() ({", count)?;
+    closed(followed(text, b"%a = \"u\"() : () -> i1")?, count)
 }

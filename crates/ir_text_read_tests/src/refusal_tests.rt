@@ -1,5 +1,5 @@
 //! Texts, and where they are refused.
-use crate::reading::{Row, first_wrong};
+use crate::reading::{Row, first_unread, first_wrong};
 use ir_types::refusal::Refusal;
 
 #[test]
@@ -129,6 +129,16 @@ fn names_that_are_bound_already(rt: HostRuntime) {
         (b"\"u\"() ({^b(%a: i32, %a i32):}) : () -> ()", 20),
     ];
     assert_eq!(rt; first_wrong(rt.alloc(), Refusal::Redefined, &rows), None);
+}
+
+#[test]
+fn names_that_are_free_again(rt: HostRuntime) {
+    let texts: [&'static [u8]; 3] = [
+        b"\"t\"() ({^a(%a: i1):}, {^a(%a: i1):}) : () -> () %a = \"t\"() : () -> i1",
+        b"%a = \"t\"() ({%b = \"u\"() : () -> i1}, {%b = \"u\"() : () -> i1}) : () -> i1",
+        b"%a = \"t\"() : () -> i1 \"func.func\"() ({%a = \"t\"() : () -> i1}) : () -> ()",
+    ];
+    assert_eq!(rt; first_unread(rt.alloc(), &texts), None);
 }
 
 #[test]
