@@ -7,6 +7,7 @@ ghost use Rattle.ir_tree.specs.WellFormed.{IsFormed};
 ghost use Rattle.ir_event.specs.Modules.{module_in};
 ghost use Rattle.ir_text_read_base.specs.Claims.{IsOnly};
 ghost use Rattle.ir_text_read_base.specs.Spelling.{Spells};
+ghost use Rattle.mlir_work_base.specs.Parts.{module_text, script_text};
 ghost use Rattle.mlir_work_run_base.specs.Machine.{all_shown};
 ghost use Rattle.mlir_work_run_base.specs.Ran.{RanOut};
 ghost use Rattle.mlir_work.specs.Ends.{EndedSo, HasStatus, ended_of, status_of};
@@ -145,22 +146,39 @@ fn refuse<W: Write>(writer: &mut W, unread: Unread) -> Result<u8, WriteFault>
     }
 }
 
+/// The world of the tree that the module of an input spells, and the script. The input is given back to the
+/// allocator, since its text may be as large as the module.
+fn taken_apart(alloc: Global, input: Vec<u8>) -> Result<(World, Vec<u8>), Unread>
+    ensures read { IfOk result (λ x. IsWorldOf (module_text input.items) (module_in x.0)) }
+    ensures script { IfOk result (λ x. x.1.items ≡ script_text input.items) }
+    ensures unread { IfErr result (λ e. WhyNot (module_text input.items) e.refusal e.offset) }
+{
+    let (module, script) = split(&input);
+    let world = match world_of(alloc, module) {
+        Ok(world) => world,
+        Err(unread) => return Err(unread),
+    };
+    let Ok(script) = Vec::from_slice(alloc, script) else {
+        return Err(no_memory());
+    };
+    Ok((world, script))
+}
+
 /// Runs an input that was read.
 fn answer_input<W: Write, L: Analysis>(
     alloc: Global,
     options: Options,
-    input: &[u8],
+    input: Vec<u8>,
     writer: &mut W,
     boxes: Vec<L>,
 ) -> Result<u8, WriteFault>
-    ensures { RanOut (IsOutput options.brief (all_shown L.meaning boxes.items) input.now) (W.contents writer.old) (W.contents writer.new) result }
+    ensures { RanOut (IsOutput options.brief (all_shown L.meaning boxes.items) input.items) (W.contents writer.old) (W.contents writer.new) result }
 {
-    let (module, script) = split(input);
-    let world = match world_of(alloc, module) {
-        Ok(world) => world,
+    let (world, script) = match taken_apart(alloc, input) {
+        Ok(parts) => parts,
         Err(unread) => return refuse(writer, unread),
     };
-    match run_session(alloc, options.brief, world, script, writer, boxes) {
+    match run_session(alloc, options.brief, world, &script, writer, boxes) {
         Ok(status) => finish(writer, status),
         Err(fault) => Err(fault),
     }
@@ -199,7 +217,7 @@ pub fn read_and_answer<R: Read, W: Write, L: Analysis>(
         Err(ReadFault::Memory) => return ended(refuse(writer, no_memory())),
         Err(ReadFault::Broken) => return Err(Fault::Read),
     };
-    ended(answer_input(alloc, options, &input, writer, boxes))
+    ended(answer_input(alloc, options, input, writer, boxes))
 }
 
 fn exit_status(ended: Result<u8, Fault>) -> u8

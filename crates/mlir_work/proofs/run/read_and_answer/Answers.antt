@@ -1,4 +1,4 @@
-use Rattle.std.proofs.Common.{◌≡◌, ◌∙◌, ◌<◌, List, ℕ, length, inl, inr, refl, subst, Some, None}
+use Rattle.std.proofs.Common.{◌≡◌, ◌<◌, List, ℕ, length, inl, inr, refl, subst, Some, None}
 use Rattle.ir_types.specs.declared.refusal.Refusal.TheVariants.{Memory}
 use Rattle.mlir_work_base.specs.declared.input.TheConstants.{MAX_INPUT_BYTES}
 use Rattle.mlir_work_run_base.specs.Machine.{all_shown}
@@ -9,7 +9,7 @@ use Rattle.mlir_work.proofs.run.read_and_answer.Goals as goal
 pub returns-clause-ran : goal.returns-clause-ran
 returns-clause-ran g c =
     let due : List ℕ → ℕ → List ℕ → Type 0 = IsOutput c.args.options.brief (all_shown g.L.Analysis.meaning c.args.boxes.items) in
-    if_some _ (λ input. c.in-Ok.input.items ≡ input) _ (λ input e. ended_so (due c.deref.result.now) (due input) _ _ c.answer_input.result _ c.ended-2.ensures (λ st o h. subst (λ (i : List ℕ). due i st o) (c.deref.ensures.value ∙ e) h) c.answer_input.ensures) c.in-Ok.ensures.whole
+    if_some _ (λ input. c.in-Ok.input.items ≡ input) _ (λ input e. ended_so (due c.in-Ok.input.items) (due input) _ _ c.answer_input.result _ c.ended-2.ensures (λ st o h. subst (λ (i : List ℕ). due i st o) e h) c.answer_input.ensures) c.in-Ok.ensures.whole
 
 pub returns-in-Err-TooMany-clause-ran : goal.returns-in-Err-TooMany-clause-ran
 returns-in-Err-TooMany-clause-ran g c =
