@@ -6,3 +6,4 @@ pub mod Printed
 pub mod Fronts
 pub mod Wholes
 pub mod Marks
+pub mod Blanks

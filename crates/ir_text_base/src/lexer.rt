@@ -27,8 +27,21 @@ fn skip_line(bytes: &[u8]) -> &[u8]
     rest
 }
 
+/// What follows spaces at the front, four at a time.
+#[tactic(auto, using(crate::proofs::Blanks::one_space), unfolding(crate::specs::Tokens::skip))]
+fn skip_fours(bytes: &[u8]) -> &[u8]
+    ensures spaces { skip result.now ≡ skip bytes.now }
+    ensures within { length result.now ≤ length bytes.now }
+{
+    let mut rest = bytes;
+    'spaces: while let [b' ', b' ', b' ', b' ', tail @ ..] = rest {
+        rest = tail;
+    }
+    rest
+}
+
 /// What follows the blanks and comments at the front.
-#[tactic(auto, unfolding(crate::specs::Tokens::skip))]
+#[tactic(auto, using(crate::proofs::Blanks::line_feed), unfolding(crate::specs::Tokens::skip))]
 pub fn skip(bytes: &[u8]) -> &[u8]
     ensures { result.now ≡ skip bytes.now }
 {
@@ -36,6 +49,7 @@ pub fn skip(bytes: &[u8]) -> &[u8]
     'blanks: loop {
         match rest {
             [b'/', b'/', tail @ ..] => rest = skip_line(tail),
+            [b'\n', tail @ ..] => rest = skip_fours(tail),
             [byte, tail @ ..] if is_blank(*byte) => rest = tail,
             _ => return rest,
         }
