@@ -1,9 +1,10 @@
 //! The types that are one word, and the word of memrefs.
-ghost use Rattle.std.specs.Prelude.{◌≡◌, IfSome, option_map};
+ghost use Rattle.std.specs.Prelude.{◌≡◌, ◌+◌, ◌-◌, ◌*◌, true, false, IfSome, option_map};
 ghost use Rattle.std.specs.List.{list_all};
 ghost use Rattle.std.specs.Char.{is_ascii_digit};
 ghost use Rattle.std.specs.Str.{bytes_eq};
 ghost use Rattle.ir_types.specs.Things.{Things, TypeIsOf};
+ghost use Rattle.ir_text_base.specs.Numbers.{below_limit, integer_of};
 ghost use Rattle.ir_text_type_base.specs.Scalars.{width_of, scalar_of, within, begins_zero, memref_word};
 
 use ir_text_base::numbers::integer_value;
@@ -35,6 +36,28 @@ fn within(number: u128) -> Option<u32>
     }
 }
 
+/// The number that two decimal digits write.
+fn two_digits(tens: u8, ones: u8) -> u128
+    requires tens { is_ascii_digit tens ≡ true }
+    requires ones { is_ascii_digit ones ≡ true }
+    ensures { result ≡ (tens - 48) * 10 + (ones - 48) }
+{
+    let number = (tens - b'0') * 10 + (ones - b'0');
+    number as u128
+}
+
+/// The number that decimal digits write without a zero in front; most widths have two.
+fn decimal_value(digits: &[u8]) -> Option<u128>
+    requires decimal { list_all is_ascii_digit digits.now ≡ true }
+    requires plain { begins_zero digits.now ≡ false }
+    ensures { result ≡ below_limit (integer_of digits.now) }
+{
+    match digits {
+        [tens, ones] => Some(two_digits(*tens, *ones)),
+        _ => integer_value(digits),
+    }
+}
+
 /// The width that digits write, from 1 to 64, in decimal and without a zero in front.
 #[tactic(auto, using(crate::proofs::Widths::limit_is, crate::proofs::Widths::limit_passed))]
 fn width_of(digits: &[u8]) -> Option<u32>
@@ -43,7 +66,7 @@ fn width_of(digits: &[u8]) -> Option<u32>
     if begins_zero(digits) || !are_digits(digits) {
         return None;
     }
-    within(integer_value(digits)?)
+    within(decimal_value(digits)?)
 }
 
 /// The integer type of a signedness whose width the digits write.
