@@ -6,3 +6,4 @@ pub mod Printed
 pub mod KindWords
 pub mod Dividing
 pub mod Dividers
+pub mod Spanning

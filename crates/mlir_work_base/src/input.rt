@@ -1,9 +1,11 @@
 //! The input of a run: read whole, under limits, and split into a module and a script.
 ghost use Rattle.std.specs.Prelude.{◌≡◌, ◌<◌, ◌≤◌, length, IfErr, IfOk, IfSome, IsTrue, ◌↔◌};
 ghost use Rattle.mlir_work_base.specs.declared.input.ReadFault.TheVariants.{TooMany};
+ghost use Rattle.mlir_work_base.specs.Lines.{after_line};
 ghost use Rattle.mlir_work_base.specs.Parts.{at_divider, module_text, script_text};
 
 use crate::lines::split_line;
+use memchr::memchr;
 use std::alloc::Global;
 use std::io::{ErrorKind, Read};
 
@@ -81,19 +83,28 @@ fn at_divider(text: &[u8]) -> bool
     }
 }
 
+/// The text after the first line.
+fn next_line(text: &[u8]) -> &[u8]
+    ensures { result.now ≡ after_line text.now }
+{
+    match memchr(b'\n', text) {
+        Some(place) => &text[place + 1..],
+        None => &[],
+    }
+}
+
 /// The text of the module and the script of an input: what stands before and after the first line that is
 /// exactly `// -----`. Without such a line the script is empty.
 pub fn split(input: &[u8]) -> (&[u8], &[u8])
     ensures module { result.0.now ≡ module_text input.now }
     ensures script { result.1.now ≡ script_text input.now }
 {
-    let mut start = true;
-    for at in 0..input.len() {
-        if start && at_divider(&input[at..]) {
-            let (_, rest) = split_line(&input[at..]);
-            return (&input[..at], rest);
+    let mut rest = input;
+    'lines: while !rest.is_empty() {
+        if at_divider(rest) {
+            return (&input[..input.len() - rest.len()], next_line(rest));
         }
-        start = input[at] == b'\n';
+        rest = next_line(rest);
     }
     (input, &[])
 }
