@@ -5,7 +5,7 @@ ghost use Rattle.ir_types.specs.Reasons.{IsRefusedFor};
 ghost use Rattle.ir_tree.specs.Ids.{ids, HasDistinctIds};
 ghost use Rattle.ir_tree.specs.Edits.{with_operand};
 ghost use Rattle.ir_tree.specs.Meaning.{isolated_in, IsSoundIn};
-ghost use Rattle.ir_tree.specs.WellFormed.{fault, IsWellFormed};
+ghost use Rattle.ir_tree.specs.WellFormed.{IsFormed, fault, IsWellFormed};
 ghost use Rattle.ir_store.specs.Reasons.{set_operand_reason};
 ghost use Rattle.ir_event.specs.Modules.{things_in, module_in};
 ghost use Rattle.ir_event.specs.Step.{operand_at, IsOperandEvent, IsOperandStep};
@@ -74,19 +74,17 @@ impl World {
         Ok(World { ctx, store })
     }
 
-    /// The same world of a tree that is handed over.
-    ///
-    /// Refusals: `UnknownValue`, `TooDeep`, `TooMany` in this order; `Memory`.
-    pub fn hold(alloc: Global, ctx: Context, tree: TreeOp, next: u32) -> Result<World, Refusal>
+    /// The same world of a tree that is handed over, and is known to be formed: nothing is looked at again.
+    pub fn hold(alloc: Global, ctx: Context, tree: TreeOp, next: u32) -> World
         requires sound { IsSoundIn ctx tree }
         requires distinct { HasDistinctIds tree }
         requires below { All (λ x. x < next) (ids tree) }
-        ensures ctx { IfOk result (λ w. w.ctx ≡ ctx) }
-        ensures store { IfOk result (λ w. w.store ≡ record { tree = tree; next = next }) }
-        ensures refused { IfErr result (λ e. (e ≡ Refusal.Memory) ⊎ (fault (isolated_in ctx) tree ≡ Some e)) }
+        requires formed { IsFormed (isolated_in ctx) tree }
+        ensures ctx { result.ctx ≡ ctx }
+        ensures store { result.store ≡ record { tree = tree; next = next } }
     {
-        let store = Store::hold(alloc, &ctx, tree, next)?;
-        Ok(World { ctx, store })
+        let store = Store::hold(alloc, &ctx, tree, next);
+        World { ctx, store }
     }
 
     /// Makes a value an operand of an operation, in place of the one that was there, and gives the event.

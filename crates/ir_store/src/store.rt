@@ -61,23 +61,20 @@ impl Store {
         Ok(Store { alloc, root, next })
     }
 
-    /// The same module of a tree that is handed over.
-    ///
-    /// Refusals: `UnknownValue`, `TooDeep`, `TooMany` in this order; `Memory`.
-    pub fn hold(alloc: Global, ctx: &Context, tree: TreeOp, next: u32) -> Result<Store, Refusal>
+    /// The same module of a tree that is handed over, and is known to be formed: nothing is looked at again.
+    pub fn hold(alloc: Global, ctx: &Context, tree: TreeOp, next: u32) -> Store
         requires sound { IsSoundIn ctx.now tree }
         requires distinct { HasDistinctIds tree }
         requires below { All (λ x. x < next) (ids tree) }
-        ensures ok { IfOk result (λ s. s ≡ record { tree = tree; next = next }) }
-        ensures held { IfOk result (λ s. IsWellFormed (isolated_in ctx.now) s) }
-        ensures refused { IfErr result (λ e. (e ≡ Refusal.Memory) ⊎ (fault (isolated_in ctx.now) tree ≡ Some e)) }
+        requires formed { IsFormed (isolated_in ctx.now) tree }
+        ensures ok { result ≡ record { tree = tree; next = next } }
+        ensures held { IsWellFormed (isolated_in ctx.now) result }
     {
-        check(alloc, ctx, &tree)?;
-        Ok(Store {
+        Store {
             alloc,
             root: tree,
             next,
-        })
+        }
     }
 
     /// A look at the tree of the module.

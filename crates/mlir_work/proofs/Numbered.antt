@@ -1,8 +1,9 @@
--- Ids that are 0, 1, .. are distinct, and below their number.
+-- Ids that are 0, 1, .. are distinct, and below their number. What a tree stands for is numbered and formed as the tree.
 use Rattle.ir_event.specs.Modules.{Module}
 use Rattle.ir_text_read_base.specs.Claims.{IsOnly}
 use Rattle.ir_text_read_base.specs.Spelling.{Spells}
 use Rattle.mlir_work.specs.Whole.{IsWorldOf}
+use Rattle.std.specs.Prelude.{IsTrue}
 use Rattle.std.proofs.Common.{ap, ◌≡◌, ◌≢◌, ◌<◌, ◌∙◌, sym, subst, ℕ, List, length, All, eqb, arith, get_or, refl}
 use Rattle.std.specs.Cmp.{unsigned_Decides}
 use Rattle.std.specs.List.{AllPairs, IsDistinct, range_with_len}
@@ -10,10 +11,12 @@ use Rattle.std.proofs.lemmas.List.FromFn.{length-range_with_len, get_or-range_wi
 use Rattle.std.proofs.lemmas.Map.Made.{IsDistinct-from_AllPairs}
 use Rattle.ir_types.specs.Things.{Things}
 use Rattle.ir_types.specs.Terms.{name_term, type_term, attr_term}
+use Rattle.ir_types.specs.Words.{is_isolated}
 use Rattle.ir_tree.specs.Tree.{Op}
 use Rattle.ir_tree.specs.Ids.{ids, op_count, IsNumberedFrom, HasDistinctIds}
-use Rattle.ir_tree.specs.Meaning.{Operation, meaning}
-use Rattle.ir_tree.proofs.Mapped.{map_ids}
+use Rattle.ir_tree.specs.Meaning.{Operation, isolated_in, meaning}
+use Rattle.ir_tree.specs.WellFormed.{IsFormed}
+use Rattle.ir_tree.proofs.Mapped.{map_counts, map_depth, map_ids, map_operands_visible}
 
 numbers_apart : (n : ℕ) → AllPairs (λ x y. x ≢ y) (range_with_len 0 n)
 numbers_apart n i j d lt within e =
@@ -40,6 +43,14 @@ numbered_meaning c t e = rw (map_ids (name_term c) (type_term c) (attr_term c) t
 
 pub count_meaning : (c : Things) (t : Op) → op_count (meaning c t) ≡ op_count t
 count_meaning c t = rw (map_ids (name_term c) (type_term c) (attr_term c) t) refl
+
+-- a tree is formed where what it stands for is
+pub formed_meaning : (c : Things) (t : Op) → IsFormed is_isolated (meaning c t) → IsFormed (isolated_in c) t
+formed_meaning c t w = record {
+  visible = subst IsTrue (map_operands_visible (name_term c) (type_term c) (attr_term c) is_isolated t) w.visible;
+  shallow = rw (← map_depth (name_term c) (type_term c) (attr_term c) t) w.shallow;
+  counts = subst IsTrue (map_counts (name_term c) (type_term c) (attr_term c) t) w.counts;
+}
 
 -- a tree that was read gives the world of what its text spells
 pub world_is : (text : List ℕ) (c : Things) (t : Op) (m : Module) → IsOnly (Spells text) c t → m ≡ record { tree = meaning c t; next = op_count t } → IsWorldOf text m

@@ -81,19 +81,17 @@ fn next_free(tree: &TreeOp) -> Option<u32>
     u32::try_from(op_count(tree)).ok()
 }
 
-/// The world of a tree that was read, or none where there is no memory.
+/// The world of a tree that was read, or none where it has more operations than there are ids.
 fn hold(alloc: Global, ctx: Context, tree: TreeOp) -> Option<World>
     requires sound { IsSoundIn ctx tree }
     requires numbered { IsNumberedFrom 0 tree }
+    requires formed { IsFormed (isolated_in ctx) tree }
     ensures { IfSome result (λ w. module_in w ≡ record { tree = meaning ctx tree; next = op_count tree }) }
 {
     let Some(next) = next_free(&tree) else {
         return None;
     };
-    match World::hold(alloc, ctx, tree, next) {
-        Ok(world) => Some(world),
-        Err(_) => None,
-    }
+    Some(World::hold(alloc, ctx, tree, next))
 }
 
 /// Why there is no memory.

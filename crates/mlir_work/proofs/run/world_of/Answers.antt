@@ -1,8 +1,11 @@
-use Rattle.mlir_work.proofs.Numbered.{numbered_meaning, world_is}
+use Rattle.mlir_work.proofs.Numbered.{numbered_meaning, formed_meaning, world_is}
 use Rattle.mlir_work.proofs.run.world_of.Goals as goal
 
 pub hold-requires-clause-numbered : goal.hold-requires-clause-numbered
 hold-requires-clause-numbered c = numbered_meaning c.tree_of.new.ctx c.in-Ok-tree_of.tree c.in-Ok-tree_of.ensures.read.holds.numbered
+
+pub hold-requires-clause-formed : goal.hold-requires-clause-formed
+hold-requires-clause-formed c = formed_meaning c.tree_of.new.ctx c.in-Ok-tree_of.tree c.in-Ok-tree_of.ensures.read.holds.formed
 
 pub returns-clause-read : goal.returns-clause-read
 returns-clause-read c = world_is _ c.tree_of.new.ctx c.in-Ok-tree_of.tree _ c.in-Ok-tree_of.ensures.read c.in-Some.ensures
