@@ -11,9 +11,12 @@ pub mod CallNumbers
 pub mod AcceptedCalls
 pub mod WordTables
 pub mod WordNumbers
+pub mod WordPlaces
 pub mod WordWidths
 pub mod Calls
 pub mod Keeping
 pub mod Keptness
-pub mod WordReadings
+pub mod Widths
+pub mod ReadingLaws
+pub mod KindLaws
 pub mod Beginning

@@ -106,7 +106,7 @@ same_type_refl (type.Memref ds e) = both (pointwise (option_eq ◌==◌) ds ds) 
 -- attributes
 pub same_attr_is : (x y : AttrNode) → same_attr x y ≡ true → x ≡ y
 unfolding same_attr
-same_attr_is (attr.Int s v) (attr.Int t w) h = λ i. attr.Int (number_is s t (first_so (s == t) (int_eq v w) h) i) (integer_is v w (second_so (s == t) (int_eq v w) h) i)
+same_attr_is (attr.Int s v) (attr.Int t w) h = λ i. attr.Int (number_is s t (first_so (s == t) (v == w) h) i) (number_is v w (second_so (s == t) (v == w) h) i)
 same_attr_is (attr.Str m) (attr.Str n) h = ap attr.Str (number_is m n h)
 same_attr_is (attr.Ty s) (attr.Ty t) h = ap attr.Ty (number_is s t h)
 same_attr_is attr.Unit attr.Unit h = refl
@@ -120,7 +120,7 @@ same_attr_is _ _ h = absurd (true≢false (sym h))
 
 pub same_attr_refl : (x : AttrNode) → same_attr x x ≡ true
 unfolding same_attr
-same_attr_refl (attr.Int s v) = both (s == s) (int_eq v v) (number_refl s) (integer_refl v)
+same_attr_refl (attr.Int s v) = both (s == s) (v == v) (number_refl s) (number_refl v)
 same_attr_refl (attr.Str n) = number_refl n
 same_attr_refl (attr.Ty t) = number_refl t
 same_attr_refl attr.Unit = refl

@@ -1,6 +1,5 @@
 -- Widths, and the known values of signless integer types and of index.
-use Rattle.std.specs.Prelude.{ℕ, ◌-◌, ◌^◌, Bool, nat_lt, ◌&&◌, IsTrue, if◌then◌else◌, Option, Some, None, ℤ, pos, ◌-ℤ◌, unsigned_abs}
-use Rattle.std.specs.Int.{int_rem_euclid}
+use Rattle.std.specs.Prelude.{ℕ, ◌^◌, Bool, nat_lt, ◌&&◌, IsTrue, if◌then◌else◌, Option, Some, None}
 use Rattle.ir_types.specs.declared.node.TypeNode.{TypeNode}
 use Rattle.ir_types.specs.declared.node.TypeNode.TheVariants as type
 use Rattle.ir_types.specs.declared.bits.BitsKind.{BitsKind}
@@ -8,9 +7,10 @@ use Rattle.ir_types.specs.declared.bits.BitsKind.TheVariants as kind
 use Rattle.ir_types.specs.declared.node.Sign.TheVariants.{Signless}
 use Rattle.ir_types.specs.Terms.{TypeTerm}
 use Rattle.ir_types.specs.Terms as term
+use Rattle.ir_types.specs.Limits.{index_width}
 use Rattle.ir_types.specs.Reasons.{is_width}
 
--- an integer type has 1 to 64 bits
+-- an integer type has a width within its limits
 abbrev pub HasWidth : TypeNode → Type 0
 HasWidth (type.Int sign width) = IsTrue (is_width width)
 HasWidth _ = Unit {0}
@@ -18,7 +18,7 @@ HasWidth _ = Unit {0}
 -- how many bits a kind of values has
 abbrev pub width_of : BitsKind → ℕ
 width_of (kind.Int width) = width
-width_of kind.Index = 64
+width_of kind.Index = index_width
 
 -- the type of its values
 abbrev pub type_of : BitsKind → TypeTerm
@@ -32,11 +32,3 @@ is_bits kind value = is_width (width_of kind) && nat_lt value (2 ^ width_of kind
 -- the kind and the value, where it is one
 abbrev pub bits_of : BitsKind → ℕ → Option (BitsKind × ℕ)
 bits_of kind value = if is_bits kind value then Some (kind, value) else None
-
--- the signed reading of w bits: from 2^(w-1) on, 2^w is taken off
-unfoldable pub signed_of : ℕ → ℕ → ℤ
-signed_of w value = if nat_lt value (2 ^ (w - 1)) then pos value else (pos value -ℤ pos (2 ^ w))
-
--- a whole number modulo 2^w
-unfoldable pub wrapped : ℕ → ℤ → ℕ
-wrapped w number = unsigned_abs (int_rem_euclid number (pos (2 ^ w)))

@@ -24,7 +24,7 @@ abbrev mutual
 -- a type is as deep as an attribute; arrays and dictionaries are one deeper than their deepest item
 abbrev mutual
   pub attr_depth : AttrTerm → ℕ
-  attr_depth (IntegerOf ty value) = 1
+  attr_depth (IntegerOf ty bits) = 1
   attr_depth (String bytes) = 1
   attr_depth (TypeOf ty) = type_depth ty
   attr_depth Flag = 1

@@ -1,6 +1,6 @@
 -- Interning as total functions: the number of a thing, and the things with it.
-use Rattle.std.specs.Prelude.{ℕ, List}
-use Rattle.std.specs.List.{position_or_len}
+use Rattle.std.specs.Prelude.{ℕ, Bool, List}
+use Rattle.std.specs.List.{position_or_len, list_any}
 use Rattle.std.specs.Str.{bytes_eq}
 use Rattle.ir_types_base.specs.Interned.{with_last}
 use Rattle.ir_types.specs.declared.node.TypeNode.{TypeNode}
@@ -22,3 +22,13 @@ unfoldable pub with_attr : AttrNode → Things → ℕ × Things
 with_attr node c =
     let sorted_node = kept c.names node in
     (position_or_len (same_attr sorted_node) c.attrs, record c { attrs = with_last (same_attr sorted_node) sorted_node c.attrs })
+
+-- whether a thing is there already
+abbrev pub knows_name : List ℕ → Things → Bool
+knows_name bytes c = list_any (bytes_eq bytes) c.names
+
+abbrev pub knows_type : TypeNode → Things → Bool
+knows_type node c = list_any (same_type node) c.types
+
+abbrev pub knows_attr : AttrNode → Things → Bool
+knows_attr node c = list_any (same_attr (kept c.names node)) c.attrs

@@ -3,11 +3,14 @@ pub mod Things
 pub mod Terms
 pub mod Same
 pub mod Depths
+pub mod Limits
 pub mod Ranges
+pub mod Readings
 pub mod Dictionaries
 pub mod Interning
 pub mod Reasons
 pub mod Words
+pub mod WordNames
 pub mod Bits
 pub mod Sound
 pub mod Held

@@ -2,6 +2,7 @@
 use Rattle.std.specs.Prelude.{ℕ, ◌-◌, ◌^◌, Bool, false, nat_lt, nat_le, ◌==◌, if◌then◌else◌, ℤ, pos, unsigned_abs, int_lt}
 use Rattle.ir_types.specs.declared.node.Sign.TheVariants.{Signless, Signed, Unsigned}
 use Rattle.ir_types.specs.Terms.{TypeTerm, Integer, Index}
+use Rattle.ir_types.specs.Limits.{index_width}
 
 -- -2^(w-1) to 2^(w-1) - 1
 abbrev pub is_signed : ℕ → Bool → ℕ → Bool
@@ -12,12 +13,12 @@ abbrev pub is_unsigned : ℕ → Bool → ℕ → Bool
 is_unsigned w negative m = if negative then (m == 0) else nat_lt m (2 ^ w)
 
 -- the literals of a type: those of a signless type are read modulo 2^w, so they are -2^(w-1) to 2^w - 1;
--- an index is signed and has 64 bits; no other type has literals
+-- an index is signed; no other type has literals
 abbrev pub is_literal : TypeTerm → Bool → ℕ → Bool
 is_literal (Integer Signless w) negative m = if negative then nat_le m (2 ^ (w - 1)) else nat_lt m (2 ^ w)
 is_literal (Integer Signed w) negative m = is_signed w negative m
 is_literal (Integer Unsigned w) negative m = is_unsigned w negative m
-is_literal Index negative m = is_signed 64 negative m
+is_literal Index negative m = is_signed index_width negative m
 is_literal _ negative m = false
 
 -- the values of a type as they are printed: signless ones are signed
@@ -25,12 +26,15 @@ abbrev pub is_value : TypeTerm → Bool → ℕ → Bool
 is_value (Integer Signless w) negative m = is_signed w negative m
 is_value (Integer Signed w) negative m = is_signed w negative m
 is_value (Integer Unsigned w) negative m = is_unsigned w negative m
-is_value Index negative m = is_signed 64 negative m
+is_value Index negative m = is_signed index_width negative m
 is_value _ negative m = false
 
 -- a whole number by its sign and magnitude
 abbrev pub is_literal_number : TypeTerm → ℤ → Bool
 is_literal_number ty v = is_literal ty (int_lt v (pos 0)) (unsigned_abs v)
+
+abbrev pub is_signed_number : ℕ → ℤ → Bool
+is_signed_number w v = is_signed w (int_lt v (pos 0)) (unsigned_abs v)
 
 abbrev pub is_value_number : TypeTerm → ℤ → Bool
 is_value_number ty v = is_value ty (int_lt v (pos 0)) (unsigned_abs v)

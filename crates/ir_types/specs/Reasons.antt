@@ -10,7 +10,9 @@ use Rattle.ir_types.specs.declared.refusal.Refusal.TheVariants.{BadWidth, BadVal
 use Rattle.ir_types.specs.Things.{Things}
 use Rattle.ir_types.specs.Terms.{TypeTerm, Integer, Memref, AttrTerm, IntegerOf, DenseArray, type_node_term, attr_node_term}
 use Rattle.ir_types.specs.Depths.{type_depth, attr_depth}
+use Rattle.ir_types.specs.Limits.{most_things, most_entries, most_depth, most_width, most_dimension}
 use Rattle.ir_types.specs.Ranges.{is_value_number}
+use Rattle.ir_types.specs.Readings.{is_bits_of}
 use Rattle.ir_types.specs.Same.{same_type, same_attr}
 use Rattle.ir_types.specs.Dictionaries.{kept, has_twin}
 
@@ -29,29 +31,29 @@ abbrev pub checked : {A : Type 0} → Option Refusal → A → Result A Refusal
 checked (Some refusal) value = Err refusal
 checked None value = Ok value
 
--- 16,777,216 things are there already, and this one isn't
+-- as many things as there may be are there already, and this one isn't
 abbrev pub full_reason : {A : Type 0} → (A → Bool) → List A → Option Refusal
-full_reason is things = if not (list_any is things) && nat_le 16777216 (length things) then Some TooMany else None
+full_reason is things = if not (list_any is things) && nat_le most_things (length things) then Some TooMany else None
 
 abbrev pub name_reason : List ℕ → Things → Option Refusal
 name_reason bytes c = full_reason (bytes_eq bytes) c.names
 
--- a width is 1 to 64, and a dimension at most 2^63 - 1
+-- a width has a limit, and so has a dimension
 abbrev pub is_width : ℕ → Bool
-is_width w = nat_lt 0 w && nat_le w 64
+is_width w = nat_lt 0 w && nat_le w most_width
 
 abbrev pub is_dimension : Option ℕ → Bool
 is_dimension None = true
-is_dimension (Some size) = nat_le size 9223372036854775807
+is_dimension (Some size) = nat_le size most_dimension
 
 abbrev pub size_reason : TypeTerm → Option Refusal
 size_reason (Integer sign width) = if is_width width then None else Some BadWidth
 size_reason (Memref dims elem) = if list_all is_dimension dims then None else Some BadValue
 size_reason _ = None
 
--- no type and no attribute is deeper than 32
+-- no type and no attribute is too deep
 abbrev pub depth_reason : ℕ → Option Refusal
-depth_reason depth = if nat_le depth 32 then None else Some TooDeep
+depth_reason depth = if nat_le depth most_depth then None else Some TooDeep
 
 -- why a type is none
 abbrev pub type_fault : TypeTerm → Option Refusal
@@ -60,9 +62,9 @@ type_fault ty = first_reason (size_reason ty) (depth_reason (type_depth ty))
 abbrev pub type_reason : TypeNode → Things → Option Refusal
 type_reason node c = first_reason (type_fault (type_node_term c node)) (full_reason (same_type node) c.types)
 
--- an integer is one of its type's values, as it is printed, and so are the items of a dense array
+-- an integer is the bits of one of its type; the items of a dense array are values of theirs, as they are printed
 abbrev pub value_reason : AttrTerm → Option Refusal
-value_reason (IntegerOf ty value) = if is_value_number ty value then None else Some BadValue
+value_reason (IntegerOf ty bits) = if is_bits_of ty bits then None else Some BadValue
 value_reason (DenseArray elem values) = if list_all (is_value_number elem) values then None else Some BadValue
 value_reason _ = None
 
@@ -70,9 +72,9 @@ value_reason _ = None
 abbrev pub attr_fault : AttrTerm → Option Refusal
 attr_fault a = first_reason (value_reason a) (depth_reason (attr_depth a))
 
--- a dictionary has at most 256 entries
+-- the entries of a dictionary have a limit
 abbrev pub count_reason : AttrNode → Option Refusal
-count_reason (attr.Dict entries) = if nat_le (length entries) 256 then None else Some TooMany
+count_reason (attr.Dict entries) = if nat_le (length entries) most_entries then None else Some TooMany
 count_reason _ = None
 
 -- each key once
@@ -83,7 +85,7 @@ key_reason _ = None
 -- what a dictionary is refused for, where so many attributes are there: one with a twin is never among them
 abbrev pub instead : ℕ → Option Refusal → Option Refusal
 instead count None = None
-instead count (Some refusal) = if nat_le 16777216 count then Some TooMany else Some refusal
+instead count (Some refusal) = if nat_le most_things count then Some TooMany else Some refusal
 
 abbrev pub dictionary_reason : ℕ → AttrNode → Option Refusal
 dictionary_reason count node = first_reason (count_reason node) (instead count (key_reason node))

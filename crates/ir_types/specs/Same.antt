@@ -30,7 +30,7 @@ same_type _ _ = false
 
 -- and attributes
 unfoldable pub same_attr : AttrNode → AttrNode → Bool
-same_attr (attr.Int s v) (attr.Int t w) = (s == t) && int_eq v w
+same_attr (attr.Int s v) (attr.Int t w) = (s == t) && (v == w)
 same_attr (attr.Str m) (attr.Str n) = m == n
 same_attr (attr.Ty s) (attr.Ty t) = s == t
 same_attr attr.Unit attr.Unit = true

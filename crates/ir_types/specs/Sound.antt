@@ -10,21 +10,22 @@ use Rattle.ir_types.specs.Terms.{type_term, attr_term}
 use Rattle.ir_types.specs.Reasons.{type_fault, attr_fault}
 use Rattle.ir_types.specs.Dictionaries.{comes_before}
 use Rattle.ir_types.specs.Words.{words}
+use Rattle.ir_types.specs.Limits.{most_things, most_entries}
 
 -- the keys' bytes rise strictly, so each key stands once
 abbrev pub IsRising : List (List ℕ) → List (ℕ × ℕ) → Type 0
 IsRising names entries = AllPairs (λ a b. comes_before names a b ≡ true) entries
 
--- a dictionary has at most 256 entries, sorted by their keys' bytes
+-- a dictionary has a limited number of entries, sorted by their keys' bytes
 abbrev pub IsKept : List (List ℕ) → AttrNode → Type 0
-IsKept names (Dict entries) = (length entries ≤ 256) × IsRising names entries
+IsKept names (Dict entries) = (length entries ≤ most_entries) × IsRising names entries
 IsKept names _ = Unit {0}
 
 -- the words come first; a node refers to what stands before it; nothing that is held has a fault
 pub record Holds (c : Things) : Type 0 where
-  pub few_names : length c.names ≤ 16777216
-  pub few_types : length c.types ≤ 16777216
-  pub few_attrs : length c.attrs ≤ 16777216
+  pub few_names : length c.names ≤ most_things
+  pub few_types : length c.types ≤ most_things
+  pub few_attrs : length c.attrs ≤ most_things
   pub words_first : take 54 c.names ≡ words
   pub types_refer : (i : ℕ) (node : TypeNode) → slice_get c.types i ≡ Some node → TypesBelow i node
   pub attrs_refer : (i : ℕ) (node : AttrNode) → slice_get c.attrs i ≡ Some node → PartsBelow (length c.names) (length c.types) i node

@@ -21,10 +21,10 @@ mutual
     no_types : TypeTerms
     next_type : TypeTerm → TypeTerms → TypeTerms
 
--- attributes
+-- attributes; an integer is known by its bits
 mutual
   pub data AttrTerm : Type 0 where
-    IntegerOf : TypeTerm → ℤ → AttrTerm
+    IntegerOf : TypeTerm → ℕ → AttrTerm
     String : List ℕ → AttrTerm
     TypeOf : TypeTerm → AttrTerm
     Flag : AttrTerm
@@ -89,7 +89,7 @@ entries_at names known (e ∷ es) = next_entry (slice_index_or names e.0 []) (at
 
 -- an attribute's node with what its numbers stand for
 abbrev pub attr_from : List (List ℕ) → List TypeTerm → List AttrTerm → AttrNode → AttrTerm
-attr_from names types known (attr.Int ty value) = IntegerOf (type_at types ty) value
+attr_from names types known (attr.Int ty bits) = IntegerOf (type_at types ty) bits
 attr_from names types known (attr.Str name) = String (slice_index_or names name [])
 attr_from names types known (attr.Ty ty) = TypeOf (type_at types ty)
 attr_from names types known attr.Unit = Flag

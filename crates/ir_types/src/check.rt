@@ -5,16 +5,16 @@ ghost use Rattle.ir_types.specs.Things.{IsType, IsAttr, TypeIsOf, AttrIsOf};
 ghost use Rattle.ir_types.specs.Terms.{TypeTerm, type_from, type_terms, attr_terms, types_at, attrs_at, entries_at, type_term, type_node_term, attr_node_term};
 ghost use Rattle.ir_types.specs.Depths.{type_depth, types_depth, attr_depth, attrs_depth, entries_depth, is_scalar};
 ghost use Rattle.ir_types.specs.Reasons.{checked, type_fault, attr_fault, size_reason, value_reason, is_dimension};
+ghost use Rattle.ir_types.specs.Limits.{most_depth};
 ghost use Rattle.ir_types.specs.Ranges.{is_value_number};
+ghost use Rattle.ir_types.specs.Readings.{is_bits_of};
 
 use crate::context::Context;
 use crate::ids::{AttrId, NameId, TypeId};
+use crate::limits::{MOST_DEPTH, MOST_DIMENSION, MOST_WIDTH};
 use crate::node::{AttrNode, TypeNode};
-use crate::range::is_value;
+use crate::range::{is_bits, is_value};
 use crate::refusal::Refusal;
-
-/// The greatest depth of a type or an attribute.
-const MOST_DEPTH: u32 = 32;
 
 impl Context {
     /// The depth of a type's node, or why it is none.
@@ -67,7 +67,7 @@ impl Context {
     fn types_depth(&self, ids: &[TypeId]) -> u32
         requires { All (λ t. t < length self.now.types) ids.now }
         ensures depth { result ≡ types_depth (types_at (type_terms self.now) ids.now) }
-        ensures shallow { result ≤ 32 }
+        ensures shallow { result ≤ most_depth }
     {
         let mut greatest = 0;
         for id in ids {
@@ -113,7 +113,7 @@ impl Context {
     fn attrs_depth(&self, ids: &[AttrId]) -> u32
         requires { All (λ a. a < length self.now.attrs) ids.now }
         ensures depth { result ≡ attrs_depth (attrs_at (attr_terms self.now) ids.now) }
-        ensures shallow { result ≤ 32 }
+        ensures shallow { result ≤ most_depth }
     {
         let mut greatest = 0;
         for id in ids {
@@ -126,7 +126,7 @@ impl Context {
     fn entries_depth(&self, entries: &[(NameId, AttrId)]) -> u32
         requires { All (λ (e : ℕ × ℕ). e.1 < length self.now.attrs) entries.now }
         ensures depth { result ≡ entries_depth (entries_at self.now.names (attr_terms self.now) entries.now) }
-        ensures shallow { result ≤ 32 }
+        ensures shallow { result ≤ most_depth }
     {
         let mut greatest = 0;
         for entry in entries {
@@ -141,11 +141,20 @@ impl Context {
         ensures { result ≡ value_reason (attr_node_term self.now node.now) }
     {
         let fine = match node {
-            AttrNode::Int { ty, value } => self.is_value(*ty, *value),
+            AttrNode::Int { ty, value } => self.is_bits(*ty, *value),
             AttrNode::Dense { elem, values } => self.are_values(*elem, values.as_slice()),
             _ => true,
         };
         if fine { None } else { Some(Refusal::BadValue) }
+    }
+
+    /// Whether a number is the bits of an integer of a type.
+    fn is_bits(&self, ty: TypeId, bits: u128) -> bool
+        requires { IsType self.now ty }
+        ensures { result ≡ is_bits_of (type_term self.now ty) bits }
+    {
+        self.sound();
+        is_bits(self.type_node(ty), bits)
     }
 
     /// Whether a whole number is a value of a type, as it is printed.
@@ -186,7 +195,7 @@ fn size_fault(node: &TypeNode) -> Option<Refusal>
 {
     match node {
         TypeNode::Int { width, .. } => {
-            if (1..=64).contains(width) {
+            if (1..=MOST_WIDTH).contains(width) {
                 None
             } else {
                 Some(Refusal::BadWidth)
@@ -203,9 +212,10 @@ fn size_fault(node: &TypeNode) -> Option<Refusal>
     }
 }
 
-/// Whether each dimension is at most 9,223,372,036,854,775,807.
+/// Whether each dimension is within its limit.
 fn are_dimensions(dims: &[Option<u64>]) -> bool
     ensures { result ≡ list_all is_dimension dims.now }
 {
-    dims.iter().all(|dim| dim.is_none_or(|size| size <= 9_223_372_036_854_775_807))
+    dims.iter()
+        .all(|dim| dim.is_none_or(|size| size <= MOST_DIMENSION))
 }

@@ -1,7 +1,8 @@
 //! The context: names, types and attributes, each known by a number. It only grows.
-ghost use Rattle.std.specs.Prelude.{◌≡◌, ◌<◌, ◌≤◌, ◌↔◌, Some, None, Ok, Err, [], IfOk, OnOk, OnErr, IfErr, IsTrue, length, slice_get};
+ghost use Rattle.std.specs.Prelude.{◌≡◌, ◌<◌, ◌≤◌, ◌↔◌, Some, None, Ok, Err, [], true, IfOk, IsOk, OnOk, OnErr, IfErr, IsTrue, length, slice_get};
 ghost use Rattle.ir_types.specs.Things.{IsName, IsType, IsAttr, Grows, TypeIsOf, AttrIsOf};
-ghost use Rattle.ir_types.specs.Interning.{with_name, with_type, with_attr};
+ghost use Rattle.ir_types.specs.Limits.{most_depth};
+ghost use Rattle.ir_types.specs.Interning.{with_name, with_type, with_attr, knows_name, knows_type, knows_attr};
 ghost use Rattle.ir_types.specs.Reasons.{IsRefusedFor, checked, name_reason, type_reason, attr_reason, dictionary_reason};
 ghost use Rattle.ir_types.specs.Sound.{IsSound, IsKept};
 ghost use Rattle.ir_types.specs.Dictionaries.{kept};
@@ -11,19 +12,15 @@ ghost use Rattle.ir_types.specs.Words.{words};
 
 use crate::dictionary::sort_entries;
 use crate::ids::{AttrId, NameId, TypeId};
+use crate::limits::{MOST_ENTRIES, MOST_THINGS};
 use crate::node::{AttrNode, TypeNode};
-use crate::places::{
-    LIMIT, attrs_apart, intern_attr, intern_name, intern_type, names_apart, types_apart,
-};
+use crate::places::{attrs_apart, intern_attr, intern_name, intern_type, names_apart, types_apart};
 use crate::refusal::Refusal;
 use crate::words::{WORDS, word};
 use indexmap::{IndexMap, IndexSet};
 use ir_types_base::lists::Items;
 use std::alloc::Global;
 use std::marker::Model;
-
-/// How many entries a dictionary has at most.
-const MOST_ENTRIES: usize = 256;
 
 /// Names, types and attributes, each known by its number.
 #[derive(Drop)]
@@ -119,22 +116,23 @@ impl Context {
         node
     }
 
-    /// The number of a name.
+    /// The number of a name. One that is there takes no memory.
     ///
     /// Refusals: `TooMany` where the context is full and has no such name; `Memory`.
     pub fn name(&mut self, bytes: &[u8]) -> Result<NameId, Refusal>
         ensures ok { IfOk result (λ id. (id, self.new) ≡ with_name bytes.now self.old) }
         ensures grows { Grows self.old self.new }
         ensures refused { IsRefusedFor (name_reason bytes.now self.old) result }
+        ensures known { knows_name bytes.now self.old ≡ true → IsOk result }
         ensures err { OnErr result (self.new ≡ self.old) }
     {
         let place = intern_name(&mut self.names, self.alloc, bytes)?;
         Ok(NameId::new(place))
     }
 
-    /// The number of a type whose parts are types of this context.
+    /// The number of a type whose parts are types of this context. One that is there takes no memory.
     ///
-    /// Refusals: `BadWidth` for a width outside 1 to 64; `BadValue` for a dimension above
+    /// Refusals: `BadWidth` for a width outside 1 to 128; `BadValue` for a dimension above
     /// 9,223,372,036,854,775,807; `TooDeep` past a depth of 32; `TooMany` where the context is full
     /// and has no such type; `Memory`.
     pub fn ty(&mut self, node: TypeNode) -> Result<TypeId, Refusal>
@@ -142,6 +140,7 @@ impl Context {
         ensures ok { IfOk result (λ id. (id, self.new) ≡ with_type node self.old) }
         ensures grows { Grows self.old self.new }
         ensures refused { IsRefusedFor (type_reason node self.old) result }
+        ensures known { knows_type node self.old ≡ true → type_reason node self.old ≡ None → IsOk result }
         ensures err { OnErr result (self.new ≡ self.old) }
     {
         let depth = self.checked_type(&node)?;
@@ -149,9 +148,11 @@ impl Context {
         Ok(TypeId::new(place))
     }
 
-    /// The number of an attribute whose parts are names, types and attributes of this context.
+    /// The number of an attribute whose parts are names, types and attributes of this context. One
+    /// that is there takes no memory.
     ///
-    /// Refusals: `BadValue` where an integer is no value of its type; `TooDeep` past a depth of 32;
+    /// Refusals: `BadValue` where an integer's bits are not below 2^w, or its type has no integers, or
+    /// an item of a dense array is no value of the element type; `TooDeep` past a depth of 32;
     /// `TooMany` past 256 entries, or where the context is full and has no such attribute;
     /// `DuplicateKey` where a key stands twice; `Memory`.
     pub fn attr(&mut self, node: AttrNode) -> Result<AttrId, Refusal>
@@ -159,6 +160,7 @@ impl Context {
         ensures ok { IfOk result (λ id. (id, self.new) ≡ with_attr node self.old) }
         ensures grows { Grows self.old self.new }
         ensures refused { IsRefusedFor (attr_reason node self.old) result }
+        ensures known { knows_attr node self.old ≡ true → attr_reason node self.old ≡ None → IsOk result }
         ensures err { OnErr result (self.new ≡ self.old) }
     {
         let depth = self.checked_attr(&node)?;
@@ -182,7 +184,7 @@ impl Context {
         let mut entries = entries.into_vec();
         if !sort_entries(&self.names, &mut entries) {
             Ok(AttrNode::Dict(Items::new(entries)))
-        } else if self.attrs.len() >= LIMIT as usize {
+        } else if self.attrs.len() >= MOST_THINGS as usize {
             Err(Refusal::TooMany)
         } else {
             Err(Refusal::DuplicateKey)
@@ -193,7 +195,7 @@ impl Context {
     pub(crate) fn type_depth(&self, id: TypeId) -> u32
         requires { IsType self.now id }
         ensures depth { result ≡ type_depth (type_term self.now id) }
-        ensures shallow { result ≤ 32 }
+        ensures shallow { result ≤ most_depth }
     {
         self.types[id.number() as usize]
     }
@@ -202,7 +204,7 @@ impl Context {
     pub(crate) fn attr_depth(&self, id: AttrId) -> u32
         requires { IsAttr self.now id }
         ensures depth { result ≡ attr_depth (attr_term self.now id) }
-        ensures shallow { result ≤ 32 }
+        ensures shallow { result ≤ most_depth }
     {
         self.attrs[id.number() as usize]
     }

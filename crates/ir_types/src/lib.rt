@@ -7,11 +7,15 @@ pub mod context;
 mod dictionary;
 pub mod ids;
 pub mod laws;
+pub mod limits;
 pub mod node;
 mod places;
 pub mod range;
+pub mod reading_laws;
+pub mod readings;
 pub mod refusal;
 mod table;
+pub mod word;
 pub mod word_laws;
 pub mod words;
 

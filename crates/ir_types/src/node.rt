@@ -14,9 +14,9 @@ pub enum Sign {
 }
 
 /// A type whose parts are types of the context (Builtin Dialect, "Types").
-#[derive(Debug, Drop, PartialEq, Eq, Hash)]
+#[derive(Drop, PartialEq, Eq, Hash)]
 pub enum TypeNode {
-    /// An integer type of some bits: `i32`, `si8`, `ui64`.
+    /// An integer type of 1 to 128 bits: `i32`, `si8`, `ui128`.
     Int {
         sign: Sign,
         width: u32,
@@ -37,10 +37,11 @@ pub enum TypeNode {
 
 /// An attribute whose parts are names, types and attributes of the context (Builtin Dialect,
 /// "Attributes").
-#[derive(Debug, Drop, PartialEq, Eq, Hash)]
+#[derive(Drop, PartialEq, Eq, Hash)]
 pub enum AttrNode {
-    /// An integer of an integer type or index, as it is printed: `-1 : i8`; `true` is -1 of `i1`.
-    Int { ty: TypeId, value: i128 },
+    /// An integer of an integer type or index by its bits, a number below 2^w: `-1 : i8` and
+    /// `255 : i8` are 255 of `i8`, and `true` is 1 of `i1`.
+    Int { ty: TypeId, value: u128 },
     /// A string.
     Str(NameId),
     /// A type.

@@ -1,23 +1,24 @@
 //! Which whole numbers a type has.
 ghost use Rattle.std.specs.Prelude.{◌≡◌, ◌^◌, ◌-◌, ◌≤◌, List};
+ghost use Rattle.ir_types.specs.Limits.{most_width};
 ghost use Rattle.ir_types.specs.Terms.{TypeTerm, Integer, type_from};
-ghost use Rattle.ir_types.specs.Ranges.{is_literal_number, is_value_number, is_signed, is_unsigned};
+ghost use Rattle.ir_types.specs.Ranges.{is_value_number, is_signed, is_unsigned};
 ghost use Rattle.ir_types.specs.Ranges as ranges;
+ghost use Rattle.ir_types.specs.Readings.{is_bits_of};
 ghost use Rattle.ir_types.specs.Bits.{HasWidth};
 
+use crate::limits::INDEX_WIDTH;
 use crate::node::{Sign, TypeNode};
 
-/// Whether a whole number is a literal of a type: an integer of a signless type may be written as
-/// signed or as unsigned (Builtin Dialect, "IntegerAttr").
-pub fn is_literal(node: &TypeNode, value: i128) -> bool
+/// Whether a sign and a magnitude are a literal of a type: an integer of a signless type may be
+/// written as signed or as unsigned (Builtin Dialect, "IntegerAttr"). -0 is one.
+pub fn is_literal(node: &TypeNode, negative: bool, magnitude: u128) -> bool
     requires { HasWidth node.now }
-    ensures { (known : List TypeTerm) → result ≡ is_literal_number (type_from known node.now) value }
+    ensures { (known : List TypeTerm) → result ≡ ranges.is_literal (type_from known node.now) negative magnitude }
 {
     match node {
-        TypeNode::Int { sign, width } => {
-            is_literal_of_width(*sign, *width, value < 0, value.unsigned_abs())
-        }
-        TypeNode::Index => is_signed(INDEX_WIDTH, value < 0, value.unsigned_abs()),
+        TypeNode::Int { sign, width } => is_literal_of_width(*sign, *width, negative, magnitude),
+        TypeNode::Index => is_signed(INDEX_WIDTH, negative, magnitude),
         TypeNode::Func { .. } => false,
         TypeNode::Memref { .. } => false,
     }
@@ -38,12 +39,23 @@ pub fn is_value(node: &TypeNode, value: i128) -> bool
     }
 }
 
-/// How many bits an index has.
-const INDEX_WIDTH: u32 = 64;
+/// Whether a number is the bits of an integer of a type: it is below 2^w, where they are w.
+pub fn is_bits(node: &TypeNode, bits: u128) -> bool
+    requires { HasWidth node.now }
+    ensures { (known : List TypeTerm) → result ≡ is_bits_of (type_from known node.now) bits }
+{
+    match node {
+        TypeNode::Int { width, .. } => is_unsigned(*width, false, bits),
+        TypeNode::Index => is_unsigned(INDEX_WIDTH, false, bits),
+        TypeNode::Func { .. } => false,
+        TypeNode::Memref { .. } => false,
+    }
+}
 
-fn is_literal_of_width(sign: Sign, width: u32, negative: bool, magnitude: u128) -> bool
+/// Whether a sign and a magnitude are a literal of an integer type.
+pub(crate) fn is_literal_of_width(sign: Sign, width: u32, negative: bool, magnitude: u128) -> bool
     requires low { 1 ≤ width }
-    requires high { width ≤ 128 }
+    requires high { width ≤ most_width }
     ensures { result ≡ ranges.is_literal (Integer sign width) negative magnitude }
 {
     match sign {
@@ -61,7 +73,7 @@ fn is_literal_of_width(sign: Sign, width: u32, negative: bool, magnitude: u128) 
 
 fn is_value_of_width(sign: Sign, width: u32, negative: bool, magnitude: u128) -> bool
     requires low { 1 ≤ width }
-    requires high { width ≤ 128 }
+    requires high { width ≤ most_width }
     ensures { result ≡ ranges.is_value (Integer sign width) negative magnitude }
 {
     match sign {
@@ -74,7 +86,7 @@ fn is_value_of_width(sign: Sign, width: u32, negative: bool, magnitude: u128) ->
 /// Whether a sign and a magnitude are those of a signed integer of some bits.
 fn is_signed(width: u32, negative: bool, magnitude: u128) -> bool
     requires low { 1 ≤ width }
-    requires high { width ≤ 128 }
+    requires high { width ≤ most_width }
     ensures { result ≡ ranges.is_signed width negative magnitude }
 {
     if negative {
@@ -87,7 +99,7 @@ fn is_signed(width: u32, negative: bool, magnitude: u128) -> bool
 /// Whether a sign and a magnitude are those of an unsigned integer of some bits.
 fn is_unsigned(width: u32, negative: bool, magnitude: u128) -> bool
     requires low { 1 ≤ width }
-    requires high { width ≤ 128 }
+    requires high { width ≤ most_width }
     ensures { result ≡ ranges.is_unsigned width negative magnitude }
 {
     if negative {
@@ -98,9 +110,9 @@ fn is_unsigned(width: u32, negative: bool, magnitude: u128) -> bool
 }
 
 /// Half the number of a width's values.
-pub(crate) fn half(width: u32) -> u128
+pub fn half(width: u32) -> u128
     requires low { 1 ≤ width }
-    requires high { width ≤ 128 }
+    requires high { width ≤ most_width }
     ensures { result ≡ 2 ^ (width - 1) }
 {
     1 << (width - 1)

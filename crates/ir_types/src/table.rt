@@ -1,13 +1,19 @@
 //! What the operation table says of a context's names, and which literals its types have.
-ghost use Rattle.std.specs.Prelude.{◌≡◌};
+ghost use Rattle.std.specs.Prelude.{◌≡◌, pos, int_lt, unsigned_abs};
+ghost use Rattle.std.specs.Str.{bytes_eq};
 ghost use Rattle.ir_types.specs.Things.{IsType};
 ghost use Rattle.ir_types.specs.Terms.{name_term, type_term};
-ghost use Rattle.ir_types.specs.Ranges.{is_literal_number};
+ghost use Rattle.ir_types.specs.Ranges.{is_literal};
+ghost use Rattle.ir_types.specs.Readings as readings;
+ghost use Rattle.ir_types.specs.Readings.{reading_of};
+ghost use Rattle.ir_types.specs.WordNames.{word_bytes};
 ghost use Rattle.ir_types.specs.Words.{is_listed, is_table, is_isolated, is_inherent};
 
 use crate::context::Context;
 use crate::ids::{NameId, TypeId};
 use crate::range::is_literal;
+use crate::readings::{Reading, literal_bits, read_bits};
+use crate::word::{Word, is_word_number};
 use crate::words::{inherent_number, isolated_number, listed_number, table_number};
 
 impl Context {
@@ -46,14 +52,42 @@ impl Context {
         inherent_number(op, key)
     }
 
-    /// Whether a whole number is a literal of a type: from -2^(w-1) to 2^w - 1 for a signless type of
-    /// w bits, to 2^(w-1) - 1 for a signed one and for index, which has 64 bits, and from 0 to 2^w - 1
-    /// for an unsigned one. Other types have no literal.
-    pub fn fits(&self, ty: TypeId, value: i128) -> bool
-        requires { IsType self.now ty }
-        ensures { result ≡ is_literal_number (type_term self.now ty) value }
+    /// Whether a name is a word that every context holds. The names' numbers are compared.
+    pub fn is_word(&self, name: NameId, word: Word) -> bool
+        ensures { result ≡ bytes_eq (name_term self.now name) (word_bytes word) }
     {
         self.sound();
-        is_literal(self.type_node(ty), value)
+        is_word_number(name, word)
+    }
+
+    /// Whether a literal, by its sign and magnitude, is one of a type: from -2^(w-1) to 2^w - 1 for a
+    /// signless type of w bits, to 2^(w-1) - 1 for a signed one and for index, which has 64 bits, and
+    /// from 0 to 2^w - 1 for an unsigned one. -0 is 0. Other types have no literal.
+    pub fn fits(&self, ty: TypeId, negative: bool, magnitude: u128) -> bool
+        requires { IsType self.now ty }
+        ensures { result ≡ is_literal (type_term self.now ty) negative magnitude }
+    {
+        self.sound();
+        is_literal(self.type_node(ty), negative, magnitude)
+    }
+
+    /// The bits of a literal, where it is one of the type: the number modulo 2^w.
+    pub fn literal_bits(&self, ty: TypeId, negative: bool, magnitude: u128) -> Option<u128>
+        requires { IsType self.now ty }
+        ensures { result ≡ readings.literal_bits (type_term self.now ty) negative magnitude }
+    {
+        self.sound();
+        literal_bits(self.type_node(ty), negative, magnitude)
+    }
+
+    /// The number that bits are read as: as they are of an unsigned type, by two's complement of a
+    /// signless or a signed one and of index.
+    pub fn reading(&self, ty: TypeId, bits: u128) -> Reading
+        requires { IsType self.now ty }
+        ensures negative { result.negative ≡ int_lt (reading_of (type_term self.now ty) bits) (pos 0) }
+        ensures magnitude { result.magnitude ≡ unsigned_abs (reading_of (type_term self.now ty) bits) }
+    {
+        self.sound();
+        read_bits(self.type_node(ty), bits)
     }
 }

@@ -1,0 +1,26 @@
+-- The limits of a context.
+use Rattle.std.specs.Prelude.{ℕ}
+
+-- the most names, types and attributes, of each
+abbrev pub most_things : ℕ
+most_things = 16777216
+
+-- the most entries of a dictionary
+abbrev pub most_entries : ℕ
+most_entries = 256
+
+-- the greatest depth of a type or an attribute
+abbrev pub most_depth : ℕ
+most_depth = 32
+
+-- the greatest width of an integer type
+abbrev pub most_width : ℕ
+most_width = 128
+
+-- how many bits an index has
+abbrev pub index_width : ℕ
+index_width = 64
+
+-- the greatest dimension of a memref, 2^63 - 1
+abbrev pub most_dimension : ℕ
+most_dimension = 9223372036854775807
