@@ -1,6 +1,6 @@
 -- Bits and numbers of 1 to 128 bits, as the machine's integers hold them.
-use Rattle.std.proofs.Common.{◌≡◌, ℕ, zero, suc, to_z, of_z, lit<, ◌+◌, ◌-◌, ◌*◌, ◌/◌, ◌%◌, ◌^◌, ◌<◌, ◌≤◌, ℤ, pos, negsuc, ◌-ℤ◌, ◌≤ℤ◌, ◌<ℤ◌, sym, ap, refl, ◌∙◌, arith, true, false}
-use Rattle.std.specs.Prelude.{bit_and, unsigned_abs, int_lt}
+use Rattle.std.proofs.Common.{◌≡◌, ℕ, zero, suc, to_z, of_z, lit<, ◌+◌, ◌-◌, ◌*◌, ◌/◌, ◌%◌, ◌^◌, ◌<◌, ◌≤◌, ℤ, pos, negsuc, ◌-ℤ◌, ◌≤ℤ◌, ◌<ℤ◌, sym, ap, refl, ◌∙◌, arith, true}
+use Rattle.std.specs.Prelude.{bit_and, unsigned_abs}
 use Rattle.std.proofs.lemmas.Nat.{mod_below, and_mask, pow_pos}
 use Rattle.std.proofs.lemmas.Nat.Bits.{ones_shr}
 use Rattle.std.proofs.lemmas.Int.{ints, to_z_pos, to_z-of_z}
@@ -84,16 +84,13 @@ unfolding wrapped
 literal_high w zero h k = absurd (omega arith)
 literal_high w (suc m) h k =
     let same : m % 2 ^ w ≡ m = mod-eq_of_lt (omega arith) in
-    rw same refl
+    let is : literal_number true (suc m) ≡ negsuc m = omega (arith, ints) in
+    rw (is, same) (omega arith)
 
 pub literal_zero : (w : ℕ) → 0 ≡ wrapped w (literal_number true 0)
 unfolding wrapped
 literal_zero w = sym (mod-eq_of_lt (pow_pos w))
 
--- the reading by sign and magnitude
-pub low_sign : (w v : ℕ) → v < 2 ^ (w - 1) → int_lt (signed_of w v) (pos 0) ≡ false
-low_sign w v h = rw (signed_low w v h) refl
-
-pub low_size : (w v : ℕ) → v < 2 ^ (w - 1) → unsigned_abs (signed_of w v) ≡ v
-low_size w v h = rw (signed_low w v h) refl
-
+-- the reading past the width
+pub past_is : (w v : ℕ) → 1 ≤ w → 2 ^ w ≤ v → signed_of w v ≡ pos (v - 2 ^ w)
+past_is w v some h = let two = halves w some in signed_high w v (omega arith) ∙ omega (arith, ints)

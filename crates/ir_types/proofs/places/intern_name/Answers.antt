@@ -1,4 +1,4 @@
-use Rattle.std.proofs.Common.{◌≡◌, ◌∙◌, sym, ℕ, map, length, arith}
+use Rattle.std.proofs.Common.{◌≡◌, ◌∙◌, sym, ℕ, map, length, arith, true≢false}
 use Rattle.std.specs.Str.{bytes_eq}
 use Rattle.std.proofs.lemmas.List.{length-map}
 use Rattle.ir_types.specs.declared.refusal.Refusal.TheVariants.{TooMany}
@@ -26,3 +26,12 @@ returns-clause-place c =
 pub returns-clause-names : goal.returns-clause-names
 returns-clause-names c =
     names_push (λ v. v.items) c.args.bytes.now c.args.names.now.keys c.insert.new.self.keys c.in_ok-from_slice.field-0 (sym c.get_index_of.ensures.index ∙ c.in_default.is) c.in_ok-from_slice.ensures.items c.in_ok-insert.ensures.keys
+
+pub returns-then-place-clause-known : goal.returns-then-place-clause-known
+returns-then-place-clause-known c e = absurd (true≢false (sym e ∙ (names_absent (λ v. v.items) c.args.bytes.now c.args.names.now.keys (sym c.get_index_of.ensures.index ∙ c.in_default.is)).0))
+
+pub returns-in_err-from_slice-clause-known : goal.returns-in_err-from_slice-clause-known
+returns-in_err-from_slice-clause-known c e = absurd (true≢false (sym e ∙ (names_absent (λ v. v.items) c.args.bytes.now c.args.names.now.keys (sym c.get_index_of.ensures.index ∙ c.in_default.is)).0))
+
+pub returns-in_err-insert-clause-known : goal.returns-in_err-insert-clause-known
+returns-in_err-insert-clause-known c e = absurd (true≢false (sym e ∙ (names_absent (λ v. v.items) c.args.bytes.now c.args.names.now.keys (sym c.get_index_of.ensures.index ∙ c.in_default.is)).0))

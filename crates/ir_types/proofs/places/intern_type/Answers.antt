@@ -1,5 +1,5 @@
 use Rattle.std.proofs.Common.{◌≡◌, ◌∙◌, sym, ap, subst, ℕ, length, Err}
-use Rattle.std.specs.List.{position_or_len}
+use Rattle.std.specs.List.{list_any, position_or_len}
 use Rattle.std.specs.Map.{keys_of}
 use Rattle.ir_types_base.specs.Interned.{with_last}
 use Rattle.ir_types_base.proofs.Placed.{length-keys}
@@ -32,3 +32,6 @@ returns-in-Err-clause-refused c =
     subst (λ r. IsRefusedFor {A = ℕ} (full_reason (same_type c.args.node) keys) (Err r)) (sym c.from.ensures)
     (subst (λ p. IsRefusedFor {A = ℕ} (full_reason p keys) (Err (not_interned c.in-Err.fault))) same
     (not_interned_reason _ keys c.in-Err.fault (length c.args.types.now.entries) n c.in-Err.ensures.full))
+
+pub returns-in-Err-clause-known : goal.returns-in-Err-clause-known
+returns-in-Err-clause-known c e = c.in-Err.ensures.known (ap (λ p. list_any p (keys_of c.args.types.now.entries)) (as_test _ same_type derived_type c.args.node) ∙ e)

@@ -1,4 +1,3 @@
-use Rattle.std.proofs.Common.{rules}
 use Rattle.ir_types.specs.Terms.{type_terms}
 use Rattle.ir_types.proofs.Terms.{type_term_is}
 use Rattle.ir_types.proofs.Calls.{width_of_type}
@@ -8,6 +7,4 @@ pub is_literal-requires : goal.is_literal-requires
 is_literal-requires c = width_of_type c.args.self.now c.args.ty c.type_node.result.now c.sound.ensures.holds c.type_node.ensures
 
 pub returns : goal.returns
-returns c =
-    let e = type_term_is c.args.self.now c.args.ty c.type_node.result.now c.sound.ensures.holds c.type_node.ensures in
-    rw e (let h = c.is_literal.ensures (type_terms c.args.self.now) in search (rules, h))
+returns c = rw (type_term_is c.args.self.now c.args.ty c.type_node.result.now c.sound.ensures.holds c.type_node.ensures) (c.is_literal.ensures (type_terms c.args.self.now))
