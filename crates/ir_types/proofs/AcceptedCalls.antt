@@ -30,6 +30,7 @@ use Rattle.ir_types.proofs.Terms.{type_term_is, attr_term_is}
 use Rattle.ir_types.proofs.Sorting.{Rise, distinct_keys, no_twins, rise_distinct, apart_from, sorted_rises, sorted_moved, rising_pairs}
 use Rattle.ir_types.proofs.KeptOrder.{length-sorted, kept_known}
 use Rattle.ir_types.proofs.Holding.{sound_name, sound_type, sound_attr}
+use Rattle.ir_types.specs.Limits.{most_things, most_entries}
 
 -- two reasons of which neither stands
 neither : (a b : Option Refusal) → first_reason a b ≡ None → (a ≡ None) × (b ≡ None)
@@ -40,15 +41,15 @@ pub neither_back : (a b : Option Refusal) → a ≡ None → b ≡ None → firs
 neither_back a b e f = rw e f
 
 -- a list that is not full has room
-pub room : {A : Type 0} (is : A → Bool) (x : A) (xs : List A) → length xs ≤ 16777216 → full_reason is xs ≡ None → length (with_last is x xs) ≤ 16777216
+pub room : {A : Type 0} (is : A → Bool) (x : A) (xs : List A) → length xs ≤ most_things → full_reason is xs ≡ None → length (with_last is x xs) ≤ most_things
 room is x xs few e = ⊎_elim
     (λ (h : (list_any is xs ≡ true) × (with_last is x xs ≡ xs)). let l = ap length h.1 in omega arith)
     (λ (h : (list_any is xs ≡ false) × (with_last is x xs ≡ xs ++ x ∷ [])).
     let l = length-with_last is x xs in
     ⊎_elim
-    (λ (k : nat_le 16777216 (length xs) ≡ true). absurd (let z : Some TooMany ≡ None = rw (h.0, k) at e in cc))
-    (λ (k : nat_le 16777216 (length xs) ≡ false). let less = leb-false 16777216 (length xs) k in omega (arith, l.1))
-    (truth (nat_le 16777216 (length xs))))
+    (λ (k : nat_le most_things (length xs) ≡ true). absurd (let z : Some TooMany ≡ None = rw (h.0, k) at e in cc))
+    (λ (k : nat_le most_things (length xs) ≡ false). let less = leb-false most_things (length xs) k in omega (arith, l.1))
+    (truth (nat_le most_things (length xs))))
     (with_last-cases is x xs)
 
 -- a thing that is there needs none
@@ -56,11 +57,11 @@ found_room : {A : Type 0} (is : A → Bool) (xs : List A) → list_any is xs ≡
 found_room is xs h = rw h refl
 
 -- a dictionary of known names and of no key twice is kept in order
-few_entries : (n : ℕ) → (if nat_le n 256 then None else Some TooMany) ≡ None → n ≤ 256
+few_entries : (n : ℕ) → (if nat_le n most_entries then None else Some TooMany) ≡ None → n ≤ most_entries
 few_entries n e = ⊎_elim
-    (λ (k : nat_le n 256 ≡ true). leb-true n 256 k)
-    (λ (k : nat_le n 256 ≡ false). absurd (let z : Some TooMany ≡ None = rw k at e in cc))
-    (truth (nat_le n 256))
+    (λ (k : nat_le n most_entries ≡ true). leb-true n most_entries k)
+    (λ (k : nat_le n most_entries ≡ false). absurd (let z : Some TooMany ≡ None = rw k at e in cc))
+    (truth (nat_le n most_entries))
 
 each_once : (b : Bool) → (if b then Some DuplicateKey else None) ≡ None → b ≡ false
 each_once true e = absurd cc
@@ -87,13 +88,13 @@ kept_in_order c (attr.Overflow nsw nuw) apart of_c few once = tt
 pub accepted_name : (bytes : List ℕ) (c : Things) → IsSound c → name_reason bytes c ≡ None → IsSound (with_name bytes c).1
 accepted_name bytes c s fine =
     let few = room (bytes_eq bytes) bytes c.names s.holds.few_names fine in
-    sound_name bytes c s (subst (λ l. length l ≤ 16777216) (sym (name_names bytes c)) few)
+    sound_name bytes c s (subst (λ l. length l ≤ most_things) (sym (name_names bytes c)) few)
 
 pub accepted_type : (node : TypeNode) (c : Things) → IsSound c → TypeIsOf c node → type_reason node c ≡ None → IsSound (with_type node c).1
 accepted_type node c s of_c fine =
     let r = neither (type_fault (type_node_term c node)) (full_reason (same_type node) c.types) fine in
     let few = room (same_type node) node c.types s.holds.few_types r.1 in
-    sound_type node c s of_c r.0 (subst (λ l. length l ≤ 16777216) (sym (type_types node c)) few)
+    sound_type node c s of_c r.0 (subst (λ l. length l ≤ most_things) (sym (type_types node c)) few)
 
 pub accepted_attr : (node : AttrNode) (c : Things) → IsSound c → AttrIsOf c node → attr_reason node c ≡ None → IsSound (with_attr node c).1
 accepted_attr node c s of_c fine =
@@ -103,7 +104,7 @@ accepted_attr node c s of_c fine =
     let q = neither (count_reason node) (first_reason full (key_reason node)) r.1 in
     let p = neither full (key_reason node) q.1 in
     let few = room (same_attr k) k c.attrs s.holds.few_attrs p.0 in
-    sound_attr node c s of_c r.0 (kept_in_order c node s.names_apart of_c q.0 p.1) (subst (λ l. length l ≤ 16777216) (sym (attr_attrs node c)) few)
+    sound_attr node c s of_c r.0 (kept_in_order c node s.names_apart of_c q.0 p.1) (subst (λ l. length l ≤ most_things) (sym (attr_attrs node c)) few)
 
 -- entries that rise have no key twice
 less_from : (o : Ordering) → is_lt o ≡ true → o ≡ Less
@@ -120,7 +121,7 @@ pairs_rise names (e ∷ es) h = (after es (λ i d k. h 0 (suc i) d (omega arith)
     after (f ∷ fs) h = (less_from (slice_cmp nat_cmp (key_bytes names e) (key_bytes names f)) (h 0 e (omega arith)), after fs (λ i d k. h (suc i) d (omega arith)))
 
 kept_count : (names : List (List ℕ)) (node : AttrNode) → IsKept names node → count_reason node ≡ None
-kept_count names (attr.Dict es) h = rw (le-leb (length es) 256 h.0) refl
+kept_count names (attr.Dict es) h = rw (le-leb (length es) most_entries h.0) refl
 kept_count names _ h = refl
 
 kept_once : (names : List (List ℕ)) (node : AttrNode) → AreApart names → IsKept names node → key_reason node ≡ None

@@ -24,20 +24,21 @@ use Rattle.ir_types.specs.Interning.{with_name}
 use Rattle.ir_types.specs.Bits.{HasWidth}
 use Rattle.ir_types.specs.Sound.{Holds}
 use Rattle.ir_types.proofs.Terms.{type_term_is}
+use Rattle.ir_types.specs.Limits.{most_things, most_depth}
 
 -- when a list is full
 module _ {A : Type 0} (is : A → Bool) (xs : List A) where
   pub full_found : list_any is xs ≡ true → full_reason is xs ≡ None
   full_found h = rw h refl
 
-  pub full_absent : list_any is xs ≡ false → 16777216 ≤ length xs → full_reason is xs ≡ Some TooMany
-  full_absent h k = rw (h, le-leb 16777216 (length xs) k) refl
+  pub full_absent : list_any is xs ≡ false → most_things ≤ length xs → full_reason is xs ≡ Some TooMany
+  full_absent h k = rw (h, le-leb most_things (length xs) k) refl
 
-  pub full_room : length xs < 16777216 → full_reason is xs ≡ None
-  full_room h = go (nat_le 16777216 (length xs)) refl (list_any is xs)
+  pub full_room : length xs < most_things → full_reason is xs ≡ None
+  full_room h = go (nat_le most_things (length xs)) refl (list_any is xs)
     where
-      go : (b : Bool) → nat_le 16777216 (length xs) ≡ b → (a : Bool) → cond (not a && nat_le 16777216 (length xs)) (Some TooMany) None ≡ None
-      go true e a = absurd (omega (arith, leb-true 16777216 (length xs) e))
+      go : (b : Bool) → nat_le most_things (length xs) ≡ b → (a : Bool) → cond (not a && nat_le most_things (length xs)) (Some TooMany) None ≡ None
+      go true e a = absurd (omega (arith, leb-true most_things (length xs) e))
       go false e true = refl
       go false e false = rw e refl
 
@@ -82,18 +83,18 @@ pub no_first : (a b : Option Refusal) → first_reason a b ≡ None → (a ≡ N
 no_first None b e = (refl, e)
 no_first (Some r) b e = absurd cc
 
-depth_within : (n : ℕ) → depth_reason n ≡ None → n ≤ 32
-depth_within n e = go (nat_le n 32) refl
+depth_within : (n : ℕ) → depth_reason n ≡ None → n ≤ most_depth
+depth_within n e = go (nat_le n most_depth) refl
   where
-    go : (b : Bool) → nat_le n 32 ≡ b → n ≤ 32
-    go true h = leb-true n 32 h
+    go : (b : Bool) → nat_le n most_depth ≡ b → n ≤ most_depth
+    go true h = leb-true n most_depth h
     go false h = absurd (let k : Some TooDeep ≡ None = rw h at e in cc)
 
 -- how deep types and attributes are at most
-pub shallow_type : (c : Things) (n : ℕ) → Holds c → IsType c n → type_depth (type_term c n) ≤ 32
+pub shallow_type : (c : Things) (n : ℕ) → Holds c → IsType c n → type_depth (type_term c n) ≤ most_depth
 shallow_type c n h at = depth_within (type_depth (type_term c n)) (no_first _ _ (h.types_fine n at)).1
 
-pub shallow_attr : (c : Things) (n : ℕ) → Holds c → IsAttr c n → attr_depth (attr_term c n) ≤ 32
+pub shallow_attr : (c : Things) (n : ℕ) → Holds c → IsAttr c n → attr_depth (attr_term c n) ≤ most_depth
 shallow_attr c n h at = depth_within (attr_depth (attr_term c n)) (no_first _ _ (h.attrs_fine n at)).1
 
 -- a depth that is kept is that of its number
@@ -106,37 +107,37 @@ mapped_at {A = A} f xs other vs n d e at = go xs n (sym (ap (λ l. slice_get l n
     go (x ∷ xs) zero h = cc
     go (x ∷ xs) (suc n) h = go xs n h
 
-pub kept_type_depth : (c d : Things) (vs : List ℕ) (n m : ℕ) → d ≡ c → Holds d → vs ≡ map type_depth (type_terms d) → slice_get vs n ≡ Some m → IsType c n → m ≤ 32
+pub kept_type_depth : (c d : Things) (vs : List ℕ) (n m : ℕ) → d ≡ c → Holds d → vs ≡ map type_depth (type_terms d) → slice_get vs n ≡ Some m → IsType c n → m ≤ most_depth
 kept_type_depth c d vs n m e h kept at is =
     let k : m ≡ type_depth (type_term d n) = mapped_at type_depth (type_terms d) Index vs n m kept at in
-    let l : type_depth (type_term d n) ≤ 32 = shallow_type d n h (subst (λ (z : Things). IsType z n) (sym e) is) in
+    let l : type_depth (type_term d n) ≤ most_depth = shallow_type d n h (subst (λ (z : Things). IsType z n) (sym e) is) in
     omega arith
 
-pub kept_attr_depth : (c d : Things) (vs : List ℕ) (n m : ℕ) → d ≡ c → Holds d → vs ≡ map attr_depth (attr_terms d) → slice_get vs n ≡ Some m → IsAttr c n → m ≤ 32
+pub kept_attr_depth : (c d : Things) (vs : List ℕ) (n m : ℕ) → d ≡ c → Holds d → vs ≡ map attr_depth (attr_terms d) → slice_get vs n ≡ Some m → IsAttr c n → m ≤ most_depth
 kept_attr_depth c d vs n m e h kept at is =
     let k : m ≡ attr_depth (attr_term d n) = mapped_at attr_depth (attr_terms d) Flag vs n m kept at in
-    let l : attr_depth (attr_term d n) ≤ 32 = shallow_attr d n h (subst (λ (z : Things). IsAttr z n) (sym e) is) in
+    let l : attr_depth (attr_term d n) ≤ most_depth = shallow_attr d n h (subst (λ (z : Things). IsAttr z n) (sym e) is) in
     omega arith
 
 -- what an interning that refuses says
-pub not_interned_reason : {A : Type 0} (is : A → Bool) (xs : List A) (fault : InternFault) (n : ℕ) → n ≡ length xs → (IsErrOf {T = ℕ} (Err fault) intern.TooMany → (16777216 ≤ n) × (list_any is xs ≡ false)) × ((16777216 ≤ n) × (list_any is xs ≡ false) → IsErrOf {T = ℕ} (Err fault) intern.TooMany) → IsRefusedFor {A = ℕ} (full_reason is xs) (Err (not_interned fault))
+pub not_interned_reason : {A : Type 0} (is : A → Bool) (xs : List A) (fault : InternFault) (n : ℕ) → n ≡ length xs → (IsErrOf {T = ℕ} (Err fault) intern.TooMany → (most_things ≤ n) × (list_any is xs ≡ false)) × ((most_things ≤ n) × (list_any is xs ≡ false) → IsErrOf {T = ℕ} (Err fault) intern.TooMany) → IsRefusedFor {A = ℕ} (full_reason is xs) (Err (not_interned fault))
 not_interned_reason is xs intern.TooMany n e full =
     let h = full.0 refl in
     refused ℕ (full_reason is xs) TooMany (full_absent is xs h.1 (omega (arith, h.0)))
-not_interned_reason is xs intern.Memory n e full = no_memory (full_reason is xs) (Err Memory) (go (list_any is xs) refl (nat_le 16777216 (length xs)) refl) refl
+not_interned_reason is xs intern.Memory n e full = no_memory (full_reason is xs) (Err Memory) (go (list_any is xs) refl (nat_le most_things (length xs)) refl) refl
   where
-    go : (a : Bool) → list_any is xs ≡ a → (b : Bool) → nat_le 16777216 (length xs) ≡ b → full_reason is xs ≡ None
+    go : (a : Bool) → list_any is xs ≡ a → (b : Bool) → nat_le most_things (length xs) ≡ b → full_reason is xs ≡ None
     go true h b k = rw h refl
-    go false h true k = absurd (let z = full.1 (omega (arith, leb-true 16777216 (length xs) k), h) in cc)
+    go false h true k = absurd (let z = full.1 (omega (arith, leb-true most_things (length xs) k), h) in cc)
     go false h false k = rw (h, k) refl
 
 -- and one that is accepted
-pub interned_reason : {A : Type 0} (is : A → Bool) (xs : List A) (place n : ℕ) → n ≡ length xs → ((16777216 ≤ n) × (list_any is xs ≡ false) → IsErrOf {T = ℕ} {E = InternFault} (Ok place) intern.TooMany) → full_reason is xs ≡ None
-interned_reason is xs place n e full = go (list_any is xs) refl (nat_le 16777216 (length xs)) refl
+pub interned_reason : {A : Type 0} (is : A → Bool) (xs : List A) (place n : ℕ) → n ≡ length xs → ((most_things ≤ n) × (list_any is xs ≡ false) → IsErrOf {T = ℕ} {E = InternFault} (Ok place) intern.TooMany) → full_reason is xs ≡ None
+interned_reason is xs place n e full = go (list_any is xs) refl (nat_le most_things (length xs)) refl
   where
-    go : (a : Bool) → list_any is xs ≡ a → (b : Bool) → nat_le 16777216 (length xs) ≡ b → full_reason is xs ≡ None
+    go : (a : Bool) → list_any is xs ≡ a → (b : Bool) → nat_le most_things (length xs) ≡ b → full_reason is xs ≡ None
     go true h b k = rw h refl
-    go false h true k = absurd (let z = full (omega (arith, leb-true 16777216 (length xs) k), h) in cc)
+    go false h true k = absurd (let z = full (omega (arith, leb-true most_things (length xs) k), h) in cc)
     go false h false k = rw (h, k) refl
 
 -- a derived `==` is the test of sameness, at one thing

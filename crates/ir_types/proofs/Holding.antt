@@ -26,6 +26,7 @@ use Rattle.ir_types.proofs.Placing.{with_last-cases, truth, with_last_front, apa
 use Rattle.ir_types.proofs.Growth.{front_refl, front_length, front_agree, name_is, name_refl, type_types}
 use Rattle.ir_types.proofs.Terms.{parts_below_more, type_terms_push, attr_terms_push, length-type_terms, length-attr_terms, type_stays, attr_stays, attr_terms_names, attr_terms_types}
 use Rattle.ir_types.proofs.KeptOrder.{kept_of, kept_fault, kept_depth_from, kept_stays}
+use Rattle.ir_types.specs.Limits.{most_things}
 
 -- the words are 54
 pub enough_names : (names : List (List ℕ)) → take 54 names ≡ words → 54 ≤ length names
@@ -33,7 +34,7 @@ unfolding words operations keys visibilities
 enough_names names e = let l : length (take 54 names) ≡ 54 = ap length e in omega (arith, length-take 54 names)
 
 -- a name more
-pub holds_names : (c : Things) (more : List (List ℕ)) → Holds c → length (c.names ++ more) ≤ 16777216 → Holds (record c { names = c.names ++ more })
+pub holds_names : (c : Things) (more : List (List ℕ)) → Holds c → length (c.names ++ more) ≤ most_things → Holds (record c { names = c.names ++ more })
 holds_names c more h few =
     let d : Things = record c { names = c.names ++ more } in
     let g : Grows c d = record { names = (more, refl); types = front_refl c.types; attrs = front_refl c.attrs } in
@@ -50,14 +51,14 @@ holds_names c more h few =
       attrs_kept = λ i node at. kept_stays (length c.names) (length c.types) i c.names d.names (front_agree [] c.names d.names g.names) node (h.attrs_refer i node at) (h.attrs_kept i node at);
     }
 
-pub holds_name : (bytes : List ℕ) (c : Things) → Holds c → length ((with_name bytes c).1).names ≤ 16777216 → Holds (with_name bytes c).1
+pub holds_name : (bytes : List ℕ) (c : Things) → Holds c → length ((with_name bytes c).1).names ≤ most_things → Holds (with_name bytes c).1
 unfolding with_name
 holds_name bytes c h few =
     let f = with_last_front (bytes_eq bytes) bytes c.names in
-    subst (λ ns. Holds (record c { names = ns })) (sym f.1) (holds_names c f.0 h (subst (λ ns. length ns ≤ 16777216) f.1 few))
+    subst (λ ns. Holds (record c { names = ns })) (sym f.1) (holds_names c f.0 h (subst (λ ns. length ns ≤ most_things) f.1 few))
 
 -- a type more
-pub holds_push_type : (node : TypeNode) (c : Things) → Holds c → TypeIsOf c node → type_fault (type_node_term c node) ≡ None → length (c.types ++ node ∷ []) ≤ 16777216 → Holds (record c { types = c.types ++ node ∷ [] })
+pub holds_push_type : (node : TypeNode) (c : Things) → Holds c → TypeIsOf c node → type_fault (type_node_term c node) ≡ None → length (c.types ++ node ∷ []) ≤ most_things → Holds (record c { types = c.types ++ node ∷ [] })
 holds_push_type node c h of_c fine few =
     let d : Things = record c { types = c.types ++ node ∷ [] } in
     let g : Grows c d = record { names = front_refl c.names; types = (node ∷ [], refl); attrs = front_refl c.attrs } in
@@ -85,16 +86,16 @@ holds_push_type node c h of_c fine few =
       attrs_kept = h.attrs_kept;
     }
 
-pub holds_type : (node : TypeNode) (c : Things) → Holds c → TypeIsOf c node → type_fault (type_node_term c node) ≡ None → length ((with_type node c).1).types ≤ 16777216 → Holds (with_type node c).1
+pub holds_type : (node : TypeNode) (c : Things) → Holds c → TypeIsOf c node → type_fault (type_node_term c node) ≡ None → length ((with_type node c).1).types ≤ most_things → Holds (with_type node c).1
 unfolding with_type
 holds_type node c h of_c fine few = ⊎_elim
     (λ (e : (list_any (same_type node) c.types ≡ true) × (with_last (same_type node) node c.types ≡ c.types)). subst (λ ts. Holds (record c { types = ts })) (sym e.1) h)
     (λ (e : (list_any (same_type node) c.types ≡ false) × (with_last (same_type node) node c.types ≡ c.types ++ node ∷ [])).
-    subst (λ ts. Holds (record c { types = ts })) (sym e.1) (holds_push_type node c h of_c fine (subst (λ ts. length ts ≤ 16777216) e.1 few)))
+    subst (λ ts. Holds (record c { types = ts })) (sym e.1) (holds_push_type node c h of_c fine (subst (λ ts. length ts ≤ most_things) e.1 few)))
     (with_last-cases (same_type node) node c.types)
 
 -- an attribute more
-pub holds_push_attr : (node : AttrNode) (c : Things) → Holds c → AttrIsOf c node → attr_fault (attr_node_term c node) ≡ None → IsKept c.names node → length (c.attrs ++ node ∷ []) ≤ 16777216 → Holds (record c { attrs = c.attrs ++ node ∷ [] })
+pub holds_push_attr : (node : AttrNode) (c : Things) → Holds c → AttrIsOf c node → attr_fault (attr_node_term c node) ≡ None → IsKept c.names node → length (c.attrs ++ node ∷ []) ≤ most_things → Holds (record c { attrs = c.attrs ++ node ∷ [] })
 holds_push_attr node c h of_c fine in_order few =
     let d : Things = record c { attrs = c.attrs ++ node ∷ [] } in
     let g : Grows c d = record { names = front_refl c.names; types = front_refl c.types; attrs = (node ∷ [], refl) } in
@@ -124,28 +125,28 @@ holds_push_attr node c h of_c fine in_order few =
           (push_cases c.attrs node n i at);
     }
 
-pub holds_attr : (node : AttrNode) (c : Things) → Holds c → AttrIsOf c node → attr_fault (attr_node_term c node) ≡ None → IsKept c.names (kept c.names node) → length ((with_attr node c).1).attrs ≤ 16777216 → Holds (with_attr node c).1
+pub holds_attr : (node : AttrNode) (c : Things) → Holds c → AttrIsOf c node → attr_fault (attr_node_term c node) ≡ None → IsKept c.names (kept c.names node) → length ((with_attr node c).1).attrs ≤ most_things → Holds (with_attr node c).1
 unfolding with_attr
 holds_attr node c h of_c fine in_order few =
     let k = kept c.names node in
     ⊎_elim
     (λ (e : (list_any (same_attr k) c.attrs ≡ true) × (with_last (same_attr k) k c.attrs ≡ c.attrs)). subst (λ as'. Holds (record c { attrs = as' })) (sym e.1) h)
     (λ (e : (list_any (same_attr k) c.attrs ≡ false) × (with_last (same_attr k) k c.attrs ≡ c.attrs ++ k ∷ [])).
-    subst (λ as'. Holds (record c { attrs = as' })) (sym e.1) (holds_push_attr k c h (kept_of c node of_c) (kept_fault c node ∙ fine) in_order (subst (λ as'. length as' ≤ 16777216) e.1 few)))
+    subst (λ as'. Holds (record c { attrs = as' })) (sym e.1) (holds_push_attr k c h (kept_of c node of_c) (kept_fault c node ∙ fine) in_order (subst (λ as'. length as' ≤ most_things) e.1 few)))
     (with_last-cases (same_attr k) k c.attrs)
 
 -- and no thing comes to stand at two places
-pub sound_name : (bytes : List ℕ) (c : Things) → IsSound c → length ((with_name bytes c).1).names ≤ 16777216 → IsSound (with_name bytes c).1
+pub sound_name : (bytes : List ℕ) (c : Things) → IsSound c → length ((with_name bytes c).1).names ≤ most_things → IsSound (with_name bytes c).1
 unfolding with_name
 sound_name bytes c s few =
     record { holds = holds_name bytes c s.holds few; names_apart = apart_with bytes_eq name_is name_refl bytes c.names s.names_apart; types_apart = s.types_apart; attrs_apart = s.attrs_apart }
 
-pub sound_type : (node : TypeNode) (c : Things) → IsSound c → TypeIsOf c node → type_fault (type_node_term c node) ≡ None → length ((with_type node c).1).types ≤ 16777216 → IsSound (with_type node c).1
+pub sound_type : (node : TypeNode) (c : Things) → IsSound c → TypeIsOf c node → type_fault (type_node_term c node) ≡ None → length ((with_type node c).1).types ≤ most_things → IsSound (with_type node c).1
 unfolding with_type
 sound_type node c s of_c fine few =
     record { holds = holds_type node c s.holds of_c fine few; names_apart = s.names_apart; types_apart = apart_with same_type same_type_is same_type_refl node c.types s.types_apart; attrs_apart = s.attrs_apart }
 
-pub sound_attr : (node : AttrNode) (c : Things) → IsSound c → AttrIsOf c node → attr_fault (attr_node_term c node) ≡ None → IsKept c.names (kept c.names node) → length ((with_attr node c).1).attrs ≤ 16777216 → IsSound (with_attr node c).1
+pub sound_attr : (node : AttrNode) (c : Things) → IsSound c → AttrIsOf c node → attr_fault (attr_node_term c node) ≡ None → IsKept c.names (kept c.names node) → length ((with_attr node c).1).attrs ≤ most_things → IsSound (with_attr node c).1
 unfolding with_attr
 sound_attr node c s of_c fine in_order few =
     record { holds = holds_attr node c s.holds of_c fine in_order few; names_apart = s.names_apart; types_apart = s.types_apart; attrs_apart = apart_with same_attr same_attr_is same_attr_refl (kept c.names node) c.attrs s.attrs_apart }

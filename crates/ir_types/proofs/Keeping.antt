@@ -18,6 +18,7 @@ use Rattle.ir_types.specs.Reasons.{type_fault, attr_fault}
 use Rattle.ir_types.specs.Sound.{Holds, IsKept}
 use Rattle.ir_types.specs.Held.{things_of, IsKeptWithDepths}
 use Rattle.ir_types.proofs.Holding.{holds_name, holds_type, holds_attr, type_depths_push, attr_depths_push, kept_depth, attr_depths_names, attr_depths_types}
+use Rattle.ir_types.specs.Limits.{most_things}
 
 abbrev Types : Type 0
 Types = List (TypeNode × ℕ)
@@ -41,22 +42,22 @@ pub attributed_things : (names : List (List ℕ)) (types : Types) (attrs more : 
 unfolding with_attr
 attributed_things names types attrs more node e = λ i. record { names = names; types = keys_of types; attrs = e i }
 
-pub kept_with_name : (names more : List (List ℕ)) (types : Types) (attrs : Attrs) (bytes : List ℕ) → IsKeptWithDepths names types attrs → more ≡ with_last (bytes_eq bytes) bytes names → length more ≤ 16777216 → IsKeptWithDepths more types attrs
+pub kept_with_name : (names more : List (List ℕ)) (types : Types) (attrs : Attrs) (bytes : List ℕ) → IsKeptWithDepths names types attrs → more ≡ with_last (bytes_eq bytes) bytes names → length more ≤ most_things → IsKeptWithDepths more types attrs
 kept_with_name names more types attrs bytes h e few =
     let c = things_of names types attrs in
     let same : things_of more types attrs ≡ (with_name bytes c).1 = named_things names more types attrs bytes e in
     record {
-      holds = subst Holds (sym same) (holds_name bytes c h.holds (subst (λ (d : Things). length d.names ≤ 16777216) same few));
+      holds = subst Holds (sym same) (holds_name bytes c h.holds (subst (λ (d : Things). length d.names ≤ most_things) same few));
       type_depths = h.type_depths;
       attr_depths = h.attr_depths ∙ sym (attr_depths_names bytes c h.holds) ∙ ap (λ d. map attr_depth (attr_terms d)) (sym same);
     }
 
-pub kept_with_type : (names : List (List ℕ)) (types more : Types) (attrs : Attrs) (node : TypeNode) (depth : ℕ) → IsKeptWithDepths names types attrs → keys_of more ≡ with_last (same_type node) node (keys_of types) → (more ≡ types) ⊎ (more ≡ types ++ (node, depth) ∷ []) → length more ≤ 16777216 → TypeIsOf (things_of names types attrs) node → type_fault (type_node_term (things_of names types attrs) node) ≡ None → depth ≡ type_depth (type_node_term (things_of names types attrs) node) → IsKeptWithDepths names more attrs
+pub kept_with_type : (names : List (List ℕ)) (types more : Types) (attrs : Attrs) (node : TypeNode) (depth : ℕ) → IsKeptWithDepths names types attrs → keys_of more ≡ with_last (same_type node) node (keys_of types) → (more ≡ types) ⊎ (more ≡ types ++ (node, depth) ∷ []) → length more ≤ most_things → TypeIsOf (things_of names types attrs) node → type_fault (type_node_term (things_of names types attrs) node) ≡ None → depth ≡ type_depth (type_node_term (things_of names types attrs) node) → IsKeptWithDepths names more attrs
 kept_with_type names types more attrs node depth h e made few of fine deep =
     let c = things_of names types attrs in
     let same : things_of names more attrs ≡ (with_type node c).1 = typed_things names types more attrs node e in
     record {
-      holds = subst Holds (sym same) (holds_type node c h.holds of fine (subst (λ (d : Things). length d.types ≤ 16777216) same (subst (λ n. n ≤ 16777216) (sym (length-keys more)) few)));
+      holds = subst Holds (sym same) (holds_type node c h.holds of fine (subst (λ (d : Things). length d.types ≤ most_things) same (subst (λ n. n ≤ most_things) (sym (length-keys more)) few)));
       type_depths = ⊎_elim
           (λ (p : more ≡ types). subst (λ es. values_of es ≡ map type_depth (type_terms (things_of names es attrs))) (sym p) h.type_depths)
           (λ (p : more ≡ types ++ (node, depth) ∷ []).
@@ -67,12 +68,12 @@ kept_with_type names types more attrs node depth h e made few of fine deep =
       attr_depths = h.attr_depths ∙ sym (attr_depths_types node c h.holds) ∙ ap (λ d. map attr_depth (attr_terms d)) (sym same);
     }
 
-pub kept_with_attr : (names : List (List ℕ)) (types : Types) (attrs more : Attrs) (node : AttrNode) (depth : ℕ) → IsKeptWithDepths names types attrs → keys_of more ≡ with_last (same_attr (kept names node)) (kept names node) (keys_of attrs) → (more ≡ attrs) ⊎ (more ≡ attrs ++ (kept names node, depth) ∷ []) → length more ≤ 16777216 → AttrIsOf (things_of names types attrs) node → attr_fault (attr_node_term (things_of names types attrs) node) ≡ None → IsKept names (kept names node) → depth ≡ attr_depth (attr_node_term (things_of names types attrs) node) → IsKeptWithDepths names types more
+pub kept_with_attr : (names : List (List ℕ)) (types : Types) (attrs more : Attrs) (node : AttrNode) (depth : ℕ) → IsKeptWithDepths names types attrs → keys_of more ≡ with_last (same_attr (kept names node)) (kept names node) (keys_of attrs) → (more ≡ attrs) ⊎ (more ≡ attrs ++ (kept names node, depth) ∷ []) → length more ≤ most_things → AttrIsOf (things_of names types attrs) node → attr_fault (attr_node_term (things_of names types attrs) node) ≡ None → IsKept names (kept names node) → depth ≡ attr_depth (attr_node_term (things_of names types attrs) node) → IsKeptWithDepths names types more
 kept_with_attr names types attrs more node depth h e made few of fine sorted deep =
     let c = things_of names types attrs in
     let same : things_of names types more ≡ (with_attr node c).1 = attributed_things names types attrs more node e in
     record {
-      holds = subst Holds (sym same) (holds_attr node c h.holds of fine sorted (subst (λ (d : Things). length d.attrs ≤ 16777216) same (subst (λ n. n ≤ 16777216) (sym (length-keys more)) few)));
+      holds = subst Holds (sym same) (holds_attr node c h.holds of fine sorted (subst (λ (d : Things). length d.attrs ≤ most_things) same (subst (λ n. n ≤ most_things) (sym (length-keys more)) few)));
       type_depths = h.type_depths;
       attr_depths = ⊎_elim
           (λ (p : more ≡ attrs). subst (λ es. values_of es ≡ map attr_depth (attr_terms (things_of names types es))) (sym p) h.attr_depths)

@@ -15,6 +15,7 @@ use Rattle.ir_types.specs.Sound.{Holds, IsKept}
 use Rattle.ir_types.proofs.SameNodes.{same_attr_is}
 use Rattle.ir_types.proofs.Placing.{found_there}
 use Rattle.ir_types.proofs.Sorting.{moved_twin, sorted_moves, rising_twinless}
+use Rattle.ir_types.specs.Limits.{most_things, most_entries}
 
 -- a node that is no dictionary is kept as it is
 pub plain_kept : (names : List (List ℕ)) (n : ℕ) (node : AttrNode) → ((es : List (ℕ × ℕ)) → node ≡ attr.Dict es → ⊥) → (Ok node ≡ checked (dictionary_reason n node) (kept names node)) × IsKept names node
@@ -29,20 +30,20 @@ plain_kept names n (attr.Sym parts) other = (refl, tt)
 plain_kept names n (attr.Dense elem values) other = (refl, tt)
 plain_kept names n (attr.Overflow nsw nuw) other = (refl, tt)
 
-module _ (names : List (List ℕ)) (n : ℕ) (node : AttrNode) (es : List (ℕ × ℕ)) (is : node ≡ attr.Dict es) (few : length es ≤ 256) where
+module _ (names : List (List ℕ)) (n : ℕ) (node : AttrNode) (es : List (ℕ × ℕ)) (is : node ≡ attr.Dict es) (few : length es ≤ most_entries) where
   -- a dictionary in which each key stands once is sorted
   pub dictionary_kept : (ns : List (ℕ × ℕ)) → has_twin (map (λ (e : ℕ × ℕ). e.0) es) ≡ false → ns ≡ sorted names es → Ok (attr.Dict ns) ≡ checked (dictionary_reason n node) (kept names node)
   unfolding kept
-  dictionary_kept ns none e = rw (is, le-leb (length es) 256 few, none) (ap (λ l. Ok (attr.Dict l)) e)
+  dictionary_kept ns none e = rw (is, le-leb (length es) most_entries few, none) (ap (λ l. Ok (attr.Dict l)) e)
 
   -- and one with a twin is refused
-  pub dictionary_twin : has_twin (map (λ (e : ℕ × ℕ). e.0) es) ≡ true → n < 16777216 → Err DuplicateKey ≡ checked (dictionary_reason n node) (kept names node)
+  pub dictionary_twin : has_twin (map (λ (e : ℕ × ℕ). e.0) es) ≡ true → n < most_things → Err DuplicateKey ≡ checked (dictionary_reason n node) (kept names node)
   dictionary_twin twin room =
-      let small : nat_le 16777216 n ≡ false = go (nat_le 16777216 n) refl in
-      rw (is, le-leb (length es) 256 few, twin, small) refl
+      let small : nat_le most_things n ≡ false = go (nat_le most_things n) refl in
+      rw (is, le-leb (length es) most_entries few, twin, small) refl
     where
-      go : (b : Bool) → nat_le 16777216 n ≡ b → nat_le 16777216 n ≡ false
-      go true h = absurd (omega (arith, leb-true 16777216 n h))
+      go : (b : Bool) → nat_le most_things n ≡ b → nat_le most_things n ≡ false
+      go true h = absurd (omega (arith, leb-true most_things n h))
       go false h = h
 
 -- a dictionary with a twin is never there
@@ -56,12 +57,12 @@ never_there c h es twin = go (list_any (same_attr (attr.Dict (sorted c.names es)
         absurd (true≢false (sym twin ∙ moved_twin es (sorted c.names es) (sorted_moves c.names es) ∙ rising_twinless c.names (sorted c.names es) held.1))
 
 -- the reasons of the call and those of its parts
-tail_of : (count full key : Option Refusal) (n : ℕ) → ((refusal : Refusal) → key ≡ Some refusal → full ≡ (if nat_le 16777216 n then Some TooMany else None)) → (refusal : Refusal) → first_reason count (instead n key) ≡ Some refusal → first_reason count (first_reason full key) ≡ Some refusal
+tail_of : (count full key : Option Refusal) (n : ℕ) → ((refusal : Refusal) → key ≡ Some refusal → full ≡ (if nat_le most_things n then Some TooMany else None)) → (refusal : Refusal) → first_reason count (instead n key) ≡ Some refusal → first_reason count (first_reason full key) ≡ Some refusal
 tail_of (Some r) full key n there refusal e = e
 tail_of None full None n there refusal e = absurd cc
-tail_of None full (Some k) n there refusal e = go (nat_le 16777216 n) refl
+tail_of None full (Some k) n there refusal e = go (nat_le most_things n) refl
   where
-    go : (b : Bool) → nat_le 16777216 n ≡ b → first_reason full (Some k) ≡ Some refusal
+    go : (b : Bool) → nat_le most_things n ≡ b → first_reason full (Some k) ≡ Some refusal
     go true h = let l : full ≡ Some TooMany = there k refl ∙ rw h refl in let m : Some TooMany ≡ Some refusal = rw h at e in rw l m
     go false h = let l : full ≡ None = there k refl ∙ rw h refl in let m : Some k ≡ Some refusal = rw h at e in rw l m
 
@@ -69,17 +70,17 @@ nothing_tail : (count full key : Option Refusal) (n : ℕ) → first_reason coun
 nothing_tail (Some r) full key n e = absurd cc
 nothing_tail None None None n e = refl
 nothing_tail None (Some r) None n e = refl
-nothing_tail None full (Some k) n e = go (nat_le 16777216 n) refl
+nothing_tail None full (Some k) n e = go (nat_le most_things n) refl
   where
-    go : (b : Bool) → nat_le 16777216 n ≡ b → first_reason full (Some k) ≡ full
+    go : (b : Bool) → nat_le most_things n ≡ b → first_reason full (Some k) ≡ full
     go true h = absurd (let m : Some TooMany ≡ None = rw h at e in cc)
     go false h = absurd (let m : Some k ≡ None = rw h at e in cc)
 
-full_where : (c : Things) → Holds c → (node : AttrNode) (refusal : Refusal) → key_reason node ≡ Some refusal → full_reason (same_attr (kept c.names node)) c.attrs ≡ (if nat_le 16777216 (length c.attrs) then Some TooMany else None)
+full_where : (c : Things) → Holds c → (node : AttrNode) (refusal : Refusal) → key_reason node ≡ Some refusal → full_reason (same_attr (kept c.names node)) c.attrs ≡ (if nat_le most_things (length c.attrs) then Some TooMany else None)
 unfolding kept
 full_where c h (attr.Dict es) refusal e = go (has_twin (map (λ (x : ℕ × ℕ). x.0) es)) refl
   where
-    go : (b : Bool) → has_twin (map (λ (x : ℕ × ℕ). x.0) es) ≡ b → full_reason (same_attr (attr.Dict (sorted c.names es))) c.attrs ≡ (if nat_le 16777216 (length c.attrs) then Some TooMany else None)
+    go : (b : Bool) → has_twin (map (λ (x : ℕ × ℕ). x.0) es) ≡ b → full_reason (same_attr (attr.Dict (sorted c.names es))) c.attrs ≡ (if nat_le most_things (length c.attrs) then Some TooMany else None)
     go true p = rw (never_there c h es p) refl
     go false p = absurd (let m : None ≡ Some refusal = rw p at e in cc)
 full_where c h _ refusal e = absurd cc

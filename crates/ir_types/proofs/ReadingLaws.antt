@@ -1,5 +1,5 @@
 -- Bits and the numbers that they are read as, at every width.
-use Rattle.std.proofs.Common.{◌≡◌, ℕ, zero, suc, ◌+◌, ◌-◌, ◌*◌, ◌/◌, ◌%◌, ◌^◌, ◌<◌, ◌≤◌, ℤ, pos, negsuc, ◌+ℤ◌, ◌-ℤ◌, ◌*ℤ◌, sym, ap, refl, ◌∙◌, subst, arith, Bool, true, false, Some, None, Option, ⊎_elim, ltb-true, lt-ltb, leb-true}
+use Rattle.std.proofs.Common.{◌≡◌, ℕ, suc, ◌+◌, ◌-◌, ◌*◌, ◌/◌, ◌%◌, ◌^◌, ◌<◌, ◌≤◌, ℤ, pos, negsuc, ◌+ℤ◌, ◌-ℤ◌, ◌*ℤ◌, sym, ap, refl, ◌∙◌, subst, arith, Bool, true, false, Some, None, ⊎_elim, ltb-true, lt-ltb, leb-true}
 use Rattle.std.specs.Prelude.{unsigned_abs, int_lt, nat_lt, if◌then◌else◌, ◌↔◌}
 use Rattle.std.specs.Int.{int_rem_euclid}
 use Rattle.std.proofs.lemmas.Nat.{mod_below, pow_pos}

@@ -1,7 +1,7 @@
 -- Bits and numbers of 1 to 128 bits, as the machine's integers hold them.
 use Rattle.std.proofs.Common.{◌≡◌, ℕ, zero, suc, to_z, of_z, lit<, ◌+◌, ◌-◌, ◌*◌, ◌/◌, ◌%◌, ◌^◌, ◌<◌, ◌≤◌, ℤ, pos, negsuc, ◌-ℤ◌, ◌≤ℤ◌, ◌<ℤ◌, sym, ap, refl, ◌∙◌, arith, true}
 use Rattle.std.specs.Prelude.{bit_and, unsigned_abs}
-use Rattle.std.proofs.lemmas.Nat.{mod_below, and_mask, pow_pos}
+use Rattle.std.proofs.lemmas.Nat.{and_mask, pow_pos}
 use Rattle.std.proofs.lemmas.Nat.Bits.{ones_shr}
 use Rattle.std.proofs.lemmas.Int.{ints, to_z_pos, to_z-of_z}
 use mir.Val.{SFits}

@@ -1,5 +1,4 @@
-use Rattle.std.proofs.Common.{ℕ, ◌^◌, ◌<◌, ◌≤◌, ◌≡◌, true, false, arith, refl, sym, ◌∙◌, subst, ⊎_elim, Bool}
-use Rattle.ir_types.specs.Readings.{wrapped, literal_number}
+use Rattle.std.proofs.Common.{◌≡◌, arith, ⊎_elim}
 use Rattle.ir_types.proofs.Widths.{literal_low, literal_high, literal_zero}
 use Rattle.ir_types.proofs.readings.complement.Goals as goal
 

@@ -1,6 +1,4 @@
-use Rattle.std.proofs.Common.{◌≡◌, ◌^◌, ◌-◌, ◌<◌, ◌≤◌, arith, refl, ap, pos, negsuc}
-use Rattle.std.specs.Prelude.{unsigned_abs}
-use Rattle.ir_types.specs.Readings.{signed_of}
+use Rattle.std.proofs.Common.{◌≡◌, ◌^◌, ◌-◌, arith, refl}
 use Rattle.ir_types.proofs.Widths.{halves, signed_low, high_is, past_is}
 use Rattle.ir_types.proofs.readings.signed_reading.Goals as goal
 

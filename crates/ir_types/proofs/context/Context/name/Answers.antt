@@ -4,10 +4,11 @@ use Rattle.ir_types.specs.Things.{Grows}
 use Rattle.ir_types.proofs.Growth.{grows_name}
 use Rattle.ir_types.proofs.Keeping.{kept_with_name, named_things, name_call}
 use Rattle.ir_types.proofs.context.Context.name.Goals as goal
+use Rattle.ir_types.specs.Limits.{most_things}
 
 pub invariant_of-self-2 : goal.invariant_of-self-2
 invariant_of-self-2 c =
-    let few : length (map (λ v. v.items) c.intern_name.new.names.keys) ≤ 16777216 = subst (λ n. n ≤ 16777216) (sym (length-map c.intern_name.new.names.keys (λ v. v.items))) c.intern_name.ensures.within in
+    let few : length (map (λ v. v.items) c.intern_name.new.names.keys) ≤ most_things = subst (λ n. n ≤ most_things) (sym (length-map c.intern_name.new.names.keys (λ v. v.items))) c.intern_name.ensures.within in
     kept_with_name (map (λ v. v.items) c.self.inside.names.keys) (map (λ v. v.items) c.intern_name.new.names.keys) c.self.inside.types.entries c.self.inside.attrs.entries c.args.bytes.now c.self.invariant c.in_ok-place.ensures.names few
 
 pub returns-clause-ok : goal.returns-clause-ok
