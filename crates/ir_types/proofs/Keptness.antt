@@ -107,3 +107,7 @@ handed_on A (Err r) refusal h = ap Err h
 
 pub refused_by : (A : Type 0) (result : Result A Refusal) (reason : Option Refusal) (refusal : Refusal) → IsErrAnd result (λ r. r ≡ refusal) → IsRefusedFor {A = A} reason (Err refusal) → IsRefusedFor {A = A} reason result
 refused_by A result reason refusal h k = subst (IsRefusedFor {A = A} reason) (sym (handed_on A result refusal h)) k
+
+-- a call that has a reason against it is never without one
+pub never : {A : Type 0} (reason : Option Refusal) (refusal : Refusal) → reason ≡ Some refusal → reason ≡ None → A
+never reason refusal e f = absurd (let k : Some refusal ≡ None = sym e ∙ f in cc)

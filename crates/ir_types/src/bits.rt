@@ -11,7 +11,7 @@ use crate::limits::{INDEX_WIDTH, MOST_WIDTH};
 use crate::readings::{mask, signed_number, wrapped};
 
 /// A signless integer type by its width (Builtin Dialect, "IntegerType"), or index.
-#[derive(Clone, Copy, Debug, PartialEq, Eq, Hash)]
+#[derive(Clone, Copy, Debug, PartialEq, Eq)]
 pub enum BitsKind {
     /// `iN`.
     Int(u32),

@@ -3,7 +3,7 @@ use crate::ids::{AttrId, NameId, TypeId};
 use ir_types_base::lists::Items;
 
 /// The signedness of an integer type.
-#[derive(Clone, Copy, Debug, PartialEq, Eq, Hash)]
+#[derive(Clone, Copy, PartialEq, Eq, Hash)]
 pub enum Sign {
     /// `iN`.
     Signless,

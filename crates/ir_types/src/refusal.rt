@@ -8,7 +8,7 @@ use std::error::Error;
 use std::fmt;
 
 /// Why a call is refused. Every refusal of the workbench has a number and a word.
-#[derive(Clone, Copy, Debug, PartialEq, Eq)]
+#[derive(Clone, Copy, PartialEq, Eq)]
 pub enum Refusal {
     /// What stands there begins no token.
     BadToken = 1,
@@ -146,6 +146,12 @@ impl Refusal {
             Refusal::BadTarget => "BadTarget",
             Refusal::BadCommand => "BadCommand",
         }
+    }
+}
+
+impl fmt::Debug for Refusal {
+    fn fmt<W: fmt::Write>(&self, f: &mut fmt::Formatter<W>) -> fmt::Result {
+        f.write_str(self.word())
     }
 }
 

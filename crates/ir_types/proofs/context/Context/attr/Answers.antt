@@ -1,5 +1,5 @@
-use Rattle.std.proofs.Common.{◌≡◌, ◌∙◌, sym, ap, subst, ℕ, map, length, refl, [], ◌∷◌, ◌++◌, ◌⊎◌, Err}
-use Rattle.std.specs.List.{position_or_len}
+use Rattle.std.proofs.Common.{◌≡◌, ◌∙◌, sym, ap, subst, ℕ, map, length, refl, [], ◌∷◌, ◌++◌, ◌⊎◌, Err, true≢false}
+use Rattle.std.specs.List.{list_any, position_or_len}
 use Rattle.std.specs.Map.{keys_of}
 use Rattle.ir_types_base.specs.Interned.{with_last}
 use Rattle.ir_types.specs.declared.ids.AttrId.{AttrId}
@@ -12,7 +12,7 @@ use Rattle.ir_types.specs.Reasons.{attr_fault, attr_reason, dictionary_reason, f
 use Rattle.ir_types.specs.Sound.{Holds, IsKept}
 use Rattle.ir_types.proofs.Calls.{checked_ok, checked_err, refused}
 use Rattle.ir_types.proofs.Keeping.{kept_with_attr, attr_call}
-use Rattle.ir_types.proofs.Keptness.{dictionary_refuses, full_refuses, refused_as, refused_by}
+use Rattle.ir_types.proofs.Keptness.{dictionary_refuses, full_refuses, never, refused_as, refused_by}
 use Rattle.ir_types.proofs.context.Context.attr.Goals as goal
 
 pub invariant_of-self-2 : goal.invariant_of-self-2
@@ -62,3 +62,21 @@ returns-in_err-place-clause-refused c =
     let full : full_reason (same_attr c.in_ok-kept.kept) (keys_of c.self.inside.attrs.entries) ≡ attr_reason c.args.node c.args.self.now = (λ i. full_reason (same_attr (kept_is.1 i)) (attrs i)) ∙ sym (full_refuses c.args.self.now holds c.args.node fine.0 kept_is.0) in
     refused_by AttrId c.from_residual-in_err-place.result (attr_reason c.args.node c.args.self.now) c.in_err-place.field-0.0 c.from_residual-in_err-place.ensures.1
     (refused_as ℕ AttrId (attr_reason c.args.node c.args.self.now) c.in_err-place.field-0.0 (subst (λ r. IsRefusedFor {A = ℕ} r (Err c.in_err-place.field-0.0)) full c.in_err-place.ensures.refused))
+
+pub returns-in_err-depth-clause-known : goal.returns-in_err-depth-clause-known
+returns-in_err-depth-clause-known c known none =
+    let why = checked_err (attr_fault (attr_node_term c.args.self.now c.args.node)) (attr_depth (attr_node_term c.args.self.now c.args.node)) c.in_err-depth.field-0.0 c.in_err-depth.ensures in
+    never (attr_reason c.args.node c.args.self.now) c.in_err-depth.field-0.0 (rw why refl) none
+
+pub returns-in_err-kept-clause-known : goal.returns-in_err-kept-clause-known
+returns-in_err-kept-clause-known c known none =
+    let holds : Holds c.args.self.now = subst Holds c.self.view_is c.self.invariant.holds in
+    let fine = checked_ok (attr_fault (attr_node_term c.args.self.now c.args.node)) (attr_depth (attr_node_term c.args.self.now c.args.node)) c.in_ok-depth.depth c.in_ok-depth.ensures in
+    let why = checked_err (dictionary_reason (length c.args.self.now.attrs) c.args.node) (kept c.args.self.now.names c.args.node) c.in_err-kept.field-0.0 c.in_err-kept.ensures.reason in
+    never (attr_reason c.args.node c.args.self.now) c.in_err-kept.field-0.0 (dictionary_refuses c.args.self.now holds c.args.node fine.0 c.in_err-kept.field-0.0 why) none
+
+pub returns-in_err-place-clause-known : goal.returns-in_err-place-clause-known
+returns-in_err-place-clause-known c known none =
+    let kept_is = checked_ok (dictionary_reason (length c.args.self.now.attrs) c.args.node) (kept c.args.self.now.names c.args.node) c.in_ok-kept.kept c.in_ok-kept.ensures.reason in
+    let attrs : keys_of c.self.inside.attrs.entries ≡ c.args.self.now.attrs = ap (λ (d : Things). d.attrs) c.self.view_is in
+    absurd (true≢false (sym (c.in_err-place.ensures.known ((λ i. list_any (same_attr (kept_is.1 i)) (attrs i)) ∙ known))))
