@@ -1,5 +1,5 @@
 -- Blanks at the front.
-use Rattle.std.proofs.Common.{◌≡◌, ◌∙◌, ℕ, List, [], ◌∷◌, refl}
+use Rattle.std.proofs.Common.{◌≡◌, ℕ, List, [], ◌∷◌, refl}
 use Rattle.ir_text_base.specs.Tokens.{skip}
 
 pub one_space : (cs : List ℕ) → skip (32 ∷ cs) ≡ skip cs

@@ -1,10 +1,10 @@
 -- Which token is a mark, by its first byte.
-use Rattle.std.proofs.Common.{◌≡◌, ℕ, Bool, true, false, cond, List, [], ◌∷◌, take, drop, Option, Some, None, refl, ap}
+use Rattle.std.proofs.Common.{◌≡◌, ℕ, Bool, true, false, cond, List, [], ◌∷◌, drop, Option, Some, None, refl}
 use Rattle.std.specs.Prelude.{option_map, ◌==◌, ◌||◌}
 use Rattle.std.specs.Char.{is_ascii_digit}
 use Rattle.ir_text_base.specs.declared.token.Mark.{Mark}
 use Rattle.ir_text_base.specs.Bytes.{is_letter}
-use Rattle.ir_text_base.specs.Tokens.{Lexeme, mark, string, value, label, hash, bang, symbol, quoted, mark_at, mark_with, only_mark, begins_other, token_at, sign_at, symbol_at, name_at, name_parts, number_at, string_at, string_parts, hex_len, digits_len, fraction_len}
+use Rattle.ir_text_base.specs.Tokens.{Lexeme, mark, string, value, label, hash, bang, symbol, quoted, mark_at, mark_with, only_mark, begins_other, token_at, sign_at, symbol_at, name_parts, number_at, string_parts, hex_len, digits_len, fraction_len}
 
 none_if : (t : Bool) (a c : Option (Lexeme × List ℕ)) → only_mark a ≡ None → only_mark c ≡ None → only_mark (cond t a c) ≡ None
 none_if true a c f g = f

@@ -1,7 +1,8 @@
 //! String literals.
-ghost use Rattle.std.specs.Prelude.{◌≡◌, ◌∷◌, ◌<◌, length, IfOk, IfSome};
+ghost use Rattle.std.specs.Prelude.{◌≡◌, ◌≢◌, ◌∷◌, ◌<◌, ◌≤◌, ◌+◌, suc, false, None, length, drop, option_map, IfOk, IfSome};
 ghost use Rattle.ir_text_base.specs.Reading.{Gives};
-ghost use Rattle.ir_text_base.specs.Strings.{closing, escape_bytes, hex_value, is_short, option_list, short_value, string_bytes};
+ghost use Rattle.ir_text_base.specs.Strings.{closing, closing_escape, escape_bytes, hex_value, is_short, option_list, short_value, string_bytes};
+ghost use Rattle.ir_text_base.specs.Bytes.{is_line_end};
 
 use crate::runs::{is_hex, is_line_end};
 use std::alloc::{AllocError, Global};
@@ -37,6 +38,36 @@ pub(crate) fn hex_value(byte: u8) -> u8
     }
 }
 
+/// How many bytes an escape has behind its backslash, where one stands.
+#[tactic(auto, unfolding(crate::specs::Strings::closing))]
+fn escape_len(bytes: &[u8]) -> Option<usize>
+    ensures found { IfSome result (λ n. closing_escape bytes.now ≡ option_map (λ k. n + k) (closing (drop n bytes.now))) }
+    ensures none { result ≡ None → closing_escape bytes.now ≡ None }
+    ensures within { IfSome result (λ n. n ≤ length bytes.now) }
+{
+    match bytes {
+        [byte, ..] if is_short(*byte) => Some(1),
+        [high, low, ..] if is_hex(*high) && is_hex(*low) => Some(2),
+        _ => None,
+    }
+}
+
+/// How many further bytes belong to a byte that ends no string: those of an escape behind a backslash.
+#[tactic(auto, unfolding(crate::specs::Strings::closing))]
+fn part_len(byte: u8, bytes: &[u8]) -> Option<usize>
+    requires quote { byte ≢ 34 }
+    requires line { is_line_end byte ≡ false }
+    ensures found { IfSome result (λ n. closing (byte ∷ bytes.now) ≡ option_map (λ k. suc (n + k)) (closing (drop n bytes.now))) }
+    ensures none { result ≡ None → closing (byte ∷ bytes.now) ≡ None }
+    ensures within { IfSome result (λ n. n ≤ length bytes.now) }
+{
+    if byte == b'\\' {
+        escape_len(bytes)
+    } else {
+        Some(0)
+    }
+}
+
 /// How many bytes stand before the quote that ends a string. Else how many are left where it is
 /// refused: at the backslash of a bad escape, or `None` where the string is open.
 #[tactic(auto, unfolding(crate::specs::Strings::closing))]
@@ -46,26 +77,20 @@ pub(crate) fn closing(bytes: &[u8]) -> Result<usize, Option<usize>>
 {
     let mut rest = bytes;
     let mut len = 0;
-    'parts: loop {
-        match rest {
-            [] => return Err(None),
-            [b'"', ..] => return Ok(len),
-            [b'\\', byte, tail @ ..] if is_short(*byte) => {
-                rest = tail;
-                len += 2;
-            }
-            [b'\\', high, low, tail @ ..] if is_hex(*high) && is_hex(*low) => {
-                rest = tail;
-                len += 3;
-            }
-            [b'\\', ..] => return Err(Some(rest.len())),
-            [byte, ..] if is_line_end(*byte) => return Err(None),
-            [_, tail @ ..] => {
-                rest = tail;
-                len += 1;
-            }
+    'parts: while let [byte, tail @ ..] = rest {
+        if *byte == b'"' {
+            return Ok(len);
         }
+        if is_line_end(*byte) {
+            return Err(None);
+        }
+        let Some(more) = part_len(*byte, tail) else {
+            return Err(Some(rest.len()));
+        };
+        rest = &tail[more..];
+        len += 1 + more;
     }
+    Err(None)
 }
 
 /// The byte that an escape stands for, behind its backslash, and what follows it.

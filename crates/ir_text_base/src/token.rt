@@ -1,7 +1,7 @@
 //! Tokens.
 
 /// Punctuation, and the end of the text.
-#[derive(Clone, Copy, Debug, PartialEq, Eq)]
+#[derive(Clone, Copy, PartialEq, Eq)]
 pub enum Mark {
     OpenRound,
     CloseRound,
@@ -25,7 +25,7 @@ pub enum Mark {
 /// A token. A string and a quoted symbol hold what stands between the quotes, and the names what
 /// stands behind the sign: `%`, `^`, `#`, `!` or `@`. MLIR Language Reference, "Identifiers and
 /// keywords".
-#[derive(Clone, Copy, Debug)]
+#[derive(Clone, Copy)]
 pub enum Token<'a> {
     Mark(Mark),
     Integer(&'a [u8]),

@@ -1,4 +1,4 @@
-use Rattle.std.proofs.Common.{rules, ◌≡◌, ◌++◌, ◌∷◌, [], Some, None, sym, ◌∙◌, subst, arith}
+use Rattle.std.proofs.Common.{rules, ◌≡◌, ◌++◌, ◌∷◌, [], None, sym, ◌∙◌, subst, arith}
 use Rattle.std.specs.HashMap.{get}
 use Rattle.std.specs.Option.{IsSome}
 use Rattle.ir_text_base.specs.Places.{Agrees, key_eq}
