@@ -9,7 +9,7 @@ use ir_types::refusal::Refusal;
 use std::alloc::{AllocError, AllocFailed};
 
 /// Why a text is not read.
-#[derive(Clone, Copy, Debug, PartialEq, Eq)]
+#[derive(Clone, Copy, PartialEq, Eq)]
 pub enum ReadError {
     /// There is no memory.
     Memory,

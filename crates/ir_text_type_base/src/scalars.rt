@@ -8,6 +8,7 @@ ghost use Rattle.ir_text_base.specs.Numbers.{below_limit, integer_of};
 ghost use Rattle.ir_text_type_base.specs.Scalars.{width_of, scalar_of, within, begins_zero, memref_word};
 
 use ir_text_base::numbers::integer_value;
+use ir_types::limits::MOST_WIDTH;
 use ir_types::node::{Sign, TypeNode};
 
 fn begins_zero(digits: &[u8]) -> bool
@@ -25,11 +26,11 @@ fn are_digits(bytes: &[u8]) -> bool
     bytes.iter().all(|byte| byte.is_ascii_digit())
 }
 
-/// The number as a width, from 1 to 64.
+/// The number as a width, from 1 to 128.
 fn within(number: u128) -> Option<u32>
     ensures { result ≡ within number }
 {
-    if number >= 1 && number <= 64 {
+    if number >= 1 && number <= MOST_WIDTH as u128 {
         Some(number as u32)
     } else {
         None
@@ -58,7 +59,7 @@ fn decimal_value(digits: &[u8]) -> Option<u128>
     }
 }
 
-/// The width that digits write, from 1 to 64, in decimal and without a zero in front.
+/// The width that digits write, from 1 to 128, in decimal and without a zero in front.
 #[tactic(auto, using(crate::proofs::Widths::limit_is, crate::proofs::Widths::limit_passed))]
 fn width_of(digits: &[u8]) -> Option<u32>
     ensures { result ≡ width_of digits.now }

@@ -1,4 +1,4 @@
-use Rattle.std.proofs.Common.{◌≡◌, ◌∙◌, Some, ap, sym}
+use Rattle.std.proofs.Common.{◌∙◌, Some, ap, sym}
 use Rattle.ir_text_type_base.proofs.Widths.{two_value}
 use Rattle.ir_text_type_base.proofs.scalars.decimal_value.Goals as goal
 

@@ -1,4 +1,4 @@
-use Rattle.std.proofs.Common.{rules, ◌≡◌, None, refl, sym, ◌∙◌}
+use Rattle.std.proofs.Common.{rules}
 use Rattle.ir_text_type_base.proofs.Marked.{after_is}
 use Rattle.ir_text_type_base.proofs.steps.after_any.Goals as goal
 
