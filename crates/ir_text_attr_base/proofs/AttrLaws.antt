@@ -14,7 +14,7 @@ use Rattle.ir_types.specs.Sound.{IsSound}
 use Rattle.ir_types.proofs.Growth.{grows_refl}
 use Rattle.ir_text_type_base.specs.Outcomes.{Outcome, Read, Full, Parse}
 use Rattle.ir_text_type_base.specs.Typed.{Typed}
-use Rattle.ir_text_attr_base.specs.Literals.{Word, Truth, UnitWord, ArrayWord, TypeWord, word_of, truth_value, overflow_word}
+use Rattle.ir_text_attr_base.specs.Literals.{Word, Truth, UnitWord, ArrayWord, TypeWord, word_of, truth_bits, overflow_word}
 use Rattle.ir_text_attr_base.specs.AttrReading.{attr_done, truth_at, string_at, literal_at, negative_at, overflow_at, word_attr, dense_at, array_by, dictionary_by, mark_attr, attr_from, attr_at}
 use Rattle.ir_text_type_base.specs.Grammars.{Grammar}
 use Rattle.ir_text_attr_base.specs.AttrGrammar.{IsFine, IsLiteral, IsNegative, IsOverflow, IsWordAttr, IsMarkAttr, IsAttrFrom, IsAttr, IsDense, IsArray, IsDictionary}
@@ -33,7 +33,7 @@ use Rattle.ir_text_attr_base.proofs.PartLaws.{array_exact, dictionary_exact}
 
 module _ (depth : ℕ) (p : Parse Typed ℕ) (P : Grammar Text AttrTerm) (item : (c : Things) → Exact things Same c AttrStands p P) where
   word_exact : (w : Word) (rest : Text) (c : Things) → Exact things Same c AttrStands (λ s. word_attr (suc depth) w s rest) (IsWordAttr depth P w rest)
-  word_exact (Truth b) rest c = behind_exact c AttrStands rest (truth_at b) (IsFine (IntegerOf (Integer Signless 1) (truth_value b))) (truth_exact b c)
+  word_exact (Truth b) rest c = behind_exact c AttrStands rest (truth_at b) (IsFine (IntegerOf (Integer Signless 1) (truth_bits b))) (truth_exact b c)
   word_exact UnitWord rest c = behind_exact c AttrStands rest (attr_done attr.Unit) (IsFine Flag) (attr_done_exact c attr.Unit Flag (refl, refl) (λ z k w. unit_node z))
   word_exact ArrayWord rest c = behind_exact c AttrStands rest dense_at IsDense (dense_exact c)
   word_exact TypeWord rest c = type_attr_exact (suc depth) c

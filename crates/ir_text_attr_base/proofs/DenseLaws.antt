@@ -1,7 +1,6 @@
 -- Dense arrays that are read are spelled, and those that are spelled are read.
-use Rattle.std.specs.Prelude.{if◌then◌else◌, option_map, option_and_then, ℤ}
+use Rattle.std.specs.Prelude.{option_map, option_and_then, ℤ}
 use Rattle.std.proofs.Common.{◌≡◌, ℕ, Bool, true, false, List, [], ◌∷◌, Option, Some, None, refl, sym, ap, subst, ◌∙◌, inl, inr}
-use Rattle.std.proofs.lemmas.Option.{cond_some}
 use Rattle.ir_text_base.specs.declared.token.Mark.{Mark}
 use Rattle.ir_text_base.specs.declared.token.Mark.TheVariants.{Less, Greater, Colon, Minus}
 use Rattle.ir_text_base.specs.Numbers.{integer_of, below_limit}
@@ -11,7 +10,7 @@ use Rattle.ir_types.specs.declared.node.TypeNode.TheVariants as type
 use Rattle.ir_types.specs.declared.node.AttrNode.TheVariants as attr
 use Rattle.ir_types.specs.Things.{Things}
 use Rattle.ir_types.specs.Terms.{TypeTerm, Integer, AttrTerm, DenseArray}
-use Rattle.ir_types.specs.Ranges.{is_literal_number}
+use Rattle.ir_types.specs.Readings.{literal_bits, reading_of}
 use Rattle.ir_types.specs.Dictionaries.{kept}
 use Rattle.ir_types.specs.Reasons.{type_fault}
 use Rattle.ir_types.proofs.Growth.{grows_trans}
@@ -26,8 +25,8 @@ use Rattle.ir_text_type_base.proofs.TextLaws.{things, Same, typed_marks}
 use Rattle.ir_text_type_base.proofs.TokenLaws.{behind_exact, token_exact}
 use Rattle.ir_text_attr_base.specs.declared.element.Element.{Element}
 use Rattle.ir_text_attr_base.specs.declared.element.Element.TheVariants.{I1, I8, I16, I32, I64}
-use Rattle.ir_text_attr_base.specs.Literals.{Word, Truth, word_of, truth_value, signed_number, value_of}
-use Rattle.ir_text_attr_base.specs.Elements.{bits_of, type_of, element_named, is_bit, literal_in, item_value}
+use Rattle.ir_text_attr_base.specs.Literals.{Word, Truth, word_of, truth_bits}
+use Rattle.ir_text_attr_base.specs.Elements.{bits_of, type_of, element_named, is_bit, item_value}
 use Rattle.ir_text_attr_base.specs.AttrReading.{attr_done, element_from, element_at, truth_item, number_item, minus_from, minus_item, mark_item, item_from, item_at, some_items_at, no_items_at, items_from, items_at, dense_done, dense_at}
 use Rattle.ir_text_attr_base.specs.AttrGrammar.{IsFine, IsElement, IsItemNumber, IsItem, IsItems, IsDense}
 use Rattle.ir_text_attr_base.proofs.NodeLaws.{IsNodeOf, Text, attr_done_exact, done_then, then_done, exact_given}
@@ -87,21 +86,22 @@ numbers_same z [] (w ∷ ws) h = absurd h
 numbers_same z (v ∷ vs) [] h = absurd h
 numbers_same z (v ∷ vs) (w ∷ ws) h = λ i. h.0 i ∷ numbers_same z vs ws h.1 i
 
-literal_from : (elem : TypeTerm) (v u : ℤ) → literal_in elem v ≡ Some u → (is_literal_number elem v ≡ true) × (u ≡ value_of elem v)
-literal_from elem v u e = let k = cond_some (is_literal_number elem v) (value_of elem v) u e in (k.0, sym k.1)
+read_from : (elem : TypeTerm) (o : Option ℕ) (v : ℤ) → option_map (reading_of elem) o ≡ Some v → (bits : ℕ) × (o ≡ Some bits) × (v ≡ reading_of elem bits)
+read_from elem None v e = absurd cc
+read_from elem (Some bits) v e = let same : reading_of elem bits ≡ v = cc (e) in (bits, refl, sym same)
 
 value_found : (elem : TypeTerm) (negative : Bool) (digits : List ℕ) (v : ℤ) → item_value elem negative digits ≡ Some v → IsItemNumber elem negative digits v
 value_found elem negative digits v e = by_number (below_limit (integer_of digits)) refl e
   where
-    by_number : (o : Option ℕ) → below_limit (integer_of digits) ≡ o → option_and_then (λ n. literal_in elem (signed_number negative n)) o ≡ Some v → IsItemNumber elem negative digits v
+    by_number : (o : Option ℕ) → below_limit (integer_of digits) ≡ o → option_map (reading_of elem) (option_and_then (literal_bits elem negative) o) ≡ Some v → IsItemNumber elem negative digits v
     by_number None o e = absurd cc
-    by_number (Some n) o e = let k = literal_from elem (signed_number negative n) v e in (n, o, k.0, k.1)
+    by_number (Some n) o e = let k = read_from elem (literal_bits elem negative n) v e in (n, o, k.0, k.1, k.2)
 
 value_only : (elem : TypeTerm) (negative : Bool) (digits : List ℕ) (v : ℤ) → IsItemNumber elem negative digits v → item_value elem negative digits ≡ Some v
 value_only elem negative digits v k =
-    ap (option_and_then (λ n. literal_in elem (signed_number negative n))) k.1
-    ∙ ap (λ b. if b then Some (value_of elem (signed_number negative k.0)) else None) k.2
-    ∙ ap Some (sym k.3)
+    ap (λ o. option_map (reading_of elem) (option_and_then (literal_bits elem negative) o)) k.1
+    ∙ ap (option_map (reading_of elem)) k.3
+    ∙ ap Some (sym k.4)
 
 module _ (elem : TypeTerm) where
   abbrev NumberItem : Bool → List ℕ → Grammar Text ℤ
@@ -112,11 +112,11 @@ module _ (elem : TypeTerm) where
       some_exact things Same c NumberStands (item_value elem negative digits) (λ v s. Read (v, s)) (λ v. Done v) (λ v. done_exact things Same c NumberStands v v (λ z g k. refl))
 
   abbrev TruthItem : Word → Grammar Text ℤ
-  TruthItem (Truth b) v old new = (is_bit elem ≡ true) × Done (truth_value b) v old new
+  TruthItem (Truth b) v old new = (is_bit elem ≡ true) × Done (reading_of elem (truth_bits b)) v old new
   TruthItem _ v old new = ⊥
 
   truth_item_exact : (w : Word) (c : Things) → Exact things Same c NumberStands (truth_item elem w) (TruthItem w)
-  truth_item_exact (Truth b) c = guard_exact things Same c NumberStands (is_bit elem) (λ s. Read (truth_value b, s)) (Done (truth_value b)) (done_exact things Same c NumberStands (truth_value b) (truth_value b) (λ z g k. refl))
+  truth_item_exact (Truth b) c = guard_exact things Same c NumberStands (is_bit elem) (λ s. Read (reading_of elem (truth_bits b), s)) (Done (reading_of elem (truth_bits b))) (done_exact things Same c NumberStands (reading_of elem (truth_bits b)) (reading_of elem (truth_bits b)) (λ z g k. refl))
   truth_item_exact _ c = nothing_exact things Same c NumberStands
 
   abbrev MinusFrom : Lexeme → Text → Grammar Text ℤ

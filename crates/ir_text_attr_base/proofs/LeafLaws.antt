@@ -1,6 +1,5 @@
 -- Attributes of one token, literals and flags: those that are read are spelled, and those that are
 -- spelled are read.
-use Rattle.std.specs.Prelude.{if◌then◌else◌, ℤ}
 use Rattle.std.specs.Str.{bytes_eq}
 use Rattle.std.proofs.Common.{◌≡◌, ℕ, Bool, true, false, List, [], ◌∷◌, Some, None, refl, sym, ap, subst, ◌∙◌, ◌⊎◌, inl, inr}
 use Rattle.ir_text_base.specs.declared.token.Mark.TheVariants.{Less, Greater, Colon}
@@ -13,12 +12,12 @@ use Rattle.ir_types.specs.declared.node.AttrNode.TheVariants as attr
 use Rattle.ir_types.specs.Things.{Things}
 use Rattle.ir_types.specs.Terms.{TypeTerm, Integer, AttrTerm, IntegerOf, String, TypeOf, Flag, Overflow}
 use Rattle.ir_types.specs.Dictionaries.{kept}
-use Rattle.ir_types.specs.Ranges.{is_literal_number}
+use Rattle.ir_types.specs.Readings.{literal_bits}
 use Rattle.ir_types.specs.Reasons.{type_fault}
 use Rattle.ir_text_attr_base.specs.declared.flag.Flag as code
-use Rattle.ir_text_type_base.specs.Outcomes.{Read, Wrong, ◌>>=◌, of_option, Parse}
+use Rattle.ir_text_type_base.specs.Outcomes.{Read, ◌>>=◌, of_option, Parse}
 use Rattle.ir_text_type_base.specs.Typed.{Typed, after_typed, name_step}
-use Rattle.ir_text_attr_base.specs.Literals.{truth_value, signed_number, value_of, none_word, flag_of, has_nsw, has_nuw}
+use Rattle.ir_text_attr_base.specs.Literals.{truth_bits, none_word, flag_of, has_nsw, has_nuw}
 use Rattle.ir_text_type_base.specs.TypeReading.{many, type_done, type_at}
 use Rattle.ir_text_attr_base.specs.AttrReading.{attr_done, truth_at, string_at, type_attr_at, suffix_from, suffix_at, literal_done, literal_at, negative_from, negative_at, flag_from, flag_at, some_flags_at, no_flags_at, flags_from, flags_at, overflow_at}
 use Rattle.ir_text_type_base.specs.Grammars.{Grammar, Then, Done, After, IsMore, IsMark, Token}
@@ -27,7 +26,7 @@ use Rattle.ir_text_attr_base.specs.AttrGrammar.{IsFine, IsTypeAttr, IsSuffix, Is
 use Rattle.ir_text_type_base.specs.Worlds.{From}
 use Rattle.ir_text_type_base.specs.Standing.{NameStands, TypeStands, AttrStands}
 use Rattle.ir_text_type_base.specs.Laws.{Each}
-use Rattle.ir_text_type_base.proofs.Worlds.{bind_assoc, Exact, exact_where, exact_spelled, exact_for, nothing_exact, choice_exact, guard_exact, some_exact, then_exact, done_exact, after_exact, either_exact, more_exact}
+use Rattle.ir_text_type_base.proofs.Worlds.{bind_assoc, Exact, exact_where, exact_spelled, exact_for, nothing_exact, choice_exact, some_exact, then_exact, done_exact, after_exact, either_exact, more_exact}
 use Rattle.ir_text_type_base.proofs.TextLaws.{things, Same, typed_marks}
 use Rattle.ir_text_type_base.proofs.TokenLaws.{behind_exact, token_exact}
 use Rattle.ir_text_type_base.proofs.TypeLaws.{type_done_exact, type_exact}
@@ -43,7 +42,7 @@ type_node : (z : Things) (n : ℕ) (y : TypeTerm) → TypeStands z n y → IsNod
 unfolding kept
 type_node z n y h = (h.0, ap TypeOf h.1)
 
-integer_node : (v : ℤ) (z : Things) (n : ℕ) (y : TypeTerm) → TypeStands z n y → IsNodeOf (attr.Int n v) (IntegerOf y v) z
+integer_node : (v : ℕ) (z : Things) (n : ℕ) (y : TypeTerm) → TypeStands z n y → IsNodeOf (attr.Int n v) (IntegerOf y v) z
 unfolding kept
 integer_node v z n y h = (h.0, ap (λ t. IntegerOf t v) h.1)
 
@@ -69,13 +68,13 @@ string_exact raw c =
 pub signless_exact : (w : ℕ) → type_fault (Integer Signless w) ≡ None → (c : Things) → Exact things Same c TypeStands (type_done (type.Int Signless w)) (Done (Integer Signless w))
 signless_exact w fine c = done_if_exact c TypeStands (type_done (type.Int Signless w)) (type_fault (Integer Signless w) ≡ None) (Integer Signless w) fine (type_done_exact c (type.Int Signless w) (Integer Signless w) (λ z g k. (tt, refl)))
 
-pub truth_exact : (b : Bool) (c : Things) → Exact things Same c AttrStands (truth_at b) (IsFine (IntegerOf (Integer Signless 1) (truth_value b)))
+pub truth_exact : (b : Bool) (c : Things) → Exact things Same c AttrStands (truth_at b) (IsFine (IntegerOf (Integer Signless 1) (truth_bits b)))
 unfolding truth_at
 truth_exact b c =
-    exact_spelled things Same c AttrStands (λ s. type_done (type.Int Signless 1) s >>= λ t. attr_done (attr.Int t.0 (truth_value b)) t.1) (Then (Done (Integer Signless 1)) (λ y. IsFine (IntegerOf y (truth_value b)))) (IsFine (IntegerOf (Integer Signless 1) (truth_value b)))
-    (done_then (Integer Signless 1) (λ y. IsFine (IntegerOf y (truth_value b)))) (then_done (Integer Signless 1) (λ y. IsFine (IntegerOf y (truth_value b))))
-    (then_exact things Same c TypeStands AttrStands (type_done (type.Int Signless 1)) (Done (Integer Signless 1)) (λ t. attr_done (attr.Int t (truth_value b))) (λ y. IsFine (IntegerOf y (truth_value b))) (signless_exact 1 refl c) (λ d t y g r.
-    attr_done_exact d (attr.Int t (truth_value b)) (IntegerOf y (truth_value b)) (refl, refl) (λ z k w. integer_node (truth_value b) z t y (r z k w))))
+    exact_spelled things Same c AttrStands (λ s. type_done (type.Int Signless 1) s >>= λ t. attr_done (attr.Int t.0 (truth_bits b)) t.1) (Then (Done (Integer Signless 1)) (λ y. IsFine (IntegerOf y (truth_bits b)))) (IsFine (IntegerOf (Integer Signless 1) (truth_bits b)))
+    (done_then (Integer Signless 1) (λ y. IsFine (IntegerOf y (truth_bits b)))) (then_done (Integer Signless 1) (λ y. IsFine (IntegerOf y (truth_bits b))))
+    (then_exact things Same c TypeStands AttrStands (type_done (type.Int Signless 1)) (Done (Integer Signless 1)) (λ t. attr_done (attr.Int t (truth_bits b))) (λ y. IsFine (IntegerOf y (truth_bits b))) (signless_exact 1 refl c) (λ d t y g r.
+    attr_done_exact d (attr.Int t (truth_bits b)) (IntegerOf y (truth_bits b)) (refl, refl) (λ z k w. integer_node (truth_bits b) z t y (r z k w))))
 
 pub type_attr_exact : (depth : ℕ) (c : Things) → Exact things Same c AttrStands (type_attr_at depth) (IsTypeAttr depth)
 unfolding type_attr_at
@@ -90,21 +89,21 @@ unfolding suffix_at
 suffix_exact c =
     either_exact things Same after_typed IsMark typed_marks c TypeStands Colon suffix_from (type_at 32) (type_done (type.Int Signless 64)) (IsType 32) (Done (Integer Signless 64)) (λ s mid. refl) (λ s. refl) (type_exact 32 c) (signless_exact 64 refl c)
 
-abbrev literal_of : ℤ → ℕ → TypeTerm → Parse Typed ℕ
-literal_of v t ty s = if is_literal_number ty v then attr_done (attr.Int t (value_of ty v)) s else Wrong
+abbrev literal_of : Bool → ℕ → ℕ → TypeTerm → Parse Typed ℕ
+literal_of negative n t ty s = of_option (literal_bits ty negative n) >>= λ bits. attr_done (attr.Int t bits) s
 
-literal_done_exact : (v : ℤ) (c : Things) (t : ℕ) (ty : TypeTerm) → From (λ z. TypeStands z t ty) c → Exact things Same c AttrStands (literal_done v t) (IsLiteralOf v ty)
+literal_done_exact : (negative : Bool) (n : ℕ) (c : Things) (t : ℕ) (ty : TypeTerm) → From (λ z. TypeStands z t ty) c → Exact things Same c AttrStands (literal_done negative n t) (IsLiteralOf negative n ty)
 unfolding literal_done
-literal_done_exact v c t ty r =
-    exact_where things Same c AttrStands (literal_done v t) (literal_of v t ty) (IsLiteralOf v ty) (λ s g sound. ap (λ u. literal_of v t u s) (r s.1 g sound).1)
-    (guard_exact things Same c AttrStands (is_literal_number ty v) (attr_done (attr.Int t (value_of ty v))) (IsFine (IntegerOf ty (value_of ty v)))
-    (attr_done_exact c (attr.Int t (value_of ty v)) (IntegerOf ty (value_of ty v)) (refl, refl) (λ z k w. integer_node (value_of ty v) z t ty (r z k w))))
+literal_done_exact negative n c t ty r =
+    exact_where things Same c AttrStands (literal_done negative n t) (literal_of negative n t ty) (IsLiteralOf negative n ty) (λ s g sound. ap (λ u. literal_of negative n t u s) (r s.1 g sound).1)
+    (some_exact things Same c AttrStands (literal_bits ty negative n) (λ bits. attr_done (attr.Int t bits)) (λ bits. IsFine (IntegerOf ty bits)) (λ bits.
+    attr_done_exact c (attr.Int t bits) (IntegerOf ty bits) (refl, refl) (λ z k w. integer_node bits z t ty (r z k w))))
 
 pub literal_exact : (negative : Bool) (digits : List ℕ) (c : Things) → Exact things Same c AttrStands (literal_at negative digits) (IsLiteral negative digits)
 unfolding literal_at
 literal_exact negative digits c =
-    some_exact things Same c AttrStands (below_limit (integer_of digits)) (λ n s. suffix_at s >>= λ t. literal_done (signed_number negative n) t.0 t.1) (λ n. Then IsSuffix (IsLiteralOf (signed_number negative n))) (λ n.
-    then_exact things Same c TypeStands AttrStands suffix_at IsSuffix (literal_done (signed_number negative n)) (IsLiteralOf (signed_number negative n)) (suffix_exact c) (λ d t ty g r. literal_done_exact (signed_number negative n) d t ty r))
+    some_exact things Same c AttrStands (below_limit (integer_of digits)) (λ n s. suffix_at s >>= λ t. literal_done negative n t.0 t.1) (λ n. Then IsSuffix (IsLiteralOf negative n)) (λ n.
+    then_exact things Same c TypeStands AttrStands suffix_at IsSuffix (literal_done negative n) (IsLiteralOf negative n) (suffix_exact c) (λ d t ty g r. literal_done_exact negative n d t ty r))
 
 abbrev NegativeFrom : Lexeme → Text → Grammar Text AttrTerm
 NegativeFrom (integer digits) rest y old new = IsLiteral true digits y rest new

@@ -13,6 +13,7 @@ use Rattle.ir_types.specs.Terms as terms
 use Rattle.ir_types.specs.Depths.{attr_depth}
 use Rattle.ir_types.specs.Dictionaries.{kept}
 use Rattle.ir_types.specs.Ranges.{is_value_number}
+use Rattle.ir_types.specs.Readings.{is_bits_of}
 use Rattle.ir_types.specs.Same.{same_attr}
 use Rattle.ir_types.specs.Interning.{with_name, with_attr}
 use Rattle.ir_types.specs.Reasons.{first_reason, full_reason, depth_reason, count_reason, key_reason, name_reason, attr_fault, attr_reason}
@@ -94,7 +95,7 @@ fault_not_full y next e = by_value y e
     by_test d false e = absurd cc
 
     by_value : (y : AttrTerm) → first_reason (attr_fault y) next ≡ Some TooMany → next ≡ Some TooMany
-    by_value (terms.IntegerOf ty v) e = by_test 1 (is_value_number ty v) e
+    by_value (terms.IntegerOf ty bits) e = by_test 1 (is_bits_of ty bits) e
     by_value (terms.DenseArray elem vs) e = by_test 1 (list_all (is_value_number elem) vs) e
     by_value (terms.String bytes) e = by_depth (nat_le 1 32) e
     by_value (terms.TypeOf ty) e = by_depth (nat_le (attr_depth (terms.TypeOf ty)) 32) e

@@ -10,7 +10,8 @@ use Rattle.ir_types.specs.declared.node.Sign.TheVariants.{Signless}
 use Rattle.ir_types.specs.Terms.{TypeTerm, Integer, AttrTerm, IntegerOf, String, TypeOf, Flag, Array, Dictionary, Symbol, DenseArray, Overflow}
 use Rattle.ir_types.specs.Reasons.{attr_fault}
 use Rattle.ir_text_attr_base.specs.declared.flag.Flag as code
-use Rattle.ir_text_attr_base.specs.Literals.{Word, Truth, UnitWord, ArrayWord, TypeWord, word_of, truth_value, signed_number, value_of, none_word, flag_of, has_nsw, has_nuw}
+use Rattle.ir_text_attr_base.specs.Literals.{Word, Truth, UnitWord, ArrayWord, TypeWord, word_of, truth_bits, none_word, flag_of, has_nsw, has_nuw}
+use Rattle.ir_types.specs.Readings.{literal_bits, reading_of}
 use Rattle.ir_text_attr_base.specs.Elements.{element_of}
 use Rattle.ir_text_attr_base.specs.AttrGrammar.{When, EntryTerm, IsPart, IsParts, IsSymbol, IsElement, IsItemNumber, IsItem, IsItems, IsDense, IsKey, IsUnitValue, IsValue, IsEntry, IsDictionary, IsArray, attrs_of, entries_of, in_order, has_key, IsFine, IsTypeAttr, IsSuffix, IsLiteralOf, IsLiteral, IsNegative, IsFlag, IsFlags, IsOverflow, IsWordAttr, IsMarkAttr, IsAttrFrom, IsAttr}
 use Rattle.ir_text_type_base.specs.TypeReading.{many}
@@ -41,15 +42,18 @@ type_attr_one depth = then_one (IsType depth) (λ t. IsFine (TypeOf t)) (type_on
 suffix_one : IsOne IsSuffix
 suffix_one = either_one IsMark mark_one Colon (IsType 32) (Done (Integer Signless 64)) (type_one 32) (done_one (Integer Signless 64))
 
-literal_of_one : (v : ℤ) (ty : TypeTerm) → IsOne (IsLiteralOf v ty)
-literal_of_one v ty t y y' n n' k l = fine_one (IntegerOf ty (value_of ty v)) t y y' n n' k.1 l.1
+literal_of_one : (negative : Bool) (n : ℕ) (ty : TypeTerm) → IsOne (IsLiteralOf negative n ty)
+literal_of_one negative n ty t y y' m m' k l =
+    let some : Some k.0 ≡ Some l.0 = sym k.1 ∙ l.1 in
+    let same : k.0 ≡ l.0 = cc (some) in
+    fine_one (IntegerOf ty k.0) t y y' m m' k.2 (subst (λ bits. IsFine (IntegerOf ty bits) y' t m') (sym same) l.2)
 
 literal_one : (negative : Bool) (digits : List ℕ) → IsOne (IsLiteral negative digits)
 literal_one negative digits t y y' n n' k l =
     let some : Some k.0 ≡ Some l.0 = sym k.1 ∙ l.1 in
     let same : k.0 ≡ l.0 = cc (some) in
-    then_one IsSuffix (IsLiteralOf (signed_number negative k.0)) suffix_one (literal_of_one (signed_number negative k.0)) t y y' n n' k.2
-    (subst (λ m. Then IsSuffix (IsLiteralOf (signed_number negative m)) y' t n') (sym same) l.2)
+    then_one IsSuffix (IsLiteralOf negative k.0) suffix_one (literal_of_one negative k.0) t y y' n n' k.2
+    (subst (λ m. Then IsSuffix (IsLiteralOf negative m) y' t n') (sym same) l.2)
 
 negative_one : IsOne IsNegative
 negative_one t y y' n n' k l =
@@ -138,11 +142,13 @@ item_number_one : (elem : TypeTerm) (negative : Bool) (digits : List ℕ) (v w :
 item_number_one elem negative digits v w k l =
     let some : Some k.0 ≡ Some l.0 = sym k.1 ∙ l.1 in
     let same : k.0 ≡ l.0 = cc (some) in
-    k.3 ∙ ap (λ m. value_of elem (signed_number negative m)) same ∙ sym l.3
+    let both : Some k.2 ≡ Some l.2 = sym k.3 ∙ ap (literal_bits elem negative) same ∙ l.3 in
+    let bits : k.2 ≡ l.2 = cc (both) in
+    k.4 ∙ ap (reading_of elem) bits ∙ sym l.4
 
 -- an item by its first token, behind which stands `rest`
 abbrev ItemFrom : TypeTerm → Lexeme → Text → Grammar Text ℤ
-ItemFrom elem (bare w) rest v old new = (b : Bool) × (word_of w ≡ Truth b) × (v ≡ truth_value b) × (new ≡ rest)
+ItemFrom elem (bare w) rest v old new = (b : Bool) × (word_of w ≡ Truth b) × (v ≡ reading_of elem (truth_bits b)) × (new ≡ rest)
 ItemFrom elem (integer digits) rest v old new = IsItemNumber elem false digits v × (new ≡ rest)
 ItemFrom elem (mark m) rest v old new = (digits : List ℕ) × Token (integer digits) rest new × IsItemNumber elem true digits v
 ItemFrom elem _ rest v old new = ⊥
@@ -151,7 +157,7 @@ item_from_one : (elem : TypeTerm) (l : Lexeme) (rest : Text) → IsOne (ItemFrom
 item_from_one elem (bare w) rest t y y' n n' k l =
     let word : Truth k.0 ≡ Truth l.0 = sym k.1 ∙ l.1 in
     let same : k.0 ≡ l.0 = cc (word) in
-    (k.2 ∙ ap truth_value same ∙ sym l.2, k.3 ∙ sym l.3)
+    (k.2 ∙ ap (λ b. reading_of elem (truth_bits b)) same ∙ sym l.2, k.3 ∙ sym l.3)
 item_from_one elem (integer digits) rest t y y' n n' k l = (item_number_one elem false digits y y' k.0 l.0, k.1 ∙ sym l.1)
 item_from_one elem (mark m) rest t y y' n n' k l =
     let e = token_one (integer k.0) (integer l.0) rest n n' k.1 l.1 in
@@ -226,7 +232,7 @@ module _ (depth : ℕ) (P : Grammar Text AttrTerm) (item : IsOne P) where
   -- ---- attributes
 
   word_one : (w : Word) (rest : Text) → IsOne (IsWordAttr depth P w rest)
-  word_one (Truth b) rest = behind_one rest (IsFine (IntegerOf (Integer Signless 1) (truth_value b))) (fine_one (IntegerOf (Integer Signless 1) (truth_value b)))
+  word_one (Truth b) rest = behind_one rest (IsFine (IntegerOf (Integer Signless 1) (truth_bits b))) (fine_one (IntegerOf (Integer Signless 1) (truth_bits b)))
   word_one UnitWord rest = behind_one rest (IsFine Flag) (fine_one Flag)
   word_one ArrayWord rest = behind_one rest IsDense dense_one
   word_one TypeWord rest = type_attr_one (suc depth)

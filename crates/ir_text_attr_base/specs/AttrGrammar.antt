@@ -12,13 +12,13 @@ use Rattle.ir_text_base.specs.Strings.{string_bytes}
 use Rattle.ir_text_base.specs.Numbers.{integer_of, below_limit}
 use Rattle.ir_types.specs.declared.node.Sign.TheVariants.{Signless}
 use Rattle.ir_types.specs.Terms.{TypeTerm, Integer, AttrTerm, IntegerOf, String, TypeOf, Flag, Array, Dictionary, Symbol, DenseArray, Overflow, AttrTerms, no_attrs, next_attr, EntryTerms, no_entries, next_entry}
-use Rattle.ir_types.specs.Ranges.{is_literal_number}
+use Rattle.ir_types.specs.Readings.{literal_bits, reading_of}
 use Rattle.ir_types.specs.Reasons.{attr_fault}
 use Rattle.ir_text_attr_base.specs.declared.flag.Flag as code
 use Rattle.ir_text_type_base.specs.Grammars.{Grammar, Then, Done, DoneIf, After, Not, Either, IsMore, IsList, Token, IsMark}
 use Rattle.ir_text_type_base.specs.TypeReading.{many}
 use Rattle.ir_text_type_base.specs.TypeGrammar.{Text, IsType}
-use Rattle.ir_text_attr_base.specs.Literals.{Word, Truth, UnitWord, ArrayWord, TypeWord, word_of, truth_value, signed_number, value_of, overflow_word, none_word, flag_of, has_nsw, has_nuw}
+use Rattle.ir_text_attr_base.specs.Literals.{Word, Truth, UnitWord, ArrayWord, TypeWord, word_of, truth_bits, overflow_word, none_word, flag_of, has_nsw, has_nuw}
 pub use Rattle.ir_text_attr_base.specs.Elements.{is_bit, element_of}
 
 -- nothing more, where the attribute is one: its number is a value of its type, and it is not too deep
@@ -39,14 +39,14 @@ IsTypeAttr depth = Then (IsType depth) (λ t. IsFine (TypeOf t))
 abbrev pub IsSuffix : Grammar Text TypeTerm
 IsSuffix = Either IsMark Colon (IsType 32) (Done (Integer Signless 64))
 
--- a number as a literal of a type
-abbrev pub IsLiteralOf : ℤ → TypeTerm → Grammar Text AttrTerm
-IsLiteralOf v t y old new = (is_literal_number t v ≡ true) × IsFine (IntegerOf t (value_of t v)) y old new
+-- a magnitude, with a minus before it or none, as a literal of a type, which has bits of it
+abbrev pub IsLiteralOf : Bool → ℕ → TypeTerm → Grammar Text AttrTerm
+IsLiteralOf negative n t y old new = (bits : ℕ) × (literal_bits t negative n ≡ Some bits) × IsFine (IntegerOf t bits) y old new
 
 -- behind the digits
 abbrev pub IsLiteral : Bool → List ℕ → Grammar Text AttrTerm
 IsLiteral negative digits y old new =
-    (n : ℕ) × (below_limit (integer_of digits) ≡ Some n) × Then IsSuffix (IsLiteralOf (signed_number negative n)) y old new
+    (n : ℕ) × (below_limit (integer_of digits) ≡ Some n) × Then IsSuffix (IsLiteralOf negative n) y old new
 
 -- behind a minus
 abbrev pub IsNegative : Grammar Text AttrTerm
@@ -88,15 +88,15 @@ IsSymbol = Then (IsParts many []) (λ parts. IsFine (Symbol parts))
 abbrev pub IsElement : Grammar Text TypeTerm
 IsElement elem old new = (w : List ℕ) × Token (bare w) old new × (element_of w ≡ Some elem)
 
--- digits, with a minus before them or none, as a literal of the type
+-- digits, with a minus before them or none, as a literal of the type, by the number that its bits are read as
 abbrev pub IsItemNumber : TypeTerm → Bool → List ℕ → ℤ → Type 0
 IsItemNumber elem negative digits v =
-    (n : ℕ) × (below_limit (integer_of digits) ≡ Some n) × (is_literal_number elem (signed_number negative n) ≡ true) × (v ≡ value_of elem (signed_number negative n))
+    (n : ℕ) × (below_limit (integer_of digits) ≡ Some n) × (bits : ℕ) × (literal_bits elem negative n ≡ Some bits) × (v ≡ reading_of elem bits)
 
 -- a number, or a truth value where the items have one bit
 abbrev pub IsItem : TypeTerm → Grammar Text ℤ
 IsItem elem v old new =
-    ((w : List ℕ) × (b : Bool) × Token (bare w) old new × (is_bit elem ≡ true) × (word_of w ≡ Truth b) × (v ≡ truth_value b))
+    ((w : List ℕ) × (b : Bool) × Token (bare w) old new × (is_bit elem ≡ true) × (word_of w ≡ Truth b) × (v ≡ reading_of elem (truth_bits b)))
     ⊎ (((digits : List ℕ) × Token (integer digits) old new × IsItemNumber elem false digits v)
     ⊎ ((digits : List ℕ) × (mid : Text) × IsMark Minus old mid × Token (integer digits) mid new × IsItemNumber elem true digits v))
 
@@ -167,7 +167,7 @@ module _ (depth : ℕ) (P : Grammar Text AttrTerm) where
   -- ---- by the first token, behind which stands `rest`
 
   abbrev pub IsWordAttr : Word → Text → Grammar Text AttrTerm
-  IsWordAttr (Truth b) rest y old new = IsFine (IntegerOf (Integer Signless 1) (truth_value b)) y rest new
+  IsWordAttr (Truth b) rest y old new = IsFine (IntegerOf (Integer Signless 1) (truth_bits b)) y rest new
   IsWordAttr UnitWord rest y old new = IsFine Flag y rest new
   IsWordAttr ArrayWord rest y old new = IsDense y rest new
   IsWordAttr TypeWord rest y old new = IsTypeAttr (suc depth) y old new

@@ -13,14 +13,14 @@ use Rattle.ir_types.specs.declared.node.AttrNode.{AttrNode}
 use Rattle.ir_types.specs.declared.node.AttrNode.TheVariants as attr
 use Rattle.ir_types.specs.Things.{Things}
 use Rattle.ir_types.specs.Terms.{TypeTerm, type_term}
-use Rattle.ir_types.specs.Ranges.{is_literal_number}
+use Rattle.ir_types.specs.Readings.{literal_bits, reading_of}
 use Rattle.ir_text_attr_base.specs.declared.flag.Flag.{Flag}
 use Rattle.ir_text_attr_base.specs.declared.element.Element.{Element}
 use Rattle.ir_text_type_base.specs.Outcomes.{Outcome, Read, Wrong, ◌>>=◌, of_option, Parse}
 use Rattle.ir_text_type_base.specs.Lists.{more_at, list_at}
 use Rattle.ir_text_type_base.specs.Typed.{Typed, after_typed, name_step, attr_step}
 use Rattle.ir_text_type_base.specs.TypeReading.{many, type_done, type_at}
-use Rattle.ir_text_attr_base.specs.Literals.{Word, Truth, UnitWord, ArrayWord, TypeWord, word_of, truth_value, signed_number, value_of, overflow_word, none_word, flag_of, has_nsw, has_nuw}
+use Rattle.ir_text_attr_base.specs.Literals.{Word, Truth, UnitWord, ArrayWord, TypeWord, word_of, truth_bits, overflow_word, none_word, flag_of, has_nsw, has_nuw}
 use Rattle.ir_text_attr_base.specs.Elements.{bits_of, type_of, element_named, is_bit, item_value}
 
 -- a node is interned, and the text stays where it is
@@ -38,7 +38,7 @@ name_done bytes s = do
 unfoldable pub truth_at : Bool → Parse Typed ℕ
 truth_at b s = do
   t ← type_done (type.Int Signless 1) s
-  attr_done (attr.Int t.0 (truth_value b)) t.1
+  attr_done (attr.Int t.0 (truth_bits b)) t.1
 
 unfoldable pub string_at : List ℕ → Parse Typed ℕ
 string_at raw s = do
@@ -60,15 +60,16 @@ suffix_from s None = type_done (type.Int Signless 64) s
 unfoldable pub suffix_at : Parse Typed ℕ
 suffix_at s = suffix_from s (after_typed Colon s)
 
-unfoldable pub literal_done : ℤ → ℕ → Parse Typed ℕ
-literal_done v t s = if is_literal_number (type_term s.1 t) v then attr_done (attr.Int t (value_of (type_term s.1 t) v)) s else Wrong
+-- the literal of a type, where it is one
+unfoldable pub literal_done : Bool → ℕ → ℕ → Parse Typed ℕ
+literal_done negative n t s = of_option (literal_bits (type_term s.1 t) negative n) >>= λ bits. attr_done (attr.Int t bits) s
 
 -- behind the digits
 unfoldable pub literal_at : Bool → List ℕ → Parse Typed ℕ
 literal_at negative digits s = do
   n ← of_option (below_limit (integer_of digits))
   t ← suffix_at s
-  literal_done (signed_number negative n) t.0 t.1
+  literal_done negative n t.0 t.1
 
 abbrev pub negative_from : Things → Lexeme → List ℕ → Outcome (ℕ × Typed)
 negative_from c (integer digits) rest = literal_at true digits (rest, c)
@@ -141,7 +142,7 @@ unfoldable pub element_at : Parse Typed Element
 element_at s = of_option (next s.0) >>= λ t. element_from s.1 t.0 t.1
 
 abbrev pub truth_item : TypeTerm → Word → Parse Typed ℤ
-truth_item elem (Truth b) s = if is_bit elem then Read (truth_value b, s) else Wrong
+truth_item elem (Truth b) s = if is_bit elem then Read (reading_of elem (truth_bits b), s) else Wrong
 truth_item elem _ s = Wrong
 
 abbrev pub number_item : TypeTerm → Bool → List ℕ → Parse Typed ℤ

@@ -4,10 +4,9 @@ use Rattle.std.specs.Str.{bytes_eq}
 use Rattle.ir_text_base.specs.Numbers.{integer_of, below_limit}
 use Rattle.ir_types.specs.declared.node.Sign.TheVariants.{Signless}
 use Rattle.ir_types.specs.Terms.{TypeTerm, Integer}
-use Rattle.ir_types.specs.Ranges.{is_literal_number}
+use Rattle.ir_types.specs.Readings.{literal_bits, reading_of}
 use Rattle.ir_text_attr_base.specs.declared.element.Element.{Element}
 use Rattle.ir_text_attr_base.specs.declared.element.Element.TheVariants.{I1, I8, I16, I32, I64}
-use Rattle.ir_text_attr_base.specs.Literals.{signed_number, value_of}
 
 -- how many bits an element has
 abbrev pub bits_of : Element → ℕ
@@ -39,10 +38,10 @@ abbrev pub is_bit : TypeTerm → Bool
 is_bit (Integer Signless w) = w == 1
 is_bit _ = false
 
--- the value of a type that a number is, where it is one of its literals
-abbrev pub literal_in : TypeTerm → ℤ → Option ℤ
-literal_in elem v = if is_literal_number elem v then Some (value_of elem v) else None
+-- the bits of a type that digits write as a literal, with a minus before them or none
+abbrev pub item_bits : TypeTerm → Bool → List ℕ → Option ℕ
+item_bits elem negative digits = option_and_then (literal_bits elem negative) (below_limit (integer_of digits))
 
--- and that digits write, with a minus before them or none
+-- and the number that they are read as
 abbrev pub item_value : TypeTerm → Bool → List ℕ → Option ℤ
-item_value elem negative digits = option_and_then (λ n. literal_in elem (signed_number negative n)) (below_limit (integer_of digits))
+item_value elem negative digits = option_map (reading_of elem) (item_bits elem negative digits)

@@ -1,9 +1,7 @@
 -- Words and literals of attributes. Builtin Dialect, "Attributes".
-use Rattle.std.specs.Prelude.{ℕ, ◌-◌, ◌^◌, Bool, true, false, if◌then◌else◌, List, codes, Option, Some, None, ℤ, pos, ◌-ℤ◌, int_lt}
+use Rattle.std.specs.Prelude.{ℕ, Bool, true, false, if◌then◌else◌, List, codes, Option, Some, None}
 use Rattle.std.specs.List.{list_any}
 use Rattle.std.specs.Str.{bytes_eq}
-use Rattle.ir_types.specs.declared.node.Sign.TheVariants.{Signless}
-use Rattle.ir_types.specs.Terms.{TypeTerm, Integer}
 use Rattle.ir_text_attr_base.specs.declared.flag.Flag.{Flag}
 use Rattle.ir_text_attr_base.specs.declared.flag.Flag.TheVariants.{NoSignedWrap, NoUnsignedWrap}
 
@@ -34,18 +32,9 @@ word_of w =
     else if bytes_eq w array_word then ArrayWord
     else TypeWord
 
--- the number of a truth value, which is a signed integer of one bit
-abbrev pub truth_value : Bool → ℤ
-truth_value b = if b then pos 0 -ℤ pos 1 else pos 0
-
--- a number with a minus before it, or none
-abbrev pub signed_number : Bool → ℕ → ℤ
-signed_number negative n = if negative then pos 0 -ℤ pos n else pos n
-
--- the value of a type that a literal is: of a signless type it is taken modulo 2^w, and printed as signed
-abbrev pub value_of : TypeTerm → ℤ → ℤ
-value_of (Integer Signless w) v = if int_lt v (pos (2 ^ (w - 1))) then v else v -ℤ pos (2 ^ w)
-value_of _ v = v
+-- the bit of a truth value
+abbrev pub truth_bits : Bool → ℕ
+truth_bits b = if b then 1 else 0
 
 -- ---- flags
 

@@ -44,7 +44,7 @@ pub fn unit<'a>(ctx: &mut Context, rest: &'a [u8]) -> Result<(AttrId, &'a [u8]),
     kept(ctx, AttrNode::Unit, rest)
 }
 
-/// `true` or `false`, a number of one bit (Builtin Dialect, "IntegerAttr").
+/// `true` or `false`, 1 or 0 of one bit (Builtin Dialect, "IntegerAttr").
 #[tactic(auto, unfolding(crate::specs::AttrReading::truth_at))]
 fn truth<'a>(
     ctx: &mut Context,
@@ -61,7 +61,7 @@ fn truth<'a>(
         Ok(found) => found,
         Err(e) => return Err(e),
     };
-    let value = if is_true { -1 } else { 0 };
+    let value = if is_true { 1 } else { 0 };
     kept(ctx, AttrNode::Int { ty, value }, rest)
 }
 

@@ -1,15 +1,16 @@
 //! Dense arrays of integers. Builtin Dialect, "DenseArrayAttr".
-ghost use Rattle.std.specs.Prelude.{◌≡◌, ◌≤◌, true};
+ghost use Rattle.std.specs.Prelude.{◌≡◌, ◌<◌, ◌≤◌, ◌^◌, IfSome};
 ghost use Rattle.ir_types.specs.Things.{Things};
+ghost use Rattle.ir_types.specs.Readings as readings;
+ghost use Rattle.ir_types.specs.Readings.{reading_of};
 ghost use Rattle.ir_text_type_base.specs.Outcomes.{Gives};
-ghost use Rattle.ir_text_attr_base.specs.Elements.{bits_of, type_of, element_named, literal_in, item_value};
-ghost use Rattle.ir_types.specs.Ranges.{is_literal_number};
-ghost use Rattle.ir_text_attr_base.specs.Literals.{word_of, value_of};
+ghost use Rattle.ir_text_attr_base.specs.Elements.{bits_of, type_of, element_named, item_bits, item_value};
+ghost use Rattle.ir_text_attr_base.specs.Literals.{truth_bits, word_of};
+ghost use Rattle.ir_text_attr_base.specs.declared.element.Element.TheVariants.{I1};
 ghost use Rattle.ir_text_attr_base.specs.AttrReading.{element_at, truth_item, number_item, minus_item, mark_item, item_at, some_items_at, no_items_at, items_at, dense_done, dense_at};
 
 use crate::attributes::kept;
 use crate::element::Element;
-use crate::literals::{as_signed, signed_number};
 use ir_text_base::numbers::integer_value;
 use ir_text_base::token::{Mark, Token};
 use ir_text_type_base::error::{ReadError, wrong};
@@ -17,8 +18,9 @@ use ir_text_type_base::steps::{after, expect, token};
 use ir_text_type_base::types::{self, MANY, token_refusal};
 use ir_types::context::Context;
 use ir_types::ids::AttrId;
+use ir_types::limits::MOST_WIDTH;
 use ir_types::node::{AttrNode, Sign, TypeNode};
-use ir_types::range::is_literal;
+use ir_types::readings::{literal_bits, signed_number};
 use ir_types::refusal::Refusal;
 use ir_types_base::lists::Items;
 use std::alloc::Global;
@@ -60,12 +62,12 @@ fn bits_of(element: &Element) -> u32
     }
 }
 
-/// Whether digits write a width, from 1 to 64.
+/// Whether digits write a width, from 1 to 128.
 fn writes_width(digits: &[u8]) -> bool {
     match digits {
         [b'0', ..] => false,
         _ => match integer_value(digits) {
-            Some(width) => 1 <= width && width <= 64,
+            Some(width) => 1 <= width && width <= MOST_WIDTH as u128,
             None => false,
         },
     }
@@ -103,38 +105,41 @@ fn element(bytes: &[u8]) -> Result<(Element, &[u8]), ReadError>
     }
 }
 
-/// A literal of an element type as its value, which has 64 bits at most.
-fn narrowed(element: &Element, value: i128) -> i64
-    requires { is_literal_number (type_of element.now) value ≡ true }
-    ensures { result ≡ value_of (type_of element.now) value }
-{
-    as_signed(bits_of(element), value) as i64
-}
-
-/// The value of an element type that a number is, where it is one of its literals.
-fn literal_in(element: &Element, value: i128) -> Option<i64>
-    ensures { result ≡ literal_in (type_of element.now) value }
+/// The bits of a literal, where it is one of the element type.
+fn literal_in(element: &Element, negative: bool, magnitude: u128) -> Option<u128>
+    ensures bits { result ≡ readings.literal_bits (type_of element.now) negative magnitude }
+    ensures below { IfSome result (λ bits. bits < 2 ^ bits_of element.now) }
 {
     let node = TypeNode::Int {
         sign: Sign::Signless,
         width: bits_of(element),
     };
-    if is_literal(&node, value) {
-        Some(narrowed(element, value))
-    } else {
-        None
-    }
+    literal_bits(&node, negative, magnitude)
+}
+
+/// The bits of an element type that digits write as a literal, with a minus before them or none.
+fn item_bits(element: &Element, negative: bool, digits: &[u8]) -> Option<u128>
+    ensures bits { result ≡ item_bits (type_of element.now) negative digits.now }
+    ensures below { IfSome result (λ bits. bits < 2 ^ bits_of element.now) }
+{
+    let magnitude = integer_value(digits)?;
+    literal_in(element, negative, magnitude)
+}
+
+/// The number that the bits of an element type are read as.
+fn reading(element: &Element, bits: u128) -> i64
+    requires { bits < 2 ^ bits_of element.now }
+    ensures { result ≡ reading_of (type_of element.now) bits }
+{
+    signed_number(bits_of(element), bits) as i64
 }
 
 /// The value of an element type that digits write, with a minus before them or none.
 fn item_value(element: &Element, negative: bool, digits: &[u8]) -> Option<i64>
     ensures { result ≡ item_value (type_of element.now) negative digits.now }
 {
-    let magnitude = integer_value(digits)?;
-    if magnitude > u64::MAX as u128 {
-        return None;
-    }
-    literal_in(element, signed_number(negative, magnitude as u64))
+    let bits = item_bits(element, negative, digits)?;
+    Some(reading(element, bits))
 }
 
 /// An item behind its digits. It begins, its minus included, at `start`.
@@ -153,6 +158,14 @@ fn number_item<'a>(
     }
 }
 
+/// The number that the bit of a truth value is read as.
+#[tactic(auto, unfolding(ir_types::specs::Readings::signed_of))]
+fn truth_value(is_true: bool) -> i64
+    ensures { result ≡ reading_of (type_of I1) (truth_bits is_true) }
+{
+    if is_true { -1 } else { 0 }
+}
+
 /// A truth value as an item, behind which stands `rest`.
 fn truth_item<'a>(
     element: &Element,
@@ -164,10 +177,10 @@ fn truth_item<'a>(
 {
     let is_bit = matches!(element, Element::I1);
     if is_bit && word == b"true".as_slice() {
-        return Ok((-1, rest));
+        return Ok((truth_value(true), rest));
     }
     if is_bit && word == b"false".as_slice() {
-        return Ok((0, rest));
+        return Ok((truth_value(false), rest));
     }
     Err(ReadError::Refused(wrong(Refusal::Unexpected, bytes)))
 }

@@ -1,7 +1,7 @@
 //! The element types of dense arrays.
 
 /// A signless integer type that elements of dense arrays have (Builtin Dialect, "DenseArrayAttr").
-#[derive(Clone, Copy, Debug, PartialEq, Eq)]
+#[derive(Clone, Copy, PartialEq, Eq)]
 pub enum Element {
     /// `i1`, of truth values.
     I1,

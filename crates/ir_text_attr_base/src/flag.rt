@@ -1,7 +1,7 @@
 //! The flags of integer operations.
 
 /// What an integer operation may not do (`arith` Dialect, "IntegerOverflowFlagsAttr").
-#[derive(Clone, Copy, Debug, PartialEq, Eq)]
+#[derive(Clone, Copy, PartialEq, Eq)]
 pub enum Flag {
     /// `nsw`: wrap as a signed number.
     NoSignedWrap,

@@ -1,12 +1,7 @@
 //! Integer literals. Builtin Dialect, "IntegerAttr".
-ghost use Rattle.std.specs.Prelude.{◌≡◌, ◌≤◌, List, Some, None, if◌then◌else◌};
-ghost use Rattle.ir_types.specs.declared.node.Sign.TheVariants.{Signless};
+ghost use Rattle.std.specs.Prelude.{◌≡◌};
 ghost use Rattle.ir_types.specs.Things.{IsType};
-ghost use Rattle.ir_types.specs.Terms.{TypeTerm, Integer, type_from, type_term};
-ghost use Rattle.ir_types.specs.Bits.{HasWidth};
-ghost use Rattle.ir_types.specs.Ranges.{is_literal_number};
 ghost use Rattle.ir_text_type_base.specs.Outcomes.{Gives};
-ghost use Rattle.ir_text_attr_base.specs.Literals.{signed_number, value_of};
 ghost use Rattle.ir_text_attr_base.specs.AttrReading.{suffix_at, literal_done, literal_at, negative_at};
 
 use crate::attributes::kept;
@@ -40,72 +35,6 @@ fn suffix<'a>(
             };
             types::kept(ctx, word, bytes)
         }
-    }
-}
-
-/// A magnitude of at most 64 bits with its sign.
-pub(crate) fn signed_number(negative: bool, magnitude: u64) -> i128
-    ensures { result ≡ signed_number negative magnitude }
-{
-    if negative {
-        -(magnitude as i128)
-    } else {
-        magnitude as i128
-    }
-}
-
-/// The number as it is printed of a signless type: from 2^(w-1) on, 2^w is taken off.
-pub(crate) fn as_signed(width: u32, value: i128) -> i128
-    requires low { 1 ≤ width }
-    requires high { width ≤ 64 }
-    ensures { result ≡ value_of (Integer Signless width) value }
-{
-    let half: u128 = 1 << (width - 1);
-    let size: u128 = 1 << width;
-    if value < half as i128 {
-        value
-    } else {
-        value - size as i128
-    }
-}
-
-/// The value of a type that a literal is.
-fn value_of(node: &TypeNode, value: i128) -> i128
-    requires { HasWidth node.now }
-    ensures { (known : List TypeTerm) → result ≡ value_of (type_from known node.now) value }
-{
-    match node {
-        TypeNode::Int { sign, width } => match sign {
-            Sign::Signless => as_signed(*width, value),
-            _ => value,
-        },
-        _ => value,
-    }
-}
-
-/// The value of a type of the context that a literal is.
-fn value_in(ctx: &Context, ty: TypeId, value: i128) -> i128
-    requires { IsType ctx.now ty }
-    ensures { result ≡ value_of (type_term ctx.now ty) value }
-{
-    ctx.sound();
-    value_of(ctx.type_node(ty), value)
-}
-
-/// The value that a literal is, where it is one of the type.
-fn literal_value(ctx: &Context, ty: TypeId, negative: bool, magnitude: u128) -> Option<i128>
-    requires { IsType ctx.now ty }
-    ensures { result ≡ (if is_literal_number (type_term ctx.now ty) (signed_number negative magnitude) then Some (value_of (type_term ctx.now ty) (signed_number negative magnitude)) else None) }
-{
-    ctx.sound();
-    if magnitude > u64::MAX as u128 {
-        return None;
-    }
-    let value = signed_number(negative, magnitude as u64);
-    if ctx.fits(ty, value) {
-        Some(value_in(ctx, ty, value))
-    } else {
-        None
     }
 }
 
@@ -154,7 +83,7 @@ pub(crate) fn literal<'a>(
         Ok(found) => found,
         Err(e) => return Err(e),
     };
-    match literal_value(ctx, ty, negative, magnitude) {
+    match ctx.literal_bits(ty, negative, magnitude) {
         Some(value) => kept(ctx, AttrNode::Int { ty, value }, rest),
         None => Err(ReadError::Refused(misfit(ctx, ty, start, bytes))),
     }

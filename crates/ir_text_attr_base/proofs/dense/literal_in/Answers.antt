@@ -1,11 +1,20 @@
-use Rattle.std.proofs.Common.{rules, []}
+use Rattle.std.proofs.Common.{◌≡◌, ℕ, ◌<◌, ◌^◌, true, [], Option, Some, None, IfSome, sym, arith}
+use Rattle.std.proofs.lemmas.Bool.Decides.{nat_tests}
+use Rattle.std.specs.Prelude.{nat_lt}
+use Rattle.ir_types.specs.Readings.{literal_bits}
+use Rattle.ir_types.proofs.ReadingLaws.{literal_is_bits}
+use Rattle.ir_text_attr_base.specs.Elements.{bits_of, type_of}
 use Rattle.ir_text_attr_base.proofs.dense.literal_in.Goals as goal
 
-pub narrowed-requires : goal.narrowed-requires
-narrowed-requires c = let h = c.is_literal.ensures [] in search (rules, h)
+below : (n m : ℕ) → nat_lt n m ≡ true → n < m
+below n m h = grind (arith, nat_tests)
 
-pub returns-then-is_literal : goal.returns-then-is_literal
-returns-then-is_literal c = let h = c.is_literal.ensures [] in search (rules, h)
+pub returns-clause-bits : goal.returns-clause-bits
+returns-clause-bits c = rw c.bits_of.ensures.bits at c.literal_bits.ensures []
 
-pub returns : goal.returns
-returns c = let h = c.is_literal.ensures [] in search (rules, h)
+pub returns-clause-below : goal.returns-clause-below
+returns-clause-below c = by_bits c.literal_bits.result (rw c.bits_of.ensures.bits at c.literal_bits.ensures [])
+  where
+    by_bits : (o : Option ℕ) → o ≡ literal_bits (type_of c.args.element.now) c.args.negative c.args.magnitude → IfSome o (λ bits. bits < 2 ^ bits_of c.args.element.now)
+    by_bits None e = tt
+    by_bits (Some bits) e = below bits (2 ^ bits_of c.args.element.now) (literal_is_bits (type_of c.args.element.now) c.args.negative c.args.magnitude bits (sym e))

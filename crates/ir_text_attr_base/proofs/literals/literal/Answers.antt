@@ -1,8 +1,8 @@
 use Rattle.ir_text_attr_base.proofs.Suffixes.{suffix_known}
 use Rattle.ir_text_attr_base.proofs.literals.literal.Goals as goal
 
-pub literal_value-requires : goal.literal_value-requires
-literal_value-requires c = suffix_known c.args.bytes.now _ c.args.ctx.now c.suffix.new.ctx c.in-Ok.found.0 c.sound.ensures c.in-Ok.ensures
+pub literal_bits-requires : goal.literal_bits-requires
+literal_bits-requires c = suffix_known c.args.bytes.now _ c.args.ctx.now c.suffix.new.ctx c.in-Ok.found.0 c.sound.ensures c.in-Ok.ensures
 
 pub kept-requires : goal.kept-requires
 kept-requires c = suffix_known c.args.bytes.now _ c.args.ctx.now c.suffix.new.ctx c.in-Ok.found.0 c.sound.ensures c.in-Ok.ensures
