@@ -3,3 +3,4 @@ pub mod Entries
 pub mod Rows
 pub mod Meanings
 pub mod Wholes
+pub mod Readings

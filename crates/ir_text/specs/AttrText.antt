@@ -4,6 +4,7 @@ use Rattle.std.specs.Ordering.{int_eq}
 use Rattle.std.specs.Fmt.{signed_decimal}
 use Rattle.ir_types.specs.declared.node.Sign.TheVariants.{Signless}
 use Rattle.ir_types.specs.Terms.{TypeTerm, Integer, AttrTerm, IntegerOf, String, TypeOf, Flag, Array, Dictionary, Symbol, DenseArray, Overflow, AttrTerms, no_attrs, next_attr, EntryTerms, no_entries, next_entry}
+use Rattle.ir_types.specs.Readings.{reading_of}
 use Rattle.ir_text.specs.Rows.{parted}
 use Rattle.ir_text_base.specs.Printing.{string_text, key_text}
 use Rattle.ir_text.specs.TypeText.{type_text}
@@ -13,9 +14,13 @@ abbrev pub is_truth : TypeTerm → Bool
 is_truth (Integer Signless width) = width == 1
 is_truth _ = false
 
+-- a truth value: the number 0 or another
+abbrev pub truth_text : Bool → List ℕ
+truth_text is_zero = if is_zero then codes "false" else codes "true"
+
 -- a number without its type, in a word where the type is `i1`
 unfoldable pub number_text : Bool → ℤ → List ℕ
-number_text truth z = if truth then (if int_eq z (pos 0) then codes "false" else codes "true") else signed_decimal z
+number_text truth z = if truth then truth_text (int_eq z (pos 0)) else signed_decimal z
 
 -- an integer: a decimal number with its type, but for `i1` the word alone
 abbrev pub integer_text : TypeTerm → ℤ → List ℕ
@@ -54,10 +59,10 @@ entry_text key flag text = if flag then key_text key else key_text key ++ (codes
 abbrev pub in_curly : List (List ℕ) → List ℕ
 in_curly ts = codes "{" ++ (parted (codes ", ") true ts ++ codes "}")
 
--- an attribute
+-- an attribute; the bits of an integer are written as the number that they are read as
 abbrev mutual
   pub attr_text : AttrTerm → List ℕ
-  attr_text (IntegerOf ty z) = integer_text ty z
+  attr_text (IntegerOf ty bits) = integer_text ty (reading_of ty bits)
   attr_text (String v) = string_text v
   attr_text (TypeOf ty) = type_text ty
   attr_text Flag = codes "unit"

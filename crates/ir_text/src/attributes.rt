@@ -2,11 +2,12 @@
 ghost use Rattle.std.specs.Prelude.{◌≡◌, ◌<◌, ◌++◌, ℕ, OnOk, true, length, map, codes};
 ghost use Rattle.std.specs.List.{All};
 ghost use Rattle.ir_types.specs.Things.{IsName, IsType, IsAttr};
+ghost use Rattle.ir_types.specs.Readings.{reading_of};
 ghost use Rattle.ir_types.specs.Terms.{name_term, type_term, attr_term, attr_terms, attrs_at, entries_at};
 ghost use Rattle.ir_text.specs.Rows.{parted};
-ghost use Rattle.ir_text.specs.AttrText.{is_truth, number_text, integer_text, items_text, dense_text, part_text, flags_text, is_flag, entry_text, in_curly, attr_text, attr_texts, entry_texts};
+ghost use Rattle.ir_text.specs.AttrText.{is_truth, truth_text, number_text, integer_text, items_text, dense_text, part_text, flags_text, is_flag, entry_text, in_curly, attr_text, attr_texts, entry_texts};
 
-use crate::numbers::put_signed;
+use crate::numbers::{put_reading, put_signed};
 use crate::things::{attr_of, name_of, type_of};
 use crate::types::put_type;
 use ir_text_base::print::{put_key, put_string};
@@ -39,36 +40,42 @@ fn is_truth(ctx: &Context, id: TypeId) -> bool
     }
 }
 
-#[tactic(auto, unfolding(crate::specs::AttrText::number_text))]
-fn put_number(out: &mut Vec<u8>, truth: bool, number: i128) -> Result<(), AllocError>
-    ensures { OnOk result (out.new.items ≡ out.old.items ++ number_text truth number) }
+/// Appends the word of a truth value.
+fn put_truth(out: &mut Vec<u8>, is_zero: bool) -> Result<(), AllocError>
+    ensures { OnOk result (out.new.items ≡ out.old.items ++ truth_text is_zero) }
 {
-    if !truth {
-        return put_signed(out, number);
-    }
-    if number == 0 {
+    if is_zero {
         out.extend_from_slice(b"false")
     } else {
         out.extend_from_slice(b"true")
     }
 }
 
-fn put_integer(ctx: &Context, out: &mut Vec<u8>, ty: TypeId, number: i128) -> Result<(), AllocError>
+/// Appends an integer by its bits: the number that they are read as, and its type.
+#[tactic(auto, using(crate::proofs::Readings::zero_read), unfolding(crate::specs::AttrText::number_text))]
+fn put_integer(ctx: &Context, out: &mut Vec<u8>, ty: TypeId, bits: u128) -> Result<(), AllocError>
     requires { IsType ctx.now ty }
-    ensures { OnOk result (out.new.items ≡ out.old.items ++ integer_text (type_term ctx.now ty) number) }
+    ensures { OnOk result (out.new.items ≡ out.old.items ++ integer_text (type_term ctx.now ty) (reading_of (type_term ctx.now ty) bits)) }
 {
+    let reading = ctx.reading(ty, bits);
     if is_truth(ctx, ty) {
-        return put_number(out, true, number);
+        return put_truth(out, reading.magnitude == 0);
     }
-    put_number(out, false, number)?;
+    put_reading(out, &reading)?;
     out.extend_from_slice(b" : ")?;
     put_type(ctx, out, ty)
 }
 
+/// Appends an item of a dense array.
+#[tactic(auto, unfolding(crate::specs::AttrText::number_text))]
 fn put_item(out: &mut Vec<u8>, truth: bool, number: i64) -> Result<(), AllocError>
     ensures { OnOk result (out.new.items ≡ out.old.items ++ number_text truth number) }
 {
-    put_number(out, truth, i128::from(number))
+    if truth {
+        put_truth(out, number == 0)
+    } else {
+        put_signed(out, number)
+    }
 }
 
 fn put_numbers(out: &mut Vec<u8>, truth: bool, numbers: &[i64]) -> Result<(), AllocError>

@@ -1,7 +1,9 @@
 //! Numbers.
-ghost use Rattle.std.specs.Prelude.{◌≡◌, ◌++◌, OnOk};
+ghost use Rattle.std.specs.Prelude.{◌≡◌, ◌++◌, ℤ, pos, int_lt, unsigned_abs, OnOk};
 ghost use Rattle.std.specs.Fmt.{decimal, signed_decimal};
 
+use ir_text_base::print;
+use ir_types::readings::Reading;
 use itoa::Buffer;
 use std::alloc::AllocError;
 
@@ -14,9 +16,16 @@ pub(crate) fn put_number(out: &mut Vec<u8>, number: u64) -> Result<(), AllocErro
 }
 
 /// Appends a signed number.
-pub(crate) fn put_signed(out: &mut Vec<u8>, number: i128) -> Result<(), AllocError>
+pub(crate) fn put_signed(out: &mut Vec<u8>, number: i64) -> Result<(), AllocError>
     ensures { OnOk result (out.new.items ≡ out.old.items ++ signed_decimal number) }
 {
     let mut buffer = Buffer::new();
     out.extend_from_slice(buffer.format(number).as_bytes())
+}
+
+/// Appends the number that bits are read as.
+pub(crate) fn put_reading(out: &mut Vec<u8>, reading: &Reading) -> Result<(), AllocError>
+    ensures { (z : ℤ) → int_lt z (pos 0) ≡ reading.now.negative → unsigned_abs z ≡ reading.now.magnitude → OnOk result (out.new.items ≡ out.old.items ++ signed_decimal z) }
+{
+    print::put_number(out, reading.negative, reading.magnitude)
 }
