@@ -7,6 +7,7 @@ use Rattle.std.proofs.lemmas.Option.{some_pair_parts}
 use Rattle.ir_types.specs.Terms.{AttrTerm, IntegerOf, String, TypeOf, Flag, Array, Dictionary, Symbol, DenseArray, Overflow, AttrTerms, no_attrs, next_attr, EntryTerms, no_entries, next_entry}
 use Rattle.ir_types.specs.Depths.{attr_depth, attrs_depth, entries_depth}
 use Rattle.ir_types.specs.Ranges.{is_value_number}
+use Rattle.ir_types.specs.Readings.{is_bits_of}
 use Rattle.ir_types.specs.Reasons.{attr_fault}
 use Rattle.ir_tree.specs.Meaning.{key_before, rises}
 use Rattle.ir_text_base.specs.declared.token.Mark.{Mark}
@@ -111,7 +112,7 @@ abbrev pub FitsEntry : ℕ → List EntryTerm → EntryTerm → Type 0
 FitsEntry depth before e = (has_key e.0 before ≡ false) × AreBytes e.0 × FitsAttr depth e.1
 
 some_attr_depth : (a : AttrTerm) → is_written a ≡ true → 1 ≤ attr_depth a
-some_attr_depth (IntegerOf ty z) e = omega arith
+some_attr_depth (IntegerOf ty bits) e = omega arith
 some_attr_depth (String v) e = omega arith
 some_attr_depth (TypeOf ty) e = some_depth ty e
 some_attr_depth Flag e = omega arith
@@ -190,7 +191,7 @@ module _ (depth : ℕ) (item : IsReadAgain depth) where
 pub attr_again : (depth : ℕ) → depth ≤ 32 → IsReadAgain depth
 unfolding IsAttr
 attr_again zero small a rest fit s = absurd (omega (arith, some_attr_depth a fit.1, fit.0))
-attr_again (suc depth) small (IntegerOf ty z) rest fit s = let p = both (is_written_type ty) (is_value_number ty z) fit.1 in integer_read depth ty z rest p.0 p.1 (ends_word rest s.0)
+attr_again (suc depth) small (IntegerOf ty bits) rest fit s = let p = both (is_written_type ty) (is_bits_of ty bits) fit.1 in integer_read depth ty bits rest p.0 p.1 (ends_word rest s.0)
 attr_again (suc depth) small (String v) rest fit s = string_read depth v rest (are_bytes v fit.1)
 attr_again (suc depth) small (TypeOf ty) rest fit s = type_read depth ty rest small fit.0 fit.1 (ends_word rest s.0)
 attr_again (suc depth) small Flag rest fit s = unit_read depth rest (ends_word rest s.0)

@@ -1,6 +1,8 @@
 -- Dense arrays that are printed are read again.
-use Rattle.std.proofs.Common.{◌≡◌, ℕ, suc, ◌≤◌, ℤ, pos, negsuc, Bool, true, false, List, [], ◌∷◌, ◌++◌, map, length, Some, None, refl, sym, ap, subst, ◌∙◌, append_assoc, inl, inr}
-use Rattle.std.specs.Prelude.{◌⊎◌, ◌||◌, ◌==◌, codes, nat_le}
+use Rattle.std.proofs.Common.{◌≡◌, ℕ, zero, suc, ◌≤◌, ℤ, pos, negsuc, Bool, true, false, List, [], ◌∷◌, ◌++◌, map, length, Some, None, refl, sym, ap, subst, ◌∙◌, append_assoc, inl, inr, arith}
+use Rattle.std.specs.Prelude.{◌⊎◌, ◌||◌, ◌==◌, codes, nat_le, nat_lt}
+use Rattle.std.proofs.lemmas.Bool.Decides.{nat_tests}
+use Rattle.ir_types.specs.Readings.{signed_of}
 use Rattle.std.specs.List.{list_all}
 use Rattle.std.specs.Fmt.{decimal, digits}
 use Rattle.std.proofs.lemmas.Bool.{eqb-true}
@@ -27,8 +29,8 @@ use Rattle.ir_text_round.specs.WrittenAttributes.{is_element}
 use Rattle.ir_text_round.proofs.Small.{both, in_range, lacks_token}
 use Rattle.ir_text_round.proofs.Ahead.{Ahead, Lacks, more_ahead, space}
 use Rattle.ir_text_round.proofs.Rows.{AllFit, Items, more_again}
-use Rattle.ir_text_round.proofs.Values.{IsPlain, plain, minus, limit}
-use Rattle.ir_text_round.proofs.Leaves.{Begins, truth_sign}
+use Rattle.ir_text_round.proofs.Values.{IsPlain, plain, limit, no_less}
+use Rattle.ir_text_round.proofs.Leaves.{Begins}
 
 -- ---- items
 
@@ -47,12 +49,25 @@ EndsItem rest = Stops is_word rest × Stops extends_integer rest
 
 number_item : (elem : TypeTerm) (z : ℤ) (rest : List ℕ) → IsPlain elem z → Stops extends_integer rest → IsItem elem z (number_text false z ++ rest) rest
 unfolding number_text
-number_item elem (pos n) rest p s = inr (inl (decimal n, decimal_token n rest p.small s, (n, rw (integer_again n p.small) (limit n p.small), p.literal, sym p.value)))
+number_item elem (pos n) rest p s = inr (inl (decimal n, decimal_token n rest p.small s, (n, rw (integer_again n p.small) (limit n p.small), p.bits, rw (no_less n) at p.literal, sym p.reading)))
 number_item elem (negsuc n) rest p s =
-    inr (inr (decimal (suc n), decimal (suc n) ++ rest, minus_token (suc n) rest p.small, decimal_token (suc n) rest p.small s, (suc n, rw (integer_again (suc n) p.small) (limit (suc n) p.small), rw (minus n) p.literal, rw (minus n) (sym p.value))))
+    inr (inr (decimal (suc n), decimal (suc n) ++ rest, minus_token (suc n) rest p.small, decimal_token (suc n) rest p.small s, (suc n, rw (integer_again (suc n) p.small) (limit (suc n) p.small), p.bits, p.literal, sym p.reading)))
+
+-- the values of one bit
+truth_sign : (z : ℤ) → is_value_number (Integer Signless 1) z ≡ true → (z ≡ pos 0) ⊎ (z ≡ negsuc 0)
+truth_sign (pos zero) v = inl refl
+truth_sign (pos (suc n)) v = absurd (large n (rw (no_less (suc n)) at v))
+  where
+    large : (n : ℕ) → nat_lt (suc n) 1 ≡ true → ⊥
+    large n e = grind (arith, nat_tests)
+truth_sign (negsuc zero) v = inr refl
+truth_sign (negsuc (suc n)) v = absurd (large n v)
+  where
+    large : (n : ℕ) → nat_le (suc (suc n)) 1 ≡ true → ⊥
+    large n e = grind (arith, nat_tests)
 
 truth_item : (z : ℤ) (rest : List ℕ) → is_value_number (Integer Signless 1) z ≡ true → Stops is_word rest → IsItem (Integer Signless 1) z (number_text true z ++ rest) rest
-unfolding number_text
+unfolding number_text signed_of
 truth_item z rest v s = from (truth_sign z v)
   where
     from : (z ≡ pos 0) ⊎ (z ≡ negsuc 0) → IsItem (Integer Signless 1) z (number_text true z ++ rest) rest

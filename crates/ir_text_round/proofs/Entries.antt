@@ -65,7 +65,7 @@ texts_of_entries (next_entry key a es) = ap (λ (l : List (List ℕ)). entry_tex
 
 flag_is : (a : AttrTerm) → is_flag a ≡ true → a ≡ Flag
 flag_is Flag e = refl
-flag_is (IntegerOf ty z) e = absurd cc
+flag_is (IntegerOf ty bits) e = absurd cc
 flag_is (String v) e = absurd cc
 flag_is (TypeOf ty) e = absurd cc
 flag_is (Array items) e = absurd cc

@@ -8,7 +8,7 @@ use Rattle.std.proofs.lemmas.Bool.Decides.{nat_tests}
 use Rattle.ir_types.specs.declared.node.Sign.TheVariants.{Signless, Signed, Unsigned}
 use Rattle.ir_types.specs.Terms.{TypeTerm, Integer, Index, Function, Memref, AttrTerm, IntegerOf, String, TypeOf, Flag, Overflow}
 use Rattle.ir_types.specs.Depths.{type_depth}
-use Rattle.ir_types.specs.Ranges.{is_value_number}
+use Rattle.ir_types.specs.Readings.{is_bits_of, literal_bits, reading_of, signed_of}
 use Rattle.ir_types.specs.Reasons.{attr_fault}
 use Rattle.ir_text_base.specs.declared.token.Mark.TheVariants.{OpenRound, Less, Greater, Comma, Colon, Minus}
 use Rattle.ir_text_base.specs.Bytes.{is_word}
@@ -21,7 +21,7 @@ use Rattle.ir_text.specs.TypeText.{type_text}
 use Rattle.ir_text.specs.AttrText.{is_truth, number_text, integer_text, flags_text, attr_text}
 use Rattle.ir_text_type_base.specs.Grammars.{Token}
 use Rattle.ir_text_type_base.specs.TypeGrammar.{IsType}
-use Rattle.ir_text_attr_base.specs.Literals.{TypeWord, word_of, true_word, false_word, unit_word, none_word, overflow_word, signed_number}
+use Rattle.ir_text_attr_base.specs.Literals.{TypeWord, word_of, true_word, false_word, unit_word, none_word, overflow_word}
 use Rattle.ir_text_attr_base.specs.AttrGrammar.{IsSuffix, IsLiteral, IsFlags, IsWordAttr, IsAttrFrom, IsAttr}
 use Rattle.ir_text_attr_base.specs.declared.flag.Flag as code
 use Rattle.ir_text_attr_base.specs.declared.flag.Flag.TheVariants.{NoSignedWrap, NoUnsignedWrap}
@@ -36,7 +36,7 @@ use Rattle.ir_text_round.specs.Written.{is_written_type}
 use Rattle.ir_text_round.proofs.Small.{lacks_token}
 use Rattle.ir_text_round.proofs.Ahead.{space, space_token}
 use Rattle.ir_text_round.proofs.Types.{type_ahead, type_again}
-use Rattle.ir_text_round.proofs.Values.{plain, minus, limit, fine, no_less}
+use Rattle.ir_text_round.proofs.Values.{IsRead, read_again, limit, fine, no_less}
 
 -- what an attribute is, by its first token
 abbrev pub Begins : ℕ → AttrTerm → (old new : List ℕ) → Type 0
@@ -44,60 +44,54 @@ Begins depth y old new = (t : Lexeme) × (rest : List ℕ) × Token t old rest �
 
 -- ---- integers
 
-value_depth : (ty : TypeTerm) (z : ℤ) → is_value_number ty z ≡ true → type_depth ty ≤ 32
-value_depth (Integer sign w) z v = omega arith
-value_depth Index z v = omega arith
-value_depth (Function ins outs) z v = absurd cc
-value_depth (Memref dims elem) z v = absurd cc
+value_depth : (ty : TypeTerm) (bits : ℕ) → is_bits_of ty bits ≡ true → type_depth ty ≤ 32
+value_depth (Integer sign w) bits v = omega arith
+value_depth Index bits v = omega arith
+value_depth (Function ins outs) bits v = absurd cc
+value_depth (Memref dims elem) bits v = absurd cc
 
 -- behind the digits: the type
-suffix_again : (ty : TypeTerm) (z : ℤ) (rest : List ℕ) → is_written_type ty ≡ true → is_value_number ty z ≡ true → Stops is_word rest → IsSuffix ty (32 ∷ 58 ∷ 32 ∷ (type_text ty ++ rest)) rest
-suffix_again ty z rest t v s =
-    let read = type_again 32 (omega arith) ty rest (value_depth ty z v) t s in
+suffix_again : (ty : TypeTerm) (bits : ℕ) (rest : List ℕ) → is_written_type ty ≡ true → is_bits_of ty bits ≡ true → Stops is_word rest → IsSuffix ty (32 ∷ 58 ∷ 32 ∷ (type_text ty ++ rest)) rest
+suffix_again ty bits rest t v s =
+    let read = type_again 32 (omega arith) ty rest (value_depth ty bits v) t s in
     inl (32 ∷ (type_text ty ++ rest), space_token (mark Colon) (58 ∷ 32 ∷ (type_text ty ++ rest)) (32 ∷ (type_text ty ++ rest)) (mark_token Colon (32 ∷ (type_text ty ++ rest)) refl), space (IsType 32) (type_ahead 32) ty (type_text ty ++ rest) rest read)
 
-literal_again : (negative : Bool) (n : ℕ) (ty : TypeTerm) (z : ℤ) (rest : List ℕ) → signed_number negative n ≡ z → n < 2 ^ 128 → is_written_type ty ≡ true → is_value_number ty z ≡ true → Stops is_word rest
-    → IsLiteral negative (decimal n) (IntegerOf ty z) (32 ∷ 58 ∷ 32 ∷ (type_text ty ++ rest)) rest
-literal_again negative n ty z rest e lt t v s =
-    let p = plain ty z t v in
-    (n, rw (integer_again n lt) (limit n lt), (ty, rest, suffix_again ty z rest t v s, rw (e, p.literal, p.value) (refl, (fine ty z v, refl, refl))))
+literal_again : (negative : Bool) (n : ℕ) (ty : TypeTerm) (bits : ℕ) (rest : List ℕ) → literal_bits ty negative n ≡ Some bits → n < 2 ^ 128 → is_written_type ty ≡ true → is_bits_of ty bits ≡ true → Stops is_word rest
+    → IsLiteral negative (decimal n) (IntegerOf ty bits) (32 ∷ 58 ∷ 32 ∷ (type_text ty ++ rest)) rest
+literal_again negative n ty bits rest e lt t v s =
+    (n, rw (integer_again n lt) (limit n lt), (ty, rest, suffix_again ty bits rest t v s, (bits, e, (fine ty bits v, refl, refl))))
 
 -- a number with its type
-number_again : (depth : ℕ) (ty : TypeTerm) (z : ℤ) (rest : List ℕ) → is_written_type ty ≡ true → is_value_number ty z ≡ true → Stops is_word rest → Begins depth (IntegerOf ty z) (signed_decimal z ++ (32 ∷ 58 ∷ 32 ∷ (type_text ty ++ rest))) rest
-number_again depth ty (pos n) rest t v s =
+number_again : (depth : ℕ) (ty : TypeTerm) (bits : ℕ) (z : ℤ) (rest : List ℕ) → IsRead ty bits z → is_written_type ty ≡ true → is_bits_of ty bits ≡ true → Stops is_word rest
+    → Begins depth (IntegerOf ty bits) (signed_decimal z ++ (32 ∷ 58 ∷ 32 ∷ (type_text ty ++ rest))) rest
+number_again depth ty bits (pos n) rest p t v s =
     let back = 32 ∷ 58 ∷ 32 ∷ (type_text ty ++ rest) in
-    let p = plain ty (pos n) t v in
-    (integer (decimal n), back, decimal_token n back p.small refl, literal_again false n ty (pos n) rest refl p.small t v s)
-number_again depth ty (negsuc n) rest t v s =
+    (integer (decimal n), back, decimal_token n back p.small refl, literal_again false n ty bits rest (rw (no_less n) at p.literal) p.small t v s)
+number_again depth ty bits (negsuc n) rest p t v s =
     let back = 32 ∷ 58 ∷ 32 ∷ (type_text ty ++ rest) in
-    let p = plain ty (negsuc n) t v in
-    (mark Minus, decimal (suc n) ++ back, minus_token (suc n) back p.small, (decimal (suc n), back, decimal_token (suc n) back p.small refl, literal_again true (suc n) ty (negsuc n) rest (minus n) p.small t v s))
+    (mark Minus, decimal (suc n) ++ back, minus_token (suc n) back p.small, (decimal (suc n), back, decimal_token (suc n) back p.small refl, literal_again true (suc n) ty bits rest p.literal p.small t v s))
 
--- the values of one bit
-pub truth_sign : (z : ℤ) → is_value_number (Integer Signless 1) z ≡ true → (z ≡ pos 0) ⊎ (z ≡ negsuc 0)
-truth_sign (pos zero) v = inl refl
-truth_sign (pos (suc n)) v = absurd (large n (rw (no_less (suc n)) at v))
+-- the bits of one bit
+one_bit : (bits : ℕ) → is_bits_of (Integer Signless 1) bits ≡ true → (bits ≡ 0) ⊎ (bits ≡ 1)
+one_bit zero v = inl refl
+one_bit (suc zero) v = inr refl
+one_bit (suc (suc n)) v = absurd (large n v)
   where
-    large : (n : ℕ) → nat_lt (suc n) 1 ≡ true → ⊥
-    large n e = grind (arith, nat_tests)
-truth_sign (negsuc zero) v = inr refl
-truth_sign (negsuc (suc n)) v = absurd (large n v)
-  where
-    large : (n : ℕ) → nat_le (suc (suc n)) 1 ≡ true → ⊥
+    large : (n : ℕ) → nat_lt (suc (suc n)) 2 ≡ true → ⊥
     large n e = grind (arith, nat_tests)
 
 -- a truth value
-truth_again : (depth : ℕ) (z : ℤ) (rest : List ℕ) → is_value_number (Integer Signless 1) z ≡ true → Stops is_word rest → Begins depth (IntegerOf (Integer Signless 1) z) (number_text true z ++ rest) rest
-unfolding number_text
-truth_again depth z rest v s = from (truth_sign z v)
+truth_again : (depth bits : ℕ) (rest : List ℕ) → is_bits_of (Integer Signless 1) bits ≡ true → Stops is_word rest → Begins depth (IntegerOf (Integer Signless 1) bits) (number_text true (reading_of (Integer Signless 1) bits) ++ rest) rest
+unfolding number_text signed_of
+truth_again depth bits rest v s = from (one_bit bits v)
   where
-    from : (z ≡ pos 0) ⊎ (z ≡ negsuc 0) → Begins depth (IntegerOf (Integer Signless 1) z) (number_text true z ++ rest) rest
+    from : (bits ≡ 0) ⊎ (bits ≡ 1) → Begins depth (IntegerOf (Integer Signless 1) bits) (number_text true (reading_of (Integer Signless 1) bits) ++ rest) rest
     from (inl e) = rw e (bare false_word, rest, bare_token false_word rest refl s, (refl, refl, refl))
     from (inr e) = rw e (bare true_word, rest, bare_token true_word rest refl s, (refl, refl, refl))
 
-pub integer_read : (depth : ℕ) (ty : TypeTerm) (z : ℤ) (rest : List ℕ) → is_written_type ty ≡ true → is_value_number ty z ≡ true → Stops is_word rest → Begins depth (IntegerOf ty z) (integer_text ty z ++ rest) rest
+pub integer_read : (depth : ℕ) (ty : TypeTerm) (bits : ℕ) (rest : List ℕ) → is_written_type ty ≡ true → is_bits_of ty bits ≡ true → Stops is_word rest → Begins depth (IntegerOf ty bits) (integer_text ty (reading_of ty bits) ++ rest) rest
 unfolding number_text
-integer_read depth ty z rest t v s = from (is_truth ty) refl
+integer_read depth ty bits rest t v s = from (is_truth ty) refl
   where
     is_one : (ty : TypeTerm) → is_truth ty ≡ true → ty ≡ Integer Signless 1
     is_one (Integer Signless w) e = ap (Integer Signless) (eqb-true w 1 e)
@@ -107,12 +101,12 @@ integer_read depth ty z rest t v s = from (is_truth ty) refl
     is_one (Function ins outs) e = absurd cc
     is_one (Memref dims elem) e = absurd cc
 
-    apart : is_truth ty ≡ false → integer_text ty z ++ rest ≡ signed_decimal z ++ (32 ∷ 58 ∷ 32 ∷ (type_text ty ++ rest))
-    apart e = rw e (append_assoc (signed_decimal z) (codes " : " ++ type_text ty) rest)
+    apart : (z : ℤ) → is_truth ty ≡ false → integer_text ty z ++ rest ≡ signed_decimal z ++ (32 ∷ 58 ∷ 32 ∷ (type_text ty ++ rest))
+    apart z e = rw e (append_assoc (signed_decimal z) (codes " : " ++ type_text ty) rest)
 
-    from : (b : Bool) → is_truth ty ≡ b → Begins depth (IntegerOf ty z) (integer_text ty z ++ rest) rest
-    from true e = subst (λ u. is_value_number u z ≡ true → Begins depth (IntegerOf u z) (integer_text u z ++ rest) rest) (sym (is_one ty e)) (λ w. truth_again depth z rest w s) v
-    from false e = rw (apart e) (number_again depth ty z rest t v s)
+    from : (b : Bool) → is_truth ty ≡ b → Begins depth (IntegerOf ty bits) (integer_text ty (reading_of ty bits) ++ rest) rest
+    from true e = subst (λ u. is_bits_of u bits ≡ true → Begins depth (IntegerOf u bits) (integer_text u (reading_of u bits) ++ rest) rest) (sym (is_one ty e)) (λ w. truth_again depth bits rest w s) v
+    from false e = rw (apart (reading_of ty bits) e) (number_again depth ty bits (reading_of ty bits) rest (read_again ty bits t v) t v s)
 
 -- ---- strings, unit and types
 

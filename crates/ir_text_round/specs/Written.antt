@@ -11,7 +11,7 @@ abbrev pub types_list : TypeTerms → List TypeTerm
 types_list no_types = []
 types_list (next_type t ts) = t ∷ types_list ts
 
--- integer types have 1 to 64 bits; a memref has at most 16,777,216 dimensions, each at most 2^63 - 1, and an
+-- integer types have 1 to 128 bits; a memref has at most 16,777,216 dimensions, each at most 2^63 - 1, and an
 -- integer or index element; a function type has at most 16,777,216 inputs and as many outputs, which are such
 -- types
 abbrev mutual

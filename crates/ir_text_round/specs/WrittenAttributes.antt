@@ -6,6 +6,7 @@ use Rattle.ir_types.specs.declared.node.Sign.TheVariants.{Signless}
 use Rattle.ir_types.specs.Terms.{TypeTerm, Integer, AttrTerm, IntegerOf, String, TypeOf, Flag, Array, Dictionary, Symbol, DenseArray, Overflow, AttrTerms, no_attrs, next_attr, EntryTerms, no_entries, next_entry}
 use Rattle.ir_types.specs.Depths.{attr_depth}
 use Rattle.ir_types.specs.Ranges.{is_value_number}
+use Rattle.ir_types.specs.Readings.{is_bits_of}
 use Rattle.ir_types.specs.Words.{is_inherent}
 use Rattle.ir_tree.specs.Meaning.{key_before, rises}
 use Rattle.ir_text_base.specs.declared.token.Mark.TheVariants.{DoubleColon}
@@ -38,12 +39,12 @@ abbrev pub is_element : TypeTerm → Bool
 is_element (Integer Signless w) = (((w == 1 || w == 8) || w == 16) || w == 32) || w == 64
 is_element _ = false
 
--- an integer is a value of its type; names are of bytes; an array has at most 16,777,216 items; a dictionary
+-- an integer is the bits of one of its type; names are of bytes; an array has at most 16,777,216 items; a dictionary
 -- has at most 256 entries, in the order of their keys, each key once; the items of a dense array are values of
 -- their type
 abbrev mutual
   pub is_written : AttrTerm → Bool
-  is_written (IntegerOf ty z) = is_written_type ty && is_value_number ty z
+  is_written (IntegerOf ty bits) = is_written_type ty && is_bits_of ty bits
   is_written (String v) = are_bytes v
   is_written (TypeOf ty) = is_written_type ty
   is_written Flag = true
