@@ -3,7 +3,9 @@ pub mod Checked
 pub mod Counted
 pub mod Counts
 pub mod Distinct
+pub mod Edited
 pub mod Faults
+pub mod Firsts
 pub mod Gained
 pub mod Heads
 pub mod Left
@@ -16,4 +18,5 @@ pub mod Replaced
 pub mod Returns
 pub mod SeenSites
 pub mod SoundEdits
+pub mod Steps
 pub mod Tallies

@@ -1,5 +1,5 @@
 -- What is done to each tree of a list, in the tree that the list makes.
-use Rattle.std.proofs.Common.{◌≡◌, ap, refl, sym, ◌∙◌, ◌++◌, append-nil, ℕ, ◌+◌, suc, List, [], ◌∷◌, length, map, arith}
+use Rattle.std.proofs.Common.{◌≡◌, ap, refl, sym, ◌∙◌, ◌++◌, ℕ, ◌+◌, suc, List, [], ◌∷◌, length, map, arith}
 use Rattle.std.proofs.Common.{eqb, not, true, false, cond, filter, get_or, insert, zero, ◌<◌, Some, None}
 use Rattle.std.proofs.Common.{Bool}
 use Rattle.std.proofs.lemmas.Bool.{ltb-false}
@@ -23,11 +23,11 @@ ops_back no_ops = refl
 ops_back (next o os) = ap (next o) (ops_back os)
 
 -- the regions and operations that a list makes, where it is the list of these
-pub regions_from_list : {N T A : Type 0} (xs : List (RegionOf N T A)) (rs : RegionsOf N T A) → xs ++ [] ≡ region_list rs → regions_of xs ≡ rs
-regions_from_list xs rs e = ap regions_of (sym (append-nil xs) ∙ e) ∙ regions_back rs
+pub regions_from : {N T A : Type 0} (xs : List (RegionOf N T A)) (rs : RegionsOf N T A) → xs ≡ region_list rs → regions_of xs ≡ rs
+regions_from xs rs e = ap regions_of e ∙ regions_back rs
 
-pub ops_from_list : {N T A : Type 0} (xs : List (OpOf N T A)) (os : OpsOf N T A) → xs ++ [] ≡ op_list os → ops_of xs ≡ os
-ops_from_list xs os e = ap ops_of (sym (append-nil xs) ∙ e) ∙ ops_back os
+pub ops_from : {N T A : Type 0} (xs : List (OpOf N T A)) (os : OpsOf N T A) → xs ≡ op_list os → ops_of xs ≡ os
+ops_from xs os e = ap ops_of e ∙ ops_back os
 
 -- edits of a list, in what the list makes
 pub put_last_of : {N T A : Type 0} (o : OpOf N T A) (xs : List (OpOf N T A)) → put_last o (ops_of xs) ≡ ops_of (xs ++ o ∷ [])

@@ -15,5 +15,6 @@ pub mod Frames
 pub mod Maps
 pub mod Edits
 pub mod Places
+pub mod Edited
 pub mod Passing
 pub mod Meaning

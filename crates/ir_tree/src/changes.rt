@@ -1,11 +1,11 @@
 //! The edits of a tree, each as a plain program that builds the tree anew.
-ghost use Rattle.std.specs.Prelude.{◌≡◌, IfOk, map, eqb, position};
+ghost use Rattle.std.specs.Prelude.{◌≡◌, IfOk, OnOk, map, eqb, position};
 ghost use Rattle.ir_tree.specs.Tree.{head, ops_of};
 ghost use Rattle.ir_tree.specs.Edits.{at, put_operand, put_value, put_values, with_operand, with_value_replaced};
 ghost use Rattle.ir_tree.specs.Places.{put_here, put as put_of, put_in, put_before as before_of, drop_op, without as without_of, shifted as shifted_of};
 
 use crate::copy::copy;
-use crate::edits::{HeadEdit, ListEdit, with_heads, with_lists};
+use crate::edits::{HeadEdit, ListEdit, Nothing, edited};
 use crate::find::find;
 use crate::place::Place;
 use crate::tree::TreeOp;
@@ -25,16 +25,16 @@ struct NewOperand {
 impl HeadEdit for NewOperand {
     ghost gives = { λ e. at e.op (put_operand e.place e.value) };
 
-    fn apply(&self, _alloc: Global, op: TreeOp) -> Result<TreeOp, AllocError> {
-        let mut op = op;
+    fn apply(&self, op: &mut TreeOp) -> Result<(), AllocError> {
         if op.id == self.op && self.place < op.operands.len() {
             op.operands[self.place] = self.value;
         }
-        Ok(op)
+        Ok(())
     }
 }
 
 /// The tree with `value` as operand `place` of an operation. Where there is no such operand, the tree as it is.
+#[tactic(auto, using(crate::proofs::Edited::heads_edited))]
 pub fn with_operand_set(
     alloc: Global,
     root: &TreeOp,
@@ -49,7 +49,7 @@ pub fn with_operand_set(
         place,
         value: *value,
     };
-    with_heads(alloc, root, &edit)
+    edited(alloc, root, &edit, &Nothing)
 }
 
 // A value that takes another's place.
@@ -62,28 +62,19 @@ struct Replacement {
 impl HeadEdit for Replacement {
     ghost gives = { λ e. put_values e.old e.new };
 
-    fn apply(&self, alloc: Global, op: TreeOp) -> Result<TreeOp, AllocError> {
-        let operands = replaced_in(alloc, &op.operands, &self.old, &self.new)?;
-        let mut op = op;
-        op.operands = operands;
-        Ok(op)
+    fn apply(&self, op: &mut TreeOp) -> Result<(), AllocError> {
+        replace_in(&mut op.operands, &self.old, &self.new);
+        Ok(())
     }
 }
 
-// Values with one in place of another.
-fn replaced_in(
-    alloc: Global,
-    values: &Vec<Value>,
-    old: &Value,
-    new: &Value,
-) -> Result<Vec<Value>, AllocError>
-    ensures { IfOk result (λ v. v.items ≡ map (put_value old.now new.now) values.now.items) }
+// Puts one value in place of another.
+fn replace_in(values: &mut [Value], old: &Value, new: &Value)
+    ensures { values.new ≡ map (put_value old.now new.now) values.old }
 {
-    let mut replaced = Vec::with_capacity(alloc, values.len())?;
     for value in values {
-        replaced.push(exchanged(value, old, new))?;
+        *value = exchanged(value, old, new);
     }
-    Ok(replaced)
 }
 
 fn exchanged(value: &Value, old: &Value, new: &Value) -> Value
@@ -93,6 +84,7 @@ fn exchanged(value: &Value, old: &Value, new: &Value) -> Value
 }
 
 /// The tree with `new` in place of `old`, wherever that is an operand.
+#[tactic(auto, using(crate::proofs::Edited::heads_edited))]
 pub fn with_replaced(
     alloc: Global,
     root: &TreeOp,
@@ -105,7 +97,7 @@ pub fn with_replaced(
         old: *old,
         new: *new,
     };
-    with_heads(alloc, root, &edit)
+    edited(alloc, root, &edit, &Nothing)
 }
 
 // An operation that is put at a place.
@@ -118,46 +110,36 @@ struct Putting<'a> {
 impl<'a> ListEdit for Putting<'a> {
     ghost gives = { λ e. put_here e.place e.op.now };
 
-    fn apply(
-        &self,
-        _alloc: Global,
-        owner: OpId,
-        region: usize,
-        ops: Vec<TreeOp>,
-    ) -> Result<Vec<TreeOp>, AllocError> {
+    fn apply(&self, owner: OpId, region: usize, ops: &mut Vec<TreeOp>) -> Result<(), AllocError> {
         if owner == self.place.parent && region == self.place.region as usize {
-            put_among(ops, self.place.before, self.op)
-        } else {
-            Ok(ops)
+            put_among(ops, self.place.before, self.op)?;
         }
+        Ok(())
     }
 }
 
-// A list with a copy of an operation before another, or at the end.
+// Puts a copy of an operation before another, or at the end.
 #[tactic(auto, using(crate::proofs::Lists::put_last_of))]
-fn put_among(ops: Vec<TreeOp>, before: Option<OpId>, op: &TreeOp) -> Result<Vec<TreeOp>, AllocError>
-    ensures { IfOk result (λ v. ops_of v.items ≡ put_in before op.now (ops_of ops.items)) }
+fn put_among(ops: &mut Vec<TreeOp>, before: Option<OpId>, op: &TreeOp) -> Result<(), AllocError>
+    ensures { OnOk result (ops_of ops.new.items ≡ put_in before op.now (ops_of ops.old.items)) }
 {
     match before {
         None => {
-            let mut ops = ops;
             ops.push(copy(op)?)?;
-            Ok(ops)
+            Ok(())
         }
         Some(id) => put_before(ops, id, op),
     }
 }
 
-// A list with a copy of an operation before the first with an id, if there is one.
-fn put_before(ops: Vec<TreeOp>, id: OpId, op: &TreeOp) -> Result<Vec<TreeOp>, AllocError>
-    ensures { IfOk result (λ v. ops_of v.items ≡ before_of id op.now (ops_of ops.items)) }
+// Puts a copy of an operation before the first with an id, if there is one.
+fn put_before(ops: &mut Vec<TreeOp>, id: OpId, op: &TreeOp) -> Result<(), AllocError>
+    ensures { OnOk result (ops_of ops.new.items ≡ before_of id op.now (ops_of ops.old.items)) }
 {
-    let mut ops = ops;
-    let Some(index) = index_of(&ops, id) else {
-        return Ok(ops);
-    };
-    ops.insert(index, copy(op)?)?;
-    Ok(ops)
+    if let Some(index) = index_of(ops, id) {
+        ops.insert(index, copy(op)?)?;
+    }
+    Ok(())
 }
 
 fn index_of(ops: &Vec<TreeOp>, id: OpId) -> Option<usize>
@@ -168,11 +150,12 @@ fn index_of(ops: &Vec<TreeOp>, id: OpId) -> Option<usize>
 
 /// The tree with a copy of `op`, and of what is inside it, at a place. Where there is no such place, the
 /// tree as it is.
+#[tactic(auto, using(crate::proofs::Edited::lists_edited))]
 pub fn put(alloc: Global, root: &TreeOp, place: &Place, op: &TreeOp) -> Result<TreeOp, AllocError>
     ensures { IfOk result (λ t. t ≡ put_of place.now op.now root.now) }
 {
     let edit = Putting { place: *place, op };
-    with_lists(alloc, root, &edit)
+    edited(alloc, root, &Nothing, &edit)
 }
 
 // An operation that is taken from its list.
@@ -184,24 +167,18 @@ struct Taking {
 impl ListEdit for Taking {
     ghost gives = { λ e p r os. drop_op e.op os };
 
-    fn apply(
-        &self,
-        _alloc: Global,
-        _owner: OpId,
-        _region: usize,
-        ops: Vec<TreeOp>,
-    ) -> Result<Vec<TreeOp>, AllocError> {
-        let mut ops = ops;
+    fn apply(&self, _owner: OpId, _region: usize, ops: &mut Vec<TreeOp>) -> Result<(), AllocError> {
         ops.retain(|op| op.id != self.op);
-        Ok(ops)
+        Ok(())
     }
 }
 
 /// The tree without an operation and what is inside it. The root stays.
+#[tactic(auto, using(crate::proofs::Edited::lists_edited))]
 pub fn without(alloc: Global, root: &TreeOp, op: OpId) -> Result<TreeOp, AllocError>
     ensures { IfOk result (λ t. t ≡ without_of op root.now) }
 {
-    with_lists(alloc, root, &Taking { op })
+    edited(alloc, root, &Nothing, &Taking { op })
 }
 
 /// The tree with an operation, and what is inside it, at a place in place of where it stood.

@@ -1,12 +1,12 @@
-//! Trees with an edit made: plain programs that build the whole tree anew.
-ghost use Rattle.std.specs.Prelude.{◌≡◌, ℕ, IfOk, map};
-ghost use Rattle.ir_tree.specs.Tree.{Head, Ops, op, head, regions_of, ops_of};
-ghost use Rattle.ir_tree.specs.Edits.{with_head, each_head, regions_each_head, region_each_head};
-ghost use Rattle.ir_tree.specs.Places.{each_list, regions_each_list, region_each_list};
+//! Trees with an edit made: a plain program that builds the whole tree anew.
+ghost use Rattle.std.specs.Prelude.{◌≡◌, ℕ, IfOk, OnOk, map};
+ghost use Rattle.ir_tree.specs.Tree.{Head, Ops, op, block, head, regions_of, ops_of};
+ghost use Rattle.ir_tree.specs.Edits.{with_head};
+ghost use Rattle.ir_tree.specs.Edited.{edited as edited_by, regions_edited, region_edited};
 ghost use Rattle.ir_tree.specs.View.{region_view};
 
 use crate::tree::{TreeOp, TreeRegion};
-use ir_types::ids::OpId;
+use ir_types::ids::{OpId, TypeId};
 use std::alloc::{AllocError, Global};
 
 /// An edit of what an operation has beside its regions.
@@ -15,56 +15,111 @@ pub trait HeadEdit {
     ghost gives: { Self → Head → Head };
 
     /// Makes the edit at one operation.
-    fn apply(&self, alloc: Global, op: TreeOp) -> Result<TreeOp, AllocError>
-        ensures { IfOk result (λ t. t ≡ with_head (gives self.now) op) };
+    fn apply(&self, op: &mut TreeOp) -> Result<(), AllocError>
+        ensures { OnOk result (op.new ≡ with_head (gives self.now) op.old) };
 }
 
-/// A tree with an edit made at each operation.
-#[cycle(heads)]
-pub fn with_heads<E: HeadEdit>(alloc: Global, root: &TreeOp, edit: &E) -> Result<TreeOp, AllocError>
-    ensures { IfOk result (λ t. t ≡ each_head (E.gives edit.now) root.now) }
-{
-    let regions = regions_with_heads(alloc, &root.regions, edit)?;
-    let copy = with_regions(alloc, root, regions)?;
-    edit.apply(alloc, copy)
+/// An edit of the list of operations of a block.
+pub trait ListEdit {
+    /// What it makes of the list, by the operation that has the block and the number of its region.
+    ghost gives: { Self → ℕ → ℕ → Ops → Ops };
+
+    /// Makes the edit at one list.
+    fn apply(&self, owner: OpId, region: usize, ops: &mut Vec<TreeOp>) -> Result<(), AllocError>
+        ensures { OnOk result (ops_of ops.new.items ≡ gives self.now owner region (ops_of ops.old.items)) };
 }
 
-#[cycle(heads)]
-fn regions_with_heads<E: HeadEdit>(
+/// The edit that leaves all as it is.
+#[derive(Drop)]
+pub struct Nothing;
+
+impl HeadEdit for Nothing {
+    ghost gives = { λ _ h. h };
+
+    fn apply(&self, _op: &mut TreeOp) -> Result<(), AllocError> {
+        Ok(())
+    }
+}
+
+impl ListEdit for Nothing {
+    ghost gives = { λ _ p r os. os };
+
+    fn apply(
+        &self,
+        _owner: OpId,
+        _region: usize,
+        _ops: &mut Vec<TreeOp>,
+    ) -> Result<(), AllocError> {
+        Ok(())
+    }
+}
+
+/// A tree with the edits made at each operation and at each list, those inside first.
+#[cycle(edit)]
+pub fn edited<H: HeadEdit, L: ListEdit>(
     alloc: Global,
+    root: &TreeOp,
+    heads: &H,
+    lists: &L,
+) -> Result<TreeOp, AllocError>
+    ensures { IfOk result (λ t. t ≡ edited_by (H.gives heads.now) (L.gives lists.now) root.now) }
+{
+    let regions = edited_regions(alloc, root.id, &root.regions, heads, lists)?;
+    op_of(alloc, root, regions, heads)
+}
+
+#[cycle(edit)]
+fn edited_regions<H: HeadEdit, L: ListEdit>(
+    alloc: Global,
+    owner: OpId,
     regions: &Vec<TreeRegion>,
-    edit: &E,
+    heads: &H,
+    lists: &L,
 ) -> Result<Vec<TreeRegion>, AllocError>
-    ensures { IfOk result (λ v. regions_of (map region_view v.items) ≡ regions_each_head (E.gives edit.now) (regions_of (map region_view regions.now.items))) }
+    ensures { IfOk result (λ v. regions_of (map region_view v.items) ≡ regions_edited (H.gives heads.now) (L.gives lists.now) owner 0 (regions_of (map region_view regions.now.items))) }
 {
     let mut copies = Vec::with_capacity(alloc, regions.len())?;
-    for region in regions {
-        copies.push(region_with_heads(alloc, region, edit)?)?;
+    for (number, region) in regions.iter().enumerate() {
+        copies.push(edited_region(alloc, owner, number, region, heads, lists)?)?;
     }
     Ok(copies)
 }
 
-#[cycle(heads)]
-fn region_with_heads<E: HeadEdit>(
+#[cycle(edit)]
+fn edited_region<H: HeadEdit, L: ListEdit>(
     alloc: Global,
+    owner: OpId,
+    number: usize,
     region: &TreeRegion,
-    edit: &E,
+    heads: &H,
+    lists: &L,
 ) -> Result<TreeRegion, AllocError>
-    ensures { IfOk result (λ r. region_view r ≡ region_each_head (E.gives edit.now) (region_view region.now)) }
+    ensures { IfOk result (λ r. region_view r ≡ region_edited (H.gives heads.now) (L.gives lists.now) owner number (region_view region.now)) }
 {
     match region {
         TreeRegion::Empty => Ok(TreeRegion::Empty),
         TreeRegion::Block { args, ops } => {
             let mut copies = Vec::with_capacity(alloc, ops.len())?;
             for op in ops {
-                copies.push(with_heads(alloc, op, edit)?)?;
+                copies.push(edited(alloc, op, heads, lists)?)?;
             }
-            Ok(TreeRegion::Block {
-                args: Vec::from_slice(alloc, args)?,
-                ops: copies,
-            })
+            block_of(alloc, owner, number, args, copies, lists)
         }
     }
+}
+
+// An operation with these regions and a copy of its head, edited.
+fn op_of<H: HeadEdit>(
+    alloc: Global,
+    root: &TreeOp,
+    regions: Vec<TreeRegion>,
+    heads: &H,
+) -> Result<TreeOp, AllocError>
+    ensures { IfOk result (λ t. t ≡ op (H.gives heads.now (head root.now)) (regions_of (map region_view regions.items))) }
+{
+    let mut copy = with_regions(alloc, root, regions)?;
+    heads.apply(&mut copy)?;
+    Ok(copy)
 }
 
 // A copy of an operation's own head, with these regions.
@@ -86,69 +141,21 @@ fn with_regions(
     })
 }
 
-/// An edit of the list of operations of a block.
-pub trait ListEdit {
-    /// What it makes of the list, by the operation that has the block and the number of its region.
-    ghost gives: { Self → ℕ → ℕ → Ops → Ops };
-
-    /// Makes the edit at one list.
-    fn apply(
-        &self,
-        alloc: Global,
-        owner: OpId,
-        region: usize,
-        ops: Vec<TreeOp>,
-    ) -> Result<Vec<TreeOp>, AllocError>
-        ensures { IfOk result (λ v. ops_of v.items ≡ gives self.now owner region (ops_of ops.items)) };
-}
-
-/// A tree with an edit made at each list of operations, the inner ones first.
-#[cycle(lists)]
-pub fn with_lists<E: ListEdit>(alloc: Global, root: &TreeOp, edit: &E) -> Result<TreeOp, AllocError>
-    ensures { IfOk result (λ t. t ≡ each_list (E.gives edit.now) root.now) }
-{
-    let regions = regions_with_lists(alloc, root.id, &root.regions, edit)?;
-    with_regions(alloc, root, regions)
-}
-
-#[cycle(lists)]
-fn regions_with_lists<E: ListEdit>(
-    alloc: Global,
-    owner: OpId,
-    regions: &Vec<TreeRegion>,
-    edit: &E,
-) -> Result<Vec<TreeRegion>, AllocError>
-    ensures { IfOk result (λ v. regions_of (map region_view v.items) ≡ regions_each_list (E.gives edit.now) owner 0 (regions_of (map region_view regions.now.items))) }
-{
-    let mut copies = Vec::with_capacity(alloc, regions.len())?;
-    for (number, region) in regions.iter().enumerate() {
-        copies.push(region_with_lists(alloc, owner, number, region, edit)?)?;
-    }
-    Ok(copies)
-}
-
-#[cycle(lists)]
-fn region_with_lists<E: ListEdit>(
+// A block with these operations, edited, and a copy of its arguments.
+fn block_of<L: ListEdit>(
     alloc: Global,
     owner: OpId,
     number: usize,
-    region: &TreeRegion,
-    edit: &E,
+    args: &Vec<TypeId>,
+    ops: Vec<TreeOp>,
+    lists: &L,
 ) -> Result<TreeRegion, AllocError>
-    ensures { IfOk result (λ r. region_view r ≡ region_each_list (E.gives edit.now) owner number (region_view region.now)) }
+    ensures { IfOk result (λ r. region_view r ≡ block args.now.items (L.gives lists.now owner number (ops_of ops.items))) }
 {
-    match region {
-        TreeRegion::Empty => Ok(TreeRegion::Empty),
-        TreeRegion::Block { args, ops } => {
-            let mut copies = Vec::with_capacity(alloc, ops.len())?;
-            for op in ops {
-                copies.push(with_lists(alloc, op, edit)?)?;
-            }
-            let ops = edit.apply(alloc, owner, number, copies)?;
-            Ok(TreeRegion::Block {
-                args: Vec::from_slice(alloc, args)?,
-                ops,
-            })
-        }
-    }
+    let mut ops = ops;
+    lists.apply(owner, number, &mut ops)?;
+    Ok(TreeRegion::Block {
+        args: Vec::from_slice(alloc, args)?,
+        ops,
+    })
 }

@@ -1,9 +1,9 @@
 //! Entries of dictionaries, set and removed.
-ghost use Rattle.std.specs.Prelude.{◌≡◌, IfOk};
+ghost use Rattle.std.specs.Prelude.{◌≡◌, ◌++◌, ◌∷◌, IfOk, OnOk};
 ghost use Rattle.ir_tree.specs.Edits.{put_entry, drop_entry, change_entry, change_part, at, with_entry};
 ghost use Rattle.ir_tree.specs.Meaning.{key_before_in};
 
-use crate::edits::{HeadEdit, with_heads};
+use crate::edits::{HeadEdit, Nothing, edited};
 use crate::place::Part;
 use crate::sound::comes_before;
 use crate::tree::TreeOp;
@@ -16,6 +16,7 @@ type Entries = Vec<(NameId, AttrId)>;
 // An entry that is set, or removed.
 #[derive(Drop)]
 struct NewEntry<'a> {
+    alloc: Global,
     ctx: &'a Context,
     op: OpId,
     part: Part,
@@ -26,27 +27,29 @@ struct NewEntry<'a> {
 impl<'a> HeadEdit for NewEntry<'a> {
     ghost gives = { λ e. at e.op (change_part e.part (change_entry (key_before_in e.ctx.now) e.key e.value)) };
 
-    fn apply(&self, alloc: Global, op: TreeOp) -> Result<TreeOp, AllocError> {
-        let mut op = op;
+    fn apply(&self, op: &mut TreeOp) -> Result<(), AllocError> {
         if op.id != self.op {
-            return Ok(op);
+            return Ok(());
         }
         match self.part {
-            Part::Props => {
-                let props = changed(alloc, self.ctx, &op.props, self.key, self.value)?;
-                op.props = props;
-                Ok(op)
-            }
-            Part::Attrs => {
-                let attrs = changed(alloc, self.ctx, &op.attrs, self.key, self.value)?;
-                op.attrs = attrs;
-                Ok(op)
-            }
+            Part::Props => self.change(&mut op.props),
+            Part::Attrs => self.change(&mut op.attrs),
         }
     }
 }
 
+impl<'a> NewEntry<'a> {
+    // Sets the entry in a dictionary, or removes it.
+    fn change(&self, entries: &mut Entries) -> Result<(), AllocError>
+        ensures { OnOk result (entries.new.items ≡ change_entry (key_before_in self.now.ctx.now) self.now.key self.now.value entries.old.items) }
+    {
+        *entries = changed(self.alloc, self.ctx, entries, self.key, self.value)?;
+        Ok(())
+    }
+}
+
 /// The tree with an attribute at a key of one dictionary of an operation, or with no entry there.
+#[tactic(auto, using(crate::proofs::Edited::heads_edited))]
 pub fn with_entry_set(
     alloc: Global,
     ctx: &Context,
@@ -59,13 +62,14 @@ pub fn with_entry_set(
     ensures { IfOk result (λ t. t ≡ with_entry (key_before_in ctx.now) op part key value root.now) }
 {
     let edit = NewEntry {
+        alloc,
         ctx,
         op,
         part,
         key,
         value,
     };
-    with_heads(alloc, root, &edit)
+    edited(alloc, root, &edit, &Nothing)
 }
 
 fn changed(
@@ -97,20 +101,29 @@ fn placed(
     let mut rest = entries;
     while let [entry, tail @ ..] = rest {
         if comes_before(ctx, key, entry.0) {
-            placed.push((key, attr))?;
-            placed.extend_from_slice(rest)?;
-            return Ok(placed);
+            return ended(placed, &(key, attr), rest);
         }
         if !comes_before(ctx, entry.0, key) {
-            placed.push((key, attr))?;
-            placed.extend_from_slice(tail)?;
-            return Ok(placed);
+            return ended(placed, &(key, attr), tail);
         }
         placed.push(*entry)?;
         rest = tail;
     }
-    placed.push((key, attr))?;
-    Ok(placed)
+    ended(placed, &(key, attr), rest)
+}
+
+// Entries with one more, and then others.
+fn ended(
+    entries: Entries,
+    entry: &(NameId, AttrId),
+    rest: &[(NameId, AttrId)],
+) -> Result<Entries, AllocError>
+    ensures { IfOk result (λ v. v.items ≡ entries.items ++ entry.now ∷ rest.now) }
+{
+    let mut entries = entries;
+    entries.push(*entry)?;
+    entries.extend_from_slice(rest)?;
+    Ok(entries)
 }
 
 // Entries without a key.

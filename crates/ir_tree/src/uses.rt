@@ -1,5 +1,5 @@
 //! The uses of a value.
-ghost use Rattle.std.specs.Prelude.{◌≡◌, ◌++◌, IfOk, OnOk};
+ghost use Rattle.std.specs.Prelude.{◌≡◌, ◌++◌, ◌∷◌, [], IfOk, OnOk};
 ghost use Rattle.ir_tree.specs.Uses.{uses_of, region_uses, operand_uses, same_value};
 ghost use Rattle.ir_tree.specs.View.{region_view};
 
@@ -57,9 +57,22 @@ fn push_own_uses(
     ensures { OnOk result (out.new.items ≡ out.old.items ++ operand_uses value.now user 0 operands.now.items) }
 {
     for (number, operand) in operands.iter().enumerate() {
-        if is_same(value, operand) {
-            out.push((user, number))?;
-        }
+        push_use(user, number, operand, value, out)?;
+    }
+    Ok(())
+}
+
+fn push_use(
+    user: OpId,
+    number: usize,
+    operand: &Value,
+    value: &Value,
+    out: &mut Vec<(OpId, usize)>,
+) -> Result<(), AllocError>
+    ensures { OnOk result (out.new.items ≡ out.old.items ++ operand_uses value.now user number (operand.now ∷ [])) }
+{
+    if is_same(value, operand) {
+        out.push((user, number))?;
     }
     Ok(())
 }

@@ -3,7 +3,7 @@ use ir_types::ids::OpId;
 
 /// A value: a result of an operation by its place, or an argument of the block of one of an operation's
 /// regions by the region's number and its place (Language Reference, "Identifiers and keywords", on SSA values).
-#[derive(Clone, Copy, Debug, PartialEq, Eq, PartialOrd, Ord, Hash)]
+#[derive(Clone, Copy, Debug, PartialEq, Eq, Hash)]
 pub enum Value {
     /// The result of an operation at a place.
     Result(OpId, u32),

@@ -6,11 +6,11 @@ use Rattle.ir_tree.proofs.changes.put_before.Goals as goal
 
 pub returns-in_default : goal.returns-in_default
 returns-in_default c =
-    let none : position (λ p. eqb (head p).id c.args.id) c.args.ops.items ≡ None = search rules in
+    let none : position (λ p. eqb (head p).id c.args.id) c.args.ops.now.items ≡ None = search rules in
     sym (put_before_none _ _ _ none)
 
-pub returns : goal.returns
-returns c =
-    let found : position (λ p. eqb (head p).id c.args.id) c.args.ops.items ≡ Some c.in-Some.index = search rules in
-    let new : c.insert.new.self.items ≡ insert c.args.ops.items c.in-Some.index c.args.op.now = search rules in
+pub returns-in_ok-insert : goal.returns-in_ok-insert
+returns-in_ok-insert c =
+    let found : position (λ p. eqb (head p).id c.args.id) c.args.ops.now.items ≡ Some c.in-Some.index = search rules in
+    let new : c.insert.new.self.items ≡ insert c.args.ops.now.items c.in-Some.index c.args.op.now = search rules in
     ap ops_of new ∙ sym (put_before_found _ _ _ _ found)

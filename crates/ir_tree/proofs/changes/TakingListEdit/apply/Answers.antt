@@ -6,5 +6,5 @@ use Rattle.ir_tree.proofs.changes.TakingListEdit.apply.Goals as goal
 
 pub returns : goal.returns
 returns c =
-    let kept : c.retain.new.self.items ≡ filter (λ o. not (eqb (head o).id c.args.self.now.op)) c.args.ops.items = filter_same _ _ _ (λ x b f k. search rules) _ _ c.retain.ensures.filtered in
-    ap ops_of kept ∙ sym (drop_op_of c.args.self.now.op c.args.ops.items)
+    let kept : c.retain.new.self.items ≡ filter (λ o. not (eqb (head o).id c.args.self.now.op)) c.args.ops.now.items = filter_same _ _ _ (λ x b f k. search rules) _ _ c.retain.ensures.filtered in
+    ap ops_of kept ∙ sym (drop_op_of c.args.self.now.op c.args.ops.now.items)

@@ -1,0 +1,24 @@
+use Rattle.std.proofs.Common.{◌≡◌, ◌∙◌, map, ◌+◌, List, drop}
+use Rattle.ir_tree.specs.Tree.{Op, regions_of, ops_of}
+use Rattle.ir_tree.specs.Ids.{find, regions_find, region_find, ops_find}
+use Rattle.ir_tree.specs.View.{region_view}
+use Rattle.ir_tree.specs.declared.tree.TreeRegion.{TreeRegion}
+use Rattle.ir_tree.proofs.Firsts.{first_of_none}
+use Rattle.ir_tree.proofs.Steps.{left_next}
+use Rattle.ir_tree.proofs.find.+find.Goals as goal
+
+pub find-loop-region-preserved : goal.find-loop-region-preserved
+find-loop-region-preserved t c =
+    let xs = c.deref-region-items.result.now in
+    let n = c.loop-region.region-index in
+    let left = λ (xs : List TreeRegion). regions_find c.args.id (regions_of (map region_view xs)) in
+    left_next left left xs n c.region-item.result (left xs) c.loop-region-test.true c.region-item.is
+    (first_of_none c.find_in_region-found.result (λ o. o.now) (region_find c.args.id (region_view c.region-item.result)) (left (drop (n + 1) xs)) c.find_in_region-found.ensures c.if-is_some.ensures) c.loop-region.invariant
+
+pub find_in_region-loop-op-preserved : goal.find_in_region-loop-op-preserved
+find_in_region-loop-op-preserved t c =
+    let xs = c.deref-op-items.result.now in
+    let n = c.loop-op.op-index in
+    let left = λ (xs : List Op). ops_find c.args.id (ops_of xs) in
+    left_next left left xs n c.op-item.result (left xs) c.loop-op-test.true c.op-item.is
+    (first_of_none c.find-found.result (λ o. o.now) (find c.args.id c.op-item.result) (left (drop (n + 1) xs)) c.find-found.ensures c.if-is_some.ensures) c.loop-op.invariant
