@@ -1,0 +1,62 @@
+//! What lines speak of: a context, a tree and a module.
+use crate::build::bare;
+use ir_store::store::Store;
+use ir_tree::tree::TreeOp;
+use ir_types::context::Context;
+use ir_types::node::{AttrNode, Sign, TypeNode};
+use ir_types::refusal::Refusal;
+use std::alloc::Global;
+
+/// A context, a tree, and a module if one was loaded.
+#[derive(Drop)]
+pub struct State {
+    pub context: Context,
+    pub tree: TreeOp,
+    pub store: Option<Store>,
+}
+
+impl State {
+    /// A new context, a bare operation, and no module.
+    pub fn new(alloc: Global) -> Result<State, Refusal> {
+        let context = Context::new(alloc)?;
+        Ok(State {
+            context,
+            tree: bare(alloc, 0),
+            store: None,
+        })
+    }
+
+    /// Takes a tree in place of the one that there was.
+    pub fn take(&mut self, tree: TreeOp) {
+        self.tree = tree;
+    }
+
+    /// Takes a module in place of the one that there was.
+    pub fn hold(&mut self, store: Store) {
+        self.store = Some(store);
+    }
+}
+
+/// Adds the types `i1`, `i2`, .. to a context, so many.
+pub fn add_types(context: &mut Context, count: u32) -> Result<u32, Refusal> {
+    for index in 0..count {
+        let width = index.saturating_add(1);
+        context.ty(TypeNode::Int {
+            sign: Sign::Signless,
+            width,
+        })?;
+    }
+    Ok(count)
+}
+
+/// Adds five attributes to a context.
+pub fn add_attrs(context: &mut Context) -> Result<u32, Refusal> {
+    context.attr(AttrNode::Unit)?;
+    for index in 0..4 {
+        context.attr(AttrNode::Overflow {
+            nsw: index % 2 == 1,
+            nuw: index >= 2,
+        })?;
+    }
+    Ok(5)
+}
