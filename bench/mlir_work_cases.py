@@ -1,0 +1,273 @@
+#!/usr/bin/env python3
+"""Writes stdin and stdout of crates/mlir_work_cases: each case is a line, and its answer worked out here from the
+rules of scripts, inputs and replies by regular expressions and Python's own cuts. Run it at the top of the repository."""
+import itertools
+import pathlib
+import re
+
+cases = []
+seen = set()
+
+
+def case(line, want):
+    if line not in seen:
+        seen.add(line)
+        cases.append((line, want))
+
+
+NAMED = {b"\n": "\\n", b"\t": "\\t", b"\r": "\\r"}
+
+
+def shown(text, plain=b"\\"):
+    """Bytes as they stand in a line."""
+    out = ""
+    for code in text:
+        byte = bytes([code])
+        is_plain = 32 <= code < 127 and (byte != b"\\" or plain)
+        out += NAMED.get(byte) or (byte.decode() if is_plain else f"\\x{code:02x}")
+    return out
+
+
+def given(text):
+    return shown(text, b"")
+
+
+def told(text):
+    return f"[{shown(text)}]"
+
+
+# What a script's words say.
+KINDS = {1: b"uses", 2: b"symbols", 3: b"diagnostics", 4: b"effects", 5: b"dead", 6: b"constants"}
+NUMBERS = {name: number for number, name in KINDS.items()}
+
+
+def kind_word(number):
+    return KINDS.get(number, b"kind%d" % number)
+
+
+def kind_of(word):
+    return {kind_word(number): number for number in range(256)}.get(word)
+
+
+def number_of(word):
+    if re.fullmatch(rb"[0-9]+", word) and int(word) < 2 ** 32:
+        return int(word)
+    return None
+
+
+def numbers_in(pattern, word):
+    found = re.fullmatch(pattern, word)
+    numbers = [number_of(part) for part in found.groups()] if found else [None]
+    return None if None in numbers else numbers
+
+
+def op_of(word):
+    return numbers_in(rb"#([0-9]+)", word)
+
+
+def value_of(word):
+    return numbers_in(rb"%v([0-9]+)\.([0-9]+)", word) or numbers_in(rb"%a([0-9]+)\.([0-9]+)\.([0-9]+)", word)
+
+
+def dotted(numbers):
+    return ".".join(map(str, numbers))
+
+
+def line_says(line):
+    try:
+        line.decode()
+    except UnicodeDecodeError:
+        return "bad"
+    text = line.strip(b" \t\r")
+    if not text or text.startswith(b"//"):
+        return "nothing"
+    words = re.split(rb"[ \t]+", text)
+    if words == [b"print"]:
+        return "print"
+    if len(words) == 2 and words[0] == b"report" and kind_of(words[1]) is not None:
+        return f"report {kind_of(words[1])}"
+    if len(words) == 4 and words[0] == b"set-operand":
+        op, operand, value = op_of(words[1]), number_of(words[2]), value_of(words[3])
+        if op and operand is not None and value:
+            return f"set {op[0]} {operand} {dotted(value)}"
+    return "bad"
+
+
+def line(text, want=None):
+    text = text.encode() if isinstance(text, str) else text
+    says = line_says(text)
+    assert want is None or says == want, (text, says)
+    case("line " + given(text), says)
+
+
+NOTHING = ["", " ", "\t\r", "//", "// x", "  //x\r", "//report uses"]
+REPORTS = {"report uses": 1, "report symbols": 2, "report diagnostics": 3, "report effects": 4, "report dead": 5, "report constants": 6,
+           "report kind0": 0, "report kind7": 7, "report kind9": 9, "report kind255": 255, " \treport \t kind10\t\r": 10}
+PRINTS = ["print", "  print", "print\t", "print \r"]
+SETS = {"set-operand #3 0 %v2.0": "3 0 2.0", "set-operand\t#3\t\t0 %v2.1\r": "3 0 2.1", "set-operand #003 01 %v02.0010": "3 1 2.10",
+        "set-operand #4294967295 4294967295 %v4294967295.4294967295": "4294967295 4294967295 4294967295.4294967295",
+        "set-operand #3 0 %a1.0.0": "3 0 1.0.0", "set-operand #3 1 %a1.2.3": "3 1 1.2.3",
+        "set-operand #0 00 %a001.000.4294967295": "0 0 1.0.4294967295"}
+BAD = """report|report nonsense|report Uses|report use|report uses uses|report uses \r x|reportuses|Report uses|report kind|report kind1
+report kind6|report kind07|report kind00|report kind256|report kind4294967305|report kind-1|report kind9x|report 1|report unreached
+print x|print //|Print|prin|prints|/print|print\x0b|\x0cprint|jump|set-operand|set-operand #3|set-operand #3 0|set-operand #3 0 %v2.0 x
+set-operand 3 0 %v2.0|set-operand # 0 %v2.0|set-operand ##3 0 %v2.0|set-operand # 3 0 %v2.0|set-operand #3 x %v2.0|set-operand #3 -1 %v2.0
+set-operand #3 +1 %v2.0|set-operand #0x3 0 %v2.0|set-operand #3 0 #2|set_operand #3 0 %v2.0|set-operand #3 0 v2.0|set-operand #3 0 %
+set-operand #3 0 %v|set-operand #3 0 %v2|set-operand #3 0 %v2.|set-operand #3 0 %v.0|set-operand #3 0 %v2.0.0|set-operand #3 0 %v2..0
+set-operand #3 0 %V2.0|set-operand #3 0 %v 2.0|set-operand #3 0 %a1.0|set-operand #3 0 %a1.0.|set-operand #3 0 %a1..0|set-operand #3 0 %a.0.0
+set-operand #3 0 %a1.0.0.0|set-operand #3 0 %b1.0.0|set-operand #4294967296 0 %v2.0|set-operand #3 4294967296 %v2.0
+set-operand #3 0 %v4294967296.0|set-operand #3 0 %v2.4294967296|set-operand #3 0 %a1.4294967296.0|set-operand #42949672950 0 %v2.0
+set-operand #99999999999999999999999 0 %v2.0""".replace("\n", "|").split("|")
+
+
+def lines():
+    for text in NOTHING:
+        line(text, "nothing")
+    for text, kind in REPORTS.items():
+        line(text, f"report {kind}")
+    for text in PRINTS:
+        line(text, "print")
+    for text, want in SETS.items():
+        line(text, "set " + want)
+    for text in BAD:
+        line(text, "bad")
+    for text, want in ((b"// \xff", "bad"), (b"\xc3", "bad"), (b"print\xff", "bad"), (b"// \xc3\xa9", "nothing"), (b"print \xc3\xa9", "bad"),
+                       (b"// \xed\xa0\x80", "bad"), (b"// \xf4\x90\x80\x80", "bad"), (b"// \xf4\x8f\xbf\xbf", "nothing"), (b"// \xc0\x80", "bad")):
+        line(text, want)
+    for number in range(260):
+        line(f"report kind{number}")
+    # Near misses: a byte that is left out, put in, or another.
+    for text in ("report uses", "report kind10", "print", "// x", "set-operand #3 10 %v2.0", "set-operand #3 0 %a1.0.2"):
+        text = text.encode()
+        for place in range(len(text) + 1):
+            line(text[:place] + text[place + 1:])
+            for byte in b" \t\r/x0#.%":
+                line(text[:place] + bytes([byte]) + text[place:])
+                line(text[:place] + bytes([byte]) + text[place + 1:])
+
+
+def words():
+    for text in [b"", b" ", b"\t", b"a", b"a ", b" a", b"a b", b"a\tb", b"a \t b c", b"a\rb c", b"ab  ", b"\r", b"a\n b"]:
+        word, blanks, rest = re.fullmatch(rb"([^ \t]*)([ \t]*)(.*)", text, re.S).groups()
+        case("word " + given(text), told(word) + told(rest))
+    for parts in itertools.product((b"", b" ", b"\t\r", b"\n", b"x", b"\xc3"), repeat=3):
+        text = b"".join(parts)
+        case("trim " + given(text), told(text.strip(b" \t\r")))
+    numbers = [0, 1, 9, 10, 255, 256, 4294967294, 4294967295, 4294967296, 4294967305, 42949672950, 2 ** 64, 10 ** 40]
+    texts = [b"%s%d%s" % (front, number, back) for number in numbers for front in (b"", b"0", b"000", b"-", b"+", b" ") for back in (b"", b" ", b"x", b"_0")]
+    for text in texts + [b"", b"x", b"0x1", b"\xd9\xa3"]:
+        answer = number_of(text)
+        case("number " + given(text), "none" if answer is None else str(answer))
+    for text in [b"#" + text for text in texts] + [b"", b"#", b"##1", b"1"]:
+        answer = op_of(text)
+        case("op " + given(text), str(answer[0]) if answer else "none")
+    parts = [b"", b"0", b"07", b"4294967295", b"4294967296", b"x"]
+    for start, (one, two) in itertools.product((b"%v", b"%a", b"%", b"v", b"%V"), itertools.product(parts, repeat=2)):
+        for text in (start + one + b"." + two, start + one + b"." + two + b".3", start + one + b".3." + two, start + one + two):
+            answer = value_of(text)
+            case("value " + given(text), dotted(answer) if answer else "none")
+    kinds = [kind_word(number) for number in range(256)] + [b"kind%d" % number for number in range(300)] + [b"", b"kind", b"Uses", b"use", b"usess", b"kind-1", b"kind007", b"1", b"kind 9"]
+    for text in kinds:
+        answer = kind_of(text)
+        case("kind " + given(text), "none" if answer is None else str(answer))
+
+
+def split(text):
+    """The module and the script."""
+    found = re.search(rb"(?:\A|(?<=\n))// -----(?:\n|\Z)", text)
+    return (text[:found.start()], text[found.end():]) if found else (text, b"")
+
+
+def cuts():
+    rows = [("ab\n// -----\nprint\n", "ab\n", "print\n"), ("// -----\nprint", "", "print"), ("ab\n// -----", "ab\n", ""), ("ab\n// -----\n", "ab\n", ""),
+            ("a\n// -----\nb\n// -----\nc", "a\n", "b\n// -----\nc"), ("// -----\n// -----\n", "", "// -----\n")]
+    rows += [(text, text, "") for text in ("", "ab", "ab\nprint\n", "ab\n// ------\nprint\n", "ab\n// ----\nprint\n", "ab\n// -----\r\nprint\n", "ab\n // -----\nprint\n",
+                                           "ab\n// ----- \nprint\n", "ab\n//-----\nprint\n", "ab// -----\nprint\n", "ab\r// -----\nprint\n")]
+    for text, module, script in rows:
+        assert split(text.encode()) == (module.encode(), script.encode()), text
+    texts = [text.encode() for text, _, _ in rows]
+    pieces = (b"// -----", b"// -----\r", b"// ----", b"/", b"", b"ab", b"// -----x")
+    for count in (1, 2, 3):
+        for parts in itertools.product(pieces, repeat=count):
+            texts += [b"\n".join(parts), b"\n".join(parts) + b"\n"]
+    for text in texts:
+        module, script = split(text)
+        case("split " + given(text), told(module) + told(script))
+    for text in (b"a\nb\nc", b"a", b"a\n", b"\na", b"a\r\nb", b"", b"\n", b"\n\n", b"\xff\n\xff"):
+        front, _, rest = text.partition(b"\n")
+        case("first " + given(text), told(front) + told(rest))
+    for count in (0, 1, 16777215, 16777216, 16777217, 20000000):
+        case(f"long {count}", "true" if count > 16777216 else "false")
+
+
+REFUSALS = """1 BadToken|2 Unexpected|3 UnknownValue|4 Redefined|5 TypeMismatch|6 BadWidth|7 BadValue|8 MultipleBlocks|9 Successors|10 TooDeep|11 TooMany
+12 DuplicateKey|13 LeftOut|14 NotUtf8|20 NoSuchOp|21 NoSuchValue|22 HasUses|23 NotVisible|24 TypeDiffers|25 NoSuchIndex|26 NoSuchKey|27 IntoItself|28 OtherTable
+29 IsRoot|30 NotEmpty|31 Full|32 IdsExhausted|33 TooDeepHere|34 TooManyMarks|35 NoMark|36 Memory|40 Stale|41 NoSuchKind|42 KindTaken|50 BadLimit|51 NotLegalised
+52 ChainTooDeep|53 Unreconciled|54 BadTarget|60 BadCommand""".replace("\n", "|").split("|")
+
+
+def replies():
+    """Each call that writes, with what it writes."""
+    out = []
+    for n in (0, 1, 9, 10, 12, 99, 100, 4294967295, 4294967296, 2 ** 64 - 1):
+        out += [(f"ok {n}", f"{n} ok\n"), (f"number {n}", f"{n}"), (f"refused {n} HasUses", f"{n} refused 22 HasUses\n")]
+    for refusal in REFUSALS:
+        word = refusal.split()[1]
+        out += [(f"refused 1 {word}", f"1 refused {refusal}\n"), (f"module {word}", f"module refused {refusal}\n"), (f"module {word} 16", f"module refused {refusal} at 16\n"),
+                (f"attach 9 {word}", f"attach kind9 refused {refusal}\n"), (f"attach 1 {word}", f"attach uses refused {refusal}\n")]
+    for offset in (0, 9, 10, 33554431, 33554432):
+        out.append((f"module TooMany {offset}", f"module refused 11 TooMany at {offset}\n"))
+    for number in range(256):
+        word = kind_word(number).decode()
+        out += [(f"rows {number}", f"-- {word}\n"), (f"stale {number}", f"-- {word} stale\n"), (f"memory {number}", f"-- {word} memory\n")]
+        out.append((f"attach {number} KindTaken", f"attach {word} refused 42 KindTaken\n"))
+    out.append(("module-memory", "-- module memory\n"))
+    for op, place in itertools.product((0, 3, 10, 4294967295), repeat=2):
+        out += [(f"op {op}", f"#{op}"), (f"value {op}.{place}", f"%v{op}.{place}"), (f"value {op}.{place}.7", f"%a{op}.{place}.7"), (f"value {op}.2.{place}", f"%a{op}.2.{place}")]
+    out += [("refused 7 NotVisible", "7 refused 23 NotVisible\n"), ("value 2.0", "%v2.0"), ("value 1.2.3", "%a1.2.3"), ("value 2.7", "%v2.7"), ("value 1.0.3", "%a1.0.3")]
+    return out + [("ab cd", "abcd"), ("", "")]
+
+
+def writes():
+    for refusal in REFUSALS:
+        case("refusal " + refusal.split()[1], refusal)
+    for call, text in replies():
+        case("write " + call, told(text.encode()))
+    samples = dict(replies())
+    for call in ("ab cd", "ok 12", "refused 7 NotVisible", "module BadValue 16", "module Memory", "attach 1 Memory", "attach 200 KindTaken", "rows 3", "stale 9",
+                 "memory 1", "module-memory", "number 4294967295", "op 10", "value 2.0", "value 1.0.3", ""):
+        text = samples[call].encode()
+        for fault in ("fails", "interrupted", "nothing"):
+            for at in range(len(text) + 2):
+                if 1 <= at <= len(text):
+                    answer, writes, taken = "fault", at, text[:at - 1]
+                else:
+                    answer, writes, taken = "ok", len(text), text
+                flushed = "fault" if at else "ok"
+                case(f"write {fault} {at} {call}", f"{answer} {writes} {flushed}{told(taken)}")
+
+
+def reads():
+    for text in (b"", b"a", b"abc", b"\xff\n", b"0123456789"):
+        case("read slice " + given(text), told(text))
+        # The last read finds the end.
+        needed = len(text) + 1
+        for at in range(needed + 3):
+            hits = 1 <= at <= needed
+            case(f"read slow other {at} {given(text)}", f"broken {at}" if hits else f"{told(text)} {needed}")
+            case(f"read slow interrupted {at} {given(text)}", f"{told(text)} {needed + hits}")
+    for count in (0, 1, 8191, 8192, 8193, 16384, 33554431, 33554432, 33554433, 33562624, 33562625, 2 ** 64 - 1):
+        case(f"read counted {count}", f"{count} {count} true" if count <= 33554432 else "too many 33554433 true")
+    case("read busy", "broken 40000000")
+
+
+lines()
+words()
+cuts()
+writes()
+reads()
+
+folder = pathlib.Path("crates/mlir_work_cases")
+(folder / "stdin").write_text("".join(line + "\n" for line, _ in cases))
+(folder / "stdout").write_text("".join(want + "\n" for _, want in cases))
+print(len(cases), "cases")

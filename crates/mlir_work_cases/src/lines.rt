@@ -1,0 +1,99 @@
+//! What lines of a script and words say, and how texts are cut.
+use crate::texts::{both_shown, bytes, number, shown};
+use ir_tree::value::Value;
+use ir_types::ids::OpId;
+use mlir_work_base::command::{Command, Line, read_line};
+use mlir_work_base::input::{script_is_too_long, split};
+use mlir_work_base::kind::{Kind, kind_named};
+use mlir_work_base::lines::split_line;
+use mlir_work_base::numbers;
+use mlir_work_base::values::{op_named, value_named};
+use mlir_work_base::words::{split_word, trim};
+use std::alloc::{AllocError, Global};
+
+/// A line that sets an operand.
+fn told_set(alloc: Global, op: OpId, operand: u32, value: Value) -> Result<String, AllocError> {
+    let op = op.number();
+    match value {
+        Value::Result(owner, place) => {
+            format!(in alloc; "set {op} {operand} {}.{place}", owner.number())
+        }
+        Value::Arg(owner, region, place) => {
+            format!(in alloc; "set {op} {operand} {}.{region}.{place}", owner.number())
+        }
+    }
+}
+
+/// A command.
+fn told_command(alloc: Global, command: Command) -> Result<String, AllocError> {
+    match command {
+        Command::Report(kind) => format!(in alloc; "report {}", kind.number()),
+        Command::Print => String::from_str(alloc, "print"),
+        Command::SetOperand { op, operand, value } => told_set(alloc, op, operand, value),
+    }
+}
+
+/// A line.
+fn told_line(alloc: Global, line: Line) -> Result<String, AllocError> {
+    match line {
+        Line::Nothing => String::from_str(alloc, "nothing"),
+        Line::Bad => String::from_str(alloc, "bad"),
+        Line::Obey(command) => told_command(alloc, command),
+    }
+}
+
+/// A number, if there is one.
+fn told_number(alloc: Global, number: Option<u32>) -> Result<String, AllocError> {
+    match number {
+        Some(number) => format!(in alloc; "{number}"),
+        None => String::from_str(alloc, "none"),
+    }
+}
+
+/// A value.
+fn told_value(alloc: Global, value: Value) -> Result<String, AllocError> {
+    match value {
+        Value::Result(op, place) => format!(in alloc; "{}.{place}", op.number()),
+        Value::Arg(op, region, place) => format!(in alloc; "{}.{region}.{place}", op.number()),
+    }
+}
+
+/// A value, if there is one.
+fn told_some_value(alloc: Global, value: Option<Value>) -> Result<String, AllocError> {
+    match value {
+        Some(value) => told_value(alloc, value),
+        None => String::from_str(alloc, "none"),
+    }
+}
+
+/// What is said of bytes.
+fn told(alloc: Global, call: &str, bytes: &[u8]) -> Result<String, AllocError> {
+    match call {
+        "line" => told_line(alloc, read_line(bytes)),
+        "split" => both_shown(alloc, split(bytes)),
+        "first" => both_shown(alloc, split_line(bytes)),
+        "word" => both_shown(alloc, split_word(bytes)),
+        "trim" => shown(alloc, trim(bytes)),
+        "kind" => told_number(
+            alloc,
+            kind_named(bytes).map(|kind| u32::from(kind.number())),
+        ),
+        "op" => told_number(alloc, op_named(bytes).map(|op| op.number())),
+        "value" => told_some_value(alloc, value_named(bytes)),
+        _ => told_number(alloc, numbers::number(bytes)),
+    }
+}
+
+/// What is said of the bytes that a text stands for.
+pub fn answer(alloc: Global, call: &str, text: &str) -> Result<String, AllocError> {
+    let bytes = bytes(alloc, text)?;
+    told(alloc, call, &bytes)
+}
+
+/// Whether a script of so many bytes is too long.
+pub fn is_too_long(alloc: Global, text: &str) -> Result<String, AllocError> {
+    let mut script = Vec::new(alloc);
+    script.resize(number(text) as usize, b'\n')?;
+    let answer = script_is_too_long(&script);
+    format!(in alloc; "{answer}")
+}
