@@ -1,5 +1,5 @@
 //! The answer to a line.
-use crate::state::{State, add_attrs, add_types};
+use crate::state::{State, add_attrs, add_name, add_types, renew};
 use crate::words::{first, number, op_id, value};
 use crate::{build, edits, stored, written};
 use ir_tree::check::check;
@@ -16,74 +16,27 @@ use ir_types::context::Context;
 use ir_types::refusal::Refusal;
 use std::alloc::{AllocError, Global};
 
-/// A number, or a refusal.
-fn numbered_or(alloc: Global, answer: Result<u32, Refusal>) -> Result<String, AllocError> {
-    match answer {
-        Ok(number) => format!(in alloc; "{number}"),
-        Err(refusal) => format!(in alloc; "{refusal}"),
+/// Adds to a context, or begins with a new one.
+fn grow(alloc: Global, context: &mut Context, text: &str) -> Result<(), Refusal> {
+    let (what, rest) = first(text);
+    match what {
+        "types" => add_types(context, number(rest)),
+        "attrs" => add_attrs(context),
+        "name" => add_name(context, rest),
+        _ => renew(alloc, context),
     }
-}
-
-/// `ok`, or a refusal.
-pub fn told(alloc: Global, answer: Result<(), Refusal>) -> Result<String, AllocError> {
-    match answer {
-        Ok(()) => String::from_str(alloc, "ok"),
-        Err(refusal) => format!(in alloc; "{refusal}"),
-    }
-}
-
-/// `true` or `false`.
-pub fn yes_or_no(alloc: Global, answer: bool) -> Result<String, AllocError> {
-    format!(in alloc; "{answer}")
-}
-
-/// Begins with a new context.
-fn begin(alloc: Global, context: &mut Context) -> Result<String, AllocError> {
-    let answer = Context::new(alloc).map(|made| {
-        *context = made;
-        0
-    });
-    numbered_or(alloc, answer)
-}
-
-fn types(alloc: Global, context: &mut Context, text: &str) -> Result<String, AllocError> {
-    let answer = add_types(context, number(text));
-    numbered_or(alloc, answer)
-}
-
-fn attrs(alloc: Global, context: &mut Context) -> Result<String, AllocError> {
-    let answer = add_attrs(context);
-    numbered_or(alloc, answer)
-}
-
-fn name(alloc: Global, context: &mut Context, text: &str) -> Result<String, AllocError> {
-    let answer = context.name(text.as_bytes()).map(|id| id.number());
-    numbered_or(alloc, answer)
-}
-
-/// How many operations a tree has.
-fn counted(alloc: Global, tree: &TreeOp) -> Result<String, AllocError> {
-    let count = op_count(tree);
-    format!(in alloc; "{count}")
 }
 
 /// Takes a tree, and answers how many operations it has.
 fn tree(alloc: Global, state: &mut State, text: &str) -> Result<String, AllocError> {
     let tree = build::tree(alloc, text)?;
     state.take(tree);
-    counted(alloc, &state.tree)
-}
-
-/// How deep the tree is, and whether its counts are within the limits.
-fn sizes(alloc: Global, tree: &TreeOp) -> Result<String, AllocError> {
-    let depth = depth(tree);
-    let fits = counts_are_within(tree);
-    format!(in alloc; "{depth} {fits}")
+    written::number(alloc, op_count(&state.tree))
 }
 
 fn is_distinct(alloc: Global, tree: &TreeOp) -> Result<String, AllocError> {
     let answer = distinct(alloc, tree)?;
-    yes_or_no(alloc, answer)
+    written::truth(alloc, answer)
 }
 
 fn ids(alloc: Global, tree: &TreeOp) -> Result<String, AllocError> {
@@ -95,7 +48,7 @@ fn ids(alloc: Global, tree: &TreeOp) -> Result<String, AllocError> {
 fn found(alloc: Global, tree: &TreeOp, text: &str) -> Result<String, AllocError> {
     match find(tree, op_id(text)) {
         Some(op) => written::tree(alloc, op),
-        None => String::from_str(alloc, "none"),
+        None => written::word(alloc, "none"),
     }
 }
 
@@ -113,39 +66,37 @@ fn copied(alloc: Global, tree: &TreeOp) -> Result<String, AllocError> {
 fn sees(alloc: Global, state: &State, text: &str) -> Result<String, AllocError> {
     let (op, word) = first(text);
     let answer = visible(&state.context, &state.tree, op_id(op), &value(word));
-    yes_or_no(alloc, answer)
+    written::truth(alloc, answer)
 }
 
-/// What is asked of a tree alone; what is no call of it is for the others.
+/// What is asked of a tree alone; what is no call of it is for the module.
 fn asked(alloc: Global, state: &State, call: &str, rest: &str) -> Result<String, AllocError> {
+    let tree = &state.tree;
     match call {
-        "sizes" => sizes(alloc, &state.tree),
-        "distinct" => is_distinct(alloc, &state.tree),
-        "numbered" => yes_or_no(alloc, numbered(&state.tree, number(rest))),
-        "ids" => ids(alloc, &state.tree),
-        "find" => found(alloc, &state.tree, rest),
-        "uses" => uses(alloc, &state.tree, rest),
-        "copy" => copied(alloc, &state.tree),
+        "depth" => written::number(alloc, depth(tree)),
+        "fits" => written::truth(alloc, counts_are_within(tree)),
+        "distinct" => is_distinct(alloc, tree),
+        "numbered" => written::truth(alloc, numbered(tree, number(rest))),
+        "ids" => ids(alloc, tree),
+        "find" => found(alloc, tree, rest),
+        "uses" => uses(alloc, tree, rest),
+        "copy" => copied(alloc, tree),
         "visible" => sees(alloc, state, rest),
-        "sound" => yes_or_no(alloc, sound(&state.context, &state.tree)),
-        "check" => told(alloc, check(alloc, &state.context, &state.tree)),
+        "sound" => written::truth(alloc, sound(&state.context, tree)),
+        "check" => written::done(alloc, check(alloc, &state.context, tree)),
         _ => stored::asked(alloc, state, call, rest),
     }
 }
 
-/// The answer to a line; what is no call is given back.
+/// The answer to a line.
 pub fn answer(alloc: Global, state: &mut State, line: &str) -> Result<String, AllocError> {
     let (call, rest) = first(line);
     match call {
-        "new" => begin(alloc, &mut state.context),
-        "types" => types(alloc, &mut state.context, rest),
-        "attrs" => attrs(alloc, &mut state.context),
-        "name" => name(alloc, &mut state.context, rest),
+        "context" => written::done(alloc, grow(alloc, &mut state.context, rest)),
         "tree" => tree(alloc, state, rest),
-        "operand" | "replaced" | "entry" | "put" | "without" | "shifted" => {
-            edits::edited(alloc, state, call, rest)
-        }
-        "load" | "hold" => stored::taken(alloc, state, call, rest),
+        "edit" => edits::edited(alloc, state, rest),
+        "load" => stored::loaded(alloc, state, rest),
+        "hold" => stored::held(alloc, state, rest),
         "set" => stored::set(alloc, state, rest),
         _ => asked(alloc, state, call, rest),
     }

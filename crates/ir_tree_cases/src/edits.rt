@@ -42,11 +42,16 @@ fn with_entry(alloc: Global, state: &State, text: &str) -> Result<TreeOp, AllocE
     )
 }
 
+/// The tree with another at a place, as `2 0 4`.
+fn with_more(alloc: Global, tree: &TreeOp, at: &str, more: &TreeOp) -> Result<TreeOp, AllocError> {
+    put(alloc, tree, &place(at), more)
+}
+
 /// `2 0 4 : op:9 end`: the place, and the tree that is put there.
 fn with_tree(alloc: Global, tree: &TreeOp, text: &str) -> Result<TreeOp, AllocError> {
     let (at, words) = text.split_once(" : ").unwrap_or((text, ""));
     let more = build::tree(alloc, words)?;
-    put(alloc, tree, &place(at), &more)
+    with_more(alloc, tree, at, &more)
 }
 
 /// `1 2 0 4`: the operation, and its new place.
@@ -56,24 +61,22 @@ fn with_move(alloc: Global, tree: &TreeOp, text: &str) -> Result<TreeOp, AllocEr
 }
 
 /// The tree with an edit.
-fn edit(alloc: Global, state: &State, call: &str, text: &str) -> Result<TreeOp, AllocError> {
+fn edit(alloc: Global, state: &State, text: &str) -> Result<TreeOp, AllocError> {
+    let (call, rest) = first(text);
+    let tree = &state.tree;
     match call {
-        "operand" => with_operand(alloc, &state.tree, text),
-        "replaced" => with_value(alloc, &state.tree, text),
-        "entry" => with_entry(alloc, state, text),
-        "put" => with_tree(alloc, &state.tree, text),
-        "without" => without(alloc, &state.tree, op_id(text)),
-        _ => with_move(alloc, &state.tree, text),
+        "operand" => with_operand(alloc, tree, rest),
+        "replaced" => with_value(alloc, tree, rest),
+        "entry" => with_entry(alloc, state, rest),
+        "put" => with_tree(alloc, tree, rest),
+        "without" => without(alloc, tree, op_id(rest)),
+        _ => with_move(alloc, tree, rest),
     }
 }
 
 /// Takes the tree with an edit in place of the tree, and answers its words.
-pub fn edited(
-    alloc: Global,
-    state: &mut State,
-    call: &str,
-    text: &str,
-) -> Result<String, AllocError> {
-    state.take(edit(alloc, state, call, text)?);
+pub fn edited(alloc: Global, state: &mut State, text: &str) -> Result<String, AllocError> {
+    let tree = edit(alloc, state, text)?;
+    state.take(tree);
     written::tree(alloc, &state.tree)
 }

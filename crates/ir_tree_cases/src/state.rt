@@ -37,8 +37,14 @@ impl State {
     }
 }
 
+/// Begins with a new context.
+pub fn renew(alloc: Global, context: &mut Context) -> Result<(), Refusal> {
+    *context = Context::new(alloc)?;
+    Ok(())
+}
+
 /// Adds the types `i1`, `i2`, .. to a context, so many.
-pub fn add_types(context: &mut Context, count: u32) -> Result<u32, Refusal> {
+pub fn add_types(context: &mut Context, count: u32) -> Result<(), Refusal> {
     for index in 0..count {
         let width = index.saturating_add(1);
         context.ty(TypeNode::Int {
@@ -46,17 +52,20 @@ pub fn add_types(context: &mut Context, count: u32) -> Result<u32, Refusal> {
             width,
         })?;
     }
-    Ok(count)
+    Ok(())
 }
 
-/// Adds five attributes to a context.
-pub fn add_attrs(context: &mut Context) -> Result<u32, Refusal> {
-    context.attr(AttrNode::Unit)?;
-    for index in 0..4 {
-        context.attr(AttrNode::Overflow {
-            nsw: index % 2 == 1,
-            nuw: index >= 2,
-        })?;
+/// Adds an attribute for each two flags to a context.
+pub fn add_attrs(context: &mut Context) -> Result<(), Refusal> {
+    for nsw in [false, true] {
+        context.attr(AttrNode::Overflow { nsw, nuw: false })?;
+        context.attr(AttrNode::Overflow { nsw, nuw: true })?;
     }
-    Ok(5)
+    Ok(())
+}
+
+/// Adds a name to a context.
+pub fn add_name(context: &mut Context, text: &str) -> Result<(), Refusal> {
+    context.name(text.as_bytes())?;
+    Ok(())
 }
