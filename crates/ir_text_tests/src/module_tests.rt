@@ -12,7 +12,6 @@ use ir_types::context::Context;
 use ir_types::ids::{AttrId, OpId, TypeId};
 use ir_types::node::{Sign, TypeNode};
 use ir_types::refusal::Refusal;
-use ir_types_tests::calls;
 use std::alloc::Global;
 
 fn result(op: u32, place: u32) -> Value {
@@ -135,7 +134,7 @@ fn marked(alloc: Global, ctx: &mut Context, ty: TypeId) -> Result<TreeOp, Refusa
 /// An operation with two results.
 fn pair(alloc: Global, ctx: &mut Context) -> Result<TreeOp, Refusal> {
     let ty = int(ctx, Sign::Signless, 8)?;
-    let index = calls::ty(ctx, TypeNode::Index)?;
+    let index = ir_types_calls::ty(ctx, TypeNode::Index)?;
     let pair = marked(alloc, ctx, ty)?;
     let pair = with_result(pair, ty)?;
     with_result(pair, index)

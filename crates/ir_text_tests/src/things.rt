@@ -4,11 +4,10 @@ use ir_types::context::Context;
 use ir_types::ids::{AttrId, NameId, TypeId};
 use ir_types::node::{AttrNode, Sign, TypeNode};
 use ir_types::refusal::Refusal;
-use ir_types_tests::calls;
 use std::alloc::Global;
 
 pub(crate) fn int(ctx: &mut Context, sign: Sign, width: u32) -> Result<TypeId, Refusal> {
-    calls::ty(ctx, TypeNode::Int { sign, width })
+    ir_types_calls::ty(ctx, TypeNode::Int { sign, width })
 }
 
 /// The type `i32`.
@@ -28,7 +27,7 @@ pub(crate) fn function(
 ) -> Result<TypeId, Refusal> {
     let inputs = types(alloc, inputs)?;
     let outputs = types(alloc, outputs)?;
-    calls::ty(ctx, TypeNode::Func { inputs, outputs })
+    ir_types_calls::ty(ctx, TypeNode::Func { inputs, outputs })
 }
 
 pub(crate) fn memref(
@@ -38,28 +37,28 @@ pub(crate) fn memref(
     elem: TypeId,
 ) -> Result<TypeId, Refusal> {
     let dims = Items::new(Vec::from_slice(alloc, dims)?);
-    calls::ty(ctx, TypeNode::Memref { dims, elem })
+    ir_types_calls::ty(ctx, TypeNode::Memref { dims, elem })
 }
 
 pub(crate) fn number(ctx: &mut Context, ty: TypeId, value: i128) -> Result<AttrId, Refusal> {
-    calls::attr(ctx, AttrNode::Int { ty, value })
+    ir_types_calls::attr(ctx, AttrNode::Int { ty, value })
 }
 
 pub(crate) fn string(ctx: &mut Context, text: &[u8]) -> Result<AttrId, Refusal> {
     let name = ctx.name(text)?;
-    calls::attr(ctx, AttrNode::Str(name))
+    ir_types_calls::attr(ctx, AttrNode::Str(name))
 }
 
 pub(crate) fn type_attr(ctx: &mut Context, ty: TypeId) -> Result<AttrId, Refusal> {
-    calls::attr(ctx, AttrNode::Ty(ty))
+    ir_types_calls::attr(ctx, AttrNode::Ty(ty))
 }
 
 pub(crate) fn unit(ctx: &mut Context) -> Result<AttrId, Refusal> {
-    calls::attr(ctx, AttrNode::Unit)
+    ir_types_calls::attr(ctx, AttrNode::Unit)
 }
 
 pub(crate) fn overflow(ctx: &mut Context, nsw: bool, nuw: bool) -> Result<AttrId, Refusal> {
-    calls::attr(ctx, AttrNode::Overflow { nsw, nuw })
+    ir_types_calls::attr(ctx, AttrNode::Overflow { nsw, nuw })
 }
 
 pub(crate) fn dense(
@@ -69,11 +68,11 @@ pub(crate) fn dense(
     values: &[i64],
 ) -> Result<AttrId, Refusal> {
     let values = Items::new(Vec::from_slice(alloc, values)?);
-    calls::attr(ctx, AttrNode::Dense { elem, values })
+    ir_types_calls::attr(ctx, AttrNode::Dense { elem, values })
 }
 
 pub(crate) fn array(ctx: &mut Context, items: Vec<AttrId>) -> Result<AttrId, Refusal> {
-    calls::attr(ctx, AttrNode::Array(Items::new(items)))
+    ir_types_calls::attr(ctx, AttrNode::Array(Items::new(items)))
 }
 
 pub(crate) fn symbol(
@@ -82,7 +81,7 @@ pub(crate) fn symbol(
     parts: &[NameId],
 ) -> Result<AttrId, Refusal> {
     let parts = Items::new(Vec::from_slice(alloc, parts)?);
-    calls::attr(ctx, AttrNode::Sym(parts))
+    ir_types_calls::attr(ctx, AttrNode::Sym(parts))
 }
 
 pub(crate) fn dictionary(
@@ -91,5 +90,5 @@ pub(crate) fn dictionary(
     entries: &[(NameId, AttrId)],
 ) -> Result<AttrId, Refusal> {
     let entries = Items::new(Vec::from_slice(alloc, entries)?);
-    calls::attr(ctx, AttrNode::Dict(entries))
+    ir_types_calls::attr(ctx, AttrNode::Dict(entries))
 }

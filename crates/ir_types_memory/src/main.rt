@@ -8,7 +8,6 @@ use ir_types::ids::{AttrId, NameId, TypeId};
 use ir_types::node::{AttrNode, Sign, TypeNode};
 use ir_types::refusal::Refusal;
 use ir_types::words::{WORDS, word};
-use ir_types_tests::calls;
 use std::alloc::{AllocError, Global};
 use std::io;
 
@@ -115,7 +114,7 @@ fn made_attr(alloc: Global, index: u32) -> Result<AttrNode, AllocError> {
         0 => Ok(AttrNode::Str(NameId::new(index))),
         1 => Ok(AttrNode::Int {
             ty: TypeId::new(0),
-            value: i128::from(index),
+            value: u128::from(index),
         }),
         2 => Ok(AttrNode::Array(Items::new(vec![in alloc; half, first]?))),
         3 => {
@@ -140,7 +139,7 @@ fn is_attr(node: &AttrNode, index: u32) -> bool {
     match node {
         AttrNode::Str(name) => index % 6 == 0 && *name == NameId::new(index),
         AttrNode::Int { ty, value } => {
-            index % 6 == 1 && *ty == TypeId::new(0) && *value == i128::from(index)
+            index % 6 == 1 && *ty == TypeId::new(0) && *value == u128::from(index)
         }
         AttrNode::Array(items) => index % 6 == 2 && items.as_slice() == [half, first].as_slice(),
         AttrNode::Dict(entries) => {
@@ -163,19 +162,19 @@ fn is_attr(node: &AttrNode, index: u32) -> bool {
 /// Whether a context holds so many names, types and attributes, each as it was made.
 fn is_same(context: &Context, names: u32, types: u32, attrs: u32) -> bool {
     for index in 0..names {
-        match calls::name_bytes(context, NameId::new(index)) {
+        match ir_types_calls::name_bytes(context, NameId::new(index)) {
             Some(bytes) if is_name(bytes, index) => {}
             _ => return false,
         }
     }
     for index in 0..types {
-        match calls::type_node(context, TypeId::new(index)) {
+        match ir_types_calls::type_node(context, TypeId::new(index)) {
             Some(node) if is_type(node, index) => {}
             _ => return false,
         }
     }
     for index in 0..attrs {
-        match calls::attr_node(context, AttrId::new(index)) {
+        match ir_types_calls::attr_node(context, AttrId::new(index)) {
             Some(node) if is_attr(node, index) => {}
             _ => return false,
         }
@@ -207,7 +206,7 @@ fn add_types(alloc: Global, context: &mut Context, found: &mut Found) {
             let Ok(node) = made_type(alloc, index) else {
                 continue;
             };
-            match calls::ty(context, node) {
+            match ir_types_calls::ty(context, node) {
                 Ok(id) => {
                     found.compare(id == TypeId::new(index));
                     break;
@@ -225,7 +224,7 @@ fn add_attrs(alloc: Global, context: &mut Context, found: &mut Found) {
             let Ok(node) = made_attr(alloc, index) else {
                 continue;
             };
-            match calls::attr(context, node) {
+            match ir_types_calls::attr(context, node) {
                 Ok(id) => {
                     found.compare(id == AttrId::new(index));
                     break;

@@ -17,7 +17,6 @@ use ir_types::ids::{NameId, OpId, TypeId};
 use ir_types::node::{Sign, TypeNode};
 use ir_types::refusal::Refusal;
 use ir_types::words::{BUILTIN_MODULE, FUNC_FUNC};
-use ir_types_tests::calls;
 use std::alloc::{AllocError, Global};
 
 /// The number of `arith.constant`.
@@ -114,7 +113,7 @@ pub fn a_world(alloc: Global) -> Result<World, Refusal> {
         sign: Sign::Signless,
         width: 32,
     };
-    let ty = calls::ty(&mut ctx, word)?;
+    let ty = ctx.ty(word)?;
     let tree = a_tree(alloc, ty)?;
     load(alloc, ctx, &tree)
 }

@@ -12,7 +12,6 @@ use ir_types::context::Context;
 use ir_types::ids::{NameId, OpId, TypeId};
 use ir_types::node::{Sign, TypeNode};
 use ir_types::words::BUILTIN_MODULE;
-use ir_types_tests::calls;
 use std::alloc::{AllocError, Global};
 use std::env;
 use std::rt::{Clock, Env};
@@ -152,7 +151,7 @@ fn main(rt: HostRuntime) -> Result<()> {
         sign: Sign::Signless,
         width: 32,
     };
-    let ty = calls::ty(&mut context, word)?;
+    let ty = context.ty(word)?;
     println!(rt; "{count} operations in one block")?;
     steps(&rt, alloc, &context, &nested(alloc, ty, count, 1)?, timed)?;
     println!(rt; "{count} operations in {LEVELS} blocks")?;

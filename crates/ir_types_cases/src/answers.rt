@@ -1,0 +1,131 @@
+//! The answer to a line.
+use crate::nodes::{attr_node, type_node};
+use crate::words::{attr_id, bits, bytes, first, literal, name_id, type_id};
+use crate::{ranges, tables, written};
+use ir_types::context::Context;
+use ir_types::node::{AttrNode, TypeNode};
+use ir_types::refusal::Refusal;
+use std::alloc::{AllocError, Global};
+
+/// A number, or a refusal.
+fn told(alloc: Global, answer: Result<u32, Refusal>) -> Result<String, AllocError> {
+    match answer {
+        Ok(number) => written::number(alloc, u128::from(number)),
+        Err(refusal) => written::refusal(alloc, refusal),
+    }
+}
+
+fn add_name(context: &mut Context, bytes: &[u8]) -> Result<u32, Refusal> {
+    let id = context.name(bytes)?;
+    Ok(id.number())
+}
+
+fn add_type(context: &mut Context, node: TypeNode) -> Result<u32, Refusal> {
+    let id = ir_types_calls::ty(context, node)?;
+    Ok(id.number())
+}
+
+fn add_attr(context: &mut Context, node: AttrNode) -> Result<u32, Refusal> {
+    let id = ir_types_calls::attr(context, node)?;
+    Ok(id.number())
+}
+
+/// Begins with a new context.
+fn renew(alloc: Global, context: &mut Context) -> Result<u32, Refusal> {
+    *context = Context::new(alloc)?;
+    Ok(0)
+}
+
+fn name(alloc: Global, context: &mut Context, text: &str) -> Result<String, AllocError> {
+    let bytes = bytes(alloc, text)?;
+    told(alloc, add_name(context, &bytes))
+}
+
+fn ty(alloc: Global, context: &mut Context, text: &str) -> Result<String, AllocError> {
+    let node = type_node(alloc, text)?;
+    told(alloc, add_type(context, node))
+}
+
+fn attr(alloc: Global, context: &mut Context, text: &str) -> Result<String, AllocError> {
+    let node = attr_node(alloc, text)?;
+    told(alloc, add_attr(context, node))
+}
+
+/// Whether a literal is one of a type of the context, and its bits.
+fn fits(alloc: Global, context: &Context, text: &str) -> Result<String, AllocError> {
+    let (ty, word) = first(text);
+    let (negative, magnitude) = literal(word);
+    match ir_types_calls::fits(context, type_id(ty), negative, magnitude) {
+        Some(answer) => {
+            let bits = ir_types_calls::literal_bits(context, type_id(ty), negative, magnitude);
+            written::literal(alloc, answer, bits)
+        }
+        None => written::none(alloc),
+    }
+}
+
+/// The number that bits are read as.
+fn reading(alloc: Global, context: &Context, text: &str) -> Result<String, AllocError> {
+    let (ty, word) = first(text);
+    match ir_types_calls::reading(context, type_id(ty), bits(word)) {
+        Some(answer) => written::reading(alloc, &answer),
+        None => written::none(alloc),
+    }
+}
+
+fn known_name(alloc: Global, context: &Context, text: &str) -> Result<String, AllocError> {
+    match ir_types_calls::name_bytes(context, name_id(text)) {
+        Some(bytes) => written::name(alloc, bytes),
+        None => written::none(alloc),
+    }
+}
+
+fn known_type(alloc: Global, context: &Context, text: &str) -> Result<String, AllocError> {
+    match ir_types_calls::type_node(context, type_id(text)) {
+        Some(node) => written::ty(alloc, node),
+        None => written::none(alloc),
+    }
+}
+
+fn known_attr(alloc: Global, context: &Context, text: &str) -> Result<String, AllocError> {
+    match ir_types_calls::attr_node(context, attr_id(text)) {
+        Some(node) => written::attr(alloc, node),
+        None => written::none(alloc),
+    }
+}
+
+/// Whether the context has a name, a type and an attribute with the number.
+fn has(alloc: Global, context: &Context, text: &str) -> Result<String, AllocError> {
+    let name = context.has_name(name_id(text));
+    let ty = context.has_type(type_id(text));
+    let attr = context.has_attr(attr_id(text));
+    written::three(alloc, [name, ty, attr])
+}
+
+/// What is known of a context; what is no call of it is for the others.
+fn known(alloc: Global, context: &Context, call: &str, rest: &str) -> Result<String, AllocError> {
+    match call {
+        "fits" => fits(alloc, context, rest),
+        "reading" => reading(alloc, context, rest),
+        "name?" => known_name(alloc, context, rest),
+        "type?" => known_type(alloc, context, rest),
+        "attr?" => known_attr(alloc, context, rest),
+        "has" => has(alloc, context, rest),
+        "row" => tables::row(alloc, context, rest),
+        "inherent" => tables::inherent(alloc, context, rest),
+        "word" => tables::word(alloc, context, rest),
+        _ => ranges::answer(alloc, call, rest),
+    }
+}
+
+/// The answer to a line.
+pub fn answer(alloc: Global, context: &mut Context, line: &str) -> Result<String, AllocError> {
+    let (call, rest) = first(line);
+    match call {
+        "name" => name(alloc, context, rest),
+        "type" => ty(alloc, context, rest),
+        "attr" => attr(alloc, context, rest),
+        "new" => told(alloc, renew(alloc, context)),
+        _ => known(alloc, context, call, rest),
+    }
+}
