@@ -1,6 +1,6 @@
 -- What a node is kept as, and why it is refused.
 use Rattle.std.proofs.Common.{◌≡◌, ◌∙◌, refl, sym, ap, subst, ℕ, ◌<◌, ◌≤◌, Bool, true, false, true≢false, List, length, map, Some, None, Ok, Err, le-leb, leb-true, arith}
-use Rattle.std.specs.Prelude.{nat_le, Option, Result, IsErrAnd, if◌then◌else◌}
+use Rattle.std.specs.Prelude.{IfOk, OnOk, OnErr, IsErr, nat_le, Option, Result, IsErrAnd, if◌then◌else◌}
 use Rattle.std.specs.List.{list_any, position_or_len}
 use Rattle.ir_types.specs.declared.node.AttrNode.{AttrNode}
 use Rattle.ir_types.specs.declared.node.AttrNode.TheVariants as attr
@@ -111,3 +111,20 @@ refused_by A result reason refusal h k = subst (IsRefusedFor {A = A} reason) (sy
 -- a call that has a reason against it is never without one
 pub never : {A : Type 0} (reason : Option Refusal) (refusal : Refusal) → reason ≡ Some refusal → reason ≡ None → A
 never reason refusal e f = absurd (let k : Some refusal ≡ None = sym e ∙ f in cc)
+
+-- a call that hands a refusal on is not accepted, and leaves what it says of a refusal
+pub not_ok : (A : Type 0) (P : A → Type 0) (result : Result A Refusal) (refusal : Refusal) → IsErrAnd result (λ r. r ≡ refusal) → IfOk result P
+not_ok A P (Ok x) refusal h = absurd h
+not_ok A P (Err r) refusal h = tt
+
+pub none_if_err : (A : Type 0) (P : A → Type 0) (result : Result A Refusal) → IsErr result → IfOk result P
+none_if_err A P (Ok x) h = absurd (true≢false (sym h))
+none_if_err A P (Err r) h = tt
+
+pub none_on_err : (A : Type 0) (P : Type 0) (result : Result A Refusal) → IsErr result → OnOk result P
+none_on_err A P (Ok x) h = absurd (true≢false (sym h))
+none_on_err A P (Err r) h = tt
+
+pub on_err : (A : Type 0) {P : Type 0} (result : Result A Refusal) → P → OnErr result P
+on_err A (Ok x) p = tt
+on_err A (Err r) p = p

@@ -1,8 +1,9 @@
-use Rattle.std.proofs.Common.{◌≡◌, ◌∙◌, sym, ℕ, map, length, arith, true≢false}
+use Rattle.std.proofs.Common.{◌≡◌, ◌∙◌, sym, ℕ, map, length, arith, refl, true≢false}
 use Rattle.std.specs.Str.{bytes_eq}
 use Rattle.std.proofs.lemmas.List.{length-map}
 use Rattle.ir_types.specs.declared.refusal.Refusal.TheVariants.{TooMany}
 use Rattle.ir_types.proofs.Calls.{accepted, refused, full_found, full_absent, names_found, names_absent, names_with, names_push}
+use Rattle.ir_types.proofs.Keptness.{none_if_err, none_on_err, on_err}
 use Rattle.ir_types.proofs.places.intern_name.Goals as goal
 
 pub returns-in-Some-clause-place : goal.returns-in-Some-clause-place
@@ -35,3 +36,18 @@ returns-in_err-from_slice-clause-known c e = absurd (true≢false (sym e ∙ (na
 
 pub returns-in_err-insert-clause-known : goal.returns-in_err-insert-clause-known
 returns-in_err-insert-clause-known c e = absurd (true≢false (sym e ∙ (names_absent (λ v. v.items) c.args.bytes.now c.args.names.now.keys (sym c.get_index_of.ensures.index ∙ c.in_default.is)).0))
+
+pub returns-in_err-from_slice-clause-place : goal.returns-in_err-from_slice-clause-place
+returns-in_err-from_slice-clause-place c = none_if_err ℕ _ c.from_residual.result c.from_residual.ensures.0
+
+pub returns-in_err-from_slice-clause-names : goal.returns-in_err-from_slice-clause-names
+returns-in_err-from_slice-clause-names c = none_on_err ℕ _ c.from_residual.result c.from_residual.ensures.0
+
+pub returns-in_err-from_slice-clause-err : goal.returns-in_err-from_slice-clause-err
+returns-in_err-from_slice-clause-err c = on_err ℕ c.from_residual.result refl
+
+pub returns-in_err-insert-clause-place : goal.returns-in_err-insert-clause-place
+returns-in_err-insert-clause-place c = none_if_err ℕ _ c.from_residual-in_err-insert.result c.from_residual-in_err-insert.ensures.0
+
+pub returns-in_err-insert-clause-names : goal.returns-in_err-insert-clause-names
+returns-in_err-insert-clause-names c = none_on_err ℕ _ c.from_residual-in_err-insert.result c.from_residual-in_err-insert.ensures.0

@@ -3,16 +3,18 @@ use Rattle.std.specs.List.{list_any, position_or_len}
 use Rattle.std.specs.Map.{keys_of}
 use Rattle.ir_types_base.specs.Interned.{with_last}
 use Rattle.ir_types.specs.declared.ids.AttrId.{AttrId}
-use Rattle.ir_types.specs.Things.{Things, AttrIsOf}
+use Rattle.ir_types.specs.Things.{Things, Grows, AttrIsOf}
 use Rattle.ir_types.specs.Terms.{attr_node_term}
 use Rattle.ir_types.specs.Depths.{attr_depth}
 use Rattle.ir_types.specs.Same.{same_attr}
 use Rattle.ir_types.specs.Dictionaries.{kept}
 use Rattle.ir_types.specs.Reasons.{attr_fault, attr_reason, dictionary_reason, full_reason, IsRefusedFor}
 use Rattle.ir_types.specs.Sound.{Holds, IsKept}
+use Rattle.ir_types.specs.Held.{things_of}
+use Rattle.ir_types.proofs.Growth.{grows_refl}
 use Rattle.ir_types.proofs.Calls.{checked_ok, checked_err, refused}
 use Rattle.ir_types.proofs.Keeping.{kept_with_attr, attr_call}
-use Rattle.ir_types.proofs.Keptness.{dictionary_refuses, full_refuses, never, refused_as, refused_by}
+use Rattle.ir_types.proofs.Keptness.{not_ok, on_err, dictionary_refuses, full_refuses, never, refused_as, refused_by}
 use Rattle.ir_types.proofs.context.Context.attr.Goals as goal
 
 pub invariant_of-self-2 : goal.invariant_of-self-2
@@ -80,3 +82,30 @@ returns-in_err-place-clause-known c known none =
     let kept_is = checked_ok (dictionary_reason (length c.args.self.now.attrs) c.args.node) (kept c.args.self.now.names c.args.node) c.in_ok-kept.kept c.in_ok-kept.ensures.reason in
     let attrs : keys_of c.self.inside.attrs.entries ≡ c.args.self.now.attrs = ap (λ (d : Things). d.attrs) c.self.view_is in
     absurd (true≢false (sym (c.in_err-place.ensures.known ((λ i. list_any (same_attr (kept_is.1 i)) (attrs i)) ∙ known))))
+
+pub returns-in_err-depth-clause-ok : goal.returns-in_err-depth-clause-ok
+returns-in_err-depth-clause-ok c = not_ok AttrId _ c.from_residual.result c.in_err-depth.field-0.0 c.from_residual.ensures.1
+
+pub returns-in_err-depth-clause-grows : goal.returns-in_err-depth-clause-grows
+returns-in_err-depth-clause-grows c = grows_refl c.args.self.now
+
+pub returns-in_err-depth-clause-err : goal.returns-in_err-depth-clause-err
+returns-in_err-depth-clause-err c = on_err AttrId c.from_residual.result refl
+
+pub returns-in_err-kept-clause-ok : goal.returns-in_err-kept-clause-ok
+returns-in_err-kept-clause-ok c = not_ok AttrId _ c.from_residual-in_err-kept.result c.in_err-kept.field-0.0 c.from_residual-in_err-kept.ensures.1
+
+pub returns-in_err-kept-clause-grows : goal.returns-in_err-kept-clause-grows
+returns-in_err-kept-clause-grows c = grows_refl c.args.self.now
+
+pub returns-in_err-kept-clause-err : goal.returns-in_err-kept-clause-err
+returns-in_err-kept-clause-err c = on_err AttrId c.from_residual-in_err-kept.result refl
+
+pub returns-in_err-place-clause-ok : goal.returns-in_err-place-clause-ok
+returns-in_err-place-clause-ok c = not_ok AttrId _ c.from_residual-in_err-place.result c.in_err-place.field-0.0 c.from_residual-in_err-place.ensures.1
+
+pub returns-in_err-place-clause-grows : goal.returns-in_err-place-clause-grows
+returns-in_err-place-clause-grows c = subst (Grows c.args.self.now) (sym (ap (λ es. things_of (map (λ v. v.items) c.self.inside.names.keys) c.self.inside.types.entries es) c.in_err-place.ensures.err ∙ c.self.view_is)) (grows_refl c.args.self.now)
+
+pub returns-in_err-place-clause-err : goal.returns-in_err-place-clause-err
+returns-in_err-place-clause-err c = on_err AttrId c.from_residual-in_err-place.result (ap (λ es. things_of (map (λ v. v.items) c.self.inside.names.keys) c.self.inside.types.entries es) c.in_err-place.ensures.err ∙ c.self.view_is)
