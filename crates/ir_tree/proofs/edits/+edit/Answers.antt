@@ -1,7 +1,7 @@
 use Rattle.std.proofs.Common.{◌≡◌, ◌∙◌, ap, sym, refl, subst, map, IfOk, ◌∷◌, [], ◌+◌, ℕ, List, drop}
-use Rattle.ir_tree.specs.Tree.{Op, Region, block, regions_of, ops_of, region_list, op_list}
-use Rattle.ir_tree.specs.Edited.{regions_edited, region_edited, ops_edited}
-use Rattle.ir_tree.specs.View.{region_view}
+use Rattle.ir_tree.specs.Tree.{Op, Head, Region, op, head, block, regions_of, ops_of, region_list, op_list}
+use Rattle.ir_tree.specs.Edited.{edited, regions_edited, region_edited, ops_edited}
+use Rattle.ir_tree.specs.View.{op_view, head_view, region_view}
 use Rattle.ir_tree.specs.declared.tree.TreeRegion.{TreeRegion}
 use Rattle.ir_tree.proofs.Lists.{regions_from, ops_from}
 use Rattle.ir_tree.proofs.Steps.{made_next, made_all, map_more}
@@ -53,3 +53,12 @@ edited_region-returns-after-loop-op g t c =
     subst (λ (x : Region). IfOk c.block_of.result (λ r. region_view r ≡ x))
     (ap (λ os. block c.in-Block.args.items (l c.args.owner c.args.number os)) made ∙ ap (λ r. region_edited f l c.args.owner c.args.number (region_view r)) (sym c.in-Block.is))
     c.block_of.ensures
+
+pub edited-returns : goal.edited-returns
+edited-returns g t c =
+    let f = g.H.HeadEdit.gives c.args.heads.now in
+    let l = g.L.ListEdit.gives c.args.lists.now in
+    let regions = regions_of (map region_view c.in_ok-regions.regions.items) in
+    let own = ap (λ (o : Op). op (f (head o)) regions) (sym c.root.view_is) in
+    let inside = ap (op (f (head_view c.root.inside))) c.in_ok-regions.ensures in
+    subst (λ (x : Op). IfOk c.op_of.result (λ o. o ≡ x)) (own ∙ inside ∙ ap (edited f l) c.root.view_is) c.op_of.ensures
