@@ -7,7 +7,7 @@ use Rattle.ir_tree.specs.Tree.{HeadOf, OpOf, op, head}
 use Rattle.ir_tree.specs.Ids.{HasDistinctIds, find}
 use Rattle.ir_tree.specs.Edits.{each_head, at, put_operand, with_operand}
 use Rattle.ir_tree.proofs.Heads.{alike_operand, head_find}
-use Rattle.ir_event.specs.Step.{operand_at}
+use Rattle.ir_tree_laws.specs.Changes.{operand_at}
 use Rattle.ir_event.proofs.Flat.{heads_in, first_head, heads_ids, found_head, each_twice, each_left, the_only}
 
 -- an item that is set back

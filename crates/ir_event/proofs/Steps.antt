@@ -21,7 +21,8 @@ use Rattle.ir_tree.proofs.SoundEdits.{operand_sound}
 use Rattle.ir_event.specs.declared.event.Event.{Event}
 use Rattle.ir_event.specs.declared.event.Event.TheVariants.{Put, Take, SetOperand, SetEntry, Shift}
 use Rattle.ir_event.specs.Modules.{Module, module_meaning}
-use Rattle.ir_event.specs.Step.{operand_at, SetsEntry, Changes, EventIsOf, IsAttrOrNone, Step, IsOperandEvent, IsOperandStep}
+use Rattle.ir_tree_laws.specs.Changes.{operand_at, SetsEntry}
+use Rattle.ir_event.specs.Step.{Changes, EventIsOf, IsAttrOrNone, Step, IsOperandEvent, IsOperandStep}
 use Rattle.ir_event.proofs.Operands.{undone, set_there}
 
 -- what a well-formed module stands for is well-formed

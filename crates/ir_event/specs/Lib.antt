@@ -1,5 +1,4 @@
 pub mod Modules
-pub mod Tables
 pub mod Step
 pub mod Rows
 pub mod Listener

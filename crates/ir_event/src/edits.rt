@@ -6,9 +6,10 @@ ghost use Rattle.ir_tree.specs.Ids.{ids, HasDistinctIds};
 ghost use Rattle.ir_tree.specs.Edits.{with_operand};
 ghost use Rattle.ir_tree.specs.Meaning.{isolated_in, IsSoundIn};
 ghost use Rattle.ir_tree.specs.WellFormed.{IsFormed, fault, IsWellFormed};
-ghost use Rattle.ir_store.specs.Reasons.{set_operand_reason};
+ghost use Rattle.ir_tree_laws.specs.Reasons.{set_operand_reason};
 ghost use Rattle.ir_event.specs.Modules.{things_in, module_in};
-ghost use Rattle.ir_event.specs.Step.{operand_at, IsOperandEvent, IsOperandStep};
+ghost use Rattle.ir_tree_laws.specs.Changes.{operand_at};
+ghost use Rattle.ir_event.specs.Step.{IsOperandEvent, IsOperandStep};
 
 use crate::event::Event;
 use crate::world::World;

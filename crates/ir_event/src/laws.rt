@@ -11,7 +11,8 @@ ghost use Rattle.ir_tree.specs.WellFormed.{Module as Numbered, IsWellFormed};
 ghost use Rattle.ir_event.specs.declared.event.Event.{Event as Edit};
 ghost use Rattle.ir_event.specs.declared.event.Event.TheVariants.{SetOperand};
 ghost use Rattle.ir_event.specs.Modules.{Module, module_meaning};
-ghost use Rattle.ir_event.specs.Step.{Step, inverse_of, operand_at};
+ghost use Rattle.ir_tree_laws.specs.Changes.{operand_at};
+ghost use Rattle.ir_event.specs.Step.{Step, inverse_of};
 ghost use Rattle.ir_event.specs.Panels.{AllTold, AllFollowed, AllKept, AttachedLast, Detached, BegunAgain, NotBegunAgain, kinds_of};
 
 use crate::analysis::Analysis;

@@ -2,7 +2,7 @@
 ghost use Rattle.std.specs.Prelude.{◌≡◌, option_map};
 ghost use Rattle.ir_tree.specs.Ids.{find, has_id};
 ghost use Rattle.ir_store.specs.Nodes.{node_of};
-ghost use Rattle.ir_store.specs.Values.{type_of_value};
+ghost use Rattle.ir_tree_laws.specs.Values.{type_of_value};
 ghost use Rattle.ir_event.specs.Looks.{one_more};
 
 use crate::world::World;

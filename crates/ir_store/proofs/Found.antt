@@ -4,7 +4,7 @@ use Rattle.std.specs.Prelude.{option_and_then, option_map}
 use Rattle.std.specs.List.{list_any}
 use Rattle.ir_tree.specs.Tree.{HeadOf, OpOf, op, RegionsOf, no_regions, region, RegionOf, empty, block, OpsOf, no_ops, next, regions, regions_of}
 use Rattle.ir_tree.specs.Ids.{ids, regions_ids, region_ids, ops_ids, first_of, find, regions_find, region_find, ops_find, has_id}
-use Rattle.ir_store.specs.Values.{region_at, arguments_of}
+use Rattle.ir_tree_laws.specs.Values.{region_at, arguments_of}
 use Rattle.ir_store.specs.Nodes.{NodeOf, node_of, regions_arguments}
 
 any-append : (p : ℕ → Bool) (xs ys : List ℕ) → list_any p (xs ++ ys) ≡ (list_any p xs || list_any p ys)

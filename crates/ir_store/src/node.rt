@@ -3,7 +3,7 @@ ghost use Rattle.std.specs.Prelude.{◌≡◌, length, slice_get, option_map, op
 ghost use Rattle.ir_tree.specs.Tree.{regions};
 ghost use Rattle.ir_tree.specs.View.{region_view};
 ghost use Rattle.ir_store.specs.Nodes.{node_of};
-ghost use Rattle.ir_store.specs.Values.{arguments_of, region_at};
+ghost use Rattle.ir_tree_laws.specs.Values.{arguments_of, region_at};
 
 use ir_tree::tree::{TreeOp, TreeRegion};
 use ir_tree::value::Value;

@@ -8,9 +8,9 @@ ghost use Rattle.ir_tree.specs.Edits.{with_operand};
 ghost use Rattle.ir_tree.specs.WellFormed.{IsFormed, IsWellFormed, fault};
 ghost use Rattle.ir_tree.specs.Meaning.{isolated_in, IsSoundIn};
 ghost use Rattle.ir_tree.specs.Tree.{head};
-ghost use Rattle.ir_store.specs.Values.{type_of_value, arguments_at};
+ghost use Rattle.ir_tree_laws.specs.Values.{type_of_value, arguments_at};
 ghost use Rattle.ir_store.specs.Nodes.{node_of};
-ghost use Rattle.ir_store.specs.Reasons.{set_operand_reason, value_reason};
+ghost use Rattle.ir_tree_laws.specs.Reasons.{set_operand_reason, value_reason};
 
 use crate::node::{Node, arguments, region_of};
 use ir_tree::changes::with_operand_set;

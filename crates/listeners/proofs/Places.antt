@@ -8,7 +8,7 @@ use Rattle.ir_tree.specs.Tree.{HeadOf, OpOf, op, RegionsOf, no_regions, region, 
 use Rattle.ir_tree.specs.Ids.{HasDistinctIds}
 use Rattle.ir_tree.specs.Edits.{at, put_operand, with_operand}
 use Rattle.ir_tree.specs.Maps.{map_tree, map_regions, map_region, map_ops}
-use Rattle.ir_event.specs.Step.{operand_at}
+use Rattle.ir_tree_laws.specs.Changes.{operand_at}
 use Rattle.ir_event.proofs.Flat.{heads_in, regions_heads, region_heads, ops_heads, first_head, heads_ids, heads_each, found_head}
 use Rattle.ir_event.proofs.Operands.{holder}
 use Rattle.listeners.specs.declared.key.Use.{Use}

@@ -17,8 +17,8 @@ use Rattle.ir_tree.specs.Meaning.{meaning, isolated_in}
 use Rattle.ir_tree.specs.WellFormed.{Module as Numbered}
 use Rattle.ir_tree.proofs.Mapped.{map_find, map_visible}
 use Rattle.ir_tree.proofs.MappedEdits.{map_with_operand}
-use Rattle.ir_store.specs.Reasons.{value_reason, operand_reason, set_operand_reason}
-use Rattle.ir_store.specs.Values.{region_at, arguments_of, arguments_at, type_of_value, has_value}
+use Rattle.ir_tree_laws.specs.Reasons.{value_reason, operand_reason, set_operand_reason}
+use Rattle.ir_tree_laws.specs.Values.{region_at, arguments_of, arguments_at, type_of_value, has_value}
 use Rattle.ir_event.specs.Modules.{Module, module_meaning}
 use Rattle.mlir_work_run_base.specs.Machine.{Answer, same_with, edited, IsOrMemory}
 use Rattle.mlir_work_run_base.specs.declared.desk.Reply.TheVariants.{Done, Refused}

@@ -7,7 +7,7 @@ use Rattle.ir_types.specs.Words.{is_isolated}
 use Rattle.ir_tree.specs.declared.value.Value.{Value}
 use Rattle.ir_tree.specs.Meaning.{Operation}
 use Rattle.ir_tree.specs.Edits.{with_operand}
-use Rattle.ir_store.specs.Reasons.{set_operand_reason}
+use Rattle.ir_tree_laws.specs.Reasons.{set_operand_reason}
 use Rattle.ir_event.specs.declared.world.World.{World}
 use Rattle.ir_event.specs.Modules.{Module, module_in}
 use Rattle.ir_event.specs.Rows.{RowTerm}

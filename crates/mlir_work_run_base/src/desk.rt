@@ -6,7 +6,7 @@ ghost use Rattle.ir_types.specs.Words.{is_isolated};
 ghost use Rattle.ir_types.specs.declared.refusal.Refusal.{Refusal as Reason};
 ghost use Rattle.ir_types.specs.declared.refusal.Refusal.TheVariants.{Memory};
 ghost use Rattle.ir_tree.specs.Edits.{with_operand};
-ghost use Rattle.ir_store.specs.Reasons.{set_operand_reason};
+ghost use Rattle.ir_tree_laws.specs.Reasons.{set_operand_reason};
 ghost use Rattle.ir_event.specs.Listener.{Listener};
 ghost use Rattle.ir_event.specs.Modules.{things_in, module_in};
 ghost use Rattle.ir_event.specs.Panels.{AllKept, AllTold, is_kind as has_this_kind};

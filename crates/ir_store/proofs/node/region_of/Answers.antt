@@ -3,7 +3,7 @@ use Rattle.std.proofs.lemmas.Option.{slice_get-map}
 use Rattle.std.specs.Prelude.{map, slice_get, option_map}
 use Rattle.ir_tree.specs.Tree.{Op, regions}
 use Rattle.ir_tree.specs.View.{region_view}
-use Rattle.ir_store.specs.Values.{region_at}
+use Rattle.ir_tree_laws.specs.Values.{region_at}
 use Rattle.ir_store.proofs.Found.{region_of_list, option_map_twice}
 use Rattle.ir_store.proofs.node.region_of.Goals as goal
 

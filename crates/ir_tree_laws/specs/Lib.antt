@@ -1,0 +1,10 @@
+pub mod Members
+pub mod Stands
+pub mod Tables
+pub mod Values
+pub mod Reads
+pub mod Preorder
+pub mod Reasons
+pub mod Changes
+pub mod Restores
+pub mod Keys

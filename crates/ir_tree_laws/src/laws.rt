@@ -1,0 +1,126 @@
+//! Laws of trees. Each is a function that does nothing: its contract is the law.
+ghost use Rattle.std.specs.Prelude.{◌≡◌, ◌≤◌, ◌+◌, ◌&&◌, ◌||◌, ◌-◌, not, ℕ, Bool, true, false, List, [], ◌∷◌, ◌++◌, map, length, eqb, Option, Some, None, option_map};
+ghost use Rattle.std.specs.List.{filter, list_all, list_any};
+ghost use Rattle.ir_tree.specs.declared.place.Part.{Part as Dictionary};
+ghost use Rattle.ir_tree.specs.declared.place.Place.{Place as Spot};
+ghost use Rattle.ir_tree.specs.declared.value.Value.{Value as TreeValue};
+ghost use Rattle.ir_tree.specs.Tree.{HeadOf, OpOf, head, regions};
+ghost use Rattle.ir_tree.specs.Ids.{HasDistinctIds, IsNumberedFrom, find, has_id, ids, op_count};
+ghost use Rattle.ir_tree.specs.Limits.{depth, every, most_next, most_ops, op_fits};
+ghost use Rattle.ir_tree.specs.Uses.{operand_uses, uses_of};
+ghost use Rattle.ir_tree.specs.Frames.{owner_of};
+ghost use Rattle.ir_tree.specs.Sites.{arguments, operands_visible, results_of, shows, visible};
+ghost use Rattle.ir_tree.specs.Edits.{each_head, with_entry, with_operand, with_value_replaced};
+ghost use Rattle.ir_tree.specs.Meaning.{dictionaries_rise};
+ghost use Rattle.ir_tree.specs.Places.{place_of, put, shifted, without};
+ghost use Rattle.ir_tree.specs.WellFormed.{IsWellFormed, ModuleOf};
+ghost use Rattle.ir_tree_laws.specs.Stands.{StandOf, StepOf, edit_stand, gather, greatest, first_some, is_gone, left_stand, place_at, place_in, sees, stand_id, stand_of, stands, table_in};
+ghost use Rattle.ir_tree_laws.specs.Tables.{table_of};
+ghost use Rattle.ir_tree_laws.specs.Reads.{around};
+ghost use Rattle.ir_tree_laws.specs.Reasons.{fits_around, has_place, hold_none, leads_inside, put_reason, set_entry_reason, set_operand_reason, shift_reason, take_reason, with_id};
+ghost use Rattle.ir_tree_laws.specs.Changes.{NextAfter, SetsEntry, Shifts, Takes};
+ghost use Rattle.ir_tree_laws.specs.Keys.{Ordered};
+ghost use Rattle.ir_tree_laws.specs.Preorder.{IsCutAt};
+ghost use Rattle.ir_tree_laws.specs.Members.{In};
+ghost use Rattle.ir_tree_laws.specs.Restores.{MayPut, MayRestore, MayRetract};
+
+/// Each function of a tree is one of the list of its operations with where they stand.
+pub fn trees_are_read_off_their_list<N, T, A>()
+    ensures ids { (t : OpOf N T A) → map (λ s. stand_id s) (stands [] t) ≡ ids t }
+    ensures find { (x : ℕ) (t : OpOf N T A) → option_map (λ s. s.here) (stand_of x t) ≡ find x t }
+    ensures every { (p : OpOf N T A → Bool) (t : OpOf N T A) → list_all (λ s. p s.here) (stands [] t) ≡ every p t }
+    ensures depth { (t : OpOf N T A) → greatest (λ s. length s.path) (stands [] t) ≡ depth t }
+    ensures uses { (v : TreeValue) (t : OpOf N T A) → gather (λ s. operand_uses v (stand_id s) 0 (head s.here).operands) (stands [] t) ≡ uses_of v t }
+    ensures place { (x : ℕ) (t : OpOf N T A) → first_some (place_at x) (stands [] t) ≡ place_of x t }
+    ensures table { (is_table : N → Bool) (x : ℕ) (t : OpOf N T A) → option_map (λ s. table_in is_table s.path) (stand_of x t) ≡ table_of is_table x t }
+    ensures around { (x : ℕ) (t : OpOf N T A) → option_map (λ s. length s.path) (stand_of x t) ≡ around x t }
+    ensures sight { (isolated : N → Bool) (x : ℕ) (v : TreeValue) (t : OpOf N T A) → visible isolated t x v ≡ list_any (λ s. eqb (stand_id s) x && sees isolated s.path v) (stands [] t) }
+    ensures operands { (isolated : N → Bool) (t : OpOf N T A) → operands_visible isolated t ≡ list_all (λ s. list_all (sees isolated s.path) (head s.here).operands) (stands [] t) }
+{}
+
+/// Where ids are distinct, an operation sees the results of those before it in its list, the arguments of its
+/// block, and what the operation around it sees, unless that is isolated; the root sees nothing.
+pub fn sight_is_by_cases<N, T, A>()
+    ensures inner { (isolated : N → Bool) (t : OpOf N T A) → HasDistinctIds t → (x : ℕ) (s : StandOf N T A) (a : StepOf N T A) (q : List (StepOf N T A)) (v : TreeValue) → stand_of x t ≡ Some s → s.path ≡ a ∷ q
+        → visible isolated t x v ≡ (list_any (λ o. shows v (results_of o)) a.front || (shows v (arguments (head a.parent).id a.region (length a.args)) || not (isolated (head a.parent).name) && visible isolated t (head a.parent).id v)) }
+    ensures root { (isolated : N → Bool) (t : OpOf N T A) (v : TreeValue) → HasDistinctIds t → visible isolated t (head t).id v ≡ false }
+    ensures operands { (isolated : N → Bool) (t : OpOf N T A) → HasDistinctIds t → operands_visible isolated t ≡ every (λ o. list_all (visible isolated t (head o).id) (head o).operands) t }
+{}
+
+/// The list after an edit of heads, and where an operation is taken out.
+pub fn lists_of_edited_trees<N, T, A>()
+    ensures heads { (f : HeadOf N T A → HeadOf N T A) (t : OpOf N T A) → stands [] (each_head f t) ≡ map (edit_stand f) (stands [] t) }
+    ensures without { (x : ℕ) (t : OpOf N T A) → stands [] (without x t) ≡ map (left_stand x) (filter (λ s. not (is_gone x s)) (stands [] t)) }
+{}
+
+/// An operation that is put at a place of a tree, with what is inside it, where no ids are equal, stands there; the
+/// list of the tree before is that of the tree after without it; what is inside it stands as it does in it, below
+/// the place; and as many operations stand around it as around the place's parent and that one.
+pub fn what_is_put_stands_at_its_place<N, T, A>()
+    ensures there { (place : Spot) (o t : OpOf N T A) → MayPut place o t → place_of (head o).id (put place o t) ≡ Some place }
+    ensures found { (place : Spot) (o t : OpOf N T A) → MayPut place o t → find (head o).id (put place o t) ≡ Some o }
+    ensures distinct { (place : Spot) (o t : OpOf N T A) → MayPut place o t → HasDistinctIds (put place o t) }
+    ensures list { (place : Spot) (o t : OpOf N T A) → MayPut place o t → stands [] t ≡ map (left_stand (head o).id) (filter (λ s. not (is_gone (head o).id s)) (stands [] (put place o t))) }
+    ensures inside { (place : Spot) (o t : OpOf N T A) → MayPut place o t → (path : List (StepOf N T A)) × (place_in path ≡ Some place) × (around place.parent t ≡ Some (length path - 1)) × (filter (is_gone (head o).id) (stands [] (put place o t)) ≡ stands path o) }
+    ensures order { (place : Spot) (o t : OpOf N T A) → MayPut place o t → (front back : List ℕ) × (ids t ≡ front ++ back) × (ids (put place o t) ≡ front ++ (ids o ++ back)) × IsCutAt place t front back }
+    ensures count { (place : Spot) (o t : OpOf N T A) → MayPut place o t → op_count (put place o t) ≡ op_count t + op_count o }
+    ensures uses { (place : Spot) (o t : OpOf N T A) → MayPut place o t → (v : TreeValue) → (front back : List (ℕ × ℕ)) × (uses_of v t ≡ front ++ back) × (uses_of v (put place o t) ≡ front ++ (uses_of v o ++ back)) }
+{}
+
+/// An operation that is taken from a tree without equal ids, with what is inside it, was one stretch of the tree's
+/// list, and what is left are the others, in their order.
+pub fn what_is_taken_was_one_stretch<N, T, A>()
+    ensures inside { (x : ℕ) (t o : OpOf N T A) → HasDistinctIds t → find x t ≡ Some o → eqb (head t).id x ≡ false → (path : List (StepOf N T A)) × (place_in path ≡ place_of x t) × (around x t ≡ Some (length path)) × (filter (is_gone x) (stands [] t) ≡ stands path o) }
+    ensures order { (x : ℕ) (t o : OpOf N T A) → HasDistinctIds t → find x t ≡ Some o → eqb (head t).id x ≡ false → (front back : List ℕ) × (ids t ≡ front ++ (ids o ++ back)) × (ids (without x t) ≡ front ++ back) }
+    ensures count { (x : ℕ) (t o : OpOf N T A) → HasDistinctIds t → find x t ≡ Some o → eqb (head t).id x ≡ false → op_count t ≡ op_count (without x t) + op_count o }
+    ensures uses { (x : ℕ) (t o : OpOf N T A) → HasDistinctIds t → find x t ≡ Some o → eqb (head t).id x ≡ false → (v : TreeValue) → (front back : List (ℕ × ℕ)) × (uses_of v t ≡ front ++ (uses_of v o ++ back)) × (uses_of v (without x t) ≡ front ++ back) }
+{}
+
+/// An operation that is left where another is taken has its head, its nearest table, as many others around it, and
+/// sees what it saw but for the values of the other.
+pub fn what_is_left_stays<N, T, A>()
+    ensures head { (x : ℕ) (t : OpOf N T A) → HasDistinctIds t → (y : ℕ) → has_id y (without x t) ≡ true → option_map head (find y (without x t)) ≡ option_map head (find y t) }
+    ensures around { (x : ℕ) (t : OpOf N T A) → HasDistinctIds t → (y : ℕ) → has_id y (without x t) ≡ true → around y (without x t) ≡ around y t }
+    ensures table { (x : ℕ) (t : OpOf N T A) → HasDistinctIds t → (y : ℕ) → has_id y (without x t) ≡ true → (is_table : N → Bool) → table_of is_table y (without x t) ≡ table_of is_table y t }
+    ensures sight { (x : ℕ) (t : OpOf N T A) → HasDistinctIds t → (y : ℕ) → has_id y (without x t) ≡ true → (isolated : N → Bool) (v : TreeValue) → eqb (owner_of v).0 x ≡ false → visible isolated (without x t) y v ≡ visible isolated t y v }
+{}
+
+/// Shifting an operation is putting it, with what is inside it, into the tree without it.
+pub fn shifting_is_taking_and_putting<N, T, A>()
+    ensures { (x : ℕ) (place : Spot) (t o : OpOf N T A) → HasDistinctIds t → find x t ≡ Some o → eqb (head t).id x ≡ false → has_place place t ≡ true → leads_inside place (Some o) ≡ false
+        → MayPut place o (without x t) × (shifted x place t ≡ put place o (without x t)) }
+{}
+
+/// Edits against which no reason stands leave a module well-formed.
+pub fn edits_keep_form<N, T, A>()
+    ensures put { (isolated : N → Bool) (place : Spot) (o : OpOf N T A) (m : ModuleOf N T A) → IsWellFormed isolated m → hold_none (regions o) ≡ true → put_reason isolated place o m.next m.tree ≡ None
+        → IsWellFormed isolated (record { tree = put place (with_id m.next o) m.tree; next = m.next + 1 }) }
+    ensures insert { (isolated : N → Bool) (place : Spot) (o : OpOf N T A) (m : ModuleOf N T A) → IsWellFormed isolated m → IsNumberedFrom m.next o → has_place place m.tree ≡ true
+        → every (λ q. list_all (visible isolated (put place o m.tree) (head q).id) (head q).operands) o ≡ true → fits_around (depth o) (around place.parent m.tree) ≡ true → op_count m.tree + op_count o ≤ most_ops → every op_fits o ≡ true
+        → m.next + op_count o ≤ most_next → IsWellFormed isolated (record { tree = put place o m.tree; next = m.next + op_count o }) }
+    ensures take { (isolated : N → Bool) (x : ℕ) (m : ModuleOf N T A) → IsWellFormed isolated m → take_reason x m.tree ≡ None → IsWellFormed isolated (record m { tree = without x m.tree }) }
+    ensures retract { (isolated : N → Bool) (x : ℕ) (m : ModuleOf N T A) → IsWellFormed isolated m → take_reason x m.tree ≡ None → m.next ≡ x + 1 → IsWellFormed isolated (record { tree = without x m.tree; next = x }) }
+    ensures erase { (isolated : N → Bool) (x : ℕ) (m : ModuleOf N T A) → IsWellFormed isolated m → list_all (λ s. is_gone x s || list_all (λ v. not (eqb (owner_of v).0 x)) (head s.here).operands) (stands [] m.tree) ≡ true
+        → IsWellFormed isolated (record m { tree = without x m.tree }) }
+    ensures shift { (isolated is_table : N → Bool) (x : ℕ) (place : Spot) (m : ModuleOf N T A) → IsWellFormed isolated m → shift_reason isolated is_table x place m.tree ≡ None → IsWellFormed isolated (record m { tree = shifted x place m.tree }) }
+    ensures operand { (isolated : N → Bool) (x k : ℕ) (v : TreeValue) (m : ModuleOf N T A) → IsWellFormed isolated m → set_operand_reason isolated x k v m.tree ≡ None → IsWellFormed isolated (record m { tree = with_operand x k v m.tree }) }
+    ensures replaced { (isolated : N → Bool) (old new : TreeValue) (m : ModuleOf N T A) → IsWellFormed isolated m → list_all (λ u. visible isolated m.tree u.0 new) (uses_of old m.tree) ≡ true → IsWellFormed isolated (record m { tree = with_value_replaced old new m.tree }) }
+    ensures entry { (isolated : N → Bool) (before : N → N → Bool) → ((k l m : N) → before k l ≡ true → before l m ≡ true → before k m ≡ true) → (x : ℕ) (part : Dictionary) (k : N) (a : Option A) (m : ModuleOf N T A)
+        → IsWellFormed isolated m → every (dictionaries_rise before) m.tree ≡ true → set_entry_reason before x part k a m.tree ≡ None → IsWellFormed isolated (record m { tree = with_entry before x part k a m.tree }) }
+{}
+
+/// What edits against which no reason stands make of a module.
+pub fn edits_are_changes<N, T, A>()
+    ensures put { (isolated : N → Bool) (place : Spot) (o : OpOf N T A) (m : ModuleOf N T A) → IsWellFormed isolated m → hold_none (regions o) ≡ true → put_reason isolated place o m.next m.tree ≡ None
+        → Takes m.next place true (record { tree = put place (with_id m.next o) m.tree; next = m.next + 1 }) m }
+    ensures take { (x : ℕ) (fresh : Bool) (m n : ModuleOf N T A) → HasDistinctIds m.tree → take_reason x m.tree ≡ None → n.tree ≡ without x m.tree → NextAfter fresh x m.next n.next → (place : Spot) × Takes x place fresh m n }
+    ensures shift { (isolated is_table : N → Bool) (x : ℕ) (place : Spot) (m : ModuleOf N T A) → HasDistinctIds m.tree → shift_reason isolated is_table x place m.tree ≡ None → (old : Spot) × Shifts is_table x old place m (record m { tree = shifted x place m.tree }) }
+    ensures entry { (before : N → N → Bool) → Ordered before → (x : ℕ) (part : Dictionary) (k : N) (a : Option A) (m : ModuleOf N T A) → HasDistinctIds m.tree → every (dictionaries_rise before) m.tree ≡ true → set_entry_reason before x part k a m.tree ≡ None
+        → (old : Option A) × SetsEntry before x part k old a m (record m { tree = with_entry before x part k a m.tree }) }
+{}
+
+/// What undoing asks follows from the change that is undone.
+pub fn changes_can_be_undone<N, T, A>()
+    ensures retract { (x : ℕ) (place : Spot) (fresh : Bool) (m n : ModuleOf N T A) → Takes x place fresh m n → MayRetract x fresh m }
+    ensures restore { (isolated : N → Bool) (x : ℕ) (place : Spot) (fresh : Bool) (m n : ModuleOf N T A) → IsWellFormed isolated n → Takes x place fresh n m → (o : OpOf N T A) → find x n.tree ≡ Some o → MayRestore x place fresh o m }
+{}
