@@ -318,6 +318,10 @@ module _ {N T A : Type 0} where
       newer true f h = h.1
       newer false f h = absurd (true≢false (sym f))
 
+      gone : (b : Bool) → b ≡ true → NextAfter b x n.next m.next → n.next ≡ x + 1
+      gone true f h = h.0
+      gone false f h = absurd (true≢false (sym f))
+
       same_next : (b : Bool) → b ≡ false → NextAfter b x n.next m.next → m.next ≡ n.next
       same_next false f h = h
       same_next true f h = absurd (true≢false f)
@@ -334,5 +338,6 @@ module _ {N T A : Type 0} where
             values = each_all (λ v. has_value v m.tree) (head o).operands (λ v i. ap (has_value v) c.left ∙ value_left isolated x n.tree w.distinct s.here a q there id v
                 (sym (ap (λ l. sees isolated l v) p) ∙ all_each (sees isolated s.path) (head s.here).operands (g.sees_own s h) v (subst (λ (z : OpOf N T A). In v (head z).operands) (sym is) i)));
             newest = λ k. newer fresh k c.next;
+            room = λ k. let e = gone fresh k c.next in let n = w.next in omega (arith, e, n);
             below = λ k. let lt = ids_below n.next n.tree w.below s h in let same = same_next fresh k c.next in omega (arith, lt, same, id);
           }

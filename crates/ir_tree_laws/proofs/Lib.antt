@@ -16,6 +16,9 @@ pub mod HeadForm
 pub mod Values
 pub mod Changed
 pub mod Entries
+pub mod Keys
 pub mod Cuts
 pub mod Edited
 pub mod Contents
+pub mod Undone
+pub mod Reverted

@@ -1,24 +1,28 @@
 //! Laws of trees. Each is a function that does nothing: its contract is the law.
 ghost use Rattle.std.specs.Prelude.{◌≡◌, ◌≤◌, ◌+◌, ◌&&◌, ◌||◌, ◌-◌, not, ℕ, Bool, true, false, List, [], ◌∷◌, ◌++◌, map, length, eqb, Option, Some, None, option_map};
 ghost use Rattle.std.specs.List.{filter, list_all, list_any};
+ghost use Rattle.ir_types.specs.Things.{Things};
+ghost use Rattle.ir_types.specs.Terms.{name_term, type_term, attr_term};
+ghost use Rattle.ir_types.specs.Words.{is_isolated, is_table};
 ghost use Rattle.ir_tree.specs.declared.place.Part.{Part as Dictionary};
 ghost use Rattle.ir_tree.specs.declared.place.Place.{Place as Spot};
 ghost use Rattle.ir_tree.specs.declared.value.Value.{Value as TreeValue};
-ghost use Rattle.ir_tree.specs.Tree.{HeadOf, OpOf, head, regions};
+ghost use Rattle.ir_tree.specs.Tree.{HeadOf, OpOf, Op, head, regions};
 ghost use Rattle.ir_tree.specs.Ids.{HasDistinctIds, IsNumberedFrom, find, has_id, ids, op_count};
 ghost use Rattle.ir_tree.specs.Limits.{depth, every, most_next, most_ops, op_fits};
 ghost use Rattle.ir_tree.specs.Uses.{operand_uses, uses_of};
 ghost use Rattle.ir_tree.specs.Frames.{owner_of};
 ghost use Rattle.ir_tree.specs.Sites.{arguments, operands_visible, results_of, shows, visible};
 ghost use Rattle.ir_tree.specs.Edits.{each_head, with_entry, with_operand, with_value_replaced};
-ghost use Rattle.ir_tree.specs.Meaning.{dictionaries_rise};
+ghost use Rattle.ir_tree.specs.Meaning.{dictionaries_rise, isolated_in, key_before, key_before_in, meaning};
 ghost use Rattle.ir_tree.specs.Places.{place_of, put, shifted, without};
-ghost use Rattle.ir_tree.specs.WellFormed.{IsWellFormed, ModuleOf};
+ghost use Rattle.ir_tree.specs.WellFormed.{IsWellFormed, Module, ModuleOf};
 ghost use Rattle.ir_tree_laws.specs.Stands.{StandOf, StepOf, edit_stand, gather, greatest, first_some, is_gone, left_stand, place_at, place_in, sees, stand_id, stand_of, stands, table_in};
 ghost use Rattle.ir_tree_laws.specs.Tables.{table_of};
 ghost use Rattle.ir_tree_laws.specs.Reads.{around};
 ghost use Rattle.ir_tree_laws.specs.Reasons.{fits_around, has_place, hold_none, leads_inside, put_reason, set_entry_reason, set_operand_reason, shift_reason, take_reason, with_id};
-ghost use Rattle.ir_tree_laws.specs.Changes.{NextAfter, SetsEntry, Shifts, Takes};
+ghost use Rattle.ir_tree_laws.specs.Changes.{NextAfter, SetsEntry, SetsOperand, Shifts, Takes, entry_in};
+ghost use Rattle.ir_tree_laws.specs.Values.{type_of_value};
 ghost use Rattle.ir_tree_laws.specs.Keys.{Ordered};
 ghost use Rattle.ir_tree_laws.specs.Preorder.{IsCutAt};
 ghost use Rattle.ir_tree_laws.specs.Members.{In};
@@ -119,8 +123,28 @@ pub fn edits_are_changes<N, T, A>()
         → (old : Option A) × SetsEntry before x part k old a m (record m { tree = with_entry before x part k a m.tree }) }
 {}
 
-/// What undoing asks follows from the change that is undone.
+/// What undoing asks follows from the change that is undone, and leads back.
 pub fn changes_can_be_undone<N, T, A>()
     ensures retract { (x : ℕ) (place : Spot) (fresh : Bool) (m n : ModuleOf N T A) → Takes x place fresh m n → MayRetract x fresh m }
     ensures restore { (isolated : N → Bool) (x : ℕ) (place : Spot) (fresh : Bool) (m n : ModuleOf N T A) → IsWellFormed isolated n → Takes x place fresh n m → (o : OpOf N T A) → find x n.tree ≡ Some o → MayRestore x place fresh o m }
+    ensures taken { (x : ℕ) (place : Spot) (fresh : Bool) (m n : ModuleOf N T A) → HasDistinctIds m.tree → Takes x place fresh m n → (o : OpOf N T A) → find x m.tree ≡ Some o → put place o n.tree ≡ m.tree }
+    ensures shifted { (is_table : N → Bool) (x : ℕ) (old new : Spot) (m n : ModuleOf N T A) → HasDistinctIds m.tree → Shifts is_table x old new m n → shifted x old n.tree ≡ m.tree }
+    ensures operand { (isolated : N → Bool) (x k : ℕ) (old new : TreeValue) (m n : ModuleOf N T A) → IsWellFormed isolated m → IsWellFormed isolated n → SetsOperand x k old new m n → set_operand_reason isolated x k old n.tree ≡ None }
+    ensures shift { (isolated is_table : N → Bool) (x : ℕ) (old new : Spot) (m n : ModuleOf N T A) → IsWellFormed isolated m → IsWellFormed isolated n → Shifts is_table x old new m n → shift_reason isolated is_table x old n.tree ≡ None }
+{}
+
+/// Values are of the same types in what a tree stands for, and an edit of that is refused for the reason for which
+/// the edit of the tree is; what undoing asks of it, it asks of the tree.
+pub fn contents_have_the_reasons()
+    ensures types { (c : Things) (v : TreeValue) (t : Op) → type_of_value v (meaning c t) ≡ option_map (type_term c) (type_of_value v t) }
+    ensures tables { (c : Things) (x : ℕ) (t : Op) → table_of is_table x (meaning c t) ≡ table_of (λ n. is_table (name_term c n)) x t }
+    ensures entries { (c : Things) (x : ℕ) (part : Dictionary) (k : ℕ) (t : Op) → entry_in key_before x part (name_term c k) (meaning c t) ≡ option_map (option_map (attr_term c)) (entry_in (key_before_in c) x part k t) }
+    ensures put { (c : Things) (place : Spot) (o : Op) (free : ℕ) (t : Op) → put_reason is_isolated place (meaning c o) free (meaning c t) ≡ put_reason (isolated_in c) place o free t }
+    ensures take { (c : Things) (x : ℕ) (t : Op) → take_reason x (meaning c t) ≡ take_reason x t }
+    ensures shift { (c : Things) (x : ℕ) (place : Spot) (t : Op) → shift_reason is_isolated is_table x place (meaning c t) ≡ shift_reason (isolated_in c) (λ n. is_table (name_term c n)) x place t }
+    ensures operand { (c : Things) (x k : ℕ) (v : TreeValue) (t : Op) → set_operand_reason is_isolated x k v (meaning c t) ≡ set_operand_reason (isolated_in c) x k v t }
+    ensures entry { (c : Things) (x : ℕ) (part : Dictionary) (k : ℕ) (a : Option ℕ) (t : Op)
+        → set_entry_reason key_before x part (name_term c k) (option_map (attr_term c) a) (meaning c t) ≡ set_entry_reason (key_before_in c) x part k a t }
+    ensures retract { (c : Things) (x : ℕ) (fresh : Bool) (m : Module) → MayRetract x fresh (record { tree = meaning c m.tree; next = m.next }) → MayRetract x fresh m }
+    ensures restore { (c : Things) (x : ℕ) (place : Spot) (fresh : Bool) (o : Op) (m : Module) → MayRestore x place fresh (meaning c o) (record { tree = meaning c m.tree; next = m.next }) → MayRestore x place fresh o m }
 {}

@@ -1,0 +1,14 @@
+use Rattle.ir_step_laws.proofs.Undone.{taken_steps, given_steps, moved_steps, newest_steps}
+use Rattle.ir_step_laws.proofs.laws.changes_are_steps.Goals as goal
+
+pub returns-clause-take : goal.returns-clause-take
+returns-clause-take _ c x place fresh m n w u t = taken_steps c x place fresh m n w u t
+
+pub returns-clause-put : goal.returns-clause-put
+returns-clause-put _ c x place fresh m n w u t = given_steps c x place fresh m n w u t
+
+pub returns-clause-shift : goal.returns-clause-shift
+returns-clause-shift _ c x old new m n w u s = moved_steps c x old new m n w u s
+
+pub returns-clause-newest : goal.returns-clause-newest
+returns-clause-newest _ c x m w e n = newest_steps c x m w e n
