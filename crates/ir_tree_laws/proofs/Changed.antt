@@ -247,7 +247,7 @@ module _ {N T A : Type 0} where
   each_block : (x r : ℕ) (q : OpOf N T A) (args : List T) (os : OpsOf N T A) → region_at r (regions q) ≡ Some (block args os) → region_at r (regions (each_list (dropping x) q)) ≡ Some (block args (drop_op x (ops_each_list (dropping x) os)))
   each_block x r (op h rs) args os e = region_each (dropping x) h.id 0 r rs ∙ ap (option_map (region_each_list (dropping x) h.id (0 + r))) e
 
-  joined_among : (b : ℕ) (front : List (OpOf N T A)) (os : OpsOf N T A) → is_among b os ≡ true → is_among b (joined_ops front os) ≡ true
+  pub joined_among : (b : ℕ) (front : List (OpOf N T A)) (os : OpsOf N T A) → is_among b os ≡ true → is_among b (joined_ops front os) ≡ true
   joined_among b [] os h = h
   joined_among b (f ∷ fs) os h = or_right (eqb (head f).id b) (is_among b (joined_ops fs os)) (joined_among b fs os h)
 

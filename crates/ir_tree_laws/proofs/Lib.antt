@@ -22,3 +22,4 @@ pub mod Edited
 pub mod Contents
 pub mod Undone
 pub mod Reverted
+pub mod Neighbours

@@ -39,7 +39,7 @@ use Rattle.ir_tree_laws.proofs.Changed.{spot_left}
 use Rattle.ir_tree_laws.proofs.Edited.{around_stays}
 use Rattle.ir_tree_laws.proofs.Undone.{shifted_back}
 
-got_below : {X : Type 0} (xs : List X) (k : ℕ) (x : X) → slice_get xs k ≡ Some x → k < length xs
+pub got_below : {X : Type 0} (xs : List X) (k : ℕ) (x : X) → slice_get xs k ≡ Some x → k < length xs
 got_below [] k x e = absurd cc
 got_below (y ∷ ys) zero x e = omega arith
 got_below (y ∷ ys) (suc k) x e = let n = got_below ys k x e in omega (arith, n)
@@ -115,7 +115,7 @@ module _ {N T A : Type 0} where
       join [] ys h = absurd (true≢false (sym h))
       join (x ∷ xs) ys h = elim (either (eqb x y) (list_any (λ z. eqb z y) xs) h) [ inl k ↦ or_left (eqb x y) _ k | inr k ↦ or_right (eqb x y) _ (join xs ys k) ]
 
-  among_split : (b : ℕ) (os : OpsOf N T A) → is_among b os ≡ true → (front : List (OpOf N T A)) × (p : OpOf N T A) × (rest : OpsOf N T A) × (os ≡ joined_ops front (next p rest)) × ((head p).id ≡ b)
+  pub among_split : (b : ℕ) (os : OpsOf N T A) → is_among b os ≡ true → (front : List (OpOf N T A)) × (p : OpOf N T A) × (rest : OpsOf N T A) × (os ≡ joined_ops front (next p rest)) × ((head p).id ≡ b)
   among_split b no_ops h = absurd (true≢false (sym h))
   among_split b (next p os) h = elim (either (eqb (head p).id b) (is_among b os) h) [
     | inl k ↦ ([], p, os, refl, eqb-true (head p).id b k)

@@ -18,7 +18,7 @@ use Rattle.ir_tree_laws.proofs.Members.{stand, within, joined_ops, ops_child, st
 use Rattle.ir_tree_laws.proofs.Around.{around_there}
 use Rattle.ir_tree_laws.proofs.Put.{child}
 
-got : {X : Type 0} (xs : List X) (k : ℕ) → k < length xs → is_some (slice_get xs k) ≡ true
+pub got : {X : Type 0} (xs : List X) (k : ℕ) → k < length xs → is_some (slice_get xs k) ≡ true
 got [] k h = absurd (omega (arith, h))
 got (x ∷ xs) zero h = refl
 got (x ∷ xs) (suc k) h = got xs k (omega (arith, h))
@@ -67,7 +67,7 @@ module _ {N T A : Type 0} where
   ]
 
   -- one of those before stands before
-  split_front : (f : OpOf N T A) (front : List (OpOf N T A)) (os : OpsOf N T A) → In f front → (pre : List (OpOf N T A)) × (rest : OpsOf N T A) × (joined_ops front os ≡ joined_ops pre (next f rest)) × (length pre < length front)
+  pub split_front : (f : OpOf N T A) (front : List (OpOf N T A)) (os : OpsOf N T A) → In f front → (pre : List (OpOf N T A)) × (rest : OpsOf N T A) × (joined_ops front os ≡ joined_ops pre (next f rest)) × (length pre < length front)
   split_front f [] os h = absurd h
   split_front f (o ∷ fs) os (inl e) = ([], joined_ops fs os, ap (λ z. next z (joined_ops fs os)) (sym e), omega arith)
   split_front f (o ∷ fs) os (inr h) = let r = split_front f fs os h in let n = r.3 in (o ∷ r.0, r.1, ap (next o) r.2, omega (arith, n))

@@ -1,6 +1,9 @@
 -- What is read off a tree: the operations beside an operation, and their order.
-use Rattle.std.specs.Prelude.{ℕ, ◌+◌, List, [], ◌∷◌, eqb, Bool, false, ◌||◌, if◌then◌else◌, Option, Some, None, option_map, option_and_then}
+use Rattle.std.specs.Prelude.{ℕ, ◌+◌, List, [], ◌∷◌, eqb, Bool, false, ◌&&◌, ◌||◌, if◌then◌else◌, Option, Some, None, option_map, option_and_then}
 use Rattle.std.specs.List.{list_any}
+use Rattle.ir_tree.specs.declared.place.Place.{Place}
+use Rattle.ir_tree.specs.declared.value.Value.{Value}
+use Rattle.ir_tree.specs.declared.value.Value.TheVariants.{Result, Arg}
 use Rattle.ir_tree.specs.Tree.{OpOf, op, RegionsOf, no_regions, region, RegionOf, empty, block, OpsOf, no_ops, next, head, regions}
 use Rattle.ir_tree.specs.Ids.{ids, find, first_of}
 use Rattle.ir_tree.specs.Places.{place_of, first_id}
@@ -67,6 +70,11 @@ in_list p (Some os) = p os
 -- whether operation a stands before operation b in one block
 abbrev pub is_before : {N T A : Type 0} → ℕ → ℕ → OpOf N T A → Bool
 is_before a b t = in_list (goes_before a b) (list_of a t)
+
+-- whether a value's owner is before operation x in its list, or the value is an argument of the block of x's place
+abbrev pub is_beside : {N T A : Type 0} → ℕ → Place → Value → OpOf N T A → Bool
+is_beside x place (Result y k) t = is_before y x t
+is_beside x place (Arg y r k) t = eqb y place.parent && eqb r place.region
 
 -- whether b stands behind the first a in a list of ids
 abbrev pub comes_after : ℕ → ℕ → List ℕ → Bool

@@ -7,7 +7,7 @@ ghost use Rattle.ir_types.specs.Words.{is_isolated, is_table};
 ghost use Rattle.ir_tree.specs.declared.place.Part.{Part as Dictionary};
 ghost use Rattle.ir_tree.specs.declared.place.Place.{Place as Spot};
 ghost use Rattle.ir_tree.specs.declared.value.Value.{Value as TreeValue};
-ghost use Rattle.ir_tree.specs.Tree.{HeadOf, OpOf, Op, head, regions};
+ghost use Rattle.ir_tree.specs.Tree.{HeadOf, OpOf, Op, head, op_list, ops_of, regions};
 ghost use Rattle.ir_tree.specs.Ids.{HasDistinctIds, IsNumberedFrom, find, has_id, ids, op_count};
 ghost use Rattle.ir_tree.specs.Limits.{depth, every, most_next, most_ops, op_fits};
 ghost use Rattle.ir_tree.specs.Uses.{operand_uses, uses_of};
@@ -15,14 +15,14 @@ ghost use Rattle.ir_tree.specs.Frames.{owner_of};
 ghost use Rattle.ir_tree.specs.Sites.{arguments, operands_visible, results_of, shows, visible};
 ghost use Rattle.ir_tree.specs.Edits.{each_head, with_entry, with_operand, with_value_replaced};
 ghost use Rattle.ir_tree.specs.Meaning.{dictionaries_rise, isolated_in, key_before, key_before_in, meaning};
-ghost use Rattle.ir_tree.specs.Places.{place_of, put, shifted, without};
+ghost use Rattle.ir_tree.specs.Places.{first_id, place_of, put, shifted, without};
 ghost use Rattle.ir_tree.specs.WellFormed.{IsWellFormed, Module, ModuleOf};
 ghost use Rattle.ir_tree_laws.specs.Stands.{StandOf, StepOf, edit_stand, gather, greatest, first_some, is_gone, left_stand, place_at, place_in, sees, stand_id, stand_of, stands, table_in};
 ghost use Rattle.ir_tree_laws.specs.Tables.{table_of};
-ghost use Rattle.ir_tree_laws.specs.Reads.{around};
+ghost use Rattle.ir_tree_laws.specs.Reads.{around, is_before, is_beside, last_id, list_of, next_of, parent_of, prev_of};
 ghost use Rattle.ir_tree_laws.specs.Reasons.{fits_around, has_place, hold_none, leads_inside, put_reason, set_entry_reason, set_operand_reason, shift_reason, take_reason, with_id};
 ghost use Rattle.ir_tree_laws.specs.Changes.{NextAfter, SetsEntry, SetsOperand, Shifts, Takes, entry_in};
-ghost use Rattle.ir_tree_laws.specs.Values.{type_of_value};
+ghost use Rattle.ir_tree_laws.specs.Values.{has_value, type_of_value};
 ghost use Rattle.ir_tree_laws.specs.Keys.{Ordered};
 ghost use Rattle.ir_tree_laws.specs.Preorder.{IsCutAt};
 ghost use Rattle.ir_tree_laws.specs.Members.{In};
@@ -43,12 +43,24 @@ pub fn trees_are_read_off_their_list<N, T, A>()
 {}
 
 /// Where ids are distinct, an operation sees the results of those before it in its list, the arguments of its
-/// block, and what the operation around it sees, unless that is isolated; the root sees nothing.
+/// block, and what the operation around it sees, unless that is isolated; the root sees nothing. Once by the path,
+/// and once by what is read of the tree.
 pub fn sight_is_by_cases<N, T, A>()
     ensures inner { (isolated : N → Bool) (t : OpOf N T A) → HasDistinctIds t → (x : ℕ) (s : StandOf N T A) (a : StepOf N T A) (q : List (StepOf N T A)) (v : TreeValue) → stand_of x t ≡ Some s → s.path ≡ a ∷ q
         → visible isolated t x v ≡ (list_any (λ o. shows v (results_of o)) a.front || (shows v (arguments (head a.parent).id a.region (length a.args)) || not (isolated (head a.parent).name) && visible isolated t (head a.parent).id v)) }
+    ensures by_place { (isolated : N → Bool) (t : OpOf N T A) → HasDistinctIds t → (x : ℕ) (place : Spot) (p : OpOf N T A) (v : TreeValue) → place_of x t ≡ Some place → find place.parent t ≡ Some p
+        → visible isolated t x v ≡ (has_value v t && is_beside x place v t || not (isolated (head p).name) && visible isolated t place.parent v) }
     ensures root { (isolated : N → Bool) (t : OpOf N T A) (v : TreeValue) → HasDistinctIds t → visible isolated t (head t).id v ≡ false }
     ensures operands { (isolated : N → Bool) (t : OpOf N T A) → HasDistinctIds t → operands_visible isolated t ≡ every (λ o. list_all (visible isolated t (head o).id) (head o).operands) t }
+{}
+
+/// Where ids are distinct, the operations beside an operation are those of its path.
+pub fn operations_beside_are_those_of_the_path<N, T, A>()
+    ensures list { (t : OpOf N T A) → HasDistinctIds t → (x : ℕ) (s : StandOf N T A) (a : StepOf N T A) (q : List (StepOf N T A)) → stand_of x t ≡ Some s → s.path ≡ a ∷ q → list_of x t ≡ Some (ops_of (a.front ++ s.here ∷ op_list a.rest)) }
+    ensures parent { (t : OpOf N T A) → HasDistinctIds t → (x : ℕ) (s : StandOf N T A) (a : StepOf N T A) (q : List (StepOf N T A)) → stand_of x t ≡ Some s → s.path ≡ a ∷ q → parent_of x t ≡ Some (head a.parent).id }
+    ensures next { (t : OpOf N T A) → HasDistinctIds t → (x : ℕ) (s : StandOf N T A) (a : StepOf N T A) (q : List (StepOf N T A)) → stand_of x t ≡ Some s → s.path ≡ a ∷ q → next_of x t ≡ first_id a.rest }
+    ensures prev { (t : OpOf N T A) → HasDistinctIds t → (x : ℕ) (s : StandOf N T A) (a : StepOf N T A) (q : List (StepOf N T A)) → stand_of x t ≡ Some s → s.path ≡ a ∷ q → prev_of x t ≡ last_id (ops_of a.front) }
+    ensures before { (t : OpOf N T A) → HasDistinctIds t → (x : ℕ) (s : StandOf N T A) (a : StepOf N T A) (q : List (StepOf N T A)) → stand_of x t ≡ Some s → s.path ≡ a ∷ q → (y : ℕ) → is_before y x t ≡ list_any (λ f. eqb (head f).id y) a.front }
 {}
 
 /// The list after an edit of heads, and where an operation is taken out.
