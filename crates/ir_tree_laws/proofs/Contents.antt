@@ -1,23 +1,22 @@
 -- What is read at trees of the same shape, with names, types and attributes changed: why edits are refused, and what
 -- undoing asks.
-use Rattle.std.proofs.Common.{◌≡◌, refl, ap, sym, ◌∙◌, ℕ, zero, suc, ◌+◌, Bool, true, false, cond, not, ◌&&◌, ◌||◌, eqb, List, [], ◌∷◌, length, map, Option, Some, None, option_map, arith}
+use Rattle.std.proofs.Common.{◌≡◌, refl, ap, sym, ◌∙◌, ℕ, zero, suc, ◌+◌, Bool, true, false, cond, not, ◌&&◌, ◌||◌, eqb, List, [], ◌∷◌, length, map, Option, Some, None, option_map}
 use Rattle.std.specs.Prelude.{nat_lt, nat_le, is_some, slice_get, option_and_then}
 use Rattle.std.specs.List.{list_any, list_all}
 use Rattle.std.proofs.lemmas.List.{length-map}
 use Rattle.std.proofs.lemmas.Option.{slice_get-map}
-use Rattle.ir_types.specs.declared.refusal.Refusal.{Refusal}
 use Rattle.ir_types.specs.declared.refusal.Refusal.TheVariants.{NoSuchOp, NoSuchValue, NotVisible, NoSuchIndex, NoSuchKey, Full, IdsExhausted, TooDeepHere, IsRoot, NotEmpty, HasUses, IntoItself, OtherTable}
 use Rattle.ir_tree.specs.declared.value.Value.{Value}
 use Rattle.ir_tree.specs.declared.value.Value.TheVariants.{Result, Arg}
 use Rattle.ir_tree.specs.declared.place.Place.{Place}
 use Rattle.ir_tree.specs.declared.place.Part.{Part}
 use Rattle.ir_tree.specs.declared.place.Part.TheVariants.{Props, Attrs}
-use Rattle.ir_tree.specs.Tree.{HeadOf, OpOf, op, RegionsOf, no_regions, region, RegionOf, empty, block, OpsOf, no_ops, next, head, regions, region_count}
-use Rattle.ir_tree.specs.Ids.{has_id, find, first_of, op_count, ids}
-use Rattle.ir_tree.specs.Limits.{depth, items_fit, arguments_pass, all_arguments_pass, op_fits, most_ops, most_items, most_regions, most_next}
+use Rattle.ir_tree.specs.Tree.{OpOf, op, RegionsOf, no_regions, region, RegionOf, empty, block, OpsOf, no_ops, next, head, regions, region_count}
+use Rattle.ir_tree.specs.Ids.{has_id, find, first_of, op_count}
+use Rattle.ir_tree.specs.Limits.{items_fit, all_arguments_pass, op_fits, most_ops, most_items, most_regions, most_next}
 use Rattle.ir_tree.specs.Sites.{visible, operands_visible}
 use Rattle.ir_tree.specs.Edits.{part_of, entry_at}
-use Rattle.ir_tree.specs.Maps.{map_entry, map_head, map_tree, map_regions, map_region, map_ops}
+use Rattle.ir_tree.specs.Maps.{map_entry, map_tree, map_regions, map_region, map_ops}
 use Rattle.ir_tree.specs.Meaning.{dictionaries_rise, rises, rises_after}
 use Rattle.ir_tree.specs.Places.{put, shifted}
 use Rattle.ir_tree.specs.WellFormed.{ModuleOf}
@@ -27,7 +26,7 @@ use Rattle.ir_tree_laws.specs.Changes.{entry_in}
 use Rattle.ir_tree_laws.specs.Tables.{table_around, regions_table, region_table, ops_table, table_of}
 use Rattle.ir_tree_laws.specs.Values.{region_at, arguments_of, arguments_at, type_of_value, has_value}
 use Rattle.ir_tree_laws.specs.Reads.{ops_in, ops_at, is_among, is_within, around_in, regions_around, region_around, ops_around, around}
-use Rattle.ir_tree_laws.specs.Reasons.{unless, value_reason, operand_reason, set_operand_reason, is_in_list, has_place, fits_around, with_id, operands_reason, put_reason, hold_none, holds_none, leaves, unused, take_reason, has_room, entry_reason, found_entry_reason, set_entry_reason, before_within, leads_inside, levels_in, same_table, shift_reason}
+use Rattle.ir_tree_laws.specs.Reasons.{unless, value_reason, operand_reason, set_operand_reason, is_in_list, has_place, fits_around, with_id, put_reason, hold_none, holds_none, leaves, unused, take_reason, entry_reason, found_entry_reason, set_entry_reason, before_within, leads_inside, levels_in, same_table, shift_reason}
 use Rattle.ir_tree_laws.specs.Restores.{MayRestore, MayRetract}
 
 some_map : {X Y : Type 0} (g : X → Y) (o : Option X) → is_some (option_map g o) ≡ is_some o

@@ -1,18 +1,18 @@
 -- Where in pre-order an operation comes that is put at a place.
-use Rattle.std.proofs.Common.{◌≡◌, refl, ap, sym, ◌∙◌, subst, ℕ, zero, suc, ◌+◌, Bool, true, false, true≢false, cond, not, eqb, eq-eqb, List, [], ◌∷◌, ◌++◌, map, filter, append_assoc, append-nil, Option, Some, None, option_map, inl, inr, arith}
+use Rattle.std.proofs.Common.{◌≡◌, refl, ap, sym, ◌∙◌, subst, ℕ, zero, suc, ◌+◌, true, true≢false, cond, not, eqb, eq-eqb, List, [], ◌∷◌, ◌++◌, map, filter, append_assoc, append-nil, Option, Some, None, option_map, inl, inr, arith}
 use Rattle.std.specs.List.{list_any, IsDistinct}
 use Rattle.std.proofs.lemmas.List.{append_cancel_left}
 use Rattle.ir_tree.specs.declared.place.Place.{Place}
-use Rattle.ir_tree.specs.Tree.{HeadOf, OpOf, op, RegionsOf, no_regions, region, RegionOf, empty, block, OpsOf, no_ops, next, head, regions}
+use Rattle.ir_tree.specs.Tree.{HeadOf, OpOf, op, RegionsOf, no_regions, region, RegionOf, block, OpsOf, no_ops, next, head, regions}
 use Rattle.ir_tree.specs.Ids.{ids, regions_ids, region_ids, ops_ids, HasDistinctIds, find}
-use Rattle.ir_tree.specs.Places.{first_id, each_list, regions_each_list, region_each_list, ops_each_list, drop_op, put, without}
+use Rattle.ir_tree.specs.Places.{first_id, each_list, regions_each_list, region_each_list, ops_each_list, drop_op, put}
 use Rattle.ir_tree.proofs.Moves.{Absent, absent_parts, region_untouched, without_absent}
 use Rattle.ir_tree.proofs.Returns.{halves, bool_cases}
 use Rattle.ir_tree_laws.specs.Members.{In}
 use Rattle.ir_tree_laws.specs.Preorder.{first_ids, IsCutBefore, IsCutAt}
 use Rattle.ir_tree_laws.specs.Restores.{MayPut}
 use Rattle.ir_tree_laws.specs.Values.{region_at}
-use Rattle.ir_tree_laws.specs.Stands.{StepOf, StandOf, stand_id, stands, dropping, left_step, left_stand}
+use Rattle.ir_tree_laws.specs.Stands.{StepOf, StandOf, stand_id, stands, dropping, left_stand}
 use Rattle.ir_tree_laws.proofs.Listed.{neither}
 use Rattle.ir_tree_laws.proofs.Members.{stand, has_around, joined_ops, stand_found}
 use Rattle.ir_tree_laws.proofs.Around.{around_there, stand_present}

@@ -23,3 +23,4 @@ pub mod Contents
 pub mod Undone
 pub mod Reverted
 pub mod Neighbours
+pub mod Nested

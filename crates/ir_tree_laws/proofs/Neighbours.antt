@@ -1,12 +1,12 @@
 -- The operations beside an operation, read off its path, and what it sees by them.
-use Rattle.std.proofs.Common.{◌≡◌, refl, ap, sym, ◌∙◌, subst, ℕ, ◌+◌, ◌<◌, Bool, true, false, true≢false, cond, not, ◌&&◌, ◌||◌, eqb, eq-eqb, eqb-true, List, [], ◌∷◌, ◌++◌, length, append_assoc, append-nil, Option, Some, None, option_map, inl, inr, arith}
+use Rattle.std.proofs.Common.{◌≡◌, refl, ap, sym, ◌∙◌, subst, ℕ, Bool, true, false, true≢false, cond, not, ◌&&◌, ◌||◌, eqb, eq-eqb, eqb-true, List, [], ◌∷◌, ◌++◌, length, Option, Some, None, option_map, inl, inr, arith}
 use Rattle.std.specs.Prelude.{nat_lt, is_some, slice_get, option_and_then}
 use Rattle.std.specs.List.{list_any}
 use Rattle.std.proofs.lemmas.Bool.{lt-ltb, ltb-true}
 use Rattle.ir_tree.specs.declared.value.Value.{Value}
 use Rattle.ir_tree.specs.declared.value.Value.TheVariants.{Result, Arg}
 use Rattle.ir_tree.specs.declared.place.Place.{Place}
-use Rattle.ir_tree.specs.Tree.{HeadOf, OpOf, OpsOf, RegionOf, empty, block, no_ops, next, head, regions, ops_of, op_list}
+use Rattle.ir_tree.specs.Tree.{OpOf, OpsOf, RegionOf, empty, block, no_ops, next, head, regions, ops_of, op_list}
 use Rattle.ir_tree.specs.Ids.{HasDistinctIds, find, first_of}
 use Rattle.ir_tree.specs.Places.{first_id, place_of}
 use Rattle.ir_tree.specs.Sites.{arguments, results_of, shows, visible}
@@ -14,7 +14,7 @@ use Rattle.ir_tree_laws.specs.Members.{In}
 use Rattle.ir_tree_laws.specs.Reads.{last_id, parent_of, next_of, ops_in, ops_at, is_among, goes_before, id_before, list_of, prev_of, in_list, is_before, is_beside}
 use Rattle.ir_tree_laws.specs.Stands.{StepOf, StandOf, stand_id, stand_of, stands, ops_stands, place_in}
 use Rattle.ir_tree_laws.specs.Values.{region_at, arguments_of, arguments_at, has_value}
-use Rattle.ir_tree_laws.proofs.Listed.{bool_cases, any_one, both, either, in_right, one_any, or_left, or_right}
+use Rattle.ir_tree_laws.proofs.Listed.{bool_cases, any_one, both, in_right, one_any, or_left}
 use Rattle.ir_tree_laws.proofs.Readings.{step}
 use Rattle.ir_tree_laws.proofs.Members.{stand, within, joined_ops, ops_child, found_stands, member, same_stand, stand_found}
 use Rattle.ir_tree_laws.proofs.Around.{around_there, member_of_place, place_of_member}
@@ -179,7 +179,7 @@ module _ {N T A : Type 0} where
             let above : In (stand p w.0.path) (stands [] t) = subst (λ (z : OpOf N T A). In (stand z w.0.path) (stands [] t)) w.3 w.1 in
             let m : In (stand s.3 (c ∷ w.0.path)) (stands [] t) =
             within p w.0.path (stand s.3 (c ∷ w.0.path)) (child p w.0.path place.region b.1 os (stand s.3 (c ∷ w.0.path)) b.3
-                (subst (λ l. In (stand s.3 (c ∷ w.0.path)) (ops_stands p w.0.path place.region b.1 [] l)) (sym s.7) (ops_child p w.0.path place.region b.1 [] (s.0 ++ s.1 ∷ s.2) s.3 s.4))) [] t above in
+            (subst (λ l. In (stand s.3 (c ∷ w.0.path)) (ops_stands p w.0.path place.region b.1 [] l)) (sym s.7) (ops_child p w.0.path place.region b.1 [] (s.0 ++ s.1 ∷ s.2) s.3 s.4))) [] t above in
             let same = same_stand t d (stand s.3 (c ∷ w.0.path)) (stand o (a ∷ q)) m h s.6 in
             let paths : c ∷ w.0.path ≡ a ∷ q = ap (λ (z : StandOf N T A). z.path) same in
             let one : c ≡ a = cc in

@@ -1,6 +1,5 @@
 -- A tree with an operation, and what is inside it, put at a place.
-use Rattle.std.proofs.Common.{◌≡◌, refl, ap, sym, ◌∙◌, subst, ℕ, ◌+◌, ◌<◌, ◌≤◌, Bool, true, false, true≢false, not, eqb, eq-eqb, List, [], ◌∷◌, ◌++◌, length, map, length-append, Some, option_map, inl, inr, ◌⊎◌, arith}
-use Rattle.std.specs.Prelude.{◌-◌}
+use Rattle.std.proofs.Common.{◌≡◌, ap, sym, ◌∙◌, subst, ℕ, ◌+◌, ◌<◌, ◌≤◌, Bool, true, false, true≢false, not, eqb, List, [], ◌∷◌, ◌++◌, length, map, length-append, Some, option_map, inl, inr, ◌⊎◌, arith}
 use Rattle.std.specs.List.{filter}
 use Rattle.std.specs.List.{list_any, list_all}
 use Rattle.std.proofs.lemmas.Bool.{leb-true}
@@ -18,12 +17,12 @@ use Rattle.ir_tree.proofs.Moves.{take_put}
 use Rattle.ir_tree_laws.specs.Reads.{around}
 use Rattle.ir_tree_laws.specs.Reasons.{fits_around}
 use Rattle.ir_tree_laws.specs.Restores.{MayPut}
-use Rattle.ir_tree_laws.specs.Stands.{StepOf, StandOf, stand_id, stands, stand_in, sees, is_gone, gone_in, left_stand, left_step, dropping, place_in}
+use Rattle.ir_tree_laws.specs.Stands.{StandOf, stand_id, stands, stand_in, sees, is_gone, left_stand, left_step, dropping}
 use Rattle.ir_tree_laws.specs.Members.{In}
 use Rattle.ir_tree_laws.proofs.Listed.{all_each, each_all, bool_cases, or_left, or_right}
 use Rattle.ir_tree_laws.proofs.Readings.{stands_every}
-use Rattle.ir_tree_laws.proofs.Members.{stand, itself, within, found_stands, stand_of_member, same_stand, stand_found}
-use Rattle.ir_tree_laws.proofs.Around.{stands_around, stand_present, gone_within, within_gone, place_of_member}
+use Rattle.ir_tree_laws.proofs.Members.{stand, itself, found_stands, stand_of_member, same_stand, stand_found}
+use Rattle.ir_tree_laws.proofs.Around.{stands_around, stand_present, gone_within, place_of_member}
 use Rattle.ir_tree_laws.proofs.Without.{left_member, same_head, left_sees, without_stands}
 use Rattle.ir_tree_laws.proofs.Sees.{visible_there, all_same}
 use Rattle.ir_tree_laws.proofs.Put.{spot_of, Landed, lands}

@@ -1,39 +1,38 @@
 -- Setting an operand back and shifting an operation back is not refused.
 use Rattle.std.proofs.Common.{◌≡◌, refl, ap, sym, ◌∙◌, subst, ℕ, zero, suc, ◌+◌, ◌<◌, ◌≤◌, Bool, true, false, true≢false, cond, not, ◌&&◌, ◌||◌, eqb, eq-eqb, eqb-true, List, [], ◌∷◌, ◌++◌, length, map, Option, Some, None, option_map, inl, inr, ◌⊎◌, arith}
-use Rattle.std.specs.Prelude.{nat_lt, slice_get, option_and_then}
-use Rattle.std.specs.List.{list_any, list_all, IsDistinct}
+use Rattle.std.specs.Prelude.{slice_get, option_and_then}
+use Rattle.std.specs.List.{list_any, IsDistinct}
 use Rattle.std.specs.Option.{option_eq}
 use Rattle.std.proofs.lemmas.Bool.{lt-ltb, le-leb}
 use Rattle.ir_types.specs.declared.refusal.Refusal.{Refusal}
 use Rattle.ir_types.specs.declared.refusal.Refusal.TheVariants.{NoSuchOp, NoSuchValue, NoSuchIndex, NotVisible, IsRoot, IntoItself, OtherTable, TooDeepHere}
 use Rattle.ir_tree.specs.declared.value.Value.{Value}
 use Rattle.ir_tree.specs.declared.place.Place.{Place}
-use Rattle.ir_tree.specs.Tree.{HeadOf, OpOf, op, RegionsOf, no_regions, region, RegionOf, empty, block, OpsOf, no_ops, next, head, regions}
+use Rattle.ir_tree.specs.Tree.{HeadOf, OpOf, op, RegionOf, empty, block, OpsOf, no_ops, next, head, regions}
 use Rattle.ir_tree.specs.Ids.{ids, HasDistinctIds, has_id, find}
 use Rattle.ir_tree.specs.Limits.{depth, most_around}
 use Rattle.ir_tree.specs.Sites.{visible, operands_visible}
-use Rattle.ir_tree.specs.Edits.{at, put_operand, with_operand}
-use Rattle.ir_tree.specs.Places.{first_id, place_of, each_list, region_each_list, ops_each_list, drop_op, put, without, shifted}
+use Rattle.ir_tree.specs.Edits.{at, put_operand}
+use Rattle.ir_tree.specs.Places.{first_id, each_list, region_each_list, ops_each_list, drop_op, without, shifted}
 use Rattle.ir_tree.specs.WellFormed.{ModuleOf, IsWellFormed}
 use Rattle.ir_tree.proofs.Heads.{alike_operand, head_visible}
-use Rattle.ir_tree.proofs.Left.{left_distinct}
 use Rattle.ir_tree.proofs.Returns.{halves}
 use Rattle.ir_tree_laws.specs.Members.{In}
 use Rattle.ir_tree_laws.specs.Stands.{StepOf, StandOf, stand_id, stand_of, stands, ops_stands, sees, place_in, dropping}
 use Rattle.ir_tree_laws.specs.Tables.{table_of}
-use Rattle.ir_tree_laws.specs.Values.{region_at, has_value}
+use Rattle.ir_tree_laws.specs.Values.{region_at}
 use Rattle.ir_tree_laws.specs.Reads.{around, is_among}
 use Rattle.ir_tree_laws.specs.Reasons.{unless, value_reason, operand_reason, set_operand_reason, is_in_list, has_place, fits_around, before_within, leads_inside, levels_in, same_table, shift_reason}
 use Rattle.ir_tree_laws.specs.Changes.{operand_at, SetsOperand, Shifts}
 use Rattle.ir_tree_laws.proofs.Listed.{all_each, bool_cases, either, or_left, or_right}
 use Rattle.ir_tree_laws.proofs.Readings.{stands_depth, step}
-use Rattle.ir_tree_laws.proofs.Members.{stand, within, has_around, joined_ops, ops_child, found_stands, same_stand, stand_found, stand_of_member}
+use Rattle.ir_tree_laws.proofs.Members.{stand, within, joined_ops, ops_child, found_stands, same_stand, stand_found, stand_of_member}
 use Rattle.ir_tree_laws.proofs.Around.{around_there, stand_present, stands_around, member_of_place}
 use Rattle.ir_tree_laws.proofs.Without.{member_left, same_head}
 use Rattle.ir_tree_laws.proofs.Sees.{visible_there}
 use Rattle.ir_tree_laws.proofs.Stretches.{part, parted_ids, left_ids}
-use Rattle.ir_tree_laws.proofs.Put.{Spot, spot_of, of_spot, region_each, child}
-use Rattle.ir_tree_laws.proofs.Formed.{from_formed, greatest_within, within_greatest}
+use Rattle.ir_tree_laws.proofs.Put.{spot_of, of_spot, region_each, child}
+use Rattle.ir_tree_laws.proofs.Formed.{from_formed, greatest_within}
 use Rattle.ir_tree_laws.proofs.Values.{seen_by}
 use Rattle.ir_tree_laws.proofs.Changed.{spot_left}
 use Rattle.ir_tree_laws.proofs.Edited.{around_stays}

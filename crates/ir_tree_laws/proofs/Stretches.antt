@@ -1,7 +1,7 @@
 -- What stands in an operation is one stretch of the list of the tree, and what goes with it is that stretch.
-use Rattle.std.proofs.Common.{◌≡◌, refl, ap, sym, ◌∙◌, subst, ℕ, ◌+◌, Bool, true, false, true≢false, cond, not, ◌||◌, eqb, eq-eqb, List, [], ◌∷◌, ◌++◌, length, map, filter, append_assoc, append-nil, length-append, Some, inl, inr, arith}
+use Rattle.std.proofs.Common.{◌≡◌, refl, ap, sym, ◌∙◌, subst, ℕ, ◌+◌, Bool, true, false, true≢false, cond, not, eqb, eq-eqb, List, [], ◌∷◌, ◌++◌, length, map, filter, append_assoc, append-nil, length-append, inl, inr, arith}
 use Rattle.std.specs.List.{list_any, IsDistinct}
-use Rattle.std.proofs.lemmas.List.{map-append, length-map}
+use Rattle.std.proofs.lemmas.List.{map-append}
 use Rattle.std.proofs.lemmas.List.Elements.{filter-append}
 use Rattle.ir_tree.specs.declared.value.Value.{Value}
 use Rattle.ir_tree.specs.Tree.{HeadOf, OpOf, op, RegionsOf, no_regions, region, RegionOf, empty, block, OpsOf, no_ops, next, head}
@@ -11,7 +11,7 @@ use Rattle.ir_tree.specs.Places.{without}
 use Rattle.ir_tree.proofs.Returns.{halves}
 use Rattle.ir_tree_laws.specs.Members.{In}
 use Rattle.ir_tree_laws.specs.Stands.{StepOf, StandOf, stand_id, stands, regions_stands, region_stands, ops_stands, gather, gone_in, is_gone, left_stand, dropping}
-use Rattle.ir_tree_laws.proofs.Listed.{bool_cases, in_left, in_right, in_parts, in_map, any_one, gather-append, or_left}
+use Rattle.ir_tree_laws.proofs.Listed.{bool_cases, in_left, in_right, in_parts, any_one, gather-append, or_left}
 use Rattle.ir_tree_laws.proofs.Readings.{step, stands_ids, stands_uses}
 use Rattle.ir_tree_laws.proofs.Members.{stand, same_stand}
 use Rattle.ir_tree_laws.proofs.Around.{any_ids, gone_within, within_gone}

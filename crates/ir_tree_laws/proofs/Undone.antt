@@ -3,7 +3,7 @@ use Rattle.std.proofs.Common.{◌≡◌, ap, sym, ◌∙◌, ℕ, Bool, Some}
 use Rattle.ir_tree.specs.declared.place.Place.{Place}
 use Rattle.ir_tree.specs.Tree.{OpOf}
 use Rattle.ir_tree.specs.Ids.{HasDistinctIds, find}
-use Rattle.ir_tree.specs.Places.{put, put_found, shifted, without}
+use Rattle.ir_tree.specs.Places.{put, put_found, shifted}
 use Rattle.ir_tree.specs.WellFormed.{ModuleOf}
 use Rattle.ir_tree.proofs.Returns.{put_take}
 use Rattle.ir_tree_laws.specs.Changes.{Shifts, Takes}

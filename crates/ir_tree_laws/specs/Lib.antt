@@ -4,6 +4,7 @@ pub mod Tables
 pub mod Values
 pub mod Reads
 pub mod Preorder
+pub mod Nested
 pub mod Reasons
 pub mod Changes
 pub mod Restores

@@ -44,10 +44,6 @@ abbrev mutual
   ops_stands p path r args front (next o os) =
       stands (record { parent = p; region = r; args = args; front = front; rest = os } ∷ path) o ++ ops_stands p path r args (front ++ o ∷ []) os
 
--- those of a whole tree
-abbrev pub all_stands : {N T A : Type 0} → OpOf N T A → List (StandOf N T A)
-all_stands t = stands [] t
-
 -- the first of a list that has an id
 abbrev pub stand_in : {N T A : Type 0} → ℕ → List (StandOf N T A) → Option (StandOf N T A)
 stand_in x [] = None

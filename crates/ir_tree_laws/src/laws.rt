@@ -7,8 +7,8 @@ ghost use Rattle.ir_types.specs.Words.{is_isolated, is_table};
 ghost use Rattle.ir_tree.specs.declared.place.Part.{Part as Dictionary};
 ghost use Rattle.ir_tree.specs.declared.place.Place.{Place as Spot};
 ghost use Rattle.ir_tree.specs.declared.value.Value.{Value as TreeValue};
-ghost use Rattle.ir_tree.specs.Tree.{HeadOf, OpOf, Op, head, op_list, ops_of, regions};
-ghost use Rattle.ir_tree.specs.Ids.{HasDistinctIds, IsNumberedFrom, find, has_id, ids, op_count};
+ghost use Rattle.ir_tree.specs.Tree.{HeadOf, OpOf, Op, RegionsOf, op, head, op_list, ops_of, regions};
+ghost use Rattle.ir_tree.specs.Ids.{HasDistinctIds, IsNumberedFrom, find, has_id, ids, op_count, regions_ids};
 ghost use Rattle.ir_tree.specs.Limits.{depth, every, most_next, most_ops, op_fits};
 ghost use Rattle.ir_tree.specs.Uses.{operand_uses, uses_of};
 ghost use Rattle.ir_tree.specs.Frames.{owner_of};
@@ -25,6 +25,7 @@ ghost use Rattle.ir_tree_laws.specs.Changes.{NextAfter, SetsEntry, SetsOperand, 
 ghost use Rattle.ir_tree_laws.specs.Values.{has_value, type_of_value};
 ghost use Rattle.ir_tree_laws.specs.Keys.{Ordered};
 ghost use Rattle.ir_tree_laws.specs.Preorder.{IsCutAt};
+ghost use Rattle.ir_tree_laws.specs.Nested.{with_last};
 ghost use Rattle.ir_tree_laws.specs.Members.{In};
 ghost use Rattle.ir_tree_laws.specs.Restores.{MayPut, MayRestore, MayRetract};
 
@@ -81,6 +82,16 @@ pub fn what_is_put_stands_at_its_place<N, T, A>()
     ensures order { (place : Spot) (o t : OpOf N T A) → MayPut place o t → (front back : List ℕ) × (ids t ≡ front ++ back) × (ids (put place o t) ≡ front ++ (ids o ++ back)) × IsCutAt place t front back }
     ensures count { (place : Spot) (o t : OpOf N T A) → MayPut place o t → op_count (put place o t) ≡ op_count t + op_count o }
     ensures uses { (place : Spot) (o t : OpOf N T A) → MayPut place o t → (v : TreeValue) → (front back : List (ℕ × ℕ)) × (uses_of v t ≡ front ++ back) × (uses_of v (put place o t) ≡ front ++ (uses_of v o ++ back)) }
+{}
+
+/// What is put into an operation that was put somewhere is put along with it, and so for what is taken out of it: so a
+/// whole tree is put operation by operation, each at the end of its block, and taken operation by operation.
+pub fn what_is_put_comes_piece_by_piece<N, T, A>()
+    ensures put { (place into : Spot) (o c t : OpOf N T A) → has_id into.parent t ≡ false → put into c (put place o t) ≡ put place (put into c o) t }
+    ensures without { (y : ℕ) (place : Spot) (o t : OpOf N T A) → eqb (head o).id y ≡ false → has_id y t ≡ false → without y (put place o t) ≡ put place (without y o) t }
+    ensures may { (place into : Spot) (o c t : OpOf N T A) → MayPut place o t → MayPut into c o → ((y : ℕ) → has_id y c ≡ true → has_id y t ≡ false) → MayPut into c (put place o t) }
+    ensures found { (place : Spot) (o t : OpOf N T A) → MayPut place o t → (y : ℕ) (z : OpOf N T A) → find y o ≡ Some z → find y (put place o t) ≡ Some z }
+    ensures last { (h : HeadOf N T A) (rs : RegionsOf N T A) (r : ℕ) (c : OpOf N T A) → list_any (λ y. eqb y h.id) (regions_ids rs) ≡ false → put (record { parent = h.id; region = r; before = None }) c (op h rs) ≡ op h (with_last r c rs) }
 {}
 
 /// An operation that is taken from a tree without equal ids, with what is inside it, was one stretch of the tree's
