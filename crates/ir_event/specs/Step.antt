@@ -4,8 +4,6 @@ use Rattle.ir_types.specs.Things.{Things, IsName, IsAttr}
 use Rattle.ir_types.specs.Terms.{name_term, attr_term}
 use Rattle.ir_types.specs.Words.{is_isolated, is_table}
 use Rattle.ir_tree.specs.declared.value.Value.{Value}
-use Rattle.ir_tree.specs.declared.place.Place.{Place}
-use Rattle.ir_tree.specs.declared.place.Part.{Part}
 use Rattle.ir_tree.specs.Tree.{OpOf}
 use Rattle.ir_tree.specs.Meaning.{key_before}
 use Rattle.ir_tree.specs.WellFormed.{IsWellFormed}

@@ -1,15 +1,15 @@
 -- Setting an entry of a module of numbers, or taking it out, is a step of what it stands for.
-use Rattle.std.proofs.Common.{◌≡◌, refl, ap, sym, ◌∙◌, subst, ℕ, Bool, true, false, cond, not, ◌&&◌, List, [], ◌∷◌, length, Option, Some, None, option_map, inl, inr}
+use Rattle.std.proofs.Common.{◌≡◌, refl, ap, sym, ◌∙◌, subst, ℕ, Bool, true, false, cond, ◌&&◌, List, [], ◌∷◌, length, Option, Some, None, option_map}
 use Rattle.std.specs.List.{list_all}
 use Rattle.std.proofs.lemmas.Bool.{ltb-true}
-use Rattle.ir_types.specs.Things.{Things, IsName, IsAttr}
+use Rattle.ir_types.specs.Things.{Things, IsName}
 use Rattle.ir_types.specs.Terms.{AttrTerm, name_term, type_term, attr_term}
 use Rattle.ir_types.specs.Words.{is_isolated}
 use Rattle.ir_tree.specs.declared.place.Part.{Part}
 use Rattle.ir_tree.specs.declared.place.Part.TheVariants.{Props, Attrs}
-use Rattle.ir_tree.specs.Tree.{HeadOf, OpOf, op, Op, head}
-use Rattle.ir_tree.specs.Ids.{HasDistinctIds, find}
-use Rattle.ir_tree.specs.Limits.{every, all_arguments_pass}
+use Rattle.ir_tree.specs.Tree.{op, Op, head}
+use Rattle.ir_tree.specs.Ids.{find}
+use Rattle.ir_tree.specs.Limits.{all_arguments_pass}
 use Rattle.ir_tree.specs.Passing.{entry_passes, head_passes, op_passes}
 use Rattle.ir_tree.specs.Edits.{part_of, entry_at, same_key, with_entry}
 use Rattle.ir_tree.specs.Meaning.{IsSoundIn, dictionaries_rise, is_attr, is_name, is_type, isolated_in, key_before, key_before_in, meaning}

@@ -23,6 +23,7 @@ pub record StandOf (N T A : Type 0) : Type 0 where
   pub here : OpOf N T A
   pub path : List (StepOf N T A)
 
+-- the id of the operation that stands there
 abbrev pub stand_id : {N T A : Type 0} → StandOf N T A → ℕ
 stand_id s = (head s.here).id
 

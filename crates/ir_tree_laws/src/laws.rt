@@ -26,7 +26,6 @@ ghost use Rattle.ir_tree_laws.specs.Values.{has_value, type_of_value};
 ghost use Rattle.ir_tree_laws.specs.Keys.{Ordered};
 ghost use Rattle.ir_tree_laws.specs.Preorder.{IsCutAt};
 ghost use Rattle.ir_tree_laws.specs.Nested.{with_last};
-ghost use Rattle.ir_tree_laws.specs.Members.{In};
 ghost use Rattle.ir_tree_laws.specs.Restores.{MayPut, MayRestore, MayRetract};
 
 /// Each function of a tree is one of the list of its operations with where they stand.
@@ -84,8 +83,8 @@ pub fn what_is_put_stands_at_its_place<N, T, A>()
     ensures uses { (place : Spot) (o t : OpOf N T A) → MayPut place o t → (v : TreeValue) → (front back : List (ℕ × ℕ)) × (uses_of v t ≡ front ++ back) × (uses_of v (put place o t) ≡ front ++ (uses_of v o ++ back)) }
 {}
 
-/// What is put into an operation that was put somewhere is put along with it, and so for what is taken out of it: so a
-/// whole tree is put operation by operation, each at the end of its block, and taken operation by operation.
+/// What is put into an operation that was put somewhere might as well have been put into it before, and so for what is
+/// taken out of it: the steps by which a whole tree can be put, or taken, operation by operation.
 pub fn what_is_put_comes_piece_by_piece<N, T, A>()
     ensures put { (place into : Spot) (o c t : OpOf N T A) → has_id into.parent t ≡ false → put into c (put place o t) ≡ put place (put into c o) t }
     ensures without { (y : ℕ) (place : Spot) (o t : OpOf N T A) → eqb (head o).id y ≡ false → has_id y t ≡ false → without y (put place o t) ≡ put place (without y o) t }
