@@ -18,7 +18,7 @@ use Rattle.ir_text_base.proofs.Decimals.{decimal_number, integer_again, eqb_self
 use Rattle.ir_text_base.proofs.Printed.{mark_token, value_token, hash_token, string_token, decimal_token, decimal_name}
 use Rattle.ir_text_type_base.specs.Grammars.{Not, IsMore, IsList, IsMark, Token}
 use Rattle.ir_text_read_base.specs.Free.{no_names, seen_as}
-use Rattle.ir_text_read_base.specs.Packs.{Counted, counts}
+use Rattle.ir_text_names_base.specs.Packs.{Counted, counts}
 use Rattle.ir_text_read_base.specs.Seen.{BoundTerm}
 use Rattle.ir_text_read_base.specs.OpGrammar.{IsCount, IsResult, IsResults, IsOpName, IsPlace, IsUse, IsStart, StartTerm}
 use Rattle.ir_text.specs.declared.naming.ValueName.{ValueName}

@@ -30,10 +30,11 @@ use Rattle.ir_text_type_base.specs.Standing.{TypeStands}
 use Rattle.ir_text_type_base.specs.Laws.{Each}
 use Rattle.ir_text_type_base.proofs.Worlds.{bind_assoc, later, Exact, exact_where, exact_spelled, then_exact, done_exact, after_exact, either_exact, list_exact}
 use Rattle.ir_text_type_base.proofs.TypeLaws.{type_exact}
-use Rattle.ir_text_read_base.specs.States.{State, to_bytes, after_in, typed, with_typed, with_scopes, inside, outside}
-use Rattle.ir_text_read_base.specs.FrontReading.{Text, name_at}
+use Rattle.ir_text_names_base.specs.States.{State, to_bytes, after_in, typed, with_typed, with_scopes, inside, outside}
+use Rattle.ir_text_names_base.specs.NameReading.{Text, name_at}
 use Rattle.ir_text_read_base.specs.Made.{region_of}
-use Rattle.ir_text_read_base.specs.OpReading.{bind, arg_named, arg_at, args_at, label_args_from, label_args_at, head_from, head_at, ops_from, ops_at, region_at, regions_from, regions_at}
+use Rattle.ir_text_names_base.specs.BlockReading.{bind, arg_named, arg_at, args_at, label_args_from, label_args_at, head_from, head_at}
+use Rattle.ir_text_read_base.specs.OpReading.{ops_from, ops_at, region_at, regions_from, regions_at}
 use Rattle.ir_text_read_base.specs.Seen.{PackTerm, Seen, seen_scopes, seen_inside, seen_outside, IsMarkSeen, InText, IsBound}
 use Rattle.ir_text_read_base.specs.OpGrammar.{IsName, IsArg, IsLabelArgs, IsHeadFrom, IsHead, IsOps, RegionTerm, IsRegion, IsRegions}
 use Rattle.ir_text_read_base.specs.Standing.{Equals, Both, StateStands, OpStands, RegionStands}

@@ -2,22 +2,18 @@
 use Rattle.std.specs.Prelude.{if◌then◌else◌, nat_eq, nat_le, not, ◌||◌}
 use Rattle.std.specs.List.{list_any, filter}
 use Rattle.std.specs.Str.{bytes_eq}
-use Rattle.std.proofs.Common.{◌≡◌, ◌+◌, ℕ, suc, Bool, true, false, true≢false, cond, List, [], ◌∷◌, length, Option, Some, None, refl, sym, ap, subst, ◌∙◌, inl, inr}
+use Rattle.std.proofs.Common.{◌≡◌, ◌+◌, ℕ, suc, Bool, true, false, true≢false, cond, List, [], ◌∷◌, length, Option, Some, None, refl, sym, ap, subst, ◌∙◌}
 use Rattle.std.proofs.lemmas.Bool.{eqb-true, eq-eqb}
-use Rattle.ir_text_base.specs.declared.token.Mark.TheVariants.{OpenCurly, CloseCurly, Less, Greater, Equal}
-use Rattle.ir_text_base.specs.Strings.{string_bytes}
-use Rattle.ir_text_base.specs.Tokens.{Lexeme, bare, string}
-use Rattle.ir_types.specs.declared.node.AttrNode.TheVariants as attr
+use Rattle.ir_text_base.specs.declared.token.Mark.TheVariants.{OpenCurly, CloseCurly, Less, Greater}
 use Rattle.ir_types.specs.Things.{Things, Grows}
-use Rattle.ir_types.specs.Terms.{Flag, name_term}
-use Rattle.ir_types.specs.Dictionaries.{kept}
+use Rattle.ir_types.specs.Terms.{name_term}
 use Rattle.ir_types.specs.Words.{is_inherent}
 use Rattle.ir_types.specs.Sound.{IsSound}
 use Rattle.ir_types.proofs.Growth.{grows_trans, name_is, name_refl}
 use Rattle.ir_types.proofs.Terms.{name_term_one}
-use Rattle.ir_text_type_base.specs.Outcomes.{Outcome, Read, Wrong, ◌>>=◌, Parse}
-use Rattle.ir_text_type_base.specs.Grammars.{Grammar, Then, Done, After, Token, IsMark}
-use Rattle.ir_text_type_base.specs.Typed.{Typed, after_typed, name_step}
+use Rattle.ir_text_type_base.specs.Outcomes.{Outcome, Read, Wrong, ◌>>=◌}
+use Rattle.ir_text_type_base.specs.Grammars.{Then, Done, After, IsMark}
+use Rattle.ir_text_type_base.specs.Typed.{Typed, after_typed}
 use Rattle.ir_text_attr_base.specs.AttrReading.{key_at, value_at, attr_at}
 use Rattle.ir_text_attr_base.specs.AttrGrammar.{EntryTerm, IsKey, IsAttr}
 use Rattle.ir_text_type_base.specs.Worlds.{From}
@@ -25,13 +21,11 @@ use Rattle.ir_text_type_base.specs.Standing.{NameStands, AttrStands}
 use Rattle.ir_text_type_base.specs.Laws.{Each}
 use Rattle.ir_text_type_base.proofs.Worlds.{Exact, exact_where, exact_spelled, nothing_exact, then_exact, done_exact, after_exact, either_exact}
 use Rattle.ir_text_type_base.proofs.TextLaws.{things, Same, typed_marks}
-use Rattle.ir_text_type_base.proofs.TokenLaws.{behind_exact, token_exact}
 use Rattle.ir_text_attr_base.proofs.PartLaws.{key_exact, value_exact}
 use Rattle.ir_text_attr_base.proofs.AttrLaws.{attr_exact}
 use Rattle.ir_text_read_base.specs.Entries.{moved, staying, is_refused}
 use Rattle.ir_text_read_base.specs.EntryReading.{Entries, is_property_in, refused_in, entry_at, entries_at, some_properties, properties_from, properties_at, attributes_from, attributes_at}
 use Rattle.ir_text_read_base.specs.Seen.{When}
-use Rattle.ir_text_read_base.specs.FrontReading.{Text}
 use Rattle.ir_text_read_base.specs.OpGrammar.{is_property, IsEntryValue, IsEntry, IsEntries, IsProperties, IsAttributes}
 use Rattle.ir_text_read_base.specs.Standing.{Both, EntryStands}
 use Rattle.ir_text_read_base.proofs.FrontLaws.{items_exact}

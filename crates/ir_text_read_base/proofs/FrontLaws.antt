@@ -22,10 +22,11 @@ use Rattle.ir_text_type_base.specs.Worlds.{From}
 use Rattle.ir_text_type_base.specs.Laws.{Each}
 use Rattle.ir_text_type_base.proofs.Worlds.{bind_assoc, option_read, option_full, fills_on, later, Agree, Exact, Step, Reads, Marks, step_on, reads_on, exact_where, exact_spelled, exact_for, nothing_exact, choice_exact, guard_exact, then_exact, done_exact, after_exact, either_exact, more_exact, list_exact}
 use Rattle.ir_text_type_base.proofs.TextLaws.{after_found, after_only, after_none, none_after}
-use Rattle.ir_text_read_base.specs.declared.bound.Bound.{Bound}
-use Rattle.ir_text_read_base.specs.FrontReading.{Text, Frees, member_of, name_from, name_at, number_from, number_at, some_count, count_at, result_at, names_at, results_from, results_at, op_name_from, op_name_at, place_of, place_from, place_at, member_at, use_from, use_at, uses_at, start_at}
+use Rattle.ir_text_names_base.specs.declared.bound.Bound.{Bound}
+use Rattle.ir_text_names_base.specs.NameReading.{Text, name_from, name_at, number_from, number_at, some_count, count_at, result_at, names_at, results_from, results_at}
+use Rattle.ir_text_read_base.specs.FrontReading.{Frees, member_of, op_name_from, op_name_at, place_of, place_from, place_at, member_at, use_from, use_at, uses_at, start_at}
 use Rattle.ir_text_read_base.specs.Free.{seen_as}
-use Rattle.ir_text_read_base.specs.Packs.{counts}
+use Rattle.ir_text_names_base.specs.Packs.{counts}
 use Rattle.ir_text_read_base.specs.Seen.{BoundTerm, PackTerm, When}
 use Rattle.ir_text_read_base.specs.OpGrammar.{FreeTerms, IsName, IsNumber, IsCount, IsResult, IsNames, IsResultsFrom, IsResults, IsOpName, IsPlace, IsUse, IsStart}
 use Rattle.ir_text_read_base.specs.Standing.{Equals, Both, BoundStands, PackStands, HereStands, FreeStands, StartStands}

@@ -1,5 +1,4 @@
 pub mod BlockLaws
-pub mod Counts
 pub mod EntryLaws
 pub mod FrontLaws
 pub mod MadeLaws
@@ -7,6 +6,8 @@ pub mod Members
 pub mod Modules
 pub mod NameLaws
 pub mod OpLaws
+pub mod OpParts
 pub mod OpSteps
 pub mod Outputs
 pub mod Singles
+pub mod Uses

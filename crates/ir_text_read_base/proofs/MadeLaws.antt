@@ -15,7 +15,7 @@ use Rattle.ir_tree.specs.Meaning.{is_name, is_type, is_attr, key_before, key_bef
 use Rattle.ir_tree.proofs.Meanings.{both_hold}
 use Rattle.ir_text_type_base.specs.Standing.{NameStands, TypeStands}
 use Rattle.ir_text_type_base.specs.Laws.{Each}
-use Rattle.ir_text_read_base.specs.declared.bound.Bound.{Bound}
+use Rattle.ir_text_names_base.specs.declared.bound.Bound.{Bound}
 use Rattle.ir_text_read_base.specs.Entries.{moved, staying, put_among, put_all, properties_of, attributes_of}
 use Rattle.ir_text_read_base.specs.EntryReading.{Entries, is_property_in}
 use Rattle.ir_text_read_base.specs.Made.{made}

@@ -33,7 +33,7 @@ use Rattle.ir_text_type_base.specs.Marks.{after}
 use Rattle.ir_text_type_base.specs.Outcomes.{Outcome, Read, Wrong, Full, Parse, Fails}
 use Rattle.ir_text_type_base.proofs.TextLaws.{after_found, after_only}
 use Rattle.ir_text_type_base.proofs.Worlds.{Step, Agree}
-use Rattle.ir_text_read_base.specs.States.{State, fresh}
+use Rattle.ir_text_names_base.specs.States.{State, fresh}
 use Rattle.ir_text_read_base.specs.Seen.{Seen, seen_fresh}
 use Rattle.ir_tree.specs.declared.value.Value.{Value}
 use Rattle.ir_text_read_base.specs.Free.{value_named, free_bound, no_types, no_names}

@@ -8,7 +8,6 @@ use Rattle.ir_text_base.specs.Scopes.{Binding, Scopes, find, bound, entered, lef
 use Rattle.ir_types.specs.Things.{Things, Grows}
 use Rattle.ir_types.specs.Sound.{IsSound}
 use Rattle.ir_types.proofs.Growth.{grows_refl, grows_trans}
-use Rattle.ir_tree.specs.declared.value.Value.TheVariants as values
 use Rattle.ir_types.specs.Terms.{TypeTerm}
 use Rattle.ir_text_type_base.specs.Marks.{after}
 use Rattle.ir_text_type_base.specs.Outcomes.{Outcome, Read, Wrong, Full, ◌>>=◌, of_option, Parse}
@@ -20,14 +19,14 @@ use Rattle.ir_text_type_base.specs.Laws.{Each}
 use Rattle.ir_text_type_base.proofs.Worlds.{bind_read, bind_full, later, Agree, Exact, Step, Comes, Reads, Marks, done_exact}
 use Rattle.ir_text_type_base.proofs.TextLaws.{after_found, after_only, after_none, none_after}
 use Rattle.ir_text_type_base.proofs.TextLaws as typed
-use Rattle.ir_text_read_base.specs.declared.bound.Bound.{Bound}
-use Rattle.ir_text_read_base.specs.States as states
-use Rattle.ir_text_read_base.specs.States.{State, to_bytes, after_in, with_typed, with_scopes, inside, outside}
-use Rattle.ir_text_read_base.specs.OpReading.{bind, results_of, bind_results, finish}
+use Rattle.ir_text_names_base.specs.declared.bound.Bound.{Bound}
+use Rattle.ir_text_names_base.specs.States as states
+use Rattle.ir_text_names_base.specs.States.{State, to_bytes, after_in, with_typed, with_scopes, inside, outside}
+use Rattle.ir_text_names_base.specs.BlockReading.{bind, results_of, bind_results, finish}
 use Rattle.ir_text_read_base.specs.Seen.{PackTerm, Seen, seen_rest, seen_scopes, seen_inside, seen_outside, IsMarkSeen, InText, IsBound}
-use Rattle.ir_text_read_base.specs.FrontReading.{Text}
+use Rattle.ir_text_names_base.specs.NameReading.{Text}
 use Rattle.ir_text_read_base.specs.OpGrammar.{result_terms, IsBoundResults, IsFinished}
-use Rattle.ir_text_read_base.specs.Packs.{Counted, counts}
+use Rattle.ir_text_names_base.specs.Packs.{Counted, counts}
 use Rattle.ir_text_read_base.specs.Standing.{Both, PackStands, BindingStands, HereStands, ScopesStand, StateStands}
 use Rattle.ir_text_read_base.proofs.EntryLaws.{each_length}
 use Rattle.ir_text_read_base.proofs.FrontLaws.{known, SameText, Plain, find_stands, shift_exact, token_exact}

@@ -27,12 +27,14 @@ use Rattle.ir_text_type_base.specs.Laws.{Each, SignatureStands, FillsUp}
 use Rattle.ir_text_type_base.proofs.Worlds.{bind_assoc, later, Exact, Step, Reads, exact_where, exact_spelled, nothing_exact, then_exact, after_exact}
 use Rattle.ir_text_type_base.proofs.TypeLaws.{function_type_exact}
 use Rattle.ir_text_attr_base.proofs.NodeLaws as attrs
-use Rattle.ir_text_read_base.specs.declared.bound.Bound.{Bound}
-use Rattle.ir_text_read_base.specs.States.{State, to_bytes, after_in, typed, with_typed, with_scopes, fresh}
-use Rattle.ir_text_read_base.specs.FrontReading.{Text, Frees, Start, start_at}
+use Rattle.ir_text_names_base.specs.declared.bound.Bound.{Bound}
+use Rattle.ir_text_names_base.specs.States.{State, to_bytes, after_in, typed, with_typed, with_scopes, fresh}
+use Rattle.ir_text_names_base.specs.NameReading.{Text}
+use Rattle.ir_text_read_base.specs.FrontReading.{Frees, Start, start_at}
 use Rattle.ir_text_read_base.specs.EntryReading.{Entries, properties_at, attributes_at}
 use Rattle.ir_text_read_base.specs.Made.{made}
-use Rattle.ir_text_read_base.specs.OpReading.{finish, types_of, op_of, regions_at, ops_at, tail_at, begun, op_with, op_at}
+use Rattle.ir_text_names_base.specs.BlockReading.{finish}
+use Rattle.ir_text_read_base.specs.OpReading.{types_of, op_of, regions_at, ops_at, tail_at, begun, op_with, op_at}
 use Rattle.ir_text_read_base.specs.Seen.{BoundTerm, PackTerm, Seen, seen_rest, seen_scopes, seen_fresh, IsMarkSeen, InText, When}
 use Rattle.ir_text_attr_base.specs.AttrGrammar.{EntryTerm}
 use Rattle.ir_text_read_base.specs.OpGrammar.{FreeTerms, StartTerm, RegionTerm, is_property, IsStart, IsProperties, IsAttributes, IsRegions, IsFinished, IsOps, IsTail, IsOpWith, IsOp}

@@ -5,7 +5,7 @@ use Rattle.ir_tree.specs.Tree.{Op}
 use Rattle.ir_text_type_base.specs.declared.error.ReadError.{ReadError}
 use Rattle.ir_text_type_base.specs.Outcomes.{Outcome, Read, Wrong, Parse, Fails}
 use Rattle.ir_text_type_base.proofs.ListSteps.{fails_with}
-use Rattle.ir_text_read_base.specs.States.{State, after_in}
+use Rattle.ir_text_names_base.specs.States.{State, after_in}
 use Rattle.ir_text_read_base.specs.OpReading.{ops_at}
 
 module _ (close : Mark) (p : Parse State Op) where

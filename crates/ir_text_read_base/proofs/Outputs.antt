@@ -1,13 +1,16 @@
 -- How long lists are that are read.
-use Rattle.std.proofs.Common.{◌≡◌, ℕ, zero, suc, ◌+◌, ◌≤◌, List, [], ◌∷◌, ◌++◌, length, Option, Some, None, ap, arith}
+use Rattle.std.specs.Prelude.{if◌then◌else◌}
+use Rattle.std.specs.Str.{bytes_eq}
+use Rattle.std.proofs.Common.{◌≡◌, ℕ, zero, suc, ◌+◌, ◌≤◌, Bool, true, false, List, [], ◌∷◌, ◌++◌, length, Option, Some, None, ap, arith}
 use Rattle.std.proofs.lemmas.List.{length-append}
 use Rattle.ir_text_base.specs.declared.token.Mark.{Mark}
-use Rattle.ir_text_base.specs.declared.token.Mark.TheVariants.{Comma, OpenRound, CloseRound, Arrow}
-use Rattle.ir_text_type_base.specs.Outcomes.{Outcome, Read, ◌>>=◌, of_option, Parse}
+use Rattle.ir_text_base.specs.declared.token.Mark.TheVariants.{Comma, Colon, OpenRound, CloseRound, Arrow}
+use Rattle.ir_text_type_base.specs.Outcomes.{Outcome, Read, Wrong, ◌>>=◌, of_option, Parse}
 use Rattle.ir_text_type_base.specs.Lists.{more_from, more_at, list_from, list_at}
 use Rattle.ir_text_type_base.specs.Typed.{Typed, after_typed}
 use Rattle.ir_text_type_base.specs.TypeReading.{types_at, outputs_from, outputs_at, signature_at, many, type_at, function_type_at}
 use Rattle.ir_text_type_base.proofs.Worlds.{bind_read, option_read}
+use Rattle.ir_text_read_base.specs.Openings.{outputs_at as outputs_in}
 
 abbrev pair : {A S : Type 0} → A → S → Outcome (A × S)
 pair x s = Read (x, s)
@@ -68,3 +71,19 @@ unfolding function_type_at
 function_type_length s x s' e =
     let c = option_read (after_typed OpenRound s) (signature_at (type_at 32) 256) (x, s') e in
     signature_length (type_at 32) 256 c.0 x s' (omega arith) c.2
+
+-- and so where its operands agree
+abbrev tested : Bool → List ℕ × Typed → Outcome (List ℕ × Typed)
+tested b x = if b then Read x else Wrong
+
+test_read : (b : Bool) (xs : List ℕ) (t : Typed) (ys : List ℕ) (u : Typed) → tested b (xs, t) ≡ Read (ys, u) → xs ≡ ys
+test_read true xs t ys u e = (read_parts xs ys t u e).0
+test_read false xs t ys u e = absurd cc
+
+pub outputs_few : (inputs : List ℕ) (s : Typed) (xs : List ℕ) (s' : Typed) → outputs_in inputs s ≡ Read (xs, s') → length xs ≤ 256
+unfolding outputs_in
+outputs_few inputs s xs s' e =
+    let c = option_read (after_typed Colon s) (λ c. function_type_at c >>= λ t. tested (bytes_eq inputs t.0.0) (t.0.1, t.1)) (xs, s') e in
+    let t = bind_read (function_type_at c.0) (λ t. tested (bytes_eq inputs t.0.0) (t.0.1, t.1)) (xs, s') c.2 in
+    let same = test_read (bytes_eq inputs t.0.0.0) t.0.0.1 t.0.1 xs s' t.2 in
+    rw (← same) (function_type_length c.0 t.0.0 t.0.1 t.1)

@@ -1,7 +1,7 @@
 -- One operation of a text, by the laws of operations.
 use Rattle.std.specs.Prelude.{IsTrue, IfSome, option_map, option_and_then}
 use Rattle.std.specs.List.{range_with_len}
-use Rattle.std.proofs.Common.{◌≡◌, ◌≤◌, ℕ, true, List, map, length, Option, Some, None, refl, sym, ap, subst, ◌∙◌, ⊎_elim, arith}
+use Rattle.std.proofs.Common.{◌≡◌, ◌≤◌, ℕ, List, length, Option, Some, None, refl, sym, ap, subst, ◌∙◌, ⊎_elim, arith}
 use Rattle.ir_text_base.specs.declared.token.Mark.TheVariants.{End}
 use Rattle.ir_text_base.specs.Limits.{text_reason}
 use Rattle.ir_types.specs.declared.refusal.Refusal.{Refusal}
@@ -14,7 +14,7 @@ use Rattle.ir_tree.specs.declared.value.Value.{Value}
 use Rattle.ir_tree.specs.Tree.{Op}
 use Rattle.ir_tree.specs.Ids.{IsNumberedFrom, ids}
 use Rattle.ir_tree.specs.Limits.{every, depth, counts_fit, most_around}
-use Rattle.ir_tree.specs.Meaning.{Operation, meaning, is_known, key_before, dictionaries_rise}
+use Rattle.ir_tree.specs.Meaning.{Operation, meaning, key_before, dictionaries_rise}
 use Rattle.ir_tree.proofs.Mapped.{map_depth, map_counts}
 use Rattle.ir_text_type_base.specs.Grammars.{IsMark}
 use Rattle.ir_text_type_base.specs.Marks.{after}
@@ -22,8 +22,7 @@ use Rattle.ir_text_type_base.specs.Outcomes.{Outcome, Read, Wrong, Full, ◌>>=�
 use Rattle.ir_text_type_base.specs.Worlds.{From}
 use Rattle.ir_text_type_base.proofs.TextLaws.{after_found, after_only}
 use Rattle.ir_text_type_base.proofs.Worlds.{bind_read, option_read, Step}
-use Rattle.ir_text_read_base.specs.declared.bound.Bound.{Bound}
-use Rattle.ir_text_read_base.specs.States.{State, fresh}
+use Rattle.ir_text_names_base.specs.States.{State, fresh}
 use Rattle.ir_text_read_base.specs.Free.{value_named, free_bound, free_term, bound_term}
 use Rattle.ir_text_read_base.specs.FrontReading.{Frees}
 use Rattle.ir_text_read_base.specs.OpReading.{op_at}

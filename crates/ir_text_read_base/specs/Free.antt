@@ -1,5 +1,5 @@
 -- Names that a text leaves free: each writes a value of the module around.
-use Rattle.std.specs.Prelude.{ℕ, ◌==◌, Bool, not, ◌&&◌, nat_le, if◌then◌else◌, List, [], ◌∷◌, length, take, drop, Option, Some, None, option_map, option_and_then}
+use Rattle.std.specs.Prelude.{ℕ, ◌==◌, not, ◌&&◌, nat_le, if◌then◌else◌, List, [], ◌∷◌, length, take, drop, Option, Some, None, option_map, option_and_then}
 use Rattle.std.specs.List.{list_all, prefix_len}
 use Rattle.std.specs.Char.{is_ascii_digit}
 use Rattle.ir_text_base.specs.Numbers.{place_value}
@@ -8,7 +8,7 @@ use Rattle.ir_types.specs.Things.{Things}
 use Rattle.ir_types.specs.Terms.{type_term}
 use Rattle.ir_tree.specs.declared.value.Value.{Value}
 use Rattle.ir_tree.specs.declared.value.Value.TheVariants as values
-use Rattle.ir_text_read_base.specs.declared.bound.Bound.{Bound}
+use Rattle.ir_text_names_base.specs.declared.bound.Bound.{Bound}
 use Rattle.ir_text_read_base.specs.Seen.{BoundTerm}
 
 -- ---- the value that a name writes

@@ -1,6 +1,4 @@
 pub mod Free
-pub mod Packs
-pub mod States
 pub mod FrontReading
 pub mod Entries
 pub mod EntryReading
@@ -12,3 +10,4 @@ pub mod OpGrammar
 pub mod Spelling
 pub mod Claims
 pub mod Standing
+pub mod Openings

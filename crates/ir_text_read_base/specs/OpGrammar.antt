@@ -6,11 +6,11 @@ use Rattle.std.specs.Char.{is_ascii_digit}
 use Rattle.std.specs.Str.{bytes_eq}
 use Rattle.ir_text_base.specs.declared.token.Mark.{Mark}
 use Rattle.ir_text_base.specs.declared.token.Mark.TheVariants.{OpenRound, CloseRound, OpenCurly, CloseCurly, Less, Greater, Equal, Colon}
-use Rattle.ir_text_base.specs.Tokens.{Lexeme, integer, value, string, bare, label, hash}
+use Rattle.ir_text_base.specs.Tokens.{Lexeme, integer, value, string, label, hash}
 use Rattle.ir_text_base.specs.Strings.{string_bytes}
 use Rattle.ir_text_base.specs.Numbers.{integer_of, place_value}
 use Rattle.ir_text_base.specs.Scopes.{Binding, Scopes}
-use Rattle.ir_types.specs.Terms.{TypeTerm, AttrTerm, Flag}
+use Rattle.ir_types.specs.Terms.{TypeTerm, AttrTerm}
 use Rattle.ir_types.specs.Words.{is_isolated, is_inherent}
 use Rattle.ir_tree.specs.declared.value.Value.TheVariants as values
 use Rattle.ir_tree.specs.Tree.{RegionOf}
@@ -21,7 +21,7 @@ use Rattle.ir_text_attr_base.specs.AttrGrammar.{EntryTerm, IsKey, IsValue, IsAtt
 use Rattle.ir_text_read_base.specs.Entries.{is_refused}
 use Rattle.ir_text_read_base.specs.Made.{region_of, made}
 use Rattle.ir_text_read_base.specs.Free.{seen_as}
-use Rattle.ir_text_read_base.specs.Packs.{Counted, counts}
+use Rattle.ir_text_names_base.specs.Packs.{Counted, counts}
 use Rattle.ir_text_read_base.specs.Seen.{BoundTerm, PackTerm, Seen, seen_rest, seen_scopes, seen_inside, seen_outside, IsMarkSeen, InText, When, IsBound}
 
 -- ---- before the dictionaries

@@ -5,7 +5,7 @@ use Rattle.ir_types.specs.Things.{Things}
 use Rattle.ir_tree.specs.Tree.{Op}
 use Rattle.ir_text_type_base.specs.Marks.{after}
 use Rattle.ir_text_type_base.specs.Outcomes.{Outcome, Read, ◌>>=◌, of_option}
-use Rattle.ir_text_read_base.specs.States.{State}
+use Rattle.ir_text_names_base.specs.States.{State}
 use Rattle.ir_text_read_base.specs.FrontReading.{Frees}
 use Rattle.ir_text_read_base.specs.OpReading.{op_at}
 

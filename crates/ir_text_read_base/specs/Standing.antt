@@ -12,8 +12,8 @@ use Rattle.ir_tree.specs.Meaning.{Operation, meaning, is_name, is_type, is_attr,
 use Rattle.ir_text_type_base.specs.Standing.{NameStands, TypeStands, AttrStands}
 use Rattle.ir_text_type_base.specs.Laws.{Each}
 use Rattle.ir_text_attr_base.specs.AttrGrammar.{EntryTerm}
-use Rattle.ir_text_read_base.specs.declared.bound.Bound.{Bound}
-use Rattle.ir_text_read_base.specs.States.{State}
+use Rattle.ir_text_names_base.specs.declared.bound.Bound.{Bound}
+use Rattle.ir_text_names_base.specs.States.{State}
 use Rattle.ir_text_read_base.specs.FrontReading.{Frees, Start}
 use Rattle.ir_text_read_base.specs.Seen.{BoundTerm, PackTerm, Seen}
 use Rattle.ir_text_read_base.specs.OpGrammar.{FreeTerms, StartTerm, RegionTerm}

@@ -6,6 +6,7 @@ ghost use Rattle.ir_text_read_base.specs.EntryReading.{refused_in, entry_at, ent
 use crate::dictionaries::{Entry, has_key, no_room};
 use ir_text_attr_base::dictionaries::{key, value};
 use ir_text_base::token::Mark;
+use ir_text_names_base::lists::{Behind, behind_item};
 use ir_text_type_base::error::{ReadError, wrong};
 use ir_text_type_base::steps::{after, expect};
 use ir_text_type_base::types::MOST_DEPTH;
@@ -81,10 +82,11 @@ fn entries<'a>(
             Err(e) => return Err(e),
         };
         items.push(item)?;
-        if let Some(end) = after(tail, Mark::CloseCurly) {
-            return Ok((items, end));
+        match behind_item(tail, Mark::CloseCurly) {
+            Ok(Behind::More(more)) => rest = more,
+            Ok(Behind::End(end)) => return Ok((items, end)),
+            Err(e) => return Err(e),
         }
-        rest = expect(tail, Mark::Comma)?;
     }
     Err(ReadError::Refused(wrong(Refusal::TooMany, rest)))
 }
@@ -98,13 +100,17 @@ fn some_properties<'a>(
 ) -> Result<(Vec<Entry>, &'a [u8]), ReadError>
     ensures { Gives (λ x. (x.0.items, (x.1.now, ctx.new))) result (some_properties (bytes.now, ctx.old)) }
 {
-    let rest = expect(bytes, Mark::OpenCurly)?;
-    let (items, rest) = match entries(alloc, ctx, &None, &[], rest) {
-        Ok(found) => found,
+    let rest = match expect(bytes, Mark::OpenCurly) {
+        Ok(rest) => rest,
         Err(e) => return Err(e),
     };
-    let rest = expect(rest, Mark::Greater)?;
-    Ok((items, rest))
+    match entries(alloc, ctx, &None, &[], rest) {
+        Ok((items, rest)) => match expect(rest, Mark::Greater) {
+            Ok(rest) => Ok((items, rest)),
+            Err(e) => Err(e),
+        },
+        Err(e) => Err(e),
+    }
 }
 
 /// The properties, where they are written.

@@ -4,8 +4,8 @@ ghost use Rattle.std.specs.List.{list_all, prefix_len};
 ghost use Rattle.std.specs.Char.{is_ascii_digit};
 ghost use Rattle.ir_text_read_base.specs.Free.{small, number_of, before_dot, at_dot, two_numbers, result_named, arg_named, value_named, free_bound};
 
-use crate::bound::Bound;
 use ir_text_base::numbers::integer_value;
+use ir_text_names_base::bound::Bound;
 use ir_tree::outer::Outer;
 use ir_tree::value::Value;
 use ir_types::ids::{OpId, TypeId};
@@ -61,7 +61,10 @@ fn number_of(digits: &[u8]) -> Option<u32>
     if digits.is_empty() || !are_digits(digits) {
         return None;
     }
-    small(integer_value(digits)?)
+    match integer_value(digits) {
+        Some(number) => small(number),
+        None => None,
+    }
 }
 
 /// How many bytes stand before the first dot.
@@ -87,26 +90,34 @@ fn at_dot(bytes: &[u8]) -> Option<(&[u8], &[u8])>
 fn two_numbers(bytes: &[u8]) -> Option<(u32, u32)>
     ensures { result ≡ two_numbers bytes.now }
 {
-    let (front, back) = at_dot(bytes)?;
-    let first = number_of(front)?;
-    let second = number_of(back)?;
-    Some((first, second))
+    let Some((front, back)) = at_dot(bytes) else {
+        return None;
+    };
+    match (number_of(front), number_of(back)) {
+        (Some(first), Some(second)) => Some((first, second)),
+        _ => None,
+    }
 }
 
 fn result_named(bytes: &[u8]) -> Option<Value>
     ensures { result ≡ result_named bytes.now }
 {
-    let (id, place) = two_numbers(bytes)?;
-    Some(Value::Result(OpId::new(id), place))
+    match two_numbers(bytes) {
+        Some((id, place)) => Some(Value::Result(OpId::new(id), place)),
+        None => None,
+    }
 }
 
 fn arg_named(bytes: &[u8]) -> Option<Value>
     ensures { result ≡ arg_named bytes.now }
 {
-    let (front, back) = at_dot(bytes)?;
-    let id = number_of(front)?;
-    let (region, place) = two_numbers(back)?;
-    Some(Value::Arg(OpId::new(id), region, place))
+    let Some((front, back)) = at_dot(bytes) else {
+        return None;
+    };
+    match (number_of(front), two_numbers(back)) {
+        (Some(id), Some((region, place))) => Some(Value::Arg(OpId::new(id), region, place)),
+        _ => None,
+    }
 }
 
 /// The value that a free name writes: `v12.0` is the first result of operation 12, and `a12.0.1` the
@@ -134,7 +145,11 @@ fn type_of<O: Outer>(outer: &O, value: &Value) -> Option<TypeId>
 pub(crate) fn free_bound<O: Outer>(outer: &O, name: &[u8]) -> Option<Bound>
     ensures { result ≡ free_bound (O.types outer.now) name.now }
 {
-    let value = value_named(name)?;
-    let ty = type_of(outer, &value)?;
-    Some(Bound { value, ty })
+    let Some(value) = value_named(name) else {
+        return None;
+    };
+    match type_of(outer, &value) {
+        Some(ty) => Some(Bound { value, ty }),
+        None => None,
+    }
 }

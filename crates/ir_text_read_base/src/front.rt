@@ -5,17 +5,19 @@ ghost use Rattle.std.specs.Char.{is_ascii_digit};
 ghost use Rattle.ir_text_base.specs.Numbers.{place_value};
 ghost use Rattle.ir_text_type_base.specs.Outcomes.{Gives};
 ghost use Rattle.ir_text_read_base.specs.Free.{free_bound};
+ghost use Rattle.ir_text_read_base.specs.Openings.{called_at};
 ghost use Rattle.ir_text_read_base.specs.FrontReading.{op_name_at, member_at, member_of, use_at, uses_at, start_at, start_view};
 
-use crate::bound::Bound;
 use crate::free::{are_digits, free_bound};
-use crate::named::{Named, one_too_many, results};
-use crate::pack::Pack;
 use ir_text_base::lexer;
 use ir_text_base::names::Names;
 use ir_text_base::numbers::integer_value;
 use ir_text_base::strings::string_value;
 use ir_text_base::token::{Mark, Token};
+use ir_text_names_base::bound::Bound;
+use ir_text_names_base::lists::{Behind, behind_item};
+use ir_text_names_base::named::{Named, name, one_too_many, results};
+use ir_text_names_base::pack::Pack;
 use ir_text_type_base::error::{ReadError, wrong};
 use ir_text_type_base::steps::{after, expect, token};
 use ir_tree::outer::Outer;
@@ -46,16 +48,30 @@ pub(crate) fn begin_refusal(found: &Token<'_>, named: bool) -> Refusal {
 fn op_name(alloc: Global, bytes: &[u8], named: bool) -> Result<(Vec<u8>, &[u8]), ReadError>
     ensures { Gives (λ x. (x.0.items, x.1.now)) result (op_name_at bytes.now) }
 {
-    let (found, rest) = token(bytes)?;
-    match found {
-        Token::String(raw) => {
+    match token(bytes) {
+        Ok((Token::String(raw), rest)) => {
             let name = string_value(alloc, raw)?;
             if name.is_empty() {
                 return Err(ReadError::Refused(wrong(Refusal::Unexpected, bytes)));
             }
             Ok((name, rest))
         }
-        _ => Err(ReadError::Refused(wrong(begin_refusal(&found, named), bytes))),
+        Ok((found, _)) => Err(ReadError::Refused(wrong(begin_refusal(&found, named), bytes))),
+        Err(e) => Err(e),
+    }
+}
+
+/// The name of an operation, and the parenthesis behind it.
+#[tactic(auto, unfolding(crate::specs::Openings::called_at))]
+fn called(alloc: Global, bytes: &[u8], named: bool) -> Result<(Vec<u8>, &[u8]), ReadError>
+    ensures { Gives (λ x. (x.0.items, x.1.now)) result (called_at bytes.now) }
+{
+    match op_name(alloc, bytes, named) {
+        Ok((name, rest)) => match expect(rest, Mark::OpenRound) {
+            Ok(rest) => Ok((name, rest)),
+            Err(e) => Err(e),
+        },
+        Err(e) => Err(e),
     }
 }
 
@@ -109,7 +125,6 @@ fn free_member<'a, O: Outer>(
 }
 
 /// A name that can be seen, or is free, and one of its values.
-#[tactic(auto, unfolding(crate::specs::FrontReading::use_at))]
 fn operand<'a, O: Outer>(
     outer: &O,
     names: &Names<'a, Pack>,
@@ -117,13 +132,13 @@ fn operand<'a, O: Outer>(
 ) -> Result<(Bound, &'a [u8]), ReadError>
     ensures { Gives (λ x. (x.0, x.1.now)) result (use_at (free_bound (O.types outer.now)) names.now.here bytes.now) }
 {
-    let (found, rest) = token(bytes)?;
-    match found {
-        Token::Value(name) => match names.find(name) {
-            Some(pack) => member(pack, rest),
-            None => free_member(outer, name, bytes, rest),
-        },
-        _ => Err(ReadError::Refused(wrong(Refusal::Unexpected, bytes))),
+    let (name, rest) = match name(bytes) {
+        Ok(found) => found,
+        Err(e) => return Err(e),
+    };
+    match names.find(name) {
+        Some(pack) => member(pack, rest),
+        None => free_member(outer, name, bytes, rest),
     }
 }
 
@@ -148,16 +163,16 @@ fn operands<'a, O: Outer>(
             Err(e) => return Err(e),
         };
         items.push(item)?;
-        if let Some(end) = after(tail, Mark::CloseRound) {
-            return Ok((items, end));
+        match behind_item(tail, Mark::CloseRound) {
+            Ok(Behind::More(more)) => rest = more,
+            Ok(Behind::End(end)) => return Ok((items, end)),
+            Err(e) => return Err(e),
         }
-        rest = expect(tail, Mark::Comma)?;
     }
     Err(ReadError::Refused(one_too_many(rest)))
 }
 
 /// What stands before an operation's dictionaries.
-#[tactic(auto, unfolding(crate::specs::FrontReading::start_at))]
 pub fn start<'a, O: Outer>(
     alloc: Global,
     outer: &O,
@@ -166,9 +181,14 @@ pub fn start<'a, O: Outer>(
 ) -> Result<(Front<'a>, &'a [u8]), ReadError>
     ensures { Gives (λ x. (start_view x.0, x.1.now)) result (start_at (free_bound (O.types outer.now)) names.now.here bytes.now) }
 {
-    let (results, rest) = results(alloc, bytes)?;
-    let (name, rest) = op_name(alloc, rest, results.is_some())?;
-    let rest = expect(rest, Mark::OpenRound)?;
+    let (results, rest) = match results(alloc, bytes) {
+        Ok(found) => found,
+        Err(e) => return Err(e),
+    };
+    let (name, rest) = match called(alloc, rest, results.is_some()) {
+        Ok(found) => found,
+        Err(e) => return Err(e),
+    };
     let (operands, rest) = match operands(alloc, outer, names, rest) {
         Ok(found) => found,
         Err(e) => return Err(e),

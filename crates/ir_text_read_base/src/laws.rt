@@ -15,7 +15,7 @@ ghost use Rattle.ir_text_read_base.specs.OpGrammar.{FreeTerms, IsOp, IsOps};
 ghost use Rattle.ir_text_read_base.specs.OpReading.{op_at, ops_at};
 ghost use Rattle.ir_text_read_base.specs.Seen.{Seen, seen_fresh};
 ghost use Rattle.ir_text_read_base.specs.Standing.{FreeStands, OpStands, StateStands};
-ghost use Rattle.ir_text_read_base.specs.States.{State, fresh};
+ghost use Rattle.ir_text_names_base.specs.States.{State, fresh};
 
 /// An operation that is read is spelled by the grammar, as the grown context has it; and each operation
 /// that is spelled is read, unless the context grows full on the way: then 16,777,216 names, types or

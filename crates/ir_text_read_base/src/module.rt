@@ -14,13 +14,13 @@ ghost use Rattle.ir_text_read_base.specs.Claims.{IsOnly, IsNone, IsRootOrNone, I
 use crate::free::{Around, NoOuter};
 use crate::ops::{MOST_OPS, op, ops};
 use crate::places::is_outside;
-use crate::scope::Scope;
 use ir_text_base::fault::Fault;
 use ir_text_base::lexer::token;
 use ir_text_base::limits::check_text;
 use ir_text_base::names::Names;
 use ir_text_base::strings::string_value;
 use ir_text_base::token::{Mark, Token};
+use ir_text_names_base::scope::Scope;
 use ir_text_type_base::error::{ReadError, wrong};
 use ir_text_type_base::steps::after;
 use ir_tree::check::check;

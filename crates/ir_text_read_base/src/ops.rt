@@ -4,30 +4,25 @@ ghost use Rattle.ir_text_base.specs.declared.token.Mark.TheVariants.{CloseCurly}
 ghost use Rattle.ir_tree.specs.Tree.{Region};
 ghost use Rattle.ir_tree.specs.View.{region_view};
 ghost use Rattle.ir_text_type_base.specs.Outcomes.{Gives};
-ghost use Rattle.ir_text_read_base.specs.States.{state_of};
+ghost use Rattle.ir_text_names_base.specs.States.{state_of};
 ghost use Rattle.ir_text_read_base.specs.Free.{free_bound};
-ghost use Rattle.ir_text_read_base.specs.FrontReading.{start_view};
 ghost use Rattle.ir_text_read_base.specs.Made.{region_of};
-ghost use Rattle.ir_text_read_base.specs.OpReading.{tail_at, region_at, regions_at, ops_at, op_with, op_at};
+ghost use Rattle.ir_text_read_base.specs.OpReading.{region_at, regions_at, ops_at, op_with, op_at};
 
-use crate::binding::{agrees, values_of};
-use crate::blocks::head;
-use crate::dictionaries::{Entry, attributes_of, properties_of};
-use crate::entries::{attributes, properties};
 use crate::free::Around;
-use crate::front::{Front, start};
-use crate::places::{fault_at_name, placed, region_too_many};
-use crate::results::finish;
-use crate::scope::Scope;
-use ir_text_base::fault::Fault;
+use crate::opening::read_opening;
+use crate::places::{error_at_name, region_too_many};
+use crate::tail::closing;
 use ir_text_base::token::Mark;
+use ir_text_names_base::blocks::region_head;
+use ir_text_names_base::lists::{Behind, behind_item};
+use ir_text_names_base::scope::Scope;
 use ir_text_type_base::error::{ReadError, wrong};
-use ir_text_type_base::steps::{self, after, expect};
-use ir_text_type_base::types::function_type;
+use ir_text_type_base::steps::after;
 use ir_tree::outer::Outer;
 use ir_tree::tree::{TreeOp, TreeRegion};
 use ir_types::context::Context;
-use ir_types::ids::{NameId, OpId, TypeId};
+use ir_types::ids::TypeId;
 use ir_types::refusal::Refusal;
 use std::alloc::Global;
 
@@ -50,63 +45,8 @@ fn region_of(alloc: Global, args: Option<Vec<TypeId>>, ops: Vec<TreeOp>) -> Tree
     }
 }
 
-/// What stands behind an operation's regions: its attributes and its function type. Then the names of
-/// its results are bound.
-#[tactic(auto, unfolding(crate::specs::OpReading::tail_at))]
-fn tail<'a>(
-    alloc: Global,
-    scope: &mut Scope<'a>,
-    ctx: &mut Context,
-    id: u32,
-    name: NameId,
-    front: Front<'a>,
-    written: Vec<Entry>,
-    regions: Vec<TreeRegion>,
-    bytes: &'a [u8],
-) -> Result<(TreeOp, &'a [u8]), ReadError>
-    ensures { Gives (λ x. (x.0, state_of x.1.now scope.new ctx.new)) result (tail_at id name (start_view front.entry) written.items (map region_view regions.items) (state_of bytes.now scope.old ctx.old)) }
-{
-    let (others, rest) = match attributes(alloc, ctx, name, &written, bytes) {
-        Ok(found) => found,
-        Err(e) => return Err(e),
-    };
-    let colon = wrong(Refusal::TypeMismatch, rest);
-    let rest = expect(rest, Mark::Colon)?;
-    let ((inputs, results), rest) = match function_type(alloc, ctx, rest) {
-        Ok(found) => found,
-        Err(e) => return Err(e),
-    };
-    if !agrees(&front.operands, &inputs) {
-        return Err(ReadError::Refused(colon));
-    }
-    finish(
-        alloc,
-        &mut scope.names,
-        id,
-        &front.results,
-        &results,
-        colon.left,
-    )?;
-    let operands = values_of(alloc, &front.operands)?;
-    let props = properties_of(alloc, ctx, name, &written, &others)?;
-    let attrs = attributes_of(alloc, ctx, name, &others)?;
-    Ok((
-        TreeOp {
-            id: OpId::new(id),
-            name,
-            operands,
-            results,
-            props,
-            attrs,
-            regions,
-        },
-        rest,
-    ))
-}
-
 /// A region. Its names are hidden again at its end; in one of an isolated operation no others are seen.
 #[cycle(op)]
-#[tactic(auto, unfolding(crate::specs::OpReading::region_at))]
 fn region<'a, O: Outer>(
     alloc: Global,
     scope: &mut Scope<'a>,
@@ -120,9 +60,7 @@ fn region<'a, O: Outer>(
 ) -> Result<(TreeRegion, &'a [u8]), ReadError>
     ensures { (before : List Region) → length before ≡ region → Gives (λ x. (region_view x.0, state_of x.1.now scope.new ctx.new)) result (region_at (ops_at CloseCurly (op_at (free_bound (O.types around.now.outer.now)) around.now.last depth) MOST_OPS []) id isolated before (state_of bytes.now scope.old ctx.old)) }
 {
-    let rest = expect(bytes, Mark::OpenCurly)?;
-    scope.names.enter(isolated)?;
-    let (args, rest) = match head(alloc, scope, ctx, id, region, rest) {
+    let (args, rest) = match region_head(alloc, scope, ctx, id, region, isolated, bytes) {
         Ok(found) => found,
         Err(e) => return Err(e),
     };
@@ -162,11 +100,14 @@ fn regions<'a, O: Outer>(
             Err(e) => return Err(e),
         };
         items.push(item)?;
-        if let Some(end) = after(tail, Mark::CloseRound) {
-            items.shrink_to_fit();
-            return Ok((items, end));
+        match behind_item(tail, Mark::CloseRound) {
+            Ok(Behind::More(more)) => rest = more,
+            Ok(Behind::End(end)) => {
+                items.shrink_to_fit();
+                return Ok((items, end));
+            }
+            Err(e) => return Err(e),
         }
-        rest = expect(tail, Mark::Comma)?;
     }
     Err(ReadError::Refused(region_too_many(rest)))
 }
@@ -203,7 +144,6 @@ pub fn ops<'a, O: Outer>(
 
 /// An operation in which others stand with at most that many levels.
 #[cycle(op)]
-#[tactic(auto, unfolding(crate::specs::OpReading::op_with))]
 fn op_with<'a, O: Outer>(
     alloc: Global,
     scope: &mut Scope<'a>,
@@ -216,34 +156,21 @@ fn op_with<'a, O: Outer>(
     ensures { Gives (λ x. (x.0, state_of x.1.now scope.new ctx.new)) result (op_with (free_bound (O.types around.now.outer.now)) (ops_at CloseCurly (op_at (free_bound (O.types around.now.outer.now)) around.now.last depth) MOST_OPS []) (state_of bytes.now scope.old ctx.old)) }
 {
     let id = scope.next;
-    let (front, behind) = match start(alloc, around.outer, &scope.names, bytes) {
-        Ok(found) => found,
-        Err(e) => return Err(e),
-    };
-    let name = steps::name(ctx, &front.name, behind)?;
-    let isolated = ctx.isolated(name);
-    let (written, rest) = match properties(alloc, ctx, behind) {
+    let (opening, rest) = match read_opening(alloc, ctx, around.outer, &scope.names, bytes) {
         Ok(found) => found,
         Err(e) => return Err(e),
     };
     scope.next = id + 1;
+    let isolated = opening.isolated;
     let (regions, rest) = match regions(alloc, scope, ctx, around, id, isolated, rest, depth) {
         Ok(found) => found,
         Err(e) => return Err(e),
     };
-    match tail(alloc, scope, ctx, id, name, front, written, regions, rest) {
-        Ok(found) => Ok(found),
-        Err(ReadError::Refused(fault)) => {
-            let fault = placed(&scope.names, id, bytes, behind, fault);
-            Err(ReadError::Refused(fault))
-        }
-        Err(e) => Err(e),
-    }
+    closing(alloc, scope, ctx, id, opening, regions, bytes, rest)
 }
 
 /// An operation with at most that many levels, of which it is one.
 #[cycle(op)]
-#[tactic(auto, unfolding(crate::specs::OpReading::op_at))]
 pub fn op<'a, O: Outer>(
     alloc: Global,
     scope: &mut Scope<'a>,
@@ -255,12 +182,10 @@ pub fn op<'a, O: Outer>(
     ensures { Gives (λ x. (x.0, state_of x.1.now scope.new ctx.new)) result (op_at (free_bound (O.types around.now.outer.now)) around.now.last depth (state_of bytes.now scope.old ctx.old)) }
 {
     if depth == 0 {
-        let fault = fault_at_name(alloc, Refusal::TooDeep, bytes)?;
-        return Err(ReadError::Refused(fault));
+        return Err(error_at_name(alloc, Refusal::TooDeep, bytes));
     }
     if scope.next >= around.last {
-        let fault = fault_at_name(alloc, Refusal::TooMany, bytes)?;
-        return Err(ReadError::Refused(fault));
+        return Err(error_at_name(alloc, Refusal::TooMany, bytes));
     }
     op_with(alloc, scope, ctx, around, bytes, depth - 1)
 }

@@ -1,17 +1,19 @@
 //! Where the faults of an operation stand. Language Reference, "Operations".
+ghost use Rattle.ir_text_read_base.specs.Openings.{IsOfText};
+
 use crate::front::begin_refusal;
-use crate::named::{counted, results};
-use crate::pack::Pack;
 use ir_text_base::fault::Fault;
 use ir_text_base::lexer::{skip, token};
 use ir_text_base::names::Names;
 use ir_text_base::token::{Mark, Token};
+use ir_text_names_base::named::{counted, results};
+use ir_text_names_base::pack::Pack;
 use ir_text_type_base::error::{ReadError, wrong};
 use ir_text_type_base::steps::after;
 use ir_tree::value::Value;
 use ir_types::ids::OpId;
 use ir_types::refusal::Refusal;
-use std::alloc::{AllocError, Global};
+use std::alloc::Global;
 
 /// The fault at the name of an operation, or at what is none.
 fn fault_at(refusal: Refusal, bytes: &[u8], named: bool) -> Fault {
@@ -23,16 +25,14 @@ fn fault_at(refusal: Refusal, bytes: &[u8], named: bool) -> Fault {
     }
 }
 
-/// The fault of an operation that may not stand here: it is told at the name.
-pub(crate) fn fault_at_name(
-    alloc: Global,
-    refusal: Refusal,
-    bytes: &[u8],
-) -> Result<Fault, AllocError> {
+/// The error of an operation that may not stand here: it is told at the name.
+pub(crate) fn error_at_name(alloc: Global, refusal: Refusal, bytes: &[u8]) -> ReadError
+    ensures { IsOfText result }
+{
     match results(alloc, bytes) {
-        Ok((names, rest)) => Ok(fault_at(refusal, rest, names.is_some())),
-        Err(ReadError::Refused(fault)) => Ok(fault),
-        Err(_) => Err(AllocError),
+        Ok((names, rest)) => ReadError::Refused(fault_at(refusal, rest, names.is_some())),
+        Err(ReadError::Refused(fault)) => ReadError::Refused(fault),
+        Err(_) => ReadError::Memory,
     }
 }
 

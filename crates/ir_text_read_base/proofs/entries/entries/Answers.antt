@@ -1,10 +1,9 @@
-use Rattle.std.proofs.Common.{◌≡◌, ◌++◌, ◌∷◌, [], ◌+◌, Some, None, length, refl, arith}
-use Rattle.std.proofs.lemmas.Result.{err_from_is_err_and}
+use Rattle.std.proofs.Common.{◌≡◌, ◌∷◌, [], ◌+◌, length, refl, arith}
 use Rattle.std.proofs.lemmas.List.{length-append}
 use Rattle.ir_text_base.specs.declared.token.Mark.TheVariants.{CloseCurly, Comma}
 use Rattle.ir_text_type_base.specs.Marks.{after}
 use Rattle.ir_text_type_base.specs.Outcomes.{of_option}
-use Rattle.ir_text_type_base.proofs.ListSteps.{goes_on, closes, no_item, no_comma, is_full, fails_option, got}
+use Rattle.ir_text_type_base.proofs.ListSteps.{goes_on, closes, no_item, no_comma, is_full, fails_option}
 use Rattle.ir_text_type_base.specs.Typed.{after_typed}
 use Rattle.ir_text_read_base.specs.EntryReading.{entry_at}
 use Rattle.ir_text_read_base.proofs.entries.entries.Goals as goal
@@ -13,25 +12,23 @@ pub returns-in-Err : goal.returns-in-Err
 returns-in-Err c =
     no_item after_typed CloseCurly (entry_at c.args.op.now c.args.properties.now) c.items.items.items 513 c.items.counter (c.items.rest.now, c.items.ctx) _ c.items.invariant.reads c.items-test.true c.in-Err.e (rw c.deref.ensures.value at c.in-Err.ensures)
 
-pub returns-in-Some-after : goal.returns-in-Some-after
-returns-in-Some-after c =
-    let k : after_typed CloseCurly (c.in-Ok.found.1.now, c.entry.new.ctx) ≡ Some (c.in-Some-after.end.now, c.entry.new.ctx) = rw (← c.in-Some-after.ensures) refl in
-    let e : c.push.new.self.items ≡ c.items.items.items ++ c.in-Ok.found.0 ∷ [] = c.in_ok-push.ensures.items in
-    rw e (closes after_typed CloseCurly (entry_at c.args.op.now c.args.properties.now) c.items.items.items 513 c.items.counter (c.items.rest.now, c.items.ctx) _ c.items.invariant.reads c.items-test.true c.in-Ok.found.0 (c.in-Ok.found.1.now, c.entry.new.ctx) (c.in-Some-after.end.now, c.entry.new.ctx) (rw c.deref.ensures.value at c.in-Ok.ensures) k)
+pub returns-in-Ok-End : goal.returns-in-Ok-End
+returns-in-Ok-End c =
+    let ends = rw c.in-Ok-End.field-0-is at c.in-Ok-End.ensures in
+    rw c.in_ok-push.ensures.items (closes after_typed CloseCurly (entry_at c.args.op.now c.args.properties.now) c.items.items.items 513 c.items.counter (c.items.rest.now, c.items.ctx) _ c.items.invariant.reads c.items-test.true c.in-Ok.found.0 (c.in-Ok.found.1.now, c.entry.new.ctx) (c.in-Ok-End.end.now, c.entry.new.ctx) (rw c.deref.ensures.value at c.in-Ok.ensures) (rw ends refl))
 
-pub returns-in_err-rest : goal.returns-in_err-rest
-returns-in_err-rest c =
-    let p = err_from_is_err_and c.from_residual-in_err-rest.result c.from_residual-in_err-rest.ensures.1 in
-    let k : after_typed CloseCurly (c.in-Ok.found.1.now, c.entry.new.ctx) ≡ None = rw (← c.in_default-after.ensures) refl in
-    rw (p.1, p.2) (no_comma after_typed CloseCurly (entry_at c.args.op.now c.args.properties.now) c.items.items.items 513 c.items.counter (c.items.rest.now, c.items.ctx) _ c.items.invariant.reads c.items-test.true c.in_err-rest.field-0.0 c.in-Ok.found.0 (c.in-Ok.found.1.now, c.entry.new.ctx) (rw c.deref.ensures.value at c.in-Ok.ensures) k (fails_option c.in_err-rest.field-0.0 (after Comma c.in-Ok.found.1.now) (of_option (after_typed Comma (c.in-Ok.found.1.now, c.entry.new.ctx))) (λ none. rw none refl) c.in_err-rest.ensures))
+pub returns-in-Err-behind_item : goal.returns-in-Err-behind_item
+returns-in-Err-behind_item c =
+    let going = c.in-Err-behind_item.ensures.0 in
+    no_comma after_typed CloseCurly (entry_at c.args.op.now c.args.properties.now) c.items.items.items 513 c.items.counter (c.items.rest.now, c.items.ctx) _ c.items.invariant.reads c.items-test.true c.in-Err-behind_item.e c.in-Ok.found.0 (c.in-Ok.found.1.now, c.entry.new.ctx) (rw c.deref.ensures.value at c.in-Ok.ensures) (rw going refl) (fails_option c.in-Err-behind_item.e (after Comma c.in-Ok.found.1.now) (of_option (after_typed Comma (c.in-Ok.found.1.now, c.entry.new.ctx))) (λ none. rw none refl) c.in-Err-behind_item.ensures.1)
 
 pub items-preserved : goal.items-preserved
 items-preserved c =
-    let k : after_typed CloseCurly (c.in-Ok.found.1.now, c.entry.new.ctx) ≡ None = rw (← c.in_default-after.ensures) refl in
-    let comma : after_typed Comma (c.in-Ok.found.1.now, c.entry.new.ctx) ≡ Some (c.in_ok-rest.rest.now, c.entry.new.ctx) = rw (got (after Comma c.in-Ok.found.1.now) c.in_ok-rest.rest.now c.in_ok-rest.ensures) refl in
-    let e : c.push.new.self.items ≡ c.items.items.items ++ c.in-Ok.found.0 ∷ [] = c.in_ok-push.ensures.items in
+    let more = rw c.in-Ok-More.field-0-is at c.in-Ok-More.ensures in
+    let going = more.0 in
+    let comma = more.1 in
     let n : length c.push.new.self.items ≡ c.items.counter + 1 = rw c.in_ok-push.ensures.items (omega (arith, c.items.invariant.count, length-append c.items.items.items (c.in-Ok.found.0 ∷ []))) in
-    record { reads = rw e (goes_on after_typed CloseCurly (entry_at c.args.op.now c.args.properties.now) c.items.items.items 513 c.items.counter (c.items.rest.now, c.items.ctx) _ c.items.invariant.reads c.items-test.true c.in-Ok.found.0 (c.in-Ok.found.1.now, c.entry.new.ctx) (c.in_ok-rest.rest.now, c.entry.new.ctx) (rw c.deref.ensures.value at c.in-Ok.ensures) k comma); count = n }
+    record { reads = rw c.in_ok-push.ensures.items (goes_on after_typed CloseCurly (entry_at c.args.op.now c.args.properties.now) c.items.items.items 513 c.items.counter (c.items.rest.now, c.items.ctx) _ c.items.invariant.reads c.items-test.true c.in-Ok.found.0 (c.in-Ok.found.1.now, c.entry.new.ctx) (c.in-Ok-More.more.now, c.entry.new.ctx) (rw c.deref.ensures.value at c.in-Ok.ensures) (rw going refl) (rw comma refl)); count = n }
 
 pub returns : goal.returns
 returns c =

@@ -1,4 +1,4 @@
-use Rattle.std.proofs.Common.{◌≡◌, ◌≤◌, ◌<◌, ◌^◌, length, sym, ◌∙◌, arith}
+use Rattle.std.proofs.Common.{sym, ◌∙◌, arith}
 use Rattle.ir_text_read_base.proofs.Members.{past_limit, past_all}
 use Rattle.ir_text_read_base.proofs.front.numbered.Goals as goal
 

@@ -1,5 +1,5 @@
 use Rattle.std.proofs.Common.{sym, ◌∙◌}
-use Rattle.ir_text_read_base.specs.States.{state_of}
+use Rattle.ir_text_names_base.specs.States.{state_of}
 use Rattle.ir_text_read_base.proofs.Modules.{not_begun, explicit_whole, explicit_other, explicit_wrong}
 use Rattle.ir_text_read_base.proofs.module.explicit.Goals as goal
 

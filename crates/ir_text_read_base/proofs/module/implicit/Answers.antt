@@ -1,4 +1,4 @@
-use Rattle.ir_text_read_base.specs.States.{state_of}
+use Rattle.ir_text_names_base.specs.States.{state_of}
 use Rattle.ir_text_read_base.proofs.Modules.{body_read, body_wrong, fails_wrong, named_module}
 use Rattle.ir_text_read_base.proofs.module.implicit.Goals as goal
 

@@ -4,7 +4,7 @@ use Rattle.ir_tree.specs.View.{region_view}
 use Rattle.ir_text_type_base.specs.Lists.{more_at}
 use Rattle.ir_text_read_base.specs.declared.ops.TheConstants.{MOST_OPS}
 use Rattle.ir_text_read_base.specs.Free.{free_bound}
-use Rattle.ir_text_read_base.specs.States.{after_in, state_of}
+use Rattle.ir_text_names_base.specs.States.{after_in, state_of}
 use Rattle.ir_text_read_base.specs.OpReading.{region_at, regions_at, op_at, ops_at}
 use Rattle.ir_text_read_base.proofs.ops.+op.Given as goal
 

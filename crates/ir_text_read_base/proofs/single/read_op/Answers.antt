@@ -1,4 +1,4 @@
-use Rattle.std.proofs.Common.{◌≡◌, sym, subst}
+use Rattle.std.proofs.Common.{sym, subst}
 use Rattle.ir_text_type_base.specs.declared.error.ReadError.TheVariants as errors
 use Rattle.ir_text_read_base.specs.Free.{free_bound, free_term}
 use Rattle.ir_text_read_base.specs.Spelling.{IsSingle}

@@ -1,0 +1,62 @@
+//! What stands before an operation's regions. Language Reference, "Operations".
+ghost use Rattle.ir_text_type_base.specs.Outcomes.{Gives};
+ghost use Rattle.ir_text_read_base.specs.Free.{free_bound};
+ghost use Rattle.ir_text_read_base.specs.Openings.{opening_view, opening_at};
+
+use crate::dictionaries::Entry;
+use crate::entries::properties;
+use crate::front::{Front, start};
+use ir_text_base::names::Names;
+use ir_text_names_base::pack::Pack;
+use ir_text_type_base::error::ReadError;
+use ir_text_type_base::steps;
+use ir_tree::outer::Outer;
+use ir_types::context::Context;
+use ir_types::ids::NameId;
+use std::alloc::Global;
+
+/// What stands before an operation's regions, with its name interned.
+#[derive(Drop)]
+pub(crate) struct Opening<'a> {
+    pub front: Front<'a>,
+    pub name: NameId,
+    /// Whether its regions see no names from outside.
+    pub isolated: bool,
+    /// The properties that are written.
+    pub written: Vec<Entry>,
+    /// What follows the operands.
+    pub behind: &'a [u8],
+}
+
+/// Reads what stands before an operation's regions.
+pub(crate) fn read_opening<'a, O: Outer>(
+    alloc: Global,
+    ctx: &mut Context,
+    outer: &O,
+    names: &Names<'a, Pack>,
+    bytes: &'a [u8],
+) -> Result<(Opening<'a>, &'a [u8]), ReadError>
+    ensures { Gives (λ x. (opening_view x.0, (x.1.now, ctx.new))) result (opening_at (free_bound (O.types outer.now)) names.now.here (bytes.now, ctx.old)) }
+{
+    let (front, behind) = match start(alloc, outer, names, bytes) {
+        Ok(found) => found,
+        Err(e) => return Err(e),
+    };
+    let name = match steps::name(ctx, &front.name, behind) {
+        Ok(name) => name,
+        Err(e) => return Err(e),
+    };
+    let isolated = ctx.isolated(name);
+    let (written, rest) = match properties(alloc, ctx, behind) {
+        Ok(found) => found,
+        Err(e) => return Err(e),
+    };
+    let opening = Opening {
+        front,
+        name,
+        isolated,
+        written,
+        behind,
+    };
+    Ok((opening, rest))
+}
