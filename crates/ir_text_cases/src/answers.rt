@@ -1,0 +1,168 @@
+//! The answer to a line.
+ghost use Rattle.ir_tree.specs.Meaning.{IsSoundIn};
+
+use crate::near::near_of;
+use crate::pieces::{bytes_of, first};
+use crate::shown::{put_cut, refused, shown, shown_op};
+use ir_text::printer::print;
+use ir_text::reader::{parse_attr, read, read_op};
+use ir_tree::numbered::numbered;
+use ir_tree::sound::sound;
+use ir_tree::tree::TreeOp;
+use ir_types::context::Context;
+use ir_types::ids::{AttrId, OpId};
+use ir_types::refusal::Refusal;
+use std::alloc::{AllocError, Global};
+
+/// An operation that has an attribute.
+fn holder(alloc: Global, ctx: &mut Context, attr: AttrId) -> Result<TreeOp, Refusal> {
+    let name = ctx.name(b"a")?;
+    Ok(TreeOp {
+        id: OpId::new(0),
+        name,
+        operands: Vec::new(alloc),
+        results: Vec::new(alloc),
+        props: Vec::new(alloc),
+        attrs: vec![in alloc; (name, attr)]?,
+        regions: Vec::new(alloc),
+    })
+}
+
+fn holder_text(alloc: Global, ctx: &Context, op: &TreeOp) -> Result<String, Refusal> {
+    if sound(ctx, op) {
+        text_of(alloc, ctx, op)
+    } else {
+        Err(Refusal::NoSuchIndex)
+    }
+}
+
+fn attribute_text(alloc: Global, ctx: &mut Context, attr: AttrId) -> Result<String, Refusal> {
+    let op = holder(alloc, ctx, attr)?;
+    holder_text(alloc, ctx, &op)
+}
+
+/// An attribute, which is shown in an operation.
+fn attribute(alloc: Global, ctx: &mut Context, bytes: &[u8]) -> Result<String, Refusal> {
+    match parse_attr(alloc, ctx, bytes) {
+        Ok(attr) => attribute_text(alloc, ctx, attr),
+        Err(error) => refused(alloc, bytes, error),
+    }
+}
+
+fn text_of(alloc: Global, ctx: &Context, tree: &TreeOp) -> Result<String, Refusal>
+    requires { IsSoundIn ctx.now tree.now }
+{
+    let text = print(alloc, ctx, tree)?;
+    Ok(shown(alloc, text.as_slice())?)
+}
+
+fn module_text(alloc: Global, ctx: &Context, tree: &TreeOp) -> Result<String, Refusal>
+    requires { IsSoundIn ctx.now tree.now }
+{
+    if numbered(tree, 0) {
+        text_of(alloc, ctx, tree)
+    } else {
+        Ok(format!(in alloc; "its ids are not 0, 1, ..")?)
+    }
+}
+
+fn module(alloc: Global, ctx: &mut Context, bytes: &[u8]) -> Result<String, Refusal> {
+    match read(alloc, ctx, bytes) {
+        Ok(tree) => module_text(alloc, ctx, &tree),
+        Err(error) => refused(alloc, bytes, error),
+    }
+}
+
+fn operation_text(alloc: Global, ctx: &Context, op: &TreeOp) -> Result<String, Refusal>
+    requires { IsSoundIn ctx.now op.now }
+{
+    let text = print(alloc, ctx, op)?;
+    Ok(shown_op(alloc, op, text.as_slice())?)
+}
+
+/// An operation among the values of a module.
+fn operation(
+    alloc: Global,
+    ctx: &mut Context,
+    words: &str,
+    bytes: &[u8],
+) -> Result<String, Refusal> {
+    let near = near_of(ctx, words);
+    match read_op(alloc, ctx, bytes, &near) {
+        Ok(op) => operation_text(alloc, ctx, &op),
+        Err(error) => refused(alloc, bytes, error),
+    }
+}
+
+fn cut(alloc: Global, ctx: &mut Context, front: &[u8], out: &mut String) -> Result<(), Refusal> {
+    let answer = read(alloc, ctx, front).map(|_| ());
+    put_cut(out, front, answer)?;
+    Ok(())
+}
+
+/// A text cut behind each of its bytes.
+fn cuts(alloc: Global, ctx: &mut Context, bytes: &[u8], out: &mut String) -> Result<(), Refusal> {
+    for length in 0..bytes.len() {
+        let (front, _) = bytes.split_at(length);
+        cut(alloc, ctx, front, out)?;
+    }
+    Ok(())
+}
+
+fn all_cuts(alloc: Global, ctx: &mut Context, bytes: &[u8]) -> Result<String, Refusal> {
+    let mut out = String::new(alloc);
+    cuts(alloc, ctx, bytes, &mut out)?;
+    Ok(out)
+}
+
+fn number_in(alloc: Global, ctx: &mut Context, bytes: &[u8]) -> Option<AttrId> {
+    parse_attr(alloc, ctx, bytes).ok()
+}
+
+fn number_of(alloc: Global, ctx: &mut Context, text: &str) -> Result<Option<AttrId>, AllocError> {
+    let bytes = bytes_of(alloc, text)?;
+    Ok(number_in(alloc, ctx, bytes.as_slice()))
+}
+
+/// Whether two attributes are one, where both were read.
+fn are_same(one: Option<AttrId>, other: Option<AttrId>) -> Option<bool> {
+    Some(one? == other?)
+}
+
+/// Whether two texts are one attribute.
+fn same(alloc: Global, ctx: &mut Context, text: &str) -> Result<String, AllocError> {
+    let (one, other) = text.split_once(" == ").unwrap_or((text, ""));
+    let one = number_of(alloc, ctx, one)?;
+    let other = number_of(alloc, ctx, other)?;
+    format!(in alloc; "{:?}", are_same(one, other))
+}
+
+fn answer_bytes(
+    alloc: Global,
+    ctx: &mut Context,
+    kind: &str,
+    bytes: &[u8],
+) -> Result<String, Refusal> {
+    match kind {
+        "attr" => attribute(alloc, ctx, bytes),
+        "cut" => all_cuts(alloc, ctx, bytes),
+        "module" => module(alloc, ctx, bytes),
+        _ => operation(alloc, ctx, kind, bytes),
+    }
+}
+
+fn answer_in(alloc: Global, ctx: &mut Context, line: &str) -> Result<String, Refusal> {
+    let (kind, text) = first(line);
+    if kind == "same" {
+        return Ok(same(alloc, ctx, text)?);
+    }
+    let bytes = bytes_of(alloc, text)?;
+    answer_bytes(alloc, ctx, kind, bytes.as_slice())
+}
+
+/// The answer to a line: `attr`, `module`, `cut`, or the module around an operation as `9/32/-`, and a text; or
+/// `same` and two attributes.
+pub fn answer(alloc: Global, line: &str) -> Result<String, Refusal> {
+    let mut ctx = Context::new(alloc)?;
+    answer_in(alloc, &mut ctx, line)
+}

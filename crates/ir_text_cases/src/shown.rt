@@ -1,0 +1,130 @@
+//! What a line of the output has.
+use ir_text_type_base::error::ReadError;
+use ir_tree::numbered::numbered;
+use ir_tree::tree::{TreeOp, TreeRegion};
+use ir_tree::value::Value;
+use ir_types::refusal::Refusal;
+use std::alloc::{AllocError, Global};
+use std::fmt::Write;
+
+/// The longest text that is shown whole.
+const MOST_SHOWN: usize = 4_096;
+
+/// Why a text of these bytes is refused, and where.
+pub fn refused(alloc: Global, bytes: &[u8], error: ReadError) -> Result<String, Refusal> {
+    match error {
+        ReadError::Memory => Err(Refusal::Memory),
+        ReadError::Full(left) => Ok(format!(in alloc; "full with {left} left")?),
+        ReadError::Refused(fault) => {
+            let offset = fault.offset(bytes);
+            Ok(format!(in alloc; "{} at {offset}", fault.refusal)?)
+        }
+    }
+}
+
+fn put_byte(out: &mut String, byte: u8) -> Result<(), AllocError> {
+    match byte {
+        b'\n' => out.push_str("~0A~"),
+        b'~' => out.push_str("~7E~"),
+        _ => out.push(char::from(byte)),
+    }
+}
+
+fn put_bytes(out: &mut String, bytes: &[u8]) -> Result<(), AllocError> {
+    for byte in bytes {
+        put_byte(out, *byte)?;
+    }
+    Ok(())
+}
+
+/// A text in one line, or how long it is.
+fn put_text(out: &mut String, text: &[u8]) -> Result<(), AllocError> {
+    if text.len() > MOST_SHOWN {
+        write!(out, "{} bytes", text.len())
+    } else {
+        put_bytes(out, text)
+    }
+}
+
+fn put_value(out: &mut String, value: Value) -> Result<(), AllocError> {
+    match value {
+        Value::Result(op, place) => write!(out, "%v{}.{place} ", op.number()),
+        Value::Arg(op, region, place) => write!(out, "%a{}.{region}.{place} ", op.number()),
+    }
+}
+
+/// The number of an operation, and its operands.
+fn put_op(out: &mut String, op: &TreeOp) -> Result<(), AllocError> {
+    write!(out, "#{} ", op.id.number())?;
+    for value in op.operands.as_slice() {
+        put_value(out, *value)?;
+    }
+    Ok(())
+}
+
+/// The first operation inside an operation's first region.
+fn first_inside(op: &TreeOp) -> Option<&TreeOp> {
+    match op.regions.as_slice().first() {
+        Some(TreeRegion::Block { ops, .. }) => ops.as_slice().first(),
+        _ => None,
+    }
+}
+
+/// The numbers and operands of an operation and of the first inside it, three deep.
+fn put_firsts(out: &mut String, op: &TreeOp) -> Result<(), AllocError> {
+    let mut here = Some(op);
+    for _ in 0..3u8 {
+        let Some(op) = here else {
+            return Ok(());
+        };
+        put_op(out, op)?;
+        here = first_inside(op);
+    }
+    Ok(())
+}
+
+/// A text in one line.
+pub fn shown(alloc: Global, text: &[u8]) -> Result<String, AllocError> {
+    let mut out = String::new(alloc);
+    put_text(&mut out, text)?;
+    Ok(out)
+}
+
+/// Says that the operations inside an operation have other ids than the next ones in pre-order, where they have.
+fn put_numbered(out: &mut String, op: &TreeOp) -> Result<(), AllocError> {
+    if numbered(op, op.id.number()) {
+        Ok(())
+    } else {
+        out.push_str("not in pre-order ")
+    }
+}
+
+fn put_all(out: &mut String, op: &TreeOp, text: &[u8]) -> Result<(), AllocError> {
+    put_firsts(out, op)?;
+    put_numbered(out, op)?;
+    put_text(out, text)
+}
+
+/// The first numbers of an operation, and its text in one line.
+pub fn shown_op(alloc: Global, op: &TreeOp, text: &[u8]) -> Result<String, AllocError> {
+    let mut out = String::new(alloc);
+    put_all(&mut out, op, text)?;
+    Ok(out)
+}
+
+/// Whether a text is read, or the number of its refusal, and where.
+pub fn put_cut(
+    out: &mut String,
+    bytes: &[u8],
+    answer: Result<(), ReadError>,
+) -> Result<(), AllocError> {
+    match answer {
+        Ok(()) => out.push_str("read "),
+        Err(ReadError::Refused(fault)) => {
+            let number = fault.refusal.number();
+            let offset = fault.offset(bytes);
+            write!(out, "{number}@{offset} ")
+        }
+        Err(_) => out.push_str("lost "),
+    }
+}
