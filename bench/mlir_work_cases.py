@@ -261,11 +261,92 @@ def reads():
     case("read busy", "broken 40000000")
 
 
+TEXT = b"""\"func.func\"() <{function_type = (i32) -> i32, sym_name = \"f\"}> ({
+^bb0(%a: i32):
+  %c = \"arith.constant\"() <{value = 2 : i32}> : () -> i32
+  %s = \"arith.addi\"(%a, %c) <{overflowFlags = #arith.overflow<none>}> : (i32, i32) -> i32
+  \"func.return\"(%s) : (i32) -> ()
+}) : () -> ()
+"""
+DIVIDER = b"// -----\n"
+
+
+def printed(first):
+    """The function as it is printed, with this first operand of the sum."""
+    return b"""\"builtin.module\"() ({
+  \"func.func\"() <{function_type = (i32) -> i32, sym_name = \"f\"}> ({
+  ^bb0(%arg0: i32):
+    %0 = \"arith.constant\"() <{value = 2 : i32}> : () -> i32
+    %1 = \"arith.addi\"(FIRST, %0) <{overflowFlags = #arith.overflow<none>}> : (i32, i32) -> i32
+    \"func.return\"(%1) : (i32) -> ()
+  }) : () -> ()
+}) : () -> ()
+""".replace(b"FIRST", first)
+
+
+USES = b"%a1.0.0 #3 0\n%v2.0 #3 1\n%v3.0 #4 0\n"
+EDITED_USES = b"%v2.0 #3 0\n%v2.0 #3 1\n%v3.0 #4 0\n"
+PRINTED, EDITED = printed(b"%arg0"), printed(b"%0")
+EMPTY = b"\"builtin.module\"() ({\n^bb0:\n}) : () -> ()\n"
+
+
+def run(how, text, status, out):
+    case(f"run {how} {given(text)}", f"{status} {told(out)}")
+
+
+def runs():
+    """Whole runs: the status and all bytes of the output."""
+    over = TEXT + DIVIDER
+    script = b"set-operand #3 2 %v2.0\nset-operand #3 0 %v9.0\nset-operand #3 0 %v3.0\njump\nreport symbols\nreport uses\nprint\n"
+    replies = b"1 refused 25 NoSuchIndex\n2 refused 21 NoSuchValue\n3 refused 23 NotVisible\n4 refused 60 BadCommand\n5 refused 41 NoSuchKind\n6 ok\n"
+    run("brief", over + script, 1, replies + USES + b"7 ok\n" + PRINTED)
+    wrong = b"\"test.a\"() {a = 256 : i8} : () -> ()\n"
+    for how in ("brief", "full"):
+        run(how, wrong + DIVIDER + b"print\n", 3, b"module refused 7 BadValue at 16\n")
+        run(how, wrong, 3, b"module refused 7 BadValue at 16\n")
+        run(how, b"", 0, b"")
+        run(how, TEXT, 0, b"")
+        run(how, DIVIDER, 0, b"")
+        run(how, DIVIDER + b"print", 0, b"1 ok\n" + EMPTY)
+        run(how, over + b"print\n", 0, b"1 ok\n" + PRINTED)
+        run(how, over + b"report uses", 0, b"1 ok\n" + USES)
+        # A line with a space behind the divider is a comment of the module, and what follows belongs to its text.
+        run(how, b"// ----- \nprint\n", 3, b"module refused 13 LeftOut at 10\n")
+        run(how, b"// -----\r\nprint\n", 3, b"module refused 13 LeftOut at 10\n")
+    returns = b"report uses\r\n\r\n// a comment\r\n \tset-operand  #3 0\t%v2.0 \r\nreport uses\r"
+    run("brief", over + returns, 0, b"1 ok\n" + USES + b"2 ok\n3 ok\n" + EDITED_USES)
+    bad = b"print \xff\nreport \xc3\x28uses\nreport uses\n"
+    run("brief", over + bad, 1, b"1 refused 60 BadCommand\n2 refused 60 BadCommand\n3 ok\n" + USES)
+    # The module and the listing follow each command but `report` and `print`, also a refused one.
+    listed, edited = PRINTED + b"-- uses\n" + USES, EDITED + b"-- uses\n" + EDITED_USES
+    script = b"jump\nreport uses\nset-operand #3 0 %v2.0\nset-operand #0 0 %v2.0\nprint\n"
+    run("full", over + script, 1,
+        b"1 refused 60 BadCommand\n" + listed + b"2 ok\n" + USES + b"3 ok\n" + edited + b"4 refused 25 NoSuchIndex\n" + edited + b"5 ok\n" + EDITED)
+    for count, want in ((0, b"1 refused 41 NoSuchKind\n"), (1, b"1 ok\n"), (2, b"attach uses refused 42 KindTaken\n1 ok\n")):
+        run(f"boxes {count}", DIVIDER + b"report uses\n", int(count != 1), want)
+    again = b"attach uses refused 42 KindTaken\n" * 2
+    run("boxes 3", over + b"report uses\n", 1, again + b"1 ok\n" + USES)
+    # Readers and writers with faults.
+    text, out = over + b"report uses\njump\n", b"1 ok\n" + USES + b"2 refused 60 BadCommand\n"
+    needed = len(text) + 1
+    for at in range(needed + 2):
+        hits = 1 <= at <= needed
+        run(f"slow other {at}", text, 4 if hits else 1, b"" if hits else out)
+        run(f"slow interrupted {at}", text, 1, out)
+    for fault in ("fails", "interrupted", "nothing"):
+        for at in range(len(out) + 2):
+            # Where no write has a fault but one is counted on, handing on what was written fails.
+            taken = out[:at - 1] if 1 <= at <= len(out) else out
+            run(f"narrow {fault} {at}", text, 4 if at else 1, taken)
+
+
+
 lines()
 words()
 cuts()
 writes()
 reads()
+runs()
 
 folder = pathlib.Path("crates/mlir_work_cases")
 (folder / "stdin").write_text("".join(line + "\n" for line, _ in cases))

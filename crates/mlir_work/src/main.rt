@@ -1,17 +1,11 @@
 //! Runs a script over a module: `mlir_work [--brief]`.
 #![tactic(auto)]
 
-#[cfg(test)]
-mod fault_tests;
-mod run;
-#[cfg(test)]
-mod run_tests;
-
-use crate::run::{Options, run};
 use clap::error::ErrorKind;
 use clap::{Arg, ArgAction, Command, Error};
 use ir_event::analysis::Analysis;
 use listeners::uses::Uses;
+use mlir_work_run::run::{Options, run};
 use std::alloc::Global;
 use std::io::BufWriter;
 use std::process::ExitCode;

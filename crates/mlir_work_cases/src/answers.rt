@@ -1,6 +1,6 @@
 //! The answer to a line.
 use crate::texts::first;
-use crate::{lines, readers, replies, writers};
+use crate::{lines, readers, replies, runs, writers};
 use std::alloc::{AllocError, Global};
 
 /// What is read, of the readers that a line names.
@@ -34,6 +34,7 @@ pub fn answer(alloc: Global, line: &str) -> Result<String, AllocError> {
         "refusal" => replies::displayed(alloc, rest),
         "read" => read(alloc, rest),
         "write" => write(alloc, rest),
+        "run" => runs::answer(alloc, rest),
         _ => String::from_str(alloc, line),
     }
 }

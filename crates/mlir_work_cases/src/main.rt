@@ -1,4 +1,5 @@
-//! Answers the calls of what a run reads and writes that standard input has, one a line, one answer a line.
+//! Answers the calls of what a run reads and writes, and the whole runs, that standard input has, one a line, one
+//! answer a line.
 //! A line's text has `\n`, `\t`, `\r` and `\xff` for bytes.
 #![tactic(auto)]
 
@@ -6,6 +7,7 @@ mod answers;
 mod lines;
 mod readers;
 mod replies;
+mod runs;
 mod texts;
 mod writers;
 

@@ -7,11 +7,23 @@ use std::io::{self, ErrorKind, Read};
 
 /// Gives one byte a read, and fails at one read.
 #[derive(Drop)]
-struct Slow<'a> {
+pub struct Slow<'a> {
     bytes: &'a [u8],
     reads: u32,
     fails_at: u32,
     kind: ErrorKind,
+}
+
+impl<'a> Slow<'a> {
+    /// A reader of some bytes that has a fault of a kind at one read.
+    pub fn new(bytes: &'a [u8], kind: &str, fails_at: &str) -> Slow<'a> {
+        Slow {
+            bytes,
+            reads: 0,
+            fails_at: small(fails_at),
+            kind: kind_of(kind),
+        }
+    }
 }
 
 impl Read for Slow<'_> {
@@ -113,12 +125,7 @@ pub fn read_slowly(alloc: Global, text: &str) -> Result<String, AllocError> {
     let (word, rest) = first(text);
     let (at, text) = first(rest);
     let bytes = bytes(alloc, text)?;
-    let mut reader = Slow {
-        bytes: &bytes,
-        reads: 0,
-        fails_at: small(at),
-        kind: kind_of(word),
-    };
+    let mut reader = Slow::new(&bytes, word, at);
     told_slow(alloc, &mut reader)
 }
 

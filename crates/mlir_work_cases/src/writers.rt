@@ -16,7 +16,7 @@ enum Fault {
 
 /// Takes one byte a write, and has a fault at one write.
 #[derive(Drop)]
-struct Narrow {
+pub struct Narrow {
     bytes: Vec<u8>,
     writes: u32,
     fails_at: u32,
@@ -28,6 +28,23 @@ fn fault_of(word: &str) -> Fault {
         "fails" => Fault::Fails,
         "interrupted" => Fault::IsInterrupted,
         _ => Fault::TakesNothing,
+    }
+}
+
+impl Narrow {
+    /// A writer that has a fault of a kind at one write.
+    pub fn new(alloc: Global, fault: &str, fails_at: &str) -> Narrow {
+        Narrow {
+            bytes: Vec::new(alloc),
+            writes: 0,
+            fails_at: small(fails_at),
+            fault: fault_of(fault),
+        }
+    }
+
+    /// What it took.
+    pub fn taken(&self) -> &[u8] {
+        &self.bytes
     }
 }
 
@@ -94,12 +111,7 @@ fn told_narrow(
 pub fn write_narrowly(alloc: Global, fault: &str, text: &str) -> Result<String, AllocError> {
     let (at, rest) = first(text);
     let (call, text) = first(rest);
-    let mut writer = Narrow {
-        bytes: Vec::new(alloc),
-        writes: 0,
-        fails_at: small(at),
-        fault: fault_of(fault),
-    };
+    let mut writer = Narrow::new(alloc, fault, at);
     told_narrow(alloc, &mut writer, call, text)
 }
 

@@ -1,5 +1,5 @@
-use Rattle.mlir_work.proofs.Numbered.{numbered_distinct, numbered_below}
-use Rattle.mlir_work.proofs.run.hold.Goals as goal
+use Rattle.mlir_work_run.proofs.Numbered.{numbered_distinct, numbered_below}
+use Rattle.mlir_work_run.proofs.run.hold.Goals as goal
 
 pub hold-requires-clause-distinct : goal.hold-requires-clause-distinct
 hold-requires-clause-distinct c = numbered_distinct c.args.tree c.requires.numbered

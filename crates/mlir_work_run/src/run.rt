@@ -10,8 +10,8 @@ ghost use Rattle.ir_text_read_base.specs.Spelling.{Spells};
 ghost use Rattle.mlir_work_base.specs.Parts.{module_text, script_text};
 ghost use Rattle.mlir_work_run_base.specs.Machine.{all_shown};
 ghost use Rattle.mlir_work_run_base.specs.Ran.{RanOut};
-ghost use Rattle.mlir_work.specs.Ends.{EndedSo, HasStatus, ended_of, status_of};
-ghost use Rattle.mlir_work.specs.Whole.{IsOutput, IsRefusal, WhyNot, IsWorldOf};
+ghost use Rattle.mlir_work_run.specs.Ends.{EndedSo, HasStatus, ended_of, status_of};
+ghost use Rattle.mlir_work_run.specs.Whole.{IsOutput, IsRefusal, WhyNot, IsWorldOf};
 
 use ir_event::analysis::Analysis;
 use ir_event::world::World;

@@ -1,5 +1,5 @@
-use Rattle.mlir_work.proofs.Numbered.{numbered_meaning, formed_meaning, world_is}
-use Rattle.mlir_work.proofs.run.world_of.Goals as goal
+use Rattle.mlir_work_run.proofs.Numbered.{numbered_meaning, formed_meaning, world_is}
+use Rattle.mlir_work_run.proofs.run.world_of.Goals as goal
 
 pub hold-requires-clause-numbered : goal.hold-requires-clause-numbered
 hold-requires-clause-numbered c = numbered_meaning c.tree_of.new.ctx c.in-Ok-tree_of.tree c.in-Ok-tree_of.ensures.read.holds.numbered

@@ -2,9 +2,9 @@ use Rattle.std.proofs.Common.{◌≡◌, ◌<◌, List, ℕ, length, inl, inr, r
 use Rattle.ir_types.specs.declared.refusal.Refusal.TheVariants.{Memory}
 use Rattle.mlir_work_base.specs.declared.input.TheConstants.{MAX_INPUT_BYTES}
 use Rattle.mlir_work_run_base.specs.Machine.{all_shown}
-use Rattle.mlir_work.specs.Whole.{IsOutput}
-use Rattle.mlir_work.proofs.Ended.{ended_so, if_some, if_any}
-use Rattle.mlir_work.proofs.run.read_and_answer.Goals as goal
+use Rattle.mlir_work_run.specs.Whole.{IsOutput}
+use Rattle.mlir_work_run.proofs.Ended.{ended_so, if_some, if_any}
+use Rattle.mlir_work_run.proofs.run.read_and_answer.Goals as goal
 
 pub returns-clause-ran : goal.returns-clause-ran
 returns-clause-ran g c =

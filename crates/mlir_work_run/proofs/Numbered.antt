@@ -2,7 +2,7 @@
 use Rattle.ir_event.specs.Modules.{Module}
 use Rattle.ir_text_read_base.specs.Claims.{IsOnly}
 use Rattle.ir_text_read_base.specs.Spelling.{Spells}
-use Rattle.mlir_work.specs.Whole.{IsWorldOf}
+use Rattle.mlir_work_run.specs.Whole.{IsWorldOf}
 use Rattle.std.specs.Prelude.{IsTrue}
 use Rattle.std.proofs.Common.{ap, ◌≡◌, ◌≢◌, ◌<◌, ◌∙◌, sym, subst, ℕ, List, length, All, eqb, arith, get_or, refl}
 use Rattle.std.specs.Cmp.{unsigned_Decides}

@@ -6,8 +6,8 @@ use Rattle.mlir_work_base.specs.Writes.{AppendsFront}
 use Rattle.mlir_work_base.specs.declared.writing.WriteFault.{WriteFault}
 use Rattle.mlir_work_base.proofs.Joins.{appends_join, appends_none}
 use Rattle.mlir_work_run_base.specs.Ran.{RanOut}
-use Rattle.mlir_work.specs.declared.run.Fault.{Fault}
-use Rattle.mlir_work.specs.Ends.{EndedSo, ended_of}
+use Rattle.mlir_work_run.specs.declared.run.Fault.{Fault}
+use Rattle.mlir_work_run.specs.Ends.{EndedSo, ended_of}
 
 pub appends_kept : (a b c : Option (List ℕ)) (o : List ℕ) → Appends a b o → Keeps b c → Appends a c o
 appends_kept a b c o h k = rw append-nil at (appends_join a b c o [] h (appends_none b c k))

@@ -3,8 +3,8 @@ use Rattle.std.specs.Prelude.{◌≡◌, ℕ, List, ◌⊎◌, Option, Result, O
 use Rattle.std.specs.Io.KnownBytes.{Appends, Keeps}
 use Rattle.mlir_work_base.specs.Writes.{AppendsFront}
 use Rattle.mlir_work_base.specs.declared.writing.WriteFault.{WriteFault}
-use Rattle.mlir_work.specs.declared.run.Fault.{Fault}
-use Rattle.mlir_work.specs.declared.run.Fault.TheVariants.{Read as ReadFailed, Write as WriteFailed}
+use Rattle.mlir_work_run.specs.declared.run.Fault.{Fault}
+use Rattle.mlir_work_run.specs.declared.run.Fault.TheVariants.{Read as ReadFailed, Write as WriteFailed}
 
 abbrev pub ended_of : Result ℕ WriteFault → Result ℕ Fault
 ended_of (Ok status) = Ok status

@@ -1,9 +1,9 @@
 use Rattle.std.proofs.Common.{inl, inr}
 use Rattle.ir_event.specs.Modules.{module_in}
 use Rattle.mlir_work_run_base.specs.Machine.{all_shown}
-use Rattle.mlir_work.specs.Whole.{IsOutput, IsRefusal}
-use Rattle.mlir_work.proofs.Ended.{ran_so, finished}
-use Rattle.mlir_work.proofs.run.answer_input.Goals as goal
+use Rattle.mlir_work_run.specs.Whole.{IsOutput, IsRefusal}
+use Rattle.mlir_work_run.proofs.Ended.{ran_so, finished}
+use Rattle.mlir_work_run.proofs.run.answer_input.Goals as goal
 
 pub returns-in-Err : goal.returns-in-Err
 returns-in-Err g c = ran_so (IsRefusal c.in-Err.unread.refusal c.in-Err.unread.offset) (IsOutput c.args.options.brief (all_shown g.L.Analysis.meaning c.args.boxes.items) c.args.input.items) _ _ c.refuse.result (λ st o h. inr (inl (c.in-Err.unread.refusal, c.in-Err.unread.offset, c.in-Err.ensures.unread, h))) c.refuse.ensures

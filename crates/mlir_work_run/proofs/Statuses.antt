@@ -7,10 +7,10 @@ use Rattle.mlir_work_base.specs.Lines.{lines_of}
 use Rattle.mlir_work_base.specs.Parts.{script_text}
 use Rattle.mlir_work_run_base.specs.Machine.{Shown, State}
 use Rattle.mlir_work_run_base.specs.Output.{Line, Replied, Runs, IsSession, worse, is_accepted}
-use Rattle.mlir_work.specs.Ends.{EndedSo, HasStatus, IsFinal, status_of}
-use Rattle.mlir_work.specs.Whole.{IsOutput}
-use Rattle.mlir_work.specs.declared.run.Fault.{Fault}
-use Rattle.mlir_work.specs.declared.run.Fault.TheVariants.{Read as ReadFailed, Write as WriteFailed}
+use Rattle.mlir_work_run.specs.Ends.{EndedSo, HasStatus, IsFinal, status_of}
+use Rattle.mlir_work_run.specs.Whole.{IsOutput}
+use Rattle.mlir_work_run.specs.declared.run.Fault.{Fault}
+use Rattle.mlir_work_run.specs.declared.run.Fault.TheVariants.{Read as ReadFailed, Write as WriteFailed}
 
 -- of a script: 0 or 1
 abbrev IsLow : ℕ → Type 0
