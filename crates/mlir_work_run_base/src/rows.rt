@@ -2,7 +2,8 @@
 ghost use Rattle.std.specs.Prelude.{◌≡◌, ◌<◌, ◌++◌, true, map, codes, OnOk, IfOk};
 ghost use Rattle.std.specs.Fmt.{decimal, signed_decimal};
 ghost use Rattle.std.specs.List.{All};
-ghost use Rattle.ir_types.specs.Bits.{type_of, width_of, signed_of};
+ghost use Rattle.ir_types.specs.Bits.{type_of, width_of};
+ghost use Rattle.ir_types.specs.Readings.{signed_of};
 ghost use Rattle.ir_types.specs.Terms.{name_term};
 ghost use Rattle.ir_types.specs.Things.{IsName};
 ghost use Rattle.ir_tree.specs.declared.value.Value.{Value as TreeValue};
