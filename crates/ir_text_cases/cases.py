@@ -626,6 +626,9 @@ def limits():
     module([user, (255, b"%a,"), b"%a) : (", (254, b"i1,"), b"i1) -> ()"], (5, 795))
     module([(256, b"%a,"), b"%a = "], (11, 768))
     module([(256, b"%a,"), b"= "], (2, 768))
+    for text, want in ((b"%b:1 = ", (11, 771)), (b"%b:0 = ", (7, 771)), (b"%b:x", (2, 771)), (b"%b:", (2, 771)), (b"%b, %c", (11, 768)),
+                       (b"%b:300", (11, 771)), (b"%b $", (11, 768)), (b"%b:$", (1, 771))):
+        module([(256, b"%a,"), text], want)
     for count in (254, 255, 256, 257):
         module([b'"t"() : () -> (', (count, b"i1,"), b"i1)"], (11, 783) if count > 255 else None)
         module([b'"t"() : () -> (', (count, b"i1,"), b"i1)"] + [b' "u"() : () -> ()'], (11, 783) if count > 255 else None)
@@ -697,7 +700,8 @@ def many_operations():
     each = len('  "t"() : () -> ()\n')
     all_there, full = f"{printed + (most - 1) * each} bytes", most * len(one)
     large(M, [(most - 1, one)], all_there)
-    large(M, [(most, one)], (11, full))
+    for text, want in ((b"", (11, full)), (b" // end", (11, full + 7)), (b")", (2, full)), (b'%a = "t"', (11, full + 5))):
+        large(M, [(most, one), text], want)
     inside = len(front) + (most - 1) * len(one)
     large(M, [front, (most - 1, one), back], all_there)
     large(M, [front, (most - 1, one), back, b'%a = "t"'], (11, inside + len(back) + 5))

@@ -111,6 +111,14 @@ fn counted_name(bytes: &[u8], before: u32) -> Result<(Named<'_>, &[u8]), ReadErr
     }
 }
 
+/// The fault of one more name behind 256, or of what is none: at its count, where it has one.
+fn past_names(bytes: &[u8]) -> Fault {
+    match counted_name(bytes, 256) {
+        Err(ReadError::Refused(fault)) => fault,
+        _ => one_too_many(bytes),
+    }
+}
+
 /// Puts names behind each other up to an equal sign, of at most 256 results.
 #[tactic(auto, unfolding(crate::specs::NameReading::names_at))]
 fn push_names<'a>(items: &mut Vec<Named<'a>>, bytes: &'a [u8]) -> Result<&'a [u8], ReadError>
@@ -132,7 +140,7 @@ fn push_names<'a>(items: &mut Vec<Named<'a>>, bytes: &'a [u8]) -> Result<&'a [u8
             Err(e) => return Err(e),
         }
     }
-    Err(ReadError::Refused(one_too_many(rest)))
+    Err(ReadError::Refused(past_names(rest)))
 }
 
 /// Names up to an equal sign, of at most 256 results.

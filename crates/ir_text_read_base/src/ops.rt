@@ -11,13 +11,13 @@ ghost use Rattle.ir_text_read_base.specs.OpReading.{region_at, regions_at, ops_a
 
 use crate::free::Around;
 use crate::opening::read_opening;
-use crate::places::{error_at_name, region_too_many};
+use crate::places::{error_at_name, past_ops, region_too_many};
 use crate::tail::closing;
 use ir_text_base::token::Mark;
 use ir_text_names_base::blocks::region_head;
 use ir_text_names_base::lists::{Behind, behind_item};
 use ir_text_names_base::scope::Scope;
-use ir_text_type_base::error::{ReadError, wrong};
+use ir_text_type_base::error::ReadError;
 use ir_text_type_base::steps::after;
 use ir_tree::outer::Outer;
 use ir_tree::tree::{TreeOp, TreeRegion};
@@ -139,7 +139,8 @@ pub fn ops<'a, O: Outer>(
         items.push(item)?;
         rest = tail;
     }
-    Err(ReadError::Refused(wrong(Refusal::TooMany, rest)))
+    let fault = past_ops(alloc, close, rest)?;
+    Err(ReadError::Refused(fault))
 }
 
 /// An operation in which others stand with at most that many levels.

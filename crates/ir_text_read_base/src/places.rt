@@ -13,7 +13,7 @@ use ir_text_type_base::steps::after;
 use ir_tree::value::Value;
 use ir_types::ids::OpId;
 use ir_types::refusal::Refusal;
-use std::alloc::Global;
+use std::alloc::{AllocError, Global};
 
 /// The fault at the name of an operation, or at what is none.
 fn fault_at(refusal: Refusal, bytes: &[u8], named: bool) -> Fault {
@@ -33,6 +33,17 @@ pub(crate) fn error_at_name(alloc: Global, refusal: Refusal, bytes: &[u8]) -> Re
         Ok((names, rest)) => ReadError::Refused(fault_at(refusal, rest, names.is_some())),
         Err(ReadError::Refused(fault)) => ReadError::Refused(fault),
         Err(_) => ReadError::Memory,
+    }
+}
+
+/// The fault behind as many operations as there may be: at the name of one more, or where they end.
+pub(crate) fn past_ops(alloc: Global, close: Mark, bytes: &[u8]) -> Result<Fault, AllocError> {
+    match after(bytes, close) {
+        Some(_) => Ok(wrong(Refusal::TooMany, bytes)),
+        None => match error_at_name(alloc, Refusal::TooMany, bytes) {
+            ReadError::Refused(fault) => Ok(fault),
+            _ => Err(AllocError),
+        },
     }
 }
 
