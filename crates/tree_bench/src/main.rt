@@ -11,6 +11,7 @@ use ir_tree::value::Value;
 use ir_types::context::Context;
 use ir_types::ids::{NameId, OpId, TypeId};
 use ir_types::node::{Sign, TypeNode};
+use ir_types::refusal::Refusal;
 use ir_types::words::BUILTIN_MODULE;
 use std::alloc::{AllocError, Global};
 use std::env;
@@ -29,67 +30,141 @@ const OPEN: u32 = 31;
 /// An operation with a result.
 const ADD: u32 = 6;
 
-/// An operation with a block.
-fn holder(alloc: Global, id: u32, name: NameId, ops: Vec<TreeOp>) -> Result<TreeOp, AllocError> {
-    let block = TreeRegion::Block {
-        args: Vec::new(alloc),
-        ops,
-    };
-    Ok(TreeOp {
+/// An operation of which nothing is said but its number and its name.
+fn bare(alloc: Global, id: u32, name: u32) -> TreeOp {
+    TreeOp {
         id: OpId::new(id),
-        name,
+        name: NameId::new(name),
         operands: Vec::new(alloc),
         results: Vec::new(alloc),
         props: Vec::new(alloc),
         attrs: Vec::new(alloc),
-        regions: vec![in alloc; block]?,
-    })
+        regions: Vec::new(alloc),
+    }
 }
 
-/// An operation with a result, which uses those of the operation before it and of the first one.
-fn leaf(alloc: Global, id: u32, ty: TypeId) -> Result<TreeOp, AllocError> {
-    let mut operands = Vec::new(alloc);
+/// Puts a block behind the regions that there are.
+fn put_block(
+    regions: &mut Vec<TreeRegion>,
+    alloc: Global,
+    ops: Vec<TreeOp>,
+) -> Result<(), AllocError> {
+    let args = Vec::new(alloc);
+    Ok(regions.push(TreeRegion::Block { args, ops })?)
+}
+
+/// An operation with a block.
+fn holder(alloc: Global, id: u32, name: u32, ops: Vec<TreeOp>) -> Result<TreeOp, AllocError> {
+    let mut op = bare(alloc, id, name);
+    put_block(&mut op.regions, alloc, ops)?;
+    Ok(op)
+}
+
+/// Puts the results of the operation before one, and of the first one, among the operands of that one.
+fn put_operands(operands: &mut Vec<Value>, id: u32) -> Result<(), AllocError> {
     if id > 1 {
         operands.push(Value::Result(OpId::new(id.saturating_sub(1)), 0))?;
         operands.push(Value::Result(OpId::new(1), 0))?;
     }
-    Ok(TreeOp {
-        id: OpId::new(id),
-        name: NameId::new(ADD),
-        operands,
-        results: vec![in alloc; ty]?,
-        props: Vec::new(alloc),
-        attrs: Vec::new(alloc),
-        regions: Vec::new(alloc),
-    })
+    Ok(())
+}
+
+/// Gives an operation a result, and operands.
+fn fill(op: &mut TreeOp, ty: TypeId) -> Result<(), AllocError> {
+    op.results.push(ty)?;
+    put_operands(&mut op.operands, op.id.number())
+}
+
+/// An operation with a result, which uses those of the operation before it and of the first one.
+fn leaf(alloc: Global, id: u32, ty: TypeId) -> Result<TreeOp, AllocError> {
+    let mut op = bare(alloc, id, ADD);
+    fill(&mut op, ty)?;
+    Ok(op)
+}
+
+/// Puts an operation behind others.
+fn put_leaf(ops: &mut Vec<TreeOp>, alloc: Global, id: u32, ty: TypeId) -> Result<(), AllocError> {
+    let op = leaf(alloc, id, ty)?;
+    Ok(ops.push(op)?)
+}
+
+/// Puts so many operations behind others.
+fn put_leaves(
+    ops: &mut Vec<TreeOp>,
+    alloc: Global,
+    first: u32,
+    count: u32,
+    ty: TypeId,
+) -> Result<(), AllocError> {
+    for index in 0..count {
+        put_leaf(ops, alloc, first.saturating_add(index), ty)?;
+    }
+    Ok(())
+}
+
+/// Puts an operation behind others, if there is one.
+fn put_some(ops: &mut Vec<TreeOp>, op: Option<TreeOp>) -> Result<(), AllocError> {
+    match op {
+        Some(op) => Ok(ops.push(op)?),
+        None => Ok(()),
+    }
+}
+
+/// What stands in a block: its first number, how many operations, and what they give.
+#[derive(Clone, Copy)]
+struct Contents {
+    first: u32,
+    count: u32,
+    ty: TypeId,
+}
+
+/// The operations of a block, and behind them the one that holds the next block, if there is one.
+fn list(
+    alloc: Global,
+    contents: &Contents,
+    inner: Option<TreeOp>,
+) -> Result<Vec<TreeOp>, AllocError> {
+    let mut ops = Vec::new(alloc);
+    put_leaves(&mut ops, alloc, contents.first, contents.count, contents.ty)?;
+    put_some(&mut ops, inner)?;
+    Ok(ops)
+}
+
+/// An operation with a block.
+fn around(
+    alloc: Global,
+    id: u32,
+    name: u32,
+    contents: &Contents,
+    inner: Option<TreeOp>,
+) -> Result<TreeOp, AllocError> {
+    let ops = list(alloc, contents, inner)?;
+    holder(alloc, id, name, ops)
+}
+
+/// The blocks from the innermost on, but for the module's.
+fn inside(alloc: Global, module: &Contents, levels: u32) -> Result<Option<TreeOp>, AllocError> {
+    let mut contents = *module;
+    let mut id = contents.count.saturating_mul(levels).saturating_add(1);
+    contents.first = id;
+    let mut inner = None;
+    for _ in 1..levels {
+        contents.first = contents.first.saturating_sub(contents.count);
+        inner = Some(around(alloc, id, OPEN, &contents, inner)?);
+        id = id.saturating_add(1);
+    }
+    Ok(inner)
 }
 
 /// A module of so many blocks, each inside the one before, with so many operations each.
-fn nested(alloc: Global, ty: TypeId, each: u32, levels: u32) -> Result<TreeOp, AllocError> {
-    let mut first = each.saturating_mul(levels).saturating_add(1);
-    let mut id = first;
-    let mut inner: Option<TreeOp> = None;
-    for level in 1..=levels {
-        first = first.saturating_sub(each);
-        let mut ops = Vec::new(alloc);
-        for index in 0..each {
-            ops.push(leaf(alloc, first.saturating_add(index), ty)?)?;
-        }
-        if let Some(op) = inner {
-            ops.push(op)?;
-        }
-        let name = if level == levels {
-            NameId::new(BUILTIN_MODULE)
-        } else {
-            NameId::new(OPEN)
-        };
-        inner = Some(holder(alloc, id, name, ops)?);
-        id = id.saturating_add(1);
-    }
-    match inner {
-        Some(op) => Ok(op),
-        None => holder(alloc, 0, NameId::new(BUILTIN_MODULE), Vec::new(alloc)),
-    }
+fn nested(alloc: Global, ty: TypeId, count: u32, levels: u32) -> Result<TreeOp, AllocError> {
+    let contents = Contents {
+        first: 1,
+        count,
+        ty,
+    };
+    let inner = inside(alloc, &contents, levels)?;
+    around(alloc, 0, BUILTIN_MODULE, &contents, inner)
 }
 
 /// The time, if a run is to be timed.
@@ -113,8 +188,8 @@ fn report<R: Print + Clock>(rt: &R, step: &str, ok: bool, start: Option<Instant>
     Ok(())
 }
 
-/// Checks and copies a tree.
-fn steps<R: Print + Clock>(
+/// Looks whether a tree is well-formed.
+fn step_check<R: Print + Clock>(
     rt: &R,
     alloc: Global,
     context: &Context,
@@ -123,13 +198,69 @@ fn steps<R: Print + Clock>(
 ) -> Result<()> {
     let start = begin(rt, timed)?;
     let answer = check(alloc, context, tree);
-    report(rt, "well-formed", answer.is_ok(), start)?;
+    report(rt, "well-formed", answer.is_ok(), start)
+}
+
+/// Looks whether the ids of a tree are distinct.
+fn step_distinct<R: Print + Clock>(
+    rt: &R,
+    alloc: Global,
+    tree: &TreeOp,
+    timed: bool,
+) -> Result<()> {
     let start = begin(rt, timed)?;
     let answer = distinct(alloc, tree)?;
-    report(rt, "distinct ids", answer, start)?;
+    report(rt, "distinct ids", answer, start)
+}
+
+/// Copies a tree.
+fn step_copy<R: Print + Clock>(rt: &R, tree: &TreeOp, timed: bool) -> Result<()> {
     let start = begin(rt, timed)?;
     let other = copy(tree)?;
     report(rt, "copied", other.id == tree.id, start)
+}
+
+/// Checks and copies a tree.
+fn steps<R: Print + Clock>(
+    rt: &R,
+    alloc: Global,
+    context: &Context,
+    tree: &TreeOp,
+    timed: bool,
+) -> Result<()> {
+    step_check(rt, alloc, context, tree, timed)?;
+    step_distinct(rt, alloc, tree, timed)?;
+    step_copy(rt, tree, timed)
+}
+
+/// Checks and copies a tree of so many blocks.
+fn try_nested(
+    rt: &HostRuntime,
+    context: &Context,
+    ty: TypeId,
+    count: u32,
+    levels: u32,
+    timed: bool,
+) -> Result<()> {
+    let tree = nested(rt.alloc(), ty, count, levels)?;
+    steps(rt, rt.alloc(), context, &tree, timed)
+}
+
+/// The type `i32`.
+fn word(context: &mut Context) -> Result<TypeId, Refusal> {
+    context.ty(TypeNode::Int {
+        sign: Sign::Signless,
+        width: 32,
+    })
+}
+
+/// Checks and copies a tree of one block and one of many.
+fn try_both(rt: &HostRuntime, context: &mut Context, count: u32, timed: bool) -> Result<()> {
+    let ty = word(context)?;
+    println!(rt; "{count} operations in one block")?;
+    try_nested(rt, context, ty, count, 1, timed)?;
+    println!(rt; "{count} operations in {LEVELS} blocks")?;
+    try_nested(rt, context, ty, count / LEVELS, LEVELS, timed)
 }
 
 /// How many, and whether to print microseconds.
@@ -145,16 +276,6 @@ fn wanted(rt: &(impl Env + Alloc)) -> Result<(u32, bool)> {
 
 fn main(rt: HostRuntime) -> Result<()> {
     let (count, timed) = wanted(&rt)?;
-    let alloc = rt.alloc();
-    let mut context = Context::new(alloc)?;
-    let word = TypeNode::Int {
-        sign: Sign::Signless,
-        width: 32,
-    };
-    let ty = context.ty(word)?;
-    println!(rt; "{count} operations in one block")?;
-    steps(&rt, alloc, &context, &nested(alloc, ty, count, 1)?, timed)?;
-    println!(rt; "{count} operations in {LEVELS} blocks")?;
-    let tree = nested(alloc, ty, count / LEVELS, LEVELS)?;
-    steps(&rt, alloc, &context, &tree, timed)
+    let mut context = Context::new(rt.alloc())?;
+    try_both(&rt, &mut context, count, timed)
 }
