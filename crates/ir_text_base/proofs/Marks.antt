@@ -1,10 +1,13 @@
 -- Which token is a mark, by its first byte.
-use Rattle.std.proofs.Common.{◌≡◌, ℕ, Bool, true, false, cond, List, [], ◌∷◌, drop, Option, Some, None, refl}
+use Rattle.std.proofs.lemmas.List.{take_all}
+use Rattle.std.proofs.Common.{take, ◌-◌, ◌<◌, ◌≤◌, length, get_or, sym, ◌∙◌, arith, ◌≡◌, ℕ, Bool, true, false, cond, List, [], ◌∷◌, drop, Option, Some, None, refl, ap}
 use Rattle.std.specs.Prelude.{option_map, ◌==◌, ◌||◌}
 use Rattle.std.specs.Char.{is_ascii_digit}
+use Rattle.std.specs.Borrow.{Bor}
 use Rattle.ir_text_base.specs.declared.token.Mark.{Mark}
+use Rattle.ir_text_base.specs.declared.token.Mark.TheVariants.{End}
 use Rattle.ir_text_base.specs.Bytes.{is_letter}
-use Rattle.ir_text_base.specs.Tokens.{Lexeme, mark, string, value, label, hash, bang, symbol, quoted, mark_at, mark_with, only_mark, begins_other, token_at, sign_at, symbol_at, name_parts, number_at, string_parts, hex_len, digits_len, fraction_len}
+use Rattle.ir_text_base.specs.Tokens.{Lexeme, skip, first_token, next, next_mark, mark, string, value, label, hash, bang, symbol, quoted, mark_at, mark_with, only_mark, begins_other, token_at, sign_at, symbol_at, name_parts, number_at, string_parts, hex_len, digits_len, fraction_len}
 
 none_if : (t : Bool) (a c : Option (Lexeme × List ℕ)) → only_mark a ≡ None → only_mark c ≡ None → only_mark (cond t a c) ≡ None
 none_if true a c f g = f
@@ -75,3 +78,27 @@ mark_is_one b bs e = behind (is_ascii_digit b) (is_letter b) _ _ _ _ _ e (λ f. 
 pub found_mark : (r : Option (Mark × List ℕ)) → only_mark (option_map (λ x. (mark x.0, x.1)) r) ≡ r
 found_mark None = refl
 found_mark (Some x) = refl
+
+-- ---- the next mark by what follows the blanks
+
+pub no_byte : (bytes all : List ℕ) → all ≡ skip bytes → length all < 1 → Some (End, all) ≡ next_mark bytes
+unfolding next_mark next
+no_byte bytes [] e l = ap (λ s. only_mark (first_token s)) e
+no_byte bytes (b ∷ bs) e l = absurd (omega (arith, l))
+
+pub other_byte : (bytes all : List ℕ) → all ≡ skip bytes → 1 ≤ length all → begins_other (get_or all 0 0) ≡ true → None ≡ next_mark bytes
+unfolding next_mark next
+other_byte bytes [] e l t = absurd (omega (arith, l))
+other_byte bytes (b ∷ bs) e l t = sym (other_is_none b bs t) ∙ ap (λ s. only_mark (first_token s)) e
+
+by_view : (o : Option (Mark × Bor (List ℕ))) → option_map (λ x. (mark x.0, x.1)) (option_map {U = Mark × List ℕ} (λ x. (x.0, x.1.now)) o) ≡ option_map {U = Lexeme × List ℕ} (λ x. (mark x.0, x.1.now)) o
+by_view None = refl
+by_view (Some x) = refl
+
+pub mark_byte : (bytes all : List ℕ) (o : Option (Mark × Bor (List ℕ))) → all ≡ skip bytes → 1 ≤ length all → begins_other (get_or all 0 0) ≡ false → option_map {U = Lexeme × List ℕ} (λ x. (mark x.0, x.1.now)) o ≡ mark_at (get_or all 0 0) (take (length all - 1) (drop 1 all))
+    → option_map {U = Mark × List ℕ} (λ x. (x.0, x.1.now)) o ≡ next_mark bytes
+unfolding next_mark next
+mark_byte bytes [] o e l t h = absurd (omega (arith, l))
+mark_byte bytes (b ∷ bs) o e l t h =
+    let all : take (length (b ∷ bs) - 1) bs ≡ bs = take_all (length (b ∷ bs) - 1) bs (omega arith) in
+    sym (found_mark (option_map {U = Mark × List ℕ} (λ x. (x.0, x.1.now)) o)) ∙ ap only_mark (by_view o ∙ h ∙ ap (mark_at b) all ∙ sym (mark_is_one b bs t)) ∙ ap (λ s. only_mark (first_token s)) e

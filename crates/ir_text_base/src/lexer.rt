@@ -323,7 +323,6 @@ fn begins_other(byte: u8) -> bool
 
 /// The mark that is the next token, and what follows it, or none where another token stands or none. No
 /// other token is read for that.
-#[tactic(auto, using(crate::proofs::Marks::other_is_none, crate::proofs::Marks::mark_is_one), unfolding(crate::specs::Tokens::next_mark, crate::specs::Tokens::next))]
 pub fn mark(bytes: &[u8]) -> Option<(Mark, &[u8])>
     ensures { option_map (λ x. (x.0, x.1.now)) result ≡ next_mark bytes.now }
 {
