@@ -1,11 +1,11 @@
 //! The types that are one word, and the word of memrefs.
-ghost use Rattle.std.specs.Prelude.{◌≡◌, ◌+◌, ◌-◌, ◌*◌, true, false, IfSome, option_map};
+ghost use Rattle.std.specs.Prelude.{◌≡◌, ◌∷◌, ℕ, List, ◌+◌, ◌-◌, ◌*◌, true, false, IfSome, option_and_then, option_map};
 ghost use Rattle.std.specs.List.{list_all};
 ghost use Rattle.std.specs.Char.{is_ascii_digit};
 ghost use Rattle.std.specs.Str.{bytes_eq};
 ghost use Rattle.ir_types.specs.Things.{Things, TypeIsOf};
 ghost use Rattle.ir_text_base.specs.Numbers.{below_limit, integer_of};
-ghost use Rattle.ir_text_type_base.specs.Scalars.{width_of, scalar_of, within, begins_zero, memref_word};
+ghost use Rattle.ir_text_type_base.specs.Scalars.{width_of, signed_of_word, integer_type_of, scalar_of, within, begins_zero, memref_word};
 
 use ir_text_base::numbers::integer_value;
 use ir_types::limits::MOST_WIDTH;
@@ -70,10 +70,50 @@ fn width_of(digits: &[u8]) -> Option<u32>
     within(decimal_value(digits)?)
 }
 
-/// The integer type of a signedness whose width the digits write.
-fn integer_type(sign: Sign, digits: &[u8]) -> Option<TypeNode>
-    ensures { result ≡ option_map (TypeNode.Int sign) (width_of digits.now) }
+/// The signedness that a byte in front of an `i` names.
+fn named_sign(byte: u8) -> Option<Sign>
+    ensures { (ds : List ℕ) → signed_of_word byte (105 ∷ ds) ≡ option_and_then (λ s. option_map (TypeNode.Int s) (width_of ds)) result }
 {
+    match byte {
+        b's' => Some(Sign::Signed),
+        b'u' => Some(Sign::Unsigned),
+        _ => None,
+    }
+}
+
+/// The signedness behind the first byte, and the digits.
+fn signed_parts(first: u8, tail: &[u8]) -> Option<(Sign, &[u8])>
+    ensures { signed_of_word first tail.now ≡ option_and_then (λ x. option_map (TypeNode.Int x.0) (width_of x.1.now)) result }
+{
+    let [second, digits @ ..] = tail else {
+        return None;
+    };
+    if *second != b'i' {
+        return None;
+    }
+    let sign = named_sign(first)?;
+    Some((sign, digits))
+}
+
+/// The signedness that a word begins with, and the digits behind it.
+fn integer_parts(word: &[u8]) -> Option<(Sign, &[u8])>
+    ensures { integer_type_of word.now ≡ option_and_then (λ x. option_map (TypeNode.Int x.0) (width_of x.1.now)) result }
+{
+    let [first, tail @ ..] = word else {
+        return None;
+    };
+    if *first == b'i' {
+        return Some((Sign::Signless, tail));
+    }
+    signed_parts(*first, tail)
+}
+
+/// The integer type that a word is.
+fn integer_type_of(word: &[u8]) -> Option<TypeNode>
+    ensures integer { result ≡ integer_type_of word.now }
+    ensures parts { IfSome result (λ node. (c : Things) → TypeIsOf c node) }
+{
+    let (sign, digits) = integer_parts(word)?;
     let width = width_of(digits)?;
     Some(TypeNode::Int { sign, width })
 }
@@ -87,12 +127,7 @@ pub fn scalar_of(word: &[u8]) -> Option<TypeNode>
     if word == b"index".as_slice() {
         return Some(TypeNode::Index);
     }
-    match word {
-        [b'i', digits @ ..] => integer_type(Sign::Signless, digits),
-        [b's', b'i', digits @ ..] => integer_type(Sign::Signed, digits),
-        [b'u', b'i', digits @ ..] => integer_type(Sign::Unsigned, digits),
-        _ => None,
-    }
+    integer_type_of(word)
 }
 
 /// Whether a word is `memref`.
