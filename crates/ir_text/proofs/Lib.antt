@@ -4,3 +4,4 @@ pub mod Rows
 pub mod Meanings
 pub mod Wholes
 pub mod Readings
+pub mod Walks

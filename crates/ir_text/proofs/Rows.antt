@@ -1,10 +1,37 @@
 -- A loop that writes texts in a row.
-use Rattle.std.proofs.Common.{◌≡◌, ◌∙◌, sym, ap, ℕ, suc, ◌+◌, ◌<◌, Bool, false, if◌then◌else◌, List, [], ◌∷◌, ◌++◌, map, length, get_or, drop, append_assoc, add-one, drop-cons}
+use Rattle.std.proofs.Common.{◌≡◌, ◌∙◌, sym, ap, ℕ, suc, ◌+◌, ◌<◌, ◌≤◌, Bool, false, if◌then◌else◌, List, [], ◌∷◌, ◌++◌, length, get_or, drop, refl, append_assoc, append-nil, add-one, drop-cons}
+use Rattle.std.proofs.Math.ListN.{drop_of_length-le}
 use Rattle.ir_text.specs.Rows.{parted}
 
--- one more is written, with the mark in front of it unless it is the first
-pub one_more : {A : Type 0} (mark close whole before between after : List ℕ) (f : A → List ℕ) (first : Bool) (xs : List A) (i : ℕ) (x : A) → i < length xs → x ≡ get_or xs i x → between ≡ before ++ (if first then [] else mark) → after ≡ between ++ f x → before ++ (parted mark first (map f (drop i xs)) ++ close) ≡ whole → after ++ (parted mark false (map f (drop (i + 1) xs)) ++ close) ≡ whole
-one_more mark close whole before between after f first xs i x h r p q s =
-    let e : drop i xs ≡ x ∷ drop (suc i) xs = drop-cons xs i x h ∙ ap (λ y. y ∷ drop (suc i) xs) (sym r) in
-    let s' = rw e at s in
-    rw (q, p, add-one) (simp append_assoc (simp append_assoc at s'))
+-- an item, and those that follow it
+pub next_item : {A : Type 0} (xs : List A) (i : ℕ) (x : A) → i < length xs → x ≡ get_or xs i x → drop i xs ≡ x ∷ drop (i + 1) xs
+next_item xs i x h r = rw add-one (drop-cons xs i x h ∙ ap (λ y. y ∷ drop (suc i) xs) (sym r))
+
+pub next_at : {A : Type 0} (xs : List A) (i : ℕ) (d : A) → i < length xs → drop i xs ≡ get_or xs i d ∷ drop (i + 1) xs
+next_at xs i d h = rw add-one (drop-cons xs i d h)
+
+-- one more text is written, with the mark in front of it unless it is the first
+pub one_more : (mark whole before between after text : List ℕ) (first : Bool) (now rest : List (List ℕ)) → now ≡ text ∷ rest → between ≡ before ++ (if first then [] else mark) → after ≡ between ++ text → before ++ parted mark first now ≡ whole → after ++ parted mark false rest ≡ whole
+one_more mark whole before between after text first now rest e p q s =
+    let front = if first then [] else mark in
+    let back = parted mark false rest in
+    ap (λ l. l ++ back) (q ∙ ap (λ l. l ++ text) p) ∙ append_assoc (before ++ front) text back ∙ append_assoc before front (text ++ back) ∙ ap (λ ts. before ++ parted mark first ts) (sym e) ∙ s
+
+-- the last was written
+pub no_more : {A : Type 0} (mark whole before : List ℕ) (first : Bool) (f : List A → List (List ℕ)) (xs : List A) (i : ℕ) → length xs ≤ i → f [] ≡ [] → before ++ parted mark first (f (drop i xs)) ≡ whole → before ≡ whole
+no_more mark whole before first f xs i h n s =
+    let none : f (drop i xs) ≡ [] = ap f (drop_of_length-le xs h) ∙ n in
+    sym (append-nil before) ∙ ap (λ ts. before ++ parted mark first ts) (sym none) ∙ s
+
+-- the same in front of what closes the row
+pub one_more_closed : (mark close whole before between after text : List ℕ) (first : Bool) (now rest : List (List ℕ)) → now ≡ text ∷ rest → between ≡ before ++ (if first then [] else mark) → after ≡ between ++ text → before ++ (parted mark first now ++ close) ≡ whole → after ++ (parted mark false rest ++ close) ≡ whole
+one_more_closed mark close whole before between after text first now rest e p q s =
+    sym (append_assoc after (parted mark false rest) close)
+    ∙ ap (λ l. l ++ close) (one_more mark (before ++ parted mark first now) before between after text first now rest e p q refl)
+    ∙ append_assoc before (parted mark first now) close
+    ∙ s
+
+pub no_more_closed : {A : Type 0} (mark close whole before : List ℕ) (first : Bool) (f : List A → List (List ℕ)) (xs : List A) (i : ℕ) → length xs ≤ i → f [] ≡ [] → before ++ (parted mark first (f (drop i xs)) ++ close) ≡ whole → before ++ close ≡ whole
+no_more_closed mark close whole before first f xs i h n s =
+    let none : f (drop i xs) ≡ [] = ap f (drop_of_length-le xs h) ∙ n in
+    ap (λ ts. before ++ (parted mark first ts ++ close)) (sym none) ∙ s

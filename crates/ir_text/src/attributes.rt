@@ -7,6 +7,7 @@ ghost use Rattle.ir_types.specs.Terms.{name_term, type_term, attr_term, attr_ter
 ghost use Rattle.ir_text.specs.Rows.{parted};
 ghost use Rattle.ir_text.specs.AttrText.{is_truth, truth_text, number_text, integer_text, items_text, dense_text, part_text, flags_text, is_flag, entry_text, in_curly, attr_text, attr_texts, entry_texts};
 
+use crate::between::put_between;
 use crate::numbers::{put_reading, put_signed};
 use crate::things::{attr_of, name_of, type_of};
 use crate::types::put_type;
@@ -83,9 +84,7 @@ fn put_numbers(out: &mut Vec<u8>, truth: bool, numbers: &[i64]) -> Result<(), Al
 {
     let mut first = true;
     'numbers: for number in numbers {
-        if !first {
-            out.extend_from_slice(b", ")?;
-        }
+        put_between(out, first, b", ")?;
         first = false;
         put_item(out, truth, *number)?;
     }
@@ -119,18 +118,24 @@ fn put_dense(
     out.extend_from_slice(b">")
 }
 
+/// Appends a part of a symbol reference.
+fn put_part(ctx: &Context, out: &mut Vec<u8>, part: NameId) -> Result<(), AllocError>
+    requires { IsName ctx.now part }
+    ensures { OnOk result (out.new.items ≡ out.old.items ++ part_text (name_term ctx.now part)) }
+{
+    out.extend_from_slice(b"@")?;
+    put_key(out, name_of(ctx, part))
+}
+
 fn put_symbol(ctx: &Context, out: &mut Vec<u8>, parts: &[NameId]) -> Result<(), AllocError>
     requires { All (λ n. n < length ctx.now.names) parts.now }
     ensures { OnOk result (out.new.items ≡ out.old.items ++ parted (codes "::") true (map part_text (map (name_term ctx.now) parts.now))) }
 {
     let mut first = true;
     'parts: for part in parts {
-        if !first {
-            out.extend_from_slice(b"::")?;
-        }
+        put_between(out, first, b"::")?;
         first = false;
-        out.extend_from_slice(b"@")?;
-        put_key(out, name_of(ctx, *part))?;
+        put_part(ctx, out, *part)?;
     }
     Ok(())
 }
@@ -144,6 +149,15 @@ fn flags_text(nsw: bool, nuw: bool) -> &'static [u8]
         (false, true) => b"nuw",
         (true, true) => b"nsw, nuw",
     }
+}
+
+/// Appends the flags of an integer operation.
+fn put_flags(out: &mut Vec<u8>, nsw: bool, nuw: bool) -> Result<(), AllocError>
+    ensures { OnOk result (out.new.items ≡ out.old.items ++ (codes "#arith.overflow<" ++ (flags_text nsw nuw ++ codes ">"))) }
+{
+    out.extend_from_slice(b"#arith.overflow<")?;
+    out.extend_from_slice(flags_text(nsw, nuw))?;
+    out.extend_from_slice(b">")
 }
 
 fn is_flag(ctx: &Context, id: AttrId) -> bool
@@ -172,11 +186,7 @@ pub fn put_attr(ctx: &Context, out: &mut Vec<u8>, id: AttrId) -> Result<(), Allo
         AttrNode::Dict(entries) => put_entries(ctx, out, entries.as_slice()),
         AttrNode::Sym(parts) => put_symbol(ctx, out, parts.as_slice()),
         AttrNode::Dense { elem, values } => put_dense(ctx, out, *elem, values.as_slice()),
-        AttrNode::Overflow { nsw, nuw } => {
-            out.extend_from_slice(b"#arith.overflow<")?;
-            out.extend_from_slice(flags_text(*nsw, *nuw))?;
-            out.extend_from_slice(b">")
-        }
+        AttrNode::Overflow { nsw, nuw } => put_flags(out, *nsw, *nuw),
     }
 }
 
@@ -188,9 +198,7 @@ fn put_attrs(ctx: &Context, out: &mut Vec<u8>, ids: &[AttrId]) -> Result<(), All
 {
     let mut first = true;
     'ids: for id in ids {
-        if !first {
-            out.extend_from_slice(b", ")?;
-        }
+        put_between(out, first, b", ")?;
         first = false;
         put_attr(ctx, out, *id)?;
     }
@@ -226,9 +234,7 @@ pub(crate) fn put_entries(
     out.extend_from_slice(b"{")?;
     let mut first = true;
     'entries: for entry in entries {
-        if !first {
-            out.extend_from_slice(b", ")?;
-        }
+        put_between(out, first, b", ")?;
         first = false;
         put_entry(ctx, out, entry.0, entry.1)?;
     }

@@ -2,6 +2,7 @@
 #![tactic(auto)]
 
 pub mod attributes;
+mod between;
 mod naming;
 mod numbers;
 mod operations;

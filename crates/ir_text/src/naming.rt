@@ -4,14 +4,14 @@ use ir_types::ids::{OpId, TypeId};
 
 /// Where a value comes from: a place among the results of an operation, or among the arguments of the
 /// block of one of its regions.
-#[derive(Clone, Copy, Debug, PartialEq, Eq, Hash)]
+#[derive(Clone, Copy, PartialEq, Eq, Hash)]
 pub enum Source {
     Result(OpId, u32),
     Argument(OpId, u32, u32),
 }
 
 /// The name of a value.
-#[derive(Clone, Copy, Debug, PartialEq, Eq)]
+#[derive(Clone, Copy)]
 pub enum ValueName {
     /// The only result of an operation, as `%0`.
     Only(u32),
@@ -22,7 +22,7 @@ pub enum ValueName {
 }
 
 /// A value that has a name.
-#[derive(Clone, Copy, Debug, PartialEq, Eq)]
+#[derive(Clone, Copy)]
 pub struct NamedValue {
     pub name: ValueName,
     pub ty: TypeId,

@@ -3,9 +3,11 @@ ghost use Rattle.std.specs.Prelude.{◌≡◌, ◌<◌, ◌++◌, OnOk, true, le
 ghost use Rattle.std.specs.List.{All};
 ghost use Rattle.ir_types.specs.Things.{IsType};
 ghost use Rattle.ir_types.specs.Terms.{type_term, type_terms, types_at};
+ghost use Rattle.std.specs.Fmt.{decimal};
 ghost use Rattle.ir_text.specs.Rows.{parted};
 ghost use Rattle.ir_text.specs.TypeText.{sign_text, dimension_text, is_function, is_lone, in_round, outputs_text, type_text, type_texts};
 
+use crate::between::put_between;
 use crate::numbers::put_number;
 use crate::things::type_of;
 use ir_types::context::Context;
@@ -21,6 +23,14 @@ fn sign_text(sign: Sign) -> &'static [u8]
         Sign::Signed => b"si",
         Sign::Unsigned => b"ui",
     }
+}
+
+/// Appends an integer type.
+fn put_integer_type(out: &mut Vec<u8>, sign: Sign, width: u32) -> Result<(), AllocError>
+    ensures { OnOk result (out.new.items ≡ out.old.items ++ (sign_text sign ++ decimal width)) }
+{
+    out.extend_from_slice(sign_text(sign))?;
+    put_number(out, u64::from(width))
 }
 
 fn put_dimension(out: &mut Vec<u8>, dim: Option<u64>) -> Result<(), AllocError>
@@ -70,10 +80,7 @@ pub fn put_type(ctx: &Context, out: &mut Vec<u8>, id: TypeId) -> Result<(), Allo
     ensures { OnOk result (out.new.items ≡ out.old.items ++ type_text (type_term ctx.now id)) }
 {
     match type_of(ctx, id) {
-        TypeNode::Int { sign, width } => {
-            out.extend_from_slice(sign_text(*sign))?;
-            put_number(out, u64::from(*width))
-        }
+        TypeNode::Int { sign, width } => put_integer_type(out, *sign, *width),
         TypeNode::Index => out.extend_from_slice(b"index"),
         TypeNode::Func { inputs, outputs } => {
             out.extend_from_slice(b"(")?;
@@ -98,9 +105,7 @@ fn put_types(ctx: &Context, out: &mut Vec<u8>, ids: &[TypeId]) -> Result<(), All
 {
     let mut first = true;
     'ids: for id in ids {
-        if !first {
-            out.extend_from_slice(b", ")?;
-        }
+        put_between(out, first, b", ")?;
         first = false;
         put_type(ctx, out, *id)?;
     }

@@ -9,6 +9,7 @@ ghost use Rattle.ir_text.specs.Naming.{name_text, source_of, naming_of, value_te
 ghost use Rattle.ir_text.specs.Printing.{types_of};
 ghost use Rattle.ir_text.specs.View.{naming_in, named_in};
 
+use crate::between::put_between;
 use crate::naming::{NamedValue, Source, ValueName};
 use crate::numbers::put_number;
 use crate::types::put_type;
@@ -79,9 +80,7 @@ fn put_values(
 {
     let mut first = true;
     'operands: for operand in operands {
-        if !first {
-            out.extend_from_slice(b", ")?;
-        }
+        put_between(out, first, b", ")?;
         first = false;
         put_value(out, named, *operand)?;
     }
@@ -140,9 +139,7 @@ pub(crate) fn put_operand_types(
 {
     let mut first = true;
     'operands: for operand in operands {
-        if !first {
-            out.extend_from_slice(b", ")?;
-        }
+        put_between(out, first, b", ")?;
         first = false;
         put_value_type(ctx, out, named, *operand)?;
     }

@@ -7,4 +7,4 @@ use Rattle.ir_text.specs.View.{named_in}
 use Rattle.ir_text.proofs.values.put_values.Given as goal
 
 abbrev pub invariant-operands : goal.invariant-operands
-invariant-operands l = (c : Things) → l.out.items ++ (parted (codes ", ") l.first (map (value_text (named_in c l.named.entries)) (drop l.operand-index l.operands)) ++ []) ≡ l.fn.out.items ++ parted (codes ", ") true (map (value_text (named_in c l.named.entries)) l.operands)
+invariant-operands l = (c : Things) → l.out.items ++ parted (codes ", ") l.first (map (value_text (named_in c l.named.entries)) (drop l.operand-index l.operands)) ≡ l.fn.out.items ++ parted (codes ", ") true (map (value_text (named_in c l.named.entries)) l.operands)

@@ -1,0 +1,14 @@
+use Rattle.std.proofs.Common.{◌≡◌, ◌∙◌, ◌++◌, ap, refl, map, ℕ, List, append_assoc}
+use Rattle.std.specs.Prelude.{codes}
+use Rattle.ir_types.specs.Terms.{name_term}
+use Rattle.ir_text.specs.AttrText.{part_text}
+use Rattle.ir_text.proofs.Rows.{next_item, one_more, no_more}
+use Rattle.ir_text.proofs.attributes.put_symbol.Goals as goal
+
+pub parts-preserved : goal.parts-preserved
+parts-preserved c =
+    let next = next_item c.args.parts.now c.parts.part-index c.part-item.result c.parts-test.true c.part-item.is in
+    one_more (codes "::") _ _ _ _ _ c.parts.first _ _ (ap (λ (ns : List ℕ). map part_text (map (name_term c.args.ctx.now) ns)) next) c.in_ok-put_between.ensures c.in_ok-put_part.ensures c.parts.invariant
+
+pub returns : goal.returns
+returns c = no_more (codes "::") _ _ c.parts.first (λ ns. map part_text (map (name_term c.args.ctx.now) ns)) c.args.parts.now c.parts.part-index c.parts-test.false refl c.parts.invariant
