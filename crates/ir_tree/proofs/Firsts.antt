@@ -1,5 +1,5 @@
 -- The first of two answers.
-use Rattle.std.proofs.Common.{◌≡◌, ap, sym, ◌∙◌, true, false, Option, Some, None, option_map}
+use Rattle.std.proofs.Common.{◌≡◌, ap, sym, true, false, Option, Some, None, option_map}
 use Rattle.std.specs.Prelude.{is_some}
 use Rattle.ir_tree.specs.Ids.{first_of}
 

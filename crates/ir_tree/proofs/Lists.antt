@@ -1,5 +1,5 @@
 -- What is done to each tree of a list, in the tree that the list makes.
-use Rattle.std.proofs.Common.{◌≡◌, ap, refl, sym, ◌∙◌, ◌++◌, ℕ, ◌+◌, suc, List, [], ◌∷◌, length, map, arith}
+use Rattle.std.proofs.Common.{◌≡◌, ap, refl, ◌∙◌, ◌++◌, ℕ, ◌+◌, suc, List, [], ◌∷◌, length, map, arith}
 use Rattle.std.proofs.Common.{eqb, not, true, false, cond, filter, get_or, insert, zero, ◌<◌, Some, None}
 use Rattle.std.proofs.Common.{Bool}
 use Rattle.std.proofs.lemmas.Bool.{ltb-false}

@@ -1,5 +1,5 @@
 -- Steps of loops that go through a list and look at what is left of it.
-use Rattle.std.proofs.Common.{◌≡◌, ◌∙◌, ap, sym, ℕ, ◌+◌, suc, ◌<◌, ◌≤◌, List, [], ◌∷◌, ◌++◌, length, get_or, set, take, drop, map, add-one, append_assoc, append-nil, arith, subst, length-append, min, max, ◌-◌, ◌^◌}
+use Rattle.std.proofs.Common.{◌≡◌, ◌∙◌, ap, sym, ℕ, ◌+◌, ◌<◌, ◌≤◌, List, [], ◌∷◌, ◌++◌, length, get_or, set, take, drop, map, add-one, append_assoc, append-nil, arith, subst, length-append, min, max, ◌-◌, ◌^◌}
 use Rattle.std.proofs.Math.Seq.{drop-cons}
 use Rattle.std.proofs.lemmas.List.{map-append, drop_all, take_all, take_more_set, drop-set-lt, take-append-le}
 

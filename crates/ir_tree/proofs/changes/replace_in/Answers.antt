@@ -1,4 +1,4 @@
-use Rattle.std.proofs.Common.{◌≡◌, ◌∙◌, ap, sym, subst, ℕ, ◌<◌, ◌≤◌, map, length}
+use Rattle.std.proofs.Common.{◌∙◌, ap, sym, subst, ℕ, ◌<◌, ◌≤◌, map}
 use Rattle.ir_tree.specs.Edits.{put_value}
 use Rattle.ir_tree.proofs.Steps.{write_next, write_all}
 use Rattle.ir_tree.proofs.changes.replace_in.Goals as goal

@@ -1,4 +1,4 @@
-use Rattle.std.proofs.Common.{◌≡◌, ◌∙◌, ap, map, ◌+◌, ℕ, ◌∷◌, List, length, length-append, drop}
+use Rattle.std.proofs.Common.{◌∙◌, ap, map, ◌+◌, List, length, length-append, drop}
 use Rattle.ir_tree.specs.Tree.{Op, regions_of, ops_of}
 use Rattle.ir_tree.specs.Ids.{ids, regions_ids, region_ids, ops_ids}
 use Rattle.ir_tree.specs.View.{region_view}

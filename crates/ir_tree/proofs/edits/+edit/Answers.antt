@@ -1,7 +1,7 @@
 use Rattle.std.proofs.Common.{◌≡◌, ◌∙◌, ap, sym, refl, subst, map, IfOk, ◌∷◌, [], ◌+◌, ℕ, List, drop}
-use Rattle.ir_tree.specs.Tree.{Op, Head, Region, op, head, block, regions_of, ops_of, region_list, op_list}
+use Rattle.ir_tree.specs.Tree.{Op, Region, op, head, block, regions_of, ops_of, region_list, op_list}
 use Rattle.ir_tree.specs.Edited.{edited, regions_edited, region_edited, ops_edited}
-use Rattle.ir_tree.specs.View.{op_view, head_view, region_view}
+use Rattle.ir_tree.specs.View.{head_view, region_view}
 use Rattle.ir_tree.specs.declared.tree.TreeRegion.{TreeRegion}
 use Rattle.ir_tree.proofs.Lists.{regions_from, ops_from}
 use Rattle.ir_tree.proofs.Steps.{made_next, made_all, map_more}

@@ -1,4 +1,4 @@
-use Rattle.std.proofs.Common.{◌≡◌, ◌∙◌, ap, sym, refl, map, ◌&&◌, ◌+◌, ℕ, List, drop, true, false}
+use Rattle.std.proofs.Common.{◌≡◌, ◌∙◌, ap, sym, map, ◌&&◌, ◌+◌, List, drop, true}
 use Rattle.ir_tree.specs.Tree.{Op, regions_of, ops_of}
 use Rattle.ir_tree.specs.Limits.{every, regions_every, region_every, ops_every}
 use Rattle.ir_tree.specs.View.{op_view, region_view}

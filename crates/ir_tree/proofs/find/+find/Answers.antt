@@ -1,4 +1,4 @@
-use Rattle.std.proofs.Common.{◌≡◌, ◌∙◌, ap, sym, subst, cond, map, ◌+◌, List, drop, Some, None, Option, option_map}
+use Rattle.std.proofs.Common.{◌≡◌, ◌∙◌, ap, sym, subst, cond, map, ◌+◌, List, drop, Some, None, option_map}
 use Rattle.ir_tree.specs.Tree.{Op, regions_of, ops_of}
 use Rattle.ir_tree.specs.Ids.{find, regions_find, region_find, ops_find}
 use Rattle.ir_tree.specs.View.{op_view, region_view}

@@ -1,4 +1,4 @@
-use Rattle.std.proofs.Common.{◌≡◌, ◌∙◌, ap, sym, refl, map, ◌++◌, ◌∷◌, [], ◌+◌, ℕ, List, drop}
+use Rattle.std.proofs.Common.{◌∙◌, ap, sym, refl, map, ◌++◌, ◌∷◌, [], ℕ, List}
 use Rattle.ir_tree.specs.Tree.{Op, regions_of, ops_of}
 use Rattle.ir_tree.specs.Ids.{ids, regions_ids, region_ids, ops_ids}
 use Rattle.ir_tree.specs.View.{region_view}

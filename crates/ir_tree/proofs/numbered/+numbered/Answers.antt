@@ -1,4 +1,4 @@
-use Rattle.std.proofs.Common.{◌≡◌, ◌∙◌, ap, sym, map, ◌+◌, ℕ, List, drop}
+use Rattle.std.proofs.Common.{◌∙◌, ap, sym, map, ◌+◌, ℕ, List, drop}
 use Rattle.std.specs.Prelude.{option_and_then}
 use Rattle.ir_tree.specs.Tree.{Op, regions_of, ops_of}
 use Rattle.ir_tree.specs.Numbered.{regions_after, ops_after}

@@ -1,4 +1,4 @@
-use Rattle.std.proofs.Common.{◌≡◌, ap, sym, ◌&&◌, ◌+◌, ℕ, List, drop}
+use Rattle.std.proofs.Common.{ap, sym, ◌&&◌, ◌+◌, ℕ, List, drop}
 use Rattle.ir_tree.specs.Meaning.{rises, rises_after, key_before_in}
 use Rattle.ir_tree.proofs.Steps.{left_next}
 use Rattle.ir_tree.proofs.sound.is_sorted.Goals as goal

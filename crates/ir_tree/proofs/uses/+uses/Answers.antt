@@ -1,4 +1,4 @@
-use Rattle.std.proofs.Common.{◌≡◌, ◌∙◌, ap, sym, refl, map, ◌++◌, ◌+◌, ℕ, List, drop}
+use Rattle.std.proofs.Common.{◌∙◌, ap, sym, refl, map, ◌++◌, ℕ, List}
 use Rattle.ir_tree.specs.Tree.{Op, regions_of, ops_of}
 use Rattle.ir_tree.specs.Uses.{operand_uses, uses_of, regions_uses, region_uses, ops_uses}
 use Rattle.ir_tree.specs.View.{region_view}
