@@ -1,0 +1,6 @@
+//! What the operations on integers compute: a fold over known values, and the table's registry.
+#![tactic(auto)]
+
+pub mod arithmetic;
+pub mod operations;
+pub mod readings;

@@ -1,0 +1,162 @@
+-- The listed operations, each with its row.
+use Rattle.std.specs.Prelude.{ℕ, List, [], ◌∷◌, codes, Bool, true, false, Option, Some, None}
+use Rattle.op_registry.specs.declared.definition.TypeRule.{TypeRule}
+use Rattle.op_registry.specs.declared.definition.TypeRule.TheVariants as type
+use Rattle.op_registry.specs.declared.definition.PropertyKind.{PropertyKind}
+use Rattle.op_registry.specs.declared.definition.PropertyKind.TheVariants as kind
+use Rattle.op_registry.specs.declared.definition.Traits.{Traits}
+use Rattle.op_registry.specs.declared.own.Own.{Own}
+use Rattle.op_registry.specs.declared.own.Own.TheVariants as own
+use Rattle.op_registry.specs.declared.own.EffectSet.{EffectSet}
+
+-- what the types in a place must be: the first ones one by one, then any number of others, if there may be any
+pub record TypesRow : Type 0 where
+  pub first : List TypeRule
+  pub more : Option TypeRule
+
+-- the arguments of a region's block, and whether the region may be without a block
+pub record RegionRow : Type 0 where
+  pub arguments : TypesRow
+  pub may_be_empty : Bool
+
+-- a property by the bytes of its key, whether the operation must have it, and what its attribute must be
+pub record PropertyRow : Type 0 where
+  pub key : List ℕ
+  pub required : Bool
+  pub kind : PropertyKind
+
+-- the row of an operation; its parents are the names of those in which a terminator may stand
+pub record Row : Type 0 where
+  pub operands : TypesRow
+  pub results : TypesRow
+  pub regions : List RegionRow
+  pub properties : List PropertyRow
+  pub effects : Own
+  pub traits : Traits
+  pub parents : List (List ℕ)
+
+-- types
+abbrev none : TypesRow
+none = record { first = []; more = None }
+
+abbrev only : List TypeRule → TypesRow
+only types = record { first = types; more = None }
+
+abbrev any_number : TypeRule → TypesRow
+any_number rest = record { first = []; more = Some rest }
+
+abbrev and_more : List TypeRule → TypeRule → TypesRow
+and_more types rest = record { first = types; more = Some rest }
+
+-- regions
+abbrev with_block : TypesRow → RegionRow
+with_block arguments = record { arguments = arguments; may_be_empty = false }
+
+abbrev may_be_empty : TypesRow → RegionRow
+may_be_empty arguments = record { arguments = arguments; may_be_empty = true }
+
+-- properties
+abbrev required : List ℕ → PropertyKind → PropertyRow
+required key kind = record { key = key; required = true; kind = kind }
+
+abbrev optional : List ℕ → PropertyKind → PropertyRow
+optional key kind = record { key = key; required = false; kind = kind }
+
+-- effects
+abbrev no_effect : EffectSet
+no_effect = record { allocate = false; free = false; read = false; write = false }
+
+-- traits
+abbrev no_trait : Traits
+no_trait = record { terminator = false; isolated = false; symbol_table = false; symbol = false; recursive = false }
+
+-- a row of operands and results alone, without effect
+abbrev pure : TypesRow → TypesRow → Row
+pure operands results = record { operands = operands; results = results; regions = []; properties = []; effects = own.Pure; traits = no_trait; parents = [] }
+
+-- two numbers of one type, which is that of the result
+abbrev arithmetic : Row
+arithmetic = pure (only (type.Number ∷ type.Number ∷ [])) (only (type.Number ∷ []))
+
+-- the same, with overflow flags
+abbrev flagged : Row
+flagged = record arithmetic { properties = optional (codes "overflowFlags") kind.Overflow ∷ [] }
+
+-- an operation that ends the blocks of others
+abbrev ending : TypesRow → List (List ℕ) → Row
+ending operands parents = record (pure operands none) { traits = record no_trait { terminator = true }; parents = parents }
+
+-- an operation that has the effects of the operations directly inside
+abbrev around : TypesRow → TypesRow → List RegionRow → Row
+around operands results regions = record (pure operands results) { regions = regions; effects = own.Recursive; traits = record no_trait { recursive = true } }
+
+unfoldable pub rows : List (List ℕ × Row)
+rows =
+    (codes "builtin.module", record (pure none none) {
+      regions = with_block none ∷ [];
+      properties = optional (codes "sym_name") kind.Text ∷ optional (codes "sym_visibility") kind.Visibility ∷ [];
+      effects = own.Unknown;
+      traits = record no_trait { isolated = true; symbol_table = true; symbol = true };
+    })
+    ∷ (codes "builtin.unrealized_conversion_cast", pure (any_number type.Any) (and_more (type.Any ∷ []) type.Any))
+    ∷ (codes "func.func", record (pure none none) {
+      regions = may_be_empty (any_number type.Input) ∷ [];
+      properties =
+          required (codes "function_type") kind.Function
+          ∷ required (codes "sym_name") kind.Text
+          ∷ optional (codes "sym_visibility") kind.Visibility
+          ∷ optional (codes "arg_attrs") kind.Any
+          ∷ optional (codes "res_attrs") kind.Any
+          ∷ [];
+      effects = own.Unknown;
+      traits = record no_trait { isolated = true; symbol = true };
+    })
+    ∷ (codes "func.call", record (pure (any_number type.Any) (any_number type.Any)) {
+      properties = required (codes "callee") kind.Symbol ∷ optional (codes "arg_attrs") kind.Any ∷ optional (codes "res_attrs") kind.Any ∷ [];
+      effects = own.Unknown;
+    })
+    ∷ (codes "func.return", ending (any_number type.Any) (codes "func.func" ∷ []))
+    ∷ (codes "arith.constant", record (pure none (only (type.Number ∷ []))) { properties = required (codes "value") kind.Integer ∷ [] })
+    ∷ (codes "arith.addi", flagged)
+    ∷ (codes "arith.subi", flagged)
+    ∷ (codes "arith.muli", flagged)
+    ∷ (codes "arith.shli", flagged)
+    ∷ (codes "arith.divsi", arithmetic)
+    ∷ (codes "arith.divui", arithmetic)
+    ∷ (codes "arith.remsi", arithmetic)
+    ∷ (codes "arith.remui", arithmetic)
+    ∷ (codes "arith.andi", arithmetic)
+    ∷ (codes "arith.ori", arithmetic)
+    ∷ (codes "arith.xori", arithmetic)
+    ∷ (codes "arith.shrsi", arithmetic)
+    ∷ (codes "arith.shrui", arithmetic)
+    ∷ (codes "arith.maxsi", arithmetic)
+    ∷ (codes "arith.maxui", arithmetic)
+    ∷ (codes "arith.minsi", arithmetic)
+    ∷ (codes "arith.minui", arithmetic)
+    ∷ (codes "arith.cmpi", record (pure (only (type.Number ∷ type.Number ∷ [])) (only (type.Boolean ∷ []))) { properties = required (codes "predicate") kind.Predicate ∷ [] })
+    ∷ (codes "arith.select", pure (only (type.Boolean ∷ type.Any ∷ type.Same ∷ [])) (only (type.Same ∷ [])))
+    ∷ (codes "arith.extsi", pure (only (type.Integer ∷ [])) (only (type.Integer ∷ [])))
+    ∷ (codes "arith.extui", pure (only (type.Integer ∷ [])) (only (type.Integer ∷ [])))
+    ∷ (codes "arith.trunci", record (pure (only (type.Integer ∷ [])) (only (type.Integer ∷ []))) { properties = optional (codes "overflowFlags") kind.Overflow ∷ [] })
+    ∷ (codes "arith.index_cast", pure (only (type.Number ∷ [])) (only (type.OtherNumber ∷ [])))
+    ∷ (codes "arith.index_castui", pure (only (type.Number ∷ [])) (only (type.OtherNumber ∷ [])))
+    ∷ (codes "scf.for", around (and_more (type.Number ∷ type.Number ∷ type.Number ∷ []) type.Any) (any_number type.Initial) (with_block (and_more (type.Number ∷ []) type.Initial) ∷ []))
+    ∷ (codes "scf.if", around (only (type.Boolean ∷ [])) (any_number type.Any) (with_block none ∷ may_be_empty none ∷ []))
+    ∷ (codes "scf.while", around (any_number type.Any) (any_number type.Any) (with_block (any_number type.Initial) ∷ with_block (any_number type.Result) ∷ []))
+    ∷ (codes "scf.yield", ending (any_number type.Any) (codes "scf.for" ∷ codes "scf.if" ∷ codes "scf.while" ∷ []))
+    ∷ (codes "scf.condition", ending (and_more (type.Boolean ∷ []) type.Any) (codes "scf.while" ∷ []))
+    ∷ (codes "memref.alloc", record (pure (any_number type.Index) (only (type.Memref ∷ []))) {
+      properties = optional (codes "operandSegmentSizes") kind.Segments ∷ optional (codes "alignment") kind.Any ∷ [];
+      effects = own.Only (record no_effect { allocate = true });
+    })
+    ∷ (codes "memref.dealloc", record (pure (only (type.Memref ∷ [])) none) { effects = own.Only (record no_effect { free = true }) })
+    ∷ (codes "memref.load", record (pure (and_more (type.Memref ∷ []) type.Index) (only (type.Element ∷ []))) {
+      properties = optional (codes "nontemporal") kind.Any ∷ optional (codes "alignment") kind.Any ∷ [];
+      effects = own.Only (record no_effect { read = true });
+    })
+    ∷ (codes "memref.store", record (pure (and_more (type.Element ∷ type.Memref ∷ []) type.Index) none) {
+      properties = optional (codes "nontemporal") kind.Any ∷ optional (codes "alignment") kind.Any ∷ [];
+      effects = own.Only (record no_effect { write = true });
+    })
+    ∷ []

@@ -1,0 +1,8 @@
+//! The table of listed operations: for each name its row, looked up by the number of the name's word.
+#![tactic(auto)]
+
+pub mod definition;
+pub mod own;
+pub mod registry;
+mod table;
+mod words;
