@@ -1,2 +1,5 @@
+pub mod CastLaws
+pub mod Laws
 pub mod Quotients
+pub mod ReadingLaws
 pub mod Widths

@@ -1,6 +1,6 @@
 -- What operations compute, on whole numbers (`arith` Dialect). A value of w bits is a number below 2^w; its signed
 -- reading is that of two's complement. A result is taken modulo 2^w.
-use Rattle.std.specs.Prelude.{ℕ, ◌+◌, ◌-◌, ◌*◌, ◌/◌, ◌%◌, ◌^◌, Bool, ◌&&◌, ◌==◌, not, nat_lt, nat_le, ℤ, pos, ◌-ℤ◌, int_lt, int_le, int_div, int_rem, bit_and, bit_or, bit_xor, if◌then◌else◌, Option, Some, None}
+use Rattle.std.specs.Prelude.{ℕ, ◌+◌, ◌-◌, ◌*◌, ◌/◌, ◌%◌, ◌^◌, Bool, true, false, ◌&&◌, ◌==◌, not, nat_lt, nat_le, ℤ, pos, ◌-ℤ◌, int_lt, int_le, int_div, int_rem, bit_and, bit_or, bit_xor, if◌then◌else◌, Option, Some, None}
 use Rattle.std.specs.Int.{int_shr}
 use Rattle.dialects_int.specs.Readings.{signed_of, wrapped}
 use Rattle.dialects_int.specs.declared.operations.Arithmetic.{Arithmetic}
@@ -115,3 +115,11 @@ abbrev pub cast_of : Cast → ℕ → ℕ → ℕ → Option ℕ
 cast_of cast.ExtendSigned v w a = Some (sign_extended v w a)
 cast_of cast.ExtendUnsigned v w a = Some (zero_extended w a)
 cast_of cast.Truncate v w a = truncated v w a
+
+-- whether an operand of w bits alone gives the result, which is then its value: 0 of a product and a conjunction, all
+-- ones of a disjunction
+unfoldable pub absorbs : Arithmetic → ℕ → ℕ → Bool
+absorbs op.Multiply w a = a == 0
+absorbs op.And w a = a == 0
+absorbs op.Or w a = a == all_ones w
+absorbs _ w a = false

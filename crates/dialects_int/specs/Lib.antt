@@ -1,2 +1,3 @@
 pub mod Readings
 pub mod Arithmetic
+pub mod Laws
