@@ -1,15 +1,19 @@
--- The row that stands at a word's number is the one beside the word's bytes.
-use Rattle.std.proofs.Common.{◌≡◌, ℕ, zero, suc, ◌+◌, ◌<◌, ◌≤◌, Bool, true, false, List, [], ◌∷◌, ◌++◌, map, slice_get, Some, None, sym, ap, refl, ◌∙◌, arith}
-use Rattle.std.specs.Prelude.{◌==◌, ◌-◌, Option, if◌then◌else◌}
+-- What stands beside a word's bytes in a list of words is what stands at its number.
+use Rattle.std.proofs.Common.{◌≡◌, ℕ, zero, suc, ◌+◌, ◌<◌, ◌≤◌, Bool, true, false, List, [], ◌∷◌, map, take, drop, slice_get, Some, None, sym, ap, refl, ◌∙◌, arith}
+use Rattle.std.specs.Prelude.{◌==◌, ◌-◌, ◌||◌, Option, if◌then◌else◌, is_some, unwrap_or}
+use Rattle.std.specs.List.{list_any}
 use Rattle.std.specs.Str.{bytes_eq}
 use Rattle.std.proofs.lemmas.Bool.Decides.{nat_tests}
-use Rattle.ir_types.specs.Words.{operations, keys, visibilities, words}
+use Rattle.ir_types.specs.Words.{operations, keys, visibilities, words, is_listed}
 use Rattle.ir_types.specs.Things.{Things}
 use Rattle.ir_types.specs.Terms.{name_term}
 use Rattle.ir_types.specs.Sound.{IsSound}
 use Rattle.ir_types.proofs.WordNumbers.{word_test}
 use Rattle.op_registry.specs.Rows.{Row, rows}
 use Rattle.op_registry.specs.Registry.{beside, row_of}
+use Rattle.op_registry.specs.declared.property.PropertyKind.{PropertyKind}
+use Rattle.op_registry.specs.declared.property.PropertyKind.TheVariants.{Any}
+use Rattle.op_registry.specs.Properties.{kinds, kind_of}
 
 module _ {A : Type 0} (op : List ℕ) (n : ℕ) where
   -- the tests for the names of a list are tests of the numbers from one on
@@ -19,7 +23,7 @@ module _ {A : Type 0} (op : List ℕ) (n : ℕ) where
   tests_after : (start : ℕ) (x : List ℕ × A) (xs : List (List ℕ × A)) → AreTests start (x ∷ xs) → AreTests (start + 1) xs
   tests_after start x xs each i w e = let k : start + suc i ≡ start + 1 + i = omega arith in each (suc i) w e ∙ ap (λ m. n == m) k
 
-  pub beside_at : (list : List (List ℕ × A)) (start d : ℕ) → n ≡ start + d → AreTests start list → beside op list ≡ slice_get (map (λ row. row.1) list) d
+  beside_at : (list : List (List ℕ × A)) (start d : ℕ) → n ≡ start + d → AreTests start list → beside op list ≡ slice_get (map (λ row. row.1) list) d
   beside_at [] start zero e each = refl
   beside_at [] start (suc d) e each = refl
   beside_at (row ∷ more) start zero e each =
@@ -32,24 +36,82 @@ module _ {A : Type 0} (op : List ℕ) (n : ℕ) where
       let next : n ≡ start + 1 + d = omega arith in
       rw (here, no_match) (beside_at more (start + 1) d next (tests_after start row more each))
 
--- the names of the rows are those of the listed operations, in their order
-names_are : map (λ (row : List ℕ × Row). row.0) rows ≡ map (λ (row : List ℕ × List (List ℕ)). row.0) operations
-unfolding rows operations
-names_are = refl
+  beside_before : (list : List (List ℕ × A)) (start : ℕ) → n < start → AreTests start list → beside op list ≡ None
+  beside_before [] start h each = refl
+  beside_before (row ∷ more) start h each =
+      let here : bytes_eq op row.0 ≡ (n == start + 0) = each 0 row.0 refl in
+      let no_match : (n == start + 0) ≡ false = grind (arith, nat_tests) in
+      rw (here, no_match) (beside_before more (start + 1) (omega arith) (tests_after start row more each))
 
-kept_before : {A : Type 0} (xs ys : List A) (i : ℕ) (x : A) → slice_get xs i ≡ Some x → slice_get (xs ++ ys) i ≡ Some x
-kept_before [] ys zero x e = absurd (cc)
-kept_before [] ys (suc i) x e = absurd (cc)
-kept_before (y ∷ xs) ys zero x e = e
-kept_before (y ∷ xs) ys (suc i) x e = kept_before xs ys i x e
+-- the words from a number on, some of them
+front : {X : Type 0} (xs : List X) (m k : ℕ) (x : X) → slice_get (take m xs) k ≡ Some x → slice_get xs k ≡ Some x
+front [] zero k x e = absurd (cc)
+front [] (suc m) k x e = absurd (cc)
+front (y ∷ ys) zero k x e = absurd (cc)
+front (y ∷ ys) (suc m) zero x e = e
+front (y ∷ ys) (suc m) (suc k) x e = front ys m k x e
 
-word_at : (i : ℕ) (w : List ℕ) → slice_get (map (λ (row : List ℕ × List (List ℕ)). row.0) operations) i ≡ Some w → slice_get words i ≡ Some w
-unfolding words operations keys visibilities
-word_at i w e = kept_before (map (λ (row : List ℕ × List (List ℕ)). row.0) operations) (keys ++ visibilities) i w e
+dropped : {X : Type 0} (xs : List X) (s k : ℕ) → slice_get (drop s xs) k ≡ slice_get xs (s + k)
+dropped xs zero k = ap (slice_get xs) (omega arith)
+dropped [] (suc s) zero = refl
+dropped [] (suc s) (suc k) = refl
+dropped (y ∷ ys) (suc s) k = let e : suc s + k ≡ suc (s + k) = omega arith in dropped ys s k ∙ ap (slice_get (y ∷ ys)) (sym e)
+
+-- the names of a list are words, from a number on
+abbrev pub AreWords : {A : Type 0} → ℕ → ℕ → List (List ℕ × A) → Type 0
+AreWords {A} start count list = map (λ (row : List ℕ × A). row.0) list ≡ take count (drop start words)
+
+tests : {A : Type 0} (c : Things) (n start count : ℕ) (list : List (List ℕ × A)) → IsSound c → AreWords start count list → AreTests (name_term c n) n start list
+tests c n start count list sound are i w e = word_test c n (start + i) w sound (sym (dropped words start i) ∙ front (drop start words) count i w (ap (λ l. slice_get l i) (sym are) ∙ e))
+
+pub beside_word : {A : Type 0} (c : Things) (n start count : ℕ) (list : List (List ℕ × A)) → IsSound c → AreWords start count list → start ≤ n → beside (name_term c n) list ≡ slice_get (map (λ (row : List ℕ × A). row.1) list) (n - start)
+beside_word c n start count list sound are h = beside_at (name_term c n) n list start (n - start) (omega arith) (tests c n start count list sound are)
+
+pub beside_earlier : {A : Type 0} (c : Things) (n start count : ℕ) (list : List (List ℕ × A)) → IsSound c → AreWords start count list → n < start → beside (name_term c n) list ≡ None
+beside_earlier c n start count list sound are h = beside_before (name_term c n) n list start h (tests c n start count list sound are)
+
+-- the rows
+rows_are : AreWords 0 39 rows
+unfolding words operations keys visibilities rows
+rows_are = refl
 
 pub row_is : (c : Things) (n : ℕ) → IsSound c → row_of (name_term c n) ≡ slice_get (map (λ (row : List ℕ × Row). row.1) rows) n
 unfolding row_of
-row_is c n sound = 
-    beside_at (name_term c n) n rows 0 n (omega arith) (λ i w e.
-    let k : i ≡ 0 + i = omega arith in
-    word_test c n i w sound (word_at i w (ap (λ l. slice_get l i) (sym names_are) ∙ e)) ∙ ap (λ m. n == m) k)
+row_is c n sound =
+    let e : n - 0 ≡ n = omega arith in
+    beside_word c n 0 39 rows sound rows_are (omega arith) ∙ ap (slice_get (map (λ (row : List ℕ × Row). row.1) rows)) e
+
+-- the kinds of the keys
+kinds_are : AreWords 39 12 kinds
+unfolding words operations keys visibilities kinds
+kinds_are = refl
+
+pub kind_is : (c : Things) (n : ℕ) → IsSound c → 39 ≤ n → kind_of (name_term c n) ≡ unwrap_or (slice_get (map (λ (row : List ℕ × PropertyKind). row.1) kinds) (n - 39)) Any
+unfolding kind_of
+kind_is c n sound h = ap (λ k. unwrap_or k Any) (beside_word c n 39 12 kinds sound kinds_are h)
+
+pub kind_of_operation : (c : Things) (n : ℕ) → IsSound c → n < 39 → kind_of (name_term c n) ≡ Any
+unfolding kind_of
+kind_of_operation c n sound h = ap (λ k. unwrap_or k Any) (beside_earlier c n 39 12 kinds sound kinds_are h)
+
+-- an operation is listed where it has a row
+found : {A B : Type 0} (op : List ℕ) (xs : List (List ℕ × A)) (ys : List (List ℕ × B)) → map (λ (row : List ℕ × A). row.0) xs ≡ map (λ (row : List ℕ × B). row.0) ys → list_any (λ (row : List ℕ × A). bytes_eq op row.0) xs ≡ is_some (beside op ys)
+found op [] [] e = refl
+found op [] (y ∷ ys) e = absurd (cc)
+found op (x ∷ xs) [] e = absurd (cc)
+found {A} {B} op (x ∷ xs) (y ∷ ys) e =
+    let first : x.0 ≡ y.0 = cc in
+    let rest : map (λ (row : List ℕ × A). row.0) xs ≡ map (λ (row : List ℕ × B). row.0) ys = cc in
+    rw (first, found op xs ys rest) (by (bytes_eq op y.0) y.1 (beside op ys))
+  where
+    by : (t : Bool) (y : B) (more : Option B) → (t || is_some more) ≡ is_some (if t then Some y else more)
+    by true y more = refl
+    by false y more = refl
+
+names_are : map (λ (row : List ℕ × List (List ℕ)). row.0) operations ≡ map (λ (row : List ℕ × Row). row.0) rows
+unfolding operations rows
+names_are = refl
+
+pub listed_is : (op : List ℕ) → is_listed op ≡ is_some (row_of op)
+unfolding is_listed row_of
+listed_is op = found op operations rows names_are

@@ -1,7 +1,7 @@
 -- What is known of an operation by its name's bytes.
-use Rattle.std.specs.Prelude.{ℕ, List, [], ◌∷◌, ◌+◌, map, Bool, false, Option, Some, None, if◌then◌else◌, slice_index_or}
+use Rattle.std.specs.Prelude.{ℕ, List, [], ◌∷◌, map, Bool, false, Option, Some, None, if◌then◌else◌}
 use Rattle.std.specs.Str.{bytes_eq}
-use Rattle.ir_types.specs.Words.{words}
+use Rattle.ir_types.specs.WordNames.{word_bytes}
 use Rattle.op_registry.specs.declared.definition.OpDef.{OpDef}
 use Rattle.op_registry.specs.declared.definition.Types.{Types}
 use Rattle.op_registry.specs.declared.definition.RegionRule.{RegionRule}
@@ -21,6 +21,10 @@ beside op (row ∷ more) = if bytes_eq op row.0 then Some row.1 else beside op m
 -- the row of an operation, where it is listed
 unfoldable pub row_of : List ℕ → Option Row
 row_of op = beside op rows
+
+-- the keys of its properties
+abbrev pub keys_of : Row → List (List ℕ)
+keys_of row = map (λ (property : PropertyRow). property.key) row.properties
 
 -- whether a trait is among some
 abbrev pub is_among : Trait → Traits → Bool
@@ -46,9 +50,7 @@ own_in (Some row) = row.effects
 abbrev pub own_of : List ℕ → Own
 own_of op = own_in (row_of op)
 
--- a definition of the code as a row: the names of keys and parents are those of their numbers
-abbrev word_of : ℕ → List ℕ
-word_of number = slice_index_or words number []
+-- a definition of the code as a row
 
 abbrev pub types_row : Types → TypesRow
 types_row types = record { first = types.first.now; more = types.more }
@@ -57,7 +59,7 @@ abbrev pub region_row : RegionRule → RegionRow
 region_row region = record { arguments = types_row region.arguments; may_be_empty = region.may_be_empty }
 
 abbrev pub property_row : Property → PropertyRow
-property_row property = record { key = word_of property.key; required = property.required; kind = property.kind }
+property_row property = record { key = word_bytes property.key; required = property.required }
 
 unfoldable pub row_from : OpDef → Row
 row_from def = record {
@@ -67,5 +69,5 @@ row_from def = record {
   properties = map property_row def.properties.now;
   effects = def.effects;
   traits = def.traits;
-  parents = map word_of def.parents.now;
+  parents = map word_bytes def.parents.now;
 }

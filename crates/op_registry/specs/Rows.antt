@@ -2,8 +2,6 @@
 use Rattle.std.specs.Prelude.{ℕ, List, [], ◌∷◌, codes, Bool, true, false, Option, Some, None}
 use Rattle.op_registry.specs.declared.definition.TypeRule.{TypeRule}
 use Rattle.op_registry.specs.declared.definition.TypeRule.TheVariants as type
-use Rattle.op_registry.specs.declared.definition.PropertyKind.{PropertyKind}
-use Rattle.op_registry.specs.declared.definition.PropertyKind.TheVariants as kind
 use Rattle.op_registry.specs.declared.definition.Traits.{Traits}
 use Rattle.op_registry.specs.declared.own.Own.{Own}
 use Rattle.op_registry.specs.declared.own.Own.TheVariants as own
@@ -19,11 +17,10 @@ pub record RegionRow : Type 0 where
   pub arguments : TypesRow
   pub may_be_empty : Bool
 
--- a property by the bytes of its key, whether the operation must have it, and what its attribute must be
+-- a property by the bytes of its key, and whether the operation must have it
 pub record PropertyRow : Type 0 where
   pub key : List ℕ
   pub required : Bool
-  pub kind : PropertyKind
 
 -- the row of an operation; its parents are the names of those in which a terminator may stand
 pub record Row : Type 0 where
@@ -56,11 +53,11 @@ abbrev may_be_empty : TypesRow → RegionRow
 may_be_empty arguments = record { arguments = arguments; may_be_empty = true }
 
 -- properties
-abbrev required : List ℕ → PropertyKind → PropertyRow
-required key kind = record { key = key; required = true; kind = kind }
+abbrev required : List ℕ → PropertyRow
+required key = record { key = key; required = true }
 
-abbrev optional : List ℕ → PropertyKind → PropertyRow
-optional key kind = record { key = key; required = false; kind = kind }
+abbrev optional : List ℕ → PropertyRow
+optional key = record { key = key; required = false }
 
 -- effects
 abbrev no_effect : EffectSet
@@ -80,7 +77,7 @@ arithmetic = pure (only (type.Number ∷ type.Number ∷ [])) (only (type.Number
 
 -- the same, with overflow flags
 abbrev flagged : Row
-flagged = record arithmetic { properties = optional (codes "overflowFlags") kind.Overflow ∷ [] }
+flagged = record arithmetic { properties = optional (codes "overflowFlags") ∷ [] }
 
 -- an operation that ends the blocks of others
 abbrev ending : TypesRow → List (List ℕ) → Row
@@ -91,32 +88,40 @@ abbrev around : TypesRow → TypesRow → List RegionRow → Row
 around operands results regions = record (pure operands results) { regions = regions; effects = own.Recursive; traits = record no_trait { recursive = true } }
 
 unfoldable pub rows : List (List ℕ × Row)
-rows =
-    (codes "builtin.module", record (pure none none) {
-      regions = with_block none ∷ [];
-      properties = optional (codes "sym_name") kind.Text ∷ optional (codes "sym_visibility") kind.Visibility ∷ [];
-      effects = own.Unknown;
-      traits = record no_trait { isolated = true; symbol_table = true; symbol = true };
-    })
+rows = (
+  codes "builtin.module",
+  record (pure none none) {
+    regions = with_block none ∷ [];
+    properties = optional (codes "sym_name") ∷ optional (codes "sym_visibility") ∷ [];
+    effects = own.Unknown;
+    traits = record no_trait { isolated = true; symbol_table = true; symbol = true };
+  },
+)
     ∷ (codes "builtin.unrealized_conversion_cast", pure (any_number type.Any) (and_more (type.Any ∷ []) type.Any))
-    ∷ (codes "func.func", record (pure none none) {
-      regions = may_be_empty (any_number type.Input) ∷ [];
-      properties =
-          required (codes "function_type") kind.Function
-          ∷ required (codes "sym_name") kind.Text
-          ∷ optional (codes "sym_visibility") kind.Visibility
-          ∷ optional (codes "arg_attrs") kind.Any
-          ∷ optional (codes "res_attrs") kind.Any
-          ∷ [];
-      effects = own.Unknown;
-      traits = record no_trait { isolated = true; symbol = true };
-    })
-    ∷ (codes "func.call", record (pure (any_number type.Any) (any_number type.Any)) {
-      properties = required (codes "callee") kind.Symbol ∷ optional (codes "arg_attrs") kind.Any ∷ optional (codes "res_attrs") kind.Any ∷ [];
-      effects = own.Unknown;
-    })
+    ∷ (
+      codes "func.func",
+      record (pure none none) {
+        regions = may_be_empty (any_number type.Input) ∷ [];
+        properties =
+            required (codes "function_type")
+            ∷ required (codes "sym_name")
+            ∷ optional (codes "sym_visibility")
+            ∷ optional (codes "arg_attrs")
+            ∷ optional (codes "res_attrs")
+            ∷ [];
+        effects = own.Unknown;
+        traits = record no_trait { isolated = true; symbol = true };
+      },
+    )
+    ∷ (
+      codes "func.call",
+      record (pure (any_number type.Any) (any_number type.Any)) {
+        properties = required (codes "callee") ∷ optional (codes "arg_attrs") ∷ optional (codes "res_attrs") ∷ [];
+        effects = own.Unknown;
+      },
+    )
     ∷ (codes "func.return", ending (any_number type.Any) (codes "func.func" ∷ []))
-    ∷ (codes "arith.constant", record (pure none (only (type.Number ∷ []))) { properties = required (codes "value") kind.Integer ∷ [] })
+    ∷ (codes "arith.constant", record (pure none (only (type.Number ∷ []))) { properties = required (codes "value") ∷ [] })
     ∷ (codes "arith.addi", flagged)
     ∷ (codes "arith.subi", flagged)
     ∷ (codes "arith.muli", flagged)
@@ -134,11 +139,11 @@ rows =
     ∷ (codes "arith.maxui", arithmetic)
     ∷ (codes "arith.minsi", arithmetic)
     ∷ (codes "arith.minui", arithmetic)
-    ∷ (codes "arith.cmpi", record (pure (only (type.Number ∷ type.Number ∷ [])) (only (type.Boolean ∷ []))) { properties = required (codes "predicate") kind.Predicate ∷ [] })
+    ∷ (codes "arith.cmpi", record (pure (only (type.Number ∷ type.Number ∷ [])) (only (type.Boolean ∷ []))) { properties = required (codes "predicate") ∷ [] })
     ∷ (codes "arith.select", pure (only (type.Boolean ∷ type.Any ∷ type.Same ∷ [])) (only (type.Same ∷ [])))
     ∷ (codes "arith.extsi", pure (only (type.Integer ∷ [])) (only (type.Integer ∷ [])))
     ∷ (codes "arith.extui", pure (only (type.Integer ∷ [])) (only (type.Integer ∷ [])))
-    ∷ (codes "arith.trunci", record (pure (only (type.Integer ∷ [])) (only (type.Integer ∷ []))) { properties = optional (codes "overflowFlags") kind.Overflow ∷ [] })
+    ∷ (codes "arith.trunci", record (pure (only (type.Integer ∷ [])) (only (type.Integer ∷ []))) { properties = optional (codes "overflowFlags") ∷ [] })
     ∷ (codes "arith.index_cast", pure (only (type.Number ∷ [])) (only (type.OtherNumber ∷ [])))
     ∷ (codes "arith.index_castui", pure (only (type.Number ∷ [])) (only (type.OtherNumber ∷ [])))
     ∷ (codes "scf.for", around (and_more (type.Number ∷ type.Number ∷ type.Number ∷ []) type.Any) (any_number type.Initial) (with_block (and_more (type.Number ∷ []) type.Initial) ∷ []))
@@ -146,17 +151,26 @@ rows =
     ∷ (codes "scf.while", around (any_number type.Any) (any_number type.Any) (with_block (any_number type.Initial) ∷ with_block (any_number type.Result) ∷ []))
     ∷ (codes "scf.yield", ending (any_number type.Any) (codes "scf.for" ∷ codes "scf.if" ∷ codes "scf.while" ∷ []))
     ∷ (codes "scf.condition", ending (and_more (type.Boolean ∷ []) type.Any) (codes "scf.while" ∷ []))
-    ∷ (codes "memref.alloc", record (pure (any_number type.Index) (only (type.Memref ∷ []))) {
-      properties = optional (codes "operandSegmentSizes") kind.Segments ∷ optional (codes "alignment") kind.Any ∷ [];
-      effects = own.Only (record no_effect { allocate = true });
-    })
+    ∷ (
+      codes "memref.alloc",
+      record (pure (any_number type.Index) (only (type.Memref ∷ []))) {
+        properties = optional (codes "operandSegmentSizes") ∷ optional (codes "alignment") ∷ [];
+        effects = own.Only (record no_effect { allocate = true });
+      },
+    )
     ∷ (codes "memref.dealloc", record (pure (only (type.Memref ∷ [])) none) { effects = own.Only (record no_effect { free = true }) })
-    ∷ (codes "memref.load", record (pure (and_more (type.Memref ∷ []) type.Index) (only (type.Element ∷ []))) {
-      properties = optional (codes "nontemporal") kind.Any ∷ optional (codes "alignment") kind.Any ∷ [];
-      effects = own.Only (record no_effect { read = true });
-    })
-    ∷ (codes "memref.store", record (pure (and_more (type.Element ∷ type.Memref ∷ []) type.Index) none) {
-      properties = optional (codes "nontemporal") kind.Any ∷ optional (codes "alignment") kind.Any ∷ [];
-      effects = own.Only (record no_effect { write = true });
-    })
+    ∷ (
+      codes "memref.load",
+      record (pure (and_more (type.Memref ∷ []) type.Index) (only (type.Element ∷ []))) {
+        properties = optional (codes "nontemporal") ∷ optional (codes "alignment") ∷ [];
+        effects = own.Only (record no_effect { read = true });
+      },
+    )
+    ∷ (
+      codes "memref.store",
+      record (pure (and_more (type.Element ∷ type.Memref ∷ []) type.Index) none) {
+        properties = optional (codes "nontemporal") ∷ optional (codes "alignment") ∷ [];
+        effects = own.Only (record no_effect { write = true });
+      },
+    )
     ∷ []

@@ -3,9 +3,10 @@ ghost use Rattle.std.specs.Prelude.{◌≡◌};
 ghost use Rattle.op_registry.specs.Registry.{is_among};
 
 use crate::own::Own;
+use ir_types::word::Word;
 
 /// What the type of an operand, a result or an argument of a block must be.
-#[derive(Clone, Copy, Debug, PartialEq, Eq)]
+#[derive(Clone, Copy)]
 pub enum TypeRule {
     /// Any type.
     Any,
@@ -35,7 +36,7 @@ pub enum TypeRule {
 }
 
 /// The types in a place: the first ones one by one, then any number of others.
-#[derive(Clone, Copy, Debug)]
+#[derive(Clone, Copy)]
 pub struct Types {
     pub first: &'static [TypeRule],
     /// What those after the first ones must be; `None` where there are none.
@@ -43,7 +44,7 @@ pub struct Types {
 }
 
 /// A region of an operation (Language Reference, "Regions").
-#[derive(Clone, Copy, Debug)]
+#[derive(Clone, Copy)]
 pub struct RegionRule {
     /// The arguments of its block.
     pub arguments: Types,
@@ -51,41 +52,16 @@ pub struct RegionRule {
     pub may_be_empty: bool,
 }
 
-/// What the attribute of a property must be.
-#[derive(Clone, Copy, Debug, PartialEq, Eq)]
-pub enum PropertyKind {
-    /// Any attribute.
-    Any,
-    /// An integer attribute.
-    Integer,
-    /// `0 : i64` to `9 : i64`.
-    Predicate,
-    /// The flags `#arith.overflow`.
-    Overflow,
-    /// A function type.
-    Function,
-    /// A string.
-    Text,
-    /// The string `public`, `private` or `nested`.
-    Visibility,
-    /// A symbol reference of one part.
-    Symbol,
-    /// An `array<i32>`.
-    Segments,
-}
-
 /// A property of an operation (Language Reference, "Properties").
-#[derive(Clone, Copy, Debug)]
+#[derive(Clone, Copy)]
 pub struct Property {
-    /// The number of the key's word.
-    pub key: u32,
+    pub key: Word,
     /// Whether the operation must have it.
     pub required: bool,
-    pub kind: PropertyKind,
 }
 
 /// A trait of an operation (Traits).
-#[derive(Clone, Copy, Debug, PartialEq, Eq)]
+#[derive(Clone, Copy)]
 pub enum Trait {
     /// It ends a block ("Terminator").
     Terminator,
@@ -100,7 +76,7 @@ pub enum Trait {
 }
 
 /// The traits of an operation.
-#[derive(Clone, Copy, Debug)]
+#[derive(Clone, Copy)]
 pub struct Traits {
     pub terminator: bool,
     pub isolated: bool,
@@ -125,7 +101,7 @@ impl Traits {
 }
 
 /// The row of a listed operation.
-#[derive(Clone, Copy, Debug)]
+#[derive(Clone, Copy)]
 pub struct OpDef {
     pub operands: Types,
     pub results: Types,
@@ -133,6 +109,6 @@ pub struct OpDef {
     pub properties: &'static [Property],
     pub effects: Own,
     pub traits: Traits,
-    /// The numbers of the words of the operations in which a terminator may stand.
-    pub parents: &'static [u32],
+    /// The operations in which a terminator may stand.
+    pub parents: &'static [Word],
 }

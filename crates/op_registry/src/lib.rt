@@ -2,7 +2,9 @@
 #![tactic(auto)]
 
 pub mod definition;
+pub mod laws;
 pub mod own;
+pub mod property;
 pub mod registry;
 mod table;
-mod words;
+pub mod things;

@@ -1,7 +1,7 @@
 //! The memory effects that an operation has by itself.
 
 /// Kinds of memory effects (Rationale, "Side Effects & Speculation").
-#[derive(Clone, Copy, Debug, PartialEq, Eq)]
+#[derive(Clone, Copy, PartialEq, Eq)]
 pub struct EffectSet {
     pub allocate: bool,
     pub free: bool,
@@ -10,7 +10,7 @@ pub struct EffectSet {
 }
 
 /// What an operation has by itself, as its name alone says.
-#[derive(Clone, Copy, Debug, PartialEq, Eq)]
+#[derive(Clone, Copy, PartialEq, Eq)]
 pub enum Own {
     /// No effect (Traits, "Pure").
     Pure,

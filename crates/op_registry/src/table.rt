@@ -3,9 +3,9 @@ ghost use Rattle.std.specs.Prelude.{◌≡◌, ℕ, List, map};
 ghost use Rattle.op_registry.specs.Rows.{Row, rows};
 ghost use Rattle.op_registry.specs.Registry.{row_from};
 
-use crate::definition::{OpDef, Property, PropertyKind, RegionRule, Traits, TypeRule, Types};
+use crate::definition::{OpDef, Property, RegionRule, Traits, TypeRule, Types};
 use crate::own::{EffectSet, Own};
-use crate::words;
+use ir_types::word::Word;
 use ir_types::words::OPERATIONS;
 
 /// No type.
@@ -131,45 +131,38 @@ const PLAIN_REGION: RegionRule = RegionRule {
 };
 
 const SYM_NAME: Property = Property {
-    key: words::SYM_NAME,
+    key: Word::SymName,
     required: false,
-    kind: PropertyKind::Text,
 };
 
 const SYM_VISIBILITY: Property = Property {
-    key: words::SYM_VISIBILITY,
+    key: Word::SymVisibility,
     required: false,
-    kind: PropertyKind::Visibility,
 };
 
 const ARG_ATTRS: Property = Property {
-    key: words::ARG_ATTRS,
+    key: Word::ArgAttrs,
     required: false,
-    kind: PropertyKind::Any,
 };
 
 const RES_ATTRS: Property = Property {
-    key: words::RES_ATTRS,
+    key: Word::ResAttrs,
     required: false,
-    kind: PropertyKind::Any,
 };
 
 const OVERFLOW: Property = Property {
-    key: words::OVERFLOW_FLAGS,
+    key: Word::OverflowFlags,
     required: false,
-    kind: PropertyKind::Overflow,
 };
 
 const ALIGNMENT: Property = Property {
-    key: words::ALIGNMENT,
+    key: Word::Alignment,
     required: false,
-    kind: PropertyKind::Any,
 };
 
 const NONTEMPORAL: Property = Property {
-    key: words::NONTEMPORAL,
+    key: Word::Nontemporal,
     required: false,
-    kind: PropertyKind::Any,
 };
 
 /// Each operation's row, at the number of its word.
@@ -207,9 +200,8 @@ static ROWS: [OpDef; OPERATIONS as usize] = [
         }],
         properties: &[
             Property {
-                key: words::FUNCTION_TYPE,
+                key: Word::FunctionType,
                 required: true,
-                kind: PropertyKind::Function,
             },
             Property {
                 required: true,
@@ -233,9 +225,8 @@ static ROWS: [OpDef; OPERATIONS as usize] = [
         results: ANY,
         properties: &[
             Property {
-                key: words::CALLEE,
+                key: Word::Callee,
                 required: true,
-                kind: PropertyKind::Symbol,
             },
             ARG_ATTRS,
             RES_ATTRS,
@@ -245,16 +236,15 @@ static ROWS: [OpDef; OPERATIONS as usize] = [
     },
     // func.return
     OpDef {
-        parents: &[words::FUNC_FUNC],
+        parents: &[Word::FuncFunc],
         ..ENDING
     },
     // arith.constant
     OpDef {
         results: NUMBER,
         properties: &[Property {
-            key: words::VALUE,
+            key: Word::Value,
             required: true,
-            kind: PropertyKind::Integer,
         }],
         ..BARE
     },
@@ -284,9 +274,8 @@ static ROWS: [OpDef; OPERATIONS as usize] = [
     OpDef {
         results: BOOLEAN,
         properties: &[Property {
-            key: words::PREDICATE,
+            key: Word::Predicate,
             required: true,
-            kind: PropertyKind::Predicate,
         }],
         ..ARITHMETIC
     },
@@ -363,7 +352,7 @@ static ROWS: [OpDef; OPERATIONS as usize] = [
     },
     // scf.yield
     OpDef {
-        parents: &[words::SCF_FOR, words::SCF_IF, words::SCF_WHILE],
+        parents: &[Word::ScfFor, Word::ScfIf, Word::ScfWhile],
         ..ENDING
     },
     // scf.condition
@@ -372,7 +361,7 @@ static ROWS: [OpDef; OPERATIONS as usize] = [
             first: &[TypeRule::Boolean],
             more: Some(TypeRule::Any),
         },
-        parents: &[words::SCF_WHILE],
+        parents: &[Word::ScfWhile],
         ..ENDING
     },
     // memref.alloc
@@ -384,9 +373,8 @@ static ROWS: [OpDef; OPERATIONS as usize] = [
         results: MEMREF,
         properties: &[
             Property {
-                key: words::OPERAND_SEGMENT_SIZES,
+                key: Word::OperandSegmentSizes,
                 required: false,
-                kind: PropertyKind::Segments,
             },
             ALIGNMENT,
         ],

@@ -1,0 +1,317 @@
+//! What the attribute of a property must be.
+ghost use Rattle.std.specs.Prelude.{◌≡◌, ℕ, List, is_some, Some, map, slice_get, unwrap_or};
+ghost use Rattle.std.specs.Option.{option_map};
+ghost use Rattle.ir_types.specs.Things.{Things, IsAttr, AttrIsOf};
+ghost use Rattle.ir_types.specs.Terms.{AttrTerm, TypeTerm, attr_from, attr_node_term, attr_term, name_term, type_at, type_from, type_term};
+ghost use Rattle.ir_types.specs.Sound.{IsSound};
+ghost use Rattle.op_registry.specs.Properties as properties;
+ghost use Rattle.op_registry.specs.Properties.{kinds};
+
+use crate::things::{attr_of, type_of};
+use ir_types::context::Context;
+use ir_types::ids::{AttrId, NameId, TypeId};
+use ir_types::node::{AttrNode, Sign, TypeNode};
+use ir_types::word::Word;
+use ir_types::words::OPERATIONS;
+
+/// What the attribute of a property must be.
+#[derive(Clone, Copy)]
+pub enum PropertyKind {
+    /// Any attribute.
+    Any,
+    /// An integer attribute.
+    Integer,
+    /// `0 : i64` to `9 : i64`.
+    Predicate,
+    /// The flags `#arith.overflow`.
+    Overflow,
+    /// A function type.
+    Function,
+    /// A string.
+    Text,
+    /// The string `public`, `private` or `nested`.
+    Visibility,
+    /// A symbol reference of one part.
+    Symbol,
+    /// An `array<i32>`.
+    Segments,
+}
+
+/// The kinds of the keys, from the first key's number on.
+static KINDS: [PropertyKind; 12] = [
+    // sym_name, sym_visibility
+    PropertyKind::Text,
+    PropertyKind::Visibility,
+    // function_type, arg_attrs, res_attrs
+    PropertyKind::Function,
+    PropertyKind::Any,
+    PropertyKind::Any,
+    // callee
+    PropertyKind::Symbol,
+    // value, overflowFlags, predicate
+    PropertyKind::Integer,
+    PropertyKind::Overflow,
+    PropertyKind::Predicate,
+    // operandSegmentSizes, alignment, nontemporal
+    PropertyKind::Segments,
+    PropertyKind::Any,
+    PropertyKind::Any,
+];
+
+/// What the attribute of a key must be. Of a key that no row has it may be any.
+pub fn property_kind(key: NameId) -> PropertyKind
+    ensures { (c : Things) → IsSound c → result ≡ properties.kind_of (name_term c key) }
+{
+    let number = key.number();
+    if number < OPERATIONS {
+        return PropertyKind::Any;
+    }
+    kind_at((number - OPERATIONS) as usize)
+}
+
+/// The kind of the key at a place among the keys.
+fn kind_at(place: usize) -> PropertyKind
+    ensures { result ≡ unwrap_or (slice_get (map (λ (row : List ℕ × PropertyKind). row.1) kinds) place) PropertyKind.Any }
+{
+    entry(&KINDS, place)
+}
+
+fn entry(table: &[PropertyKind], place: usize) -> PropertyKind
+    ensures { result ≡ unwrap_or (slice_get table.now place) PropertyKind.Any }
+{
+    if place < table.len() {
+        table[place]
+    } else {
+        PropertyKind::Any
+    }
+}
+
+/// Whether an attribute may be the property of a key, as each operation's document says of its
+/// attributes.
+pub fn allows(ctx: &Context, key: NameId, attr: AttrId) -> bool
+    requires { IsAttr ctx.now attr }
+    ensures { result ≡ properties.is_allowed (name_term ctx.now key) (attr_term ctx.now attr) }
+{
+    ctx.sound();
+    is_of_kind(ctx, property_kind(key), attr_of(ctx, attr))
+}
+
+/// Whether an attribute is of a kind.
+#[tactic(auto, unfolding(crate::specs::Properties::is_of_kind))]
+fn is_of_kind(ctx: &Context, kind: PropertyKind, node: &AttrNode) -> bool
+    requires { AttrIsOf ctx.now node.now }
+    ensures { result ≡ properties.is_of_kind kind (attr_node_term ctx.now node.now) }
+{
+    match kind {
+        PropertyKind::Any => true,
+        PropertyKind::Integer => is_integer(node),
+        PropertyKind::Predicate => is_predicate(ctx, node),
+        PropertyKind::Overflow => is_overflow(node),
+        PropertyKind::Function => is_function(ctx, node),
+        PropertyKind::Text => is_string(node),
+        PropertyKind::Visibility => is_visibility(ctx, node),
+        PropertyKind::Symbol => is_symbol_of_one_part(node),
+        PropertyKind::Segments => is_segments(ctx, node),
+    }
+}
+
+/// Whether an attribute is an integer.
+fn is_integer(node: &AttrNode) -> bool
+    ensures { (names : List (List ℕ)) (types : List TypeTerm) (attrs : List AttrTerm) → result ≡ is_some (properties.integer_of (attr_from names types attrs node.now)) }
+{
+    match node {
+        AttrNode::Int { .. } => true,
+        AttrNode::Str(_) => false,
+        AttrNode::Ty(_) => false,
+        AttrNode::Unit => false,
+        AttrNode::Array(_) => false,
+        AttrNode::Dict(_) => false,
+        AttrNode::Sym(_) => false,
+        AttrNode::Dense { .. } => false,
+        AttrNode::Overflow { .. } => false,
+    }
+}
+
+/// Whether an attribute is a string.
+fn is_string(node: &AttrNode) -> bool
+    ensures { (names : List (List ℕ)) (types : List TypeTerm) (attrs : List AttrTerm) → result ≡ is_some (properties.string_of (attr_from names types attrs node.now)) }
+{
+    match node {
+        AttrNode::Int { .. } => false,
+        AttrNode::Str(_) => true,
+        AttrNode::Ty(_) => false,
+        AttrNode::Unit => false,
+        AttrNode::Array(_) => false,
+        AttrNode::Dict(_) => false,
+        AttrNode::Sym(_) => false,
+        AttrNode::Dense { .. } => false,
+        AttrNode::Overflow { .. } => false,
+    }
+}
+
+/// Whether an attribute is the flags of an operation.
+fn is_overflow(node: &AttrNode) -> bool
+    ensures { (names : List (List ℕ)) (types : List TypeTerm) (attrs : List AttrTerm) → result ≡ properties.is_overflow (attr_from names types attrs node.now) }
+{
+    match node {
+        AttrNode::Int { .. } => false,
+        AttrNode::Str(_) => false,
+        AttrNode::Ty(_) => false,
+        AttrNode::Unit => false,
+        AttrNode::Array(_) => false,
+        AttrNode::Dict(_) => false,
+        AttrNode::Sym(_) => false,
+        AttrNode::Dense { .. } => false,
+        AttrNode::Overflow { .. } => true,
+    }
+}
+
+/// Whether an attribute is a symbol reference of one part.
+fn is_symbol_of_one_part(node: &AttrNode) -> bool
+    ensures { (names : List (List ℕ)) (types : List TypeTerm) (attrs : List AttrTerm) → result ≡ properties.is_symbol_of_one_part (attr_from names types attrs node.now) }
+{
+    match node {
+        AttrNode::Int { .. } => false,
+        AttrNode::Str(_) => false,
+        AttrNode::Ty(_) => false,
+        AttrNode::Unit => false,
+        AttrNode::Array(_) => false,
+        AttrNode::Dict(_) => false,
+        AttrNode::Sym(parts) => parts.len() == 1,
+        AttrNode::Dense { .. } => false,
+        AttrNode::Overflow { .. } => false,
+    }
+}
+
+/// The type and the bits of an integer.
+fn integer_in(node: &AttrNode) -> Option<(TypeId, u128)>
+    ensures { (names : List (List ℕ)) (types : List TypeTerm) (attrs : List AttrTerm) → option_map (λ i. (type_at types i.0, i.1)) result ≡ properties.integer_of (attr_from names types attrs node.now) }
+{
+    match node {
+        AttrNode::Int { ty, value } => Some((*ty, *value)),
+        AttrNode::Str(_) => None,
+        AttrNode::Ty(_) => None,
+        AttrNode::Unit => None,
+        AttrNode::Array(_) => None,
+        AttrNode::Dict(_) => None,
+        AttrNode::Sym(_) => None,
+        AttrNode::Dense { .. } => None,
+        AttrNode::Overflow { .. } => None,
+    }
+}
+
+/// Whether an attribute is the string `public`, `private` or `nested`.
+fn is_visibility(ctx: &Context, node: &AttrNode) -> bool
+    requires { AttrIsOf ctx.now node.now }
+    ensures { result ≡ properties.is_visibility (properties.string_of (attr_node_term ctx.now node.now)) }
+{
+    match node {
+        AttrNode::Int { .. } => false,
+        AttrNode::Str(name) => names_visibility(ctx, *name),
+        AttrNode::Ty(_) => false,
+        AttrNode::Unit => false,
+        AttrNode::Array(_) => false,
+        AttrNode::Dict(_) => false,
+        AttrNode::Sym(_) => false,
+        AttrNode::Dense { .. } => false,
+        AttrNode::Overflow { .. } => false,
+    }
+}
+
+/// Whether an attribute is a function type.
+fn is_function(ctx: &Context, node: &AttrNode) -> bool
+    requires { AttrIsOf ctx.now node.now }
+    ensures { result ≡ properties.is_and properties.is_function (properties.type_of (attr_node_term ctx.now node.now)) }
+{
+    match node {
+        AttrNode::Int { .. } => false,
+        AttrNode::Str(_) => false,
+        AttrNode::Ty(ty) => is_function_type(type_of(ctx, *ty)),
+        AttrNode::Unit => false,
+        AttrNode::Array(_) => false,
+        AttrNode::Dict(_) => false,
+        AttrNode::Sym(_) => false,
+        AttrNode::Dense { .. } => false,
+        AttrNode::Overflow { .. } => false,
+    }
+}
+
+/// Whether an attribute is an `array<i32>`.
+fn is_segments(ctx: &Context, node: &AttrNode) -> bool
+    requires { AttrIsOf ctx.now node.now }
+    ensures { result ≡ properties.is_and (properties.is_signless 32) (properties.element_of (attr_node_term ctx.now node.now)) }
+{
+    match node {
+        AttrNode::Int { .. } => false,
+        AttrNode::Str(_) => false,
+        AttrNode::Ty(_) => false,
+        AttrNode::Unit => false,
+        AttrNode::Array(_) => false,
+        AttrNode::Dict(_) => false,
+        AttrNode::Sym(_) => false,
+        AttrNode::Dense { elem, .. } => is_signless(type_of(ctx, *elem), 32),
+        AttrNode::Overflow { .. } => false,
+    }
+}
+
+/// Whether an attribute is `0 : i64` to `9 : i64`.
+fn is_predicate(ctx: &Context, node: &AttrNode) -> bool
+    requires { AttrIsOf ctx.now node.now }
+    ensures { result ≡ properties.is_predicate (properties.integer_of (attr_node_term ctx.now node.now)) }
+{
+    match node {
+        AttrNode::Int { ty, value } => is_signless(type_of(ctx, *ty), 64) && *value <= 9,
+        AttrNode::Str(_) => false,
+        AttrNode::Ty(_) => false,
+        AttrNode::Unit => false,
+        AttrNode::Array(_) => false,
+        AttrNode::Dict(_) => false,
+        AttrNode::Sym(_) => false,
+        AttrNode::Dense { .. } => false,
+        AttrNode::Overflow { .. } => false,
+    }
+}
+
+/// Whether a name is that of a visibility.
+fn names_visibility(ctx: &Context, name: NameId) -> bool
+    ensures { result ≡ properties.is_visibility (Some (name_term ctx.now name)) }
+{
+    ctx.is_word(name, Word::Public)
+        || ctx.is_word(name, Word::Private)
+        || ctx.is_word(name, Word::Nested)
+}
+
+/// Whether a type is the signless integer type of some bits.
+fn is_signless(node: &TypeNode, bits: u32) -> bool
+    ensures { (known : List TypeTerm) → result ≡ properties.is_signless bits (type_from known node.now) }
+{
+    match node {
+        TypeNode::Int { sign, width } => match sign {
+            Sign::Signless => *width == bits,
+            Sign::Signed => false,
+            Sign::Unsigned => false,
+        },
+        TypeNode::Index => false,
+        TypeNode::Func { .. } => false,
+        TypeNode::Memref { .. } => false,
+    }
+}
+
+fn is_function_type(node: &TypeNode) -> bool
+    ensures { (known : List TypeTerm) → result ≡ properties.is_function (type_from known node.now) }
+{
+    match node {
+        TypeNode::Int { .. } => false,
+        TypeNode::Index => false,
+        TypeNode::Func { .. } => true,
+        TypeNode::Memref { .. } => false,
+    }
+}
+
+/// The type and the bits of an integer attribute (Builtin Dialect, "IntegerAttr").
+pub fn integer_of(ctx: &Context, attr: AttrId) -> Option<(TypeId, u128)>
+    requires { IsAttr ctx.now attr }
+    ensures { option_map (λ i. (type_term ctx.now i.0, i.1)) result ≡ properties.integer_of (attr_term ctx.now attr) }
+{
+    integer_in(attr_of(ctx, attr))
+}

@@ -1,0 +1,28 @@
+//! The nodes of a context, and what they stand for.
+ghost use Rattle.std.specs.Prelude.{◌≡◌};
+ghost use Rattle.ir_types.specs.Things.{IsType, IsAttr, TypeIsOf, AttrIsOf};
+ghost use Rattle.ir_types.specs.Terms.{type_term, type_node_term, attr_term, attr_node_term};
+
+use ir_types::context::Context;
+use ir_types::ids::{AttrId, TypeId};
+use ir_types::node::{AttrNode, TypeNode};
+
+/// The node of a type.
+pub fn type_of(ctx: &Context, id: TypeId) -> &TypeNode
+    requires { IsType ctx.now id }
+    ensures term { type_term ctx.now id ≡ type_node_term ctx.now result.now }
+    ensures parts { TypeIsOf ctx.now result.now }
+{
+    ctx.sound();
+    ctx.type_node(id)
+}
+
+/// The node of an attribute.
+pub fn attr_of(ctx: &Context, id: AttrId) -> &AttrNode
+    requires { IsAttr ctx.now id }
+    ensures term { attr_term ctx.now id ≡ attr_node_term ctx.now result.now }
+    ensures parts { AttrIsOf ctx.now result.now }
+{
+    ctx.sound();
+    ctx.attr_node(id)
+}
