@@ -1,7 +1,6 @@
 -- Laws of casts, of comparisons, and of the operations that others stand for.
-use Rattle.std.proofs.Common.{◌≡◌, ℕ, zero, suc, lit<, ◌+◌, ◌-◌, ◌*◌, ◌/◌, ◌%◌, ◌^◌, ◌<◌, ◌≤◌, ℤ, pos, negsuc, ◌-ℤ◌, sym, ap, subst, refl, ◌∙◌, ◌⊎◌, ⊎_elim, arith, Bool, true, false, Some, None, Option}
-use Rattle.std.specs.Prelude.{◌==◌, ◌&&◌, not, bit_xor, nat_lt, nat_le, int_lt, int_le, if◌then◌else◌, unsigned_abs}
-use lib.Signed.{◌<ℤ◌, ◌≤ℤ◌}
+use Rattle.std.proofs.Common.{◌≡◌, ℕ, zero, suc, lit<, ◌+◌, ◌-◌, ◌*◌, ◌/◌, ◌%◌, ◌^◌, ◌<◌, ◌≤◌, ℤ, pos, negsuc, sym, ap, refl, ◌∙◌, ⊎_elim, arith, Bool, true, false, Some, None}
+use Rattle.std.specs.Prelude.{◌==◌, bit_xor, nat_lt, int_lt, int_le, if◌then◌else◌}
 use Rattle.std.proofs.lemmas.Nat.{mod_below, pow_pos, pow-add, xor_block}
 use Rattle.std.proofs.lemmas.Int.{ints}
 use Rattle.std.proofs.lemmas.Bool.{cases_lt}
@@ -9,14 +8,16 @@ use Rattle.std.proofs.lemmas.Bool.Decides.{nat_tests}
 use Rattle.std.proofs.Math.Pow.{mod-mod-pow}
 use Rattle.std.proofs.Math.Nat.{mod-eq_of_lt, add-mod-mod, add-mod_left, add-mul-mod_self_right, pow-suc, pow-le-pow_right, mul-le-mul_right}
 use Rattle.std.proofs.lemmas.Nat.{div-add-mod'}
-use Rattle.dialects_int.specs.Readings.{signed_of, wrapped}
+use Rattle.ir_types.specs.Readings.{signed_of, wrapped}
 use Rattle.dialects_int.specs.declared.operations.Predicate.{Predicate}
 use Rattle.dialects_int.specs.declared.operations.Predicate.TheVariants as asks
-use Rattle.dialects_int.specs.Arithmetic.{sum_of, difference_of, product_of, all_ones, quotient_of, remainder_of, comparison_of, signed_maximum_of, maximum_of, signed_minimum_of, minimum_of, sign_extended, zero_extended, truncated}
+use Rattle.dialects_int.specs.Arithmetic.{sum_of, difference_of, product_of, all_ones, quotient_of, remainder_of, comparison_of, signed_maximum_of, maximum_of, signed_minimum_of, minimum_of, sign_extended, zero_extended, truncated, truth, choice_of}
 use Rattle.dialects_int.specs.Laws.{mirrored, holds_of_itself}
-use Rattle.dialects_int.proofs.Widths.{halves, signed_low, signed_high, difference_is}
-use Rattle.dialects_int.proofs.ReadingLaws.{is_signed_number, signed_fits, signed_back, bits_back}
-use Rattle.dialects_int.proofs.Laws.{reading_apart, picked, picked_number}
+use Rattle.ir_types.proofs.Widths.{halves, signed_low, high_is}
+use Rattle.dialects_int.proofs.Widths.{difference_is}
+use Rattle.ir_types.proofs.ReadingLaws.{signed_back, bits_back}
+use Rattle.ir_types.specs.Ranges.{is_signed_number}
+use Rattle.dialects_int.proofs.PairLaws.{reading_apart, picked, picked_number}
 
 grows : (u v : ℕ) → u ≤ v → 2 ^ u ≤ 2 ^ v
 grows u v h = pow-le-pow_right {n = 2} (lit< tt) {i = u} {j = v} h
@@ -25,11 +26,12 @@ grows u v h = pow-le-pow_right {n = 2} (lit< tt) {i = u} {j = v} h
 reading_kept : (u v a : ℕ) → 1 ≤ u → u ≤ v → a < 2 ^ u → signed_of v (wrapped v (signed_of u a)) ≡ signed_of u a
 reading_kept u v a some h k = signed_back v (signed_of u a) (omega arith) (⊎_elim
     (λ (l : a < 2 ^ (u - 1)). rw (signed_low u a l) (low a (omega (arith, grows (u - 1) (v - 1) (omega arith)))))
-    (λ (l : 2 ^ (u - 1) ≤ a). rw (signed_high u a l k) (high (2 ^ u - 1 - a) (omega (arith, grows (u - 1) (v - 1) (omega arith), halves u some))))
+    (λ (l : 2 ^ (u - 1) ≤ a). rw (high_is u a l k) (high (2 ^ u - 1 - a) (omega (arith, grows (u - 1) (v - 1) (omega arith), halves u some))))
     (cases_lt a (2 ^ (u - 1))))
   where
     low : (n : ℕ) → n < 2 ^ (v - 1) → is_signed_number v (pos n) ≡ true
     low n l = grind (arith, nat_tests)
+
     high : (n : ℕ) → suc n ≤ 2 ^ (v - 1) → is_signed_number v (negsuc n) ≡ true
     high n l = grind (arith, nat_tests)
 
@@ -75,6 +77,7 @@ cut_high n v w h =
       where
         times : k ≤ q → k * s ≤ q * s
         times o = mul-le-mul_right s o
+
         inside : (j : ℕ) → k ≡ j + q + 1 → (t - 1 - m) % s ≡ s - 1 - r
         inside j e =
             let product : k * s ≡ j * s + q * s + s = ap (λ n. n * s) e ∙ grind arith in
@@ -135,22 +138,76 @@ pub not_below_zero : (w a : ℕ) → comparison_of w asks.UnsignedGreaterOrEqual
 unfolding comparison_of
 not_below_zero w a = grind (arith, nat_tests)
 
+as_choice : {x : ℕ} (t : Bool) (a b : ℕ) → x ≡ (if t then a else b) → x ≡ choice_of (truth t) a b
+as_choice true a b e = e
+as_choice false a b e = e
+
+pub same_choice : {A : Type 0} (c : ℕ) (a : A) → choice_of c a a ≡ a
+same_choice c a = by (c == 0)
+  where
+    by : (t : Bool) → (if t then a else a) ≡ a
+    by true = refl
+    by false = refl
+
+pub own_choice : (c : ℕ) → c < 2 ^ 1 → choice_of c 1 0 ≡ c
+own_choice zero h = refl
+own_choice (suc zero) h = refl
+own_choice (suc (suc c)) h = absurd (omega arith)
+
+pub other_choice : {A : Type 0} (c : ℕ) (a b : A) → c < 2 ^ 1 → choice_of (bit_xor c (all_ones 1)) a b ≡ choice_of c b a
+other_choice zero a b h = refl
+other_choice (suc zero) a b h = refl
+other_choice (suc (suc c)) a b h = absurd (omega arith)
+
+pub extended_back : (u v a : ℕ) → 1 ≤ u → u ≤ v → a < 2 ^ u → sign_extended v u (sign_extended u v a) ≡ a
+extended_back u v a some h k = extended_twice u v u a some h k ∙ extended_to_itself u a some k
+
+pub zeros_back : (u v a : ℕ) → u ≤ v → a < 2 ^ u → zero_extended u (zero_extended v a) ≡ a
+zeros_back u v a h k = zeros_twice u v u a h k ∙ zeros_to_itself u a k
+
+pub truncated_twice : (u v w a b : ℕ) → w < v → truncated u v a ≡ Some b → truncated v w b ≡ truncated u w a
+unfolding truncated
+truncated_twice u v w a b h e = by (nat_lt v u) refl e
+  where
+    by : (t : Bool) → nat_lt v u ≡ t → (if t then Some (a % 2 ^ v) else None) ≡ Some b → (if nat_lt w v then Some (b % 2 ^ w) else None) ≡ (if nat_lt w u then Some (a % 2 ^ w) else None)
+    by false z f = absurd (cc f)
+    by true z f =
+        let lower : nat_lt w v ≡ true = grind (arith, nat_tests) in
+        let through : nat_lt w u ≡ true = grind (arith, nat_tests) in
+        let at : a % 2 ^ v ≡ b = cc in
+        rw (lower, through, ← at) (ap Some (cut_twice v w a (omega arith)))
+
+pub truncated_back : (u w a : ℕ) → 1 ≤ u → u < w → a < 2 ^ u → truncated w u (sign_extended u w a) ≡ Some a
+unfolding truncated
+truncated_back u w a some h k =
+    let lower : nat_lt u w ≡ true = grind (arith, nat_tests) in
+    rw lower (ap Some (cut_of_extended u w a some (omega arith) k))
+
+pub truncated_zeros_back : (u w a : ℕ) → u < w → a < 2 ^ u → truncated w u (zero_extended w a) ≡ Some a
+unfolding truncated
+truncated_zeros_back u w a h k =
+    let lower : nat_lt u w ≡ true = grind (arith, nat_tests) in
+    rw lower (ap Some (cut_of_zeros u w a (omega arith) k))
+
 -- the greater and the lesser by comparison and choice
-pub signed_maximum_chosen : (w a b : ℕ) → 1 ≤ w → a < 2 ^ w → b < 2 ^ w → signed_maximum_of w a b ≡ (if comparison_of w asks.SignedGreater a b then a else b)
+pub signed_maximum_chosen : (w a b : ℕ) → 1 ≤ w → a < 2 ^ w → b < 2 ^ w → signed_maximum_of w a b ≡ choice_of (truth (comparison_of w asks.SignedGreater a b)) a b
 unfolding comparison_of signed_maximum_of
-signed_maximum_chosen w a b some ha hb = picked (signed_of w a) (signed_of w b) a b (reading_apart w a b some ha hb)
+signed_maximum_chosen w a b some ha hb = as_choice (int_lt (signed_of w b) (signed_of w a)) a b (picked (signed_of w a) (signed_of w b) a b (reading_apart w a b some ha hb))
 
-pub signed_minimum_chosen : (w a b : ℕ) → 1 ≤ w → a < 2 ^ w → b < 2 ^ w → signed_minimum_of w a b ≡ (if comparison_of w asks.SignedLess a b then a else b)
+pub signed_minimum_chosen : (w a b : ℕ) → 1 ≤ w → a < 2 ^ w → b < 2 ^ w → signed_minimum_of w a b ≡ choice_of (truth (comparison_of w asks.SignedLess a b)) a b
 unfolding comparison_of signed_minimum_of
-signed_minimum_chosen w a b some ha hb = picked (signed_of w b) (signed_of w a) a b (λ e. reading_apart w a b some ha hb (sym e))
+signed_minimum_chosen w a b some ha hb = as_choice (int_lt (signed_of w a) (signed_of w b)) a b (picked (signed_of w b) (signed_of w a) a b (λ e. reading_apart w a b some ha hb (sym e)))
 
-pub maximum_chosen : (w a b : ℕ) → maximum_of a b ≡ (if comparison_of w asks.UnsignedGreater a b then a else b)
+pub maximum_chosen : (w a b : ℕ) → maximum_of a b ≡ choice_of (truth (comparison_of w asks.UnsignedGreater a b)) a b
 unfolding comparison_of maximum_of
-maximum_chosen w a b = picked_number a b
+maximum_chosen w a b = as_choice (nat_lt b a) a b (picked_number a b)
 
-pub minimum_chosen : (w a b : ℕ) → minimum_of a b ≡ (if comparison_of w asks.UnsignedLess a b then a else b)
+lesser_picked : (a b : ℕ) → (if nat_lt b a then b else a) ≡ (if nat_lt a b then a else b)
+lesser_picked a b = grind (arith, nat_tests)
+
+pub minimum_chosen : (w a b : ℕ) → minimum_of a b ≡ choice_of (truth (comparison_of w asks.UnsignedLess a b)) a b
 unfolding comparison_of minimum_of
-minimum_chosen w a b = grind (arith, nat_tests)
+minimum_chosen w a b = as_choice (nat_lt a b) a b (lesser_picked a b)
 
 -- a difference as a sum
 pub less_constant : (w a c : ℕ) → c < 2 ^ w → difference_of w a c ≡ sum_of w a (difference_of w 0 c)

@@ -1,5 +1,5 @@
 pub mod CastLaws
-pub mod Laws
+pub mod PairLaws
 pub mod Quotients
-pub mod ReadingLaws
+pub mod Remainders
 pub mod Widths

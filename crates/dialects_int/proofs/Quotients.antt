@@ -9,13 +9,14 @@ use Rattle.std.proofs.lemmas.Int.{to_z-of_z, quot_is}
 use Rattle.std.proofs.lemmas.Bool.{cases_lt}
 use Rattle.std.proofs.lemmas.Bool.Decides.{nat_tests}
 use Rattle.std.proofs.Math.Nat.{div-le_self}
-use Rattle.dialects_int.specs.Readings.{signed_of}
+use Rattle.ir_types.specs.Readings.{signed_of}
 use Rattle.dialects_int.specs.Arithmetic.{divides_signed}
-use Rattle.dialects_int.proofs.Widths.{signed_low, signed_high, halves, half_le}
+use Rattle.ir_types.proofs.Widths.{signed_low, high_is, halves}
+use Rattle.dialects_int.proofs.Widths.{half_le}
 
 -- a value reads as itself, or as less than 0
 pub signed_cases : (w v : ℕ) → v < 2 ^ w → ((v < 2 ^ (w - 1)) × (signed_of w v ≡ pos v)) ⊎ ((2 ^ (w - 1) ≤ v) × (signed_of w v ≡ negsuc (2 ^ w - 1 - v)))
-signed_cases w v h = ⊎_elim (λ l. inl (l, signed_low w v l)) (λ l. inr (l, signed_high w v l h)) (cases_lt v (2 ^ (w - 1)))
+signed_cases w v h = ⊎_elim (λ l. inl (l, signed_low w v l)) (λ l. inr (l, high_is w v l h)) (cases_lt v (2 ^ (w - 1)))
 
 pub signed_fits : (w v : ℕ) → 1 ≤ w → w ≤ 128 → v < 2 ^ w → SFits w128 (signed_of w v)
 signed_fits w v low high k =

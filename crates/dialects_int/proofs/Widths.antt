@@ -1,12 +1,11 @@
 -- Remainders by powers of 2, and signed readings.
-use Rattle.std.proofs.Common.{◌≡◌, ℕ, zero, suc, lit<, ◌+◌, ◌-◌, ◌*◌, ◌%◌, ◌^◌, ◌<◌, ◌≤◌, ℤ, pos, negsuc, ◌-ℤ◌, ◌+ℤ◌, sym, ap, refl, ◌∙◌, arith}
+use Rattle.std.proofs.Common.{◌≡◌, ℕ, zero, suc, lit<, ◌+◌, ◌-◌, ◌*◌, ◌%◌, ◌^◌, ◌<◌, ◌≤◌, pos, ◌-ℤ◌, ◌+ℤ◌, sym, ap, refl, ◌∙◌, arith}
 use Rattle.std.specs.Prelude.{bit_and, unsigned_abs}
 use Rattle.std.proofs.lemmas.Nat.{and_mask, pow_pos, pow-add}
 use Rattle.std.proofs.lemmas.Int.{ints, int_rem_euclid_is}
-use Rattle.std.proofs.lemmas.Bool.Decides.{nat_tests}
 use Rattle.std.proofs.Math.Pow.{mod-mod-pow}
-use Rattle.std.proofs.Math.Nat.{pow-suc, pow-le-pow_right, add-mul-mod_self_right}
-use Rattle.dialects_int.specs.Readings.{signed_of, wrapped}
+use Rattle.std.proofs.Math.Nat.{pow-le-pow_right, add-mul-mod_self_right}
+use Rattle.ir_types.specs.Readings.{wrapped}
 use Rattle.dialects_int.specs.Arithmetic.{difference_of}
 
 -- the mask of w bits after a wrap at 128 bits
@@ -36,22 +35,6 @@ difference_is w a b h =
     let up : pos a -ℤ pos b +ℤ pos (1 * 2 ^ w) ≡ pos (a + (2 ^ w - b)) = rw one (omega (arith, ints)) in
     ap unsigned_abs (int_rem_euclid_is (pos a -ℤ pos b) (pos (2 ^ w)) (2 ^ w) 1 (a + (2 ^ w - b)) (pow_pos w) refl up)
 
-pub halves : (w : ℕ) → 1 ≤ w → 2 ^ w ≡ 2 ^ (w - 1) + 2 ^ (w - 1)
-halves w h =
-    let e : suc (w - 1) ≡ w = omega arith in
-    let two : 2 ^ suc (w - 1) ≡ 2 ^ (w - 1) * 2 = pow-suc 2 (w - 1) in
-    ap (λ n. 2 ^ n) (sym e) ∙ two ∙ omega arith
-
 -- half a width's values are numbers of an i128
 pub half_le : (w : ℕ) → w ≤ 128 → 2 ^ (w - 1) ≤ 2 ^ 127
 half_le w h = pow-le-pow_right {n = 2} (lit< tt) {i = w - 1} {j = 127} (omega arith)
-
-pub signed_low : (w v : ℕ) → v < 2 ^ (w - 1) → signed_of w v ≡ pos v
-unfolding signed_of
-signed_low w v h = grind (arith, nat_tests)
-
-pub signed_high : (w v : ℕ) → 2 ^ (w - 1) ≤ v → v < 2 ^ w → signed_of w v ≡ negsuc (2 ^ w - 1 - v)
-unfolding signed_of
-signed_high w v h k =
-    let e : pos v -ℤ pos (2 ^ w) ≡ negsuc (2 ^ w - 1 - v) = omega (arith, ints) in
-    grind (arith, nat_tests)

@@ -1,8 +1,8 @@
 -- What operations compute, on whole numbers (`arith` Dialect). A value of w bits is a number below 2^w; its signed
 -- reading is that of two's complement. A result is taken modulo 2^w.
-use Rattle.std.specs.Prelude.{ℕ, ◌+◌, ◌-◌, ◌*◌, ◌/◌, ◌%◌, ◌^◌, Bool, true, false, ◌&&◌, ◌==◌, not, nat_lt, nat_le, ℤ, pos, ◌-ℤ◌, int_lt, int_le, int_div, int_rem, bit_and, bit_or, bit_xor, if◌then◌else◌, Option, Some, None}
+use Rattle.std.specs.Prelude.{ℕ, ◌+◌, ◌-◌, ◌*◌, ◌/◌, ◌%◌, ◌^◌, Bool, true, false, ◌&&◌, ◌==◌, not, nat_lt, nat_le, pos, ◌-ℤ◌, int_lt, int_le, int_div, int_rem, bit_and, bit_or, bit_xor, if◌then◌else◌, Option, Some, None}
 use Rattle.std.specs.Int.{int_shr}
-use Rattle.dialects_int.specs.Readings.{signed_of, wrapped}
+use Rattle.ir_types.specs.Readings.{signed_of, wrapped}
 use Rattle.dialects_int.specs.declared.operations.Arithmetic.{Arithmetic}
 use Rattle.dialects_int.specs.declared.operations.Arithmetic.TheVariants as op
 use Rattle.dialects_int.specs.declared.operations.Predicate.{Predicate}
@@ -123,3 +123,11 @@ absorbs op.Multiply w a = a == 0
 absorbs op.And w a = a == 0
 absorbs op.Or w a = a == all_ones w
 absorbs _ w a = false
+
+-- the bits of what a comparison answers, and the one of two that they choose
+abbrev pub truth : Bool → ℕ
+truth true = 1
+truth false = 0
+
+abbrev pub choice_of : {A : Type 0} → ℕ → A → A → A
+choice_of condition a b = if condition == 0 then b else a

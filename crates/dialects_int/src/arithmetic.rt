@@ -1,10 +1,10 @@
 //! Arithmetic on values of 1 to 128 bits.
 ghost use Rattle.std.specs.Prelude.{◌≡◌, ◌-◌, ◌^◌, ◌<◌, ◌≤◌, IfSome, Some, None, bit_and, bit_or, bit_xor};
-ghost use Rattle.dialects_int.specs.Readings.{most_width};
+ghost use Rattle.ir_types.specs.Limits.{most_width};
 ghost use Rattle.dialects_int.specs.Arithmetic.{sum_of, difference_of, product_of, divides_signed, signed_quotient_of, signed_remainder_of, quotient_of, remainder_of, left_shift_of, right_shift_of, signed_right_shift_of, comparison_of, signed_maximum_of, maximum_of, signed_minimum_of, minimum_of, value_of, sign_extended, zero_extended, truncated, cast_of};
 
 use crate::operations::{Arithmetic, Cast, Predicate};
-use crate::readings::{mask, signed_number, wrapped};
+use ir_types::readings::{mask, signed_number, wrapped};
 
 /// What an operation computes of two values of some bits (`arith` Dialect), if anything.
 pub fn compute(operation: Arithmetic, width: u32, a: u128, b: u128) -> Option<u128>
@@ -115,11 +115,7 @@ fn divide(width: u32, a: u128, b: u128) -> Option<u128>
     ensures value { result ≡ quotient_of a b }
     ensures below { IfSome result (λ v. v < 2 ^ width) }
 {
-    if b == 0 {
-        None
-    } else {
-        Some(a / b)
-    }
+    if b == 0 { None } else { Some(a / b) }
 }
 
 #[tactic(auto, unfolding(crate::specs::Arithmetic::remainder_of))]
@@ -128,11 +124,7 @@ fn remainder(width: u32, a: u128, b: u128) -> Option<u128>
     ensures value { result ≡ remainder_of a b }
     ensures below { IfSome result (λ v. v < 2 ^ width) }
 {
-    if b == 0 {
-        None
-    } else {
-        Some(a % b)
-    }
+    if b == 0 { None } else { Some(a % b) }
 }
 
 #[tactic(auto, unfolding(crate::specs::Arithmetic::left_shift_of))]
@@ -228,11 +220,7 @@ fn maximum(width: u32, a: u128, b: u128) -> u128
     ensures value { result ≡ maximum_of a b }
     ensures below { result < 2 ^ width }
 {
-    if a < b {
-        b
-    } else {
-        a
-    }
+    if a < b { b } else { a }
 }
 
 #[tactic(auto, unfolding(crate::specs::Arithmetic::signed_minimum_of))]
@@ -258,11 +246,7 @@ fn minimum(width: u32, a: u128, b: u128) -> u128
     ensures value { result ≡ minimum_of a b }
     ensures below { result < 2 ^ width }
 {
-    if b < a {
-        b
-    } else {
-        a
-    }
+    if b < a { b } else { a }
 }
 
 /// Whether two values of some bits are as a predicate asks (`arith` Dialect, "arith.cmpi").
@@ -334,9 +318,5 @@ fn truncate(from: u32, to: u32, a: u128) -> Option<u128>
     ensures value { result ≡ truncated from to a }
     ensures below { IfSome result (λ v. v < 2 ^ to) }
 {
-    if to < from {
-        Some(extend(to, a))
-    } else {
-        None
-    }
+    if to < from { Some(extend(to, a)) } else { None }
 }

@@ -2,5 +2,5 @@
 #![tactic(auto)]
 
 pub mod arithmetic;
+pub mod laws;
 pub mod operations;
-pub mod readings;

@@ -1,5 +1,5 @@
 use Rattle.std.proofs.Common.{true, ◌≡◌, sym, ap, ◌∙◌, Some}
-use Rattle.dialects_int.specs.Readings.{wrapped}
+use Rattle.ir_types.specs.Readings.{wrapped}
 use Rattle.dialects_int.specs.Arithmetic.{divides_signed, signed_quotient_of}
 use Rattle.dialects_int.proofs.Quotients.{divides_at, quotient_at}
 use Rattle.dialects_int.proofs.arithmetic.divide_signed.Goals as goal

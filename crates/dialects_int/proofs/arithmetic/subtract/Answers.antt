@@ -1,4 +1,4 @@
-use Rattle.std.proofs.Common.{◌≡◌, ◌≤◌, ◌∙◌, ◌+◌, ◌-◌, ◌^◌, arith, sym}
+use Rattle.std.proofs.Common.{◌≤◌, ◌∙◌, ◌+◌, ◌-◌, ◌^◌, arith, sym}
 use Rattle.dialects_int.proofs.Widths.{masked, less_at, difference_is}
 use Rattle.dialects_int.proofs.arithmetic.subtract.Goals as goal
 

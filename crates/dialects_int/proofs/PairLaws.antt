@@ -1,24 +1,23 @@
 -- Laws of operations on two values.
-use Rattle.std.proofs.Common.{◌≡◌, ◌≢◌, ℕ, zero, suc, ◌+◌, ◌-◌, ◌*◌, ◌/◌, ◌%◌, ◌^◌, ◌<◌, ◌≤◌, ℤ, pos, negsuc, neg_ℤ, ◌-ℤ◌, max, sym, ap, refl, ◌∙◌, arith, Bool, true, false, Some, None, Option}
-use Rattle.std.specs.Prelude.{◌==◌, ◌&&◌, not, bit_and, bit_or, bit_xor, nat_lt, nat_le, int_lt, int_le, int_div, int_rem, if◌then◌else◌}
+use Rattle.std.proofs.Common.{◌≡◌, ℕ, zero, suc, ◌+◌, ◌-◌, ◌*◌, ◌/◌, ◌%◌, ◌^◌, ◌<◌, ◌≤◌, ℤ, pos, negsuc, neg_ℤ, ◌-ℤ◌, max, sym, ap, refl, ◌∙◌, arith, Bool, true, false, Some, None}
+use Rattle.std.specs.Prelude.{bit_and, bit_or, bit_xor, nat_lt, int_lt, int_div, int_rem, if◌then◌else◌}
 use Rattle.std.specs.Int.{int_shr}
 use Rattle.std.specs.Int.Bits.{xor_assoc, xor_self, or_self, and_self, xor_zero_r, or_zero_r, and_zero_l, and_zero_r, or_add_and}
 use lib.Signed.{◌<ℤ◌, ◌≤ℤ◌}
 use Rattle.std.specs.Int.{bit_at}
 use Rattle.std.proofs.lemmas.Nat.Bits.{bit_at_or, same_from_bits}
-use Rattle.std.proofs.lemmas.Nat.{and_comm, or_comm, xor_comm, and_assoc, and_mask, mul-mod_second, mul-mod, mod_below, pow_pos}
+use Rattle.std.proofs.lemmas.Nat.{and_comm, or_comm, xor_comm, and_assoc, and_mask, mul-mod_second, pow_pos}
 use Rattle.std.proofs.lemmas.Int.{ints, by_lt_z}
 use Rattle.std.proofs.lemmas.Bool.Decides.{nat_tests}
 use Rattle.std.proofs.Math.Nat.{mod-eq_of_lt, add-mod-mod, mod-add-mod, add-mod_left, pow-suc}
-use Rattle.dialects_int.specs.Readings.{signed_of, wrapped}
+use Rattle.ir_types.specs.Readings.{signed_of, wrapped}
 use Rattle.dialects_int.specs.declared.operations.Arithmetic.{Arithmetic}
 use Rattle.dialects_int.specs.declared.operations.Arithmetic.TheVariants as op
-use Rattle.dialects_int.specs.declared.operations.Predicate.{Predicate}
-use Rattle.dialects_int.specs.declared.operations.Predicate.TheVariants as asks
-use Rattle.dialects_int.specs.Arithmetic.{sum_of, difference_of, product_of, all_ones, signed_quotient_of, signed_remainder_of, quotient_of, remainder_of, left_shift_of, right_shift_of, signed_right_shift_of, comparison_of, signed_maximum_of, maximum_of, signed_minimum_of, minimum_of, value_of, absorbs}
-use Rattle.dialects_int.specs.Laws.{commutes, associates, ignores_zero, ignores_one, keeps_itself, mirrored, holds_of_itself}
-use Rattle.dialects_int.proofs.Widths.{difference_is, signed_low}
-use Rattle.dialects_int.proofs.ReadingLaws.{bits_back}
+use Rattle.dialects_int.specs.Arithmetic.{sum_of, difference_of, product_of, all_ones, signed_quotient_of, signed_remainder_of, quotient_of, remainder_of, left_shift_of, right_shift_of, signed_right_shift_of, signed_maximum_of, maximum_of, signed_minimum_of, minimum_of, value_of, absorbs}
+use Rattle.dialects_int.specs.Laws.{commutes, associates, ignores_zero, ignores_one, keeps_itself}
+use Rattle.ir_types.proofs.Widths.{signed_low}
+use Rattle.dialects_int.proofs.Widths.{difference_is}
+use Rattle.ir_types.proofs.ReadingLaws.{bits_back}
 
 wrapped_zero : (w : ℕ) → wrapped w (pos 0) ≡ 0
 unfolding wrapped
