@@ -1,2 +1,3 @@
 pub mod Arithmetic
+pub mod Folds
 pub mod Laws

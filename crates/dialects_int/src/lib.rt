@@ -2,5 +2,8 @@
 #![tactic(auto)]
 
 pub mod arithmetic;
+pub mod fold;
+mod known;
 pub mod laws;
 pub mod operations;
+pub mod tables;

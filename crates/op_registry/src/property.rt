@@ -1,8 +1,9 @@
 //! What the attribute of a property must be.
-ghost use Rattle.std.specs.Prelude.{◌≡◌, ℕ, List, is_some, Some, map, slice_get, unwrap_or};
+ghost use Rattle.std.specs.Prelude.{◌≡◌, ℕ, List, is_some, Some, map, slice_get, unwrap_or, IfSome, true};
 ghost use Rattle.std.specs.Option.{option_map};
-ghost use Rattle.ir_types.specs.Things.{Things, IsAttr, AttrIsOf};
+ghost use Rattle.ir_types.specs.Things.{Things, IsAttr, IsType, AttrIsOf};
 ghost use Rattle.ir_types.specs.Terms.{AttrTerm, TypeTerm, attr_from, attr_node_term, attr_term, name_term, type_at, type_from, type_term};
+ghost use Rattle.ir_types.specs.Readings.{is_bits_of};
 ghost use Rattle.ir_types.specs.Sound.{IsSound};
 ghost use Rattle.op_registry.specs.Properties as properties;
 ghost use Rattle.op_registry.specs.Properties.{kinds};
@@ -185,7 +186,8 @@ fn is_symbol_of_one_part(node: &AttrNode) -> bool
 
 /// The type and the bits of an integer.
 fn integer_in(node: &AttrNode) -> Option<(TypeId, u128)>
-    ensures { (names : List (List ℕ)) (types : List TypeTerm) (attrs : List AttrTerm) → option_map (λ i. (type_at types i.0, i.1)) result ≡ properties.integer_of (attr_from names types attrs node.now) }
+    ensures integer { (names : List (List ℕ)) (types : List TypeTerm) (attrs : List AttrTerm) → option_map (λ i. (type_at types i.0, i.1)) result ≡ properties.integer_of (attr_from names types attrs node.now) }
+    ensures ty { (c : Things) → AttrIsOf c node.now → IfSome result (λ i. IsType c i.0) }
 {
     match node {
         AttrNode::Int { ty, value } => Some((*ty, *value)),
@@ -311,7 +313,10 @@ fn is_function_type(node: &TypeNode) -> bool
 /// The type and the bits of an integer attribute (Builtin Dialect, "IntegerAttr").
 pub fn integer_of(ctx: &Context, attr: AttrId) -> Option<(TypeId, u128)>
     requires { IsAttr ctx.now attr }
-    ensures { option_map (λ i. (type_term ctx.now i.0, i.1)) result ≡ properties.integer_of (attr_term ctx.now attr) }
+    ensures integer { option_map (λ i. (type_term ctx.now i.0, i.1)) result ≡ properties.integer_of (attr_term ctx.now attr) }
+    ensures ty { IfSome result (λ i. IsType ctx.now i.0) }
+    ensures fits { IfSome result (λ i. is_bits_of (type_term ctx.now i.0) i.1 ≡ true) }
 {
+    ctx.sound();
     integer_in(attr_of(ctx, attr))
 }
