@@ -1,5 +1,7 @@
 pub mod CastLaws
 pub mod FoldShapes
+pub mod KnowingMore
+pub mod KnownOperands
 pub mod PairLaws
 pub mod Quotients
 pub mod Remainders

@@ -1,5 +1,5 @@
 -- The folds: what is known of an operation's result where its operands are known (`arith` Dialect).
-use Rattle.std.specs.Prelude.{ℕ, List, [], ◌∷◌, codes, Bool, true, false, ◌==◌, ◌&&◌, if◌then◌else◌, Option, Some, None, map, slice_get}
+use Rattle.std.specs.Prelude.{◌≡◌, ℕ, List, [], ◌∷◌, codes, Bool, true, false, ◌==◌, ◌&&◌, if◌then◌else◌, Option, Some, None, map, slice_get}
 use Rattle.std.specs.List.{list_all}
 use Rattle.std.specs.Option.{option_map}
 use Rattle.ir_types.specs.declared.node.Sign.TheVariants.{Signless}
@@ -191,3 +191,12 @@ fold_of name props operands _ = None
 -- a dictionary of numbers as one of bytes and attributes
 abbrev pub entries_of : Things → List (ℕ × ℕ) → List (List ℕ × AttrTerm)
 entries_of c entries = map (λ (e : ℕ × ℕ). (name_term c e.0, attr_term c e.1)) entries
+
+-- what is known in one list of operands is known in another of the same length
+abbrev pub IsWithin : Option Known → Option Known → Type 0
+IsWithin x y = (known : Known) → x ≡ Some known → y ≡ Some known
+
+abbrev pub KnowsMore : List (Option Known) → List (Option Known) → Type 0
+KnowsMore [] [] = Unit {0}
+KnowsMore (x ∷ xs) (y ∷ ys) = IsWithin x y × KnowsMore xs ys
+KnowsMore _ _ = ⊥

@@ -1,3 +1,4 @@
 pub mod Arithmetic
+pub mod FoldLaws
 pub mod Folds
 pub mod Laws

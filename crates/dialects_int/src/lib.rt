@@ -3,6 +3,7 @@
 
 pub mod arithmetic;
 pub mod fold;
+pub mod fold_laws;
 mod known;
 pub mod laws;
 pub mod operations;

@@ -135,6 +135,11 @@ const SYM_NAME: Property = Property {
     required: false,
 };
 
+const NEEDED_NAME: Property = Property {
+    required: true,
+    ..SYM_NAME
+};
+
 const SYM_VISIBILITY: Property = Property {
     key: Word::SymVisibility,
     required: false,
@@ -203,10 +208,7 @@ static ROWS: [OpDef; OPERATIONS as usize] = [
                 key: Word::FunctionType,
                 required: true,
             },
-            Property {
-                required: true,
-                ..SYM_NAME
-            },
+            NEEDED_NAME,
             SYM_VISIBILITY,
             ARG_ATTRS,
             RES_ATTRS,

@@ -1,0 +1,120 @@
+//! The answer to a line.
+use crate::parts::{first, operands, properties, types};
+use dialects_int::fold::fold;
+use ir_types::bits::{Bits, BitsKind};
+use ir_types::context::Context;
+use ir_types::ids::{AttrId, NameId, TypeId};
+use ir_types::refusal::Refusal;
+use op_registry::definition::{OpDef, Trait, Types};
+use op_registry::own::{EffectSet, Own};
+use op_registry::registry::Registry;
+use std::alloc::{AllocError, Global};
+
+/// The fold, or `None` where a number is not the context's.
+pub fn checked_fold(
+    context: &Context,
+    name: NameId,
+    props: &[(NameId, AttrId)],
+    operands: &[Option<Bits>],
+    results: &[TypeId],
+) -> Option<Bits> {
+    let attrs = props.iter().all(|entry| context.has_attr(entry.1));
+    let types = results.iter().all(|ty| context.has_type(*ty));
+    if attrs && types {
+        fold(context, name, props, operands, results)
+    } else {
+        None
+    }
+}
+
+fn told(alloc: Global, bits: Option<Bits>) -> Result<String, AllocError> {
+    let Some(bits) = bits else {
+        return format!(in alloc; "none");
+    };
+    let value = bits.value;
+    match bits.kind {
+        BitsKind::Int(width) => format!(in alloc; "i{width}:{value}"),
+        BitsKind::Index => format!(in alloc; "index:{value}"),
+    }
+}
+
+/// `NAME RESULTS OPERANDS PROPERTIES`.
+fn folded(alloc: Global, context: &mut Context, text: &str) -> Result<String, Refusal> {
+    let (name, text) = first(text);
+    let (results, text) = first(text);
+    let (known, props) = first(text);
+    let name = context.name(name.as_bytes())?;
+    let results = types(alloc, context, results)?;
+    let props = properties(alloc, context, props)?;
+    let known = operands(alloc, known)?;
+    let bits = checked_fold(context, name, &props, &known, &results);
+    Ok(told(alloc, bits)?)
+}
+
+/// How many types are wanted, and whether there may be more.
+fn width(types: &Types) -> (usize, bool) {
+    (types.first.len(), types.more.is_some())
+}
+
+/// How many there are of what a row says.
+fn counts(alloc: Global, def: &OpDef) -> Result<String, AllocError> {
+    let (operands, more_operands) = width(&def.operands);
+    let (results, more_results) = width(&def.results);
+    let regions = def.regions.len();
+    let properties = def.properties.len();
+    let required = def.properties.iter().filter(|p| p.required).count();
+    let parents = def.parents.len();
+    format!(in alloc; "{operands} {more_operands} {results} {more_results} {regions} {properties} {required} {parents}")
+}
+
+fn row(alloc: Global, context: &mut Context, table: &Registry, text: &str) -> Result<String, Refusal> {
+    let name = context.name(text.as_bytes())?;
+    let answer = match table.get(name) {
+        Some(def) => counts(alloc, def)?,
+        None => format!(in alloc; "none")?,
+    };
+    Ok(answer)
+}
+
+fn listed(alloc: Global, effects: EffectSet) -> Result<String, AllocError> {
+    let EffectSet {
+        allocate,
+        free,
+        read,
+        write,
+    } = effects;
+    format!(in alloc; "{allocate} {free} {read} {write}")
+}
+
+fn effects(alloc: Global, context: &mut Context, table: &Registry, text: &str) -> Result<String, Refusal> {
+    let name = context.name(text.as_bytes())?;
+    let answer = match table.effects(name) {
+        Own::Pure => format!(in alloc; "pure")?,
+        Own::Only(effects) => listed(alloc, effects)?,
+        Own::Recursive => format!(in alloc; "recursive")?,
+        Own::Unknown => format!(in alloc; "unknown")?,
+    };
+    Ok(answer)
+}
+
+fn traits(alloc: Global, context: &mut Context, table: &Registry, text: &str) -> Result<String, Refusal> {
+    let name = context.name(text.as_bytes())?;
+    let terminator = table.has(name, Trait::Terminator);
+    let isolated = table.has(name, Trait::Isolated);
+    let symbol_table = table.has(name, Trait::SymbolTable);
+    let symbol = table.has(name, Trait::Symbol);
+    let recursive = table.has(name, Trait::Recursive);
+    Ok(format!(in alloc; "{terminator} {isolated} {symbol_table} {symbol} {recursive}")?)
+}
+
+/// The answer to a line; what is no call is given back.
+pub fn answer(alloc: Global, context: &mut Context, table: &Registry, line: &str) -> Result<String, Refusal> {
+    let (call, rest) = first(line);
+    match call {
+        "fold" => folded(alloc, context, rest),
+        "row" => row(alloc, context, table, rest),
+        "effects" => effects(alloc, context, table, rest),
+        "traits" => traits(alloc, context, table, rest),
+        _ => Ok(format!(in alloc; "{line}")?),
+    }
+}

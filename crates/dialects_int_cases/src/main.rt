@@ -1,0 +1,61 @@
+//! Answers the calls of the operation table and of folds that standard input has, one a line, one answer
+//! a line. With a number as argument it folds each operation on two operands so many times, and prints
+//! the nanoseconds of one fold.
+#![tactic(auto)]
+
+mod answers;
+mod parts;
+mod timing;
+
+use ir_types::context::Context;
+use ir_types::refusal::Refusal;
+use op_registry::registry::Registry;
+use std::env;
+use std::io;
+use std::io::{ErrorKind, Read};
+use std::rt::Env;
+
+/// Prints the answer to a line.
+fn print_answer(rt: &HostRuntime, context: &mut Context, table: &Registry, line: &str) -> Result<(), Refusal> {
+    let answer = answers::answer(rt.alloc(), context, table, line)?;
+    let _ = println!(rt; "{answer}");
+    Ok(())
+}
+
+/// Prints the answer to each line.
+fn print_answers(rt: &HostRuntime, context: &mut Context, table: &Registry, text: &str) -> Result<(), Refusal> {
+    for line in text.lines() {
+        print_answer(rt, context, table, line)?;
+    }
+    Ok(())
+}
+
+/// Prints the answers of a new context.
+fn answer_all(rt: &HostRuntime, text: &str) -> Result<(), Refusal> {
+    let mut context = Context::new(rt.alloc())?;
+    let table = dialects_int::tables::registry(&context)?;
+    print_answers(rt, &mut context, &table, text)
+}
+
+/// How often each operation is to be folded, if it is to be timed.
+fn wanted(rt: &(impl Env + Alloc)) -> Option<u32> {
+    let mut args = env::args(rt).ok()?;
+    args.next();
+    args.next()?.as_str().parse::<u32>().ok()
+}
+
+fn run(rt: &HostRuntime, text: &str) -> Result<(), Refusal> {
+    match wanted(rt) {
+        Some(count) => timing::print_times(rt, count),
+        None => answer_all(rt, text),
+    }
+}
+
+fn main(rt: HostRuntime) -> io::Result<()> {
+    let mut text = String::new(rt.alloc());
+    rt.stdin().read_to_string(&mut text)?;
+    match run(&rt, text.as_str()) {
+        Ok(()) => Ok(()),
+        Err(_) => Err(io::Error::from(ErrorKind::OutOfMemory)),
+    }
+}
