@@ -64,10 +64,17 @@ fn counts(alloc: Global, def: &OpDef) -> Result<String, AllocError> {
     let properties = def.properties.len();
     let required = def.properties.iter().filter(|p| p.required).count();
     let parents = def.parents.len();
-    format!(in alloc; "{operands} {more_operands} {results} {more_results} {regions} {properties} {required} {parents}")
+    format!(in alloc;
+        "{operands} {more_operands} {results} {more_results} {regions} {properties} {required} {parents}"
+    )
 }
 
-fn row(alloc: Global, context: &mut Context, table: &Registry, text: &str) -> Result<String, Refusal> {
+fn row(
+    alloc: Global,
+    context: &mut Context,
+    table: &Registry,
+    text: &str,
+) -> Result<String, Refusal> {
     let name = context.name(text.as_bytes())?;
     let answer = match table.get(name) {
         Some(def) => counts(alloc, def)?,
@@ -86,7 +93,12 @@ fn listed(alloc: Global, effects: EffectSet) -> Result<String, AllocError> {
     format!(in alloc; "{allocate} {free} {read} {write}")
 }
 
-fn effects(alloc: Global, context: &mut Context, table: &Registry, text: &str) -> Result<String, Refusal> {
+fn effects(
+    alloc: Global,
+    context: &mut Context,
+    table: &Registry,
+    text: &str,
+) -> Result<String, Refusal> {
     let name = context.name(text.as_bytes())?;
     let answer = match table.effects(name) {
         Own::Pure => format!(in alloc; "pure")?,
@@ -97,7 +109,12 @@ fn effects(alloc: Global, context: &mut Context, table: &Registry, text: &str) -
     Ok(answer)
 }
 
-fn traits(alloc: Global, context: &mut Context, table: &Registry, text: &str) -> Result<String, Refusal> {
+fn traits(
+    alloc: Global,
+    context: &mut Context,
+    table: &Registry,
+    text: &str,
+) -> Result<String, Refusal> {
     let name = context.name(text.as_bytes())?;
     let terminator = table.has(name, Trait::Terminator);
     let isolated = table.has(name, Trait::Isolated);
@@ -108,7 +125,12 @@ fn traits(alloc: Global, context: &mut Context, table: &Registry, text: &str) ->
 }
 
 /// The answer to a line; what is no call is given back.
-pub fn answer(alloc: Global, context: &mut Context, table: &Registry, line: &str) -> Result<String, Refusal> {
+pub fn answer(
+    alloc: Global,
+    context: &mut Context,
+    table: &Registry,
+    line: &str,
+) -> Result<String, Refusal> {
     let (call, rest) = first(line);
     match call {
         "fold" => folded(alloc, context, rest),

@@ -10,20 +10,29 @@ mod timing;
 use ir_types::context::Context;
 use ir_types::refusal::Refusal;
 use op_registry::registry::Registry;
-use std::env;
-use std::io;
 use std::io::{ErrorKind, Read};
 use std::rt::Env;
+use std::{env, io};
 
 /// Prints the answer to a line.
-fn print_answer(rt: &HostRuntime, context: &mut Context, table: &Registry, line: &str) -> Result<(), Refusal> {
+fn print_answer(
+    rt: &HostRuntime,
+    context: &mut Context,
+    table: &Registry,
+    line: &str,
+) -> Result<(), Refusal> {
     let answer = answers::answer(rt.alloc(), context, table, line)?;
     let _ = println!(rt; "{answer}");
     Ok(())
 }
 
 /// Prints the answer to each line.
-fn print_answers(rt: &HostRuntime, context: &mut Context, table: &Registry, text: &str) -> Result<(), Refusal> {
+fn print_answers(
+    rt: &HostRuntime,
+    context: &mut Context,
+    table: &Registry,
+    text: &str,
+) -> Result<(), Refusal> {
     for line in text.lines() {
         print_answer(rt, context, table, line)?;
     }

@@ -118,7 +118,11 @@ fn property(context: &mut Context, word: &str) -> Result<(NameId, AttrId), Refus
 }
 
 /// Properties, parted by commas; `-` where there is none.
-pub fn properties(alloc: Global, context: &mut Context, text: &str) -> Result<Vec<(NameId, AttrId)>, Refusal> {
+pub fn properties(
+    alloc: Global,
+    context: &mut Context,
+    text: &str,
+) -> Result<Vec<(NameId, AttrId)>, Refusal> {
     let mut items = Vec::new(alloc);
     if text != "-" {
         for word in text.split(',') {

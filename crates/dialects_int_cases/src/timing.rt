@@ -38,7 +38,12 @@ fn sum(context: &Context, name: NameId, ty: TypeId, kind: BitsKind, count: u32) 
 }
 
 /// Prints the time of one fold of an operation.
-fn print_time(rt: &HostRuntime, context: &mut Context, text: &str, count: u32) -> Result<(), Refusal> {
+fn print_time(
+    rt: &HostRuntime,
+    context: &mut Context,
+    text: &str,
+    count: u32,
+) -> Result<(), Refusal> {
     let name = context.name(text.as_bytes())?;
     let ty = context.ty(TypeNode::Index)?;
     let Ok(start) = Instant::now(rt) else {
