@@ -38,17 +38,39 @@ fn told(alloc: Global, bits: Option<Bits>) -> Result<String, AllocError> {
     }
 }
 
+/// The fold of an operation of a name, with its results and properties.
+fn folded_by(
+    alloc: Global,
+    context: &Context,
+    name: NameId,
+    results: &[TypeId],
+    props: &[(NameId, AttrId)],
+    text: &str,
+) -> Result<String, AllocError> {
+    let known = operands(alloc, text)?;
+    told(alloc, checked_fold(context, name, props, &known, results))
+}
+
+/// The same, with its results alone: `OPERANDS PROPERTIES`.
+fn folded_to(
+    alloc: Global,
+    context: &mut Context,
+    name: NameId,
+    results: &[TypeId],
+    text: &str,
+) -> Result<String, Refusal> {
+    let (known, props) = first(text);
+    let props = properties(alloc, context, props)?;
+    Ok(folded_by(alloc, context, name, results, &props, known)?)
+}
+
 /// `NAME RESULTS OPERANDS PROPERTIES`.
 fn folded(alloc: Global, context: &mut Context, text: &str) -> Result<String, Refusal> {
     let (name, text) = first(text);
     let (results, text) = first(text);
-    let (known, props) = first(text);
     let name = context.name(name.as_bytes())?;
     let results = types(alloc, context, results)?;
-    let props = properties(alloc, context, props)?;
-    let known = operands(alloc, known)?;
-    let bits = checked_fold(context, name, &props, &known, &results);
-    Ok(told(alloc, bits)?)
+    folded_to(alloc, context, name, &results, text)
 }
 
 /// How many types are wanted, and whether there may be more.

@@ -7,6 +7,7 @@ mod answers;
 mod parts;
 mod timing;
 
+use dialects_int::tables::registry;
 use ir_types::context::Context;
 use ir_types::refusal::Refusal;
 use op_registry::registry::Registry;
@@ -39,11 +40,16 @@ fn print_answers(
     Ok(())
 }
 
+/// Prints the answers of a context.
+fn answer_in(rt: &HostRuntime, context: &mut Context, text: &str) -> Result<(), Refusal> {
+    let table = registry(context)?;
+    print_answers(rt, context, &table, text)
+}
+
 /// Prints the answers of a new context.
 fn answer_all(rt: &HostRuntime, text: &str) -> Result<(), Refusal> {
     let mut context = Context::new(rt.alloc())?;
-    let table = dialects_int::tables::registry(&context)?;
-    print_answers(rt, &mut context, &table, text)
+    answer_in(rt, &mut context, text)
 }
 
 /// How often each operation is to be folded, if it is to be timed.

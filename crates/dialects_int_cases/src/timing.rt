@@ -8,8 +8,9 @@ use ir_types::refusal::Refusal;
 use std::rt::Clock;
 use std::time::Instant;
 
-/// The names of operations on two operands.
-const NAMES: [&str; 6] = [
+/// The names of operations on two operands. The first is none, so that its time is that of the loop.
+const NAMES: [&str; 7] = [
+    "test.loop",
     "arith.addi",
     "arith.muli",
     "arith.divsi",
@@ -58,11 +59,15 @@ fn print_time(
     Ok(())
 }
 
+fn print_each(rt: &HostRuntime, context: &mut Context, count: u32) -> Result<(), Refusal> {
+    for name in NAMES {
+        print_time(rt, context, name, count)?;
+    }
+    Ok(())
+}
+
 /// Prints the time of one fold of each operation.
 pub fn print_times(rt: &HostRuntime, count: u32) -> Result<(), Refusal> {
     let mut context = Context::new(rt.alloc())?;
-    for name in NAMES {
-        print_time(rt, &mut context, name, count)?;
-    }
-    Ok(())
+    print_each(rt, &mut context, count)
 }
