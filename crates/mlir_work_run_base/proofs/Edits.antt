@@ -14,7 +14,7 @@ use Rattle.ir_tree.proofs.MappedEdits.{map_with_operand}
 use Rattle.ir_tree_laws.specs.Reasons.{set_operand_reason}
 use Rattle.ir_tree_laws.proofs.Contents.{map_set_operand_reason}
 use Rattle.ir_event.specs.Modules.{Module, module_meaning}
-use Rattle.mlir_work_run_base.specs.Machine.{Answer, same_with, edited, IsOrMemory}
+use Rattle.mlir_work_run_base.specs.Machine.{same_with, edited, IsOrMemory}
 use Rattle.mlir_work_run_base.specs.declared.desk.Reply.TheVariants.{Done, Refused}
 
 -- an operand of what a tree stands for is refused for the same reason as an operand of the tree

@@ -5,3 +5,4 @@ pub mod Listings
 pub mod Runs
 pub mod Attaching
 pub mod Sessions
+pub mod RowWalks

@@ -6,7 +6,7 @@ use Rattle.ir_tree.specs.Meaning.{Operation}
 use Rattle.ir_event.specs.Listener.{Listener}
 use Rattle.mlir_work_base.specs.Replies.{kind_memory_line, module_memory_line}
 use Rattle.mlir_work_run_base.specs.Machine.{Shown, State, shown, all_shown}
-use Rattle.mlir_work_run_base.specs.Output.{IsModule, IsKind, AreKinds, IsListing, IsListingIf}
+use Rattle.mlir_work_run_base.specs.Output.{AreKinds, IsListing, IsListingIf}
 
 pub some_kinds : (t : Operation) (ks : List Shown) → (out : List ℕ) × AreKinds t ks out
 some_kinds t [] = ([], refl)

@@ -1,5 +1,5 @@
 -- Listeners, and what is shown of them.
-use Rattle.std.proofs.Common.{◌≡◌, ◌∙◌, sym, ℕ, ◌<◌, ◌+◌, suc, List, [], ◌∷◌, length, Bool, true, false, cond, ◌==◌, ◌⊎◌, inl, inr, Option, Some, None, map, refl, ap, arith, get_or, subst, drop, add-one, drop-cons}
+use Rattle.std.proofs.Common.{◌≡◌, ℕ, suc, List, [], ◌∷◌, Bool, true, false, cond, Some, None, refl, arith, subst}
 use Rattle.std.specs.Option.{option_map}
 use Rattle.std.specs.List.{AllZip, find, All}
 use Rattle.ir_types.specs.Things.{Things}
@@ -9,7 +9,7 @@ use Rattle.ir_event.specs.Modules.{Module}
 use Rattle.ir_event.specs.Listener.{Listener}
 use Rattle.ir_event.specs.Panels.{AllTold, is_kind as has_this_kind}
 use Rattle.mlir_work_run_base.specs.RowText.{rows_text}
-use Rattle.mlir_work_run_base.specs.Machine.{Shown, Ages, shown, all_shown, reported, same_with, showing, is_kind}
+use Rattle.mlir_work_run_base.specs.Machine.{Ages, shown, all_shown, reported, same_with, is_kind}
 use Rattle.mlir_work_run_base.specs.declared.desk.Reply.TheVariants.{Refused, Done}
 
 module _ {B : Type 0} (meaning : B → Listener) where

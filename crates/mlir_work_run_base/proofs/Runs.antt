@@ -3,7 +3,7 @@ use Rattle.std.proofs.Common.{◌≡◌, ℕ, ◌+◌, ◌&&◌, List, [], ◌�
 use Rattle.std.specs.List.{AllZip}
 use Rattle.std.proofs.lemmas.Bool.Decides.{nat_tests}
 use Rattle.ir_types.specs.declared.refusal.Refusal.TheVariants.{BadCommand, Memory}
-use Rattle.mlir_work_base.specs.Commands.{Said, Spoken, Nothing, Bad, Obey, line_says}
+use Rattle.mlir_work_base.specs.Commands.{Spoken, Nothing, Bad, Obey, line_says}
 use Rattle.mlir_work_base.specs.Lines.{lines_of}
 use Rattle.mlir_work_run_base.specs.Machine.{State, Shown, Ages}
 use Rattle.mlir_work_run_base.specs.Output.{Line, Replied, Replies, IsReplied, Runs, worse, says_nothing, asks, reply_line, is_accepted}

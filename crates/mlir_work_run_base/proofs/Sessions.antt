@@ -1,15 +1,13 @@
 -- Sessions: boxes are attached, and then a script is run.
-use Rattle.std.proofs.Common.{◌≡◌, ◌≤◌, ◌<◌, ◌++◌, ◌↔◌, IsTrue, refl, inl, inr, ℕ, List, [], Bool, true, false, length, arith, Option, Result, Ok, Err}
-use Rattle.ir_types.specs.declared.refusal.Refusal.TheVariants.{BadCommand}
+use Rattle.std.proofs.Common.{◌≡◌, ◌≤◌, ◌<◌, ◌++◌, ◌↔◌, IsTrue, refl, ℕ, List, [], Bool, false, arith, Option, Result, Ok, Err}
 use Rattle.ir_event.specs.Modules.{Module}
 use Rattle.mlir_work_base.specs.Lines.{lines_of}
-use Rattle.mlir_work_base.specs.Replies.{refused_line}
-use Rattle.mlir_work_base.specs.Writes.{Puts, AppendsFront}
+use Rattle.mlir_work_base.specs.Writes.{AppendsFront}
 use Rattle.mlir_work_base.specs.declared.input.TheConstants.{MAX_SCRIPT_BYTES}
 use Rattle.std.specs.Io.KnownBytes.{Appends}
 use Rattle.mlir_work_base.proofs.Joins.{appends_join, front_join, front_more}
-use Rattle.mlir_work_run_base.specs.Machine.{Shown, State}
-use Rattle.mlir_work_run_base.specs.Output.{Attaches, Runs, Session, IsSession, worse}
+use Rattle.mlir_work_run_base.specs.Machine.{Shown}
+use Rattle.mlir_work_run_base.specs.Output.{Attaches, Runs, Session, worse}
 use Rattle.mlir_work_run_base.specs.Ran.{RanOut}
 use Rattle.mlir_work_run_base.proofs.Runs.{some_runs}
 

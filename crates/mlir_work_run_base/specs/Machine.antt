@@ -1,10 +1,9 @@
 -- The machine: a module, and the analyses that are attached to it.
-use Rattle.std.specs.Prelude.{◌≡◌, ℕ, List, [], ◌∷◌, Bool, true, false, ◌==◌, ◌⊎◌, Option, Some, None, if◌then◌else◌, map, is_some, position}
+use Rattle.std.specs.Prelude.{◌≡◌, ℕ, List, [], Bool, true, false, ◌==◌, ◌⊎◌, Option, Some, None, if◌then◌else◌, map, is_some, position}
 use Rattle.std.specs.List.{AllZip, find}
 use Rattle.ir_types.specs.declared.refusal.Refusal.{Refusal}
 use Rattle.ir_types.specs.declared.refusal.Refusal.TheVariants.{Memory, Stale, NoSuchKind}
 use Rattle.ir_types.specs.Words.{is_isolated}
-use Rattle.ir_tree.specs.declared.value.Value.{Value}
 use Rattle.ir_tree.specs.Meaning.{Operation}
 use Rattle.ir_tree.specs.Edits.{with_operand}
 use Rattle.ir_tree_laws.specs.Reasons.{set_operand_reason}

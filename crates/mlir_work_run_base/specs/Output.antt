@@ -7,7 +7,7 @@ use Rattle.ir_event.specs.Modules.{Module}
 use Rattle.ir_event.specs.Rows.{RowTerm}
 use Rattle.ir_tree.specs.Meaning.{Operation}
 use Rattle.ir_text.specs.Printing.{text_of}
-use Rattle.mlir_work_base.specs.Commands.{Said, Report, Print, SetOperand, Spoken, Nothing, Bad, Obey, line_says}
+use Rattle.mlir_work_base.specs.Commands.{Report, Print, SetOperand, Spoken, Nothing, Bad, Obey, line_says}
 use Rattle.mlir_work_base.specs.Lines.{lines_of}
 use Rattle.mlir_work_base.specs.declared.input.TheConstants.{MAX_SCRIPT_BYTES}
 use Rattle.mlir_work_base.specs.Replies.{ok_line, refused_line, attach_refused_line, kind_line, stale_line, kind_memory_line, module_memory_line}

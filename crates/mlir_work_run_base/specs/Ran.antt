@@ -1,5 +1,5 @@
 -- What a run wrote.
-use Rattle.std.specs.Prelude.{◌≡◌, ℕ, List, Bool, Option, Result, Ok, Err}
+use Rattle.std.specs.Prelude.{ℕ, List, Bool, Option, Result, Ok, Err}
 use Rattle.std.specs.Io.KnownBytes.{Appends}
 use Rattle.mlir_work_base.specs.Writes.{AppendsFront}
 use Rattle.mlir_work_run_base.specs.Machine.{Shown}

@@ -1,5 +1,5 @@
 //! The text of a report's rows.
-ghost use Rattle.std.specs.Prelude.{◌≡◌, ◌<◌, ◌++◌, true, map, codes, OnOk, IfOk};
+ghost use Rattle.std.specs.Prelude.{◌≡◌, ◌<◌, ◌++◌, [], if◌then◌else◌, true, map, codes, OnOk, IfOk};
 ghost use Rattle.std.specs.Fmt.{decimal, signed_decimal};
 ghost use Rattle.std.specs.List.{All};
 ghost use Rattle.ir_types.specs.Bits.{type_of, width_of};
@@ -127,6 +127,16 @@ fn put_cell(ctx: &Context, out: &mut Vec<u8>, cell: &Cell) -> Result<(), AllocEr
     }
 }
 
+/// A space, unless the first cell of a row follows.
+fn put_space(out: &mut Vec<u8>, first: bool) -> Result<(), AllocError>
+    ensures { OnOk result (out.new.items ≡ out.old.items ++ (if first then [] else codes " ")) }
+{
+    if first {
+        return Ok(());
+    }
+    out.extend_from_slice(b" ")
+}
+
 /// Appends cells with a space between.
 fn put_cells(ctx: &Context, out: &mut Vec<u8>, cells: &[Cell]) -> Result<(), AllocError>
     requires { All (CellIsOf ctx.now) cells.now }
@@ -134,9 +144,7 @@ fn put_cells(ctx: &Context, out: &mut Vec<u8>, cells: &[Cell]) -> Result<(), All
 {
     let mut first = true;
     'cells: for cell in cells {
-        if !first {
-            out.extend_from_slice(b" ")?;
-        }
+        put_space(out, first)?;
         first = false;
         put_cell(ctx, out, cell)?;
     }
@@ -152,6 +160,17 @@ fn put_row(ctx: &Context, out: &mut Vec<u8>, row: &Row) -> Result<(), AllocError
     out.extend_from_slice(b"\n")
 }
 
+/// Appends rows.
+fn put_rows(ctx: &Context, out: &mut Vec<u8>, rows: &[Row]) -> Result<(), AllocError>
+    requires { All (RowIsOf ctx.now) rows.now }
+    ensures { OnOk result (out.new.items ≡ out.old.items ++ rows_text (rows_meaning ctx.now rows.now)) }
+{
+    'rows: for row in rows {
+        put_row(ctx, out, row)?;
+    }
+    Ok(())
+}
+
 /// The text of rows.
 pub(crate) fn text_of_rows(
     alloc: Global,
@@ -162,8 +181,8 @@ pub(crate) fn text_of_rows(
     ensures { IfOk result (λ text. text.items ≡ rows_text (rows_meaning ctx.now rows.now)) }
 {
     let mut out = Vec::new(alloc);
-    'rows: for row in rows {
-        put_row(ctx, &mut out, row)?;
+    match put_rows(ctx, &mut out, rows) {
+        Ok(()) => Ok(out),
+        Err(e) => Err(e),
     }
-    Ok(out)
 }

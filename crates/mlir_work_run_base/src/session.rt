@@ -1,5 +1,5 @@
 //! A module that was read: listeners are attached to it, and a script is run over it.
-ghost use Rattle.std.specs.Prelude.{◌≡◌, if◌then◌else◌};
+ghost use Rattle.std.specs.Prelude.{◌≡◌, [], if◌then◌else◌};
 ghost use Rattle.ir_event.specs.Modules.{module_in};
 ghost use Rattle.mlir_work_run_base.specs.Machine.{all_shown};
 ghost use Rattle.mlir_work_run_base.specs.Output.{IsSession, IsBadScript, Session, worse as worst};
@@ -23,24 +23,24 @@ fn worse(accepted: bool, status: u8) -> u8
     if accepted { status } else { 1 }
 }
 
-/// Attaches listeners and runs a script.
+/// Attaches listeners to a panel without any, and runs a script.
 fn attach_and_run<L: Analysis, W: Write>(
     alloc: Global,
     brief: bool,
-    world: World,
+    world: &mut World,
+    panel: &mut Panel<L>,
     script: &[u8],
     writer: &mut W,
     boxes: Vec<L>,
 ) -> Result<u8, WriteFault>
-    ensures { RanOut (Session brief (all_shown L.meaning boxes.items) (module_in world) script.now) (W.contents writer.old) (W.contents writer.new) result }
+    requires { panel.old ≡ [] }
+    ensures { RanOut (Session brief (all_shown L.meaning boxes.items) (module_in world.old) script.now) (W.contents writer.old) (W.contents writer.new) result }
 {
-    let mut world = world;
-    let mut panel = Panel::new(alloc);
-    let accepted = match attach_all(&world, &mut panel, boxes, writer) {
+    let accepted = match attach_all(world, panel, boxes, writer) {
         Ok(accepted) => accepted,
         Err(fault) => return Err(fault),
     };
-    match run_script(alloc, brief, &mut world, &mut panel, script, writer) {
+    match run_script(alloc, brief, world, panel, script, writer) {
         Ok(status) => Ok(worse(accepted, status)),
         Err(fault) => Err(fault),
     }
@@ -56,6 +56,24 @@ fn refuse_script<W: Write>(writer: &mut W) -> Result<u8, WriteFault>
     }
 }
 
+/// The same for a script that isn't too long, of a panel that is made for it; else the script is refused.
+fn answer_script<L: Analysis, W: Write>(
+    alloc: Global,
+    brief: bool,
+    world: &mut World,
+    script: &[u8],
+    writer: &mut W,
+    boxes: Vec<L>,
+) -> Result<u8, WriteFault>
+    ensures { RanOut (IsSession brief (all_shown L.meaning boxes.items) (module_in world.old) script.now) (W.contents writer.old) (W.contents writer.new) result }
+{
+    if script_is_too_long(script) {
+        return refuse_script(writer);
+    }
+    let mut panel = Panel::new(alloc);
+    attach_and_run(alloc, brief, world, &mut panel, script, writer, boxes)
+}
+
 /// Attaches listeners to a module, in order, and runs a script over it; writes as it goes. The status is 1
 /// where a listener or a command was refused, and else 0. A script over its limit is one bad command.
 pub fn run_session<L: Analysis, W: Write>(
@@ -68,8 +86,6 @@ pub fn run_session<L: Analysis, W: Write>(
 ) -> Result<u8, WriteFault>
     ensures { RanOut (IsSession brief (all_shown L.meaning boxes.items) (module_in world) script.now) (W.contents writer.old) (W.contents writer.new) result }
 {
-    if script_is_too_long(script) {
-        return refuse_script(writer);
-    }
-    attach_and_run(alloc, brief, world, script, writer, boxes)
+    let mut world = world;
+    answer_script(alloc, brief, &mut world, script, writer, boxes)
 }

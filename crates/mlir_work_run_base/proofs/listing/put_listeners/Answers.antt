@@ -1,8 +1,7 @@
-use Rattle.std.proofs.Common.{◌++◌, drop, subst, sym, append_assoc, append-nil, refl, ◌+◌, List, ℕ, length, arith, []}
+use Rattle.std.proofs.Common.{◌++◌, drop, append_assoc, append-nil, refl, ◌+◌, arith, []}
 use Rattle.ir_event.specs.Modules.{module_in}
 use Rattle.mlir_work_base.proofs.Joins.{appends_join, front_within}
 use Rattle.mlir_work_run_base.specs.Machine.{all_shown}
-use Rattle.mlir_work_run_base.specs.Output.{AreKinds}
 use Rattle.mlir_work_run_base.proofs.Listings.{some_kinds, shown_step, none_left}
 use Rattle.mlir_work_run_base.proofs.listing.put_listeners.Goals as goal
 

@@ -1,4 +1,4 @@
-use Rattle.std.proofs.Common.{◌++◌, refl}
+use Rattle.std.proofs.Common.{refl}
 use Rattle.ir_event.specs.Modules.{module_in}
 use Rattle.mlir_work_base.proofs.Joins.{then_put, then_none}
 use Rattle.mlir_work_run_base.specs.Machine.{all_shown, state_of}

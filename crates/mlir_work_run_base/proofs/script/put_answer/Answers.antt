@@ -1,4 +1,4 @@
-use Rattle.std.proofs.Common.{◌++◌, [], refl, sym, append-nil}
+use Rattle.std.proofs.Common.{◌++◌, [], refl, append-nil}
 use Rattle.mlir_work_base.proofs.Joins.{appends_join, puts_join, front_more, front_within}
 use Rattle.mlir_work_run_base.specs.Machine.{state_of}
 use Rattle.mlir_work_run_base.specs.Output.{reply_line}

@@ -1,9 +1,9 @@
-use Rattle.std.proofs.Common.{◌++◌, ◌+◌, [], refl, sym, append-nil, append_assoc, arith, rules, length, ◌≡◌, List, ℕ}
+use Rattle.std.proofs.Common.{◌++◌, ◌+◌, [], refl, append-nil, append_assoc, arith}
 use Rattle.mlir_work_base.specs.Commands.{spoken_of}
 use Rattle.mlir_work_base.specs.Lines.{lines_of}
 use Rattle.mlir_work_run_base.specs.Output.{is_accepted}
 use Rattle.mlir_work_run_base.specs.Machine.{state_of}
-use Rattle.mlir_work_run_base.specs.Output.{worse, Runs}
+use Rattle.mlir_work_run_base.specs.Output.{worse}
 use Rattle.mlir_work_base.proofs.Joins.{appends_join, front_within}
 use Rattle.mlir_work_run_base.proofs.Runs.{run_step, some_runs, worse_both, runs_end, filled, emptied}
 use Rattle.mlir_work_run_base.proofs.script.run_script.Goals as goal
