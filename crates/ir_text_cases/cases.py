@@ -161,6 +161,61 @@ def type_everywhere(text):
     tried(op, b'"t"(%v0.0) : (' + text + b") -> ()")
 
 
+# Tokens alone: the longest of what these match behind blanks and comments.
+
+SUFFIX = rb"(\d+|[A-Za-z$._-][A-Za-z0-9$._-]*)"
+INSIDE = rb'((?:[^"\\\n\x0b\x0c\r]|\\(?:[\\"nt]|[0-9A-Fa-f]{2}))*)'
+FORMS = [("float", rb"(\d+\.\d*(?:[eE][+-]?\d+)?)"), ("integer", rb"(\d+|0x[0-9A-Fa-f]+)"), ("integer", rb"(0x[0-9A-Fa-f]+)"), ("string", rb'"' + INSIDE + rb'"'),
+         ("bare", rb"([A-Za-z_][A-Za-z0-9_$.]*)"), ("value", rb"%" + SUFFIX), ("label", rb"\^" + SUFFIX), ("hash", rb"#" + SUFFIX),
+         ("bang", rb"!" + SUFFIX), ("symbol", rb"@" + SUFFIX), ("quoted", rb'@"' + INSIDE + rb'"')]
+MARKS = [b"(", b")", b"{", b"}", b"[", b"]", b"<", b">", b",", b"=", b":", b"::", b"->", b"-", b"?", b"*"]
+
+
+def front_of(text):
+    """The kind of the token at the front of a text, what it holds, and what is left; or none."""
+    rest = re.match(rb"(?:[ \t\r\n]|//[^\n]*)*", text)
+    rest = text[rest.end():]
+    if not rest:
+        return "mark", b"", b""
+    found = [("mark", b"", rest[len(it):]) for it in MARKS if rest.startswith(it)]
+    for kind, form in FORMS:
+        match = re.match(form, rest)
+        if match:
+            found.append((kind, match[1], rest[match.end():]))
+    return min(found, key=lambda it: len(it[2])) if found else None
+
+
+def latin(text):
+    return "".join("~0A~" if it == 10 else "~7E~" if it == 126 else chr(it) for it in text)
+
+
+def front(text, want=None):
+    found = front_of(text)
+    if found is None:
+        raise SystemExit(f"{text!r} begins with no token")
+    if want is not None and found != want:
+        raise SystemExit(f"{text!r}: by hand {want!r}, by the forms {found!r}")
+    kind, held, rest = found
+    add(f"token {escaped(text)}", f"{kind} [{latin(held)}] [{latin(rest)}]")
+
+
+def fronts():
+    for text, want in tables.FRONTS:
+        front(text, want)
+    for number, rows in tables.NO_FRONTS:
+        for text, at in rows:
+            if front_of(text) is not None:
+                raise SystemExit(f"{text!r} begins with a token")
+            add(f"token {escaped(text)}", wanted((number, at)))
+    wholes = [b"12", b"007", b"0x1F", b"0x", b"1.5e3", b"1.", b"1.e3", b"1.5E-07", b"1.5e", b"a.b$c", b"_0", b"i32", b"%0", b"%a1-b.$_c", b"%-", b"%.0", b"^bb0",
+              b"#arith.overflow", b"#0", b"!t.x", b"@f", b"@0", b'@"a b"', b'@""', b'""', b'"a\\"b"', b'"\\0a\\n"'] + MARKS
+    backs = [b"", b" ", b"0", b"9", b"a", b"e", b"x", b"_", b".", b"$", b"-", b":", b">", b"\"", b"e+3", b".5", b"\n//", b"/", b"\xff", b"@g"]
+    for whole, back in itertools.product(wholes, backs):
+        if front_of(whole + back) is not None:
+            front(whole + back)
+        front(b" // b\n\t\r" + whole + b"," + back)
+
+
 # Tokens.
 
 def tokens():
@@ -747,7 +802,7 @@ def write(name):
             file.write("".join(line[column] + "\n" for line in lines))
 
 
-SECTIONS = [by_hand, tokens, marks, strings, types, widths, literals, attributes, depths, modules, names, free_names, single, limits, cut_texts]
+SECTIONS = [by_hand, fronts, tokens, marks, strings, types, widths, literals, attributes, depths, modules, names, free_names, single, limits, cut_texts]
 
 
 def all_cases(most_width):

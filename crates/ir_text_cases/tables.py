@@ -365,3 +365,26 @@ GOLDEN = [
     (b'module {}', 13, 0),
     (b'"t\xff"() : () -> ()', 14, 2),
 ]
+
+# Texts with the token at their front: its kind, what it holds, and what is left.
+FRONTS = [
+    (b"12", ("integer", b"12", b"")), (b"007:", ("integer", b"007", b":")), (b"0x1F", ("integer", b"0x1F", b"")), (b"0xfg", ("integer", b"0xf", b"g")),
+    (b"0x", ("integer", b"0", b"x")), (b"0xg", ("integer", b"0", b"xg")), (b"00x1", ("integer", b"00", b"x1")), (b"0X1", ("integer", b"0", b"X1")),
+    (b"0x1.5", ("integer", b"0x1", b".5")), (b"-1", ("mark", b"", b"1")),
+    (b"1.5e3", ("float", b"1.5e3", b"")), (b"1.", ("float", b"1.", b"")), (b"1.e3", ("float", b"1.e3", b"")), (b"1.5e", ("float", b"1.5", b"e")),
+    (b"1.5e+", ("float", b"1.5", b"e+")), (b"1.5E-07x", ("float", b"1.5E-07", b"x")), (b"1.5e+3e4", ("float", b"1.5e+3", b"e4")),
+    (b"1e5", ("integer", b"1", b"e5")), (b"1..2", ("float", b"1.", b".2")),
+    (b"a.b$c", ("bare", b"a.b$c", b"")), (b"a-b", ("bare", b"a", b"-b")), (b"_0", ("bare", b"_0", b"")), (b"i32,", ("bare", b"i32", b",")),
+    (b"%0#1", ("value", b"0", b"#1")), (b"%1a", ("value", b"1", b"a")), (b"%a1-b.$_c:", ("value", b"a1-b.$_c", b":")), (b"%-", ("value", b"-", b"")),
+    (b"%.0", ("value", b".0", b"")),
+    (b"^bb0(", ("label", b"bb0", b"(")), (b"#arith.overflow<", ("hash", b"arith.overflow", b"<")), (b"#0:", ("hash", b"0", b":")),
+    (b"!t.x>", ("bang", b"t.x", b">")), (b"@f::@g", ("symbol", b"f", b"::@g")), (b"@0a", ("symbol", b"0", b"a")), (b'@"a b"c', ("quoted", b"a b", b"c")),
+    (b'@""', ("quoted", b"", b"")),
+    (b'"""', ("string", b"", b'"')), (b'"a\\"b" c', ("string", b'a\\"b', b" c")), (b'"\\\\"x', ("string", b"\\\\", b"x")),
+    (b'"\\0a\\FF\\n\\t"', ("string", b"\\0a\\FF\\n\\t", b"")), (b'"\t\x08\xC3\xA4"', ("string", b"\t\x08\xC3\xA4", b"")),
+    (b" \t\r\n x", ("bare", b"x", b"")), (b"// a\nb c", ("bare", b"b", b" c")), (b"// a\rb\n%c", ("value", b"c", b"")),
+    (b"////\n//\n7", ("integer", b"7", b"")), (b'// "\xFF', ("mark", b"", b"")), (b"", ("mark", b"", b"")),
+]
+
+# Texts that begin with no token, and where they are refused.
+NO_FRONTS = [(number, rows) for kind, number, rows in REFUSED if kind == A and number == 1][:5]

@@ -4,6 +4,7 @@ ghost use Rattle.ir_tree.specs.Meaning.{IsSoundIn};
 use crate::near::near_of;
 use crate::pieces::{bytes_of, first};
 use crate::shown::{put_cut, refused, shown, shown_op};
+use crate::tokens::front;
 use ir_text::printer::print;
 use ir_text::reader::{parse_attr, read, read_op};
 use ir_tree::numbered::numbered;
@@ -147,6 +148,7 @@ fn answer_bytes(
         "attr" => attribute(alloc, ctx, bytes),
         "cut" => all_cuts(alloc, ctx, bytes),
         "module" => module(alloc, ctx, bytes),
+        "token" => front(alloc, bytes),
         _ => operation(alloc, ctx, kind, bytes),
     }
 }
@@ -160,7 +162,7 @@ fn answer_in(alloc: Global, ctx: &mut Context, line: &str) -> Result<String, Ref
     answer_bytes(alloc, ctx, kind, bytes.as_slice())
 }
 
-/// The answer to a line: `attr`, `module`, `cut`, or the module around an operation as `9/32/-`, and a text; or
+/// The answer to a line: `attr`, `module`, `cut`, `token`, or the module around an operation as `9/32/-`, and a text; or
 /// `same` and two attributes.
 pub fn answer(alloc: Global, line: &str) -> Result<String, Refusal> {
     let mut ctx = Context::new(alloc)?;

@@ -6,6 +6,7 @@ mod answers;
 mod near;
 mod pieces;
 mod shown;
+mod tokens;
 
 use ir_types::refusal::Refusal;
 use std::io;

@@ -30,7 +30,8 @@ fn put_byte(out: &mut String, byte: u8) -> Result<(), AllocError> {
     }
 }
 
-fn put_bytes(out: &mut String, bytes: &[u8]) -> Result<(), AllocError> {
+/// Bytes in one line.
+pub fn put_bytes(out: &mut String, bytes: &[u8]) -> Result<(), AllocError> {
     for byte in bytes {
         put_byte(out, *byte)?;
     }

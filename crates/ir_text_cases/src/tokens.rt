@@ -1,0 +1,64 @@
+//! The token at the front of a text.
+use crate::shown::{put_bytes, refused};
+use ir_text_base::lexer::token;
+use ir_text_base::token::Token;
+use ir_text_type_base::error::ReadError;
+use ir_types::refusal::Refusal;
+use std::alloc::{AllocError, Global};
+
+/// A token's kind in a word.
+fn kind_of(token: &Token<'_>) -> &'static str {
+    match token {
+        Token::Mark(_) => "mark",
+        Token::Integer(_) => "integer",
+        Token::Float(_) => "float",
+        Token::String(_) => "string",
+        Token::Bare(_) => "bare",
+        Token::Value(_) => "value",
+        Token::Label(_) => "label",
+        Token::Hash(_) => "hash",
+        Token::Bang(_) => "bang",
+        Token::Symbol(_) => "symbol",
+        Token::Quoted(_) => "quoted",
+    }
+}
+
+/// What a token holds.
+fn held_by<'a>(token: &Token<'a>) -> &'a [u8] {
+    match token {
+        Token::Mark(_) => b"",
+        Token::Integer(text)
+        | Token::Float(text)
+        | Token::String(text)
+        | Token::Bare(text)
+        | Token::Value(text)
+        | Token::Label(text)
+        | Token::Hash(text)
+        | Token::Bang(text)
+        | Token::Symbol(text)
+        | Token::Quoted(text) => text,
+    }
+}
+
+fn put_token(out: &mut String, found: &Token<'_>, rest: &[u8]) -> Result<(), AllocError> {
+    out.push_str(kind_of(found))?;
+    out.push_str(" [")?;
+    put_bytes(out, held_by(found))?;
+    out.push_str("] [")?;
+    put_bytes(out, rest)?;
+    out.push_str("]")
+}
+
+fn shown_token(alloc: Global, found: &Token<'_>, rest: &[u8]) -> Result<String, AllocError> {
+    let mut out = String::new(alloc);
+    put_token(&mut out, found, rest)?;
+    Ok(out)
+}
+
+/// The token at the front of a text, what it holds, and what is left; or why there is none.
+pub fn front(alloc: Global, bytes: &[u8]) -> Result<String, Refusal> {
+    match token(bytes) {
+        Ok((found, rest)) => Ok(shown_token(alloc, &found, rest)?),
+        Err(fault) => refused(alloc, bytes, ReadError::Refused(fault)),
+    }
+}
