@@ -1,0 +1,24 @@
+-- The uses of a value, in any order.
+use Rattle.std.specs.Prelude.{◌≡◌, ℕ, false, List, [], ◌∷◌, eqb, Bool, ◌&&◌}
+use Rattle.std.specs.List.{list_any}
+use Rattle.ir_tree.specs.declared.value.Value.{Value}
+use Rattle.ir_tree.specs.Tree.{Op}
+use Rattle.ir_tree.specs.Uses.{uses_of}
+
+-- whether two uses, each an operation and the number of an operand, are one
+abbrev pub same_use : ℕ × ℕ → ℕ × ℕ → Bool
+same_use p q = eqb p.0 q.0 && eqb p.1 q.1
+
+-- whether operand j of operation x is one of some uses
+abbrev pub is_use : ℕ → ℕ → List (ℕ × ℕ) → Bool
+is_use x j us = list_any (λ p. same_use p (x, j)) us
+
+-- each use is none of those after it
+abbrev pub EachOnce : List (ℕ × ℕ) → Type 0
+EachOnce [] = Unit {0}
+EachOnce (p ∷ ps) = (is_use p.0 p.1 ps ≡ false) × EachOnce ps
+
+-- the uses of a value, each once, in any order
+pub record AreUses (v : Value) (t : Op) (us : List (ℕ × ℕ)) : Type 0 where
+  pub once : EachOnce us
+  pub same : (x j : ℕ) → is_use x j us ≡ is_use x j (uses_of v t)
