@@ -4,12 +4,13 @@ ghost use Rattle.std.specs.List.{All};
 ghost use Rattle.ir_types.specs.Reasons.{IsRefusedFor};
 ghost use Rattle.ir_tree.specs.Ids.{find as the_first, ids, has_id, HasDistinctIds};
 ghost use Rattle.ir_tree.specs.Sites.{Visible};
-ghost use Rattle.ir_tree.specs.Edits.{with_operand};
 ghost use Rattle.ir_tree.specs.WellFormed.{IsFormed, IsWellFormed, fault};
 ghost use Rattle.ir_tree.specs.Meaning.{isolated_in, IsSoundIn};
 ghost use Rattle.ir_tree.specs.Tree.{head};
 ghost use Rattle.ir_tree_laws.specs.Values.{type_of_value, arguments_at};
 ghost use Rattle.ir_store.specs.Nodes.{node_of};
+ghost use Rattle.ir_store.specs.Stored.{known};
+ghost use Rattle.ir_store.specs.Calls.{Loaded, after_operand};
 ghost use Rattle.ir_tree_laws.specs.Reasons.{set_operand_reason, value_reason};
 
 use crate::node::{Node, arguments, region_of};
@@ -35,13 +36,14 @@ pub struct Store {
 }
 
 impl Model for Store {
-    ghost use Rattle.ir_tree.specs.WellFormed.{Module, module_code};
+    ghost use Rattle.ir_store.specs.Stored.{Stored, stored_code};
+    ghost use Rattle.ir_store.specs.Plain.{stored_of};
 
-    ghost Value = { Module };
+    ghost Value = { Stored };
 
-    ghost coded = { module_code };
+    ghost coded = { stored_code };
 
-    ghost view = { λ s. record { tree = s.root; next = s.next } };
+    ghost view = { λ s. stored_of s.root s.next };
 }
 
 impl Store {
@@ -52,8 +54,8 @@ impl Store {
         requires sound { IsSoundIn ctx.now tree.now }
         requires distinct { HasDistinctIds tree.now }
         requires below { All (λ x. x < next) (ids tree.now) }
-        ensures ok { IfOk result (λ s. s ≡ record { tree = tree.now; next = next }) }
-        ensures held { IfOk result (λ s. IsWellFormed (isolated_in ctx.now) s) }
+        ensures ok { IfOk result (λ s. Loaded tree.now next s) }
+        ensures formed { IfOk result (λ s. IsWellFormed (isolated_in ctx.now) s.module_of) }
         ensures refused { IfErr result (λ e. (e ≡ Refusal.Memory) ⊎ (fault (isolated_in ctx.now) tree.now ≡ Some e)) }
     {
         check(alloc, ctx, tree)?;
@@ -61,53 +63,52 @@ impl Store {
         Ok(Store { alloc, root, next })
     }
 
-    /// The same module of a tree that is handed over, and is known to be formed: nothing is looked at again.
-    pub fn hold(alloc: Global, ctx: &Context, tree: TreeOp, next: u32) -> Store
+    /// The same module of a tree that is handed over, and is known to be formed: it isn't checked again.
+    pub fn hold(
+        alloc: Global,
+        ctx: &Context,
+        tree: TreeOp,
+        next: u32,
+    ) -> Result<Store, AllocError>
         requires sound { IsSoundIn ctx.now tree }
         requires distinct { HasDistinctIds tree }
         requires below { All (λ x. x < next) (ids tree) }
         requires formed { IsFormed (isolated_in ctx.now) tree }
-        ensures ok { result ≡ record { tree = tree; next = next } }
-        ensures held { IsWellFormed (isolated_in ctx.now) result }
+        ensures ok { IfOk result (λ s. Loaded tree next s) }
+        ensures formed { IfOk result (λ s. IsWellFormed (isolated_in ctx.now) s.module_of) }
     {
-        Store {
+        Ok(Store {
             alloc,
             root: tree,
             next,
-        }
-    }
-
-    /// A look at the tree of the module.
-    pub fn root(&self) -> &TreeOp
-        ensures { result.now ≡ self.now.tree }
-    {
-        &self.root
+        })
     }
 
     /// The tree of the module.
     pub fn tree(&self) -> Result<TreeOp, AllocError>
-        ensures { IfOk result (λ t. t ≡ self.now.tree) }
+        ensures { IfOk result (λ t. t ≡ self.now.module_of.tree) }
     {
         copy(&self.root)
     }
 
     /// The next free id.
     pub fn next_id(&self) -> u32
-        ensures { result ≡ self.now.next }
+        ensures { result ≡ self.now.module_of.next }
     {
         self.next
     }
 
     /// Whether an operation is in the module.
     pub fn in_tree(&self, op: OpId) -> bool
-        ensures { result ≡ has_id op self.now.tree }
+        ensures { result ≡ has_id op self.now.module_of.tree }
     {
         find(&self.root, op).is_some()
     }
 
-    /// What an operation has, beside the operations in its blocks, or none where it isn't in the module.
+    /// What an operation of the module or a held one has, beside the operations in its blocks, or none where
+    /// it is neither.
     pub fn node(&self, op: OpId) -> Option<Node<'_>>
-        ensures { result ≡ option_map node_of (the_first op self.now.tree) }
+        ensures { result ≡ option_map node_of (known op self.now) }
     {
         match find(&self.root, op) {
             None => None,
@@ -117,7 +118,7 @@ impl Store {
 
     /// Whether an operation may use a value (Language Reference, "Regions", on value scoping).
     pub fn visible(&self, ctx: &Context, op: OpId, value: Value) -> bool
-        ensures { IsTrue result ↔ Visible (isolated_in ctx.now) self.now.tree op value }
+        ensures { IsTrue result ↔ Visible (isolated_in ctx.now) self.now.module_of.tree op value }
     {
         visible(ctx, &self.root, op, &value)
     }
@@ -133,10 +134,10 @@ impl Store {
         place: u32,
         value: Value,
     ) -> Result<(), Refusal>
-        ensures ok { OnOk result (self.new ≡ record self.old { tree = with_operand op place value self.old.tree }) }
-        ensures refused { MatchResult result (λ _. set_operand_reason (isolated_in ctx.now) op place value self.old.tree ≡ None)
-            (λ e. IsRefusedFor {A = Unit {0}} (set_operand_reason (isolated_in ctx.now) op place value self.old.tree) (Err e)) }
-        ensures formed { IsWellFormed (isolated_in ctx.now) self.old → IsWellFormed (isolated_in ctx.now) self.new }
+        ensures ok { OnOk result (self.new ≡ after_operand op place value self.old) }
+        ensures refused { MatchResult result (λ _. set_operand_reason (isolated_in ctx.now) op place value self.old.module_of.tree ≡ None)
+            (λ e. IsRefusedFor {A = Unit {0}} (set_operand_reason (isolated_in ctx.now) op place value self.old.module_of.tree) (Err e)) }
+        ensures formed { IsWellFormed (isolated_in ctx.now) self.old.module_of → IsWellFormed (isolated_in ctx.now) self.new.module_of }
         ensures err { OnErr result (self.new ≡ self.old) }
     {
         if let Some(refusal) = self.operand_fault(ctx, op, place, &value) {
@@ -148,7 +149,7 @@ impl Store {
 
     /// Why a value can't become an operand of an operation.
     fn operand_fault(&self, ctx: &Context, op: OpId, place: u32, value: &Value) -> Option<Refusal>
-        ensures { result ≡ set_operand_reason (isolated_in ctx.now) op place value.now self.now.tree }
+        ensures { result ≡ set_operand_reason (isolated_in ctx.now) op place value.now self.now.module_of.tree }
     {
         let Some(count) = self.operand_count(op) else {
             return Some(Refusal::NoSuchOp);
@@ -161,7 +162,7 @@ impl Store {
 
     /// How many operands an operation has, if it is in the module.
     fn operand_count(&self, op: OpId) -> Option<usize>
-        ensures { result ≡ option_map (λ o. length (head o).operands) (the_first op self.now.tree) }
+        ensures { result ≡ option_map (λ o. length (head o).operands) (the_first op self.now.module_of.tree) }
     {
         let user = find(&self.root, op)?;
         Some(user.operands.len())
@@ -169,7 +170,7 @@ impl Store {
 
     /// Why an operation can't use a value.
     fn value_fault(&self, ctx: &Context, op: OpId, value: &Value) -> Option<Refusal>
-        ensures { result ≡ value_reason (isolated_in ctx.now) op value.now self.now.tree }
+        ensures { result ≡ value_reason (isolated_in ctx.now) op value.now self.now.module_of.tree }
     {
         if self.value_type(*value).is_none() {
             return Some(Refusal::NoSuchValue);
@@ -182,7 +183,7 @@ impl Store {
 
     /// The type of a value, or none where the module has no such value.
     pub fn value_type(&self, value: Value) -> Option<TypeId>
-        ensures { result ≡ type_of_value value self.now.tree }
+        ensures { result ≡ type_of_value value self.now.module_of.tree }
     {
         match value {
             Value::Result(op, place) => result_type(find(&self.root, op)?, place),

@@ -1,0 +1,16 @@
+-- What a store that keeps a tree, and nothing beside it, holds.
+use Rattle.std.specs.Prelude.{ℕ, List, [], ◌∷◌}
+use Rattle.std.specs.Ordering.{nat_cmp}
+use Rattle.std.specs.FinMap as map
+use Rattle.ir_tree.specs.Tree.{Op}
+use Rattle.ir_tree.specs.Ids.{ids}
+use Rattle.ir_store.specs.Stored.{Stored, Gone, none_gone}
+
+-- for each of these ids, that no key is gone
+abbrev pub nothing_gone : List ℕ → map.FinMap nat_cmp Gone
+nothing_gone [] = map.empty
+nothing_gone (x ∷ xs) = map.insert (nothing_gone xs) x none_gone
+
+-- a module that nothing was taken from, and no key of its operations
+abbrev pub stored_of : Op → ℕ → Stored
+stored_of t free = record { module_of = record { tree = t; next = free }; held = map.empty; gone = nothing_gone (ids t) }
