@@ -31,5 +31,5 @@ module _ {B : Type 0} (meaning : B → Listener) (c : Things) (m : Module) where
   kept_not_begun kind xs ys Memory n kept = begun_kept kind (λ b. b.stale ≡ true) xs ys (λ b h. inr h) n kept
   kept_not_begun kind xs ys _ n kept = absurd n
 
-  pub kept_grown : (d : Things) (xs : List B) → Holds c → Grows c d → AllKept meaning c m xs → AllKept meaning d m xs
-  kept_grown d xs holds g kept k b lt = elim (kept k b lt) [ inl now ↦ inl ((meaning (get_or xs k b)).grows c d m holds g now) | inr gone ↦ inr gone ]
+  pub kept_grown : (d : Things) (xs : List B) → Holds c → Holds d → Grows c d → AllKept meaning c m xs → AllKept meaning d m xs
+  kept_grown d xs holds also g kept k b lt = elim (kept k b lt) [ inl now ↦ inl ((meaning (get_or xs k b)).grows c d m holds also g now) | inr gone ↦ inr gone ]

@@ -13,16 +13,19 @@ use Rattle.ir_tree.specs.Tree.{Op, op, head}
 use Rattle.ir_tree.specs.Ids.{find}
 use Rattle.ir_tree.specs.Limits.{most_around}
 use Rattle.ir_tree.specs.Edits.{with_operand}
-use Rattle.ir_tree.specs.Meaning.{meaning, isolated_in, key_before, IsSoundIn}
+use Rattle.ir_tree.specs.Meaning.{meaning, isolated_in, dictionaries_rise, key_before, key_before_in, IsSoundIn}
 use Rattle.ir_tree.specs.WellFormed.{Module as Numbered, IsWellFormed}
-use Rattle.ir_tree.proofs.Mapped.{map_ids, map_find, map_operands_visible, map_depth, map_counts}
+use Rattle.ir_tree.proofs.Mapped.{map_every, map_ids, map_find, map_operands_visible, map_depth, map_counts}
 use Rattle.ir_tree.proofs.MappedEdits.{map_with_operand}
 use Rattle.ir_tree.proofs.SoundEdits.{operand_sound}
+use Rattle.ir_tree_laws.proofs.Contents.{map_dictionaries}
 use Rattle.ir_event.specs.declared.event.Event.{Event}
 use Rattle.ir_event.specs.declared.event.Event.TheVariants.{Put, Take, SetOperand, SetEntry, Shift}
 use Rattle.ir_event.specs.Modules.{Module, module_meaning}
 use Rattle.ir_tree_laws.specs.Changes.{operand_at, SetsEntry}
-use Rattle.ir_event.specs.Step.{Changes, EventIsOf, IsAttrOrNone, Step, IsOperandEvent, IsOperandStep}
+use Rattle.ir_store.specs.Stored.{Stored}
+use Rattle.ir_store.specs.Calls.{after_operand}
+use Rattle.ir_event.specs.Step.{Changes, EventIsOf, IsAttrOrNone, IsSorted, Step, IsOperandEvent, IsOperandStep}
 use Rattle.ir_event.proofs.Operands.{undone, set_there}
 
 -- what a well-formed module stands for is well-formed
@@ -42,6 +45,11 @@ formed_meaning c m w =
       };
     }
 
+-- and the dictionaries of one that is of the context are sorted there
+pub sorted_meaning : (c : Things) (m : Numbered) → IsSoundIn c m.tree → IsSorted (module_meaning c m)
+sorted_meaning c m s =
+    map_every (name_term c) (type_term c) (attr_term c) (dictionaries_rise (key_before_in c)) (dictionaries_rise key_before) (map_dictionaries (name_term c) (type_term c) (attr_term c) key_before) m.tree ∙ s.sorted
+
 meaning_operands : (c : Things) (o : Op) → (head (meaning c o)).operands ≡ (head o).operands
 meaning_operands c (op h rs) = refl
 
@@ -54,12 +62,14 @@ meaning_operand_at c x k t = ap (option_and_then (λ o. slice_get (head o).opera
 
 -- setting an operand is a step
 pub operand_steps : (c : Things) (x k : ℕ) (old new : Value) (m : Numbered) → IsWellFormed (isolated_in c) m → IsWellFormed (isolated_in c) (record m { tree = with_operand x k new m.tree })
-    → operand_at x k m.tree ≡ Some old → Step c (SetOperand x k old new) (module_meaning c m) (module_meaning c (record m { tree = with_operand x k new m.tree }))
-operand_steps c x k old new m w v e =
+    → IsSoundIn c m.tree → operand_at x k m.tree ≡ Some old → Step c (SetOperand x k old new) (module_meaning c m) (module_meaning c (record m { tree = with_operand x k new m.tree }))
+operand_steps c x k old new m w v sound e =
     let edited : (a : Value) (t : Op) → with_operand x k a (meaning c t) ≡ meaning c (with_operand x k a t) = λ a t. map_with_operand (name_term c) (type_term c) (attr_term c) x k a t in
     record {
       before = formed_meaning c m w;
       after = formed_meaning c (record m { tree = with_operand x k new m.tree }) v;
+      sorted_before = sorted_meaning c m sound;
+      sorted_after = sorted_meaning c (record m { tree = with_operand x k new m.tree }) (operand_sound c x k new m.tree sound);
       numbers = tt;
       changes = record {
         was = meaning_operand_at c x k m.tree ∙ e;
@@ -104,17 +114,19 @@ numbers_stay c d (SetEntry x part key old new) g is = (grown_name c d key g is.0
 numbers_stay c d (Shift x old new) g is = tt
 
 pub step_stays : (c d : Things) (e : Event) (m n : Module) → Holds c → Grows c d → Step c e m n → Step d e m n
-step_stays c d e m n holds g s = record { before = s.before; after = s.after; numbers = numbers_stay c d e g s.numbers; changes = changes_stay c d e m n holds g s.numbers s.changes }
+step_stays c d e m n holds g s = record { before = s.before; after = s.after; sorted_before = s.sorted_before; sorted_after = s.sorted_after; numbers = numbers_stay c d e g s.numbers; changes = changes_stay c d e m n holds g s.numbers s.changes }
 
 -- an operand that was set, or was not
-pub set_sound : (c : Things) (x k : ℕ) (v : Value) (m n : Numbered) (r : Result Event Refusal) → OnOk r (n ≡ record m { tree = with_operand x k v m.tree }) → OnErr r (n ≡ m) → IsSoundIn c m.tree → IsSoundIn c n.tree
-set_sound c x k v m n (Ok e) is err s = subst (λ (p : Numbered). IsSoundIn c p.tree) (sym is) (operand_sound c x k v m.tree s)
-set_sound c x k v m n (Err e) is err s = subst (λ (p : Numbered). IsSoundIn c p.tree) (sym err) s
+pub set_sound : (c : Things) (x k : ℕ) (v : Value) (m n : Stored) (r : Result Event Refusal) → OnOk r (n ≡ after_operand x k v m) → OnErr r (n ≡ m) → IsSoundIn c m.module_of.tree → IsSoundIn c n.module_of.tree
+set_sound c x k v m n (Ok e) is err s = subst (λ (p : Stored). IsSoundIn c p.module_of.tree) (sym is) (operand_sound c x k v m.module_of.tree s)
+set_sound c x k v m n (Err e) is err s = subst (λ (p : Stored). IsSoundIn c p.module_of.tree) (sym err) s
 
-pub set_steps : (c : Things) (x k : ℕ) (v : Value) (m n : Numbered) (r : Result Event Refusal) → OnOk r (n ≡ record m { tree = with_operand x k v m.tree }) → IfOk r (λ e. IsOperandEvent x k v m.tree e)
-    → IsWellFormed (isolated_in c) m → IsWellFormed (isolated_in c) n → IfOk r (λ e. IsOperandStep x k v e c (module_meaning c m) (module_meaning c n))
-set_steps c x k v m n (Ok e) is event w u =
-    let after : Step c (SetOperand x k event.0 v) (module_meaning c m) (module_meaning c (record m { tree = with_operand x k v m.tree })) = operand_steps c x k event.0 v m w (subst (IsWellFormed (isolated_in c)) is u) event.2 in
-    let there : Step c (SetOperand x k event.0 v) (module_meaning c m) (module_meaning c n) = subst (λ (p : Numbered). Step c (SetOperand x k event.0 v) (module_meaning c m) (module_meaning c p)) (sym is) after in
-    (event.0, event.1, subst (λ (f : Event). Step c f (module_meaning c m) (module_meaning c n)) (sym event.1) there)
-set_steps c x k v m n (Err e) is event w u = tt
+pub set_steps : (c : Things) (x k : ℕ) (v : Value) (m n : Stored) (r : Result Event Refusal) → OnOk r (n ≡ after_operand x k v m) → IfOk r (λ e. IsOperandEvent x k v m.module_of.tree e)
+    → IsWellFormed (isolated_in c) m.module_of → IsWellFormed (isolated_in c) n.module_of → IsSoundIn c m.module_of.tree → IfOk r (λ e. IsOperandStep x k v e c (module_meaning c m.module_of) (module_meaning c n.module_of))
+set_steps c x k v m n (Ok e) is event w u sound =
+    let there : Numbered = m.module_of in
+    let after : Step c (SetOperand x k event.0 v) (module_meaning c there) (module_meaning c (record there { tree = with_operand x k v there.tree })) =
+    operand_steps c x k event.0 v there w (subst (λ (p : Stored). IsWellFormed (isolated_in c) p.module_of) is u) sound event.2 in
+    let done : Step c (SetOperand x k event.0 v) (module_meaning c there) (module_meaning c n.module_of) = subst (λ (p : Stored). Step c (SetOperand x k event.0 v) (module_meaning c there) (module_meaning c p.module_of)) (sym is) after in
+    (event.0, event.1, subst (λ (f : Event). Step c f (module_meaning c there) (module_meaning c n.module_of)) (sym event.1) done)
+set_steps c x k v m n (Err e) is event w u sound = tt

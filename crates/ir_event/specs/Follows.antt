@@ -1,13 +1,13 @@
 -- Listeners that follow a world from one module to another.
-use Rattle.std.specs.Prelude.{◌≡◌, ◌<◌, List, [], ◌∷◌, ◌++◌, length, Option, Some, None, refl}
+use Rattle.std.specs.Prelude.{◌≡◌, ℕ, ◌<◌, List, [], ◌∷◌, ◌++◌, length, Option, Some, None, refl}
 use Rattle.std.specs.List.{AllZip}
 use Rattle.std.proofs.Common.{inl, inr, sym, ◌∙◌, ap, append_assoc, append-nil, arith}
 use Rattle.std.proofs.lemmas.List.Elements.{length_all_zip, AllZip-get_or}
 use Rattle.ir_types.specs.Things.{Things}
 use Rattle.ir_event.specs.declared.event.Event.{Event}
-use Rattle.ir_event.specs.Modules.{Module}
+use Rattle.ir_event.specs.Modules.{Module, Node}
 use Rattle.ir_event.specs.Step.{Step}
-use Rattle.ir_event.specs.Listener.{Listener, Told, Followed, GrownBy}
+use Rattle.ir_event.specs.Listener.{Listener, ShowsTaken, Told, Followed, GrownBy}
 use Rattle.ir_event.specs.Panels.{AllTold, AllFollowed, AllKept, kinds_of}
 
 -- ---- lists that are related place by place
@@ -42,19 +42,19 @@ grown_more es fs (Some xs) b c h k = let k2 = rw h at k in k2 ∙ ap Some (appen
 
 pub follow_none : (c : Things) (m : Module) (a : Listener) → Followed [] c m c m a a
 follow_none c m a = record {
-  same = record { kind = refl; analysis = λ t. refl };
+  same = record { kind = refl; analysis = λ t. refl; most = λ e m n. refl };
   agrees = λ h. inl h;
   stale = λ h. h;
   heard = inl (grown_none a.heard);
 }
 
-pub follow_told : (e : Event) (c : Things) (m n : Module) (a b : Listener) → Step c e m n → Told e c n a b → Followed (e ∷ []) c m c n a b
-follow_told e c m n a b step told = record { same = told.same; agrees = told.agrees m step; stale = told.stale; heard = told.heard }
+pub follow_told : (e : Event) (c : Things) (m n : Module) (shown : ℕ → Option Node) (a b : Listener) → Step c e m n → ShowsTaken e m shown → Told e c n shown a b → Followed (e ∷ []) c m c n a b
+follow_told e c m n shown a b step shows told = record { same = told.same; agrees = told.agrees m step shows; stale = told.stale; heard = told.heard }
 
 pub follow_more : (es fs : List Event) (c d f : Things) (m n p : Module) (x y z : Listener) →
     Followed es c m d n x y → Followed fs d n f p y z → Followed (es ++ fs) c m f p x z
 follow_more es fs c d f m n p x y z h k = record {
-  same = record { kind = k.same.kind ∙ h.same.kind; analysis = λ t. k.same.analysis t ∙ h.same.analysis t };
+  same = record { kind = k.same.kind ∙ h.same.kind; analysis = λ t. k.same.analysis t ∙ h.same.analysis t; most = λ e m n. k.same.most e m n ∙ h.same.most e m n };
   agrees = λ held. elim (h.agrees held) [ inl now ↦ k.agrees now | inr gone ↦ inr (k.stale gone) ];
   stale = λ gone. k.stale (h.stale gone);
   heard = elim h.heard [ inr gone ↦ inr (k.stale gone) | inl grown ↦ elim k.heard [ inr gone ↦ inr gone | inl more ↦ inl (grown_more es fs x.heard y.heard z.heard grown more) ] ];
@@ -66,8 +66,8 @@ module _ {B : Type 0} (meaning : B → Listener) where
   pub all_none : (c : Things) (m : Module) (xs : List B) → AllFollowed meaning [] c m c m xs xs
   all_none c m xs = zip_self _ (λ b. follow_none c m (meaning b)) xs
 
-  pub all_told : (e : Event) (c : Things) (m n : Module) (xs ys : List B) → Step c e m n → AllTold meaning e c n xs ys → AllFollowed meaning (e ∷ []) c m c n xs ys
-  all_told e c m n xs ys step h = zip_map _ _ (λ a b. follow_told e c m n (meaning a) (meaning b) step) xs ys h
+  pub all_told : (e : Event) (c : Things) (m n : Module) (shown : ℕ → Option Node) (xs ys : List B) → Step c e m n → ShowsTaken e m shown → AllTold meaning e c n shown xs ys → AllFollowed meaning (e ∷ []) c m c n xs ys
+  all_told e c m n shown xs ys step shows h = zip_map _ _ (λ a b. follow_told e c m n shown (meaning a) (meaning b) step shows) xs ys h
 
   pub all_more : (es fs : List Event) (c d f : Things) (m n p : Module) (xs ys zs : List B) →
       AllFollowed meaning es c m d n xs ys → AllFollowed meaning fs d n f p ys zs → AllFollowed meaning (es ++ fs) c m f p xs zs

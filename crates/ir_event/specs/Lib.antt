@@ -2,6 +2,7 @@ pub mod Modules
 pub mod Step
 pub mod Rows
 pub mod Listener
+pub mod Bounds
 pub mod Panels
 pub mod Follows
 pub mod Looks

@@ -1,10 +1,13 @@
 -- What a listener means.
-use Rattle.std.specs.Prelude.{◌≡◌, ℕ, List, [], ◌∷◌, ◌++◌, Option, Some, None, Bool, true, false, ◌⊎◌}
+use Rattle.std.specs.Prelude.{◌≡◌, ℕ, List, [], ◌∷◌, ◌++◌, Option, Some, None, Bool, true, false, ◌⊎◌, option_map}
 use Rattle.ir_types.specs.Things.{Things, Grows}
 use Rattle.ir_types.specs.Sound.{Holds}
 use Rattle.ir_tree.specs.Meaning.{Operation}
+use Rattle.ir_tree.specs.Ids.{find}
+use Rattle.ir_store.specs.Nodes.{node_of}
 use Rattle.ir_event.specs.declared.event.Event.{Event}
-use Rattle.ir_event.specs.Modules.{Module}
+use Rattle.ir_event.specs.declared.event.Event.TheVariants.{Put, Take, SetOperand, SetEntry, Shift}
+use Rattle.ir_event.specs.Modules.{Module, Node}
 use Rattle.ir_event.specs.Rows.{RowTerm}
 use Rattle.ir_event.specs.Step.{Step}
 
@@ -20,8 +23,10 @@ pub record Listener : Type 1 where
   pub stale : Bool
   -- the events that it stores, oldest first, if it stores them
   pub heard : Option (List Event)
+  -- how often it may look where it is told of an event that leads from one module to another
+  pub most : Event → Module → Module → ℕ
   pub fresh : (c : Things) (m : Module) → agrees c m → stale ≡ false
-  pub grows : (c d : Things) (m : Module) → Holds c → Grows c d → agrees c m → agrees d m
+  pub grows : (c d : Things) (m : Module) → Holds c → Holds d → Grows c d → agrees c m → agrees d m
 
 -- a list that is stored has the events at its end
 abbrev pub GrownBy : List Event → Option (List Event) → Option (List Event) → Type 0
@@ -32,11 +37,20 @@ GrownBy es (Some old) new = new ≡ Some (old ++ es)
 pub record SameAnalysis (a b : Listener) : Type 0 where
   pub kind : b.kind ≡ a.kind
   pub analysis : (t : Operation) → b.analysis t ≡ a.analysis t
+  pub most : (e : Event) (m n : Module) → b.most e m n ≡ a.most e m n
 
--- a was told of the event while the world showed n, the module after it, and is now b
-pub record Told (e : Event) (c : Things) (n : Module) (a b : Listener) : Type 0 where
+-- after a Take the taken operation is shown as it was in m, the module before
+abbrev pub ShowsTaken : Event → Module → (ℕ → Option Node) → Type 0
+ShowsTaken (Put x place fresh) m shown = Unit {0}
+ShowsTaken (Take x place fresh) m shown = shown x ≡ option_map node_of (find x m.tree)
+ShowsTaken (SetOperand x k old new) m shown = Unit {0}
+ShowsTaken (SetEntry x part key old new) m shown = Unit {0}
+ShowsTaken (Shift x old new) m shown = Unit {0}
+
+-- a was told of the event while the world had n, the module after it, and showed these operations; it is now b
+pub record Told (e : Event) (c : Things) (n : Module) (shown : ℕ → Option Node) (a b : Listener) : Type 0 where
   pub same : SameAnalysis a b
-  pub agrees : (m : Module) → Step c e m n → a.agrees c m → b.agrees c n ⊎ (b.stale ≡ true)
+  pub agrees : (m : Module) → Step c e m n → ShowsTaken e m shown → a.agrees c m → b.agrees c n ⊎ (b.stale ≡ true)
   pub stale : a.stale ≡ true → b.stale ≡ true
   pub heard : GrownBy (e ∷ []) a.heard b.heard ⊎ (b.stale ≡ true)
 

@@ -1,9 +1,11 @@
 -- Modules of contents: what the module of a world stands for.
-use Rattle.std.specs.Prelude.{ℕ, List}
+use Rattle.std.specs.Prelude.{ℕ, List, Option, option_map}
 use Rattle.ir_types.specs.Things.{Things}
 use Rattle.ir_types.specs.Terms.{TypeTerm, AttrTerm}
 use Rattle.ir_tree.specs.WellFormed.{ModuleOf, Module as Numbered}
 use Rattle.ir_tree.specs.Meaning.{meaning}
+use Rattle.ir_store.specs.Nodes.{NodeOf, node_of}
+use Rattle.ir_store.specs.Stored.{known}
 use Rattle.ir_event.specs.declared.world.World.{World}
 
 -- a module whose names, types and attributes are contents
@@ -19,4 +21,12 @@ abbrev pub things_in : World → Things
 things_in w = w.ctx
 
 abbrev pub module_in : World → Module
-module_in w = module_meaning w.ctx w.store
+module_in w = module_meaning w.ctx w.store.module_of
+
+-- what an operation has, in contents
+abbrev pub Node : Type 0
+Node = NodeOf (List ℕ) TypeTerm AttrTerm
+
+-- what a world shows of operation x, where it is one of the module or held
+abbrev pub shown_in : World → ℕ → Option Node
+shown_in w x = option_map (λ o. node_of (meaning w.ctx o)) (known x w.store)

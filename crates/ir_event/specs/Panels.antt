@@ -1,11 +1,11 @@
 -- Lists of listeners.
-use Rattle.std.specs.Prelude.{◌≡◌, ℕ, List, [], ◌∷◌, ◌++◌, Bool, true, false, ◌==◌, ◌⊎◌, Some, is_some, position, remove, slice_get, slice_set, map, All}
+use Rattle.std.specs.Prelude.{◌≡◌, ℕ, List, [], ◌∷◌, ◌++◌, Bool, true, false, ◌==◌, ◌⊎◌, Option, Some, is_some, position, remove, slice_get, slice_set, map, All}
 use Rattle.std.specs.List.{AllZip}
 use Rattle.ir_types.specs.Things.{Things}
 use Rattle.ir_types.specs.declared.refusal.Refusal.{Refusal}
 use Rattle.ir_types.specs.declared.refusal.Refusal.TheVariants.{KindTaken, NoSuchKind, Memory}
 use Rattle.ir_event.specs.declared.event.Event.{Event}
-use Rattle.ir_event.specs.Modules.{Module}
+use Rattle.ir_event.specs.Modules.{Module, Node}
 use Rattle.ir_event.specs.Listener.{Listener, SameAnalysis, Told, Followed}
 
 -- `B` is a type of listeners, as a box, and `meaning` what each of them means
@@ -30,9 +30,10 @@ module _ {B : Type 0} (meaning : B → Listener) where
   abbrev pub AllKept : Things → Module → List B → Type 0
   AllKept c m = All (λ b. (meaning b).agrees c m ⊎ ((meaning b).stale ≡ true))
 
-  -- each listener was told of the event while the world showed n; none was added, dropped or moved
-  abbrev pub AllTold : Event → Things → Module → List B → List B → Type 0
-  AllTold e c n = AllZip (λ a b. Told e c n (meaning a) (meaning b))
+  -- each listener was told of the event while the world had n and showed these operations; none was added, dropped
+  -- or moved
+  abbrev pub AllTold : Event → Things → Module → (ℕ → Option Node) → List B → List B → Type 0
+  AllTold e c n shown = AllZip (λ a b. Told e c n shown (meaning a) (meaning b))
 
   -- each listener was told of these events while the world went from c and m to d and n; none was added, dropped or moved
   abbrev pub AllFollowed : List Event → Things → Module → Things → Module → List B → List B → Type 0

@@ -1,11 +1,12 @@
 -- What one event does to a module, and which event undoes it.
-use Rattle.std.specs.Prelude.{◌≡◌, ℕ, List, [], ◌∷◌, Option, Some, None, option_map}
+use Rattle.std.specs.Prelude.{◌≡◌, ℕ, List, [], ◌∷◌, IsTrue, Option, Some, None, option_map}
 use Rattle.ir_types.specs.Things.{Things, IsName, IsAttr}
 use Rattle.ir_types.specs.Terms.{name_term, attr_term}
 use Rattle.ir_types.specs.Words.{is_isolated, is_table}
 use Rattle.ir_tree.specs.declared.value.Value.{Value}
 use Rattle.ir_tree.specs.Tree.{OpOf}
-use Rattle.ir_tree.specs.Meaning.{key_before}
+use Rattle.ir_tree.specs.Limits.{every}
+use Rattle.ir_tree.specs.Meaning.{dictionaries_rise, key_before}
 use Rattle.ir_tree.specs.WellFormed.{IsWellFormed}
 use Rattle.ir_tree_laws.specs.Changes.{operand_at, Takes, SetsOperand, SetsEntry, Shifts}
 use Rattle.ir_event.specs.declared.event.Event.{Event}
@@ -33,10 +34,16 @@ EventIsOf c (SetOperand x k old new) = Unit {0}
 EventIsOf c (SetEntry x part key old new) = IsName c key × (IsAttrOrNone c old × IsAttrOrNone c new)
 EventIsOf c (Shift x old new) = Unit {0}
 
--- the event leads from one well-formed module to another
+-- the dictionaries of a module are sorted by their keys' bytes, each key once
+abbrev pub IsSorted : Module → Type 0
+IsSorted m = IsTrue (every (dictionaries_rise key_before) m.tree)
+
+-- the event leads from one module to another, which are well-formed and have sorted dictionaries
 pub record Step (c : Things) (e : Event) (m n : Module) : Type 0 where
   pub before : IsWellFormed is_isolated m
   pub after : IsWellFormed is_isolated n
+  pub sorted_before : IsSorted m
+  pub sorted_after : IsSorted n
   pub numbers : EventIsOf c e
   pub changes : Changes c e m n
 

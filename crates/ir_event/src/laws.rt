@@ -1,18 +1,19 @@
 //! Laws of events. Each is a function that does nothing: its contract is the law.
-ghost use Rattle.std.specs.Prelude.{◌≡◌, ◌↔◌, ℕ, List, [], ◌∷◌, ◌++◌, Some};
+ghost use Rattle.std.specs.Prelude.{◌≡◌, ◌↔◌, ℕ, List, [], ◌∷◌, ◌++◌, Option, Some};
 ghost use Rattle.ir_types.specs.Things.{Things, Grows};
 ghost use Rattle.ir_types.specs.Sound.{Holds};
 ghost use Rattle.ir_types.specs.Words.{is_isolated};
 ghost use Rattle.ir_types.specs.declared.refusal.Refusal.{Refusal as Reason};
 ghost use Rattle.ir_tree.specs.declared.value.Value.{Value as TreeValue};
 ghost use Rattle.ir_tree.specs.Edits.{with_operand};
-ghost use Rattle.ir_tree.specs.Meaning.{isolated_in};
+ghost use Rattle.ir_tree.specs.Meaning.{IsSoundIn, isolated_in};
 ghost use Rattle.ir_tree.specs.WellFormed.{Module as Numbered, IsWellFormed};
 ghost use Rattle.ir_event.specs.declared.event.Event.{Event as Edit};
 ghost use Rattle.ir_event.specs.declared.event.Event.TheVariants.{SetOperand};
-ghost use Rattle.ir_event.specs.Modules.{Module, module_meaning};
+ghost use Rattle.ir_event.specs.Modules.{Module, Node, module_meaning};
+ghost use Rattle.ir_event.specs.Listener.{ShowsTaken};
 ghost use Rattle.ir_tree_laws.specs.Changes.{operand_at};
-ghost use Rattle.ir_event.specs.Step.{Step, inverse_of};
+ghost use Rattle.ir_event.specs.Step.{IsSorted, Step, inverse_of};
 ghost use Rattle.ir_event.specs.Panels.{AllTold, AllFollowed, AllKept, AttachedLast, Detached, BegunAgain, NotBegunAgain, kinds_of};
 
 use crate::analysis::Analysis;
@@ -28,21 +29,22 @@ pub fn steps_stay()
     ensures { (c d : Things) (e : Edit) (m n : Module) → Holds c → Grows c d → Step c e m n → Step d e m n }
 {}
 
-/// What a well-formed module stands for is well-formed, and setting an operand of a module is a step between
-/// what it stands for before and after.
+/// What a well-formed module stands for is well-formed, and has sorted dictionaries where the module is of the
+/// context; and setting an operand of a module is a step between what it stands for before and after.
 pub fn operands_are_set_by_steps()
     ensures formed { (c : Things) (m : Numbered) → IsWellFormed (isolated_in c) m → IsWellFormed is_isolated (module_meaning c m) }
-    ensures step { (c : Things) (x k : ℕ) (old new : TreeValue) (m : Numbered) → IsWellFormed (isolated_in c) m → IsWellFormed (isolated_in c) (record m { tree = with_operand x k new m.tree })
+    ensures sorted { (c : Things) (m : Numbered) → IsSoundIn c m.tree → IsSorted (module_meaning c m) }
+    ensures step { (c : Things) (x k : ℕ) (old new : TreeValue) (m : Numbered) → IsWellFormed (isolated_in c) m → IsWellFormed (isolated_in c) (record m { tree = with_operand x k new m.tree }) → IsSoundIn c m.tree
         → operand_at x k m.tree ≡ Some old → Step c (SetOperand x k old new) (module_meaning c m) (module_meaning c (record m { tree = with_operand x k new m.tree })) }
 {}
 
 /// Where listeners each agree or are stale and are all told of an event that leads from one module to another,
-/// each agrees with the other or is stale, and the kinds are the same. Being told of one event after another
+/// while a taken operation is shown as it was, each agrees with the other or is stale, and the kinds are the same. Being told of one event after another
 /// is following them.
 pub fn told_listeners_follow<L: Analysis>()
-    ensures kept { (e : Edit) (c : Things) (m n : Module) (xs ys : List L) → Step c e m n → AllTold L.meaning e c n xs ys → AllKept L.meaning c m xs → AllKept L.meaning c n ys }
-    ensures kinds { (e : Edit) (c : Things) (m n : Module) (xs ys : List L) → Step c e m n → AllTold L.meaning e c n xs ys → kinds_of L.meaning ys ≡ kinds_of L.meaning xs }
-    ensures one { (e : Edit) (c : Things) (m n : Module) (xs ys : List L) → Step c e m n → AllTold L.meaning e c n xs ys → AllFollowed L.meaning (e ∷ []) c m c n xs ys }
+    ensures kept { (e : Edit) (c : Things) (m n : Module) (shown : ℕ → Option Node) (xs ys : List L) → Step c e m n → ShowsTaken e m shown → AllTold L.meaning e c n shown xs ys → AllKept L.meaning c m xs → AllKept L.meaning c n ys }
+    ensures kinds { (e : Edit) (c : Things) (m n : Module) (shown : ℕ → Option Node) (xs ys : List L) → Step c e m n → ShowsTaken e m shown → AllTold L.meaning e c n shown xs ys → kinds_of L.meaning ys ≡ kinds_of L.meaning xs }
+    ensures one { (e : Edit) (c : Things) (m n : Module) (shown : ℕ → Option Node) (xs ys : List L) → Step c e m n → ShowsTaken e m shown → AllTold L.meaning e c n shown xs ys → AllFollowed L.meaning (e ∷ []) c m c n xs ys }
     ensures more { (es fs : List Edit) (c d f : Things) (m n p : Module) (xs ys zs : List L) → AllFollowed L.meaning es c m d n xs ys → AllFollowed L.meaning fs d n f p ys zs → AllFollowed L.meaning (es ++ fs) c m f p xs zs }
     ensures followed { (es : List Edit) (c d : Things) (m n : Module) (xs ys : List L) → AllFollowed L.meaning es c m d n xs ys → AllKept L.meaning c m xs → AllKept L.meaning d n ys }
 {}
@@ -54,5 +56,5 @@ pub fn kept_listeners_stay_kept<L: Analysis>()
     ensures detached { (kind : ℕ) (c : Things) (m : Module) (xs ys : List L) → Detached L.meaning kind xs ys → AllKept L.meaning c m xs → AllKept L.meaning c m ys }
     ensures begun { (kind : ℕ) (c : Things) (m : Module) (xs ys : List L) → BegunAgain L.meaning kind (λ b. b.agrees c m) xs ys → AllKept L.meaning c m xs → AllKept L.meaning c m ys }
     ensures not_begun { (kind : ℕ) (c : Things) (m : Module) (xs ys : List L) (e : Reason) → NotBegunAgain L.meaning kind xs ys e → AllKept L.meaning c m xs → AllKept L.meaning c m ys }
-    ensures grown { (c d : Things) (m : Module) (xs : List L) → Holds c → Grows c d → AllKept L.meaning c m xs → AllKept L.meaning d m xs }
+    ensures grown { (c d : Things) (m : Module) (xs : List L) → Holds c → Holds d → Grows c d → AllKept L.meaning c m xs → AllKept L.meaning d m xs }
 {}

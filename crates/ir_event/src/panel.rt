@@ -2,7 +2,7 @@
 ghost use Rattle.std.specs.Prelude.{◌≡◌, [], OnOk, OnErr, IfErr, true, false, position, MatchResult, IsErrOf};
 ghost use Rattle.ir_types.specs.Things.{Things};
 ghost use Rattle.ir_types.specs.declared.refusal.Refusal.TheVariants.{NoSuchKind, Stale, Memory as NoMemory};
-ghost use Rattle.ir_event.specs.Modules.{Module, things_in, module_in};
+ghost use Rattle.ir_event.specs.Modules.{Module, things_in, module_in, shown_in};
 ghost use Rattle.ir_event.specs.Rows.{Shows};
 ghost use Rattle.ir_event.specs.Panels.{has_kind, is_kind, AllTold, AttachedLast, HandedBack, Detached, BegunAgain, NotBegunAgain, IsListener};
 
@@ -30,7 +30,7 @@ impl<L> Model for Panel<L> {
 }
 
 fn tell_all<L: Analysis>(listeners: &mut [L], world: &World, event: &Event)
-    ensures { AllTold L.meaning event.now (things_in world.now) (module_in world.now) listeners.old listeners.new }
+    ensures { AllTold L.meaning event.now (things_in world.now) (module_in world.now) (shown_in world.now) listeners.old listeners.new }
 {
     for listener in listeners {
         let _ = listener.told(View::new(world), *event);
@@ -138,7 +138,7 @@ impl<L: Analysis> Panel<L> {
 
     /// Tells every listener of an event that was just made, also past a stale one.
     pub fn tell(&mut self, world: &World, event: Event)
-        ensures { AllTold L.meaning event (things_in world.now) (module_in world.now) self.old self.new }
+        ensures { AllTold L.meaning event (things_in world.now) (module_in world.now) (shown_in world.now) self.old self.new }
     {
         tell_all(&mut self.listeners, world, &event);
     }

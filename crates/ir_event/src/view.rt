@@ -1,7 +1,8 @@
 //! What a listener is shown when it is told of an event.
 ghost use Rattle.std.specs.Prelude.{◌≡◌, option_map};
-ghost use Rattle.ir_tree.specs.Ids.{find, has_id};
+ghost use Rattle.ir_tree.specs.Ids.{has_id};
 ghost use Rattle.ir_store.specs.Nodes.{node_of};
+ghost use Rattle.ir_store.specs.Stored.{known};
 ghost use Rattle.ir_tree_laws.specs.Values.{type_of_value};
 ghost use Rattle.ir_event.specs.Looks.{one_more};
 
@@ -35,7 +36,7 @@ impl<'a> View<'a> {
     }
 
     /// The context of the module's names, types and attributes.
-    pub fn context(&self) -> &Context
+    pub fn context(&self) -> &'a Context
         ensures { result.now ≡ self.now.world.now.ctx }
     {
         &self.world.ctx
@@ -43,7 +44,7 @@ impl<'a> View<'a> {
 
     /// Whether an operation is in the module.
     pub fn in_tree(&mut self, op: OpId) -> bool
-        ensures answer { result ≡ has_id op self.old.world.now.store.tree }
+        ensures answer { result ≡ has_id op self.old.world.now.store.module_of.tree }
         ensures looks { self.new.looks ≡ one_more self.old.looks }
         ensures world { self.new.world.now ≡ self.old.world.now }
     {
@@ -51,9 +52,10 @@ impl<'a> View<'a> {
         self.world.store.in_tree(op)
     }
 
-    /// What an operation has, beside the operations in its blocks, or none where it isn't in the module.
+    /// What an operation of the module or a held one has, beside the operations in its blocks, or none where
+    /// it is neither.
     pub fn node(&mut self, op: OpId) -> Option<Node<'a>>
-        ensures answer { result ≡ option_map node_of (find op self.old.world.now.store.tree) }
+        ensures answer { result ≡ option_map node_of (known op self.old.world.now.store) }
         ensures looks { self.new.looks ≡ one_more self.old.looks }
         ensures world { self.new.world.now ≡ self.old.world.now }
     {
@@ -63,7 +65,7 @@ impl<'a> View<'a> {
 
     /// The type of a value, or none where the module has no such value.
     pub fn value_type(&mut self, value: Value) -> Option<TypeId>
-        ensures answer { result ≡ type_of_value value self.old.world.now.store.tree }
+        ensures answer { result ≡ type_of_value value self.old.world.now.store.module_of.tree }
         ensures looks { self.new.looks ≡ one_more self.old.looks }
         ensures world { self.new.world.now ≡ self.old.world.now }
     {

@@ -11,6 +11,6 @@ use ir_types::context::Context;
 pub struct World {
     pub ctx: Context,
     pub store: Store,
-    pub ghost sound: { IsSoundIn ctx store.tree } by { sound_prop ctx store.tree },
-    pub ghost formed: { IsWellFormed (isolated_in ctx) store } by { formed_prop (isolated_in ctx) store },
+    pub ghost sound: { IsSoundIn ctx store.module_of.tree } by { sound_prop ctx store.module_of.tree },
+    pub ghost formed: { IsWellFormed (isolated_in ctx) store.module_of } by { formed_prop (isolated_in ctx) store.module_of },
 }

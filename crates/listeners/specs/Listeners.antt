@@ -1,5 +1,6 @@
 -- What each listener means.
-use Rattle.std.specs.Prelude.{◌≡◌, false, None}
+use Rattle.std.specs.Prelude.{◌≡◌, ◌+◌, false, None}
+use Rattle.ir_event.specs.Bounds.{operands_of}
 use Rattle.ir_event.specs.Listener.{Listener}
 use Rattle.listeners.specs.declared.uses.Uses.{Uses}
 use Rattle.listeners.specs.Uses.{uses_of, uses_rows}
@@ -14,6 +15,7 @@ uses_listener s = record {
   agrees = λ c m. (s.stale ≡ false) × (kept_keys s.kept ≡ keys_of (uses_of m.tree));
   stale = s.stale;
   heard = None;
+  most = λ e m n. 2 + operands_of e m n;
   fresh = λ c m h. h.0;
-  grows = λ c d m holds g h. h;
+  grows = λ c d m holds also g h. h;
 }

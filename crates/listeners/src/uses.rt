@@ -1,5 +1,6 @@
 //! The listener that keeps the uses of values.
-ghost use Rattle.std.specs.Prelude.{◌≡◌, true};
+ghost use Rattle.std.specs.Prelude.{◌≡◌, true, IfOk};
+ghost use Rattle.listeners.specs.Uses.{uses_in};
 
 use crate::collect::collect;
 use crate::kept::Kept;
@@ -10,7 +11,8 @@ use ir_event::event::Event;
 use ir_event::row::{Kind, Memory, ReportFault, Row};
 use ir_event::view::View;
 use ir_event::world::World;
-use std::alloc::Global;
+use ir_store::store::Store;
+use std::alloc::{AllocError, Global};
 
 /// The analysis `uses`: each use of each value, in order.
 ///
@@ -37,6 +39,14 @@ impl Uses {
     }
 }
 
+/// The uses of a store's module.
+fn listed(alloc: Global, store: &Store) -> Result<Listing, AllocError>
+    ensures { IfOk result (λ uses. uses ≡ uses_in store.now.module_of.tree) }
+{
+    let tree = store.tree()?;
+    collect(alloc, &tree)
+}
+
 impl Analysis for Uses {
     ghost use Rattle.listeners.specs.Listeners.{uses_listener};
 
@@ -49,7 +59,7 @@ impl Analysis for Uses {
     fn begin(&mut self, world: &World) -> Result<(), Memory> {
         // What was kept goes first, so that there is room for what is listed now.
         self.kept = Kept::Listed(Listing::new(self.alloc));
-        match collect(self.alloc, world.store.root()) {
+        match listed(self.alloc, &world.store) {
             Ok(uses) => {
                 self.kept = Kept::Listed(uses);
                 self.stale = false;

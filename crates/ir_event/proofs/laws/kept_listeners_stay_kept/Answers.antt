@@ -14,4 +14,4 @@ pub returns-clause-not_begun : goal.returns-clause-not_begun
 returns-clause-not_begun g _ kind c m xs ys e n kept = kept_not_begun g.L.Analysis.meaning c m kind xs ys e n kept
 
 pub returns-clause-grown : goal.returns-clause-grown
-returns-clause-grown g _ c d m xs holds grows kept = kept_grown g.L.Analysis.meaning c m d xs holds grows kept
+returns-clause-grown g _ c d m xs holds also grows kept = kept_grown g.L.Analysis.meaning c m d xs holds also grows kept

@@ -10,4 +10,4 @@ invariant_of-self c = record {
 pub returns-clause-step : goal.returns-clause-step
 returns-clause-step c =
     set_steps c.args.self.now.ctx c.args.op c.args.operand c.args.value c.args.self.now.store c.set_in.new.store c.set_in.result c.set_in.ensures.store c.set_in.ensures.event c.args.self.now.formed
-    (c.set_in.ensures.formed c.args.self.now.formed)
+    (c.set_in.ensures.formed c.args.self.now.formed) c.args.self.now.sound

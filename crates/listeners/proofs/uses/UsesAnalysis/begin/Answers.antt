@@ -6,4 +6,4 @@ use Rattle.listeners.proofs.uses.UsesAnalysis.begin.Goals as goal
 
 pub returns-in-Ok-clause-ok : goal.returns-in-Ok-clause-ok
 returns-in-Ok-clause-ok c =
-    (refl, ap (λ us. keys_of (in_order us)) (c.in-Ok.ensures ∙ ap uses_in c.root.ensures) ∙ sym (meaning_uses c.args.world.now.ctx c.args.world.now.store.tree))
+    (refl, ap (λ us. keys_of (in_order us)) c.in-Ok.ensures ∙ sym (meaning_uses c.args.world.now.ctx c.args.world.now.store.module_of.tree))

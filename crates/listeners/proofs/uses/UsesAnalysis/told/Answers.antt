@@ -7,8 +7,8 @@ pub returns-clause-told : goal.returns-clause-told
 returns-clause-told c =
     let yes : c.follow.result ≡ true = search rules in
     record {
-      same = record { kind = refl; analysis = λ t. refl };
-      agrees = λ m step held. inl (held.0, followed_agrees c.args.view.world.now.ctx c.args.event m _ _ _ step (was_true c.follow.result _ yes c.follow.ensures) held.1);
+      same = record { kind = refl; analysis = λ t. refl; most = λ e m n. refl };
+      agrees = λ m step shows held. inl (held.0, followed_agrees c.args.view.world.now.ctx c.args.event m _ _ _ step (was_true c.follow.result _ yes c.follow.ensures) held.1);
       stale = λ h. h;
       heard = inl refl;
     }
