@@ -1,7 +1,7 @@
 -- Setting an entry of a module of numbers, or taking it out, is a step of what it stands for.
 use Rattle.std.proofs.Common.{◌≡◌, refl, ap, sym, ◌∙◌, subst, ℕ, Bool, true, false, cond, ◌&&◌, List, [], ◌∷◌, length, Option, Some, None, option_map}
 use Rattle.std.specs.List.{list_all}
-use Rattle.std.proofs.lemmas.Bool.{ltb-true}
+use Rattle.std.proofs.lemmas.Bool.{ltb-true, lt-ltb}
 use Rattle.ir_types.specs.Things.{Things, IsName}
 use Rattle.ir_types.specs.Terms.{AttrTerm, name_term, type_term, attr_term}
 use Rattle.ir_types.specs.Words.{is_isolated}
@@ -16,6 +16,7 @@ use Rattle.ir_tree.specs.Meaning.{IsSoundIn, dictionaries_rise, is_attr, is_name
 use Rattle.ir_tree.specs.WellFormed.{IsWellFormed, Module as Numbered}
 use Rattle.ir_tree.proofs.Mapped.{map_every}
 use Rattle.ir_tree.proofs.MappedEdits.{map_with_entry}
+use Rattle.ir_tree.proofs.SoundEdits.{entry_sound}
 use Rattle.ir_tree_laws.specs.Changes.{SetsEntry, entry_in}
 use Rattle.ir_tree_laws.specs.Reasons.{set_entry_reason}
 use Rattle.ir_tree_laws.specs.Stands.{StandOf, stands}
@@ -30,7 +31,7 @@ use Rattle.ir_tree_laws.proofs.Reasoned.{NoEntryReason, no_entry_reason}
 use Rattle.ir_event.specs.declared.event.Event.TheVariants.{SetEntry}
 use Rattle.ir_event.specs.Modules.{Module, module_meaning}
 use Rattle.ir_event.specs.Step.{IsAttrOrNone, Step}
-use Rattle.ir_event.proofs.Steps.{formed_meaning}
+use Rattle.ir_event.proofs.Steps.{formed_meaning, sorted_meaning}
 
 -- what a dictionary has passes the test that its entries pass
 entry_passed : {N A : Type 0} (n : N → Bool) (q : A → Bool) (before : N → N → Bool) (k : N) (a : A) (es : List (N × A)) → list_all (entry_passes n q) es ≡ true → entry_at before k es ≡ Some a → q a ≡ true
@@ -67,6 +68,13 @@ attr_there c x part k t o sound f (Some a) e =
     let p = all_each (λ (s : StandOf ℕ ℕ ℕ). op_passes (is_name c) (is_type c) (is_attr c) s.here) (stands [] t) (stands_every (op_passes (is_name c) (is_type c) (is_attr c)) [] t ∙ sound.known) w.0 w.1 in
     ltb-true a (length c.attrs) (entry_passed (is_name c) (is_attr c) (key_before_in c) k a (part_of part (head o)) (part_passes c part o (ap (op_passes (is_name c) (is_type c) (is_attr c)) (sym w.3) ∙ p)) e)
 
+key_is : (c : Things) (k : ℕ) → IsName c k → is_name c k ≡ true
+key_is c k h = lt-ltb k (length c.names) h
+
+attr_is : (c : Things) (a : Option ℕ) → IsAttrOrNone c a → (b : ℕ) → a ≡ Some b → is_attr c b ≡ true
+attr_is c None h b e = absurd cc
+attr_is c (Some a) h b e = let one : a ≡ b = cc in subst (λ d. is_attr c d ≡ true) one (lt-ltb a (length c.attrs) h)
+
 pub entry_steps : (c : Things) (x : ℕ) (part : Part) (k : ℕ) (a : Option ℕ) (m : Numbered) → IsWellFormed (isolated_in c) m → IsSoundIn c m.tree → IsName c k → IsAttrOrNone c a → set_entry_reason (key_before_in c) x part k a m.tree ≡ None
     → (old : Option ℕ) × (entry_in (key_before_in c) x part k m.tree ≡ Some old) × Step c (SetEntry x part k old a) (module_meaning c m) (module_meaning c (record m { tree = with_entry (key_before_in c) x part k a m.tree }))
 entry_steps c x part k a m w sound key attr e = (
@@ -75,6 +83,8 @@ entry_steps c x part k a m w sound key attr e = (
   record {
     before = before;
     after = formed_meaning c n (entry_keeps (isolated_in c) (key_before_in c) (key_before_trans c) x part k a m w sound.sorted e);
+    sorted_before = sorted_meaning c m sound;
+    sorted_after = sorted_meaning c n (entry_sound c x part k a m.tree (key_is c k key) (attr_is c a attr) sound);
     numbers = (key, (attr_there c x part k m.tree r.here sound r.found old refl, attr));
     changes = subst (λ (u : Module). SetsEntry key_before x part (name_term c k) (option_map (attr_term c) old) (option_map (attr_term c) a) (module_meaning c m) u) tree
         (subst (λ q. SetsEntry key_before x part (name_term c k) q (option_map (attr_term c) a) (module_meaning c m) after) same s.1);

@@ -12,10 +12,11 @@ use Rattle.ir_tree.specs.Tree.{Op}
 use Rattle.ir_tree.specs.Ids.{find}
 use Rattle.ir_tree.specs.Edits.{with_operand, with_entry}
 use Rattle.ir_tree.specs.Places.{put, shifted, without}
-use Rattle.ir_tree.specs.Meaning.{isolated_in, key_before, key_before_in, meaning}
+use Rattle.ir_tree.specs.Meaning.{IsSoundIn, isolated_in, key_before, key_before_in, meaning}
 use Rattle.ir_tree.specs.WellFormed.{IsWellFormed, Module as Numbered}
 use Rattle.ir_tree.proofs.Mapped.{map_ids, map_depth, map_counts, map_operands_visible}
 use Rattle.ir_tree.proofs.MappedEdits.{map_with_operand, map_with_entry, map_put, map_shifted, map_without}
+use Rattle.ir_tree.proofs.SoundEdits.{without_sound}
 use Rattle.ir_tree_laws.specs.Changes.{NextAfter, Shifts, Takes}
 use Rattle.ir_tree_laws.specs.Reasons.{set_operand_reason, shift_reason, take_reason}
 use Rattle.ir_tree_laws.specs.Restores.{MayRestore, MayRetract}
@@ -27,7 +28,7 @@ use Rattle.ir_tree_laws.proofs.WellKept.{retract_keeps}
 use Rattle.ir_event.specs.declared.event.Event.TheVariants.{Put, Take, SetOperand, SetEntry, Shift}
 use Rattle.ir_event.specs.Modules.{Module, module_meaning}
 use Rattle.ir_event.specs.Step.{Step}
-use Rattle.ir_event.proofs.Steps.{formed_meaning}
+use Rattle.ir_event.proofs.Steps.{formed_meaning, sorted_meaning}
 use Rattle.ir_step_laws.proofs.Mapped.{shifts_mapped, takes_mapped}
 
 -- a module of numbers is well-formed where what it stands for is
@@ -47,22 +48,25 @@ formed_numbers c m w =
       };
     }
 
+left_sound : (c : Things) (x : ℕ) (place : Place) (fresh : Bool) (m n : Numbered) → IsSoundIn c m.tree → Takes x place fresh m n → IsSoundIn c n.tree
+left_sound c x place fresh m n sound t = subst (λ (u : Op). IsSoundIn c u) (sym t.left) (without_sound c x m.tree sound)
+
 -- changes of modules of numbers are steps of what they stand for
-pub taken_steps : (c : Things) (x : ℕ) (place : Place) (fresh : Bool) (m n : Numbered) → IsWellFormed (isolated_in c) m → IsWellFormed (isolated_in c) n → Takes x place fresh m n → Step c (Take x place fresh) (module_meaning c m) (module_meaning c n)
-taken_steps c x place fresh m n w u t = record { before = formed_meaning c m w; after = formed_meaning c n u; numbers = tt; changes = takes_mapped (name_term c) (type_term c) (attr_term c) x place fresh m n t }
+pub taken_steps : (c : Things) (x : ℕ) (place : Place) (fresh : Bool) (m n : Numbered) → IsWellFormed (isolated_in c) m → IsWellFormed (isolated_in c) n → IsSoundIn c m.tree → Takes x place fresh m n → Step c (Take x place fresh) (module_meaning c m) (module_meaning c n)
+taken_steps c x place fresh m n w u sound t = record { before = formed_meaning c m w; after = formed_meaning c n u; sorted_before = sorted_meaning c m sound; sorted_after = sorted_meaning c n (left_sound c x place fresh m n sound t); numbers = tt; changes = takes_mapped (name_term c) (type_term c) (attr_term c) x place fresh m n t }
 
-pub given_steps : (c : Things) (x : ℕ) (place : Place) (fresh : Bool) (m n : Numbered) → IsWellFormed (isolated_in c) m → IsWellFormed (isolated_in c) n → Takes x place fresh m n → Step c (Put x place fresh) (module_meaning c n) (module_meaning c m)
-given_steps c x place fresh m n w u t = record { before = formed_meaning c n u; after = formed_meaning c m w; numbers = tt; changes = takes_mapped (name_term c) (type_term c) (attr_term c) x place fresh m n t }
+pub given_steps : (c : Things) (x : ℕ) (place : Place) (fresh : Bool) (m n : Numbered) → IsWellFormed (isolated_in c) m → IsWellFormed (isolated_in c) n → IsSoundIn c m.tree → Takes x place fresh m n → Step c (Put x place fresh) (module_meaning c n) (module_meaning c m)
+given_steps c x place fresh m n w u sound t = record { before = formed_meaning c n u; after = formed_meaning c m w; sorted_before = sorted_meaning c n (left_sound c x place fresh m n sound t); sorted_after = sorted_meaning c m sound; numbers = tt; changes = takes_mapped (name_term c) (type_term c) (attr_term c) x place fresh m n t }
 
-pub moved_steps : (c : Things) (x : ℕ) (old new : Place) (m n : Numbered) → IsWellFormed (isolated_in c) m → IsWellFormed (isolated_in c) n → Shifts (λ k. is_table (name_term c k)) x old new m n → Step c (Shift x old new) (module_meaning c m) (module_meaning c n)
-moved_steps c x old new m n w u s = record { before = formed_meaning c m w; after = formed_meaning c n u; numbers = tt; changes = shifts_mapped (name_term c) (type_term c) (attr_term c) is_table x old new m n s }
+pub moved_steps : (c : Things) (x : ℕ) (old new : Place) (m n : Numbered) → IsWellFormed (isolated_in c) m → IsWellFormed (isolated_in c) n → IsSoundIn c m.tree → IsSoundIn c n.tree → Shifts (λ k. is_table (name_term c k)) x old new m n → Step c (Shift x old new) (module_meaning c m) (module_meaning c n)
+moved_steps c x old new m n w u sound also s = record { before = formed_meaning c m w; after = formed_meaning c n u; sorted_before = sorted_meaning c m sound; sorted_after = sorted_meaning c n also; numbers = tt; changes = shifts_mapped (name_term c) (type_term c) (attr_term c) is_table x old new m n s }
 
 -- the newest operation is taken, and its id is free again
-pub newest_steps : (c : Things) (x : ℕ) (m : Numbered) → IsWellFormed (isolated_in c) m → take_reason x m.tree ≡ None → m.next ≡ x + 1 → (place : Place) × Step c (Take x place true) (module_meaning c m) (module_meaning c (record { tree = without x m.tree; next = x }))
-newest_steps c x m w e n =
+pub newest_steps : (c : Things) (x : ℕ) (m : Numbered) → IsWellFormed (isolated_in c) m → IsSoundIn c m.tree → take_reason x m.tree ≡ None → m.next ≡ x + 1 → (place : Place) × Step c (Take x place true) (module_meaning c m) (module_meaning c (record { tree = without x m.tree; next = x }))
+newest_steps c x m w sound e n =
     let after : Numbered = record { tree = without x m.tree; next = x } in
     let t = take_changes x true m after w.distinct e refl (n, refl) in
-    (t.0, taken_steps c x t.0 true m after w (retract_keeps (isolated_in c) x m w e n) t.1)
+    (t.0, taken_steps c x t.0 true m after w (retract_keeps (isolated_in c) x m w e n) sound t.1)
 
 retracted_next : (fresh : Bool) (x before after : ℕ) → NextAfter fresh x before after → cond fresh x before ≡ after
 retracted_next true x before after h = sym h.1
