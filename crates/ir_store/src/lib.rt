@@ -3,4 +3,5 @@
 #![tactic(auto)]
 
 pub mod node;
+mod spots;
 pub mod store;

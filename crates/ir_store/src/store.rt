@@ -2,7 +2,11 @@
 ghost use Rattle.std.specs.Prelude.{◌≡◌, ◌<◌, ◌↔◌, ◌⊎◌, IfOk, OnOk, OnErr, IfErr, IsTrue, MatchResult, Some, None, length, slice_get, option_map, option_and_then};
 ghost use Rattle.std.specs.List.{All};
 ghost use Rattle.ir_types.specs.Reasons.{IsRefusedFor};
-ghost use Rattle.ir_tree.specs.Ids.{find as the_first, ids, has_id, HasDistinctIds};
+ghost use Rattle.ir_tree.specs.Ids.{find as the_first, ids, has_id, op_count, HasDistinctIds};
+ghost use Rattle.ir_tree.specs.Places.{place_of};
+ghost use Rattle.ir_tree.specs.Tree.{ops_of};
+ghost use Rattle.ir_tree_laws.specs.Reads.{parent_of, next_of, prev_of, ops_at, first_at, last_at, list_of, is_before};
+ghost use Rattle.ir_store.specs.Using.{AreUses};
 ghost use Rattle.ir_tree.specs.Sites.{Visible};
 ghost use Rattle.ir_tree.specs.WellFormed.{IsFormed, IsWellFormed, fault};
 ghost use Rattle.ir_tree.specs.Meaning.{isolated_in, IsSoundIn};
@@ -14,11 +18,15 @@ ghost use Rattle.ir_store.specs.Calls.{Loaded, after_operand};
 ghost use Rattle.ir_tree_laws.specs.Reasons.{set_operand_reason, value_reason};
 
 use crate::node::{Node, arguments, region_of};
+use crate::spots;
 use ir_tree::changes::with_operand_set;
 use ir_tree::check::check;
 use ir_tree::copy::copy;
+use ir_tree::count;
 use ir_tree::find::find;
+use ir_tree::place::Place;
 use ir_tree::tree::TreeOp;
+use ir_tree::uses::list_uses;
 use ir_tree::value::Value;
 use ir_tree::visible::visible;
 use ir_types::context::Context;
@@ -37,13 +45,15 @@ pub struct Store {
 
 impl Model for Store {
     ghost use Rattle.ir_store.specs.Stored.{Stored, stored_code};
-    ghost use Rattle.ir_store.specs.Plain.{stored_of};
+    ghost use Rattle.ir_store.specs.Plain.{IsKept, stored_of};
 
     ghost Value = { Stored };
 
     ghost coded = { stored_code };
 
     ghost view = { λ s. stored_of s.root s.next };
+
+    ghost invariant = { λ s. IsKept s.root };
 }
 
 impl Store {
@@ -121,6 +131,87 @@ impl Store {
         ensures { IsTrue result ↔ Visible (isolated_in ctx.now) self.now.module_of.tree op value }
     {
         visible(ctx, &self.root, op, &value)
+    }
+
+    /// Where an operation stands, or none where it is the root or isn't in the module.
+    pub fn place(&self, op: OpId) -> Option<Place>
+        ensures { result ≡ place_of op self.now.module_of.tree }
+    {
+        spots::place(&self.root, op)
+    }
+
+    /// The operation around an operation, or none where it is the root or isn't in the module.
+    pub fn parent(&self, op: OpId) -> Option<OpId>
+        ensures { result ≡ parent_of op self.now.module_of.tree }
+    {
+        Some(self.place(op)?.parent)
+    }
+
+    /// The next operation in the block of an operation, if there is one.
+    pub fn next(&self, op: OpId) -> Option<OpId>
+        ensures { result ≡ next_of op self.now.module_of.tree }
+    {
+        self.place(op)?.before
+    }
+
+    /// The operations of the block of a region, if there is one.
+    fn ops(&self, op: OpId, region: u32) -> Option<&[TreeOp]>
+        ensures { option_map (λ os. ops_of os.now) result ≡ ops_at op region self.now.module_of.tree }
+    {
+        spots::ops_in(region_of(find(&self.root, op)?, region)?)
+    }
+
+    /// The first operation of the block of a region, if there is one.
+    pub fn first(&self, op: OpId, region: u32) -> Option<OpId>
+        ensures { result ≡ first_at op region self.now.module_of.tree }
+    {
+        spots::first(self.ops(op, region)?)
+    }
+
+    /// The last operation of the block of a region, if there is one.
+    pub fn last(&self, op: OpId, region: u32) -> Option<OpId>
+        ensures { result ≡ last_at op region self.now.module_of.tree }
+    {
+        spots::last(self.ops(op, region)?)
+    }
+
+    /// The operations of the block in which an operation stands.
+    fn beside(&self, op: OpId) -> Option<&[TreeOp]>
+        ensures { option_map (λ os. ops_of os.now) result ≡ list_of op self.now.module_of.tree }
+    {
+        let place = self.place(op)?;
+        self.ops(place.parent, place.region)
+    }
+
+    /// The operation right before an operation in its block, if there is one.
+    pub fn prev(&self, op: OpId) -> Option<OpId>
+        ensures { result ≡ prev_of op self.now.module_of.tree }
+    {
+        spots::before(self.beside(op)?, op)
+    }
+
+    /// Whether an operation stands before another in one block.
+    pub fn is_before(&self, op: OpId, other: OpId) -> bool
+        ensures { result ≡ is_before op other self.now.module_of.tree }
+    {
+        match self.beside(op) {
+            Some(ops) => spots::goes_before(ops, op, other),
+            None => false,
+        }
+    }
+
+    /// How many operations the module has, the root included.
+    pub fn op_count(&self) -> u64
+        ensures { result ≡ op_count self.now.module_of.tree }
+    {
+        count::op_count(&self.root)
+    }
+
+    /// The uses of a value, each once: the operations, and the numbers of the operands.
+    pub fn uses(&self, value: Value) -> Result<Vec<(OpId, usize)>, AllocError>
+        ensures { IfOk result (λ us. AreUses value self.now.module_of.tree us.items) }
+    {
+        list_uses(self.alloc, &self.root, &value)
     }
 
     /// Makes a value an operand of an operation, in place of the one that was there.
