@@ -45,7 +45,24 @@ formed_meaning c m w =
       };
     }
 
--- and the dictionaries of one that is of the context are sorted there
+-- a module of numbers is well-formed where what it stands for is
+pub formed_numbers : (c : Things) (m : Numbered) → IsWellFormed is_isolated (module_meaning c m) → IsWellFormed (isolated_in c) m
+formed_numbers c m w =
+    let f = name_term c in
+    let g = type_term c in
+    let h = attr_term c in
+    record {
+      distinct = subst (IsDistinct eqb) (map_ids f g h m.tree) w.distinct;
+      below = subst (All (λ x. x < m.next)) (map_ids f g h m.tree) w.below;
+      next = w.next;
+      formed = record {
+        visible = sym (map_operands_visible f g h is_isolated m.tree) ∙ w.formed.visible;
+        shallow = (let e = map_depth f g h m.tree in let k = w.formed.shallow in omega (arith, e, k));
+        counts = sym (map_counts f g h m.tree) ∙ w.formed.counts;
+      };
+    }
+
+-- the dictionaries of a module that is of the context are sorted in what it stands for
 pub sorted_meaning : (c : Things) (m : Numbered) → IsSoundIn c m.tree → IsSorted (module_meaning c m)
 sorted_meaning c m s =
     map_every (name_term c) (type_term c) (attr_term c) (dictionaries_rise (key_before_in c)) (dictionaries_rise key_before) (map_dictionaries (name_term c) (type_term c) (attr_term c) key_before) m.tree ∙ s.sorted

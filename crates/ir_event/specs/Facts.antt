@@ -1,14 +1,24 @@
--- A world's facts have at most one proof each.
-use Rattle.std.specs.Prelude.{Bool}
+-- What is true of a world, and that there is at most one proof of it.
+use Rattle.std.specs.Prelude.{◌≡◌, ℕ, Bool, Option, Some}
 use Rattle.std.proofs.Props.{props}
+use Rattle.std.specs.Coded.{Coded-set, coded_option, Π_prop}
 use Rattle.std.specs.List.{IsDistinct-prop}
+use Rattle.std.specs.Ordering.{nat_cmp}
+use Rattle.std.specs.FinMap as map
 use Rattle.ir_types.specs.Things.{Things}
 use Rattle.ir_tree.specs.Tree.{Op}
 use Rattle.ir_tree.specs.WellFormed.{ModuleOf, IsWellFormed}
 use Rattle.ir_tree.specs.Meaning.{IsSoundIn}
+
+-- what is held of a module is sound in the context
+abbrev pub HeldIsSound : Things → map.FinMap nat_cmp Op → Type 0
+HeldIsSound c held = (x : ℕ) (o : Op) → map.get held x ≡ Some o → IsSoundIn c o
 
 pub sound_prop : (c : Things) (t : Op) → IsProp (IsSoundIn c t)
 sound_prop c t = hlevel props
 
 pub formed_prop : {N T A : Type 0} (isolated : N → Bool) (m : ModuleOf N T A) → IsProp (IsWellFormed isolated m)
 formed_prop isolated m = hlevel (props, IsDistinct-prop)
+
+pub held_prop : (c : Things) (held : map.FinMap nat_cmp Op) → IsProp (HeldIsSound c held)
+held_prop c held = Π_prop (λ x. Π_prop (λ o. Π_prop (λ e. sound_prop c o)))

@@ -1,10 +1,11 @@
 -- Modules of contents: what the module of a world stands for.
-use Rattle.std.specs.Prelude.{ℕ, List, Option, option_map}
-use Rattle.ir_types.specs.Things.{Things}
-use Rattle.ir_types.specs.Terms.{TypeTerm, AttrTerm}
+use Rattle.std.specs.Prelude.{◌≡◌, ℕ, List, All, map, Option, Some, option_map, slice_get}
+use Rattle.ir_types.specs.Things.{Things, IsName, IsType, IsAttr}
+use Rattle.ir_types.specs.Terms.{TypeTerm, AttrTerm, name_term, type_term, attr_term}
 use Rattle.ir_tree.specs.WellFormed.{ModuleOf, Module as Numbered}
 use Rattle.ir_tree.specs.Meaning.{meaning}
-use Rattle.ir_store.specs.Nodes.{NodeOf, node_of}
+use Rattle.ir_tree.specs.Maps.{map_head}
+use Rattle.ir_store.specs.Nodes.{NodeOf, Node as Numbers, node_of}
 use Rattle.ir_store.specs.Stored.{known}
 use Rattle.ir_event.specs.declared.world.World.{World}
 
@@ -26,6 +27,18 @@ module_in w = module_meaning w.ctx w.store.module_of
 -- what an operation has, in contents
 abbrev pub Node : Type 0
 Node = NodeOf (List ℕ) TypeTerm AttrTerm
+
+-- what one of numbers of a context stands for
+abbrev pub node_meaning : Things → Numbers → Node
+node_meaning c n = record { head = map_head (name_term c) (type_term c) (attr_term c) n.head; arguments = map (option_map (map (type_term c))) n.arguments }
+
+-- its numbers are of the context
+pub record NodeIsOf (c : Things) (n : Numbers) : Type 0 where
+  pub name : IsName c n.head.name
+  pub results : All (IsType c) n.head.results
+  pub properties : All (λ e. IsName c e.0 × IsAttr c e.1) n.head.properties
+  pub attributes : All (λ e. IsName c e.0 × IsAttr c e.1) n.head.attributes
+  pub arguments : (r : ℕ) (types : List ℕ) → slice_get n.arguments r ≡ Some (Some types) → All (IsType c) types
 
 -- what a world shows of operation x, where it is one of the module or held
 abbrev pub shown_in : World → ℕ → Option Node

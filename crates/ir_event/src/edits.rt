@@ -19,6 +19,7 @@ use ir_tree::value::Value;
 use ir_types::context::Context;
 use ir_types::ids::OpId;
 use ir_types::refusal::Refusal;
+use op_registry::registry::Registry;
 use std::alloc::{AllocError, Global};
 
 /// An operand of an operation by its number, or none where it has no such operand or isn't in the module.
@@ -69,10 +70,16 @@ fn set_in(
 }
 
 impl World {
-    /// A world with a context, and a module with a tree and a next free id.
+    /// A world with a context, the rows of its operations, and a module with a tree and a next free id.
     ///
     /// Refusals: `UnknownValue`, `TooDeep`, `TooMany` in this order; `Memory`.
-    pub fn load(alloc: Global, ctx: Context, tree: &TreeOp, next: u32) -> Result<World, Refusal>
+    pub fn load(
+        alloc: Global,
+        ctx: Context,
+        registry: Registry,
+        tree: &TreeOp,
+        next: u32,
+    ) -> Result<World, Refusal>
         requires sound { IsSoundIn ctx tree.now }
         requires distinct { HasDistinctIds tree.now }
         requires below { All (λ x. x < next) (ids tree.now) }
@@ -81,13 +88,18 @@ impl World {
         ensures refused { IfErr result (λ e. (e ≡ Refusal.Memory) ⊎ (fault (isolated_in ctx) tree.now ≡ Some e)) }
     {
         let store = Store::load(alloc, &ctx, tree, next)?;
-        Ok(World { ctx, store })
+        Ok(World {
+            ctx,
+            registry,
+            store,
+        })
     }
 
     /// The same world of a tree that is handed over, and is known to be formed: it isn't checked again.
     pub fn hold(
         alloc: Global,
         ctx: Context,
+        registry: Registry,
         tree: TreeOp,
         next: u32,
     ) -> Result<World, AllocError>
@@ -99,7 +111,11 @@ impl World {
         ensures store { IfOk result (λ w. Loaded tree next w.store) }
     {
         let store = Store::hold(alloc, &ctx, tree, next)?;
-        Ok(World { ctx, store })
+        Ok(World {
+            ctx,
+            registry,
+            store,
+        })
     }
 
     /// Makes a value an operand of an operation, in place of the one that was there, and gives the event.

@@ -1,5 +1,5 @@
 //! Laws of events. Each is a function that does nothing: its contract is the law.
-ghost use Rattle.std.specs.Prelude.{◌≡◌, ◌↔◌, ℕ, List, [], ◌∷◌, ◌++◌, Option, Some};
+ghost use Rattle.std.specs.Prelude.{◌≡◌, ◌↔◌, ℕ, List, [], ◌∷◌, ◌++◌, Option, Some, option_map};
 ghost use Rattle.ir_types.specs.Things.{Things, Grows};
 ghost use Rattle.ir_types.specs.Sound.{Holds};
 ghost use Rattle.ir_types.specs.Words.{is_isolated};
@@ -10,7 +10,10 @@ ghost use Rattle.ir_tree.specs.Meaning.{IsSoundIn, isolated_in};
 ghost use Rattle.ir_tree.specs.WellFormed.{Module as Numbered, IsWellFormed};
 ghost use Rattle.ir_event.specs.declared.event.Event.{Event as Edit};
 ghost use Rattle.ir_event.specs.declared.event.Event.TheVariants.{SetOperand};
-ghost use Rattle.ir_event.specs.Modules.{Module, Node, module_meaning};
+ghost use Rattle.ir_store.specs.Nodes.{Node as Numbers, node_of};
+ghost use Rattle.ir_store.specs.Stored.{known};
+ghost use Rattle.ir_event.specs.declared.world.World.{World as Whole};
+ghost use Rattle.ir_event.specs.Modules.{Module, Node, NodeIsOf, module_meaning, node_meaning, shown_in};
 ghost use Rattle.ir_event.specs.Listener.{ShowsTaken};
 ghost use Rattle.ir_tree_laws.specs.Changes.{operand_at};
 ghost use Rattle.ir_event.specs.Step.{IsSorted, Step, inverse_of};
@@ -57,4 +60,10 @@ pub fn kept_listeners_stay_kept<L: Analysis>()
     ensures begun { (kind : ℕ) (c : Things) (m : Module) (xs ys : List L) → BegunAgain L.meaning kind (λ b. b.agrees c m) xs ys → AllKept L.meaning c m xs → AllKept L.meaning c m ys }
     ensures not_begun { (kind : ℕ) (c : Things) (m : Module) (xs ys : List L) (e : Reason) → NotBegunAgain L.meaning kind xs ys e → AllKept L.meaning c m xs → AllKept L.meaning c m ys }
     ensures grown { (c d : Things) (m : Module) (xs : List L) → Holds c → Holds d → Grows c d → AllKept L.meaning c m xs → AllKept L.meaning d m xs }
+{}
+
+/// What a node of a world has are numbers of the world's context, and the world shows what they stand for.
+pub fn nodes_are_of_the_context()
+    ensures known { (w : Whole) (x : ℕ) (n : Numbers) → option_map node_of (known x w.store) ≡ Some n → NodeIsOf w.ctx n }
+    ensures shown { (w : Whole) (x : ℕ) (n : Numbers) → option_map node_of (known x w.store) ≡ Some n → shown_in w x ≡ Some (node_meaning w.ctx n) }
 {}

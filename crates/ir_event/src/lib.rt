@@ -3,6 +3,7 @@
 #![tactic(auto)]
 
 pub mod analysis;
+pub mod contexts;
 pub mod edits;
 pub mod event;
 pub mod laws;

@@ -1,16 +1,20 @@
 //! What a listener is shown when it is told of an event.
-ghost use Rattle.std.specs.Prelude.{◌≡◌, option_map};
+ghost use Rattle.std.specs.Prelude.{◌≡◌, ◌+◌, length, option_map, IfOk, MatchResult};
 ghost use Rattle.ir_tree.specs.Ids.{has_id};
 ghost use Rattle.ir_store.specs.Nodes.{node_of};
 ghost use Rattle.ir_store.specs.Stored.{known};
 ghost use Rattle.ir_tree_laws.specs.Values.{type_of_value};
-ghost use Rattle.ir_event.specs.Looks.{one_more};
+ghost use Rattle.ir_store.specs.Using.{AreUses};
+ghost use Rattle.ir_tree_laws.specs.Reads.{parent_of, next_of, prev_of, first_at, last_at};
+ghost use Rattle.ir_event.specs.Looks.{more_looks, one_more};
 
 use crate::world::World;
 use ir_store::node::Node;
 use ir_tree::value::Value;
 use ir_types::context::Context;
 use ir_types::ids::{OpId, TypeId};
+use op_registry::registry::Registry;
+use std::alloc::AllocError;
 
 /// A look at a world. It counts the calls that read the module, and can't be copied.
 #[derive(Drop)]
@@ -35,11 +39,18 @@ impl<'a> View<'a> {
         self.looks
     }
 
-    /// The context of the module's names, types and attributes.
+    /// The context of the module's names, types and attributes. To ask for it is no look.
     pub fn context(&self) -> &'a Context
         ensures { result.now ≡ self.now.world.now.ctx }
     {
         &self.world.ctx
+    }
+
+    /// The rows of the context's operations. To ask for them is no look.
+    pub fn registry(&self) -> &'a Registry
+        ensures { result.now ≡ self.now.world.now.registry }
+    {
+        &self.world.registry
     }
 
     /// Whether an operation is in the module.
@@ -63,6 +74,56 @@ impl<'a> View<'a> {
         self.world.store.node(op)
     }
 
+    /// The operation around an operation, or none where it is the root or isn't in the module.
+    pub fn parent(&mut self, op: OpId) -> Option<OpId>
+        ensures answer { result ≡ parent_of op self.old.world.now.store.module_of.tree }
+        ensures looks { self.new.looks ≡ one_more self.old.looks }
+        ensures world { self.new.world.now ≡ self.old.world.now }
+    {
+        self.looks = self.looks.saturating_add(1);
+        self.world.store.parent(op)
+    }
+
+    /// The first operation of the block of a region, if there is one.
+    pub fn first(&mut self, op: OpId, region: u32) -> Option<OpId>
+        ensures answer { result ≡ first_at op region self.old.world.now.store.module_of.tree }
+        ensures looks { self.new.looks ≡ one_more self.old.looks }
+        ensures world { self.new.world.now ≡ self.old.world.now }
+    {
+        self.looks = self.looks.saturating_add(1);
+        self.world.store.first(op, region)
+    }
+
+    /// The last operation of the block of a region, if there is one.
+    pub fn last(&mut self, op: OpId, region: u32) -> Option<OpId>
+        ensures answer { result ≡ last_at op region self.old.world.now.store.module_of.tree }
+        ensures looks { self.new.looks ≡ one_more self.old.looks }
+        ensures world { self.new.world.now ≡ self.old.world.now }
+    {
+        self.looks = self.looks.saturating_add(1);
+        self.world.store.last(op, region)
+    }
+
+    /// The next operation in the block of an operation, if there is one.
+    pub fn next(&mut self, op: OpId) -> Option<OpId>
+        ensures answer { result ≡ next_of op self.old.world.now.store.module_of.tree }
+        ensures looks { self.new.looks ≡ one_more self.old.looks }
+        ensures world { self.new.world.now ≡ self.old.world.now }
+    {
+        self.looks = self.looks.saturating_add(1);
+        self.world.store.next(op)
+    }
+
+    /// The operation right before an operation in its block, if there is one.
+    pub fn prev(&mut self, op: OpId) -> Option<OpId>
+        ensures answer { result ≡ prev_of op self.old.world.now.store.module_of.tree }
+        ensures looks { self.new.looks ≡ one_more self.old.looks }
+        ensures world { self.new.world.now ≡ self.old.world.now }
+    {
+        self.looks = self.looks.saturating_add(1);
+        self.world.store.prev(op)
+    }
+
     /// The type of a value, or none where the module has no such value.
     pub fn value_type(&mut self, value: Value) -> Option<TypeId>
         ensures answer { result ≡ type_of_value value self.old.world.now.store.module_of.tree }
@@ -71,5 +132,17 @@ impl<'a> View<'a> {
     {
         self.looks = self.looks.saturating_add(1);
         self.world.store.value_type(value)
+    }
+
+    /// The uses of a value, each once: the operations, and the numbers of the operands. Each is a look too.
+    pub fn uses(&mut self, value: Value) -> Result<Vec<(OpId, usize)>, AllocError>
+        ensures answer { IfOk result (λ us. AreUses value self.old.world.now.store.module_of.tree us.items) }
+        ensures looks { MatchResult result (λ us. self.new.looks ≡ more_looks (length us.items + 1) self.old.looks) (λ _. self.new.looks ≡ one_more self.old.looks) }
+        ensures world { self.new.world.now ≡ self.old.world.now }
+    {
+        self.looks = self.looks.saturating_add(1);
+        let uses = self.world.store.uses(value)?;
+        self.looks = self.looks.saturating_add(uses.len() as u64);
+        Ok(uses)
     }
 }

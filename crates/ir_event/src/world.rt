@@ -1,16 +1,20 @@
 //! What listeners are shown.
 ghost use Rattle.ir_tree.specs.Meaning.{IsSoundIn, isolated_in};
 ghost use Rattle.ir_tree.specs.WellFormed.{IsWellFormed};
-ghost use Rattle.ir_event.specs.Facts.{sound_prop, formed_prop};
+ghost use Rattle.ir_event.specs.Facts.{HeldIsSound, sound_prop, formed_prop, held_prop};
 
 use ir_store::store::Store;
 use ir_types::context::Context;
+use op_registry::registry::Registry;
 
-/// A context, and a well-formed module whose names, types and attributes are numbers of it.
+/// A context, the rows of its operations, and a well-formed module. The names, types and attributes of the module
+/// and of what is held of it are numbers of the context.
 #[derive(Drop)]
 pub struct World {
     pub ctx: Context,
+    pub registry: Registry,
     pub store: Store,
     pub ghost sound: { IsSoundIn ctx store.module_of.tree } by { sound_prop ctx store.module_of.tree },
     pub ghost formed: { IsWellFormed (isolated_in ctx) store.module_of } by { formed_prop (isolated_in ctx) store.module_of },
+    pub ghost held: { HeldIsSound ctx store.held } by { held_prop ctx store.held },
 }

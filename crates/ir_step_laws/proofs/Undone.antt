@@ -28,25 +28,8 @@ use Rattle.ir_tree_laws.proofs.WellKept.{retract_keeps}
 use Rattle.ir_event.specs.declared.event.Event.TheVariants.{Put, Take, SetOperand, SetEntry, Shift}
 use Rattle.ir_event.specs.Modules.{Module, module_meaning}
 use Rattle.ir_event.specs.Step.{Step}
-use Rattle.ir_event.proofs.Steps.{formed_meaning, sorted_meaning}
+use Rattle.ir_event.proofs.Steps.{formed_meaning, formed_numbers, sorted_meaning}
 use Rattle.ir_step_laws.proofs.Mapped.{shifts_mapped, takes_mapped}
-
--- a module of numbers is well-formed where what it stands for is
-pub formed_numbers : (c : Things) (m : Numbered) → IsWellFormed is_isolated (module_meaning c m) → IsWellFormed (isolated_in c) m
-formed_numbers c m w =
-    let f = name_term c in
-    let g = type_term c in
-    let h = attr_term c in
-    record {
-      distinct = subst (IsDistinct eqb) (map_ids f g h m.tree) w.distinct;
-      below = subst (All (λ x. x < m.next)) (map_ids f g h m.tree) w.below;
-      next = w.next;
-      formed = record {
-        visible = sym (map_operands_visible f g h is_isolated m.tree) ∙ w.formed.visible;
-        shallow = (let e = map_depth f g h m.tree in let k = w.formed.shallow in omega (arith, e, k));
-        counts = sym (map_counts f g h m.tree) ∙ w.formed.counts;
-      };
-    }
 
 left_sound : (c : Things) (x : ℕ) (place : Place) (fresh : Bool) (m n : Numbered) → IsSoundIn c m.tree → Takes x place fresh m n → IsSoundIn c n.tree
 left_sound c x place fresh m n sound t = subst (λ (u : Op). IsSoundIn c u) (sym t.left) (without_sound c x m.tree sound)

@@ -1,4 +1,5 @@
-use Rattle.ir_step_laws.proofs.Undone.{put_undone, take_undone, operand_undone, entry_undone, shift_undone, formed_numbers}
+use Rattle.ir_event.proofs.Steps.{formed_numbers}
+use Rattle.ir_step_laws.proofs.Undone.{put_undone, take_undone, operand_undone, entry_undone, shift_undone}
 use Rattle.ir_step_laws.proofs.laws.undoing_leads_back.Goals as goal
 
 pub returns-clause-put : goal.returns-clause-put
