@@ -39,6 +39,14 @@ pub record SameAnalysis (a b : Listener) : Type 0 where
   pub analysis : (t : Operation) → b.analysis t ≡ a.analysis t
   pub most : (e : Event) (m n : Module) → b.most e m n ≡ a.most e m n
 
+-- whether an event takes an operation
+abbrev pub is_take : Event → Bool
+is_take (Put x place fresh) = false
+is_take (Take x place fresh) = true
+is_take (SetOperand x k old new) = false
+is_take (SetEntry x part key old new) = false
+is_take (Shift x old new) = false
+
 -- after a Take the taken operation is shown as it was in m, the module before
 abbrev pub ShowsTaken : Event → Module → (ℕ → Option Node) → Type 0
 ShowsTaken (Put x place fresh) m shown = Unit {0}

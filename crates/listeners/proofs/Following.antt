@@ -1,39 +1,182 @@
 -- A table of uses that follows a module.
-use Rattle.std.proofs.Common.{◌≡◌, refl, ap, sym, ◌∙◌, subst, List, [], ◌∷◌, ◌++◌, map}
+use Rattle.std.proofs.Common.{◌≡◌, refl, ap, sym, ◌∙◌, subst, ℕ, ◌≤◌, Bool, true, false, cond, ◌&&◌, eqb, eqb-true, length, List, [], ◌∷◌, ◌++◌, map, Option, Some, None, inl, inr}
+use Rattle.std.specs.Prelude.{nat_le, option_map}
+use Rattle.std.proofs.lemmas.Bool.{leb-true}
 use Rattle.std.proofs.lemmas.List.Elements.{All-cons, All-nil}
+use Rattle.std.specs.FinMap as finmap
 use Rattle.std.specs.List.{All}
 use Rattle.ir_types.specs.Things.{Things}
 use Rattle.ir_types.specs.Terms.{name_term, type_term, attr_term}
-use Rattle.ir_tree.specs.Tree.{Op as Tree}
-use Rattle.ir_tree.specs.Meaning.{meaning}
+use Rattle.ir_types.specs.Words.{is_isolated}
+use Rattle.ir_tree.specs.Tree.{HeadOf, OpOf, op, Op as Tree, head}
+use Rattle.ir_tree.specs.Ids.{HasDistinctIds, find, first_of, op_count}
+use Rattle.ir_tree.specs.Limits.{every, regions_every, op_fits, head_fits, most_items, most_ops}
+use Rattle.ir_tree.specs.Edits.{at, change_entry, change_part}
+use Rattle.ir_tree.specs.Meaning.{Operation, key_before, meaning}
+use Rattle.ir_tree.specs.Places.{place_of, without}
+use Rattle.ir_tree.specs.WellFormed.{IsWellFormed}
+use Rattle.ir_tree.specs.declared.place.Part.{Part}
+use Rattle.ir_tree.specs.declared.place.Part.TheVariants.{Props, Attrs}
+use Rattle.ir_tree.specs.declared.place.Place.{Place}
 use Rattle.ir_tree.specs.declared.value.Value.{Value}
+use Rattle.ir_tree.proofs.Mapped.{map_find}
+use Rattle.ir_tree_laws.specs.Members.{In}
+use Rattle.ir_tree_laws.specs.Stands.{StandOf, stands, place_in}
+use Rattle.ir_tree_laws.proofs.Around.{member_of_place}
+use Rattle.ir_tree_laws.proofs.Listed.{bool_cases, both}
+use Rattle.ir_tree_laws.proofs.Members.{same_stand, stand, stand_found}
+use Rattle.ir_store.specs.Nodes.{Node as Numbers, node_of}
+use Rattle.ir_store.specs.Stored.{Stored, known}
 use Rattle.ir_event.specs.declared.event.Event.{Event}
 use Rattle.ir_event.specs.declared.event.Event.TheVariants.{Put, Take, SetOperand, SetEntry, Shift}
 use Rattle.ir_event.specs.declared.row.Cell.{Cell}
 use Rattle.ir_event.specs.declared.row.Cell.TheVariants.{Val, Op, Num}
 use Rattle.ir_event.specs.declared.row.Row.{Row}
-use Rattle.ir_event.specs.Modules.{Module}
+use Rattle.ir_event.specs.Listener.{ShowsTaken}
+use Rattle.ir_event.specs.Modules.{Module, Node, module_meaning}
 use Rattle.ir_event.specs.Rows.{cell_meaning, row_meaning, rows_meaning, CellIsOf, RowIsOf, Shows}
 use Rattle.ir_event.specs.Step.{Step}
+use Rattle.ir_event.proofs.Sounds.{every_found}
 use Rattle.listeners.specs.declared.key.Use.{Use}
 use Rattle.listeners.specs.declared.key.Key.{Key}
-use Rattle.listeners.specs.Uses.{in_order, uses_of, use_row}
-use Rattle.listeners.specs.Keys.{key_of, keys_of, value_at, key_cells, IsFollowed}
+use Rattle.listeners.specs.Uses.{in_order, operand_uses, uses_in, all_uses, use_row}
+use Rattle.listeners.specs.Keys.{key_of, keys_of, value_at, key_cells}
+use Rattle.listeners.specs.Drops.{drop_all, put_all}
+use Rattle.listeners.specs.Following.{IsFollowed, operands_in}
+use Rattle.listeners.proofs.Cutting.{cut_order, edited_uses, leaf_uses, taken}
+use Rattle.listeners.proofs.Moving.{drop_all_order, put_all_order}
 use Rattle.listeners.proofs.Orders.{put_among}
 use Rattle.listeners.proofs.Sorted.{value_back}
 use Rattle.listeners.proofs.Places.{one_use, set_uses, mapped_uses}
 
+-- an edit of a dictionary leaves ids and operands
+entry_id : {N T A : Type 0} (x : ℕ) (part : Part) (f : List (N × A) → List (N × A)) (h : HeadOf N T A) → (at x (change_part part f) h).id ≡ h.id
+entry_id {N} {T} {A} x part f h = elim (eqb h.id x) as (λ b. (cond b (change_part part f h) h).id ≡ h.id) [ true ↦ changed part | false ↦ refl ]
+  where
+    changed : (part : Part) → (change_part part f h).id ≡ h.id
+    changed Props = refl
+    changed Attrs = refl
+
+entry_operands : {N T A : Type 0} (x : ℕ) (part : Part) (f : List (N × A) → List (N × A)) (h : HeadOf N T A) → (at x (change_part part f) h).operands ≡ h.operands
+entry_operands {N} {T} {A} x part f h = elim (eqb h.id x) as (λ b. (cond b (change_part part f h) h).operands ≡ h.operands) [ true ↦ changed part | false ↦ refl ]
+  where
+    changed : (part : Part) → (change_part part f h).operands ≡ h.operands
+    changed Props = refl
+    changed Attrs = refl
+
+-- an operation that stands at a place, which the root doesn't
+record Placed {N T A : Type 0} (x : ℕ) (t : OpOf N T A) : Type 0 where
+  here : OpOf N T A
+  found : find x t ≡ Some here
+  id : (head here).id ≡ x
+  inner : eqb (head t).id x ≡ false
+
+placed : {N T A : Type 0} (x : ℕ) (place : Place) (t : OpOf N T A) → HasDistinctIds t → place_of x t ≡ Some place → Placed x t
+placed {N} {T} {A} x place t d e =
+    let m = member_of_place x place t e in
+    record {
+      here = m.0.here;
+      found = ap (λ y. find y t) (sym m.2) ∙ stand_found t d m.0 m.1;
+      id = m.2;
+      inner = elim (bool_cases (eqb (head t).id x)) [
+        | inr k ↦ k
+        | inl k ↦ (let same : m.0 ≡ stand t [] = same_stand t d m.0 (stand t []) m.1 (root_in t) (m.2 ∙ sym (eqb-true (head t).id x k)) in
+            let bad : None ≡ Some place = sym (ap (λ (s : StandOf N T A). place_in s.path) same) ∙ m.3 in
+            absurd cc)
+      ];
+    }
+  where
+    root_in : (t : OpOf N T A) → In (stand t []) (stands [] t)
+    root_in (op h rs) = inl refl
+
+-- so many operands as a module's operations may have
+few_operands : (m : Module) (x : ℕ) (o : Operation) → IsWellFormed is_isolated m → find x m.tree ≡ Some o → length (head o).operands ≤ most_items
+few_operands m x o w f = few o (every_found op_fits x m.tree o (both (nat_le (op_count m.tree) most_ops) (every op_fits m.tree) w.formed.counts).1 f)
+  where
+    few : (o : Operation) → every op_fits o ≡ true → length (head o).operands ≤ most_items
+    few (op h rs) e =
+        let own = both (op_fits (op h rs)) (regions_every op_fits rs) e in
+        leb-true (length h.operands) most_items (both (nat_le (length h.operands) most_items) _ (both (head_fits h) _ own.0).0).0
+
+-- the operands that a store shows, where it shows a node in contents
+shown_operands : (c : Things) (s : Stored) (x : ℕ) (o : Operation) → option_map (λ (q : Tree). node_of (meaning c q)) (known x s) ≡ Some (node_of o) → operands_in s x ≡ Some (head o).operands
+shown_operands c s x o e = go (known x s) e
+  where
+    head_of : (q : Tree) (o : Operation) → node_of (meaning c q) ≡ node_of o → (node_of q).head.operands ≡ (head o).operands
+    head_of (op h rs) (op k qs) e = ap (λ (n : Node). n.head.operands) e
+
+    go : (q : Option Tree) → option_map (λ (q : Tree). node_of (meaning c q)) q ≡ Some (node_of o) → option_map (λ (n : Numbers). n.head.operands) (option_map node_of q) ≡ Some (head o).operands
+    go None f = absurd cc
+    go (Some q) f = (let one : node_of (meaning c q) ≡ node_of o = cc in ap Some (head_of q o one))
+
+-- the module of a store shows what stands in it
+shown_there : (c : Things) (s : Stored) (x : ℕ) (o : Operation) → find x (meaning c s.module_of.tree) ≡ Some o → option_map (λ (q : Tree). node_of (meaning c q)) (known x s) ≡ Some (node_of o)
+shown_there c s x o f = go (find x s.module_of.tree) refl
+  where
+    tree : Tree
+    tree = s.module_of.tree
+
+    mapped : option_map (meaning c) (find x tree) ≡ Some o
+    mapped = sym (map_find (name_term c) (type_term c) (attr_term c) x tree) ∙ f
+
+    go : (q : Option Tree) → find x tree ≡ q → option_map (λ (q : Tree). node_of (meaning c q)) (first_of q (finmap.get s.held x)) ≡ Some (node_of o)
+    go None e = (let bad : None ≡ Some o = sym (ap (option_map (meaning c)) e) ∙ mapped in absurd cc)
+    go (Some q) e = (let same : Some (meaning c q) ≡ Some o = sym (ap (option_map (meaning c)) e) ∙ mapped in let one : meaning c q ≡ o = cc in ap (λ (u : Operation). Some (node_of u)) one)
+
 -- a table that followed an event is that of the module after it
-pub followed_agrees : (c : Things) (e : Event) (m n : Module) (ks ls : List Key) → Step c e m n → IsFollowed e ks ls → ks ≡ keys_of (uses_of m.tree) → ls ≡ keys_of (uses_of n.tree)
-followed_agrees c (Put x place fresh) m n ks ls s f is = absurd f
-followed_agrees c (Take x place fresh) m n ks ls s f is = absurd f
-followed_agrees c (SetOperand x k old new) m n ks ls s f is =
-    let r = set_uses x k old new m.tree s.before.distinct s.changes.was in
+pub followed_agrees : (c : Things) (e : Event) (s : Stored) (m : Module) (ks ls : List Key) → Step c e m (module_meaning c s.module_of) → ShowsTaken e m (λ x. option_map (λ (q : Tree). node_of (meaning c q)) (known x s))
+    → IsFollowed (operands_in s) e ks ls → ks ≡ keys_of (all_uses m.tree) → ls ≡ keys_of (all_uses (meaning c s.module_of.tree))
+followed_agrees c (Put x place fresh) s m ks ls step shows f is =
+    let n : Module = module_meaning c s.module_of in
+    let p = placed x place n.tree step.after.distinct step.changes.there in
+    let vs : List Value = (head p.here).operands in
+    let cut = taken x n.tree p.here step.after.distinct p.found p.inner in
+    let operands : operands_in s x ≡ Some vs = shown_operands c s x p.here (shown_there c s x p.here p.found) in
+    let now : ls ≡ keys_of (put_all (operand_uses x 0 vs) (all_uses m.tree)) = f vs (all_uses m.tree) operands (few_operands n x p.here step.after p.found) is in
+    now
+    ∙ ap keys_of (
+        put_all_order (operand_uses x 0 vs) (uses_in m.tree)
+        ∙ sym (
+            cut_order p.here n.tree (without x n.tree) cut
+            ∙ ap in_order (leaf_uses p.here (uses_in (without x n.tree)) (step.changes.empty p.here p.found))
+            ∙ (λ i. in_order (operand_uses (p.id i) 0 vs ++ uses_in (sym step.changes.left i)))
+        )
+    )
+followed_agrees c (Take x place fresh) s m ks ls step shows f is =
+    let n : Module = module_meaning c s.module_of in
+    let p = placed x place m.tree step.before.distinct step.changes.there in
+    let vs : List Value = (head p.here).operands in
+    let cut = taken x m.tree p.here step.before.distinct p.found p.inner in
+    let operands : operands_in s x ≡ Some vs = shown_operands c s x p.here (shows ∙ ap (option_map (λ (o : Operation). node_of o)) p.found) in
+    let now : ls ≡ keys_of (drop_all (operand_uses x 0 vs) (all_uses m.tree)) = f vs (all_uses m.tree) operands (few_operands m x p.here step.before p.found) is in
+    now
+    ∙ ap (λ l. keys_of (drop_all (operand_uses x 0 vs) l)) (
+        cut_order p.here m.tree (without x m.tree) cut
+        ∙ ap in_order (leaf_uses p.here (uses_in (without x m.tree)) (step.changes.empty p.here p.found))
+        ∙ (λ i. in_order (operand_uses (p.id i) 0 vs ++ uses_in (sym step.changes.left i)))
+    )
+    ∙ ap keys_of (drop_all_order (operand_uses x 0 vs) (uses_in n.tree))
+followed_agrees c (SetOperand x k old new) s m ks ls step shows f is =
+    let r = set_uses x k old new m.tree step.before.distinct step.changes.was in
     let us : List Use = in_order (r.front ++ r.back) in
     f us (is ∙ ap (λ l. keys_of (in_order l)) r.was ∙ ap keys_of (put_among r.front r.back (one_use old x k)))
-    ∙ sym (ap (λ t. keys_of (uses_of t)) s.changes.after ∙ ap (λ l. keys_of (in_order l)) r.is ∙ ap keys_of (put_among r.front r.back (one_use new x k)))
-followed_agrees c (SetEntry x part key old new) m n ks ls s f is = absurd f
-followed_agrees c (Shift x old new) m n ks ls s f is = absurd f
+    ∙ sym (ap (λ t. keys_of (all_uses t)) step.changes.after ∙ ap (λ l. keys_of (in_order l)) r.is ∙ ap keys_of (put_among r.front r.back (one_use new x k)))
+followed_agrees c (SetEntry x part key old new) s m ks ls step shows f is =
+    f ∙ is
+    ∙ ap (λ l. keys_of (in_order l)) (sym (edited_uses (at x (change_part part (change_entry key_before (name_term c key) (option_map (attr_term c) new)))) (entry_id x part _) (entry_operands x part _) m.tree))
+    ∙ sym (ap (λ t. keys_of (all_uses t)) step.changes.after)
+followed_agrees c (Shift x old new) s m ks ls step shows f is =
+    let n : Module = module_meaning c s.module_of in
+    let p = placed x old m.tree step.before.distinct step.changes.was in
+    let q = placed x new n.tree step.after.distinct step.changes.is in
+    let before = taken x m.tree p.here step.before.distinct p.found p.inner in
+    let after = taken x n.tree p.here step.after.distinct (step.changes.same ∙ p.found) q.inner in
+    f ∙ is
+    ∙ ap keys_of (
+        cut_order p.here m.tree (without x m.tree) before
+        ∙ ap (λ t. in_order (uses_in p.here ++ uses_in t)) (sym step.changes.rest)
+        ∙ sym (cut_order p.here n.tree (without x n.tree) after)
+    )
 
 -- the row of a key says its use
 row_says : (c : Things) (row : Row) (u : Use) → row.cells.items ≡ key_cells (key_of u) → row_meaning c row ≡ use_row u
@@ -69,5 +212,5 @@ pub rows_show : (c : Things) (rows : List Row) (keys : List Key) (us : List Use)
 rows_show c rows keys us is kept = let e = is ∙ ap (map key_cells) kept in record { says = rows_say c rows us e; known = rows_known c rows us e }
 
 -- the uses of what a module of a context stands for
-pub meaning_uses : (c : Things) (t : Tree) → keys_of (uses_of (meaning c t)) ≡ keys_of (uses_of t)
+pub meaning_uses : (c : Things) (t : Tree) → keys_of (all_uses (meaning c t)) ≡ keys_of (all_uses t)
 meaning_uses c t = ap (λ l. keys_of (in_order l)) (mapped_uses (name_term c) (type_term c) (attr_term c) t)

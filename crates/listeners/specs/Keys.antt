@@ -1,15 +1,12 @@
 -- Uses as a table keeps them.
-use Rattle.std.specs.Prelude.{◌≡◌, ℕ, List, [], ◌∷◌, map, Option, Some, None}
+use Rattle.std.specs.Prelude.{ℕ, List, [], ◌∷◌, map, Option, Some, None}
 use Rattle.ir_tree.specs.declared.value.Value.{Value}
 use Rattle.ir_tree.specs.declared.value.Value.TheVariants.{Result, Arg}
 use Rattle.ir_tree.specs.Frames.{owner_of, place_of}
-use Rattle.ir_event.specs.declared.event.Event.{Event}
-use Rattle.ir_event.specs.declared.event.Event.TheVariants.{Put, Take, SetOperand, SetEntry, Shift}
 use Rattle.ir_event.specs.declared.row.Cell.{Cell}
 use Rattle.ir_event.specs.declared.row.Cell.TheVariants as cell
 use Rattle.listeners.specs.declared.key.Use.{Use}
 use Rattle.listeners.specs.declared.key.Key.{Key}
-use Rattle.listeners.specs.Uses.{put_use}
 
 -- the key of a use
 abbrev pub key_of : Use → Key
@@ -31,12 +28,3 @@ use_of k = record { value = value_at k.owner k.region k.place; user = k.user; op
 -- the cells of a key's row
 abbrev pub key_cells : Key → List Cell
 key_cells key = cell.Val (value_at key.owner key.region key.place) ∷ cell.Op key.user ∷ cell.Num key.operand ∷ []
-
--- the keys before and after an event: where an operand was set its use is another
-abbrev pub IsFollowed : Event → List Key → List Key → Type 0
-IsFollowed (SetOperand x k old new) before after =
-    (us : List Use) → before ≡ keys_of (put_use (record { value = old; user = x; operand = k }) us) → after ≡ keys_of (put_use (record { value = new; user = x; operand = k }) us)
-IsFollowed (Put x place fresh) before after = ⊥
-IsFollowed (Take x place fresh) before after = ⊥
-IsFollowed (SetEntry x part key old new) before after = ⊥
-IsFollowed (Shift x old new) before after = ⊥

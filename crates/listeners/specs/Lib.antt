@@ -1,6 +1,6 @@
 pub mod Uses
 pub mod Keys
 pub mod Listings
-pub mod KeptKeys
 pub mod Listeners
 pub mod Drops
+pub mod Following

@@ -3,16 +3,15 @@ use Rattle.std.specs.Prelude.{◌≡◌, ◌+◌, false, None}
 use Rattle.ir_event.specs.Bounds.{operands_of}
 use Rattle.ir_event.specs.Listener.{Listener}
 use Rattle.listeners.specs.declared.uses.Uses.{Uses}
-use Rattle.listeners.specs.Uses.{uses_of, uses_rows}
+use Rattle.listeners.specs.Uses.{all_uses, uses_rows}
 use Rattle.listeners.specs.Keys.{keys_of}
-use Rattle.listeners.specs.KeptKeys.{kept_keys}
 
--- the uses of a module are kept, in order or so that their order is known
+-- the uses of a module are kept in order
 abbrev pub uses_listener : Uses → Listener
 uses_listener s = record {
   kind = 1;
   analysis = uses_rows;
-  agrees = λ c m. (s.stale ≡ false) × (kept_keys s.kept ≡ keys_of (uses_of m.tree));
+  agrees = λ c m. (s.stale ≡ false) × (s.table.keys ≡ keys_of (all_uses m.tree));
   stale = s.stale;
   heard = None;
   most = λ e m n. 2 + operands_of e m n;

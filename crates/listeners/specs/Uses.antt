@@ -52,8 +52,8 @@ in_order [] = []
 in_order (u ∷ us) = put_use u (in_order us)
 
 -- the uses of a tree in order
-abbrev pub uses_of : {N T A : Type 0} → OpOf N T A → List Use
-uses_of t = in_order (uses_in t)
+abbrev pub all_uses : {N T A : Type 0} → OpOf N T A → List Use
+all_uses t = in_order (uses_in t)
 
 -- the row of a use: the value, the user, the number of the operand
 abbrev pub use_row : Use → RowTerm
@@ -61,4 +61,4 @@ use_row u = Val u.value ∷ Op u.user ∷ Num u.operand ∷ []
 
 -- the rows of a tree
 abbrev pub uses_rows : Operation → List RowTerm
-uses_rows t = map use_row (uses_of t)
+uses_rows t = map use_row (all_uses t)

@@ -2,7 +2,7 @@
 #![tactic(auto)]
 
 mod collect;
-mod kept;
+mod follow;
 pub mod key;
 mod listing;
 mod table;

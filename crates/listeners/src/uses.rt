@@ -1,11 +1,15 @@
 //! The listener that keeps the uses of values.
-ghost use Rattle.std.specs.Prelude.{◌≡◌, true, IfOk};
-ghost use Rattle.listeners.specs.Uses.{uses_in};
+ghost use Rattle.std.specs.Prelude.{◌≡◌, ◌≤◌, ◌+◌, ◌⊎◌, true, IfOk};
+ghost use Rattle.ir_event.specs.Modules.{Module, things_in, module_in, shown_in};
+ghost use Rattle.ir_event.specs.Listener.{Told, ShowsTaken, is_take};
+ghost use Rattle.ir_event.specs.Step.{Step};
+ghost use Rattle.listeners.specs.Uses.{all_uses};
+ghost use Rattle.listeners.specs.Keys.{keys_of};
 
 use crate::collect::collect;
-use crate::kept::Kept;
-use crate::listing::Listing;
-use crate::table::{follow, rows};
+use crate::follow::follow;
+use crate::key::Key;
+use crate::table::{rows_of_table, table_of};
 use ir_event::analysis::Analysis;
 use ir_event::event::Event;
 use ir_event::row::{Kind, Memory, ReportFault, Row};
@@ -13,14 +17,15 @@ use ir_event::view::View;
 use ir_event::world::World;
 use ir_store::store::Store;
 use std::alloc::{AllocError, Global};
+use std::collections::BTreeSet;
 
 /// The analysis `uses`: each use of each value, in order.
 ///
-/// It follows an operand that is set, and is stale after any other event, and where its own growth is refused.
+/// It follows every event, and is stale where its own growth is refused, which a `Take` doesn't need.
 #[derive(Drop)]
 pub struct Uses {
     alloc: Global,
-    kept: Kept,
+    table: BTreeSet<Key>,
     stale: bool,
 }
 
@@ -33,18 +38,19 @@ impl Uses {
     {
         Uses {
             alloc,
-            kept: Kept::Listed(Listing::new(alloc)),
+            table: BTreeSet::new(alloc),
             stale: true,
         }
     }
 }
 
-/// The uses of a store's module.
-fn listed(alloc: Global, store: &Store) -> Result<Listing, AllocError>
-    ensures { IfOk result (λ uses. uses ≡ uses_in store.now.module_of.tree) }
+/// The table of the uses of a store's module.
+fn table_in(alloc: Global, store: &Store) -> Result<BTreeSet<Key>, AllocError>
+    ensures { IfOk result (λ table. table.keys ≡ keys_of (all_uses store.now.module_of.tree)) }
 {
     let tree = store.tree()?;
-    collect(alloc, &tree)
+    let uses = collect(alloc, &tree)?;
+    table_of(alloc, &uses)
 }
 
 impl Analysis for Uses {
@@ -57,28 +63,34 @@ impl Analysis for Uses {
     }
 
     fn begin(&mut self, world: &World) -> Result<(), Memory> {
-        // What was kept goes first, so that there is room for what is listed now.
-        self.kept = Kept::Listed(Listing::new(self.alloc));
-        match listed(self.alloc, &world.store) {
-            Ok(uses) => {
-                self.kept = Kept::Listed(uses);
+        // What was kept goes first, so that there is room for what is kept now.
+        self.table = BTreeSet::new(self.alloc);
+        self.stale = true;
+        match table_in(self.alloc, &world.store) {
+            Ok(table) => {
+                self.table = table;
                 self.stale = false;
                 Ok(())
             }
-            Err(_) => {
-                self.stale = true;
-                Err(Memory)
-            }
+            Err(_) => Err(Memory),
         }
     }
 
-    fn told<'a>(&mut self, view: View<'a>, event: Event) -> View<'a> {
+    /// Where it agreed before an operation was taken it agrees afterwards, and isn't stale.
+    fn told<'a>(&mut self, view: View<'a>, event: Event) -> View<'a>
+        ensures told { Told event (things_in view.entry.world.now) (module_in view.entry.world.now) (shown_in view.entry.world.now) (uses_listener self.old) (uses_listener self.new) }
+        ensures looks { (m : Module) → Step (things_in view.entry.world.now) event m (module_in view.entry.world.now) → ShowsTaken event m (shown_in view.entry.world.now)
+            → ((uses_listener self.old).agrees (things_in view.entry.world.now) m ⊎ ((uses_listener self.old).stale ≡ true)) → result.looks ≤ view.entry.looks + (uses_listener self.old).most event m (module_in view.entry.world.now) }
+        ensures world { result.world.now ≡ view.entry.world.now }
+        ensures take { (m : Module) → is_take event ≡ true → Step (things_in view.entry.world.now) event m (module_in view.entry.world.now) → ShowsTaken event m (shown_in view.entry.world.now)
+            → (uses_listener self.old).agrees (things_in view.entry.world.now) m → (uses_listener self.new).agrees (things_in view.entry.world.now) (module_in view.entry.world.now) }
+    {
         if self.stale {
             return view;
         }
-        if !follow(self.alloc, &mut self.kept, &event) {
+        let mut view = view;
+        if !follow(&mut self.table, &mut view, &event) {
             self.stale = true;
-            return view;
         }
         view
     }
@@ -91,7 +103,7 @@ impl Analysis for Uses {
         if self.stale {
             return Err(ReportFault::Stale);
         }
-        match rows(alloc, &self.kept) {
+        match rows_of_table(alloc, &self.table) {
             Ok(rows) => Ok(rows),
             Err(_) => Err(ReportFault::Memory),
         }

@@ -1,14 +1,17 @@
-use Rattle.std.proofs.Common.{◌≡◌, true, refl, inl, rules}
-use Rattle.listeners.proofs.Keys.{was_true}
+use Rattle.std.proofs.Common.{refl, inl}
 use Rattle.listeners.proofs.Following.{followed_agrees}
 use Rattle.listeners.proofs.uses.UsesAnalysis.told.Goals as goal
 
-pub returns-clause-told : goal.returns-clause-told
-returns-clause-told c =
-    let yes : c.follow.result ≡ true = search rules in
+pub returns-else-not-follow-clause-told : goal.returns-else-not-follow-clause-told
+returns-else-not-follow-clause-told c =
+    let w = c.args.view.world.now in
     record {
       same = record { kind = refl; analysis = λ t. refl; most = λ e m n. refl };
-      agrees = λ m step shows held. inl (held.0, followed_agrees c.args.view.world.now.ctx c.args.event m _ _ _ step (was_true c.follow.result _ yes c.follow.ensures) held.1);
+      agrees = λ m step shows held. inl (held.0, followed_agrees w.ctx c.args.event w.store m _ _ step shows c.if-not-follow.ensures.followed held.1);
       stale = λ h. h;
       heard = inl refl;
     }
+
+pub returns-else-not-follow-clause-take : goal.returns-else-not-follow-clause-take
+returns-else-not-follow-clause-take c m take step shows held =
+    let w = c.args.view.world.now in (held.0, followed_agrees w.ctx c.args.event w.store m _ _ step shows c.if-not-follow.ensures.followed held.1)

@@ -3,7 +3,7 @@ use Rattle.listeners.specs.declared.key.Use.{Use}
 use Rattle.listeners.specs.Uses.{put_use}
 use Rattle.listeners.specs.Keys.{keys_of}
 use Rattle.listeners.proofs.Orders.{drop_put}
-use Rattle.listeners.proofs.table.exchange.Goals as goal
+use Rattle.listeners.proofs.follow.exchange.Goals as goal
 
 pub returns : goal.returns
 returns c us is =

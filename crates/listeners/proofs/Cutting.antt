@@ -1,0 +1,100 @@
+-- The uses of a tree where an operation is taken out of it.
+use Rattle.std.proofs.Common.{◌≡◌, refl, ap, sym, ◌∙◌, subst, ℕ, ◌+◌, Bool, true, false, cond, eqb, List, [], ◌∷◌, ◌++◌, append_assoc, map, Some}
+use Rattle.ir_tree.specs.Tree.{HeadOf, OpOf, op, RegionsOf, no_regions, region, RegionOf, empty, block, OpsOf, no_ops, next, head, regions}
+use Rattle.ir_tree.specs.Ids.{HasDistinctIds, find}
+use Rattle.ir_tree.specs.Places.{without}
+use Rattle.ir_tree.specs.Edits.{each_head}
+use Rattle.ir_tree_laws.specs.Changes.{HoldNone}
+use Rattle.ir_tree_laws.specs.Stands.{StepOf, StandOf, stand_id, stands, regions_stands, region_stands, ops_stands, gather, left_stand, edit_stand, dropping}
+use Rattle.ir_tree_laws.proofs.Listed.{gather-append}
+use Rattle.ir_tree_laws.proofs.Heads.{each_stands}
+use Rattle.ir_tree_laws.proofs.Readings.{step}
+use Rattle.ir_tree_laws.proofs.Stretches.{Parted, gather_left}
+use Rattle.ir_tree_laws.proofs.Without.{same_head}
+use Rattle.ir_tree_laws.proofs.Shift.{inner_of}
+use Rattle.ir_tree_laws.proofs.Edited.{taken_part}
+use Rattle.listeners.specs.declared.key.Use.{Use}
+use Rattle.listeners.specs.Uses.{operand_uses, uses_in, regions_uses, region_uses, ops_uses, put_use, in_order}
+use Rattle.listeners.proofs.Orders.{put_among}
+
+-- uses in order are the same in whichever order they came
+pub moved_front : (us vs ws : List Use) → in_order (us ++ (vs ++ ws)) ≡ in_order (vs ++ (us ++ ws))
+moved_front us [] ws = refl
+moved_front us (v ∷ vs) ws = put_among us (vs ++ ws) v ∙ ap (put_use v) (moved_front us vs ws)
+
+module _ {N T A : Type 0} where
+  abbrev own : StandOf N T A → List Use
+  own s = operand_uses (stand_id s) 0 (head s.here).operands
+
+  -- the uses read off the list
+  mutual
+    pub uses_stands : (path : List (StepOf N T A)) (t : OpOf N T A) → gather (λ (s : StandOf N T A). operand_uses (stand_id s) 0 (head s.here).operands) (stands path t) ≡ uses_in t
+    uses_stands path (op h rs) = ap (λ l. operand_uses h.id 0 h.operands ++ l) (regions_uses_stands (op h rs) path 0 rs)
+
+    regions_uses_stands : (p : OpOf N T A) (path : List (StepOf N T A)) (r : ℕ) (rs : RegionsOf N T A) → gather own (regions_stands p path r rs) ≡ regions_uses rs
+    regions_uses_stands p path r no_regions = refl
+    regions_uses_stands p path r (region g rs) =
+        gather-append own (region_stands p path r g) (regions_stands p path (r + 1) rs) ∙ λ i. region_uses_stands p path r g i ++ regions_uses_stands p path (r + 1) rs i
+
+    region_uses_stands : (p : OpOf N T A) (path : List (StepOf N T A)) (r : ℕ) (g : RegionOf N T A) → gather own (region_stands p path r g) ≡ region_uses g
+    region_uses_stands p path r empty = refl
+    region_uses_stands p path r (block args os) = ops_uses_stands p path r args [] os
+
+    ops_uses_stands : (p : OpOf N T A) (path : List (StepOf N T A)) (r : ℕ) (args : List T) (front : List (OpOf N T A)) (os : OpsOf N T A) → gather own (ops_stands p path r args front os) ≡ ops_uses os
+    ops_uses_stands p path r args front no_ops = refl
+    ops_uses_stands p path r args front (next o os) =
+        gather-append own (stands (step p r args front os ∷ path) o) (ops_stands p path r args (front ++ o ∷ []) os)
+        ∙ λ i. uses_stands (step p r args front os ∷ path) o i ++ ops_uses_stands p path r args (front ++ o ∷ []) os i
+
+  -- those of an operation that is taken were among the others
+  pub record Cut (o t u : OpOf N T A) : Type 0 where
+    pub front : List Use
+    pub back : List Use
+    pub was : uses_in t ≡ front ++ (uses_in o ++ back)
+    pub is : uses_in u ≡ front ++ back
+
+  pub taken : (x : ℕ) (t o : OpOf N T A) → HasDistinctIds t → find x t ≡ Some o → eqb (head t).id x ≡ false → Cut o t (without x t)
+  taken x t o d found inner =
+      let w = taken_part x t o d found inner in
+      let q = inner_of x t o found inner in
+      let path = q.step_in ∷ q.path in
+      record {
+        front = gather own w.front;
+        back = gather own w.back;
+        was = sym (uses_stands [] t)
+            ∙ ap (gather own) w.is
+            ∙ gather-append own w.front (stands path o ++ w.back)
+            ∙ ap (λ l. gather own w.front ++ l) (gather-append own (stands path o) w.back ∙ ap (λ l. l ++ gather own w.back) (uses_stands path o));
+        is = sym (uses_stands [] (without x t))
+            ∙ ap (gather own) w.left
+            ∙ gather_left own x (λ s. ap (λ (h : HeadOf N T A). operand_uses h.id 0 h.operands) (same_head x (dropping x) s.here)) (w.front ++ w.back)
+            ∙ gather-append own w.front w.back;
+      }
+
+  pub cut_order : (o t u : OpOf N T A) → Cut o t u → in_order (uses_in t) ≡ in_order (uses_in o ++ uses_in u)
+  cut_order o t u c = ap in_order c.was ∙ moved_front c.front (uses_in o) c.back ∙ ap (λ l. in_order (uses_in o ++ l)) (sym c.is)
+
+  -- an operation that holds none has the uses of its operands alone
+  none_inside : (rs : RegionsOf N T A) → HoldNone rs → regions_uses rs ≡ []
+  none_inside no_regions h = refl
+  none_inside (region empty rs) h = none_inside rs h
+  none_inside (region (block args no_ops) rs) h = none_inside rs h
+  none_inside (region (block args (next o os)) rs) h = absurd h
+
+  pub leaf_uses : (o : OpOf N T A) (us : List Use) → HoldNone (regions o) → uses_in o ++ us ≡ operand_uses (head o).id 0 (head o).operands ++ us
+  leaf_uses (op h rs) us n = append_assoc (operand_uses h.id 0 h.operands) (regions_uses rs) us ∙ ap (λ l. operand_uses h.id 0 h.operands ++ (l ++ us)) (none_inside rs n)
+
+  -- an edit of heads that leaves ids and operands leaves the uses
+  module _ (f : HeadOf N T A → HeadOf N T A) (id : (h : HeadOf N T A) → (f h).id ≡ h.id) (operands : (h : HeadOf N T A) → (f h).operands ≡ h.operands) where
+    edited_head : (o : OpOf N T A) → head (each_head f o) ≡ f (head o)
+    edited_head (op h rs) = refl
+
+    edited_own : (s : StandOf N T A) → own (edit_stand f s) ≡ own s
+    edited_own s = ap (λ (h : HeadOf N T A). operand_uses h.id 0 h.operands) (edited_head s.here) ∙ λ i. operand_uses (id (head s.here) i) 0 (operands (head s.here) i)
+
+    edited_all : (ss : List (StandOf N T A)) → gather own (map (edit_stand f) ss) ≡ gather own ss
+    edited_all [] = refl
+    edited_all (s ∷ ss) = λ i. edited_own s i ++ edited_all ss i
+
+    pub edited_uses : (t : OpOf N T A) → uses_in (each_head f t) ≡ uses_in t
+    edited_uses t = sym (uses_stands [] (each_head f t)) ∙ ap (gather own) (each_stands f [] t) ∙ edited_all (stands [] t) ∙ uses_stands [] t

@@ -1,0 +1,14 @@
+-- Many uses put in, or dropped.
+use Rattle.std.proofs.Common.{◌≡◌, refl, ap, sym, ◌∙◌, List, [], ◌∷◌, ◌++◌}
+use Rattle.listeners.specs.declared.key.Use.{Use}
+use Rattle.listeners.specs.Uses.{put_use, in_order}
+use Rattle.listeners.specs.Drops.{drop_all, drop_use, put_all}
+use Rattle.listeners.proofs.Orders.{drop_put, put_among}
+
+pub put_all_order : (us vs : List Use) → put_all us (in_order vs) ≡ in_order (us ++ vs)
+put_all_order [] vs = refl
+put_all_order (u ∷ us) vs = put_all_order us (u ∷ vs) ∙ put_among us vs u
+
+pub drop_all_order : (us vs : List Use) → drop_all us (in_order (us ++ vs)) ≡ in_order vs
+drop_all_order [] vs = refl
+drop_all_order (u ∷ us) vs = ap (drop_all us) (drop_put u (in_order (us ++ vs))) ∙ drop_all_order us vs
