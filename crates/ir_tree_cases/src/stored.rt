@@ -50,7 +50,7 @@ fn load(alloc: Global, context: &Context, tree: &TreeOp, next: u32) -> Result<St
 fn hold(alloc: Global, context: &Context, tree: TreeOp, next: u32) -> Result<Store, Refusal> {
     suit(alloc, context, &tree, next)?;
     check(alloc, context, &tree)?;
-    Ok(Store::hold(alloc, context, tree, next))
+    Ok(Store::hold(alloc, context, tree, next)?)
 }
 
 /// The same of a copy.
@@ -179,7 +179,6 @@ fn answer(
         "next" => written::number(alloc, u64::from(store.next_id())),
         "sees" => sees(alloc, context, store, text),
         "module" => copied(alloc, store),
-        "root" => written::tree(alloc, store.root()),
         _ => written::word(alloc, "no call"),
     }
 }

@@ -53,6 +53,31 @@ fn counts_looks(rt: HostRuntime) -> Result<(), Refusal> {
 }
 
 #[test]
+fn looks_beside(rt: HostRuntime) -> Result<(), Refusal> {
+    let world = a_world(rt.alloc())?;
+    let mut view = View::new(&world);
+    let (function, two, three) = (OpId::new(1), OpId::new(2), OpId::new(3));
+    assert!(rt; view.parent(two) == Some(function) && view.parent(OpId::new(0)).is_none());
+    assert!(rt; view.next(two) == Some(three) && view.prev(three) == Some(two));
+    assert!(rt; view.first(function, 0) == Some(two) && view.last(function, 0) == Some(three));
+    assert!(rt; view.first(function, 1).is_none() && view.next(three).is_none());
+    assert_eq!(rt; view.looks(), 8);
+    Ok(())
+}
+
+#[test]
+fn counts_uses(rt: HostRuntime) -> Result<(), Refusal> {
+    let world = a_world(rt.alloc())?;
+    let mut view = View::new(&world);
+    match view.uses(result(2, 0)) {
+        Ok(uses) => assert!(rt; uses.as_slice() == [(OpId::new(3), 0)].as_slice()),
+        Err(_) => assert!(rt; false),
+    }
+    assert_eq!(rt; view.looks(), 2);
+    Ok(())
+}
+
+#[test]
 fn refuses_an_operand(rt: HostRuntime) -> Result<(), Refusal> {
     let alloc = rt.alloc();
     let mut world = a_world(alloc)?;

@@ -1,13 +1,17 @@
 //! The listener of uses.
-use crate::worlds::{a_world, are_rows, arg, report_refusal, reports, result, set_and_tell};
+use crate::worlds::{
+    Item, a_world, are_rows, arg, reports, result, same_reports, set_and_tell, world,
+};
 use ir_event::analysis::Analysis;
 use ir_event::event::Event;
 use ir_event::panel::Panel;
 use ir_event::row::{Kind, ReportFault};
-use ir_tree::place::Place;
-use ir_types::ids::OpId;
+use ir_event::view::View;
+use ir_tree::place::{Part, Place};
+use ir_types::ids::{NameId, OpId};
 use ir_types::refusal::Refusal;
 use listeners::uses::Uses;
+use std::alloc::Global;
 
 #[test]
 fn follows_an_operand(rt: HostRuntime) -> Result<(), Refusal> {
@@ -69,27 +73,96 @@ fn is_stale_at_first(rt: HostRuntime) -> Result<(), Refusal> {
 }
 
 #[test]
-fn is_stale_after_other_events(rt: HostRuntime) -> Result<(), Refusal> {
+fn keeps_an_operand(rt: HostRuntime) -> Result<(), Refusal> {
     let alloc = rt.alloc();
-    let world = a_world(alloc)?;
-    let mut panel: Panel<Box<dyn Analysis>> = Panel::new(alloc);
-    let uses = Box::new(alloc, Uses::new(alloc))?;
-    assert!(rt; panel.attach(&world, uses).is_ok());
-    let place = Place {
+    let mut world = a_world(alloc)?;
+    let mut panel: Panel<Uses> = Panel::new(alloc);
+    assert!(rt; panel.attach(&world, Uses::new(alloc)).is_ok());
+    assert!(rt; set_and_tell(&mut world, &mut panel, 3, 0, result(2, 0)));
+    assert!(rt; reports(alloc, &panel, &[(arg(1, 0, 0), 3, 1), (result(2, 0), 3, 0)]));
+    Ok(())
+}
+
+/// Whether a listener that began with one world, and was told of an event that led to another, reports what one
+/// does that began with that.
+fn follows(
+    alloc: Global,
+    before: &[Item<'_>],
+    after: &[Item<'_>],
+    event: Event,
+) -> Result<bool, Refusal> {
+    let mut told = Uses::new(alloc);
+    told.begin(&world(alloc, before)?).is_ok();
+    let world = world(alloc, after)?;
+    let view = told.told(View::new(&world), event);
+    let within = view.looks() <= 4;
+    let mut begun = Uses::new(alloc);
+    begun.begin(&world).is_ok();
+    Ok(within && same_reports(alloc, &told, &begun))
+}
+
+/// The end of the function.
+fn end() -> Place {
+    Place {
         parent: OpId::new(1),
         region: 0,
         before: None,
+    }
+}
+
+#[test]
+fn follows_a_put(rt: HostRuntime) -> Result<(), Refusal> {
+    let event = Event::Put {
+        op: OpId::new(4),
+        place: end(),
+        fresh: true,
     };
-    panel.tell(
-        &world,
-        Event::Take {
-            op: OpId::new(4),
-            place,
-            fresh: true,
+    let two = (2, &[arg(1, 0, 0)][..]);
+    let four = (4, &[result(2, 0), arg(1, 0, 0)][..]);
+    assert!(rt; follows(rt.alloc(), &[two], &[two, four], event)?);
+    Ok(())
+}
+
+#[test]
+fn follows_a_take(rt: HostRuntime) -> Result<(), Refusal> {
+    let event = Event::Take {
+        op: OpId::new(4),
+        place: end(),
+        fresh: true,
+    };
+    let two = (2, &[arg(1, 0, 0)][..]);
+    let four = (4, &[][..]);
+    assert!(rt; follows(rt.alloc(), &[two, four], &[two], event)?);
+    Ok(())
+}
+
+#[test]
+fn follows_a_shift(rt: HostRuntime) -> Result<(), Refusal> {
+    let event = Event::Shift {
+        op: OpId::new(4),
+        old: end(),
+        new: Place {
+            parent: OpId::new(1),
+            region: 0,
+            before: Some(OpId::new(2)),
         },
-    );
-    assert!(rt; report_refusal(alloc, &panel) == Some(Refusal::Stale));
-    assert!(rt; panel.resync(&world, Kind::new(1)).is_ok());
-    assert!(rt; reports(alloc, &panel, &[(arg(1, 0, 0), 3, 1), (result(2, 0), 3, 0)]));
+    };
+    let two = (2, &[arg(1, 0, 0)][..]);
+    let four = (4, &[arg(1, 0, 0)][..]);
+    assert!(rt; follows(rt.alloc(), &[two, four], &[four, two], event)?);
+    Ok(())
+}
+
+#[test]
+fn follows_an_entry(rt: HostRuntime) -> Result<(), Refusal> {
+    let event = Event::SetEntry {
+        op: OpId::new(2),
+        part: Part::Attrs,
+        key: NameId::new(0),
+        old: None,
+        new: None,
+    };
+    let two = (2, &[arg(1, 0, 0)][..]);
+    assert!(rt; follows(rt.alloc(), &[two], &[two], event)?);
     Ok(())
 }

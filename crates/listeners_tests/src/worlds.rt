@@ -1,8 +1,9 @@
-//! A small world, and what listeners report of it.
+//! Small worlds, and what listeners report of them.
 ghost use Rattle.std.specs.Prelude.{◌<◌, IsTrue, IfOk};
 ghost use Rattle.std.specs.List.{All};
 ghost use Rattle.ir_tree.specs.Ids.{ids};
 
+use dialects_int::tables::registry;
 use ir_event::analysis::Analysis;
 use ir_event::panel::Panel;
 use ir_event::row::{Cell, Kind, Row};
@@ -18,9 +19,6 @@ use ir_types::node::{Sign, TypeNode};
 use ir_types::refusal::Refusal;
 use ir_types::words::{BUILTIN_MODULE, FUNC_FUNC};
 use std::alloc::{AllocError, Global};
-
-/// The number of `arith.constant`.
-const CONSTANT: u32 = 5;
 
 /// The number of `arith.addi`.
 const ADD: u32 = 6;
@@ -73,21 +71,25 @@ fn holder(
     })
 }
 
-/// The module #0 with the function #1 of one argument, in which #2 is a constant, and #3 adds the constant
-/// and the argument.
-fn a_tree(alloc: Global, ty: TypeId) -> Result<TreeOp, AllocError> {
-    let mut body = Vec::new(alloc);
-    body.push(giver(alloc, 2, CONSTANT, Vec::new(alloc), ty)?)?;
-    let added = vec![in alloc; result(2, 0), arg(1, 0, 0)]?;
-    body.push(giver(alloc, 3, ADD, added, ty)?)?;
-    let function = holder(alloc, 1, FUNC_FUNC, vec![in alloc; ty]?, body)?;
-    holder(
-        alloc,
-        0,
-        BUILTIN_MODULE,
-        Vec::new(alloc),
-        vec![in alloc; function]?,
-    )
+/// An operation of a function: its id, and its operands. It has one result.
+pub type Item<'a> = (u32, &'a [Value]);
+
+/// The operations of a function.
+fn body(alloc: Global, ty: TypeId, items: &[Item<'_>]) -> Result<Vec<TreeOp>, AllocError> {
+    let mut ops = Vec::new(alloc);
+    for item in items {
+        let operands = Vec::from_slice(alloc, item.1)?;
+        ops.push(giver(alloc, item.0, ADD, operands, ty)?)?;
+    }
+    Ok(ops)
+}
+
+/// The module #0 with the function #1 of one argument and these operations.
+fn a_tree(alloc: Global, ty: TypeId, items: &[Item<'_>]) -> Result<TreeOp, AllocError> {
+    let ops = body(alloc, ty, items)?;
+    let function = holder(alloc, 1, FUNC_FUNC, vec![in alloc; ty]?, ops)?;
+    let functions = vec![in alloc; function]?;
+    holder(alloc, 0, BUILTIN_MODULE, Vec::new(alloc), functions)
 }
 
 /// Whether the ids of a tree are below a number.
@@ -98,24 +100,33 @@ fn are_below(alloc: Global, tree: &TreeOp, next: u32) -> Result<bool, AllocError
     Ok(ids.iter().all(|id| id.number() < next))
 }
 
+/// The next free id of the worlds.
+pub const NEXT: u32 = 8;
+
 /// The world of a tree, or `NoSuchIndex` where what a world asks of a tree isn't so.
 fn load(alloc: Global, ctx: Context, tree: &TreeOp) -> Result<World, Refusal> {
-    if !sound(&ctx, tree) || !distinct(alloc, tree)? || !are_below(alloc, tree, 4)? {
+    if !sound(&ctx, tree) || !distinct(alloc, tree)? || !are_below(alloc, tree, NEXT)? {
         return Err(Refusal::NoSuchIndex);
     }
-    World::load(alloc, ctx, tree, 4)
+    let registry = registry(&ctx)?;
+    World::load(alloc, ctx, registry, tree, NEXT)
 }
 
-/// The world of the small module.
-pub fn a_world(alloc: Global) -> Result<World, Refusal> {
+/// The world of the module #0 with the function #1 of one argument and these operations.
+pub fn world(alloc: Global, items: &[Item<'_>]) -> Result<World, Refusal> {
     let mut ctx = Context::new(alloc)?;
     let word = TypeNode::Int {
         sign: Sign::Signless,
         width: 32,
     };
     let ty = ctx.ty(word)?;
-    let tree = a_tree(alloc, ty)?;
+    let tree = a_tree(alloc, ty, items)?;
     load(alloc, ctx, &tree)
+}
+
+/// The world in which #3 uses #2 and the argument.
+pub fn a_world(alloc: Global) -> Result<World, Refusal> {
+    world(alloc, &[(2, &[]), (3, &[result(2, 0), arg(1, 0, 0)])])
 }
 
 /// A use: the value, the user, the number of the operand.
@@ -175,5 +186,27 @@ pub fn set_refusal(world: &mut World, op: u32, operand: u32, value: Value) -> Op
     match world.set_operand(OpId::new(op), operand, value) {
         Ok(_) => None,
         Err(refusal) => Some(refusal),
+    }
+}
+
+/// Whether two rows are one.
+fn is_same_row(one: &Row, other: &Row) -> bool {
+    one.cells.as_slice() == other.cells.as_slice()
+}
+
+/// Whether two lists of rows are one.
+fn are_same_rows(one: &[Row], other: &[Row]) -> bool {
+    one.len() == other.len()
+        && one
+            .iter()
+            .zip(other.iter())
+            .all(|(row, other)| is_same_row(row, other))
+}
+
+/// Whether two listeners report the same.
+pub fn same_reports<L: Analysis>(alloc: Global, one: &L, other: &L) -> bool {
+    match (one.report(alloc), other.report(alloc)) {
+        (Ok(one), Ok(other)) => are_same_rows(&one, &other),
+        _ => false,
     }
 }

@@ -13,6 +13,7 @@ ghost use Rattle.mlir_work_run_base.specs.Ran.{RanOut};
 ghost use Rattle.mlir_work_run.specs.Ends.{EndedSo, HasStatus, ended_of, status_of};
 ghost use Rattle.mlir_work_run.specs.Whole.{IsOutput, IsRefusal, WhyNot, IsWorldOf};
 
+use dialects_int::tables::registry;
 use ir_event::analysis::Analysis;
 use ir_event::world::World;
 use ir_text::reader;
@@ -81,7 +82,8 @@ fn next_free(tree: &TreeOp) -> Option<u32>
     u32::try_from(op_count(tree)).ok()
 }
 
-/// The world of a tree that was read, or none where it has more operations than there are ids.
+/// The world of a tree that was read, or none where it has more operations than there are ids, or memory is
+/// refused.
 fn hold(alloc: Global, ctx: Context, tree: TreeOp) -> Option<World>
     requires sound { IsSoundIn ctx tree }
     requires numbered { IsNumberedFrom 0 tree }
@@ -91,7 +93,10 @@ fn hold(alloc: Global, ctx: Context, tree: TreeOp) -> Option<World>
     let Some(next) = next_free(&tree) else {
         return None;
     };
-    Some(World::hold(alloc, ctx, tree, next))
+    let Ok(registry) = registry(&ctx) else {
+        return None;
+    };
+    World::hold(alloc, ctx, registry, tree, next).ok()
 }
 
 /// Why there is no memory.

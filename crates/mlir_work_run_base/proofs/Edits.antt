@@ -9,10 +9,11 @@ use Rattle.ir_tree.specs.declared.value.Value.{Value}
 use Rattle.ir_tree.specs.Tree.{Op}
 use Rattle.ir_tree.specs.Edits.{with_operand}
 use Rattle.ir_tree.specs.Meaning.{meaning, isolated_in}
-use Rattle.ir_tree.specs.WellFormed.{Module as Numbered}
 use Rattle.ir_tree.proofs.MappedEdits.{map_with_operand}
 use Rattle.ir_tree_laws.specs.Reasons.{set_operand_reason}
 use Rattle.ir_tree_laws.proofs.Contents.{map_set_operand_reason}
+use Rattle.ir_store.specs.Stored.{Stored}
+use Rattle.ir_store.specs.Calls.{after_operand}
 use Rattle.ir_event.specs.Modules.{Module, module_meaning}
 use Rattle.mlir_work_run_base.specs.Machine.{same_with, edited, IsOrMemory}
 use Rattle.mlir_work_run_base.specs.declared.desk.Reply.TheVariants.{Done, Refused}
@@ -22,9 +23,9 @@ pub reason_means : (c : Things) (x k : ℕ) (v : Value) (t : Op) → set_operand
 reason_means c x k v t = map_set_operand_reason (name_term c) (type_term c) (attr_term c) is_isolated x k v t
 
 -- what an operand that is set gives is what the definition gives
-pub edit_done : {E : Type 0} (Q : Refusal → Type 0) (c d : Things) (x k : ℕ) (v : Value) (m n : Numbered) (r : Result E Refusal) → d ≡ c → OnOk r (n ≡ record m { tree = with_operand x k v m.tree }) → MatchResult r (λ _. set_operand_reason (isolated_in c) x k v m.tree ≡ None) Q
-    → OnOk r (same_with Done (module_meaning d n) ≡ edited (set_operand_reason is_isolated x k v (meaning c m.tree)) (record (module_meaning c m) { tree = with_operand x k v (meaning c m.tree) }) (module_meaning c m))
-edit_done Q c d x k v m n (Ok e) same is none = rw (same, is, reason_means c x k v m.tree, none, map_with_operand (name_term c) (type_term c) (attr_term c) x k v m.tree) refl
+pub edit_done : {E : Type 0} (Q : Refusal → Type 0) (c d : Things) (x k : ℕ) (v : Value) (m n : Stored) (r : Result E Refusal) → d ≡ c → OnOk r (n ≡ after_operand x k v m) → MatchResult r (λ _. set_operand_reason (isolated_in c) x k v m.module_of.tree ≡ None) Q
+    → OnOk r (same_with Done (module_meaning d n.module_of) ≡ edited (set_operand_reason is_isolated x k v (meaning c m.module_of.tree)) (record (module_meaning c m.module_of) { tree = with_operand x k v (meaning c m.module_of.tree) }) (module_meaning c m.module_of))
+edit_done Q c d x k v m n (Ok e) same is none = rw (same, is, reason_means c x k v m.module_of.tree, none, map_with_operand (name_term c) (type_term c) (attr_term c) x k v m.module_of.tree) refl
 edit_done Q c d x k v m n (Err e) same is none = tt
 
 -- and a refusal of it is the definition's, or for want of memory

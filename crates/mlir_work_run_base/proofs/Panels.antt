@@ -1,11 +1,11 @@
 -- Listeners, and what is shown of them.
-use Rattle.std.proofs.Common.{◌≡◌, ℕ, suc, List, [], ◌∷◌, Bool, true, false, cond, Some, None, refl, arith, subst}
+use Rattle.std.proofs.Common.{◌≡◌, ℕ, suc, List, [], ◌∷◌, Bool, true, false, cond, Option, Some, None, refl, arith, subst}
 use Rattle.std.specs.Option.{option_map}
 use Rattle.std.specs.List.{AllZip, find, All}
 use Rattle.ir_types.specs.Things.{Things}
 use Rattle.ir_types.specs.declared.refusal.Refusal.TheVariants.{NoSuchKind}
 use Rattle.ir_event.specs.declared.event.Event.{Event}
-use Rattle.ir_event.specs.Modules.{Module}
+use Rattle.ir_event.specs.Modules.{Module, Node}
 use Rattle.ir_event.specs.Listener.{Listener}
 use Rattle.ir_event.specs.Panels.{AllTold, is_kind as has_this_kind}
 use Rattle.mlir_work_run_base.specs.RowText.{rows_text}
@@ -24,11 +24,11 @@ module _ {B : Type 0} (meaning : B → Listener) where
   find_has P p (b ∷ bs) x h e = let Q : (t : Bool) → cond t (Some b) (find p bs) ≡ Some x → P x = λ t. elim t as (λ t. cond t (Some b) (find p bs) ≡ Some x → P x) [ true ↦ λ e. (let same : b ≡ x = cc in subst P same (h 0 b (omega arith))) | false ↦ λ e. find_has P p bs x (λ k d l. h (suc k) d (omega arith)) e ] in Q (p b) e
 
   -- who was told is older
-  pub ages_told : (e : Event) (c : Things) (n : Module) (xs ys : List B) → AllTold meaning e c n xs ys → AllZip Ages (all_shown meaning xs) (all_shown meaning ys)
-  ages_told e c n [] [] h = tt
-  ages_told e c n [] (y ∷ ys) h = absurd h
-  ages_told e c n (x ∷ xs) [] h = absurd h
-  ages_told e c n (x ∷ xs) (y ∷ ys) h = (record { kind = h.0.same.kind; analysis = h.0.same.analysis; stale = h.0.stale }, ages_told e c n xs ys h.1)
+  pub ages_told : (e : Event) (c : Things) (n : Module) (see : ℕ → Option Node) (xs ys : List B) → AllTold meaning e c n see xs ys → AllZip Ages (all_shown meaning xs) (all_shown meaning ys)
+  ages_told e c n see [] [] h = tt
+  ages_told e c n see [] (y ∷ ys) h = absurd h
+  ages_told e c n see (x ∷ xs) [] h = absurd h
+  ages_told e c n see (x ∷ xs) (y ∷ ys) h = (record { kind = h.0.same.kind; analysis = h.0.same.analysis; stale = h.0.stale }, ages_told e c n see xs ys h.1)
 
   pub ages_none : (xs : List B) → AllZip Ages (all_shown meaning xs) (all_shown meaning xs)
   ages_none [] = tt
