@@ -1,7 +1,8 @@
 use Rattle.std.proofs.Common.{◌≡◌, ℕ, List, [], ◌++◌, Option, Some, None, Result, Ok, Err, refl, ap, sym, ◌∙◌, append_assoc, append-nil, ◌+◌, ◌-◌, ◌<◌, length, take, drop, map, get_or, arith, Bor, add-one}
 use Rattle.std.proofs.Math.Seq.{drop-cons}
 use Rattle.std.proofs.lemmas.Grind.{common_steps}
-use Rattle.std.specs.Io.KnownBytes.{Appends, Keeps}
+use Rattle.std.specs.Prelude.{IfSome}
+use Rattle.std.specs.Io.KnownBytes.{Appends, Consumes, Keeps}
 use Rattle.mlir_work_base.specs.Writes.{AppendsFront, Puts, PutsSome, joined}
 
 pub appends_none : (a b : Option (List ℕ)) → Keeps a b → Appends a b []
@@ -49,3 +50,23 @@ then_put P Q S a b c r join (xs, p, h) (ys, q, k) = (xs ++ ys, join xs ys p q, p
 -- a front of some bytes with P, before some with Q
 pub then_none : (P Q S : List ℕ → Type 0) (a b : Option (List ℕ)) → ((xs ys : List ℕ) → P xs → Q ys → S (xs ++ ys)) → (xs : List ℕ) × P xs × AppendsFront a b xs → (ys : List ℕ) × Q ys → (zs : List ℕ) × S zs × AppendsFront a b zs
 then_none P Q S a b join (xs, p, h) (ys, q) = (xs ++ ys, join xs ys p q, front_more a b xs ys h)
+
+-- what two reads consumed, one after the other
+pub consumes_join : (a b c : Option (List ℕ)) (xs ys : List ℕ) → Consumes a b xs → Consumes b c ys → Consumes a c (xs ++ ys)
+consumes_join None b c xs ys h k = tt
+consumes_join (Some ws) None c xs ys h k = absurd h
+consumes_join (Some ws) (Some us) None xs ys h k = absurd k
+consumes_join (Some ws) (Some us) (Some vs) xs ys h k = h ∙ (ap (λ zs. xs ++ zs) k ∙ sym (append_assoc xs ys vs))
+
+-- a read that was interrupted consumed nothing
+pub consumes_kept : (a b c : Option (List ℕ)) (xs : List ℕ) → Consumes a b xs → Keeps b c → Consumes a c xs
+consumes_kept None b c xs h k = tt
+consumes_kept (Some ws) None c xs h k = absurd h
+consumes_kept (Some ws) (Some us) None xs h k = absurd k
+consumes_kept (Some ws) (Some us) (Some vs) xs h k = h ∙ ap (λ zs. xs ++ zs) (sym k)
+
+-- bytes that are kept, if any are
+pub kept_more : {V : Type 0} (items : V → List ℕ) (a b : Option V) (front bytes : List ℕ) → (a ≡ None → b ≡ None) → IfSome b (λ all. IfSome a (λ before. items all ≡ items before ++ bytes)) → IfSome a (λ all. items all ≡ front) → IfSome b (λ all. items all ≡ front ++ bytes)
+kept_more items a None front bytes lost more h = tt
+kept_more items None (Some all) front bytes lost more h = absurd (let f : Some all ≡ None = lost refl in cc)
+kept_more items (Some before) (Some all) front bytes lost more h = more ∙ ap (λ xs. xs ++ bytes) h

@@ -1,6 +1,6 @@
 //! The input of a run: read whole, under limits, and split into a module and a script.
-ghost use Rattle.std.specs.Prelude.{◌≡◌, ◌<◌, ◌≤◌, length, IfErr, IfOk, IfSome, IsTrue, ◌↔◌};
-ghost use Rattle.mlir_work_base.specs.declared.input.ReadFault.TheVariants.{TooMany};
+ghost use Rattle.std.specs.Prelude.{◌≡◌, ◌<◌, ◌≤◌, ◌++◌, length, None, IfErr, IfOk, IfSome, IsTrue, ◌↔◌};
+ghost use Rattle.mlir_work_base.specs.declared.input.ReadFault.TheVariants.{TooMany, Memory as NoMemory};
 ghost use Rattle.mlir_work_base.specs.Lines.{after_line};
 ghost use Rattle.mlir_work_base.specs.Parts.{at_divider, module_text, script_text};
 
@@ -35,25 +35,40 @@ pub enum ReadFault {
     Memory,
 }
 
+/// Keeps bytes that were read behind those before them, or gives up keeping any.
+fn keep(kept: &mut Option<Vec<u8>>, bytes: &[u8])
+    ensures kept { IfSome kept.new (λ all. IfSome kept.old (λ before. all.items ≡ before.items ++ bytes.now)) }
+    ensures lost { kept.old ≡ None → kept.new ≡ None }
+{
+    let Some(all) = kept else {
+        return;
+    };
+    if all.extend_from_slice(bytes).is_err() {
+        *kept = None;
+    }
+}
+
 /// Reads to the end, by at most `MAX_READS` reads. An interrupted read is made again, and counts among
-/// them.
+/// them. Where there is no memory for the bytes it reads on, so that an input that is too long is always
+/// told to be so.
 pub fn read_all<R: Read>(alloc: Global, reader: &mut R) -> Result<Vec<u8>, ReadFault>
     ensures whole { IfOk result (λ all. IfSome (R.remaining reader.old) (λ input. all.items ≡ input)) }
     ensures within { IfOk result (λ all. length all.items ≤ MAX_INPUT_BYTES) }
     ensures too_many { IfErr result (λ fault. fault ≡ TooMany → IfSome (R.remaining reader.old) (λ input. MAX_INPUT_BYTES < length input)) }
+    ensures memory { IfErr result (λ fault. fault ≡ NoMemory → IfSome (R.remaining reader.old) (λ input. length input ≤ MAX_INPUT_BYTES)) }
 {
-    let mut all: Vec<u8> = Vec::new(alloc);
+    let mut kept = Some(Vec::new(alloc));
+    let mut count = 0usize;
     let mut buffer = [0u8; CHUNK];
     for _turn in 0..MAX_READS {
         match reader.read(&mut buffer) {
-            Ok(0) => return Ok(all),
+            Ok(0) => return kept.ok_or(ReadFault::Memory),
             Ok(taken) => {
-                if MAX_INPUT_BYTES - all.len() < taken {
+                if MAX_INPUT_BYTES - count < taken {
                     return Err(ReadFault::TooMany);
                 }
-                if all.extend_from_slice(&buffer[..taken]).is_err() {
-                    return Err(ReadFault::Memory);
-                }
+                count += taken;
+                keep(&mut kept, &buffer[..taken]);
             }
             Err(error) => {
                 if error.kind() != ErrorKind::Interrupted {

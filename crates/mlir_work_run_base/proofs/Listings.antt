@@ -4,13 +4,20 @@ use Rattle.std.proofs.lemmas.Grind.{common_steps}
 use Rattle.std.proofs.Math.Seq.{drop-cons}
 use Rattle.ir_tree.specs.Meaning.{Operation}
 use Rattle.ir_event.specs.Listener.{Listener}
-use Rattle.mlir_work_base.specs.Replies.{kind_memory_line, module_memory_line}
+use Rattle.mlir_work_base.specs.Replies.{stale_line, kind_memory_line, module_memory_line}
 use Rattle.mlir_work_run_base.specs.Machine.{Shown, State, shown, all_shown}
-use Rattle.mlir_work_run_base.specs.Output.{AreKinds, IsListing, IsListingIf}
+use Rattle.mlir_work_run_base.specs.Output.{IsKind, AreKinds, IsListing, IsListingIf}
+
+some_kind : (t : Operation) (k : Shown) → (out : List ℕ) × IsKind t k out
+some_kind t k = go k.stale refl
+  where
+    go : (stale : Bool) → k.stale ≡ stale → (out : List ℕ) × IsKind t k out
+    go true e = (stale_line k.kind, inl (e, refl))
+    go false e = (kind_memory_line k.kind, inr (e, inl refl))
 
 pub some_kinds : (t : Operation) (ks : List Shown) → (out : List ℕ) × AreKinds t ks out
 some_kinds t [] = ([], refl)
-some_kinds t (k ∷ ks) = let rest = some_kinds t ks in let line = kind_memory_line k.kind in (line ++ rest.0, (line, rest.0, inl refl, rest.1, refl))
+some_kinds t (k ∷ ks) = let rest = some_kinds t ks in let first = some_kind t k in (first.0 ++ rest.0, (first.0, rest.0, first.1, rest.1, refl))
 
 pub some_listing : (s : State) → (out : List ℕ) × IsListing s out
 some_listing s = let rest = some_kinds s.held.tree s.panel in (module_memory_line ++ rest.0, (module_memory_line, rest.0, inr refl, rest.1, refl))

@@ -30,10 +30,6 @@ module _ {B : Type 0} (meaning : B → Listener) where
   ages_told e c n see (x ∷ xs) [] h = absurd h
   ages_told e c n see (x ∷ xs) (y ∷ ys) h = (record { kind = h.0.same.kind; analysis = h.0.same.analysis; stale = h.0.stale }, ages_told e c n see xs ys h.1)
 
-  pub ages_none : (xs : List B) → AllZip Ages (all_shown meaning xs) (all_shown meaning xs)
-  ages_none [] = tt
-  ages_none (x ∷ xs) = (record { kind = refl; analysis = λ t. refl; stale = λ h. h }, ages_none xs)
-
   -- the rows of a kind that isn't there, and of one that is
   pub missing_rows : (kind : ℕ) (bs : List B) (m : Module) → None ≡ find (has_this_kind meaning kind) bs → reported (find (is_kind kind) (all_shown meaning bs)) m ≡ same_with (Refused NoSuchKind) m
   missing_rows kind bs m e = rw (find_shown kind bs, ← e) refl

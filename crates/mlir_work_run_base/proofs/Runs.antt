@@ -1,11 +1,11 @@
 -- Runs of scripts, step by step.
 use Rattle.std.proofs.Common.{◌≡◌, ℕ, ◌+◌, ◌&&◌, List, [], ◌∷◌, ◌++◌, Bool, true, false, not, refl, sym, ◌∙◌, inr, length, ◌≤◌, ◌<◌, ◌==◌, arith, Option, Result, Ok, Err}
-use Rattle.std.specs.List.{AllZip}
 use Rattle.std.proofs.lemmas.Bool.Decides.{nat_tests}
+use Rattle.ir_types.specs.declared.refusal.Refusal.{Refusal}
 use Rattle.ir_types.specs.declared.refusal.Refusal.TheVariants.{BadCommand, Memory}
-use Rattle.mlir_work_base.specs.Commands.{Spoken, Nothing, Bad, Obey, line_says}
+use Rattle.mlir_work_base.specs.Commands.{Said, Report, Print, SetOperand, Spoken, Nothing, Bad, Obey, line_says}
 use Rattle.mlir_work_base.specs.Lines.{lines_of}
-use Rattle.mlir_work_run_base.specs.Machine.{State, Shown, Ages}
+use Rattle.mlir_work_run_base.specs.Machine.{State, Shown, AgesIf, tells}
 use Rattle.mlir_work_run_base.specs.Output.{Line, Replied, Replies, IsReplied, Runs, worse, says_nothing, asks, reply_line, is_accepted}
 use Rattle.mlir_work_run_base.specs.Ran.{RanOut}
 use Rattle.mlir_work_run_base.specs.declared.desk.Reply.{Reply}
@@ -52,9 +52,11 @@ run_step brief n s text line more spoken reply shows t told e is f r told_is lat
       out_is = refl;
     }))
 
-ages_same : (ks : List Shown) → AllZip Ages ks ks
-ages_same [] = tt
-ages_same (k ∷ ks) = (record { kind = refl; analysis = λ t. refl; stale = λ h. h }, ages_same ks)
+-- a command that is refused leaves the analyses
+stays_refused : (said : Said) (refusal : Refusal) (ks : List Shown) → AgesIf (tells said (Refused refusal)) ks ks
+stays_refused (Report kind) refusal ks = refl
+stays_refused Print refusal ks = refl
+stays_refused (SetOperand x k v) refusal ks = refl
 
 some_replied : (Rest : ℕ → State → ℕ → List ℕ → Type 0) (brief : Bool) (n : ℕ) (s : State) (spoken : Spoken) (reply : Reply) → Replies s spoken reply [] s → ((m : ℕ) (t : State) → (st : ℕ) × (o : List ℕ) × Rest m t st o) → (st : ℕ) × (o : List ℕ) × Replied Rest brief n s spoken st o
 some_replied Rest brief n s spoken reply r some =
@@ -81,7 +83,7 @@ some_replied Rest brief n s spoken reply r some =
 some_line : (Rest : ℕ → State → ℕ → List ℕ → Type 0) (brief : Bool) (n : ℕ) (s : State) (spoken : Spoken) → ((m : ℕ) (t : State) → (st : ℕ) × (o : List ℕ) × Rest m t st o) → (st : ℕ) × (o : List ℕ) × Line Rest brief n s spoken st o
 some_line Rest brief n s Nothing some = some n s
 some_line Rest brief n s Bad some = some_replied Rest brief n s Bad (Refused BadCommand) (refl, refl, refl) some
-some_line Rest brief n s (Obey said) some = some_replied Rest brief n s (Obey said) (Refused Memory) (record { answer = inr refl; panel = ages_same s.panel }) some
+some_line Rest brief n s (Obey said) some = some_replied Rest brief n s (Obey said) (Refused Memory) (record { answer = inr refl; panel = stays_refused said Memory s.panel }) some
 
 -- from each state each script has an output: each command may be refused for memory
 pub some_runs : (brief : Bool) (lines : List (List ℕ)) (n : ℕ) (s : State) → (st : ℕ) × (o : List ℕ) × Runs brief n s lines st o

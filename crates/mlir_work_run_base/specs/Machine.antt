@@ -80,10 +80,22 @@ answer_of s (SetOperand x k v) = edited (set_operand_reason is_isolated x k v s.
 abbrev pub IsOrMemory : Answer → Module → Answer → Type 0
 IsOrMemory due m a = (a ≡ due) ⊎ (a ≡ same_with (Refused Memory) m)
 
+-- whether the listeners are told of something: of an edit that was made, and of nothing else
+abbrev pub tells : Said → Reply → Bool
+tells (Report kind) reply = false
+tells Print reply = false
+tells (SetOperand x k v) Done = true
+tells (SetOperand x k v) (Refused refusal) = false
+
+-- the analyses after a command: where they are told of something each may turn stale, and else they stay
+abbrev pub AgesIf : Bool → List Shown → List Shown → Type 0
+AgesIf true old new = AllZip Ages old new
+AgesIf false old new = new ≡ old
+
 -- from s the machine may answer a command so and go on to t
 pub record Goes (s : State) (said : Said) (reply : Reply) (shows : List ℕ) (t : State) : Type 0 where
   pub answer : IsOrMemory (answer_of s said) s.held (record { reply = reply; shows = shows; held = t.held })
-  pub panel : AllZip Ages s.panel t.panel
+  pub panel : AgesIf (tells said reply) s.panel t.panel
 
 -- whether an analysis of a kind is attached
 abbrev pub has_kind : ℕ → List Shown → Bool

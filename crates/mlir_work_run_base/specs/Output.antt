@@ -42,12 +42,9 @@ IsModule t out = (out ≡ text_of t) ⊎ (out ≡ module_memory_line)
 abbrev pub AreRows : ℕ → List RowTerm → List ℕ → Type 0
 AreRows kind rows out = (out ≡ kind_memory_line kind) ⊎ (out ≡ kind_line kind ++ rows_text rows)
 
--- the rows of one analysis, or why there are none
+-- of one that is stale, that it is; else its rows, or no memory for them
 abbrev pub IsKind : Operation → Shown → List ℕ → Type 0
-IsKind t k out =
-    (out ≡ kind_memory_line k.kind)
-    ⊎ (((k.stale ≡ true) × (out ≡ stale_line k.kind))
-    ⊎ ((k.stale ≡ false) × (out ≡ kind_line k.kind ++ rows_text (k.analysis t))))
+IsKind t k out = ((k.stale ≡ true) × (out ≡ stale_line k.kind)) ⊎ ((k.stale ≡ false) × AreRows k.kind (k.analysis t) out)
 
 -- and of each attached one, in order
 abbrev pub AreKinds : Operation → List Shown → List ℕ → Type 0

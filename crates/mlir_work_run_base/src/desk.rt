@@ -15,7 +15,7 @@ ghost use Rattle.ir_event.specs.Step.{IsOperandStep};
 ghost use Rattle.ir_text.specs.Printing.{text_of};
 ghost use Rattle.mlir_work_base.specs.Commands.{said_of, SetOperand};
 ghost use Rattle.mlir_work_run_base.specs.RowText.{rows_text};
-ghost use Rattle.mlir_work_run_base.specs.Machine.{State, Shown, shown, Ages, all_shown, state_of, Goes, answer_of, edited, reported, same_with, showing, is_kind, IsOrMemory};
+ghost use Rattle.mlir_work_run_base.specs.Machine.{State, Shown, shown, Ages, all_shown, state_of, Goes, answer_of, edited, reported, same_with, showing, is_kind, IsOrMemory, AgesIf, tells};
 ghost use Rattle.mlir_work_run_base.specs.Output.{is_accepted as accepts};
 ghost use Rattle.mlir_work_run_base.specs.declared.desk.Reply.TheVariants.{Done, Refused};
 
@@ -114,6 +114,7 @@ fn rows_of<L: Analysis>(alloc: Global, listener: &L, world: &World) -> Result<Ve
     ensures fresh { IfOk result (λ rows. (L.meaning listener.now).stale ≡ false) }
     ensures known { IfOk result (λ rows. All (RowIsOf (things_in world.now)) rows.items) }
     ensures stale { IfErr result (λ e. e ≡ ReportFault.Stale → (L.meaning listener.now).stale ≡ true) }
+    ensures memory { IfErr result (λ e. e ≡ ReportFault.Memory → (L.meaning listener.now).stale ≡ false) }
 {
     listener.report(alloc)
 }
@@ -128,6 +129,7 @@ pub(crate) fn text_of_report<L: Analysis>(
     ensures text { IfOk result (λ text. text.items ≡ rows_text ((L.meaning listener.now).analysis (module_in world.now).tree)) }
     ensures fresh { IfOk result (λ text. (L.meaning listener.now).stale ≡ false) }
     ensures stale { IfErr result (λ e. e ≡ ReportFault.Stale → (L.meaning listener.now).stale ≡ true) }
+    ensures memory { IfErr result (λ e. e ≡ ReportFault.Memory → (L.meaning listener.now).stale ≡ false) }
 {
     let rows = match rows_of(alloc, listener, world) {
         Ok(rows) => rows,
@@ -178,7 +180,7 @@ fn set_operand<L: Analysis>(
 ) -> Reply
     requires { AllKept L.meaning (things_in world.old) (module_in world.old) panel.old }
     ensures answer { let s : State = state_of L.meaning world.old panel.old in IsOrMemory (answer_of s (SetOperand op operand value)) s.held (same_with result (module_in world.new)) }
-    ensures ages { AllZip Ages (all_shown L.meaning panel.old) (all_shown L.meaning panel.new) }
+    ensures ages { AgesIf (tells (SetOperand op operand value) result) (all_shown L.meaning panel.old) (all_shown L.meaning panel.new) }
     ensures kept { AllKept L.meaning (things_in world.new) (module_in world.new) panel.new }
 {
     told_listeners_follow::<L>();
