@@ -1,12 +1,12 @@
 //! Runs a script over a module: `mlir_work [--brief]`.
 #![tactic(auto)]
 
+use clap::Error;
 use clap::error::ErrorKind;
-use clap::{Arg, ArgAction, Command, Error};
 use ir_event::analysis::Analysis;
 use listeners::uses::Uses;
-use mlir_work_run::run::{Options, run};
-use std::alloc::Global;
+use mlir_work_options::options_of;
+use mlir_work_run::run::run;
 use std::io::BufWriter;
 use std::process::ExitCode;
 use std::{env, io};
@@ -29,18 +29,6 @@ fn refuse_words(rt: &HostRuntime, error: &io::Error) -> u8 {
     }
     let _ = rt.eprintln("error: an argument is not UTF-8");
     2
-}
-
-/// Reads the command line.
-fn options_of(alloc: Global, words: &[String]) -> Result<Options, Error> {
-    let brief = Arg::new(alloc, "brief")
-        .long("brief")
-        .action(ArgAction::SetTrue);
-    let command = Command::new(alloc, "mlir_work").arg(brief)?;
-    let matches = command.try_get_matches_from(words)?;
-    Ok(Options {
-        brief: matches.get_flag("brief"),
-    })
 }
 
 /// Prints the help that was asked for, or what is wrong with the command line, and gives the status.

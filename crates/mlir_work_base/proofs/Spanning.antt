@@ -1,6 +1,6 @@
 -- A text is split line by line.
 use Rattle.std.proofs.Common.{◌≡◌, ◌∙◌, refl, sym, ap, ℕ, zero, suc, ◌+◌, ◌-◌, ◌<◌, ◌≤◌, Bool, true, false, cond, List, [], ◌∷◌, ◌++◌, length, take, drop, append_assoc, arith}
-use Rattle.std.specs.Prelude.{◌==◌, ◌&&◌, slice_index}
+use Rattle.std.specs.Prelude.{◌==◌, slice_index}
 use Rattle.std.proofs.lemmas.List.{append-nil, length-append}
 use Rattle.mlir_work_base.specs.Lines.{is_newline, after_line}
 use Rattle.mlir_work_base.specs.Parts.{at_divider, module_from, script_from}

@@ -1,8 +1,7 @@
 -- How runs end.
-use Rattle.std.proofs.Common.{◌≡◌, ◌++◌, ◌∙◌, sym, subst, refl, ℕ, List, [], append-nil, Option, Some, None, Result, Ok, Err, IfOk}
+use Rattle.std.proofs.Common.{◌≡◌, sym, subst, ℕ, List, [], append-nil, Option, Some, None, Result, Ok, Err, IfOk}
 use Rattle.std.specs.Prelude.{IfSome}
 use Rattle.std.specs.Io.KnownBytes.{Appends, Keeps}
-use Rattle.mlir_work_base.specs.Writes.{AppendsFront}
 use Rattle.mlir_work_base.specs.declared.writing.WriteFault.{WriteFault}
 use Rattle.mlir_work_base.proofs.Joins.{appends_join, appends_none}
 use Rattle.mlir_work_run_base.specs.Ran.{RanOut}
@@ -28,7 +27,3 @@ ended_so P Q a b (Err w) q e f (st, o, p, h) = rw e (st, o, f st o p, h)
 pub if_some : (o : Option (List ℕ)) (A B : List ℕ → Type 0) → ((x : List ℕ) → A x → B x) → IfSome o A → IfSome o B
 if_some None A B f h = tt
 if_some (Some x) A B f h = f x h
-
-pub if_any : (o : Option (List ℕ)) (B : List ℕ → Type 0) → ((x : List ℕ) → B x) → IfSome o B
-if_any None B f = tt
-if_any (Some x) B f = f x

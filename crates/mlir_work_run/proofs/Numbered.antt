@@ -4,7 +4,7 @@ use Rattle.ir_text_read_base.specs.Claims.{IsOnly}
 use Rattle.ir_text_read_base.specs.Spelling.{Spells}
 use Rattle.mlir_work_run.specs.Whole.{IsWorldOf}
 use Rattle.std.specs.Prelude.{IsTrue}
-use Rattle.std.proofs.Common.{ap, ◌≡◌, ◌≢◌, ◌<◌, ◌∙◌, sym, subst, ℕ, List, length, All, eqb, arith, get_or, refl}
+use Rattle.std.proofs.Common.{ap, ◌≡◌, ◌≢◌, ◌<◌, ◌∙◌, sym, subst, ℕ, List, All, eqb, arith, refl}
 use Rattle.std.specs.Cmp.{unsigned_Decides}
 use Rattle.std.specs.List.{AllPairs, IsDistinct, range_with_len}
 use Rattle.std.proofs.lemmas.List.FromFn.{length-range_with_len, get_or-range_with_len}
@@ -14,7 +14,7 @@ use Rattle.ir_types.specs.Terms.{name_term, type_term, attr_term}
 use Rattle.ir_types.specs.Words.{is_isolated}
 use Rattle.ir_tree.specs.Tree.{Op}
 use Rattle.ir_tree.specs.Ids.{ids, op_count, IsNumberedFrom, HasDistinctIds}
-use Rattle.ir_tree.specs.Meaning.{Operation, isolated_in, meaning}
+use Rattle.ir_tree.specs.Meaning.{isolated_in, meaning}
 use Rattle.ir_tree.specs.WellFormed.{IsFormed}
 use Rattle.ir_tree.proofs.Mapped.{map_counts, map_depth, map_ids, map_operands_visible}
 

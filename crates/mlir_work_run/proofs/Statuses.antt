@@ -6,7 +6,7 @@ use Rattle.mlir_work_base.specs.Commands.{Spoken, Nothing, Bad, Obey, line_says}
 use Rattle.mlir_work_base.specs.Lines.{lines_of}
 use Rattle.mlir_work_base.specs.Parts.{script_text}
 use Rattle.mlir_work_run_base.specs.Machine.{Shown, State}
-use Rattle.mlir_work_run_base.specs.Output.{Line, Replied, Runs, IsSession, worse, is_accepted}
+use Rattle.mlir_work_run_base.specs.Output.{Line, Runs, IsSession, worse, is_accepted}
 use Rattle.mlir_work_run.specs.Ends.{EndedSo, HasStatus, IsFinal, status_of}
 use Rattle.mlir_work_run.specs.Whole.{IsOutput}
 use Rattle.mlir_work_run.specs.declared.run.Fault.{Fault}
@@ -40,8 +40,8 @@ final_low status (inr e) = inr (inl e)
 -- an output has a status below that of a fault
 final_output : (brief : Bool) (boxes : List Shown) (input : List ℕ) (status : ℕ) (out : List ℕ) → IsOutput brief boxes input status out → IsFinal status
 final_output brief boxes input status out (inl h) = inr (inr h.1.0)
-final_output brief boxes input status out (inr (inl (refusal, offset, why, h))) = inr (inr h.0)
-final_output brief boxes input status out (inr (inr (m, read, h))) = final_low status (low_session brief boxes m (script_text input) status out h)
+final_output brief boxes input status out (inr (short, inl (refusal, offset, why, h))) = inr (inr h.0)
+final_output brief boxes input status out (inr (short, inr (m, read, h))) = final_low status (low_session brief boxes m (script_text input) status out h)
 
 ended_status : (brief : Bool) (boxes : List Shown) (input : List ℕ) (a b : Option (List ℕ)) (r : Result ℕ Fault) → EndedSo (IsOutput brief boxes input) a b r → HasStatus (IsOutput brief boxes input) a b (status_of r)
 ended_status brief boxes input a b (Ok status) (out, h, wrote) = inl (final_output brief boxes input status out h, (out, h, wrote))

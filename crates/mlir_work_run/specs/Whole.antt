@@ -1,5 +1,5 @@
 -- The output of an input: the text of a module, and a script.
-use Rattle.std.specs.Prelude.{◌≡◌, ℕ, ◌<◌, List, Bool, ◌⊎◌, Option, Some, None, length}
+use Rattle.std.specs.Prelude.{◌≡◌, ℕ, ◌<◌, ◌≤◌, List, Bool, ◌⊎◌, Option, Some, None, length}
 use Rattle.ir_types.specs.declared.refusal.Refusal.{Refusal}
 use Rattle.ir_types.specs.declared.refusal.Refusal.TheVariants.{TooMany, Memory}
 use Rattle.ir_tree.specs.Ids.{op_count}
@@ -37,6 +37,8 @@ IsTooMany input status out = (MAX_INPUT_BYTES < length input) × IsRefusal TooMa
 abbrev pub IsRead : Bool → List Shown → List ℕ → ℕ → List ℕ → Type 0
 IsRead brief boxes input status out = (m : Module) × IsWorldOf (module_text input) m × IsSession brief boxes m (script_text input) status out
 
--- this status and these bytes are an output of the input, with these boxes
+-- this status and these bytes are an output of the input, with these boxes; an input that is too long has but one
 abbrev pub IsOutput : Bool → List Shown → List ℕ → ℕ → List ℕ → Type 0
-IsOutput brief boxes input status out = IsTooMany input status out ⊎ (IsUnread (module_text input) status out ⊎ IsRead brief boxes input status out)
+IsOutput brief boxes input status out =
+    IsTooMany input status out
+    ⊎ ((length input ≤ MAX_INPUT_BYTES) × (IsUnread (module_text input) status out ⊎ IsRead brief boxes input status out))

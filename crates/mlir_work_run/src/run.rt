@@ -1,5 +1,5 @@
 //! A whole run, from bytes to bytes.
-ghost use Rattle.std.specs.Prelude.{◌≡◌, ◌≤◌, IfOk, IfErr, IfSome, None, Some};
+ghost use Rattle.std.specs.Prelude.{◌≡◌, ◌≤◌, length, IfOk, IfErr, IfSome, None, Some};
 ghost use Rattle.std.specs.Io.KnownBytes.{Keeps};
 ghost use Rattle.ir_tree.specs.Ids.{IsNumberedFrom, op_count};
 ghost use Rattle.ir_tree.specs.Meaning.{meaning, isolated_in, IsSoundIn};
@@ -175,6 +175,7 @@ fn answer_input<W: Write, L: Analysis>(
     writer: &mut W,
     boxes: Vec<L>,
 ) -> Result<u8, WriteFault>
+    requires { length input.items ≤ MAX_INPUT_BYTES }
     ensures { RanOut (IsOutput options.brief (all_shown L.meaning boxes.items) input.items) (W.contents writer.old) (W.contents writer.new) result }
 {
     let (world, script) = match taken_apart(alloc, input) {

@@ -1,9 +1,9 @@
-use Rattle.std.proofs.Common.{◌≡◌, ◌<◌, List, ℕ, length, inl, inr, refl, subst, Some, None}
+use Rattle.std.proofs.Common.{◌≡◌, ◌<◌, ◌≤◌, List, ℕ, length, inl, inr, refl, subst, None}
 use Rattle.ir_types.specs.declared.refusal.Refusal.TheVariants.{Memory}
 use Rattle.mlir_work_base.specs.declared.input.TheConstants.{MAX_INPUT_BYTES}
 use Rattle.mlir_work_run_base.specs.Machine.{all_shown}
 use Rattle.mlir_work_run.specs.Whole.{IsOutput}
-use Rattle.mlir_work_run.proofs.Ended.{ended_so, if_some, if_any}
+use Rattle.mlir_work_run.proofs.Ended.{ended_so, if_some}
 use Rattle.mlir_work_run.proofs.run.read_and_answer.Goals as goal
 
 pub returns-clause-ran : goal.returns-clause-ran
@@ -19,4 +19,4 @@ returns-in-Err-TooMany-clause-ran g c =
 pub returns-in-Err-Memory-clause-ran : goal.returns-in-Err-Memory-clause-ran
 returns-in-Err-Memory-clause-ran g c =
     let due : List ℕ → ℕ → List ℕ → Type 0 = IsOutput c.args.options.brief (all_shown g.L.Analysis.meaning c.args.boxes.items) in
-    if_any _ _ (λ input. ended_so _ (due input) _ _ c.refuse-in-Err-Memory.result _ c.ended-in-Err-Memory.ensures (λ st o h. inr (inl (Memory, None, refl, rw (c.no_memory.ensures.refusal, c.no_memory.ensures.offset) at h))) c.refuse-in-Err-Memory.ensures)
+    if_some _ (λ input. length input ≤ MAX_INPUT_BYTES) _ (λ input short. ended_so _ (due input) _ _ c.refuse-in-Err-Memory.result _ c.ended-in-Err-Memory.ensures (λ st o h. inr (short, inl (Memory, None, refl, rw (c.no_memory.ensures.refusal, c.no_memory.ensures.offset) at h))) c.refuse-in-Err-Memory.ensures) (c.in-Err-Memory.ensures.memory c.in-Err-Memory.field-0-is)

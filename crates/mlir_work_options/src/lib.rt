@@ -1,0 +1,39 @@
+//! The command line: what it may say, and the text of `--help`.
+#![tactic(auto)]
+
+mod text;
+
+use clap::{Arg, ArgAction, Command, Error};
+use mlir_work_run::run::Options;
+use std::alloc::{AllocError, Global};
+
+/// What `--version` prints behind the name.
+const VERSION: &str = "0.1.0";
+
+/// The option that keeps listings away.
+fn brief<'a>(alloc: Global) -> Arg<'a> {
+    Arg::new(alloc, "brief")
+        .long("brief")
+        .help(text::BRIEF)
+        .action(ArgAction::SetTrue)
+}
+
+/// The command line of the program.
+fn command<'a>(alloc: Global) -> Result<Command<'a>, AllocError> {
+    Command::new(alloc, "mlir_work")
+        .version(VERSION)
+        .about(text::ABOUT)
+        .after_help(text::AFTER)
+        .arg(brief(alloc))
+}
+
+/// Reads the words of a command line, the name of the program first.
+///
+/// An error is what is wrong with them, or the text of `--help` or `--version`, or want of memory.
+pub fn options_of(alloc: Global, words: &[String]) -> Result<Options, Error> {
+    let command = command(alloc)?;
+    let matches = command.try_get_matches_from(words)?;
+    Ok(Options {
+        brief: matches.get_flag("brief"),
+    })
+}

@@ -1,0 +1,49 @@
+//! The texts of `--help`.
+
+/// What stands above the usage.
+pub(crate) const ABOUT: &str = "\
+Edits an MLIR module in generic text form by a script, and reports analyses that are kept up to date.
+
+Standard input is the module, a line that is exactly `// -----`, and the script; without such a line the
+script is empty. The replies, the module and the rows of analyses go to standard output.";
+
+/// What `--brief` says.
+pub(crate) const BRIEF: &str = "Leave out the module and the rows of each analysis behind each edit";
+
+/// What stands below the options.
+pub(crate) const AFTER: &str = "\
+Commands, one a line; an empty line and a line that begins with `//` say nothing:
+  print                   the module
+  report KIND             the rows of an analysis
+  set-operand #N K VALUE  VALUE becomes operand K of operation #N
+
+Each command is replied to by a line that begins with its number: `1 ok`, or `1 refused 23 NotVisible`, and
+then the module is as it was. Operations are numbered in the order of the text, and the module around them is
+#0. A VALUE is %vN.K, result K of #N, or %aN.R.K, argument K of the block of region R of #N.
+
+Kinds:
+  uses  the uses of each value: the value, the operation that uses it, and the number of the operand
+
+Exit status:
+  0  each command was accepted; also of --help and --version
+  1  a command was refused, or an analysis that was to be attached
+  2  the command line is wrong, or there was no memory to begin
+  3  the module was refused, as in `module refused 3 UnknownValue at 9`: the number and word of the reason,
+     and the byte where it stands
+  4  a read or a write failed
+
+Custom forms are not read: print them with `mlir-opt --mlir-print-op-generic` first.
+
+Example:
+  $ mlir_work --brief <<'END'
+  %a = \"arith.constant\"() <{value = 1 : i32}> : () -> i32
+  %b = \"arith.constant\"() <{value = 2 : i32}> : () -> i32
+  \"test.pair\"(%a, %b) : (i32, i32) -> ()
+  // -----
+  set-operand #3 1 %v1.0
+  report uses
+  END
+  1 ok
+  2 ok
+  %v1.0 #3 0
+  %v1.0 #3 1";
