@@ -5,6 +5,8 @@ import itertools
 import pathlib
 import re
 
+import refusals
+
 cases = []
 seen = set()
 
@@ -340,6 +342,29 @@ def runs():
             run(f"narrow {fault} {at}", text, 4 if at else 1, taken)
 
 
+def command_lines():
+    """What the words of a command line ask for, or what is printed of them, and whether that is a fault."""
+    help_text = pathlib.Path("bench/help.txt").read_bytes()
+    usage, more = b"\n\nUsage: mlir_work [OPTIONS]\n", b"\nFor more information, try '--help'.\n"
+    case("words --brief", "brief true")
+    for words in ("--help", "-h", "--brief --help"):
+        case("words " + words, "output " + told(help_text))
+    for words in ("--version", "-V"):
+        case("words " + words, "output " + told(b"mlir_work 0.1.0\n"))
+    for words in ("--nonsense", "x", "-b"):
+        case("words " + words, "error " + told(b"error: unexpected argument '%s' found" % words.encode() + usage + more))
+    case("words --brief --brief", "error " + told(b"error: the argument '--brief' cannot be used multiple times" + usage + more))
+    # The example of the help.
+    example = re.search(rb"<<'END'\n(.*)  END\n(.*)", help_text, re.S)
+    module, out = (re.sub(rb"(?m)^  ", b"", part) for part in example.groups())
+    run("brief", module, 0, out)
+
+
+def refused():
+    """Each input of docs/REFUSALS.md."""
+    for text, answer, _ in refusals.rows():
+        run("brief", text, 3 if answer.startswith("module") else 1, answer.encode() + b"\n")
+
 
 lines()
 words()
@@ -347,6 +372,8 @@ cuts()
 writes()
 reads()
 runs()
+command_lines()
+refused()
 
 folder = pathlib.Path("crates/mlir_work_cases")
 (folder / "stdin").write_text("".join(line + "\n" for line, _ in cases))

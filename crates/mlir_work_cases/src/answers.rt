@@ -1,6 +1,6 @@
 //! The answer to a line.
 use crate::texts::first;
-use crate::{lines, readers, replies, runs, writers};
+use crate::{lines, options, readers, replies, runs, writers};
 use std::alloc::{AllocError, Global};
 
 /// What is read, of the readers that a line names.
@@ -31,6 +31,7 @@ pub fn answer(alloc: Global, line: &str) -> Result<String, AllocError> {
             lines::answer(alloc, call, rest)
         }
         "long" => lines::is_too_long(alloc, rest),
+        "words" => options::answer(alloc, rest),
         "refusal" => replies::displayed(alloc, rest),
         "read" => read(alloc, rest),
         "write" => write(alloc, rest),

@@ -5,6 +5,7 @@
 
 mod answers;
 mod lines;
+mod options;
 mod readers;
 mod replies;
 mod runs;
