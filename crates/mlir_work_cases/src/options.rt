@@ -19,7 +19,11 @@ fn words(alloc: Global, text: &str) -> Result<Vec<String>, AllocError> {
 fn told(alloc: Global, error: &Error) -> Result<String, AllocError> {
     let text = format!(in alloc; "{error}")?;
     let mut out = String::new(alloc);
-    out.push_str(if error.use_stderr() { "error " } else { "output " })?;
+    out.push_str(if error.use_stderr() {
+        "error "
+    } else {
+        "output "
+    })?;
     put_all_shown(&mut out, text.as_bytes())?;
     Ok(out)
 }

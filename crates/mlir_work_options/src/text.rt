@@ -8,7 +8,8 @@ Standard input is the module, a line that is exactly `// -----`, and the script;
 script is empty. The replies, the module and the rows of analyses go to standard output.";
 
 /// What `--brief` says.
-pub(crate) const BRIEF: &str = "Leave out the module and the rows of each analysis behind each edit";
+pub(crate) const BRIEF: &str =
+    "Leave out the module and the rows of each analysis behind each edit";
 
 /// What stands below the options.
 pub(crate) const AFTER: &str = "\

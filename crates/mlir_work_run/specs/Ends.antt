@@ -21,10 +21,10 @@ abbrev pub status_of : Result ℕ Fault → ℕ
 status_of (Ok status) = status
 status_of (Err e) = 4
 
--- the status of a run that came to its end; so 4 is that of a fault alone
+-- the status of a run that came to its end
 abbrev pub IsFinal : ℕ → Type 0
 IsFinal status = (status ≡ 0) ⊎ ((status ≡ 1) ⊎ (status ≡ 3))
 
--- the same, where all that is known is the exit status
+-- the same, where all that is known is the exit status: with 4 nothing was written, or a front of an output
 abbrev pub HasStatus : (ℕ → List ℕ → Type 0) → Option (List ℕ) → Option (List ℕ) → ℕ → Type 0
 HasStatus P old new status = (IsFinal status × ((out : List ℕ) × P status out × Appends old new out)) ⊎ ((status ≡ 4) × (Keeps old new ⊎ ((other : ℕ) × (out : List ℕ) × P other out × AppendsFront old new out)))

@@ -235,7 +235,8 @@ fn exit_status(ended: Result<u8, Fault>) -> u8
 
 /// Reads the whole input, a module and a script, then writes the output. What is written is an output of
 /// what was read, and the answer is the exit status: 0 where all was accepted, 1 where a command or a box
-/// was refused, 3 where the module was, 4 where a read or a write failed, and only there.
+/// was refused, 3 where the module was, 4 where a read or a write failed, and then nothing was written, or a
+/// front of an output.
 pub fn run<L: Analysis, R: Read, W: Write>(
     alloc: Global,
     options: Options,
