@@ -1,7 +1,9 @@
 //! The reader of modules.
-ghost use Rattle.std.specs.Prelude.{◌≡◌, IfOk, Err};
+ghost use Rattle.std.specs.Prelude.{◌≡◌, ℕ, IfOk, Err};
+ghost use Rattle.ir_types.specs.Things.{Grows};
 ghost use Rattle.ir_tree.specs.Meaning.{IsSoundIn};
 ghost use Rattle.ir_text_base.specs.declared.fault.Fault.{Fault as TextFault};
+ghost use Rattle.ir_text_type_base.specs.Laws.{IsFull};
 ghost use Rattle.ir_text_read_base.specs.Spelling.{Spells};
 ghost use Rattle.ir_text_read_base.specs.Claims.{IsOnly, IsNone};
 
@@ -14,17 +16,20 @@ use ir_types::context::Context;
 use std::alloc::Global;
 
 /// The tree that a text spells, numbered from 0 in pre-order; it is the only one, and what it names is
-/// interned. A text that is one `builtin.module` without operands and results has it as its root; any
-/// other is the body of an implicit root (Language Reference, "High-Level Structure").
+/// interned: the context only grows, whatever is answered. A text that is one `builtin.module` without
+/// operands and results has it as its root; any other is the body of an implicit root (Language Reference,
+/// "High-Level Structure").
 ///
 /// `Refused` has the fault and how many bytes are left where it stands; such a text spells no tree.
 /// Refusals: `BadToken`, `Unexpected`, `UnknownValue`, `Redefined`, `TypeMismatch`, `BadWidth`, `BadValue`,
 /// `MultipleBlocks`, `Successors`, `TooDeep`, `TooMany`, `DuplicateKey`, `LeftOut`, `NotUtf8`. `Full` is answered
-/// where the context is full, and `Memory` where there is none.
+/// where the context grew full, and `Memory` where there is none.
 pub fn read(alloc: Global, ctx: &mut Context, bytes: &[u8]) -> Result<TreeOp, ReadError>
     ensures read { IfOk result (λ t. IsOnly (Spells bytes.now) ctx.new t) }
     ensures sound { IfOk result (λ t. IsSoundIn ctx.new t) }
     ensures refused { (f : TextFault) → result ≡ Err (ReadError.Refused f) → IsNone (Spells bytes.now) }
+    ensures grows { Grows ctx.old ctx.new }
+    ensures full { (left : ℕ) → result ≡ Err (ReadError.Full left) → IsFull ctx.new }
 {
     module::read(alloc, ctx, bytes)
 }

@@ -1,5 +1,6 @@
 //! Arrays. Builtin Dialect, "ArrayAttr".
 ghost use Rattle.std.specs.Prelude.{◌≡◌};
+ghost use Rattle.ir_types.specs.Things.{Grows};
 ghost use Rattle.ir_text_type_base.specs.Outcomes.{Gives};
 ghost use Rattle.ir_text_attr_base.specs.AttrReading.{attrs_by, array_by, attr_at};
 
@@ -17,14 +18,15 @@ use std::alloc::Global;
 
 /// Attributes up to a closing bracket.
 #[cycle(attr)]
-#[tactic(auto, unfolding(ir_text_type_base::specs::Lists::list_at, crate::specs::AttrReading::attrs_by))]
+#[tactic(auto, using(ir_types::proofs::Growth::grows_refl, ir_types::proofs::Growth::grows_trans), unfolding(ir_text_type_base::specs::Lists::list_at, crate::specs::AttrReading::attrs_by))]
 fn attrs<'a>(
     alloc: Global,
     ctx: &mut Context,
     bytes: &'a [u8],
     depth: u32,
 ) -> Result<(Vec<AttrId>, &'a [u8]), ReadError>
-    ensures { Gives (λ x. (x.0.items, (x.1.now, ctx.new))) result (attrs_by depth (attr_at depth) (bytes.now, ctx.old)) }
+    ensures reads { Gives (λ x. (x.0.items, (x.1.now, ctx.new))) result (attrs_by depth (attr_at depth) (bytes.now, ctx.old)) }
+    ensures grows { Grows ctx.old ctx.new }
 {
     let mut items = Vec::new(alloc);
     if let Some(rest) = after(bytes, Mark::CloseSquare) {
@@ -47,14 +49,15 @@ fn attrs<'a>(
 
 /// An array behind its opening bracket, of attributes of at most that depth.
 #[cycle(attr)]
-#[tactic(auto, unfolding(crate::specs::AttrReading::array_by))]
+#[tactic(auto, using(ir_types::proofs::Growth::grows_refl, ir_types::proofs::Growth::grows_trans), unfolding(crate::specs::AttrReading::array_by))]
 pub(crate) fn array<'a>(
     alloc: Global,
     ctx: &mut Context,
     bytes: &'a [u8],
     depth: u32,
 ) -> Result<(AttrId, &'a [u8]), ReadError>
-    ensures { Gives (λ x. (x.0, (x.1.now, ctx.new))) result (array_by depth (attr_at depth) (bytes.now, ctx.old)) }
+    ensures reads { Gives (λ x. (x.0, (x.1.now, ctx.new))) result (array_by depth (attr_at depth) (bytes.now, ctx.old)) }
+    ensures grows { Grows ctx.old ctx.new }
 {
     ctx.sound();
     let (items, rest) = match attrs(alloc, ctx, bytes, depth) {

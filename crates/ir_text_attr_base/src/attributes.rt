@@ -1,7 +1,7 @@
 //! Attributes. Language Reference, "Attributes"; Builtin Dialect, "Attributes".
 ghost use Rattle.std.specs.Prelude.{◌≡◌, if◌then◌else◌};
 ghost use Rattle.std.specs.Str.{bytes_eq};
-ghost use Rattle.ir_types.specs.Things.{AttrIsOf};
+ghost use Rattle.ir_types.specs.Things.{AttrIsOf, Grows};
 ghost use Rattle.ir_text_type_base.specs.Outcomes.{Gives, Wrong};
 ghost use Rattle.ir_text_attr_base.specs.Literals.{word_of, overflow_word};
 ghost use Rattle.ir_text_attr_base.specs.AttrReading.{attr_done, truth_at, string_at, type_attr_at, overflow_at, word_attr, mark_attr, attr_at};
@@ -24,34 +24,38 @@ use ir_types::refusal::Refusal;
 use std::alloc::Global;
 
 /// The number of an attribute that stands in front of these bytes.
-#[tactic(auto, unfolding(crate::specs::AttrReading::attr_done))]
+#[tactic(auto, using(ir_types::proofs::Growth::grows_refl, ir_types::proofs::Growth::grows_trans), unfolding(crate::specs::AttrReading::attr_done))]
 pub(crate) fn kept<'a>(
     ctx: &mut Context,
     node: AttrNode,
     rest: &'a [u8],
 ) -> Result<(AttrId, &'a [u8]), ReadError>
     requires { AttrIsOf ctx.old node }
-    ensures { Gives (λ x. (x.0, (x.1.now, ctx.new))) result (attr_done node (rest.now, ctx.old)) }
+    ensures reads { Gives (λ x. (x.0, (x.1.now, ctx.new))) result (attr_done node (rest.now, ctx.old)) }
+    ensures grows { Grows ctx.old ctx.new }
 {
     let id = steps::attr(ctx, node, rest)?;
     Ok((id, rest))
 }
 
 /// The unit attribute, in front of these bytes (Builtin Dialect, "UnitAttr").
+#[tactic(auto, using(ir_types::proofs::Growth::grows_refl, ir_types::proofs::Growth::grows_trans))]
 pub fn unit<'a>(ctx: &mut Context, rest: &'a [u8]) -> Result<(AttrId, &'a [u8]), ReadError>
-    ensures { Gives (λ x. (x.0, (x.1.now, ctx.new))) result (attr_done AttrNode.Unit (rest.now, ctx.old)) }
+    ensures reads { Gives (λ x. (x.0, (x.1.now, ctx.new))) result (attr_done AttrNode.Unit (rest.now, ctx.old)) }
+    ensures grows { Grows ctx.old ctx.new }
 {
     kept(ctx, AttrNode::Unit, rest)
 }
 
 /// `true` or `false`, 1 or 0 of one bit (Builtin Dialect, "IntegerAttr").
-#[tactic(auto, unfolding(crate::specs::AttrReading::truth_at))]
+#[tactic(auto, using(ir_types::proofs::Growth::grows_refl, ir_types::proofs::Growth::grows_trans), unfolding(crate::specs::AttrReading::truth_at))]
 fn truth<'a>(
     ctx: &mut Context,
     is_true: bool,
     bytes: &'a [u8],
 ) -> Result<(AttrId, &'a [u8]), ReadError>
-    ensures { Gives (λ x. (x.0, (x.1.now, ctx.new))) result (truth_at is_true (bytes.now, ctx.old)) }
+    ensures reads { Gives (λ x. (x.0, (x.1.now, ctx.new))) result (truth_at is_true (bytes.now, ctx.old)) }
+    ensures grows { Grows ctx.old ctx.new }
 {
     let bit = TypeNode::Int {
         sign: Sign::Signless,
@@ -66,14 +70,15 @@ fn truth<'a>(
 }
 
 /// A string, by what stands between its quotes (Builtin Dialect, "StringAttr").
-#[tactic(auto, unfolding(crate::specs::AttrReading::string_at))]
+#[tactic(auto, using(ir_types::proofs::Growth::grows_refl, ir_types::proofs::Growth::grows_trans), unfolding(crate::specs::AttrReading::string_at))]
 fn string<'a>(
     alloc: Global,
     ctx: &mut Context,
     raw: &[u8],
     rest: &'a [u8],
 ) -> Result<(AttrId, &'a [u8]), ReadError>
-    ensures { Gives (λ x. (x.0, (x.1.now, ctx.new))) result (string_at raw.now (rest.now, ctx.old)) }
+    ensures reads { Gives (λ x. (x.0, (x.1.now, ctx.new))) result (string_at raw.now (rest.now, ctx.old)) }
+    ensures grows { Grows ctx.old ctx.new }
 {
     let text = string_value(alloc, raw)?;
     let name = steps::name(ctx, text.as_slice(), rest)?;
@@ -81,14 +86,15 @@ fn string<'a>(
 }
 
 /// A type of at most that depth as an attribute (Builtin Dialect, "TypeAttr").
-#[tactic(auto, unfolding(crate::specs::AttrReading::type_attr_at))]
+#[tactic(auto, using(ir_types::proofs::Growth::grows_refl, ir_types::proofs::Growth::grows_trans), unfolding(crate::specs::AttrReading::type_attr_at))]
 fn type_attr<'a>(
     alloc: Global,
     ctx: &mut Context,
     bytes: &'a [u8],
     depth: u32,
 ) -> Result<(AttrId, &'a [u8]), ReadError>
-    ensures { Gives (λ x. (x.0, (x.1.now, ctx.new))) result (type_attr_at depth (bytes.now, ctx.old)) }
+    ensures reads { Gives (λ x. (x.0, (x.1.now, ctx.new))) result (type_attr_at depth (bytes.now, ctx.old)) }
+    ensures grows { Grows ctx.old ctx.new }
 {
     ctx.sound();
     let (id, rest) = match ty(alloc, ctx, bytes, depth) {
@@ -99,13 +105,14 @@ fn type_attr<'a>(
 }
 
 /// The flags of an integer operation, behind their name (`arith` Dialect, "IntegerOverflowFlagsAttr").
-#[tactic(auto, unfolding(crate::specs::AttrReading::overflow_at))]
+#[tactic(auto, using(ir_types::proofs::Growth::grows_refl, ir_types::proofs::Growth::grows_trans), unfolding(crate::specs::AttrReading::overflow_at))]
 fn overflow<'a>(
     alloc: Global,
     ctx: &mut Context,
     bytes: &'a [u8],
 ) -> Result<(AttrId, &'a [u8]), ReadError>
-    ensures { Gives (λ x. (x.0, (x.1.now, ctx.new))) result (overflow_at (bytes.now, ctx.old)) }
+    ensures reads { Gives (λ x. (x.0, (x.1.now, ctx.new))) result (overflow_at (bytes.now, ctx.old)) }
+    ensures grows { Grows ctx.old ctx.new }
 {
     let rest = expect(bytes, Mark::Less)?;
     let (found, rest) = flags(alloc, rest)?;
@@ -115,6 +122,7 @@ fn overflow<'a>(
 }
 
 /// An attribute that begins with a word, behind which stands `rest`; a type of at most that depth.
+#[tactic(auto, using(ir_types::proofs::Growth::grows_refl, ir_types::proofs::Growth::grows_trans))]
 fn word_attr<'a>(
     alloc: Global,
     ctx: &mut Context,
@@ -123,7 +131,8 @@ fn word_attr<'a>(
     rest: &'a [u8],
     types: u32,
 ) -> Result<(AttrId, &'a [u8]), ReadError>
-    ensures { Gives (λ x. (x.0, (x.1.now, ctx.new))) result (word_attr types (word_of word.now) (bytes.now, ctx.old) rest.now) }
+    ensures reads { Gives (λ x. (x.0, (x.1.now, ctx.new))) result (word_attr types (word_of word.now) (bytes.now, ctx.old) rest.now) }
+    ensures grows { Grows ctx.old ctx.new }
 {
     if word == b"true".as_slice() {
         return truth(ctx, true, rest);
@@ -143,6 +152,7 @@ fn word_attr<'a>(
 /// An attribute that begins with a mark, behind which stands `rest`: a type of at most `types` deep, or
 /// of parts that are at most `depth` deep.
 #[cycle(attr)]
+#[tactic(auto, using(ir_types::proofs::Growth::grows_refl, ir_types::proofs::Growth::grows_trans))]
 fn mark_attr<'a>(
     alloc: Global,
     ctx: &mut Context,
@@ -152,7 +162,8 @@ fn mark_attr<'a>(
     types: u32,
     depth: u32,
 ) -> Result<(AttrId, &'a [u8]), ReadError>
-    ensures { Gives (λ x. (x.0, (x.1.now, ctx.new))) result (mark_attr types depth (attr_at depth) mark (bytes.now, ctx.old) rest.now) }
+    ensures reads { Gives (λ x. (x.0, (x.1.now, ctx.new))) result (mark_attr types depth (attr_at depth) mark (bytes.now, ctx.old) rest.now) }
+    ensures grows { Grows ctx.old ctx.new }
 {
     match mark {
         Mark::Minus => negative(alloc, ctx, bytes, rest),
@@ -164,6 +175,7 @@ fn mark_attr<'a>(
 }
 
 /// The flags of an integer operation behind their name; no other name begins an attribute.
+#[tactic(auto, using(ir_types::proofs::Growth::grows_refl, ir_types::proofs::Growth::grows_trans))]
 fn hash_attr<'a>(
     alloc: Global,
     ctx: &mut Context,
@@ -171,7 +183,8 @@ fn hash_attr<'a>(
     bytes: &[u8],
     rest: &'a [u8],
 ) -> Result<(AttrId, &'a [u8]), ReadError>
-    ensures { Gives (λ x. (x.0, (x.1.now, ctx.new))) result (if bytes_eq word.now overflow_word then overflow_at (rest.now, ctx.old) else Wrong) }
+    ensures reads { Gives (λ x. (x.0, (x.1.now, ctx.new))) result (if bytes_eq word.now overflow_word then overflow_at (rest.now, ctx.old) else Wrong) }
+    ensures grows { Grows ctx.old ctx.new }
 {
     if word == b"arith.overflow".as_slice() {
         return overflow(alloc, ctx, rest);
@@ -217,14 +230,15 @@ fn past_refusal(bytes: &[u8]) -> Refusal {
 /// 2^128 - 1; `TypeMismatch` at the type of a literal that is neither an integer type nor index;
 /// `DuplicateKey` at a key that stands twice, and `TooMany` at the 257th entry of a dictionary.
 #[cycle(attr)]
-#[tactic(auto, unfolding(crate::specs::AttrReading::attr_at))]
+#[tactic(auto, using(ir_types::proofs::Growth::grows_refl, ir_types::proofs::Growth::grows_trans), unfolding(crate::specs::AttrReading::attr_at))]
 pub fn attr<'a>(
     alloc: Global,
     ctx: &mut Context,
     bytes: &'a [u8],
     depth: u32,
 ) -> Result<(AttrId, &'a [u8]), ReadError>
-    ensures { Gives (λ x. (x.0, (x.1.now, ctx.new))) result (attr_at depth (bytes.now, ctx.old)) }
+    ensures reads { Gives (λ x. (x.0, (x.1.now, ctx.new))) result (attr_at depth (bytes.now, ctx.old)) }
+    ensures grows { Grows ctx.old ctx.new }
 {
     if depth == 0 {
         return Err(ReadError::Refused(wrong(past_refusal(bytes), bytes)));

@@ -1,6 +1,6 @@
 //! Dense arrays of integers. Builtin Dialect, "DenseArrayAttr".
 ghost use Rattle.std.specs.Prelude.{◌≡◌, ◌<◌, ◌≤◌, ◌^◌, IfSome};
-ghost use Rattle.ir_types.specs.Things.{Things};
+ghost use Rattle.ir_types.specs.Things.{Things, Grows};
 ghost use Rattle.ir_types.specs.Readings as readings;
 ghost use Rattle.ir_types.specs.Readings.{reading_of};
 ghost use Rattle.ir_text_type_base.specs.Outcomes.{Gives};
@@ -280,14 +280,15 @@ fn items<'a>(
 }
 
 /// A dense array behind its element type.
-#[tactic(auto, unfolding(crate::specs::AttrReading::dense_done))]
+#[tactic(auto, using(ir_types::proofs::Growth::grows_refl, ir_types::proofs::Growth::grows_trans), unfolding(crate::specs::AttrReading::dense_done))]
 fn dense_of<'a>(
     alloc: Global,
     ctx: &mut Context,
     element: &Element,
     bytes: &'a [u8],
 ) -> Result<(AttrId, &'a [u8]), ReadError>
-    ensures { Gives (λ x. (x.0, (x.1.now, ctx.new))) result (dense_done element.now (bytes.now, ctx.old)) }
+    ensures reads { Gives (λ x. (x.0, (x.1.now, ctx.new))) result (dense_done element.now (bytes.now, ctx.old)) }
+    ensures grows { Grows ctx.old ctx.new }
 {
     let node = TypeNode::Int {
         sign: Sign::Signless,
@@ -306,13 +307,14 @@ fn dense_of<'a>(
 ///
 /// Refusals: `Unexpected` where no `<` follows; `LeftOut` at another element type, or `BadWidth`; and
 /// `BadValue` at an item, or its minus, that does not fit.
-#[tactic(auto, unfolding(crate::specs::AttrReading::dense_at))]
+#[tactic(auto, using(ir_types::proofs::Growth::grows_refl, ir_types::proofs::Growth::grows_trans), unfolding(crate::specs::AttrReading::dense_at))]
 pub(crate) fn dense<'a>(
     alloc: Global,
     ctx: &mut Context,
     bytes: &'a [u8],
 ) -> Result<(AttrId, &'a [u8]), ReadError>
-    ensures { Gives (λ x. (x.0, (x.1.now, ctx.new))) result (dense_at (bytes.now, ctx.old)) }
+    ensures reads { Gives (λ x. (x.0, (x.1.now, ctx.new))) result (dense_at (bytes.now, ctx.old)) }
+    ensures grows { Grows ctx.old ctx.new }
 {
     let rest = expect(bytes, Mark::Less)?;
     let (element, rest) = element(rest)?;

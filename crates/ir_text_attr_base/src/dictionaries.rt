@@ -1,5 +1,6 @@
 //! Dictionaries. Builtin Dialect, "DictionaryAttr"; Language Reference, "Attributes".
 ghost use Rattle.std.specs.Prelude.{◌≡◌};
+ghost use Rattle.ir_types.specs.Things.{Grows};
 ghost use Rattle.ir_text_type_base.specs.Outcomes.{Gives};
 ghost use Rattle.ir_text_attr_base.specs.AttrReading.{knows_key, key_at, unit_value_at, value_at, entry_by, entries_by, dictionary_by, attr_at};
 
@@ -26,13 +27,14 @@ const MOST_ENTRIES: usize = 256;
 /// The number of a key: a bare identifier or a string.
 ///
 /// Refusals: what the lexer refuses; `Unexpected` at another token.
-#[tactic(auto, unfolding(crate::specs::AttrReading::key_at))]
+#[tactic(auto, using(ir_types::proofs::Growth::grows_refl, ir_types::proofs::Growth::grows_trans), unfolding(crate::specs::AttrReading::key_at))]
 pub fn key<'a>(
     alloc: Global,
     ctx: &mut Context,
     bytes: &'a [u8],
 ) -> Result<(NameId, &'a [u8]), ReadError>
-    ensures { Gives (λ x. (x.0, (x.1.now, ctx.new))) result (key_at (bytes.now, ctx.old)) }
+    ensures reads { Gives (λ x. (x.0, (x.1.now, ctx.new))) result (key_at (bytes.now, ctx.old)) }
+    ensures grows { Grows ctx.old ctx.new }
 {
     let (found, rest) = token(bytes)?;
     match found {
@@ -53,14 +55,15 @@ fn knows_key(key: NameId, entries: &[Entry]) -> bool
 }
 
 /// The unit attribute of a key that stands at `start`, in front of these bytes.
-#[tactic(auto, unfolding(crate::specs::AttrReading::unit_value_at))]
+#[tactic(auto, using(ir_types::proofs::Growth::grows_refl, ir_types::proofs::Growth::grows_trans), unfolding(crate::specs::AttrReading::unit_value_at))]
 fn unit_value<'a>(
     ctx: &mut Context,
     start: &[u8],
     bytes: &'a [u8],
     depth: u32,
 ) -> Result<(AttrId, &'a [u8]), ReadError>
-    ensures { Gives (λ x. (x.0, (x.1.now, ctx.new))) result (unit_value_at depth (bytes.now, ctx.old)) }
+    ensures reads { Gives (λ x. (x.0, (x.1.now, ctx.new))) result (unit_value_at depth (bytes.now, ctx.old)) }
+    ensures grows { Grows ctx.old ctx.new }
 {
     if depth == 0 {
         return Err(ReadError::Refused(wrong(Refusal::TooDeep, start)));
@@ -73,7 +76,7 @@ fn unit_value<'a>(
 ///
 /// Refusals: those of attributes; `TooDeep` at the key where no depth is left for unit.
 #[cycle(attr)]
-#[tactic(auto, unfolding(crate::specs::AttrReading::value_by))]
+#[tactic(auto, using(ir_types::proofs::Growth::grows_refl, ir_types::proofs::Growth::grows_trans), unfolding(crate::specs::AttrReading::value_by))]
 pub fn value<'a>(
     alloc: Global,
     ctx: &mut Context,
@@ -81,7 +84,8 @@ pub fn value<'a>(
     bytes: &'a [u8],
     depth: u32,
 ) -> Result<(AttrId, &'a [u8]), ReadError>
-    ensures { Gives (λ x. (x.0, (x.1.now, ctx.new))) result (value_at depth (bytes.now, ctx.old)) }
+    ensures reads { Gives (λ x. (x.0, (x.1.now, ctx.new))) result (value_at depth (bytes.now, ctx.old)) }
+    ensures grows { Grows ctx.old ctx.new }
 {
     match after(bytes, Mark::Equal) {
         Some(rest) => attr(alloc, ctx, rest, depth),
@@ -91,7 +95,7 @@ pub fn value<'a>(
 
 /// An entry whose key does not stand before it.
 #[cycle(attr)]
-#[tactic(auto, unfolding(crate::specs::AttrReading::entry_by))]
+#[tactic(auto, using(ir_types::proofs::Growth::grows_refl, ir_types::proofs::Growth::grows_trans), unfolding(crate::specs::AttrReading::entry_by))]
 fn entry<'a>(
     alloc: Global,
     ctx: &mut Context,
@@ -99,7 +103,8 @@ fn entry<'a>(
     bytes: &'a [u8],
     depth: u32,
 ) -> Result<(Entry, &'a [u8]), ReadError>
-    ensures { Gives (λ x. (x.0, (x.1.now, ctx.new))) result (entry_by depth (attr_at depth) before.now (bytes.now, ctx.old)) }
+    ensures reads { Gives (λ x. (x.0, (x.1.now, ctx.new))) result (entry_by depth (attr_at depth) before.now (bytes.now, ctx.old)) }
+    ensures grows { Grows ctx.old ctx.new }
 {
     let (key, rest) = match key(alloc, ctx, bytes) {
         Ok(found) => found,
@@ -116,7 +121,10 @@ fn entry<'a>(
 }
 
 /// Why no entry may come behind so many: its key stands there, or there is no room, where one begins.
-fn past_fault(alloc: Global, ctx: &mut Context, before: &[Entry], bytes: &[u8]) -> Fault {
+#[tactic(auto, using(ir_types::proofs::Growth::grows_refl, ir_types::proofs::Growth::grows_trans))]
+fn past_fault(alloc: Global, ctx: &mut Context, before: &[Entry], bytes: &[u8]) -> Fault
+    ensures { Grows ctx.old ctx.new }
+{
     let (key, _) = match key(alloc, ctx, bytes) {
         Ok(found) => found,
         Err(ReadError::Refused(fault)) => return fault,
@@ -131,14 +139,15 @@ fn past_fault(alloc: Global, ctx: &mut Context, before: &[Entry], bytes: &[u8]) 
 
 /// Entries up to the closing brace.
 #[cycle(attr)]
-#[tactic(auto, unfolding(ir_text_type_base::specs::Lists::list_at, crate::specs::AttrReading::entries_by))]
+#[tactic(auto, using(ir_types::proofs::Growth::grows_refl, ir_types::proofs::Growth::grows_trans), unfolding(ir_text_type_base::specs::Lists::list_at, crate::specs::AttrReading::entries_by))]
 fn entries<'a>(
     alloc: Global,
     ctx: &mut Context,
     bytes: &'a [u8],
     depth: u32,
 ) -> Result<(Vec<Entry>, &'a [u8]), ReadError>
-    ensures { Gives (λ x. (x.0.items, (x.1.now, ctx.new))) result (entries_by depth (attr_at depth) (bytes.now, ctx.old)) }
+    ensures reads { Gives (λ x. (x.0.items, (x.1.now, ctx.new))) result (entries_by depth (attr_at depth) (bytes.now, ctx.old)) }
+    ensures grows { Grows ctx.old ctx.new }
 {
     let mut items = Vec::new(alloc);
     if let Some(rest) = after(bytes, Mark::CloseCurly) {
@@ -161,14 +170,15 @@ fn entries<'a>(
 
 /// A dictionary behind its opening brace, of attributes of at most that depth.
 #[cycle(attr)]
-#[tactic(auto, unfolding(crate::specs::AttrReading::dictionary_by))]
+#[tactic(auto, using(ir_types::proofs::Growth::grows_refl, ir_types::proofs::Growth::grows_trans), unfolding(crate::specs::AttrReading::dictionary_by))]
 pub(crate) fn dictionary<'a>(
     alloc: Global,
     ctx: &mut Context,
     bytes: &'a [u8],
     depth: u32,
 ) -> Result<(AttrId, &'a [u8]), ReadError>
-    ensures { Gives (λ x. (x.0, (x.1.now, ctx.new))) result (dictionary_by depth (attr_at depth) (bytes.now, ctx.old)) }
+    ensures reads { Gives (λ x. (x.0, (x.1.now, ctx.new))) result (dictionary_by depth (attr_at depth) (bytes.now, ctx.old)) }
+    ensures grows { Grows ctx.old ctx.new }
 {
     ctx.sound();
     let (entries, rest) = match entries(alloc, ctx, bytes, depth) {

@@ -1,6 +1,6 @@
 //! Integer literals. Builtin Dialect, "IntegerAttr".
 ghost use Rattle.std.specs.Prelude.{◌≡◌};
-ghost use Rattle.ir_types.specs.Things.{IsType};
+ghost use Rattle.ir_types.specs.Things.{IsType, Grows};
 ghost use Rattle.ir_text_type_base.specs.Outcomes.{Gives};
 ghost use Rattle.ir_text_attr_base.specs.AttrReading.{suffix_at, literal_done, literal_at, negative_at};
 
@@ -18,13 +18,14 @@ use ir_types::refusal::Refusal;
 use std::alloc::Global;
 
 /// The type of a literal behind a colon, or `i64` where none follows.
-#[tactic(auto, unfolding(crate::specs::AttrReading::suffix_at))]
+#[tactic(auto, using(ir_types::proofs::Growth::grows_refl, ir_types::proofs::Growth::grows_trans), unfolding(crate::specs::AttrReading::suffix_at))]
 fn suffix<'a>(
     alloc: Global,
     ctx: &mut Context,
     bytes: &'a [u8],
 ) -> Result<(TypeId, &'a [u8]), ReadError>
-    ensures { Gives (λ x. (x.0, (x.1.now, ctx.new))) result (suffix_at (bytes.now, ctx.old)) }
+    ensures reads { Gives (λ x. (x.0, (x.1.now, ctx.new))) result (suffix_at (bytes.now, ctx.old)) }
+    ensures grows { Grows ctx.old ctx.new }
 {
     match after(bytes, Mark::Colon) {
         Some(rest) => ty(alloc, ctx, rest, MOST_DEPTH),
@@ -64,7 +65,7 @@ fn misfit(ctx: &Context, ty: TypeId, start: &[u8], bytes: &[u8]) -> Fault
 }
 
 /// A literal behind its digits, where `bytes` stand. It begins, its minus included, at `start`.
-#[tactic(auto, unfolding(crate::specs::AttrReading::literal_at, crate::specs::AttrReading::literal_done))]
+#[tactic(auto, using(ir_types::proofs::Growth::grows_refl, ir_types::proofs::Growth::grows_trans), unfolding(crate::specs::AttrReading::literal_at, crate::specs::AttrReading::literal_done))]
 pub(crate) fn literal<'a>(
     alloc: Global,
     ctx: &mut Context,
@@ -73,7 +74,8 @@ pub(crate) fn literal<'a>(
     digits: &[u8],
     bytes: &'a [u8],
 ) -> Result<(AttrId, &'a [u8]), ReadError>
-    ensures { Gives (λ x. (x.0, (x.1.now, ctx.new))) result (literal_at negative digits.now (bytes.now, ctx.old)) }
+    ensures reads { Gives (λ x. (x.0, (x.1.now, ctx.new))) result (literal_at negative digits.now (bytes.now, ctx.old)) }
+    ensures grows { Grows ctx.old ctx.new }
 {
     ctx.sound();
     let Some(magnitude) = integer_value(digits) else {
@@ -92,14 +94,15 @@ pub(crate) fn literal<'a>(
 /// A literal behind its minus, which stands at `start`.
 ///
 /// Refusals: `LeftOut` at a float, and `Unexpected` at what is no number; and those of literals.
-#[tactic(auto, unfolding(crate::specs::AttrReading::negative_at))]
+#[tactic(auto, using(ir_types::proofs::Growth::grows_refl, ir_types::proofs::Growth::grows_trans), unfolding(crate::specs::AttrReading::negative_at))]
 pub(crate) fn negative<'a>(
     alloc: Global,
     ctx: &mut Context,
     start: &[u8],
     bytes: &'a [u8],
 ) -> Result<(AttrId, &'a [u8]), ReadError>
-    ensures { Gives (λ x. (x.0, (x.1.now, ctx.new))) result (negative_at (bytes.now, ctx.old)) }
+    ensures reads { Gives (λ x. (x.0, (x.1.now, ctx.new))) result (negative_at (bytes.now, ctx.old)) }
+    ensures grows { Grows ctx.old ctx.new }
 {
     let (found, rest) = token(bytes)?;
     match found {

@@ -1,7 +1,8 @@
 //! One attribute alone. Language Reference, "Attributes".
-ghost use Rattle.std.specs.Prelude.{◌≡◌, IfOk, OnOk, Err};
+ghost use Rattle.std.specs.Prelude.{◌≡◌, ℕ, IfOk, Err};
 ghost use Rattle.ir_types.specs.Things.{Grows};
 ghost use Rattle.ir_text_base.specs.declared.fault.Fault.{Fault as TextFault};
+ghost use Rattle.ir_text_type_base.specs.Laws.{IsFull};
 ghost use Rattle.ir_text_type_base.specs.Outcomes.{Gives};
 ghost use Rattle.ir_text_attr_base.specs.SingleReading.{single_at};
 ghost use Rattle.ir_text_attr_base.specs.Spelling.{SpellsAttr};
@@ -12,6 +13,7 @@ use ir_text_base::fault::Fault;
 use ir_text_base::limits::check_text;
 use ir_text_base::token::Mark;
 use ir_text_type_base::error::ReadError;
+use ir_text_type_base::full::told;
 use ir_text_type_base::steps::expect;
 use ir_text_type_base::types::MOST_DEPTH;
 use ir_types::context::Context;
@@ -19,9 +21,10 @@ use ir_types::ids::AttrId;
 use std::alloc::Global;
 
 /// The attribute of a text in which nothing stands after it.
-#[tactic(auto, unfolding(crate::specs::SingleReading::single_at))]
+#[tactic(auto, using(ir_types::proofs::Growth::grows_refl, ir_types::proofs::Growth::grows_trans), unfolding(crate::specs::SingleReading::single_at))]
 fn single(alloc: Global, ctx: &mut Context, bytes: &[u8]) -> Result<AttrId, ReadError>
-    ensures { Gives (λ n. (n, ctx.new)) result (single_at bytes.now ctx.old) }
+    ensures reads { Gives (λ n. (n, ctx.new)) result (single_at bytes.now ctx.old) }
+    ensures grows { Grows ctx.old ctx.new }
 {
     let (id, rest) = match attr(alloc, ctx, bytes, MOST_DEPTH) {
         Ok(found) => found,
@@ -33,15 +36,11 @@ fn single(alloc: Global, ctx: &mut Context, bytes: &[u8]) -> Result<AttrId, Read
     }
 }
 
-/// The attribute that a text spells, with nothing after it. It is interned, and so is what it names: the
-/// context only grows.
-///
-/// `Refused` has the fault and how many bytes are left where it stands; such a text spells no attribute.
-/// Refusals: `TooMany` for a text over its limit, and `NotUtf8`; those of attributes; `Unexpected` for a token
-/// behind the attribute. `Full` is answered where the context is full, and `Memory` where there is none.
-pub fn parse_attr(alloc: Global, ctx: &mut Context, bytes: &[u8]) -> Result<AttrId, ReadError>
+/// The attribute that a text spells, as far as its error is one of reading.
+#[tactic(auto, using(ir_types::proofs::Growth::grows_refl, ir_types::proofs::Growth::grows_trans))]
+fn attr_of_text(alloc: Global, ctx: &mut Context, bytes: &[u8]) -> Result<AttrId, ReadError>
     ensures read { IfOk result (λ n. IsOnlyAttr (SpellsAttr bytes.now) ctx.new n) }
-    ensures grows { OnOk result (Grows ctx.old ctx.new) }
+    ensures grows { Grows ctx.old ctx.new }
     ensures refused { (f : TextFault) → result ≡ Err (ReadError.Refused f) → IsNoAttr (SpellsAttr bytes.now) }
 {
     match check_text(bytes) {
@@ -55,5 +54,23 @@ pub fn parse_attr(alloc: Global, ctx: &mut Context, bytes: &[u8]) -> Result<Attr
     match single(alloc, ctx, bytes) {
         Ok(id) => Ok(id),
         Err(e) => Err(e),
+    }
+}
+
+/// The attribute that a text spells, with nothing after it. It is interned, and so is what it names: the
+/// context only grows, whatever is answered.
+///
+/// `Refused` has the fault and how many bytes are left where it stands; such a text spells no attribute.
+/// Refusals: `TooMany` for a text over its limit, and `NotUtf8`; those of attributes; `Unexpected` for a token
+/// behind the attribute. `Full` is answered where the context grew full, and `Memory` where there is none.
+pub fn parse_attr(alloc: Global, ctx: &mut Context, bytes: &[u8]) -> Result<AttrId, ReadError>
+    ensures read { IfOk result (λ n. IsOnlyAttr (SpellsAttr bytes.now) ctx.new n) }
+    ensures grows { Grows ctx.old ctx.new }
+    ensures refused { (f : TextFault) → result ≡ Err (ReadError.Refused f) → IsNoAttr (SpellsAttr bytes.now) }
+    ensures full { (left : ℕ) → result ≡ Err (ReadError.Full left) → IsFull ctx.new }
+{
+    match attr_of_text(alloc, ctx, bytes) {
+        Ok(id) => Ok(id),
+        Err(e) => Err(told(ctx, e)),
     }
 }

@@ -1,5 +1,6 @@
 //! Symbol references. Language Reference, "Symbols and Symbol Tables"; Builtin Dialect, "SymbolRefAttr".
 ghost use Rattle.std.specs.Prelude.{◌≡◌, []};
+ghost use Rattle.ir_types.specs.Things.{Grows};
 ghost use Rattle.ir_text_type_base.specs.Outcomes.{Gives};
 ghost use Rattle.ir_text_type_base.specs.TypeReading.{many};
 ghost use Rattle.ir_text_attr_base.specs.AttrReading.{name_done, part_at, parts_at, symbol_at};
@@ -18,26 +19,28 @@ use ir_types_base::lists::Items;
 use std::alloc::Global;
 
 /// The number of a name that stands in front of these bytes.
-#[tactic(auto, unfolding(crate::specs::AttrReading::name_done))]
+#[tactic(auto, using(ir_types::proofs::Growth::grows_refl, ir_types::proofs::Growth::grows_trans), unfolding(crate::specs::AttrReading::name_done))]
 pub(crate) fn named<'a>(
     ctx: &mut Context,
     name: &[u8],
     rest: &'a [u8],
 ) -> Result<(NameId, &'a [u8]), ReadError>
-    ensures { Gives (λ x. (x.0, (x.1.now, ctx.new))) result (name_done name.now (rest.now, ctx.old)) }
+    ensures reads { Gives (λ x. (x.0, (x.1.now, ctx.new))) result (name_done name.now (rest.now, ctx.old)) }
+    ensures grows { Grows ctx.old ctx.new }
 {
     let id = steps::name(ctx, name, rest)?;
     Ok((id, rest))
 }
 
 /// A part of a symbol reference: an identifier or a string behind `@`.
-#[tactic(auto, unfolding(crate::specs::AttrReading::part_at))]
+#[tactic(auto, using(ir_types::proofs::Growth::grows_refl, ir_types::proofs::Growth::grows_trans), unfolding(crate::specs::AttrReading::part_at))]
 fn part<'a>(
     alloc: Global,
     ctx: &mut Context,
     bytes: &'a [u8],
 ) -> Result<(NameId, &'a [u8]), ReadError>
-    ensures { Gives (λ x. (x.0, (x.1.now, ctx.new))) result (part_at (bytes.now, ctx.old)) }
+    ensures reads { Gives (λ x. (x.0, (x.1.now, ctx.new))) result (part_at (bytes.now, ctx.old)) }
+    ensures grows { Grows ctx.old ctx.new }
 {
     let (found, rest) = token(bytes)?;
     match found {
@@ -51,12 +54,14 @@ fn part<'a>(
 }
 
 /// Parts that are parted by `::`, at least one.
+#[tactic(auto, using(ir_types::proofs::Growth::grows_refl, ir_types::proofs::Growth::grows_trans))]
 fn parts<'a>(
     alloc: Global,
     ctx: &mut Context,
     bytes: &'a [u8],
 ) -> Result<(Vec<NameId>, &'a [u8]), ReadError>
-    ensures { Gives (λ x. (x.0.items, (x.1.now, ctx.new))) result (parts_at many [] (bytes.now, ctx.old)) }
+    ensures reads { Gives (λ x. (x.0.items, (x.1.now, ctx.new))) result (parts_at many [] (bytes.now, ctx.old)) }
+    ensures grows { Grows ctx.old ctx.new }
 {
     let mut items = Vec::new(alloc);
     let mut rest = bytes;
@@ -75,13 +80,14 @@ fn parts<'a>(
 }
 
 /// A symbol reference: `@a`, `@a::@b` and so on.
-#[tactic(auto, unfolding(crate::specs::AttrReading::symbol_at))]
+#[tactic(auto, using(ir_types::proofs::Growth::grows_refl, ir_types::proofs::Growth::grows_trans), unfolding(crate::specs::AttrReading::symbol_at))]
 pub(crate) fn symbol<'a>(
     alloc: Global,
     ctx: &mut Context,
     bytes: &'a [u8],
 ) -> Result<(AttrId, &'a [u8]), ReadError>
-    ensures { Gives (λ x. (x.0, (x.1.now, ctx.new))) result (symbol_at (bytes.now, ctx.old)) }
+    ensures reads { Gives (λ x. (x.0, (x.1.now, ctx.new))) result (symbol_at (bytes.now, ctx.old)) }
+    ensures grows { Grows ctx.old ctx.new }
 {
     ctx.sound();
     let (parts, rest) = match parts(alloc, ctx, bytes) {

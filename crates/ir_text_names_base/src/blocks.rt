@@ -1,5 +1,6 @@
 //! What stands before the operations of a block. Language Reference, "Blocks".
 ghost use Rattle.std.specs.Prelude.{◌≡◌, ◌≤◌, ◌+◌, [], length, option_map, OnOk};
+ghost use Rattle.ir_types.specs.Things.{Grows};
 ghost use Rattle.ir_text_type_base.specs.Outcomes.{Gives, of_option};
 ghost use Rattle.ir_text_names_base.specs.Alike.{IsAlike};
 ghost use Rattle.ir_text_type_base.specs.Marks.{after};
@@ -69,13 +70,14 @@ fn behind_argument(bytes: &[u8]) -> Result<Behind<'_>, ReadError>
 }
 
 /// A colon and a type.
-#[tactic(auto, unfolding(crate::specs::BlockReading::colon_type_at))]
+#[tactic(auto, using(ir_types::proofs::Growth::grows_refl, ir_types::proofs::Growth::grows_trans), unfolding(crate::specs::BlockReading::colon_type_at))]
 fn colon_type<'a>(
     alloc: Global,
     ctx: &mut Context,
     bytes: &'a [u8],
 ) -> Result<(TypeId, &'a [u8]), ReadError>
-    ensures { Gives (λ x. (x.0, (x.1.now, ctx.new))) result (colon_type_at (bytes.now, ctx.old)) }
+    ensures reads { Gives (λ x. (x.0, (x.1.now, ctx.new))) result (colon_type_at (bytes.now, ctx.old)) }
+    ensures grows { Grows ctx.old ctx.new }
 {
     match expect(bytes, Mark::Colon) {
         Ok(rest) => ty(alloc, ctx, rest, MOST_DEPTH),
@@ -84,6 +86,7 @@ fn colon_type<'a>(
 }
 
 /// An argument, bound as it is read, behind so many others.
+#[tactic(auto, using(ir_types::proofs::Growth::grows_refl, ir_types::proofs::Growth::grows_trans))]
 fn argument<'a>(
     alloc: Global,
     scope: &mut Scope<'a>,
@@ -94,7 +97,8 @@ fn argument<'a>(
     bytes: &'a [u8],
 ) -> Result<(TypeId, &'a [u8]), ReadError>
     requires { length before.now ≤ 256 }
-    ensures { Gives (λ x. (x.0, state_of x.1.now scope.new ctx.new)) result (arg_at id region before.now (state_of bytes.now scope.old ctx.old)) }
+    ensures reads { Gives (λ x. (x.0, state_of x.1.now scope.new ctx.new)) result (arg_at id region before.now (state_of bytes.now scope.old ctx.old)) }
+    ensures grows { Grows ctx.old ctx.new }
 {
     let (name, rest) = match name(bytes) {
         Ok(found) => found,
@@ -113,6 +117,7 @@ fn argument<'a>(
 }
 
 /// An argument, put behind others, and what stands behind it.
+#[tactic(auto, using(ir_types::proofs::Growth::grows_refl, ir_types::proofs::Growth::grows_trans))]
 fn push_argument<'a>(
     alloc: Global,
     scope: &mut Scope<'a>,
@@ -125,6 +130,7 @@ fn push_argument<'a>(
     requires { length items.old.items ≤ 256 }
     ensures steps { Steps after_in CloseRound (arg_at id region) items.old.items (state_of bytes.now scope.old ctx.old) result items.new.items (λ rest. state_of rest scope.new ctx.new) }
     ensures one { OnOk result (length items.new.items ≡ length items.old.items + 1) }
+    ensures grows { Grows ctx.old ctx.new }
 {
     let (item, rest) = match argument(alloc, scope, ctx, id, region, items, bytes) {
         Ok(found) => found,
@@ -135,7 +141,7 @@ fn push_argument<'a>(
 }
 
 /// Puts arguments behind each other up to the closing parenthesis, at most 256.
-#[tactic(auto, unfolding(ir_text_type_base::specs::Lists::list_at, crate::specs::BlockReading::args_at))]
+#[tactic(auto, using(ir_types::proofs::Growth::grows_refl, ir_types::proofs::Growth::grows_trans), unfolding(ir_text_type_base::specs::Lists::list_at, crate::specs::BlockReading::args_at))]
 fn push_arguments<'a>(
     alloc: Global,
     scope: &mut Scope<'a>,
@@ -146,7 +152,8 @@ fn push_arguments<'a>(
     bytes: &'a [u8],
 ) -> Result<&'a [u8], ReadError>
     requires { items.old.items ≡ [] }
-    ensures { Gives (λ r. (items.new.items, state_of r.now scope.new ctx.new)) result (args_at id region (state_of bytes.now scope.old ctx.old)) }
+    ensures reads { Gives (λ r. (items.new.items, state_of r.now scope.new ctx.new)) result (args_at id region (state_of bytes.now scope.old ctx.old)) }
+    ensures grows { Grows ctx.old ctx.new }
 {
     if let Some(rest) = after(bytes, Mark::CloseRound) {
         return Ok(rest);
@@ -163,6 +170,7 @@ fn push_arguments<'a>(
 }
 
 /// Arguments up to the closing parenthesis, at most 256.
+#[tactic(auto, using(ir_types::proofs::Growth::grows_refl, ir_types::proofs::Growth::grows_trans))]
 fn arguments<'a>(
     alloc: Global,
     scope: &mut Scope<'a>,
@@ -171,7 +179,8 @@ fn arguments<'a>(
     region: u32,
     bytes: &'a [u8],
 ) -> Result<(Vec<TypeId>, &'a [u8]), ReadError>
-    ensures { Gives (λ x. (x.0.items, state_of x.1.now scope.new ctx.new)) result (args_at id region (state_of bytes.now scope.old ctx.old)) }
+    ensures reads { Gives (λ x. (x.0.items, state_of x.1.now scope.new ctx.new)) result (args_at id region (state_of bytes.now scope.old ctx.old)) }
+    ensures grows { Grows ctx.old ctx.new }
 {
     let mut items = Vec::new(alloc);
     match push_arguments(alloc, scope, ctx, id, region, &mut items, bytes) {
@@ -181,6 +190,7 @@ fn arguments<'a>(
 }
 
 /// The arguments in parentheses, or none.
+#[tactic(auto, using(ir_types::proofs::Growth::grows_refl, ir_types::proofs::Growth::grows_trans))]
 fn some_arguments<'a>(
     alloc: Global,
     scope: &mut Scope<'a>,
@@ -189,7 +199,8 @@ fn some_arguments<'a>(
     region: u32,
     bytes: &'a [u8],
 ) -> Result<(Vec<TypeId>, &'a [u8]), ReadError>
-    ensures { Gives (λ x. (x.0.items, state_of x.1.now scope.new ctx.new)) result (some_args_at id region (state_of bytes.now scope.old ctx.old)) }
+    ensures reads { Gives (λ x. (x.0.items, state_of x.1.now scope.new ctx.new)) result (some_args_at id region (state_of bytes.now scope.old ctx.old)) }
+    ensures grows { Grows ctx.old ctx.new }
 {
     if let Some(rest) = after(bytes, Mark::OpenRound) {
         return arguments(alloc, scope, ctx, id, region, rest);
@@ -198,7 +209,7 @@ fn some_arguments<'a>(
 }
 
 /// The arguments behind a label, and the colon.
-#[tactic(auto, unfolding(crate::specs::BlockReading::label_args_at))]
+#[tactic(auto, using(ir_types::proofs::Growth::grows_refl, ir_types::proofs::Growth::grows_trans), unfolding(crate::specs::BlockReading::label_args_at))]
 fn label_arguments<'a>(
     alloc: Global,
     scope: &mut Scope<'a>,
@@ -207,7 +218,8 @@ fn label_arguments<'a>(
     region: u32,
     bytes: &'a [u8],
 ) -> Result<(Vec<TypeId>, &'a [u8]), ReadError>
-    ensures { Gives (λ x. (x.0.items, state_of x.1.now scope.new ctx.new)) result (label_args_at id region (state_of bytes.now scope.old ctx.old)) }
+    ensures reads { Gives (λ x. (x.0.items, state_of x.1.now scope.new ctx.new)) result (label_args_at id region (state_of bytes.now scope.old ctx.old)) }
+    ensures grows { Grows ctx.old ctx.new }
 {
     match some_arguments(alloc, scope, ctx, id, region, bytes) {
         Ok((args, rest)) => match expect(rest, Mark::Colon) {
@@ -219,7 +231,7 @@ fn label_arguments<'a>(
 }
 
 /// A label with the arguments of its block, where a label comes first.
-#[tactic(auto, unfolding(crate::specs::BlockReading::head_at))]
+#[tactic(auto, using(ir_types::proofs::Growth::grows_refl, ir_types::proofs::Growth::grows_trans), unfolding(crate::specs::BlockReading::head_at))]
 fn head<'a>(
     alloc: Global,
     scope: &mut Scope<'a>,
@@ -228,7 +240,8 @@ fn head<'a>(
     region: u32,
     bytes: &'a [u8],
 ) -> Result<(Option<Vec<TypeId>>, &'a [u8]), ReadError>
-    ensures { Gives (λ x. (option_map (λ v. v.items) x.0, state_of x.1.now scope.new ctx.new)) result (head_at id region (state_of bytes.now scope.old ctx.old)) }
+    ensures reads { Gives (λ x. (option_map (λ v. v.items) x.0, state_of x.1.now scope.new ctx.new)) result (head_at id region (state_of bytes.now scope.old ctx.old)) }
+    ensures grows { Grows ctx.old ctx.new }
 {
     match token(bytes) {
         Ok((Token::Label(_), rest)) => {
@@ -244,7 +257,7 @@ fn head<'a>(
 
 /// The brace of a region, and what its block begins with. The region's names are hidden again at its end,
 /// and in a region of an isolated operation no others are seen. Traits, "IsolatedFromAbove".
-#[tactic(auto, unfolding(crate::specs::BlockReading::region_head_at))]
+#[tactic(auto, using(ir_types::proofs::Growth::grows_refl, ir_types::proofs::Growth::grows_trans), unfolding(crate::specs::BlockReading::region_head_at))]
 pub fn region_head<'a>(
     alloc: Global,
     scope: &mut Scope<'a>,
@@ -254,7 +267,8 @@ pub fn region_head<'a>(
     isolated: bool,
     bytes: &'a [u8],
 ) -> Result<(Option<Vec<TypeId>>, &'a [u8]), ReadError>
-    ensures { Gives (λ x. (option_map (λ v. v.items) x.0, state_of x.1.now scope.new ctx.new)) result (region_head_at id region isolated (state_of bytes.now scope.old ctx.old)) }
+    ensures reads { Gives (λ x. (option_map (λ v. v.items) x.0, state_of x.1.now scope.new ctx.new)) result (region_head_at id region isolated (state_of bytes.now scope.old ctx.old)) }
+    ensures grows { Grows ctx.old ctx.new }
 {
     match expect(bytes, Mark::OpenCurly) {
         Ok(rest) => {

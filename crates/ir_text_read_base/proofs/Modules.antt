@@ -19,6 +19,9 @@ use Rattle.std.specs.Prelude.{Result, Err}
 use Rattle.ir_tree.specs.Tree.{op, Op, region, block, no_regions, ops_of, next}
 use Rattle.std.specs.List.{range_with_len}
 use Rattle.ir_types.specs.declared.refusal.Refusal.{Refusal}
+use Rattle.ir_types.specs.declared.refusal.Refusal.TheVariants.{TooMany}
+use Rattle.ir_types.specs.Reasons.{name_reason}
+use Rattle.ir_text_type_base.specs.Typed.{name_step}
 use Rattle.ir_tree.specs.Ids.{IsNumberedFrom, ids}
 use Rattle.ir_tree.specs.Limits.{every, ops_every}
 use Rattle.ir_tree.specs.Maps.{map_entry, map_ops}
@@ -123,6 +126,17 @@ pub fails_wrong : {X Y : Type 0} (e : ReadError) (o : Outcome Y) (f : Fault) →
 fails_wrong errors.Memory o f h k = absurd cc
 fails_wrong (errors.Full left) o f h k = absurd cc
 fails_wrong (errors.Refused g) o f h k = h
+
+-- the context is full, where reading says so
+pub fails_full : {X Y : Type 0} (e : ReadError) (o : Outcome Y) (left : ℕ) → Fails e o → ◌≡◌ {A = Result X ReadError} (Err e) (Err (errors.Full left)) → o ≡ Full
+fails_full errors.Memory o left h k = absurd cc
+fails_full (errors.Full other) o left h k = h
+fails_full (errors.Refused g) o left h k = absurd cc
+
+-- and where there is no room for the name of a module
+pub name_fills : (c : Things) → name_reason module_word c ≡ Some TooMany → name_step module_word c ≡ Full
+unfolding name_step
+name_fills c e = rw e refl
 
 -- the same error of another function
 pub error_is : {X Y : Type 0} (e g : ReadError) → ◌≡◌ {A = Result X ReadError} (Err e) (Err g) → ◌≡◌ {A = Result Y ReadError} (Err e) (Err g)

@@ -4,6 +4,7 @@ pub mod Entries
 pub mod EntryReading
 pub mod Made
 pub mod OpReading
+pub mod Filling
 pub mod Seen
 pub mod SingleReading
 pub mod OpGrammar

@@ -1,5 +1,6 @@
 //! Dictionaries as they are written. Language Reference, "Attributes" and "Properties".
 ghost use Rattle.std.specs.Prelude.{◌≡◌, is_some};
+ghost use Rattle.ir_types.specs.Things.{Grows};
 ghost use Rattle.ir_text_type_base.specs.Outcomes.{Gives};
 ghost use Rattle.ir_text_read_base.specs.EntryReading.{refused_in, entry_at, entries_at, some_properties, properties_at, attributes_at};
 
@@ -35,7 +36,7 @@ fn refusal(
 }
 
 /// An entry whose key may come behind those before it.
-#[tactic(auto, unfolding(crate::specs::EntryReading::entry_at))]
+#[tactic(auto, using(ir_types::proofs::Growth::grows_refl, ir_types::proofs::Growth::grows_trans), unfolding(crate::specs::EntryReading::entry_at))]
 fn entry<'a>(
     alloc: Global,
     ctx: &mut Context,
@@ -44,7 +45,8 @@ fn entry<'a>(
     before: &[Entry],
     bytes: &'a [u8],
 ) -> Result<(Entry, &'a [u8]), ReadError>
-    ensures { Gives (λ x. (x.0, (x.1.now, ctx.new))) result (entry_at op.now properties.now before.now (bytes.now, ctx.old)) }
+    ensures reads { Gives (λ x. (x.0, (x.1.now, ctx.new))) result (entry_at op.now properties.now before.now (bytes.now, ctx.old)) }
+    ensures grows { Grows ctx.old ctx.new }
 {
     let (key, rest) = match key(alloc, ctx, bytes) {
         Ok(found) => found,
@@ -61,7 +63,7 @@ fn entry<'a>(
 }
 
 /// Entries up to the closing brace.
-#[tactic(auto, unfolding(ir_text_type_base::specs::Lists::list_at, crate::specs::EntryReading::entries_at))]
+#[tactic(auto, using(ir_types::proofs::Growth::grows_refl, ir_types::proofs::Growth::grows_trans), unfolding(ir_text_type_base::specs::Lists::list_at, crate::specs::EntryReading::entries_at))]
 fn entries<'a>(
     alloc: Global,
     ctx: &mut Context,
@@ -69,7 +71,8 @@ fn entries<'a>(
     properties: &[Entry],
     bytes: &'a [u8],
 ) -> Result<(Vec<Entry>, &'a [u8]), ReadError>
-    ensures { Gives (λ x. (x.0.items, (x.1.now, ctx.new))) result (entries_at op.now properties.now (bytes.now, ctx.old)) }
+    ensures reads { Gives (λ x. (x.0.items, (x.1.now, ctx.new))) result (entries_at op.now properties.now (bytes.now, ctx.old)) }
+    ensures grows { Grows ctx.old ctx.new }
 {
     let mut items = Vec::new(alloc);
     if let Some(rest) = after(bytes, Mark::CloseCurly) {
@@ -92,13 +95,14 @@ fn entries<'a>(
 }
 
 /// The properties behind their opening sign.
-#[tactic(auto, unfolding(crate::specs::EntryReading::some_properties))]
+#[tactic(auto, using(ir_types::proofs::Growth::grows_refl, ir_types::proofs::Growth::grows_trans), unfolding(crate::specs::EntryReading::some_properties))]
 fn some_properties<'a>(
     alloc: Global,
     ctx: &mut Context,
     bytes: &'a [u8],
 ) -> Result<(Vec<Entry>, &'a [u8]), ReadError>
-    ensures { Gives (λ x. (x.0.items, (x.1.now, ctx.new))) result (some_properties (bytes.now, ctx.old)) }
+    ensures reads { Gives (λ x. (x.0.items, (x.1.now, ctx.new))) result (some_properties (bytes.now, ctx.old)) }
+    ensures grows { Grows ctx.old ctx.new }
 {
     let rest = match expect(bytes, Mark::OpenCurly) {
         Ok(rest) => rest,
@@ -114,13 +118,14 @@ fn some_properties<'a>(
 }
 
 /// The properties, where they are written.
-#[tactic(auto, unfolding(crate::specs::EntryReading::properties_at))]
+#[tactic(auto, using(ir_types::proofs::Growth::grows_refl, ir_types::proofs::Growth::grows_trans), unfolding(crate::specs::EntryReading::properties_at))]
 pub fn properties<'a>(
     alloc: Global,
     ctx: &mut Context,
     bytes: &'a [u8],
 ) -> Result<(Vec<Entry>, &'a [u8]), ReadError>
-    ensures { Gives (λ x. (x.0.items, (x.1.now, ctx.new))) result (properties_at (bytes.now, ctx.old)) }
+    ensures reads { Gives (λ x. (x.0.items, (x.1.now, ctx.new))) result (properties_at (bytes.now, ctx.old)) }
+    ensures grows { Grows ctx.old ctx.new }
 {
     if let Some(rest) = after(bytes, Mark::Less) {
         return some_properties(alloc, ctx, rest);
@@ -129,7 +134,7 @@ pub fn properties<'a>(
 }
 
 /// The attribute dictionary of an operation with these properties, where it is written.
-#[tactic(auto, unfolding(crate::specs::EntryReading::attributes_at))]
+#[tactic(auto, using(ir_types::proofs::Growth::grows_refl, ir_types::proofs::Growth::grows_trans), unfolding(crate::specs::EntryReading::attributes_at))]
 pub fn attributes<'a>(
     alloc: Global,
     ctx: &mut Context,
@@ -137,7 +142,8 @@ pub fn attributes<'a>(
     properties: &[Entry],
     bytes: &'a [u8],
 ) -> Result<(Vec<Entry>, &'a [u8]), ReadError>
-    ensures { Gives (λ x. (x.0.items, (x.1.now, ctx.new))) result (attributes_at op properties.now (bytes.now, ctx.old)) }
+    ensures reads { Gives (λ x. (x.0.items, (x.1.now, ctx.new))) result (attributes_at op properties.now (bytes.now, ctx.old)) }
+    ensures grows { Grows ctx.old ctx.new }
 {
     if let Some(rest) = after(bytes, Mark::OpenCurly) {
         return entries(alloc, ctx, &Some(op), properties, rest);

@@ -1,6 +1,8 @@
 //! Modules. Language Reference, "High-Level Structure"; Builtin Dialect, "builtin.module".
-ghost use Rattle.std.specs.Prelude.{◌≡◌, ◌&&◌, IfOk, IfErr, Err, is_some};
+ghost use Rattle.std.specs.Prelude.{◌≡◌, ◌&&◌, ℕ, IfOk, IfErr, Err, Some, is_some};
 ghost use Rattle.ir_types.specs.Interning.{with_name};
+ghost use Rattle.ir_types.specs.Reasons.{name_reason};
+ghost use Rattle.ir_types.specs.Things.{Grows};
 ghost use Rattle.ir_text_base.specs.declared.token.Mark.TheVariants.{End};
 ghost use Rattle.ir_text_type_base.specs.Marks.{after};
 ghost use Rattle.ir_types.specs.Terms.{name_term};
@@ -9,6 +11,8 @@ ghost use Rattle.ir_tree.specs.Meaning.{meaning, IsSoundIn, Operation};
 ghost use Rattle.ir_tree.specs.Tree.{head};
 ghost use Rattle.ir_text_base.specs.declared.fault.Fault.{Fault as TextFault};
 ghost use Rattle.ir_text_read_base.specs.Spelling.{begins_module, is_root, module_word, Spells};
+ghost use Rattle.ir_text_type_base.specs.Laws.{IsFull};
+ghost use Rattle.ir_text_read_base.specs.Filling.{RootFills, BodyFills, OpsFill};
 ghost use Rattle.ir_text_read_base.specs.Claims.{IsOnly, IsNone, IsRootOrNone, IsBody, IsSource, IsWhole, module_with};
 
 use crate::free::{Around, NoOuter};
@@ -22,6 +26,7 @@ use ir_text_base::strings::string_value;
 use ir_text_base::token::{Mark, Token};
 use ir_text_names_base::scope::Scope;
 use ir_text_type_base::error::{ReadError, wrong};
+use ir_text_type_base::full::told;
 use ir_text_type_base::steps::after;
 use ir_tree::check::check;
 use ir_tree::numbered::numbered;
@@ -72,9 +77,12 @@ fn is_whole(ctx: &Context, op: &TreeOp, rest: &[u8]) -> bool
 }
 
 /// The number of the name of a module.
+#[tactic(auto, using(ir_types::proofs::Growth::grows_refl, ir_types::proofs::Growth::grows_trans))]
 fn module_name(ctx: &mut Context, rest: &[u8]) -> Result<NameId, ReadError>
     ensures ok { IfOk result (λ n. (n, ctx.new) ≡ with_name module_word ctx.old) }
     ensures err { (f : TextFault) → result ≡ Err (ReadError.Refused f) → ⊥ }
+    ensures grows { Grows ctx.old ctx.new }
+    ensures full { (left : ℕ) → result ≡ Err (ReadError.Full left) → name_reason module_word ctx.old ≡ Some Refusal.TooMany }
 {
     match ctx.name(b"builtin.module") {
         Ok(id) => Ok(id),
@@ -84,9 +92,12 @@ fn module_name(ctx: &mut Context, rest: &[u8]) -> Result<NameId, ReadError>
 }
 
 /// The root, where the text is one module without operands and results.
-fn explicit(alloc: Global, ctx: &mut Context, bytes: &[u8]) -> Result<Root, ReadError>
+#[tactic(auto, using(ir_types::proofs::Growth::grows_refl, ir_types::proofs::Growth::grows_trans))]
+pub(crate) fn explicit(alloc: Global, ctx: &mut Context, bytes: &[u8]) -> Result<Root, ReadError>
     ensures ok { IfOk result (λ r. IsRootOrNone bytes.now ctx.new r) }
     ensures err { (f : TextFault) → result ≡ Err (ReadError.Refused f) → ⊥ }
+    ensures grows { Grows ctx.old ctx.new }
+    ensures full { (left : ℕ) → result ≡ Err (ReadError.Full left) → RootFills bytes.now ctx.old }
 {
     ctx.sound();
     match begins_module(alloc, bytes) {
@@ -134,9 +145,12 @@ fn root_of(alloc: Global, name: NameId, body: Vec<TreeOp>) -> Result<TreeOp, All
 }
 
 /// An implicit root of the operations of a text.
-fn implicit(alloc: Global, ctx: &mut Context, bytes: &[u8]) -> Result<TreeOp, ReadError>
+#[tactic(auto, using(ir_types::proofs::Growth::grows_refl, ir_types::proofs::Growth::grows_trans))]
+pub(crate) fn implicit(alloc: Global, ctx: &mut Context, bytes: &[u8]) -> Result<TreeOp, ReadError>
     ensures read { IfOk result (λ t. IsOnly (IsBody bytes.now) ctx.new t) }
     ensures refused { (f : TextFault) → result ≡ Err (ReadError.Refused f) → IsNone (IsBody bytes.now) }
+    ensures grows { Grows ctx.old ctx.new }
+    ensures full { (left : ℕ) → result ≡ Err (ReadError.Full left) → BodyFills bytes.now ctx.old }
 {
     let name = match module_name(ctx, bytes) {
         Ok(name) => name,
@@ -173,12 +187,16 @@ pub(crate) fn fault_of_label(bytes: &[u8], fault: Fault) -> Fault {
 }
 
 /// The fault of the operations of a text without a root around them, or at the end of the text.
+#[tactic(auto, using(ir_types::proofs::Growth::grows_refl, ir_types::proofs::Growth::grows_trans))]
 fn without_root(
     alloc: Global,
     ctx: &mut Context,
     bytes: &[u8],
     fault: Fault,
-) -> Result<Fault, ReadError> {
+) -> Result<Fault, ReadError>
+    ensures grows { Grows ctx.old ctx.new }
+    ensures full { (left : ℕ) → result ≡ Err (ReadError.Full left) → OpsFill 129 0 bytes.now ctx.old }
+{
     let mut scope = Scope {
         names: Names::new(alloc),
         next: 0,
@@ -199,12 +217,15 @@ fn without_root(
 
 /// The fault of a text as it is written. What only the implicit root makes too deep or too many is told
 /// at the end, and a label outside any region does not fit.
-fn as_written(
+pub(crate) fn as_written(
     alloc: Global,
     ctx: &mut Context,
     bytes: &[u8],
     fault: Fault,
-) -> Result<Fault, ReadError> {
+) -> Result<Fault, ReadError>
+    ensures grows { Grows ctx.old ctx.new }
+    ensures full { (left : ℕ) → result ≡ Err (ReadError.Full left) → OpsFill 129 0 bytes.now ctx.old }
+{
     match fault.refusal {
         Refusal::TooDeep | Refusal::TooMany => without_root(alloc, ctx, bytes, fault),
         _ => Ok(fault_of_label(bytes, fault)),
@@ -212,9 +233,11 @@ fn as_written(
 }
 
 /// The tree of a text, before its limits are looked at.
+#[tactic(auto, using(ir_types::proofs::Growth::grows_refl, ir_types::proofs::Growth::grows_trans))]
 fn source(alloc: Global, ctx: &mut Context, bytes: &[u8]) -> Result<TreeOp, ReadError>
     ensures read { IfOk result (λ t. IsOnly (IsSource bytes.now) ctx.new t) }
     ensures refused { (f : TextFault) → result ≡ Err (ReadError.Refused f) → IsNone (IsSource bytes.now) }
+    ensures grows { Grows ctx.old ctx.new }
 {
     let other = match explicit(alloc, ctx, bytes) {
         Ok(Root::Is(tree)) => return Ok(tree),
@@ -236,7 +259,7 @@ fn source(alloc: Global, ctx: &mut Context, bytes: &[u8]) -> Result<TreeOp, Read
 
 /// Looks at a tree that was read: every operand must be seen, and no limit passed; its ids must be 0, 1, ..
 /// and its dictionaries sorted.
-fn looked_at(alloc: Global, ctx: &Context, tree: &TreeOp) -> Result<(), ReadError>
+pub(crate) fn looked_at(alloc: Global, ctx: &Context, tree: &TreeOp) -> Result<(), ReadError>
     ensures ok { IfOk result (λ _. IsWhole ctx.now tree.now) }
     ensures refused { (f : TextFault) → result ≡ Err (ReadError.Refused f) → IsWhole ctx.now tree.now → ⊥ }
 {
@@ -254,17 +277,13 @@ fn looked_at(alloc: Global, ctx: &Context, tree: &TreeOp) -> Result<(), ReadErro
     Ok(())
 }
 
-/// The tree that a text spells. It is numbered from 0 in pre-order, and what it names is interned: the
-/// context only grows. A text that is one `builtin.module` without operands and results has it as its
-/// root; any other is the body of an implicit root (Language Reference, "High-Level Structure").
-///
-/// Refusals: those of texts and tokens; `Unexpected`, `UnknownValue`, `Redefined`, `TypeMismatch`, `BadWidth`,
-/// `BadValue`, `MultipleBlocks`, `Successors`, `TooDeep`, `TooMany`, `DuplicateKey`, `LeftOut`, with how many
-/// bytes are left where the fault stands; `Full` where the context is full; `Memory`.
-pub fn read(alloc: Global, ctx: &mut Context, bytes: &[u8]) -> Result<TreeOp, ReadError>
+/// The tree that a text spells, as far as its error is one of reading.
+#[tactic(auto, using(ir_types::proofs::Growth::grows_refl, ir_types::proofs::Growth::grows_trans))]
+fn tree_of_text(alloc: Global, ctx: &mut Context, bytes: &[u8]) -> Result<TreeOp, ReadError>
     ensures read { IfOk result (λ t. IsOnly (Spells bytes.now) ctx.new t) }
     ensures sound { IfOk result (λ t. IsSoundIn ctx.new t) }
     ensures refused { (f : TextFault) → result ≡ Err (ReadError.Refused f) → IsNone (Spells bytes.now) }
+    ensures grows { Grows ctx.old ctx.new }
 {
     match check_text(bytes) {
         Ok(()) => {}
@@ -280,5 +299,26 @@ pub fn read(alloc: Global, ctx: &mut Context, bytes: &[u8]) -> Result<TreeOp, Re
     match looked_at(alloc, ctx, &tree) {
         Ok(()) => Ok(tree),
         Err(e) => Err(e),
+    }
+}
+
+/// The tree that a text spells. It is numbered from 0 in pre-order, and what it names is interned: the
+/// context only grows, whatever is answered. A text that is one `builtin.module` without operands and
+/// results has it as its root; any other is the body of an implicit root (Language Reference, "High-Level
+/// Structure").
+///
+/// Refusals: those of texts and tokens; `Unexpected`, `UnknownValue`, `Redefined`, `TypeMismatch`, `BadWidth`,
+/// `BadValue`, `MultipleBlocks`, `Successors`, `TooDeep`, `TooMany`, `DuplicateKey`, `LeftOut`, with how many
+/// bytes are left where the fault stands; `Full` where the context grew full; `Memory`.
+pub fn read(alloc: Global, ctx: &mut Context, bytes: &[u8]) -> Result<TreeOp, ReadError>
+    ensures read { IfOk result (λ t. IsOnly (Spells bytes.now) ctx.new t) }
+    ensures sound { IfOk result (λ t. IsSoundIn ctx.new t) }
+    ensures refused { (f : TextFault) → result ≡ Err (ReadError.Refused f) → IsNone (Spells bytes.now) }
+    ensures grows { Grows ctx.old ctx.new }
+    ensures full { (left : ℕ) → result ≡ Err (ReadError.Full left) → IsFull ctx.new }
+{
+    match tree_of_text(alloc, ctx, bytes) {
+        Ok(tree) => Ok(tree),
+        Err(e) => Err(told(ctx, e)),
     }
 }

@@ -1,4 +1,5 @@
 //! What stands before an operation's regions. Language Reference, "Operations".
+ghost use Rattle.ir_types.specs.Things.{Grows};
 ghost use Rattle.ir_text_type_base.specs.Outcomes.{Gives};
 ghost use Rattle.ir_text_read_base.specs.Free.{free_bound};
 ghost use Rattle.ir_text_read_base.specs.Openings.{opening_view, opening_at};
@@ -29,6 +30,7 @@ pub(crate) struct Opening<'a> {
 }
 
 /// Reads what stands before an operation's regions.
+#[tactic(auto, using(ir_types::proofs::Growth::grows_refl, ir_types::proofs::Growth::grows_trans))]
 pub(crate) fn read_opening<'a, O: Outer>(
     alloc: Global,
     ctx: &mut Context,
@@ -36,7 +38,8 @@ pub(crate) fn read_opening<'a, O: Outer>(
     names: &Names<'a, Pack>,
     bytes: &'a [u8],
 ) -> Result<(Opening<'a>, &'a [u8]), ReadError>
-    ensures { Gives (λ x. (opening_view x.0, (x.1.now, ctx.new))) result (opening_at (free_bound (O.types outer.now)) names.now.here (bytes.now, ctx.old)) }
+    ensures reads { Gives (λ x. (opening_view x.0, (x.1.now, ctx.new))) result (opening_at (free_bound (O.types outer.now)) names.now.here (bytes.now, ctx.old)) }
+    ensures grows { Grows ctx.old ctx.new }
 {
     let (front, behind) = match start(alloc, outer, names, bytes) {
         Ok(found) => found,

@@ -3,6 +3,7 @@ ghost use Rattle.std.specs.Prelude.{◌≡◌, ◌<◌, [], List, length, map, o
 ghost use Rattle.ir_text_base.specs.declared.token.Mark.TheVariants.{CloseCurly};
 ghost use Rattle.ir_tree.specs.Tree.{Region};
 ghost use Rattle.ir_tree.specs.View.{region_view};
+ghost use Rattle.ir_types.specs.Things.{Grows};
 ghost use Rattle.ir_text_type_base.specs.Outcomes.{Gives};
 ghost use Rattle.ir_text_names_base.specs.States.{state_of};
 ghost use Rattle.ir_text_read_base.specs.Free.{free_bound};
@@ -47,6 +48,7 @@ fn region_of(alloc: Global, args: Option<Vec<TypeId>>, ops: Vec<TreeOp>) -> Tree
 
 /// A region. Its names are hidden again at its end; in one of an isolated operation no others are seen.
 #[cycle(op)]
+#[tactic(auto, using(ir_types::proofs::Growth::grows_refl, ir_types::proofs::Growth::grows_trans))]
 fn region<'a, O: Outer>(
     alloc: Global,
     scope: &mut Scope<'a>,
@@ -58,7 +60,8 @@ fn region<'a, O: Outer>(
     bytes: &'a [u8],
     depth: u32,
 ) -> Result<(TreeRegion, &'a [u8]), ReadError>
-    ensures { (before : List Region) → length before ≡ region → Gives (λ x. (region_view x.0, state_of x.1.now scope.new ctx.new)) result (region_at (ops_at CloseCurly (op_at (free_bound (O.types around.now.outer.now)) around.now.last depth) MOST_OPS []) id isolated before (state_of bytes.now scope.old ctx.old)) }
+    ensures reads { (before : List Region) → length before ≡ region → Gives (λ x. (region_view x.0, state_of x.1.now scope.new ctx.new)) result (region_at (ops_at CloseCurly (op_at (free_bound (O.types around.now.outer.now)) around.now.last depth) MOST_OPS []) id isolated before (state_of bytes.now scope.old ctx.old)) }
+    ensures grows { Grows ctx.old ctx.new }
 {
     let (args, rest) = match region_head(alloc, scope, ctx, id, region, isolated, bytes) {
         Ok(found) => found,
@@ -74,7 +77,7 @@ fn region<'a, O: Outer>(
 
 /// Regions in parentheses, at most 16, or none.
 #[cycle(op)]
-#[tactic(auto, unfolding(crate::specs::OpReading::regions_at))]
+#[tactic(auto, using(ir_types::proofs::Growth::grows_refl, ir_types::proofs::Growth::grows_trans), unfolding(crate::specs::OpReading::regions_at))]
 fn regions<'a, O: Outer>(
     alloc: Global,
     scope: &mut Scope<'a>,
@@ -85,7 +88,8 @@ fn regions<'a, O: Outer>(
     bytes: &'a [u8],
     depth: u32,
 ) -> Result<(Vec<TreeRegion>, &'a [u8]), ReadError>
-    ensures { Gives (λ x. (map region_view x.0.items, state_of x.1.now scope.new ctx.new)) result (regions_at (ops_at CloseCurly (op_at (free_bound (O.types around.now.outer.now)) around.now.last depth) MOST_OPS []) id isolated (state_of bytes.now scope.old ctx.old)) }
+    ensures reads { Gives (λ x. (map region_view x.0.items, state_of x.1.now scope.new ctx.new)) result (regions_at (ops_at CloseCurly (op_at (free_bound (O.types around.now.outer.now)) around.now.last depth) MOST_OPS []) id isolated (state_of bytes.now scope.old ctx.old)) }
+    ensures grows { Grows ctx.old ctx.new }
 {
     let mut items = Vec::new(alloc);
     let Some(rest) = after(bytes, Mark::OpenRound) else {
@@ -114,6 +118,7 @@ fn regions<'a, O: Outer>(
 
 /// Operations up to a closing mark.
 #[cycle(op)]
+#[tactic(auto, using(ir_types::proofs::Growth::grows_refl, ir_types::proofs::Growth::grows_trans))]
 pub fn ops<'a, O: Outer>(
     alloc: Global,
     scope: &mut Scope<'a>,
@@ -123,7 +128,8 @@ pub fn ops<'a, O: Outer>(
     bytes: &'a [u8],
     depth: u32,
 ) -> Result<(Vec<TreeOp>, &'a [u8]), ReadError>
-    ensures { Gives (λ x. (x.0.items, state_of x.1.now scope.new ctx.new)) result (ops_at close (op_at (free_bound (O.types around.now.outer.now)) around.now.last depth) MOST_OPS [] (state_of bytes.now scope.old ctx.old)) }
+    ensures reads { Gives (λ x. (x.0.items, state_of x.1.now scope.new ctx.new)) result (ops_at close (op_at (free_bound (O.types around.now.outer.now)) around.now.last depth) MOST_OPS [] (state_of bytes.now scope.old ctx.old)) }
+    ensures grows { Grows ctx.old ctx.new }
 {
     let mut items = Vec::new(alloc);
     let mut rest = bytes;
@@ -145,6 +151,7 @@ pub fn ops<'a, O: Outer>(
 
 /// An operation in which others stand with at most that many levels.
 #[cycle(op)]
+#[tactic(auto, using(ir_types::proofs::Growth::grows_refl, ir_types::proofs::Growth::grows_trans))]
 fn op_with<'a, O: Outer>(
     alloc: Global,
     scope: &mut Scope<'a>,
@@ -154,7 +161,8 @@ fn op_with<'a, O: Outer>(
     depth: u32,
 ) -> Result<(TreeOp, &'a [u8]), ReadError>
     requires { scope.old.next < around.now.last }
-    ensures { Gives (λ x. (x.0, state_of x.1.now scope.new ctx.new)) result (op_with (free_bound (O.types around.now.outer.now)) (ops_at CloseCurly (op_at (free_bound (O.types around.now.outer.now)) around.now.last depth) MOST_OPS []) (state_of bytes.now scope.old ctx.old)) }
+    ensures reads { Gives (λ x. (x.0, state_of x.1.now scope.new ctx.new)) result (op_with (free_bound (O.types around.now.outer.now)) (ops_at CloseCurly (op_at (free_bound (O.types around.now.outer.now)) around.now.last depth) MOST_OPS []) (state_of bytes.now scope.old ctx.old)) }
+    ensures grows { Grows ctx.old ctx.new }
 {
     let id = scope.next;
     let (opening, rest) = match read_opening(alloc, ctx, around.outer, &scope.names, bytes) {
@@ -172,6 +180,7 @@ fn op_with<'a, O: Outer>(
 
 /// An operation with at most that many levels, of which it is one.
 #[cycle(op)]
+#[tactic(auto, using(ir_types::proofs::Growth::grows_refl, ir_types::proofs::Growth::grows_trans))]
 pub fn op<'a, O: Outer>(
     alloc: Global,
     scope: &mut Scope<'a>,
@@ -180,7 +189,8 @@ pub fn op<'a, O: Outer>(
     bytes: &'a [u8],
     depth: u32,
 ) -> Result<(TreeOp, &'a [u8]), ReadError>
-    ensures { Gives (λ x. (x.0, state_of x.1.now scope.new ctx.new)) result (op_at (free_bound (O.types around.now.outer.now)) around.now.last depth (state_of bytes.now scope.old ctx.old)) }
+    ensures reads { Gives (λ x. (x.0, state_of x.1.now scope.new ctx.new)) result (op_at (free_bound (O.types around.now.outer.now)) around.now.last depth (state_of bytes.now scope.old ctx.old)) }
+    ensures grows { Grows ctx.old ctx.new }
 {
     if depth == 0 {
         return Err(error_at_name(alloc, Refusal::TooDeep, bytes));

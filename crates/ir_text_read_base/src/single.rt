@@ -1,10 +1,11 @@
 //! One operation alone, among those of a module. Language Reference, "Operations".
-ghost use Rattle.std.specs.Prelude.{◌≡◌, IfOk, IfSome, Err};
-ghost use Rattle.ir_types.specs.Things.{IsType};
+ghost use Rattle.std.specs.Prelude.{◌≡◌, ℕ, IfOk, IfSome, Err};
+ghost use Rattle.ir_types.specs.Things.{IsType, Grows};
 ghost use Rattle.ir_tree.specs.declared.value.Value.{Value as TreeValue};
 ghost use Rattle.ir_tree.specs.Meaning.{IsSoundIn};
 ghost use Rattle.ir_text_base.specs.declared.fault.Fault.{Fault as TextFault};
 ghost use Rattle.ir_text_read_base.specs.Free.{free_bound, free_term};
+ghost use Rattle.ir_text_type_base.specs.Laws.{IsFull};
 ghost use Rattle.ir_text_type_base.specs.Outcomes.{Gives};
 ghost use Rattle.ir_text_names_base.specs.States.{fresh};
 ghost use Rattle.ir_text_read_base.specs.SingleReading.{single_at};
@@ -21,6 +22,7 @@ use ir_text_base::token::Mark;
 use ir_text_names_base::blocks::location_refusal;
 use ir_text_names_base::scope::Scope;
 use ir_text_type_base::error::{ReadError, wrong};
+use ir_text_type_base::full::told;
 use ir_text_type_base::steps::after;
 use ir_tree::count::depth;
 use ir_tree::limits::{MOST_AROUND, counts_are_within};
@@ -48,7 +50,7 @@ fn last_from(next: u32) -> u32
 
 /// The operation of a text in which nothing stands after it: its ids are `next`, `next + 1`, .., each
 /// below `last`.
-#[tactic(auto, unfolding(crate::specs::SingleReading::single_at))]
+#[tactic(auto, using(ir_types::proofs::Growth::grows_refl, ir_types::proofs::Growth::grows_trans), unfolding(crate::specs::SingleReading::single_at))]
 fn single<O: Outer>(
     alloc: Global,
     ctx: &mut Context,
@@ -57,7 +59,8 @@ fn single<O: Outer>(
     next: u32,
     last: u32,
 ) -> Result<TreeOp, ReadError>
-    ensures { Gives (λ t. (t, ctx.new)) result (single_at (free_bound (O.types outer.now)) last (fresh next bytes.now ctx.old)) }
+    ensures reads { Gives (λ t. (t, ctx.new)) result (single_at (free_bound (O.types outer.now)) last (fresh next bytes.now ctx.old)) }
+    ensures grows { Grows ctx.old ctx.new }
 {
     let mut scope = Scope {
         names: Names::new(alloc),
@@ -75,6 +78,7 @@ fn single<O: Outer>(
 
 /// The fault of a text that was refused with ids from the outer module's next one on. Where these may
 /// have run out, it is read again with ids from 0 on: another fault comes first, and `IdsExhausted` last.
+#[tactic(auto, using(ir_types::proofs::Growth::grows_refl, ir_types::proofs::Growth::grows_trans))]
 fn before_ids<O: Outer>(
     alloc: Global,
     ctx: &mut Context,
@@ -82,7 +86,9 @@ fn before_ids<O: Outer>(
     outer: &O,
     next: u32,
     fault: Fault,
-) -> Result<Fault, ReadError> {
+) -> Result<Fault, ReadError>
+    ensures { Grows ctx.old ctx.new }
+{
     if next <= MOST_ID - MOST_OPS || fault.refusal != Refusal::TooMany {
         return Ok(fault);
     }
@@ -123,13 +129,9 @@ fn looked_at(ctx: &Context, tree: &TreeOp, next: u32) -> Result<(), ReadError>
     Ok(())
 }
 
-/// The operation that a text spells, with nothing after it. It is numbered from the outer module's next id
-/// in pre-order, each id below 4,294,967,295, and what it names is interned: the context only grows. A name
-/// that isn't bound where it stands and has the form `%v12.0` or `%a12.0.1` is that value of the outer
-/// module, also inside an isolated operation.
-///
-/// Refusals: those of `read`, but for a root's; and at last `IdsExhausted`.
-pub fn read_op<O: Outer>(
+/// The operation that a text spells, as far as its error is one of reading.
+#[tactic(auto, using(ir_types::proofs::Growth::grows_refl, ir_types::proofs::Growth::grows_trans))]
+fn op_of_text<O: Outer>(
     alloc: Global,
     ctx: &mut Context,
     bytes: &[u8],
@@ -139,6 +141,7 @@ pub fn read_op<O: Outer>(
     ensures read { IfOk result (λ t. IsOnly (SpellsOp (free_term (O.types outer.now) ctx.old) (O.next outer.now) bytes.now) ctx.new t) }
     ensures sound { IfOk result (λ t. IsSoundIn ctx.new t) }
     ensures refused { (f : TextFault) → result ≡ Err (ReadError.Refused f) → IsNone (SpellsOp (free_term (O.types outer.now) ctx.old) (O.next outer.now) bytes.now) }
+    ensures grows { Grows ctx.old ctx.new }
 {
     match check_text(bytes) {
         Ok(()) => {}
@@ -163,5 +166,30 @@ pub fn read_op<O: Outer>(
     match looked_at(ctx, &tree, next) {
         Ok(()) => Ok(tree),
         Err(e) => Err(e),
+    }
+}
+
+/// The operation that a text spells, with nothing after it. It is numbered from the outer module's next id
+/// in pre-order, each id below 4,294,967,295, and what it names is interned: the context only grows, whatever
+/// is answered. A name that isn't bound where it stands and has the form `%v12.0` or `%a12.0.1` is that value
+/// of the outer module, also inside an isolated operation.
+///
+/// Refusals: those of `read`, but for a root's; and at last `IdsExhausted`. `Full` where the context grew full.
+pub fn read_op<O: Outer>(
+    alloc: Global,
+    ctx: &mut Context,
+    bytes: &[u8],
+    outer: &O,
+) -> Result<TreeOp, ReadError>
+    requires { (v : TreeValue) → IfSome (O.types outer.now v) (λ ty. IsType ctx.old ty) }
+    ensures read { IfOk result (λ t. IsOnly (SpellsOp (free_term (O.types outer.now) ctx.old) (O.next outer.now) bytes.now) ctx.new t) }
+    ensures sound { IfOk result (λ t. IsSoundIn ctx.new t) }
+    ensures refused { (f : TextFault) → result ≡ Err (ReadError.Refused f) → IsNone (SpellsOp (free_term (O.types outer.now) ctx.old) (O.next outer.now) bytes.now) }
+    ensures grows { Grows ctx.old ctx.new }
+    ensures full { (left : ℕ) → result ≡ Err (ReadError.Full left) → IsFull ctx.new }
+{
+    match op_of_text(alloc, ctx, bytes, outer) {
+        Ok(tree) => Ok(tree),
+        Err(e) => Err(told(ctx, e)),
     }
 }

@@ -1,6 +1,7 @@
 //! What stands behind an operation's regions. Language Reference, "Operations".
 ghost use Rattle.std.specs.Prelude.{◌≡◌, map, IfOk};
 ghost use Rattle.ir_tree.specs.View.{region_view};
+ghost use Rattle.ir_types.specs.Things.{Grows};
 ghost use Rattle.ir_text_type_base.specs.Outcomes.{Gives};
 ghost use Rattle.ir_text_names_base.specs.States.{state_of};
 ghost use Rattle.ir_text_read_base.specs.FrontReading.{start_view};
@@ -29,14 +30,15 @@ use std::alloc::{AllocError, Global};
 
 /// The types of the results, in a function type behind a colon. `TypeMismatch` at the colon where the
 /// operands don't have its inputs.
-#[tactic(auto, unfolding(crate::specs::Openings::outputs_at))]
+#[tactic(auto, using(ir_types::proofs::Growth::grows_refl, ir_types::proofs::Growth::grows_trans), unfolding(crate::specs::Openings::outputs_at))]
 fn outputs<'a>(
     alloc: Global,
     ctx: &mut Context,
     operands: &[Bound],
     bytes: &'a [u8],
 ) -> Result<(Vec<TypeId>, &'a [u8]), ReadError>
-    ensures { Gives (λ x. (x.0.items, (x.1.now, ctx.new))) result (outputs_at (types_of operands.now) (bytes.now, ctx.old)) }
+    ensures reads { Gives (λ x. (x.0.items, (x.1.now, ctx.new))) result (outputs_at (types_of operands.now) (bytes.now, ctx.old)) }
+    ensures grows { Grows ctx.old ctx.new }
 {
     let rest = match expect(bytes, Mark::Colon) {
         Ok(rest) => rest,
@@ -53,6 +55,7 @@ fn outputs<'a>(
 }
 
 /// The types of the results. Their names are bound.
+#[tactic(auto, using(ir_types::proofs::Growth::grows_refl, ir_types::proofs::Growth::grows_trans))]
 fn finished<'a>(
     alloc: Global,
     scope: &mut Scope<'a>,
@@ -61,7 +64,8 @@ fn finished<'a>(
     front: &Front<'a>,
     bytes: &'a [u8],
 ) -> Result<(Vec<TypeId>, &'a [u8]), ReadError>
-    ensures { Gives (λ x. (x.0.items, state_of x.1.now scope.new ctx.new)) result (finished_at id (start_view front.now) (state_of bytes.now scope.old ctx.old)) }
+    ensures reads { Gives (λ x. (x.0.items, state_of x.1.now scope.new ctx.new)) result (finished_at id (start_view front.now) (state_of bytes.now scope.old ctx.old)) }
+    ensures grows { Grows ctx.old ctx.new }
 {
     let (results, rest) = match outputs(alloc, ctx, &front.operands, bytes) {
         Ok(found) => found,
@@ -126,6 +130,7 @@ fn made(
 }
 
 /// An operation's attributes and its function type. Then the names of its results are bound.
+#[tactic(auto, using(ir_types::proofs::Growth::grows_refl, ir_types::proofs::Growth::grows_trans))]
 fn tail<'a>(
     alloc: Global,
     scope: &mut Scope<'a>,
@@ -135,7 +140,8 @@ fn tail<'a>(
     regions: Vec<TreeRegion>,
     bytes: &'a [u8],
 ) -> Result<(TreeOp, &'a [u8]), ReadError>
-    ensures { Gives (λ x. (x.0, state_of x.1.now scope.new ctx.new)) result (tail_at id opening.now.name (start_view opening.now.front) opening.now.written.items (map region_view regions.items) (state_of bytes.now scope.old ctx.old)) }
+    ensures reads { Gives (λ x. (x.0, state_of x.1.now scope.new ctx.new)) result (tail_at id opening.now.name (start_view opening.now.front) opening.now.written.items (map region_view regions.items) (state_of bytes.now scope.old ctx.old)) }
+    ensures grows { Grows ctx.old ctx.new }
 {
     let (others, rest) = match attributes(alloc, ctx, opening.name, &opening.written, bytes) {
         Ok(found) => found,
@@ -153,6 +159,7 @@ fn tail<'a>(
 
 /// The same for the operation that begins at `start`. A fault is told where it stands: `Successors` where
 /// they stand behind its operands, and a name that is bound already at the name.
+#[tactic(auto, using(ir_types::proofs::Growth::grows_refl, ir_types::proofs::Growth::grows_trans))]
 pub(crate) fn closing<'a>(
     alloc: Global,
     scope: &mut Scope<'a>,
@@ -163,7 +170,8 @@ pub(crate) fn closing<'a>(
     start: &'a [u8],
     bytes: &'a [u8],
 ) -> Result<(TreeOp, &'a [u8]), ReadError>
-    ensures { Gives (λ x. (x.0, state_of x.1.now scope.new ctx.new)) result (tail_at id opening.entry.name (start_view opening.entry.front) opening.entry.written.items (map region_view regions.items) (state_of bytes.now scope.old ctx.old)) }
+    ensures reads { Gives (λ x. (x.0, state_of x.1.now scope.new ctx.new)) result (tail_at id opening.entry.name (start_view opening.entry.front) opening.entry.written.items (map region_view regions.items) (state_of bytes.now scope.old ctx.old)) }
+    ensures grows { Grows ctx.old ctx.new }
 {
     match tail(alloc, scope, ctx, id, &opening, regions, bytes) {
         Ok(found) => Ok(found),

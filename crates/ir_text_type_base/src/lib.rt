@@ -3,6 +3,7 @@
 #![tactic(auto)]
 
 pub mod error;
+pub mod full;
 pub mod laws;
 mod scalars;
 mod shapes;

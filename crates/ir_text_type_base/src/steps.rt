@@ -1,6 +1,6 @@
 //! Tokens that must stand next, or may, and what is interned on the way.
 ghost use Rattle.std.specs.Prelude.{◌≡◌, option_map, length};
-ghost use Rattle.ir_types.specs.Things.{TypeIsOf, AttrIsOf};
+ghost use Rattle.ir_types.specs.Things.{TypeIsOf, AttrIsOf, Grows};
 ghost use Rattle.ir_text_base.specs.Tokens.{lexeme_of, next};
 ghost use Rattle.ir_text_type_base.specs.Outcomes.{Gives, of_option};
 ghost use Rattle.ir_text_type_base.specs.Marks.{mark_code, is_single, after};
@@ -97,9 +97,10 @@ pub fn token(bytes: &[u8]) -> Result<(Token<'_>, &[u8]), ReadError>
 }
 
 /// The number of a name that stands in a text where these bytes are left.
-#[tactic(auto, using(crate::proofs::Stepping::step_fails, crate::proofs::Stepping::step_reads), unfolding(crate::specs::Typed::name_step))]
+#[tactic(auto, using(ir_types::proofs::Growth::grows_refl, ir_types::proofs::Growth::grows_trans, crate::proofs::Stepping::step_fails, crate::proofs::Stepping::step_reads), unfolding(crate::specs::Typed::name_step))]
 pub fn name(ctx: &mut Context, bytes: &[u8], rest: &[u8]) -> Result<NameId, ReadError>
-    ensures { Gives (λ n. (n, ctx.new)) result (name_step bytes.now ctx.old) }
+    ensures reads { Gives (λ n. (n, ctx.new)) result (name_step bytes.now ctx.old) }
+    ensures grows { Grows ctx.old ctx.new }
 {
     match ctx.name(bytes) {
         Ok(id) => Ok(id),
@@ -108,10 +109,11 @@ pub fn name(ctx: &mut Context, bytes: &[u8], rest: &[u8]) -> Result<NameId, Read
 }
 
 /// The number of a type that stands in a text where these bytes are left.
-#[tactic(auto, using(crate::proofs::Stepping::step_fails, crate::proofs::Stepping::step_reads), unfolding(crate::specs::Typed::type_step))]
+#[tactic(auto, using(ir_types::proofs::Growth::grows_refl, ir_types::proofs::Growth::grows_trans, crate::proofs::Stepping::step_fails, crate::proofs::Stepping::step_reads), unfolding(crate::specs::Typed::type_step))]
 pub fn ty(ctx: &mut Context, node: TypeNode, rest: &[u8]) -> Result<TypeId, ReadError>
     requires { TypeIsOf ctx.old node }
-    ensures { Gives (λ n. (n, ctx.new)) result (type_step node ctx.old) }
+    ensures reads { Gives (λ n. (n, ctx.new)) result (type_step node ctx.old) }
+    ensures grows { Grows ctx.old ctx.new }
 {
     match ctx.ty(node) {
         Ok(id) => Ok(id),
@@ -120,10 +122,11 @@ pub fn ty(ctx: &mut Context, node: TypeNode, rest: &[u8]) -> Result<TypeId, Read
 }
 
 /// The number of an attribute that stands in a text where these bytes are left.
-#[tactic(auto, using(crate::proofs::Stepping::step_fails, crate::proofs::Stepping::step_reads), unfolding(crate::specs::Typed::attr_step))]
+#[tactic(auto, using(ir_types::proofs::Growth::grows_refl, ir_types::proofs::Growth::grows_trans, crate::proofs::Stepping::step_fails, crate::proofs::Stepping::step_reads), unfolding(crate::specs::Typed::attr_step))]
 pub fn attr(ctx: &mut Context, node: AttrNode, rest: &[u8]) -> Result<AttrId, ReadError>
     requires { AttrIsOf ctx.old node }
-    ensures { Gives (λ n. (n, ctx.new)) result (attr_step node ctx.old) }
+    ensures reads { Gives (λ n. (n, ctx.new)) result (attr_step node ctx.old) }
+    ensures grows { Grows ctx.old ctx.new }
 {
     match ctx.attr(node) {
         Ok(id) => Ok(id),

@@ -27,27 +27,30 @@ pub const MANY: usize = 16_777_216;
 pub const MOST_DEPTH: u32 = 32;
 
 /// The number of a type that stands in front of these bytes.
-#[tactic(auto, unfolding(crate::specs::TypeReading::type_done))]
+#[tactic(auto, using(ir_types::proofs::Growth::grows_refl, ir_types::proofs::Growth::grows_trans), unfolding(crate::specs::TypeReading::type_done))]
 pub fn kept<'a>(
     ctx: &mut Context,
     node: TypeNode,
     rest: &'a [u8],
 ) -> Result<(TypeId, &'a [u8]), ReadError>
     requires { TypeIsOf ctx.old node }
-    ensures { Gives (λ x. (x.0, (x.1.now, ctx.new))) result (type_done node (rest.now, ctx.old)) }
+    ensures reads { Gives (λ x. (x.0, (x.1.now, ctx.new))) result (type_done node (rest.now, ctx.old)) }
+    ensures grows { Grows ctx.old ctx.new }
 {
     let id = steps::ty(ctx, node, rest)?;
     Ok((id, rest))
 }
 
 /// The integer type or index that a word is, which stands at `start`.
+#[tactic(auto, using(ir_types::proofs::Growth::grows_refl, ir_types::proofs::Growth::grows_trans))]
 fn scalar<'a>(
     ctx: &mut Context,
     word: &[u8],
     start: &[u8],
     rest: &'a [u8],
 ) -> Result<(TypeId, &'a [u8]), ReadError>
-    ensures { Gives (λ x. (x.0, (x.1.now, ctx.new))) result (scalar_done word.now (rest.now, ctx.old)) }
+    ensures reads { Gives (λ x. (x.0, (x.1.now, ctx.new))) result (scalar_done word.now (rest.now, ctx.old)) }
+    ensures grows { Grows ctx.old ctx.new }
 {
     match scalar_of(word) {
         Some(node) => kept(ctx, node, rest),
@@ -58,9 +61,10 @@ fn scalar<'a>(
 /// The element of a memref: a type that is one word.
 ///
 /// Refusals: `BadWidth`; `LeftOut` where another type begins, or a `*`; else `Unexpected`.
-#[tactic(auto, unfolding(crate::specs::TypeReading::scalar_at))]
+#[tactic(auto, using(ir_types::proofs::Growth::grows_refl, ir_types::proofs::Growth::grows_trans), unfolding(crate::specs::TypeReading::scalar_at))]
 fn element<'a>(ctx: &mut Context, bytes: &'a [u8]) -> Result<(TypeId, &'a [u8]), ReadError>
     ensures reads { Gives (λ x. (x.0, (x.1.now, ctx.new))) result (scalar_at (bytes.now, ctx.old)) }
+    ensures grows { Grows ctx.old ctx.new }
 {
     let (found, rest) = token(bytes)?;
     match found {
@@ -84,13 +88,14 @@ fn closed(bytes: &[u8]) -> Result<&[u8], ReadError>
 ///
 /// Refusals: `Unexpected`; `BadValue` at a dimension that is too great; those of the element;
 /// `LeftOut` at a comma behind it.
-#[tactic(auto, unfolding(crate::specs::TypeReading::memref_at))]
+#[tactic(auto, using(ir_types::proofs::Growth::grows_refl, ir_types::proofs::Growth::grows_trans), unfolding(crate::specs::TypeReading::memref_at))]
 fn memref<'a>(
     alloc: Global,
     ctx: &mut Context,
     bytes: &'a [u8],
 ) -> Result<(TypeId, &'a [u8]), ReadError>
-    ensures { Gives (λ x. (x.0, (x.1.now, ctx.new))) result (memref_at (bytes.now, ctx.old)) }
+    ensures reads { Gives (λ x. (x.0, (x.1.now, ctx.new))) result (memref_at (bytes.now, ctx.old)) }
+    ensures grows { Grows ctx.old ctx.new }
 {
     ctx.sound();
     let rest = expect(bytes, Mark::Less)?;
@@ -111,13 +116,14 @@ fn memref<'a>(
 }
 
 /// A type that begins with a word: a memref, an integer type or index.
-#[tactic(auto, unfolding(crate::specs::TypeReading::word_type_at))]
+#[tactic(auto, using(ir_types::proofs::Growth::grows_refl, ir_types::proofs::Growth::grows_trans), unfolding(crate::specs::TypeReading::word_type_at))]
 fn word_type<'a>(
     alloc: Global,
     ctx: &mut Context,
     bytes: &'a [u8],
 ) -> Result<(TypeId, &'a [u8]), ReadError>
-    ensures { Gives (λ x. (x.0, (x.1.now, ctx.new))) result (word_type_at (bytes.now, ctx.old)) }
+    ensures reads { Gives (λ x. (x.0, (x.1.now, ctx.new))) result (word_type_at (bytes.now, ctx.old)) }
+    ensures grows { Grows ctx.old ctx.new }
 {
     let (found, rest) = token(bytes)?;
     match found {
@@ -177,7 +183,7 @@ fn closing_refusal(bytes: &[u8]) -> Refusal {
 
 /// Types up to a closing parenthesis, at most so many.
 #[cycle(types)]
-#[tactic(auto, unfolding(crate::specs::Lists::list_at, crate::specs::TypeReading::types_at))]
+#[tactic(auto, using(ir_types::proofs::Growth::grows_refl, ir_types::proofs::Growth::grows_trans), unfolding(crate::specs::Lists::list_at, crate::specs::TypeReading::types_at))]
 fn types<'a>(
     alloc: Global,
     ctx: &mut Context,
@@ -185,7 +191,8 @@ fn types<'a>(
     depth: u32,
     room: usize,
 ) -> Result<(Vec<TypeId>, &'a [u8]), ReadError>
-    ensures { Gives (λ x. (x.0.items, (x.1.now, ctx.new))) result (types_at (type_at depth) room (bytes.now, ctx.old)) }
+    ensures reads { Gives (λ x. (x.0.items, (x.1.now, ctx.new))) result (types_at (type_at depth) room (bytes.now, ctx.old)) }
+    ensures grows { Grows ctx.old ctx.new }
 {
     let mut items = Vec::new(alloc);
     if let Some(rest) = after(bytes, Mark::CloseRound) {
@@ -216,7 +223,7 @@ fn one(alloc: Global, item: TypeId) -> Result<Vec<TypeId>, AllocError>
 
 /// One type, or types in parentheses, at most so many.
 #[cycle(types)]
-#[tactic(auto, unfolding(crate::specs::TypeReading::outputs_at))]
+#[tactic(auto, using(ir_types::proofs::Growth::grows_refl, ir_types::proofs::Growth::grows_trans), unfolding(crate::specs::TypeReading::outputs_at))]
 fn outputs<'a>(
     alloc: Global,
     ctx: &mut Context,
@@ -224,7 +231,8 @@ fn outputs<'a>(
     depth: u32,
     room: usize,
 ) -> Result<(Vec<TypeId>, &'a [u8]), ReadError>
-    ensures { Gives (λ x. (x.0.items, (x.1.now, ctx.new))) result (outputs_at (type_at depth) room (bytes.now, ctx.old)) }
+    ensures reads { Gives (λ x. (x.0.items, (x.1.now, ctx.new))) result (outputs_at (type_at depth) room (bytes.now, ctx.old)) }
+    ensures grows { Grows ctx.old ctx.new }
 {
     if let Some(rest) = after(bytes, Mark::OpenRound) {
         return types(alloc, ctx, rest, depth, room);
@@ -239,7 +247,7 @@ fn outputs<'a>(
 
 /// The inputs and outputs of a function type, behind its opening parenthesis.
 #[cycle(types)]
-#[tactic(auto, unfolding(crate::specs::TypeReading::signature_at))]
+#[tactic(auto, using(ir_types::proofs::Growth::grows_refl, ir_types::proofs::Growth::grows_trans), unfolding(crate::specs::TypeReading::signature_at))]
 fn signature<'a>(
     alloc: Global,
     ctx: &mut Context,
@@ -247,7 +255,8 @@ fn signature<'a>(
     depth: u32,
     room: usize,
 ) -> Result<((Vec<TypeId>, Vec<TypeId>), &'a [u8]), ReadError>
-    ensures { Gives (λ x. ((x.0.0.items, x.0.1.items), (x.1.now, ctx.new))) result (signature_at (type_at depth) room (bytes.now, ctx.old)) }
+    ensures reads { Gives (λ x. ((x.0.0.items, x.0.1.items), (x.1.now, ctx.new))) result (signature_at (type_at depth) room (bytes.now, ctx.old)) }
+    ensures grows { Grows ctx.old ctx.new }
 {
     let (inputs, rest) = match types(alloc, ctx, bytes, depth, MANY) {
         Ok(found) => found,
@@ -263,14 +272,15 @@ fn signature<'a>(
 
 /// A function type, behind its opening parenthesis.
 #[cycle(types)]
-#[tactic(auto, unfolding(crate::specs::TypeReading::function_at))]
+#[tactic(auto, using(ir_types::proofs::Growth::grows_refl, ir_types::proofs::Growth::grows_trans), unfolding(crate::specs::TypeReading::function_at))]
 fn function<'a>(
     alloc: Global,
     ctx: &mut Context,
     bytes: &'a [u8],
     depth: u32,
 ) -> Result<(TypeId, &'a [u8]), ReadError>
-    ensures { Gives (λ x. (x.0, (x.1.now, ctx.new))) result (function_at (type_at depth) (bytes.now, ctx.old)) }
+    ensures reads { Gives (λ x. (x.0, (x.1.now, ctx.new))) result (function_at (type_at depth) (bytes.now, ctx.old)) }
+    ensures grows { Grows ctx.old ctx.new }
 {
     ctx.sound();
     let ((inputs, outputs), rest) = match signature(alloc, ctx, bytes, depth, MANY) {
@@ -290,14 +300,15 @@ fn function<'a>(
 /// a type that is left out; `BadWidth`; `BadValue` at a dimension above 9,223,372,036,854,775,807;
 /// `TooDeep` at the part that is too deep.
 #[cycle(types)]
-#[tactic(auto, unfolding(crate::specs::TypeReading::type_at))]
+#[tactic(auto, using(ir_types::proofs::Growth::grows_refl, ir_types::proofs::Growth::grows_trans), unfolding(crate::specs::TypeReading::type_at))]
 pub fn ty<'a>(
     alloc: Global,
     ctx: &mut Context,
     bytes: &'a [u8],
     depth: u32,
 ) -> Result<(TypeId, &'a [u8]), ReadError>
-    ensures { Gives (λ x. (x.0, (x.1.now, ctx.new))) result (type_at depth (bytes.now, ctx.old)) }
+    ensures reads { Gives (λ x. (x.0, (x.1.now, ctx.new))) result (type_at depth (bytes.now, ctx.old)) }
+    ensures grows { Grows ctx.old ctx.new }
 {
     if depth == 0 {
         return Err(ReadError::Refused(wrong(past_refusal(bytes, Refusal::TooDeep), bytes)));
@@ -319,13 +330,14 @@ fn past_refusal(bytes: &[u8], limit: Refusal) -> Refusal {
 }
 
 /// The function type of an operation: its inputs, and at most 256 outputs.
-#[tactic(auto, unfolding(crate::specs::TypeReading::function_type_at))]
+#[tactic(auto, using(ir_types::proofs::Growth::grows_refl, ir_types::proofs::Growth::grows_trans), unfolding(crate::specs::TypeReading::function_type_at))]
 pub fn function_type<'a>(
     alloc: Global,
     ctx: &mut Context,
     bytes: &'a [u8],
 ) -> Result<((Vec<TypeId>, Vec<TypeId>), &'a [u8]), ReadError>
-    ensures { Gives (λ x. ((x.0.0.items, x.0.1.items), (x.1.now, ctx.new))) result (function_type_at (bytes.now, ctx.old)) }
+    ensures reads { Gives (λ x. ((x.0.0.items, x.0.1.items), (x.1.now, ctx.new))) result (function_type_at (bytes.now, ctx.old)) }
+    ensures grows { Grows ctx.old ctx.new }
 {
     let rest = expect(bytes, Mark::OpenRound)?;
     signature(alloc, ctx, rest, MOST_DEPTH, 256)

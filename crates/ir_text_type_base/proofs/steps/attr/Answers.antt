@@ -5,6 +5,6 @@ use Rattle.ir_text_type_base.specs.Typed.{attr_step}
 use Rattle.ir_text_type_base.proofs.Stepping.{step_fails}
 use Rattle.ir_text_type_base.proofs.steps.attr.Goals as goal
 
-pub returns-in-Err : goal.returns-in-Err
+pub returns-in-Err-clause-reads : goal.returns-in-Err-clause-reads
 unfolding attr_step
-returns-in-Err c = rw c.refused_by_context.ensures (step_fails _ (attr_reason c.args.node c.args.ctx.now) c.in-Err.refusal (length c.args.rest.now) (with_attr c.args.node c.args.ctx.now) c.in-Err.ensures.refused)
+returns-in-Err-clause-reads c = rw c.refused_by_context.ensures (step_fails _ (attr_reason c.args.node c.args.ctx.now) c.in-Err.refusal (length c.args.rest.now) (with_attr c.args.node c.args.ctx.now) c.in-Err.ensures.refused)

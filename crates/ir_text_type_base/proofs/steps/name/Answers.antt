@@ -5,6 +5,6 @@ use Rattle.ir_text_type_base.specs.Typed.{name_step}
 use Rattle.ir_text_type_base.proofs.Stepping.{step_fails}
 use Rattle.ir_text_type_base.proofs.steps.name.Goals as goal
 
-pub returns-in-Err : goal.returns-in-Err
+pub returns-in-Err-clause-reads : goal.returns-in-Err-clause-reads
 unfolding name_step
-returns-in-Err c = rw c.refused_by_context.ensures (step_fails _ (name_reason c.args.bytes.now c.args.ctx.now) c.in-Err.refusal (length c.args.rest.now) (with_name c.args.bytes.now c.args.ctx.now) c.in-Err.ensures.refused)
+returns-in-Err-clause-reads c = rw c.refused_by_context.ensures (step_fails _ (name_reason c.args.bytes.now c.args.ctx.now) c.in-Err.refusal (length c.args.rest.now) (with_name c.args.bytes.now c.args.ctx.now) c.in-Err.ensures.refused)

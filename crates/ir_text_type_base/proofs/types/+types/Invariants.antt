@@ -3,6 +3,7 @@ use Rattle.ir_text_base.specs.declared.token.Mark.TheVariants.{CloseRound}
 use Rattle.ir_text_type_base.specs.Lists.{more_at}
 use Rattle.ir_text_type_base.specs.Typed.{after_typed}
 use Rattle.ir_text_type_base.specs.TypeReading.{types_at, type_at}
+use Rattle.ir_types.specs.Things.{Grows}
 use Rattle.ir_text_type_base.proofs.types.+types.Given as goal
 
 abbrev pub decreases-ty : goal.decreases-ty
@@ -23,5 +24,6 @@ decreases-function l = 5 * l.depth + 4
 abbrev pub invariant-types-items : goal.invariant-types-items
 invariant-types-items l = record {
   reads : more_at after_typed CloseRound (λ before. type_at l.depth) (l.room - l.counter) l.items.items (l.rest, l.ctx) ≡ types_at (type_at l.depth) l.room (l.bytes, l.initial.ctx);
+  grows : Grows l.initial.ctx l.ctx;
   count : length l.items.items ≡ l.counter;
 }
