@@ -1,4 +1,5 @@
-//! The reader of modules.
+//! The reader of modules, into a context that is there (`read`) or into a new one (`read_new`); of operations and
+//! of attributes.
 ghost use Rattle.std.specs.Prelude.{◌≡◌, ℕ, IfOk, Err};
 ghost use Rattle.ir_types.specs.Things.{Grows};
 ghost use Rattle.ir_tree.specs.Meaning.{IsSoundIn};
@@ -10,6 +11,7 @@ ghost use Rattle.ir_text_read_base.specs.Claims.{IsOnly, IsNone};
 pub use ir_text_attr_base::single::parse_attr;
 use ir_text_read_base::module;
 pub use ir_text_read_base::single::read_op;
+pub use ir_text_room::alone::read_new;
 use ir_text_type_base::error::ReadError;
 use ir_tree::tree::TreeOp;
 use ir_types::context::Context;

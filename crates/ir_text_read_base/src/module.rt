@@ -93,7 +93,7 @@ fn module_name(ctx: &mut Context, rest: &[u8]) -> Result<NameId, ReadError>
 
 /// The root, where the text is one module without operands and results.
 #[tactic(auto, using(ir_types::proofs::Growth::grows_refl, ir_types::proofs::Growth::grows_trans))]
-pub(crate) fn explicit(alloc: Global, ctx: &mut Context, bytes: &[u8]) -> Result<Root, ReadError>
+pub fn explicit(alloc: Global, ctx: &mut Context, bytes: &[u8]) -> Result<Root, ReadError>
     ensures ok { IfOk result (λ r. IsRootOrNone bytes.now ctx.new r) }
     ensures err { (f : TextFault) → result ≡ Err (ReadError.Refused f) → ⊥ }
     ensures grows { Grows ctx.old ctx.new }
@@ -146,7 +146,7 @@ fn root_of(alloc: Global, name: NameId, body: Vec<TreeOp>) -> Result<TreeOp, All
 
 /// An implicit root of the operations of a text.
 #[tactic(auto, using(ir_types::proofs::Growth::grows_refl, ir_types::proofs::Growth::grows_trans))]
-pub(crate) fn implicit(alloc: Global, ctx: &mut Context, bytes: &[u8]) -> Result<TreeOp, ReadError>
+pub fn implicit(alloc: Global, ctx: &mut Context, bytes: &[u8]) -> Result<TreeOp, ReadError>
     ensures read { IfOk result (λ t. IsOnly (IsBody bytes.now) ctx.new t) }
     ensures refused { (f : TextFault) → result ≡ Err (ReadError.Refused f) → IsNone (IsBody bytes.now) }
     ensures grows { Grows ctx.old ctx.new }
@@ -217,7 +217,7 @@ fn without_root(
 
 /// The fault of a text as it is written. What only the implicit root makes too deep or too many is told
 /// at the end, and a label outside any region does not fit.
-pub(crate) fn as_written(
+pub fn as_written(
     alloc: Global,
     ctx: &mut Context,
     bytes: &[u8],
@@ -259,9 +259,10 @@ fn source(alloc: Global, ctx: &mut Context, bytes: &[u8]) -> Result<TreeOp, Read
 
 /// Looks at a tree that was read: every operand must be seen, and no limit passed; its ids must be 0, 1, ..
 /// and its dictionaries sorted.
-pub(crate) fn looked_at(alloc: Global, ctx: &Context, tree: &TreeOp) -> Result<(), ReadError>
+pub fn looked_at(alloc: Global, ctx: &Context, tree: &TreeOp) -> Result<(), ReadError>
     ensures ok { IfOk result (λ _. IsWhole ctx.now tree.now) }
     ensures refused { (f : TextFault) → result ≡ Err (ReadError.Refused f) → IsWhole ctx.now tree.now → ⊥ }
+    ensures room { (left : ℕ) → result ≡ Err (ReadError.Full left) → ⊥ }
 {
     match check(alloc, ctx, tree) {
         Ok(()) => {}

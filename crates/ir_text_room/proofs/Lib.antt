@@ -1,0 +1,10 @@
+pub mod Lengths
+pub mod Fits
+pub mod Steps
+pub mod Types
+pub mod Attrs
+pub mod Names
+pub mod Entries
+pub mod Ops
+pub mod Whole
+pub mod Sources

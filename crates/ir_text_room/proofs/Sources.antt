@@ -1,0 +1,38 @@
+-- A text that is read with a new context.
+use Rattle.std.proofs.Common.{◌≡◌, ◌≤◌, ℕ, Bool, true, false, List, length, Option, Some, None, refl, arith}
+use Rattle.std.specs.Prelude.{Result, Ok, Err, IfOk, if◌then◌else◌, nat_lt, not, ◌==◌}
+use Rattle.std.specs.Str.Lossy.{utf8_valid_len}
+use Rattle.std.proofs.lemmas.Bool.Decides.{nat_tests}
+use Rattle.ir_types.specs.declared.refusal.Refusal.{Refusal}
+use Rattle.ir_types.specs.declared.refusal.Refusal.TheVariants.{TooMany, NotUtf8}
+use Rattle.ir_types.specs.Things.{Things}
+use Rattle.ir_tree.specs.Tree.{Op}
+use Rattle.ir_text_base.specs.Limits.{most_bytes, text_reason}
+use Rattle.ir_text_type_base.specs.declared.error.ReadError.{ReadError}
+use Rattle.ir_text_read_base.specs.Claims.{IsOnly, IsNone, IsBody, IsSource}
+use Rattle.ir_text_read_base.specs.Spelling.{IsExplicit}
+use Rattle.ir_text_read_base.proofs.Modules.{body_is_source}
+
+pub source_read : (bytes : List ℕ) (r : Result (Things × Op) ReadError) → IsNone (IsExplicit bytes) → IfOk r (λ x. IsOnly (IsBody bytes) x.0 x.1) → IfOk r (λ x. IsOnly (IsSource bytes) x.0 x.1)
+source_read bytes (Ok x) none h = body_is_source bytes x.0 x.1 none h
+source_read bytes (Err e) none h = tt
+
+-- a text that is not refused is within its limit
+pub within_limit : (bytes : List ℕ) → None ≡ text_reason bytes → length bytes ≤ 16777216
+within_limit bytes e = by (nat_lt most_bytes (length bytes)) refl e
+  where
+    Reason : Type 0
+    Reason = Option (Refusal × ℕ)
+
+    too_many : Reason
+    too_many = Some (TooMany, most_bytes)
+
+    not_utf8 : Reason
+    not_utf8 = if not (utf8_valid_len bytes == length bytes) then Some (NotUtf8, utf8_valid_len bytes) else None
+
+    few : (n : ℕ) → nat_lt 16777216 n ≡ false → n ≤ 16777216
+    few n h = grind (arith, nat_tests)
+
+    by : (b : Bool) → nat_lt most_bytes (length bytes) ≡ b → ◌≡◌ {A = Reason} None (if b then too_many else not_utf8) → length bytes ≤ 16777216
+    by true h e = absurd cc
+    by false h e = few (length bytes) h

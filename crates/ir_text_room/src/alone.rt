@@ -1,0 +1,141 @@
+//! A module's text, read with a context of its own. Language Reference, "High-Level Structure".
+ghost use Rattle.std.specs.Prelude.{◌≡◌, ℕ, IfOk, IfErr, Err};
+ghost use Rattle.ir_tree.specs.Meaning.{IsSoundIn};
+ghost use Rattle.ir_text_base.specs.declared.fault.Fault.{Fault as TextFault};
+ghost use Rattle.ir_text_read_base.specs.Claims.{IsOnly, IsNone, IsRootOrNone, IsBody, IsSource};
+ghost use Rattle.ir_text_read_base.specs.Filling.{new_things, RootFills, BodyFills, OpsFill, Fills};
+ghost use Rattle.ir_text_read_base.specs.Spelling.{Spells};
+
+use ir_text_base::fault::Fault;
+use ir_text_base::limits::check_text;
+use ir_text_read_base::module::{Root, as_written, explicit, implicit, looked_at};
+use ir_text_type_base::error::ReadError;
+use ir_tree::tree::TreeOp;
+use ir_types::context::Context;
+use std::alloc::Global;
+
+/// A context with nothing but the words of the operation table.
+fn new_context(alloc: Global) -> Result<Context, ReadError>
+    ensures ok { IfOk result (λ c. c ≡ new_things) }
+    ensures err { IfErr result (λ e. e ≡ ReadError.Memory) }
+{
+    match Context::new(alloc) {
+        Ok(ctx) => Ok(ctx),
+        Err(_) => Err(ReadError::Memory),
+    }
+}
+
+/// The root, where the text is one module without operands and results.
+fn root_alone(alloc: Global, bytes: &[u8]) -> Result<(Context, Root), ReadError>
+    ensures ok { IfOk result (λ x. IsRootOrNone bytes.now x.0 x.1) }
+    ensures err { (f : TextFault) → result ≡ Err (ReadError.Refused f) → ⊥ }
+    ensures full { (left : ℕ) → result ≡ Err (ReadError.Full left) → RootFills bytes.now new_things }
+{
+    let mut ctx = match new_context(alloc) {
+        Ok(ctx) => ctx,
+        Err(_) => return Err(ReadError::Memory),
+    };
+    match explicit(alloc, &mut ctx, bytes) {
+        Ok(root) => Ok((ctx, root)),
+        Err(e) => Err(e),
+    }
+}
+
+/// An implicit root of the operations of a text.
+fn body_alone(alloc: Global, bytes: &[u8]) -> Result<(Context, TreeOp), ReadError>
+    ensures read { IfOk result (λ x. IsOnly (IsBody bytes.now) x.0 x.1) }
+    ensures refused { (f : TextFault) → result ≡ Err (ReadError.Refused f) → IsNone (IsBody bytes.now) }
+    ensures full { (left : ℕ) → result ≡ Err (ReadError.Full left) → BodyFills bytes.now new_things }
+{
+    let mut ctx = match new_context(alloc) {
+        Ok(ctx) => ctx,
+        Err(_) => return Err(ReadError::Memory),
+    };
+    match implicit(alloc, &mut ctx, bytes) {
+        Ok(tree) => Ok((ctx, tree)),
+        Err(e) => Err(e),
+    }
+}
+
+/// The fault of a text as it is written.
+fn fault_alone(alloc: Global, bytes: &[u8], fault: Fault) -> Result<Fault, ReadError>
+    ensures { (left : ℕ) → result ≡ Err (ReadError.Full left) → OpsFill 129 0 bytes.now new_things }
+{
+    let mut ctx = match new_context(alloc) {
+        Ok(ctx) => ctx,
+        Err(_) => return Err(ReadError::Memory),
+    };
+    match as_written(alloc, &mut ctx, bytes, fault) {
+        Ok(fault) => Ok(fault),
+        Err(e) => Err(e),
+    }
+}
+
+/// The operations of a text that is no root: those of an implicit root, or their fault, where what stood in
+/// the way of the root itself comes first.
+fn without_root(
+    alloc: Global,
+    bytes: &[u8],
+    other: Option<Fault>,
+) -> Result<(Context, TreeOp), ReadError>
+    ensures read { IfOk result (λ x. IsOnly (IsBody bytes.now) x.0 x.1) }
+    ensures refused { (f : TextFault) → result ≡ Err (ReadError.Refused f) → IsNone (IsBody bytes.now) }
+    ensures full { (left : ℕ) → result ≡ Err (ReadError.Full left) → Fills bytes.now }
+{
+    match body_alone(alloc, bytes) {
+        Ok(found) => Ok(found),
+        Err(ReadError::Refused(fault)) => match other {
+            Some(other) => Err(ReadError::Refused(other)),
+            None => match fault_alone(alloc, bytes, fault) {
+                Ok(fault) => Err(ReadError::Refused(fault)),
+                Err(e) => Err(e),
+            },
+        },
+        Err(e) => Err(e),
+    }
+}
+
+/// The tree of a text, before its limits are looked at.
+fn source_alone(alloc: Global, bytes: &[u8]) -> Result<(Context, TreeOp), ReadError>
+    ensures read { IfOk result (λ x. IsOnly (IsSource bytes.now) x.0 x.1) }
+    ensures refused { (f : TextFault) → result ≡ Err (ReadError.Refused f) → IsNone (IsSource bytes.now) }
+    ensures full { (left : ℕ) → result ≡ Err (ReadError.Full left) → Fills bytes.now }
+{
+    let (ctx, root) = match root_alone(alloc, bytes) {
+        Ok(found) => found,
+        Err(e) => return Err(e),
+    };
+    match root {
+        Root::Is(tree) => Ok((ctx, tree)),
+        Root::Other(other) => without_root(alloc, bytes, other),
+    }
+}
+
+/// The tree that a text spells, numbered from 0 in pre-order, and a context that holds what it names. A text
+/// that is one `builtin.module` without operands and results has it as its root; any other is the body of an
+/// implicit root.
+///
+/// Refusals: those of reading into a context that is there. `Full` is none of them: no text within its limit
+/// fills a new context.
+pub fn read_new(alloc: Global, bytes: &[u8]) -> Result<(Context, TreeOp), ReadError>
+    ensures read { IfOk result (λ x. IsOnly (Spells bytes.now) x.0 x.1) }
+    ensures sound { IfOk result (λ x. IsSoundIn x.0 x.1) }
+    ensures refused { (f : TextFault) → result ≡ Err (ReadError.Refused f) → IsNone (Spells bytes.now) }
+    ensures room { (left : ℕ) → result ≡ Err (ReadError.Full left) → ⊥ }
+{
+    match check_text(bytes) {
+        Ok(()) => {}
+        Err((refusal, offset)) => {
+            let left = bytes.len().saturating_sub(offset);
+            return Err(ReadError::Refused(Fault { refusal, left }));
+        }
+    }
+    let (ctx, tree) = match source_alone(alloc, bytes) {
+        Ok(found) => found,
+        Err(e) => return Err(e),
+    };
+    match looked_at(alloc, &ctx, &tree) {
+        Ok(()) => Ok((ctx, tree)),
+        Err(e) => Err(e),
+    }
+}
