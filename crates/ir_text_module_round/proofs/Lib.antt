@@ -13,4 +13,5 @@ pub mod Visible
 pub mod Whole
 pub mod Numbered
 pub mod Writable
+pub mod Ascii
 pub mod Modules

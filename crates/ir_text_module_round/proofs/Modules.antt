@@ -1,5 +1,5 @@
 -- The text of a module spells it, with its ids in pre-order.
-use Rattle.std.proofs.Common.{◌≡◌, ℕ, true, List, [], ◌∷◌, ◌++◌, map, length, None, ap, subst, ◌∙◌, arith, inl}
+use Rattle.std.proofs.Common.{◌≡◌, ℕ, true, List, [], ◌∷◌, ◌++◌, ◌≤◌, map, length, ap, subst, ◌∙◌, arith, inl}
 use Rattle.std.specs.Prelude.{◌==◌, ◌&&◌}
 use Rattle.std.specs.Str.{bytes_eq}
 use Rattle.std.proofs.lemmas.Bool.{eqb-true}
@@ -10,7 +10,7 @@ use Rattle.ir_tree.specs.Ids.{ids, HasDistinctIds, IsNumberedFrom}
 use Rattle.ir_tree.specs.Meaning.{Operation, key_before, dictionaries_rise}
 use Rattle.ir_tree.specs.Tree.{op}
 use Rattle.ir_tree.specs.WellFormed.{IsFormed}
-use Rattle.ir_text_base.specs.Limits.{text_reason}
+use Rattle.ir_text_base.specs.Limits.{most_bytes}
 use Rattle.ir_text_base.specs.Printing.{AreBytes}
 use Rattle.ir_text_base.proofs.Escapes.{value_again}
 use Rattle.ir_text_base.proofs.Printed.{string_token}
@@ -25,6 +25,7 @@ use Rattle.ir_tree_renumber.proofs.Fixed.{renumbered_stays}
 use Rattle.ir_tree_renumber.proofs.Formed.{formed_renumbered}
 use Rattle.ir_tree_renumber.proofs.Kept.{numbered, every_with, rise_with}
 use Rattle.ir_text_module_round.specs.WrittenTrees.{IsWritable}
+use Rattle.ir_text_module_round.proofs.Ascii.{text_is_within}
 use Rattle.ir_text_module_round.proofs.Texts.{Head, names_of, results_then, name_then, results_names, op_names, regions_then, tail_then}
 use Rattle.ir_text_module_round.proofs.Numbered.{places_run, numbered_distinct}
 use Rattle.ir_text_module_round.proofs.Whole.{whole_text, single_again}
@@ -59,13 +60,13 @@ explicit : (f : ℕ → ℕ) (t : Operation) → is_root t ≡ true → IsWritab
 unfolding IsExplicit IsSingle
 explicit f t root w single = (begins_so t root w, single, root_with f t ∙ root)
 
-pub module_again : (t : Operation) → IsFormed is_isolated t → HasDistinctIds t → is_root t ≡ true → IsWritable t → text_reason (text_of t) ≡ None → Spells (text_of t) (renumbered t)
-module_again t formed distinct root w text =
+pub module_again : (t : Operation) → IsFormed is_isolated t → HasDistinctIds t → is_root t ≡ true → IsWritable t → length (text_of t) ≤ most_bytes → Spells (text_of t) (renumbered t)
+module_again t formed distinct root w few =
     let f = place_in (ids t) in
     let test = dictionaries_rise key_before in
     let single = single_again f t (fits t formed.counts w) formed.visible (places_run (ids t) distinct) distinct formed.shallow (few_ops t formed.counts) in
     record {
-      text = text;
+      text = text_is_within t w few;
       spelled = inl (explicit f t root w single);
       formed = formed_renumbered is_isolated t formed;
       numbered = numbered t distinct;
@@ -73,5 +74,5 @@ module_again t formed distinct root w text =
     }
 
 -- a module whose ids are in order is spelled as it is
-pub numbered_again : (t : Operation) → IsFormed is_isolated t → IsNumberedFrom 0 t → is_root t ≡ true → IsWritable t → text_reason (text_of t) ≡ None → Spells (text_of t) t
-numbered_again t formed e root w text = subst (Spells (text_of t)) (renumbered_stays is_isolated t formed e) (module_again t formed (numbered_distinct 0 t e) root w text)
+pub numbered_again : (t : Operation) → IsFormed is_isolated t → IsNumberedFrom 0 t → is_root t ≡ true → IsWritable t → length (text_of t) ≤ most_bytes → Spells (text_of t) t
+numbered_again t formed e root w few = subst (Spells (text_of t)) (renumbered_stays is_isolated t formed e) (module_again t formed (numbered_distinct 0 t e) root w few)
