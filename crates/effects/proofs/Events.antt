@@ -1,0 +1,177 @@
+-- A table that follows an event keeps the tree after it.
+use Rattle.std.proofs.Common.{◌≡◌, ℕ, ◌+◌, List, [], ◌∷◌, ◌++◌, Bool, true, false, true≢false, Option, Some, None, ◌⊎◌, inl, inr, refl, sym, ap, ◌∙◌, subst, arith, cond, eqb, ◌&&◌, ◌||◌, append_assoc}
+use Rattle.std.proofs.lemmas.Bool.{eq-eqb, ne_eqb, cases_eq, eqb-true}
+use Rattle.std.specs.List.{IsDistinct}
+use Rattle.ir_types.specs.Things.{Things}
+use Rattle.ir_tree.specs.declared.place.Place.{Place}
+use Rattle.ir_tree.specs.Tree.{HeadOf, OpOf, op, RegionsOf, no_regions, region, RegionOf, empty, block, OpsOf, no_ops, next, head, regions}
+use Rattle.ir_tree.specs.Ids.{ids, regions_ids, region_ids, ops_ids, find, HasDistinctIds}
+use Rattle.ir_tree.specs.Places.{place_of, without}
+use Rattle.ir_tree.specs.Edits.{each_head, regions_each_head, region_each_head, ops_each_head}
+use Rattle.ir_tree.specs.WellFormed.{ModuleOf}
+use Rattle.ir_tree.proofs.Moves.{Absent}
+use Rattle.ir_tree.proofs.Returns.{Present, absent_first, differ}
+use Rattle.ir_tree_laws.specs.Changes.{HoldNone, Takes, Shifts}
+use Rattle.effects.specs.declared.kinds.Kinds.{Kinds}
+use Rattle.op_registry.specs.declared.own.Own.{Own}
+use Rattle.effects.specs.Effects.{Effect}
+use Rattle.ir_tree_laws.specs.Members.{In}
+use Rattle.effects.specs.Spots.{Spot, spots, regions_spots, region_spots, ops_spots, one_if, is_in, weight, Lacks, Childless, Apart, Rows, has_at, Keeps, Holds}
+use Rattle.effects.specs.Following.{Whole, PutIn, TakenOut, ShiftedTo}
+use Rattle.ir_tree_laws.proofs.Listed.{in_left, in_right, in_parts}
+use Rattle.effects.proofs.Spotted.{weight_joined, lacks_joined, lacks_parts, spot_ids, apart_distinct, spots_ids, childless_op}
+use Rattle.effects.proofs.Cuts.{Cut, cut}
+
+-- ---- the same operations in another order
+
+pub record Alike (ns ms : List Spot) : Type 0 where
+  pub there : (n : Spot) → In n ns → In n ms
+  pub back : (n : Spot) → In n ms → In n ns
+  pub weights : (f : ℕ → Bool) (x : ℕ) → weight f x ns ≡ weight f x ms
+
+lacks_if : (x : ℕ) (ns : List Spot) → ((n : Spot) → In n ns → n.id ≡ x → ⊥) → Lacks x ns
+lacks_if x [] h = tt
+lacks_if x (n ∷ ns) h = (h n (inl refl), lacks_if x ns (λ m a. h m (inr a)))
+
+lacks_then : (x : ℕ) (ns : List Spot) (n : Spot) → Lacks x ns → In n ns → n.id ≡ x → ⊥
+lacks_then x [] n l a e = absurd a
+lacks_then x (m ∷ ms) n l a e = elim a [ inl eq ↦ l.0 (ap (λ (s : Spot). s.id) (sym eq) ∙ e) | inr b ↦ lacks_then x ms n l.1 b e ]
+
+pub holds_alike : (rows : Rows) (ns ms : List Spot) (p : Option ℕ) (more less : Kinds) → Alike ns ms → Holds rows ns p more less → Holds rows ms p more less
+holds_alike rows ns ms p more less s h = record {
+  known = λ n a. h.known n (s.back n a);
+  only = λ x l. h.only x (lacks_if x ns (λ n a. lacks_then x ms n l (s.there n a)));
+  counts = λ e n a. let c = h.counts e n (s.back n a) in let w = s.weights (has_at e rows) n.id in omega (arith, c, w);
+  each = λ e n a. h.each e n (s.back n a);
+}
+
+pub alike_sym : (ns ms : List Spot) → Alike ns ms → Alike ms ns
+alike_sym ns ms s = record { there = s.back; back = s.there; weights = λ f x. sym (s.weights f x) }
+
+pub alike_join : (ls ms ns : List Spot) → Alike ls ms → Alike ms ns → Alike ls ns
+alike_join ls ms ns s t = record { there = λ n a. t.there n (s.there n a); back = λ n a. s.back n (t.back n a); weights = λ f x. s.weights f x ∙ t.weights f x }
+
+pub alike_cons : (m : Spot) (ls ns : List Spot) → Alike ls ns → Alike (m ∷ ls) (m ∷ ns)
+alike_cons m ls ns s = record {
+  there = λ n a. elim a [ inl e ↦ inl e | inr b ↦ inr (s.there n b) ];
+  back = λ n a. elim a [ inl e ↦ inl e | inr b ↦ inr (s.back n b) ];
+  weights = λ f x. ap (λ w. one_if (is_in x m.parent && f m.id) + w) (s.weights f x);
+}
+
+pub alike_moved : (front mid back : List Spot) → Alike (front ++ (mid ++ back)) (mid ++ (front ++ back))
+alike_moved front mid back = record {
+  there = λ n a. elim (in_parts n front (mid ++ back) a) [
+    | inl b ↦ in_right n mid (front ++ back) (in_left n front back b)
+    | inr b ↦ elim (in_parts n mid back b) [ inl d ↦ in_left n mid (front ++ back) d | inr d ↦ in_right n mid (front ++ back) (in_right n front back d) ]
+  ];
+  back = λ n a. elim (in_parts n mid (front ++ back) a) [
+    | inl b ↦ in_right n front (mid ++ back) (in_left n mid back b)
+    | inr b ↦ elim (in_parts n front back b) [ inl d ↦ in_left n front (mid ++ back) d | inr d ↦ in_right n front (mid ++ back) (in_right n mid back d) ]
+  ];
+  weights = λ f x. let a = weight_joined f x front (mid ++ back) in let b = weight_joined f x mid back in let d = weight_joined f x mid (front ++ back) in let e = weight_joined f x front back in omega (arith, a, b, d, e);
+}
+
+-- ids that are told apart
+apart_less : (front : List Spot) (n : Spot) (back : List Spot) → Apart (front ++ (n ∷ back)) → Apart (front ++ back)
+apart_less [] n back d = d.1
+apart_less (f ∷ fs) n back d = let l = lacks_parts f.id fs (n ∷ back) d.0 in (lacks_joined f.id fs back l.0 l.1.1, apart_less fs n back d.1)
+
+lacks_middle : (front : List Spot) (n : Spot) (back : List Spot) → Apart (front ++ (n ∷ back)) → Lacks n.id (front ++ back)
+lacks_middle [] n back d = d.0
+lacks_middle (f ∷ fs) n back d = let l = lacks_parts f.id fs (n ∷ back) d.0 in ((λ e. l.1.0 (sym e)), lacks_middle fs n back d.1)
+
+pub apart_first : (front : List Spot) (n : Spot) (back : List Spot) → Apart (front ++ (n ∷ back)) → Apart (n ∷ (front ++ back))
+apart_first front n back d = (lacks_middle front n back d, apart_less front n back d)
+
+pub absent_lacks : (x : ℕ) (ns : List Spot) → Lacks x ns → Absent x (spot_ids ns)
+absent_lacks x [] l = refl
+absent_lacks x (n ∷ ns) l = λ i. ne_eqb n.id x l.0 i || absent_lacks x ns l.1 i
+
+-- ---- events
+
+some_same : {X : Type 0} (a b : X) → Some a ≡ Some b → a ≡ b
+some_same a b e = cc
+
+module _ {N T A : Type 0} (own : N → Own) where
+  pub apart_spots : (t : OpOf N T A) → HasDistinctIds t → Apart (spots own None t)
+  apart_spots t d = apart_distinct (spots own None t) (subst (IsDistinct eqb) (sym (spots_ids own None t)) d)
+
+  -- blocks without operations
+  no_spots : (p : ℕ) (rs : RegionsOf N T A) → HoldNone rs → regions_spots own p rs ≡ []
+  no_spots p no_regions h = refl
+  no_spots p (region empty rs) h = no_spots p rs h
+  no_spots p (region (block args no_ops) rs) h = no_spots p rs h
+  no_spots p (region (block args (next o os)) rs) h = absurd h
+
+  abbrev spot_at : Option ℕ → OpOf N T A → Spot
+  spot_at p o = record { id = (head o).id; parent = p; own = own (head o).name }
+
+  one_spot : (p : Option ℕ) (o : OpOf N T A) → HoldNone (regions o) → spots own p o ≡ spot_at p o ∷ []
+  one_spot p (op h rs) e = ap (λ l. record { id = h.id; parent = p; own = own h.name } ∷ l) (no_spots h.id rs e)
+
+  abbrev inside : OpOf N T A → List Spot
+  inside o = regions_spots own (head o).id (regions o)
+
+  spots_are : (p : Option ℕ) (o : OpOf N T A) → spots own p o ≡ spot_at p o ∷ inside o
+  spots_are p (op h rs) = refl
+
+  pub put_follows : (x : ℕ) (place : Place) (fresh : Bool) (m n : ModuleOf N T A) (a b : Rows) → HasDistinctIds n.tree → Takes x place fresh n m
+      → ((o : OpOf N T A) → find x n.tree ≡ Some o → PutIn x (Some place.parent) (own (head o).name) a b) → Whole a (spots own None m.tree) → Whole b (spots own None n.tree)
+  put_follows x place fresh m n a b d takes put h =
+      let c = cut own x n.tree place d takes.there in
+      let s = spot_at (Some place.parent) c.here in
+      let whole : spots own None n.tree ≡ c.front ++ (s ∷ c.back) = c.was ∙ ap (λ l. c.front ++ (l ++ c.back)) (one_spot (Some place.parent) c.here (takes.empty c.here c.is)) in
+      let left : spots own None m.tree ≡ c.front ++ c.back = ap (spots own None) takes.left ∙ c.rest in
+      let apart = apart_first c.front s c.back (subst Apart whole (apart_spots n.tree d)) in
+      let absent : Absent x (ids m.tree) = subst (Absent x) (ap spot_ids (sym left) ∙ spots_ids own None m.tree) (subst (λ y. Absent y (spot_ids (c.front ++ c.back))) c.id (absent_lacks s.id (c.front ++ c.back) apart.0)) in
+      let childless : Childless s.id (c.front ++ c.back) = subst (λ y. Childless y (c.front ++ c.back)) (sym c.id) (subst (Childless x) left (childless_op own x None m.tree refl absent)) in
+      let now = put c.here c.is s (c.front ++ c.back) c.id refl refl apart childless (subst (Whole a) left h) in
+      subst (Whole b) (sym whole) (holds_alike b _ _ None _ _ (alike_sym _ _ (alike_moved c.front (s ∷ []) c.back)) now)
+
+  pub take_follows : (x : ℕ) (place : Place) (fresh : Bool) (m n : ModuleOf N T A) (a b : Rows) → HasDistinctIds m.tree → Takes x place fresh m n → TakenOut x a b → Whole a (spots own None m.tree) → Whole b (spots own None n.tree)
+  take_follows x place fresh m n a b d takes taken h =
+      let c = cut own x m.tree place d takes.there in
+      let s = spot_at (Some place.parent) c.here in
+      let whole : spots own None m.tree ≡ c.front ++ (s ∷ c.back) = c.was ∙ ap (λ l. c.front ++ (l ++ c.back)) (one_spot (Some place.parent) c.here (takes.empty c.here c.is)) in
+      let left : spots own None n.tree ≡ c.front ++ c.back = ap (spots own None) takes.left ∙ c.rest in
+      let apart = apart_first c.front s c.back (subst Apart whole (apart_spots m.tree d)) in
+      let before = holds_alike a _ _ None _ _ (alike_moved c.front (s ∷ []) c.back) (subst (Whole a) whole h) in
+      subst (Whole b) (sym left) (taken s (c.front ++ c.back) c.id apart before)
+
+  pub shift_follows : (is_table : N → Bool) (x : ℕ) (old new : Place) (m n : ModuleOf N T A) (a b : Rows) → HasDistinctIds m.tree → HasDistinctIds n.tree → Shifts is_table x old new m n → ShiftedTo x (Some new.parent) a b
+      → Whole a (spots own None m.tree) → Whole b (spots own None n.tree)
+  shift_follows is_table x old new m n a b d e shifts shifted h =
+      let c = cut own x m.tree old d shifts.was in
+      let k = cut own x n.tree new e shifts.is in
+      let same : k.here ≡ c.here = some_same k.here c.here (sym k.is ∙ shifts.same ∙ c.is) in
+      let rest = inside c.here in
+      let s = spot_at (Some old.parent) c.here in
+      let t = spot_at (Some new.parent) c.here in
+      let was : spots own None m.tree ≡ c.front ++ (s ∷ (rest ++ c.back)) = c.was ∙ ap (λ l. c.front ++ (l ++ c.back)) (spots_are (Some old.parent) c.here) in
+      let is : spots own None n.tree ≡ k.front ++ (t ∷ (rest ++ k.back)) = k.was ∙ ap (λ o. k.front ++ (spots own (Some new.parent) o ++ k.back)) same ∙ ap (λ l. k.front ++ (l ++ k.back)) (spots_are (Some new.parent) c.here) in
+      let left : c.front ++ c.back ≡ k.front ++ k.back = sym c.rest ∙ ap (spots own None) (sym shifts.rest) ∙ k.rest in
+      let apart = apart_first c.front s (rest ++ c.back) (subst Apart was (apart_spots m.tree d)) in
+      let before = holds_alike a _ _ None _ _ (alike_moved c.front (s ∷ []) (rest ++ c.back)) (subst (Whole a) was h) in
+      let after = shifted s (c.front ++ (rest ++ c.back)) c.id apart before in
+      let others : Alike (c.front ++ (rest ++ c.back)) (k.front ++ (rest ++ k.back)) =
+      alike_join _ _ _ (subst (λ l. Alike (c.front ++ (rest ++ c.back)) (rest ++ l)) left (alike_moved c.front rest c.back)) (alike_sym _ _ (alike_moved k.front rest k.back)) in
+      let there = holds_alike b _ _ None _ _ (alike_join _ _ _ (alike_cons t _ _ others) (alike_sym _ _ (alike_moved k.front (t ∷ []) (rest ++ k.back)))) after in
+      subst (Whole b) (sym is) there
+
+  -- an edit of heads that keeps ids and names
+  module _ (f : HeadOf N T A → HeadOf N T A) (id : (h : HeadOf N T A) → (f h).id ≡ h.id) (name : (h : HeadOf N T A) → (f h).name ≡ h.name) where
+    mutual
+      pub head_spots : (p : Option ℕ) (t : OpOf N T A) → spots own p (each_head f t) ≡ spots own p t
+      head_spots p (op h rs) = λ i. record { id = id h i; parent = p; own = own (name h i) } ∷ (ap (λ x. regions_spots own x (regions_each_head f rs)) (id h) ∙ regions_head_spots h.id rs) i
+
+      regions_head_spots : (p : ℕ) (rs : RegionsOf N T A) → regions_spots own p (regions_each_head f rs) ≡ regions_spots own p rs
+      regions_head_spots p no_regions = refl
+      regions_head_spots p (region r rs) = λ i. region_head_spots p r i ++ regions_head_spots p rs i
+
+      region_head_spots : (p : ℕ) (r : RegionOf N T A) → region_spots own p (region_each_head f r) ≡ region_spots own p r
+      region_head_spots p empty = refl
+      region_head_spots p (block args os) = ops_head_spots p os
+
+      ops_head_spots : (p : ℕ) (os : OpsOf N T A) → ops_spots own p (ops_each_head f os) ≡ ops_spots own p os
+      ops_head_spots p no_ops = refl
+      ops_head_spots p (next o os) = λ i. head_spots (Some p) o i ++ ops_head_spots p os i

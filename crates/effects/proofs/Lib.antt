@@ -1,0 +1,12 @@
+pub mod Tables
+pub mod Spotted
+pub mod Laws
+pub mod Cuts
+pub mod Climbs
+pub mod Events
+pub mod Changes
+pub mod Begins
+pub mod Agreed
+pub mod Sorted
+pub mod Shown
+pub mod Reporting

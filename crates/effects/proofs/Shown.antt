@@ -1,0 +1,141 @@
+-- The rows of a table are those of the analysis.
+use Rattle.std.proofs.Common.{◌≡◌, ℕ, ◌+◌, ◌<◌, ◌≤◌, List, [], ◌∷◌, ◌++◌, Bool, true, false, true≢false, Option, Some, None, ◌⊎◌, inl, inr, refl, sym, ap, ◌∙◌, subst, arith, cond, eqb, map, ◌||◌}
+use Rattle.std.specs.Prelude.{option_map, nat_lt}
+use Rattle.std.specs.List.{IsDistinct, AllByRecursion, list_any, All}
+use Rattle.std.specs.List.Sorted.{IsStrictlySortedBy}
+use Rattle.std.specs.Ordering.{nat_cmp, is_eq}
+use Rattle.std.specs.declared.cmp.Ordering.TheVariants.{Less, Equal, Greater}
+use Rattle.std.specs.Map.{lookup, keys_of}
+use Rattle.std.specs.BTreeMap.{BTreeMap, is_at}
+use Rattle.std.proofs.lemmas.Bool.{eq-eqb, ne_eqb, cases_eq, eqb-true}
+use Rattle.std.proofs.lemmas.List.{map-append}
+use Rattle.std.proofs.lemmas.Map.Keys.{IsDistinct-head, IsDistinct-tail}
+use Rattle.ir_tree.specs.Tree.{HeadOf, OpOf, op, RegionsOf, no_regions, region, RegionOf, empty, block, OpsOf, no_ops, next, head}
+use Rattle.ir_tree.specs.Ids.{ids, regions_ids, region_ids, ops_ids, HasDistinctIds}
+use Rattle.effects.specs.declared.kinds.Kinds.{Kinds}
+use Rattle.op_registry.specs.declared.own.Own.{Own}
+use Rattle.effects.specs.declared.row.Row.{Row}
+use Rattle.effects.specs.Effects.{Effect, unknown, allocate, free, read, write, has, listed, regions_listed, region_listed, ops_listed}
+use Rattle.ir_tree_laws.specs.Members.{In}
+use Rattle.effects.specs.Spots.{Spot, spots, Lacks, Rows, has_at, count_at, row_has, given, weight, Holds}
+use Rattle.effects.specs.Following.{Whole}
+use Rattle.effects.specs.Reports.{by_id, said}
+use Rattle.effects.proofs.Tables.{spot_of}
+use Rattle.effects.proofs.Spotted.{spot_ids, spots_ids}
+use Rattle.effects.proofs.Laws.{law}
+use Rattle.effects.proofs.Sorted.{look, Rising, NotIn, AllApart, rising_same, by_id_rising, by_id_look}
+
+abbrev Pair : Type 0
+Pair = ℕ × Kinds
+
+kinds_same : (a b : Kinds) → ((e : Effect) → has e a ≡ has e b) → a ≡ b
+kinds_same a b h = λ i. record { unknown = h unknown i; allocate = h allocate i; free = h free i; read = h read i; write = h write i }
+
+-- ---- the ids of what is listed
+
+abbrev pair_ids : List Pair → List ℕ
+pair_ids ps = map (λ (p : Pair). p.0) ps
+
+module _ {N T A : Type 0} (own : N → Own) where
+  mutual
+    listed_ids : (t : OpOf N T A) → pair_ids (listed own t) ≡ ids t
+    listed_ids (op h rs) = ap (λ l. h.id ∷ l) (regions_listed_ids rs)
+
+    regions_listed_ids : (rs : RegionsOf N T A) → pair_ids (regions_listed own rs) ≡ regions_ids rs
+    regions_listed_ids no_regions = refl
+    regions_listed_ids (region r rs) = map-append (λ (p : Pair). p.0) (region_listed own r) (regions_listed own rs) ∙ λ i. region_listed_ids r i ++ regions_listed_ids rs i
+
+    region_listed_ids : (r : RegionOf N T A) → pair_ids (region_listed own r) ≡ region_ids r
+    region_listed_ids empty = refl
+    region_listed_ids (block args os) = ops_listed_ids os
+
+    ops_listed_ids : (os : OpsOf N T A) → pair_ids (ops_listed own os) ≡ ops_ids os
+    ops_listed_ids no_ops = refl
+    ops_listed_ids (next o os) = map-append (λ (p : Pair). p.0) (listed own o) (ops_listed own os) ∙ λ i. listed_ids o i ++ ops_listed_ids os i
+
+apart_all : (x : ℕ) (ps : List Pair) → AllByRecursion (λ y. eqb x y ≡ false) (pair_ids ps) → NotIn x ps
+apart_all x [] a = tt
+apart_all x (p ∷ ps) a = ((λ e. true≢false (sym (eq-eqb x p.0 e) ∙ a.0)), apart_all x ps a.1)
+
+all_apart : (ps : List Pair) → IsDistinct eqb (pair_ids ps) → AllApart ps
+all_apart [] d = tt
+all_apart (p ∷ ps) d = (apart_all p.0 ps (IsDistinct-head eqb p.0 _ d), all_apart ps (IsDistinct-tail eqb p.0 _ d))
+
+-- lists of spots and of pairs with the same ids
+lacks_not_in : (x : ℕ) (ns : List Spot) (ps : List Pair) → pair_ids ps ≡ spot_ids ns → NotIn x ps → Lacks x ns
+lacks_not_in x [] ps e n = tt
+lacks_not_in x (s ∷ ns) [] e n = absurd cc
+lacks_not_in x (s ∷ ns) (p ∷ ps) e n =
+    let one : p.0 ≡ s.id = cc in
+    let rest : pair_ids ps ≡ spot_ids ns = cc in
+    ((λ q. n.0 (sym q ∙ sym one)), lacks_not_in x ns ps rest n.1)
+
+-- ---- what a table says of what is listed
+
+abbrev shown_at : Rows → ℕ → Option Kinds
+shown_at rows x = option_map (λ (r : Row). r.has) (rows x)
+
+look_in : (rows : Rows) (ps : List Pair) → AllByRecursion (λ (p : Pair). shown_at rows p.0 ≡ Some p.1) ps → (x : ℕ) → (look x ps ≡ shown_at rows x) ⊎ (NotIn x ps × (look x ps ≡ None))
+look_in rows [] a x = inr (tt, refl)
+look_in rows (p ∷ ps) a x = elim (cases_eq x p.0) [
+  | inl e ↦ inl (ap (λ b. cond b (Some p.1) (look x ps)) (eq-eqb x p.0 e) ∙ sym a.0 ∙ ap (shown_at rows) (sym e))
+  | inr ne ↦ (let past : look x (p ∷ ps) ≡ look x ps = ap (λ b. cond b (Some p.1) (look x ps)) (ne_eqb x p.0 ne) in
+      elim (look_in rows ps a.1 x) [ inl h ↦ inl (past ∙ h) | inr h ↦ inr ((ne, h.0), past ∙ h.1) ])
+]
+
+-- each effect of each operation is right, so each set is
+all_sets : (rows : Rows) (ps : List Pair) → ((e : Effect) → AllByRecursion (λ (p : Pair). has_at e rows p.0 ≡ has e p.1) ps) → AllByRecursion (λ (p : Pair). (r : Row) × (rows p.0 ≡ Some r)) ps
+    → AllByRecursion (λ (p : Pair). shown_at rows p.0 ≡ Some p.1) ps
+all_sets rows [] h k = tt
+all_sets rows (p ∷ ps) h k =
+    let r = k.0.0 in
+    let is = k.0.1 in (
+      ap (option_map (λ (r : Row). r.has)) is ∙ ap Some (kinds_same r.has p.1 (λ e. sym (ap (row_has e) is) ∙ (h e).0)),
+      all_sets rows ps (λ e. (h e).1) k.1,
+    )
+
+all_kept : (rows : Rows) (ns : List Spot) (ps : List Pair) → pair_ids ps ≡ spot_ids ns → ((n : Spot) → In n ns → (r : Row) × (rows n.id ≡ Some r)) → AllByRecursion (λ (p : Pair). (r : Row) × (rows p.0 ≡ Some r)) ps
+all_kept rows ns [] e h = tt
+all_kept rows [] (p ∷ ps) e h = absurd cc
+all_kept rows (s ∷ ns) (p ∷ ps) e h =
+    let one : p.0 ≡ s.id = cc in
+    let rest : pair_ids ps ≡ spot_ids ns = cc in
+    let k = h s (inl refl) in
+    ((k.0, ap rows one ∙ k.1), all_kept rows ns ps rest (λ n a. h n (inr a)))
+
+each_all : (P : Spot → Type 0) (ns : List Spot) → ((n : Spot) → In n ns → P n) → AllByRecursion P ns
+each_all P [] h = tt
+each_all P (n ∷ ns) h = (h n (inl refl), each_all P ns (λ m a. h m (inr a)))
+
+module _ {N T A : Type 0} (own : N → Own) (t : OpOf N T A) (rows : Rows) (d : HasDistinctIds t) (h : Whole rows (spots own None t)) where
+  same_ids : pair_ids (listed own t) ≡ spot_ids (spots own None t)
+  same_ids = listed_ids own t ∙ sym (spots_ids own None t)
+
+  counted : (e : Effect) (ns : List Spot) (xs : List ℕ) → ((n : Spot) → In n ns → count_at e rows n.id ≡ weight (has_at e rows) n.id (spots own None t)) → spot_ids ns ≡ xs → (x : ℕ) → list_any (λ y. eqb y x) xs ≡ true
+      → count_at e rows x ≡ weight (has_at e rows) x (spots own None t)
+  counted e ns xs k q x p = elim (spot_of x ns) [
+    | inl l ↦ absurd (true≢false (sym p ∙ ap (list_any (λ y. eqb y x)) (sym q) ∙ absent x ns l))
+    | inr m ↦ subst (λ y. count_at e rows y ≡ weight (has_at e rows) y (spots own None t)) m.2 (k m.0 m.1)
+  ]
+    where
+      absent : (x : ℕ) (ms : List Spot) → Lacks x ms → list_any (λ y. eqb y x) (spot_ids ms) ≡ false
+      absent x [] l = refl
+      absent x (m ∷ ms) l = ap (λ b. b || list_any (λ y. eqb y x) (spot_ids ms)) (ne_eqb m.id x l.0) ∙ absent x ms l.1
+
+  all_said : (e : Effect) → AllByRecursion (λ (p : Pair). has_at e rows p.0 ≡ has e p.1) (listed own t)
+  all_said e =
+      law e (has_at e rows) (count_at e rows) own t d (each_all _ (spots own None t) (λ n a. h.each e n a))
+      (counted e (spots own None t) (ids t) (λ n a. let c = h.counts e n a in omega (arith, c)) (spots_ids own None t))
+
+  -- the table says of each operation what the analysis says
+  pub listed_shown : (x : ℕ) → look x (by_id (listed own t)) ≡ shown_at rows x
+  listed_shown x =
+      let sets = all_sets rows (listed own t) all_said (all_kept rows (spots own None t) (listed own t) same_ids (λ n a. let k = h.known n a in (k.row, k.is))) in
+      by_id_look x (listed own t) (all_apart (listed own t) (subst (IsDistinct eqb) (sym (listed_ids own t)) d))
+      ∙ elim (look_in rows (listed own t) sets x) [
+        | inl e ↦ e
+        | inr n ↦ n.1 ∙ sym (ap (option_map (λ (r : Row). r.has)) (h.only x (lacks_not_in x (spots own None t) (listed own t) same_ids n.0)))
+      ]
+
+  pub listed_rising : Rising (by_id (listed own t))
+  listed_rising = by_id_rising (listed own t) (all_apart (listed own t) (subst (IsDistinct eqb) (sym (listed_ids own t)) d))

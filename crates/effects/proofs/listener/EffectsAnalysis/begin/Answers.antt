@@ -1,0 +1,25 @@
+use Rattle.std.proofs.Common.{◌≡◌, true, None, refl, ap, sym, ◌∙◌, subst, rules}
+use Rattle.std.specs.Ordering.{nat_cmp}
+use Rattle.std.specs.Map.{lookup}
+use Rattle.std.specs.BTreeMap.{is_at}
+use Rattle.effects.specs.Spots.{spots}
+use Rattle.effects.specs.Walks.{row_at}
+use Rattle.effects.specs.Effects.{own_by}
+use Rattle.effects.specs.Following.{PutAll}
+use Rattle.effects.proofs.Changes.{on_true_is}
+use Rattle.effects.proofs.Agreed.{begun_agrees, meaning_distinct}
+use Rattle.effects.proofs.listener.EffectsAnalysis.begin.Goals as goal
+
+pub returns-clause-ok : goal.returns-clause-ok
+returns-clause-ok c =
+    let ctx = c.args.world.now.ctx in
+    let t = c.args.world.now.store.tree in
+    let yes : c.put_tree.result ≡ true = search rules in
+    let distinct = c.args.world.now.formed.distinct in (
+      refl,
+      (
+        meaning_distinct ctx t distinct,
+        begun_agrees ctx t (row_at c.new.result) (row_at c.put_tree.new.rows) distinct (λ x. ap (lookup (is_at (nat_cmp x))) c.new.ensures.empty)
+            (subst (λ z. PutAll (spots (own_by ctx) None z) (row_at c.new.result) (row_at c.put_tree.new.rows)) c.root.ensures (on_true_is c.put_tree.result _ yes c.put_tree.ensures)),
+      ),
+    )

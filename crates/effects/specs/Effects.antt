@@ -1,0 +1,89 @@
+-- The effects of operations (Rationale, "Side Effects & Speculation"; Traits, "RecursiveMemoryEffects").
+use Rattle.std.specs.Prelude.{ℕ, List, [], ◌∷◌, ◌++◌, Bool, true, false, ◌||◌, if◌then◌else◌}
+use Rattle.ir_types.specs.Things.{Things}
+use Rattle.ir_types.specs.Terms.{name_term}
+use Rattle.ir_tree.specs.Tree.{OpOf, op, RegionsOf, no_regions, region, RegionOf, empty, block, OpsOf, no_ops, next, head}
+use Rattle.effects.specs.declared.kinds.Kinds.{Kinds}
+use Rattle.op_registry.specs.declared.own.Own.{Own}
+use Rattle.op_registry.specs.declared.own.Own.TheVariants.{Pure, Only, Recursive, Unknown}
+use Rattle.op_registry.specs.Registry.{own_of}
+
+-- one effect
+pub data Effect : Type 0 where
+  unknown : Effect
+  allocate : Effect
+  free : Effect
+  read : Effect
+  write : Effect
+
+-- whether a set has it
+abbrev pub has : Effect → Kinds → Bool
+has unknown s = s.unknown
+has allocate s = s.allocate
+has free s = s.free
+has read s = s.read
+has write s = s.write
+
+-- the empty set
+abbrev pub none : Kinds
+none = record { unknown = false; allocate = false; free = false; read = false; write = false }
+
+-- what is in one of two sets
+abbrev pub union : Kinds → Kinds → Kinds
+union a b = record { unknown = a.unknown || b.unknown; allocate = a.allocate || b.allocate; free = a.free || b.free; read = a.read || b.read; write = a.write || b.write }
+
+-- what an operation has by itself, as a set; where that is what others have it is empty
+abbrev pub own_kinds : Own → Kinds
+own_kinds Pure = none
+own_kinds (Only s) = record { unknown = false; allocate = s.allocate; free = s.free; read = s.read; write = s.write }
+own_kinds Recursive = none
+own_kinds Unknown = record none { unknown = true }
+
+-- whether it has what the operations directly inside have
+abbrev pub is_recursive : Own → Bool
+is_recursive Pure = false
+is_recursive (Only s) = false
+is_recursive Recursive = true
+is_recursive Unknown = false
+
+-- what an operation has, where this is what the operations directly inside have
+abbrev pub effects_by : Own → Kinds → Kinds
+effects_by own inner = if is_recursive own then inner else own_kinds own
+
+-- what an operation has by itself, by the number of its name in a context
+abbrev pub own_by : Things → ℕ → Own
+own_by c n = own_of (name_term c n)
+
+-- the effects of an operation: its own, or those of the operations directly inside
+abbrev mutual
+  pub effects : {N T A : Type 0} → (N → Own) → OpOf N T A → Kinds
+  effects own (op h rs) = effects_by (own h.name) (regions_effects own rs)
+
+  pub regions_effects : {N T A : Type 0} → (N → Own) → RegionsOf N T A → Kinds
+  regions_effects own no_regions = none
+  regions_effects own (region r rs) = union (region_effects own r) (regions_effects own rs)
+
+  pub region_effects : {N T A : Type 0} → (N → Own) → RegionOf N T A → Kinds
+  region_effects own empty = none
+  region_effects own (block args os) = ops_effects own os
+
+  pub ops_effects : {N T A : Type 0} → (N → Own) → OpsOf N T A → Kinds
+  ops_effects own no_ops = none
+  ops_effects own (next o os) = union (effects own o) (ops_effects own os)
+
+-- each operation of a tree with its effects, in pre-order
+abbrev mutual
+  pub listed : {N T A : Type 0} → (N → Own) → OpOf N T A → List (ℕ × Kinds)
+  listed own (op h rs) = (h.id, effects own (op h rs)) ∷ regions_listed own rs
+
+  pub regions_listed : {N T A : Type 0} → (N → Own) → RegionsOf N T A → List (ℕ × Kinds)
+  regions_listed own no_regions = []
+  regions_listed own (region r rs) = region_listed own r ++ regions_listed own rs
+
+  pub region_listed : {N T A : Type 0} → (N → Own) → RegionOf N T A → List (ℕ × Kinds)
+  region_listed own empty = []
+  region_listed own (block args os) = ops_listed own os
+
+  pub ops_listed : {N T A : Type 0} → (N → Own) → OpsOf N T A → List (ℕ × Kinds)
+  ops_listed own no_ops = []
+  ops_listed own (next o os) = listed own o ++ ops_listed own os

@@ -1,0 +1,47 @@
+-- How a table follows events.
+use Rattle.std.specs.Prelude.{◌≡◌, ℕ, List, [], ◌∷◌, Option, Some, None, Bool, true, false}
+use Rattle.ir_types.specs.Things.{Things}
+use Rattle.ir_tree.specs.Tree.{OpOf, head}
+use Rattle.ir_tree.specs.Ids.{find}
+use Rattle.ir_event.specs.declared.event.Event.{Event}
+use Rattle.ir_event.specs.declared.event.Event.TheVariants.{Put, Take, SetOperand, SetEntry, Shift}
+use Rattle.op_registry.specs.declared.own.Own.{Own}
+use Rattle.effects.specs.Effects.{none}
+use Rattle.effects.specs.Spots.{Spot, spots, Apart, Childless, Rows, Holds}
+
+-- a table keeps a list of operations, and each count is right
+abbrev pub Whole : Rows → List Spot → Type 0
+Whole rows ns = Holds rows ns None none none
+
+-- from the first table to the second an operation that holds none was put in
+abbrev pub PutIn : ℕ → Option ℕ → Own → Rows → Rows → Type 0
+PutIn x p own a b = (n : Spot) (ns : List Spot) → n.id ≡ x → n.parent ≡ p → n.own ≡ own → Apart (n ∷ ns) → Childless n.id ns → Whole a ns → Whole b (n ∷ ns)
+
+-- one was taken out
+abbrev pub TakenOut : ℕ → Rows → Rows → Type 0
+TakenOut x a b = (n : Spot) (ns : List Spot) → n.id ≡ x → Apart (n ∷ ns) → Whole a (n ∷ ns) → Whole b ns
+
+-- one now stands in p
+abbrev pub ShiftedTo : ℕ → Option ℕ → Rows → Rows → Type 0
+ShiftedTo x p a b = (n : Spot) (ns : List Spot) → n.id ≡ x → Apart (n ∷ ns) → Whole a (n ∷ ns) → Whole b (record n { parent = p } ∷ ns)
+
+-- a table followed an event, after which this is the tree
+abbrev pub Followed : {N T A : Type 0} → (N → Own) → OpOf N T A → Event → Rows → Rows → Type 0
+Followed {N} {T} {A} own t (Put x place fresh) a b = (o : OpOf N T A) → find x t ≡ Some o → PutIn x (Some place.parent) (own (head o).name) a b
+Followed own t (Take x place fresh) a b = TakenOut x a b
+Followed own t (SetOperand x k old new) a b = (x : ℕ) → b x ≡ a x
+Followed own t (SetEntry x part key old new) a b = (x : ℕ) → b x ≡ a x
+Followed own t (Shift x old new) a b = ShiftedTo x (Some new.parent) a b
+
+-- operations were put in, one after another
+abbrev pub PutAll : List Spot → Rows → Rows → Type 0
+PutAll [] a b = b ≡ a
+PutAll (n ∷ ns) a b = (m : Rows) × PutIn n.id n.parent n.own a m × PutAll ns m b
+
+-- the event takes an operation out
+abbrev pub is_take : Event → Bool
+is_take (Put x place fresh) = false
+is_take (Take x place fresh) = true
+is_take (SetOperand x k old new) = false
+is_take (SetEntry x part key old new) = false
+is_take (Shift x old new) = false

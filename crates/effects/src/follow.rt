@@ -1,0 +1,53 @@
+//! The table follows an event.
+ghost use Rattle.std.specs.Prelude.{◌≡◌, ◌≤◌, ◌+◌, option_map, true};
+ghost use Rattle.std.specs.Bool.{OnTrue};
+ghost use Rattle.ir_tree.specs.Tree.{head};
+ghost use Rattle.ir_tree.specs.Ids.{find};
+ghost use Rattle.ir_event.specs.Looks.{one_more};
+ghost use Rattle.effects.specs.Walks.{row_at};
+ghost use Rattle.effects.specs.Effects.{own_by};
+ghost use Rattle.effects.specs.Following.{Followed, is_take};
+
+use crate::own::own;
+use crate::row::Row;
+use crate::table::{put, shift, take};
+use ir_event::event::Event;
+use ir_event::view::View;
+use ir_types::ids::OpId;
+use op_registry::own::Own;
+use op_registry::registry::Registry;
+use std::collections::BTreeMap;
+
+/// What an operation of the module has by itself, if it is there.
+fn own_at(view: &mut View<'_>, op: OpId) -> Option<Own>
+    ensures own { result ≡ option_map (λ o. own_by view.old.world.now.ctx (head o).name) (find op view.old.world.now.store.tree) }
+    ensures world { view.new.world.now ≡ view.old.world.now }
+    ensures looks { view.new.looks ≡ one_more view.old.looks }
+{
+    let node = view.node(op)?;
+    Some(own(view.context(), &Registry::new(), node.name()))
+}
+
+/// Follows an event. It is false where memory was refused.
+pub(crate) fn follow(rows: &mut BTreeMap<OpId, Row>, view: &mut View<'_>, event: &Event) -> bool
+    ensures followed { OnTrue result (Followed (own_by view.old.world.now.ctx) view.old.world.now.store.tree event.now (row_at rows.old) (row_at rows.new)) }
+    ensures world { view.new.world.now ≡ view.old.world.now }
+    ensures looks { view.new.looks ≤ view.old.looks + 1 }
+    ensures take { is_take event.now ≡ true → result ≡ true }
+{
+    match event {
+        Event::Put { op, place, .. } => {
+            let Some(own) = own_at(view, *op) else {
+                return false;
+            };
+            put(rows, *op, Some(place.parent), &own)
+        }
+        Event::Take { op, .. } => {
+            take(rows, *op);
+            true
+        }
+        Event::SetOperand { .. } => true,
+        Event::SetEntry { .. } => true,
+        Event::Shift { op, new, .. } => shift(rows, *op, new.parent),
+    }
+}

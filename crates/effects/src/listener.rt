@@ -1,0 +1,94 @@
+//! The listener that keeps the effects of operations.
+ghost use Rattle.std.specs.Prelude.{◌≡◌, ◌≤◌, ◌+◌, true};
+ghost use Rattle.ir_event.specs.Modules.{Module, things_in, module_in};
+ghost use Rattle.ir_event.specs.Listener.{Told};
+ghost use Rattle.ir_event.specs.Step.{Step};
+ghost use Rattle.effects.specs.Following.{is_take};
+
+use crate::collect::put_tree;
+use crate::follow::follow;
+use crate::report::lines;
+use crate::row::Row;
+use ir_event::analysis::Analysis;
+use ir_event::event::Event;
+use ir_event::row as report;
+use ir_event::row::{Kind, Memory, ReportFault};
+use ir_event::view::View;
+use ir_event::world::World;
+use ir_types::ids::OpId;
+use op_registry::registry::Registry;
+use std::alloc::Global;
+use std::collections::BTreeMap;
+
+/// The analysis `effects`: which effects each operation has.
+#[derive(Drop)]
+pub struct Effects {
+    alloc: Global,
+    rows: BTreeMap<OpId, Row>,
+    stale: bool,
+}
+
+impl Effects {
+    ghost use Rattle.effects.specs.Listeners.{effects_listener};
+
+    /// A listener that has not begun, and is stale.
+    pub fn new(alloc: Global) -> Effects
+        ensures { (effects_listener result).stale ≡ true }
+    {
+        Effects {
+            alloc,
+            rows: BTreeMap::new(alloc),
+            stale: true,
+        }
+    }
+}
+
+impl Analysis for Effects {
+    ghost use Rattle.effects.specs.Listeners.{effects_listener};
+
+    ghost meaning = { effects_listener };
+
+    fn kind(&self) -> Kind {
+        Kind::new(4)
+    }
+
+    fn begin(&mut self, world: &World) -> Result<(), Memory> {
+        self.rows = BTreeMap::new(self.alloc);
+        self.stale = true;
+        if !put_tree(&world.ctx, &Registry::new(), world.store.root(), None, &mut self.rows) {
+            return Err(Memory);
+        }
+        self.stale = false;
+        Ok(())
+    }
+
+    fn told<'a>(&mut self, view: View<'a>, event: Event) -> View<'a>
+        ensures told { Told event (things_in view.entry.world.now) (module_in view.entry.world.now) (effects_listener self.old) (effects_listener self.new) }
+        ensures world { result.world.now ≡ view.entry.world.now }
+        ensures looks { result.looks ≤ view.entry.looks + 1 }
+        ensures take { (m : Module) → is_take event ≡ true → Step (things_in view.entry.world.now) event m (module_in view.entry.world.now) → (effects_listener self.old).agrees (things_in view.entry.world.now) m → (effects_listener self.new).agrees (things_in view.entry.world.now) (module_in view.entry.world.now) }
+    {
+        if self.stale {
+            return view;
+        }
+        let mut view = view;
+        if !follow(&mut self.rows, &mut view, &event) {
+            self.stale = true;
+        }
+        view
+    }
+
+    fn stale(&self) -> bool {
+        self.stale
+    }
+
+    fn report(&self, alloc: Global) -> Result<Vec<report::Row>, ReportFault> {
+        if self.stale {
+            return Err(ReportFault::Stale);
+        }
+        match lines(alloc, &self.rows) {
+            Ok(rows) => Ok(rows),
+            Err(_) => Err(ReportFault::Memory),
+        }
+    }
+}

@@ -1,0 +1,16 @@
+//! What an operation has by itself, by its name in a context.
+ghost use Rattle.std.specs.Prelude.{◌≡◌};
+ghost use Rattle.effects.specs.Effects.{own_by};
+
+use ir_types::context::Context;
+use ir_types::ids::NameId;
+use op_registry::own::Own;
+use op_registry::registry::Registry;
+
+/// What an operation of a name has by itself.
+pub(crate) fn own(ctx: &Context, registry: &Registry, name: NameId) -> Own
+    ensures { result ≡ own_by ctx.now name }
+{
+    ctx.sound();
+    registry.effects(name)
+}

@@ -1,0 +1,75 @@
+//! Changes of the table.
+ghost use Rattle.std.specs.Prelude.{◌≡◌, Some, None, ℕ, List, ◌∷◌};
+ghost use Rattle.std.specs.Bool.{OnTrue};
+ghost use Rattle.effects.specs.Spots.{Spot, Apart, with_row};
+ghost use Rattle.effects.specs.Walks.{row_at};
+ghost use Rattle.effects.specs.Following.{Whole, PutIn, TakenOut, ShiftedTo};
+
+use crate::row::Row;
+use crate::walk::{drop_row, gain, lose, row_of, write};
+use ir_types::ids::OpId;
+use op_registry::own::Own;
+use std::collections::BTreeMap;
+
+/// Adds a row, or writes it in place of another. It is false where memory was refused.
+fn add(rows: &mut BTreeMap<OpId, Row>, op: OpId, row: Row) -> bool
+    ensures { OnTrue result ((x : ℕ) → row_at rows.new x ≡ with_row op (Some row) (row_at rows.old) x) }
+{
+    match rows.insert(op, row) {
+        Ok(_) => true,
+        Err(_) => false,
+    }
+}
+
+/// Puts in an operation that holds none. It is false where memory was refused.
+pub(crate) fn put(rows: &mut BTreeMap<OpId, Row>, op: OpId, parent: Option<OpId>, own: &Own) -> bool
+    ensures { OnTrue result (PutIn op parent own.now (row_at rows.old) (row_at rows.new)) }
+{
+    let row = Row::leaf(parent, own);
+    let from = row.parent;
+    let has = row.has;
+    if !add(rows, op, row) {
+        return false;
+    }
+    gain(rows, from, &has)
+}
+
+/// Takes out an operation that holds none. This needs no memory.
+pub(crate) fn take(rows: &mut BTreeMap<OpId, Row>, op: OpId)
+    ensures { TakenOut op (row_at rows.old) (row_at rows.new) }
+{
+    if let Some(row) = drop_row(rows, op) {
+        lose(rows, row.parent, &row.has);
+    }
+}
+
+/// Takes an operation out of the one around it.
+fn detach(rows: &mut BTreeMap<OpId, Row>, op: OpId)
+    ensures { ShiftedTo op None (row_at rows.old) (row_at rows.new) }
+{
+    if let Some(row) = row_of(rows, op) {
+        let alone = row.moved(None);
+        write(rows, op, &alone);
+        lose(rows, row.parent, &row.has);
+    }
+}
+
+/// Puts an operation that stands in none into another. It is false where a count would pass its type.
+fn attach(rows: &mut BTreeMap<OpId, Row>, op: OpId, parent: OpId) -> bool
+    ensures { OnTrue result ((n : Spot) (ns : List Spot) → n.id ≡ op → n.parent ≡ None → Apart (n ∷ ns) → Whole (row_at rows.old) (n ∷ ns) → Whole (row_at rows.new) (record n { parent = Some parent } ∷ ns)) }
+{
+    let Some(row) = row_of(rows, op) else {
+        return false;
+    };
+    let inside = row.moved(Some(parent));
+    write(rows, op, &inside);
+    gain(rows, Some(parent), &row.has)
+}
+
+/// Moves an operation, with what is inside it, into another. It is false where a count would pass its type.
+pub(crate) fn shift(rows: &mut BTreeMap<OpId, Row>, op: OpId, parent: OpId) -> bool
+    ensures { OnTrue result (ShiftedTo op (Some parent) (row_at rows.old) (row_at rows.new)) }
+{
+    detach(rows, op);
+    attach(rows, op, parent)
+}
