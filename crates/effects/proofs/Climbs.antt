@@ -10,12 +10,12 @@ use Rattle.effects.specs.declared.kinds.Kinds.{Kinds}
 use Rattle.op_registry.specs.declared.own.Own.{Own}
 use Rattle.effects.specs.declared.row.Counts.{Counts}
 use Rattle.effects.specs.declared.row.Row.{Row}
-use Rattle.effects.specs.Effects.{Effect, unknown, allocate, free, read, write, has, none, own_kinds, is_recursive}
+use Rattle.effects.specs.Effects.{Effect, unknown, allocate, free, read, write, has, none, own_kinds, is_recursive, is_none, union}
 use Rattle.ir_tree_laws.specs.Members.{In}
 use Rattle.effects.specs.Spots.{Spot, one_if, is_in, weight, Apart, given, count_of, Rows, has_at, count_at, row_count, with_row, Holds}
-use Rattle.effects.specs.Walks.{is_none, minus, both, union_of, present, lowered, raised, lost_row, gained_row, size, room, total}
+use Rattle.effects.specs.Walks.{minus, both, present, lowered, raised, lost_row, gained_row, size, room, total}
 use Rattle.effects.proofs.Tables.{has_none, spot_of, climbed}
-use Rattle.effects.proofs.Laws.{some_of_sum, one_counts}
+use Rattle.effects.proofs.Laws.{has_union, some_of_sum, one_counts}
 
 -- ---- a map's entries
 
@@ -50,13 +50,6 @@ has_both allocate a b = refl
 has_both free a b = refl
 has_both read a b = refl
 has_both write a b = refl
-
-has_either : (e : Effect) (a b : Kinds) → has e (union_of a b) ≡ (has e a || has e b)
-has_either unknown a b = refl
-has_either allocate a b = refl
-has_either free a b = refl
-has_either read a b = refl
-has_either write a b = refl
 
 has_present : (e : Effect) (c : Counts) → has e (present c) ≡ nat_lt 0 (count_of e c)
 has_present unknown c = refl
@@ -188,8 +181,8 @@ more_of false true = refl
 more_of false false = refl
 
 beyond : (r : Row) (more : Kinds) (b : Bool) → r.recursive ≡ b → (e : Effect) → (x : Bool) × (has e (gained_row r more).has ≡ (has e r.has || x))
-beyond r more true is e = (has e more, ap (λ b. has e (cond b (union_of r.has more) r.has)) is ∙ has_either e r.has more)
-beyond r more false is e = (false, ap (λ b. has e (cond b (union_of r.has more) r.has)) is ∙ or_false (has e r.has))
+beyond r more true is e = (has e more, ap (λ b. has e (cond b (union r.has more) r.has)) is ∙ has_union e r.has more)
+beyond r more false is e = (false, ap (λ b. has e (cond b (union r.has more) r.has)) is ∙ or_false (has e r.has))
   where
     or_false : (b : Bool) → b ≡ (b || false)
     or_false true = refl
@@ -205,14 +198,14 @@ gained_shown r more o is was e = go (is_recursive o) refl is
   where
     go : (b : Bool) → is_recursive o ≡ b → r.recursive ≡ is_recursive o → has e (gained_row r more).has ≡ given e o (count_of e (raised r.counts more))
     go true rec same =
-        ap (λ b. has e (cond b (union_of r.has more) r.has)) (same ∙ rec)
-        ∙ has_either e r.has more
+        ap (λ b. has e (cond b (union r.has more) r.has)) (same ∙ rec)
+        ∙ has_union e r.has more
         ∙ (λ i. (was e ∙ ap (λ b. cond b (nat_lt 0 (count_of e r.counts)) (has e (own_kinds o))) rec) i || sym (one_counts (has e more)) i)
         ∙ sym (some_of_sum (count_of e r.counts) (one_if (has e more)))
         ∙ ap (nat_lt 0) (sym (count_raised e r.counts more))
         ∙ sym (ap (λ b. cond b (nat_lt 0 (count_of e (raised r.counts more))) (has e (own_kinds o))) rec)
     go false rec same =
-        ap (λ b. has e (cond b (union_of r.has more) r.has)) (same ∙ rec)
+        ap (λ b. has e (cond b (union r.has more) r.has)) (same ∙ rec)
         ∙ was e
         ∙ ap (λ b. cond b (nat_lt 0 (count_of e r.counts)) (has e (own_kinds o))) rec
         ∙ sym (ap (λ b. cond b (nat_lt 0 (count_of e (raised r.counts more))) (has e (own_kinds o))) rec)

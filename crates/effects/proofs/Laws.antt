@@ -10,12 +10,29 @@ use Rattle.ir_tree.proofs.Moves.{Absent, absent_parts, neither}
 use Rattle.ir_tree.proofs.Returns.{Present, halves, differ, absent_first}
 use Rattle.effects.specs.declared.kinds.Kinds.{Kinds}
 use Rattle.op_registry.specs.declared.own.Own.{Own}
-use Rattle.effects.specs.Effects.{Effect, unknown, allocate, free, read, write, has, none, union, effects_by, effects, regions_effects, region_effects, ops_effects, listed, regions_listed, region_listed, ops_listed, own_kinds, is_recursive}
+use Rattle.effects.specs.Effects.{Effect, unknown, allocate, free, read, write, has, none, union, effects_by, effects, regions_effects, region_effects, ops_effects, own_kinds, is_recursive}
 use Rattle.ir_tree_laws.specs.Members.{In}
 use Rattle.effects.specs.Spots.{Spot, spots, regions_spots, region_spots, ops_spots, one_if, is_in, weight, Childless, given}
 use Rattle.effects.proofs.Tables.{has_none, weight_childless}
 use Rattle.effects.proofs.Spotted.{present_left, present_right, flipped, weight_joined, childless_op, childless_regions, childless_region, childless_ops}
 use Rattle.ir_tree_laws.proofs.Listed.{or_right}
+
+-- each operation of a tree with its effects, in pre-order
+abbrev mutual
+  pub listed : {N T A : Type 0} → (N → Own) → OpOf N T A → List (ℕ × Kinds)
+  listed own (op h rs) = (h.id, effects own (op h rs)) ∷ regions_listed own rs
+
+  pub regions_listed : {N T A : Type 0} → (N → Own) → RegionsOf N T A → List (ℕ × Kinds)
+  regions_listed own no_regions = []
+  regions_listed own (region r rs) = region_listed own r ++ regions_listed own rs
+
+  pub region_listed : {N T A : Type 0} → (N → Own) → RegionOf N T A → List (ℕ × Kinds)
+  region_listed own empty = []
+  region_listed own (block args os) = ops_listed own os
+
+  pub ops_listed : {N T A : Type 0} → (N → Own) → OpsOf N T A → List (ℕ × Kinds)
+  ops_listed own no_ops = []
+  ops_listed own (next o os) = listed own o ++ ops_listed own os
 
 pub has_union : (e : Effect) (a b : Kinds) → has e (union a b) ≡ (has e a || has e b)
 has_union unknown a b = refl

@@ -22,14 +22,15 @@ use Rattle.ir_event.specs.declared.row.Row.{Row as Line}
 use Rattle.ir_event.specs.Rows.{CellTerm, Op, Tag, cell_meaning, row_meaning, rows_meaning, CellIsOf, RowIsOf, Shows}
 use Rattle.effects.specs.declared.kinds.Kinds.{Kinds}
 use Rattle.effects.specs.declared.row.Row.{Row}
-use Rattle.effects.specs.Effects.{listed}
+use Rattle.effects.specs.Effects.{effects}
 use Rattle.effects.specs.Spots.{spots}
 use Rattle.effects.specs.Walks.{row_at}
 use Rattle.op_registry.specs.Registry.{own_of}
 use Rattle.effects.specs.Following.{Whole}
-use Rattle.effects.specs.Reports.{by_id, having, tag_if, cells_of, effects_rows, said}
+use Rattle.effects.specs.Reports.{of_each, by_id, having, tag_if, cells_of, effects_of, effects_rows}
+use Rattle.effects.specs.Listed.{said}
 use Rattle.effects.proofs.Sorted.{look, Above, Rising, rising_same}
-use Rattle.effects.proofs.Shown.{listed_shown, listed_rising}
+use Rattle.effects.proofs.Shown.{each_look, each_rising, shown_found}
 
 -- ---- the entries of a map
 
@@ -61,10 +62,10 @@ look_said x (e ∷ es) =
     ∙ elim (is_eq (nat_cmp x e.0)) as (λ b. cond b (Some e.1.has) (option_map (λ (r : Row). r.has) (lookup (is_at (nat_cmp x)) es)) ≡ option_map (λ (r : Row). r.has) (cond b (Some e.1) (lookup (is_at (nat_cmp x)) es)))
     [ true ↦ refl | false ↦ refl ]
 
-pub said_listed : (m : BTreeMap ℕ Row) (t : Operation) → tree.IsOrdered nat_cmp m → HasDistinctIds t → Whole (row_at m) (spots own_of None t) → said m.entries ≡ by_id (listed own_of t)
+pub said_listed : (m : BTreeMap ℕ Row) (t : Operation) → tree.IsOrdered nat_cmp m → HasDistinctIds t → Whole (row_at m) (spots own_of None t) → said m.entries ≡ by_id (of_each (effects own_of) t)
 said_listed m t ordered d h =
-    rising_same (said m.entries) (by_id (listed own_of t)) (said_rising m.entries ordered) (listed_rising own_of t (row_at m) d h)
-    (λ x. look_said x m.entries ∙ sym (listed_shown own_of t (row_at m) d h x))
+    rising_same (said m.entries) (by_id (of_each (effects own_of) t)) (said_rising m.entries ordered) (each_rising (effects own_of) t d)
+    (λ x. look_said x m.entries ∙ sym (each_look (effects own_of) t d x ∙ shown_found own_of t (row_at m) d h x))
 
 -- ---- rows
 
@@ -126,4 +127,4 @@ module _ (c : Things) where
       → HasDistinctIds t → Whole (row_at m) (spots own_of None t) → Shows c rows (effects_rows t)
   shows_effects m rows t ordered is d h =
       let e = is ∙ ap (λ l. map (cells_of cell.Op cell.Tag) (having l)) (said_listed m t ordered d h) in
-      record { says = rows_say rows (having (by_id (listed own_of t))) e; known = rows_known rows (having (by_id (listed own_of t))) e }
+      record { says = rows_say rows (effects_of t) e; known = rows_known rows (effects_of t) e }

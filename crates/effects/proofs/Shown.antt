@@ -11,18 +11,22 @@ use Rattle.std.proofs.lemmas.Bool.{eq-eqb, ne_eqb, cases_eq, eqb-true}
 use Rattle.std.proofs.lemmas.List.{map-append}
 use Rattle.std.proofs.lemmas.Map.Keys.{IsDistinct-head, IsDistinct-tail}
 use Rattle.ir_tree.specs.Tree.{HeadOf, OpOf, op, RegionsOf, no_regions, region, RegionOf, empty, block, OpsOf, no_ops, next, head}
-use Rattle.ir_tree.specs.Ids.{ids, regions_ids, region_ids, ops_ids, HasDistinctIds}
+use Rattle.ir_tree.specs.Ids.{ids, regions_ids, region_ids, ops_ids, HasDistinctIds, find}
+use Rattle.ir_tree_laws.specs.Stands.{StepOf, StandOf, stand_id, stands, regions_stands, region_stands, ops_stands, stand_in}
+use Rattle.ir_tree_laws.proofs.Readings.{step, stands_ids, stands_find}
+use Rattle.std.proofs.lemmas.Bool.Decides.{nat_tests}
 use Rattle.effects.specs.declared.kinds.Kinds.{Kinds}
 use Rattle.op_registry.specs.declared.own.Own.{Own}
 use Rattle.effects.specs.declared.row.Row.{Row}
-use Rattle.effects.specs.Effects.{Effect, unknown, allocate, free, read, write, has, listed, regions_listed, region_listed, ops_listed}
+use Rattle.effects.specs.Effects.{Effect, unknown, allocate, free, read, write, has}
 use Rattle.ir_tree_laws.specs.Members.{In}
 use Rattle.effects.specs.Spots.{Spot, spots, Lacks, Rows, has_at, count_at, row_has, given, weight, Holds}
 use Rattle.effects.specs.Following.{Whole}
-use Rattle.effects.specs.Reports.{by_id, said}
+use Rattle.effects.specs.Effects.{effects}
+use Rattle.effects.specs.Reports.{of_each, by_id}
 use Rattle.effects.proofs.Tables.{spot_of}
 use Rattle.effects.proofs.Spotted.{spot_ids, spots_ids}
-use Rattle.effects.proofs.Laws.{law}
+use Rattle.effects.proofs.Laws.{listed, regions_listed, region_listed, ops_listed, law}
 use Rattle.effects.proofs.Sorted.{look, Rising, NotIn, AllApart, rising_same, by_id_rising, by_id_look}
 
 abbrev Pair : Type 0
@@ -53,13 +57,14 @@ module _ {N T A : Type 0} (own : N → Own) where
     ops_listed_ids no_ops = refl
     ops_listed_ids (next o os) = map-append (λ (p : Pair). p.0) (listed own o) (ops_listed own os) ∙ λ i. listed_ids o i ++ ops_listed_ids os i
 
-apart_all : (x : ℕ) (ps : List Pair) → AllByRecursion (λ y. eqb x y ≡ false) (pair_ids ps) → NotIn x ps
-apart_all x [] a = tt
-apart_all x (p ∷ ps) a = ((λ e. true≢false (sym (eq-eqb x p.0 e) ∙ a.0)), apart_all x ps a.1)
+module _ {V : Type 0} where
+  apart_all : (x : ℕ) (ps : List (ℕ × V)) → AllByRecursion (λ y. eqb x y ≡ false) (map (λ (p : ℕ × V). p.0) ps) → NotIn x ps
+  apart_all x [] a = tt
+  apart_all x (p ∷ ps) a = ((λ e. true≢false (sym (eq-eqb x p.0 e) ∙ a.0)), apart_all x ps a.1)
 
-all_apart : (ps : List Pair) → IsDistinct eqb (pair_ids ps) → AllApart ps
-all_apart [] d = tt
-all_apart (p ∷ ps) d = (apart_all p.0 ps (IsDistinct-head eqb p.0 _ d), all_apart ps (IsDistinct-tail eqb p.0 _ d))
+  pub all_apart : (ps : List (ℕ × V)) → IsDistinct eqb (map (λ (p : ℕ × V). p.0) ps) → AllApart ps
+  all_apart [] d = tt
+  all_apart (p ∷ ps) d = (apart_all p.0 ps (IsDistinct-head eqb p.0 _ d), all_apart ps (IsDistinct-tail eqb p.0 _ d))
 
 -- lists of spots and of pairs with the same ids
 lacks_not_in : (x : ℕ) (ns : List Spot) (ps : List Pair) → pair_ids ps ≡ spot_ids ns → NotIn x ps → Lacks x ns
@@ -107,6 +112,59 @@ each_all : (P : Spot → Type 0) (ns : List Spot) → ((n : Spot) → In n ns �
 each_all P [] h = tt
 each_all P (n ∷ ns) h = (h n (inl refl), each_all P ns (λ m a. h m (inr a)))
 
+-- ---- what is said of each operation of a tree
+
+module _ {N T A V : Type 0} (f : OpOf N T A → V) where
+  abbrev says : StandOf N T A → ℕ × V
+  says s = (stand_id s, f s.here)
+
+  pub said_ids : (ss : List (StandOf N T A)) → map (λ (p : ℕ × V). p.0) (map says ss) ≡ map (λ (s : StandOf N T A). stand_id s) ss
+  said_ids [] = refl
+  said_ids (s ∷ ss) = ap (λ l. stand_id s ∷ l) (said_ids ss)
+
+  look_stands : (x : ℕ) (ss : List (StandOf N T A)) → look x (map says ss) ≡ option_map f (option_map (λ (s : StandOf N T A). s.here) (stand_in x ss))
+  look_stands x [] = refl
+  look_stands x (s ∷ ss) =
+      ap (λ b. cond b (Some (f s.here)) (look x (map says ss))) (flip x (stand_id s))
+      ∙ ap (cond (eqb (stand_id s) x) (Some (f s.here))) (look_stands x ss)
+      ∙ elim (eqb (stand_id s) x) as (λ b. cond b (Some (f s.here)) (option_map f (option_map (λ (s : StandOf N T A). s.here) (stand_in x ss)))
+      ≡ option_map f (option_map (λ (s : StandOf N T A). s.here) (cond b (Some s) (stand_in x ss)))) [ true ↦ refl | false ↦ refl ]
+    where
+      flip : (a b : ℕ) → eqb a b ≡ eqb b a
+      flip a b = grind (arith, nat_tests)
+
+  pub look_each : (t : OpOf N T A) (x : ℕ) → look x (of_each f t) ≡ option_map f (find x t)
+  look_each t x = look_stands x (stands [] t) ∙ ap (option_map f) (stands_find x [] t)
+
+  each_apart : (t : OpOf N T A) → HasDistinctIds t → AllApart (of_each f t)
+  each_apart t d = all_apart (of_each f t) (subst (IsDistinct eqb) (sym (said_ids (stands [] t) ∙ stands_ids [] t)) d)
+
+  pub each_rising : (t : OpOf N T A) → HasDistinctIds t → Rising (by_id (of_each f t))
+  each_rising t d = by_id_rising (of_each f t) (each_apart t d)
+
+  pub each_look : (t : OpOf N T A) → HasDistinctIds t → (x : ℕ) → look x (by_id (of_each f t)) ≡ option_map f (find x t)
+  each_look t d x = by_id_look x (of_each f t) (each_apart t d) ∙ look_each t x
+
+module _ {N T A : Type 0} (own : N → Own) where
+  mutual
+    each_listed : (path : List (StepOf N T A)) (t : OpOf N T A) → map (λ (s : StandOf N T A). (stand_id s, effects own s.here)) (stands path t) ≡ listed own t
+    each_listed path (op h rs) = ap (λ l. (h.id, effects own (op h rs)) ∷ l) (regions_each_listed (op h rs) path 0 rs)
+
+    regions_each_listed : (p : OpOf N T A) (path : List (StepOf N T A)) (r : ℕ) (rs : RegionsOf N T A) → map (λ (s : StandOf N T A). (stand_id s, effects own s.here)) (regions_stands p path r rs) ≡ regions_listed own rs
+    regions_each_listed p path r no_regions = refl
+    regions_each_listed p path r (region g rs) =
+        map-append (says (effects own)) (region_stands p path r g) (regions_stands p path (r + 1) rs) ∙ λ i. region_each_listed p path r g i ++ regions_each_listed p path (r + 1) rs i
+
+    region_each_listed : (p : OpOf N T A) (path : List (StepOf N T A)) (r : ℕ) (g : RegionOf N T A) → map (λ (s : StandOf N T A). (stand_id s, effects own s.here)) (region_stands p path r g) ≡ region_listed own g
+    region_each_listed p path r empty = refl
+    region_each_listed p path r (block args os) = ops_each_listed p path r args [] os
+
+    ops_each_listed : (p : OpOf N T A) (path : List (StepOf N T A)) (r : ℕ) (args : List T) (front : List (OpOf N T A)) (os : OpsOf N T A) → map (λ (s : StandOf N T A). (stand_id s, effects own s.here)) (ops_stands p path r args front os) ≡ ops_listed own os
+    ops_each_listed p path r args front no_ops = refl
+    ops_each_listed p path r args front (next o os) =
+        map-append (says (effects own)) (stands (step p r args front os ∷ path) o) (ops_stands p path r args (front ++ o ∷ []) os)
+        ∙ λ i. each_listed (step p r args front os ∷ path) o i ++ ops_each_listed p path r args (front ++ o ∷ []) os i
+
 module _ {N T A : Type 0} (own : N → Own) (t : OpOf N T A) (rows : Rows) (d : HasDistinctIds t) (h : Whole rows (spots own None t)) where
   same_ids : pair_ids (listed own t) ≡ spot_ids (spots own None t)
   same_ids = listed_ids own t ∙ sym (spots_ids own None t)
@@ -128,14 +186,13 @@ module _ {N T A : Type 0} (own : N → Own) (t : OpOf N T A) (rows : Rows) (d : 
       (counted e (spots own None t) (ids t) (λ n a. let c = h.counts e n a in omega (arith, c)) (spots_ids own None t))
 
   -- the table says of each operation what the analysis says
-  pub listed_shown : (x : ℕ) → look x (by_id (listed own t)) ≡ shown_at rows x
-  listed_shown x =
+  look_listed : (x : ℕ) → look x (listed own t) ≡ shown_at rows x
+  look_listed x =
       let sets = all_sets rows (listed own t) all_said (all_kept rows (spots own None t) (listed own t) same_ids (λ n a. let k = h.known n a in (k.row, k.is))) in
-      by_id_look x (listed own t) (all_apart (listed own t) (subst (IsDistinct eqb) (sym (listed_ids own t)) d))
-      ∙ elim (look_in rows (listed own t) sets x) [
+      elim (look_in rows (listed own t) sets x) [
         | inl e ↦ e
         | inr n ↦ n.1 ∙ sym (ap (option_map (λ (r : Row). r.has)) (h.only x (lacks_not_in x (spots own None t) (listed own t) same_ids n.0)))
       ]
 
-  pub listed_rising : Rising (by_id (listed own t))
-  listed_rising = by_id_rising (listed own t) (all_apart (listed own t) (subst (IsDistinct eqb) (sym (listed_ids own t)) d))
+  pub shown_found : (x : ℕ) → option_map (effects own) (find x t) ≡ option_map (λ (r : Row). r.has) (rows x)
+  shown_found x = sym (look_each (effects own) t x) ∙ ap (look x) (each_listed own [] t) ∙ look_listed x

@@ -1,5 +1,5 @@
 -- The effects of operations (Rationale, "Side Effects & Speculation"; Traits, "RecursiveMemoryEffects").
-use Rattle.std.specs.Prelude.{ℕ, List, [], ◌∷◌, ◌++◌, Bool, true, false, ◌||◌, if◌then◌else◌}
+use Rattle.std.specs.Prelude.{ℕ, List, Bool, true, false, ◌||◌, not, if◌then◌else◌}
 use Rattle.ir_types.specs.Things.{Things}
 use Rattle.ir_types.specs.Terms.{name_term}
 use Rattle.ir_tree.specs.Tree.{OpOf, op, RegionsOf, no_regions, region, RegionOf, empty, block, OpsOf, no_ops, next, head}
@@ -27,6 +27,10 @@ has write s = s.write
 -- the empty set
 abbrev pub none : Kinds
 none = record { unknown = false; allocate = false; free = false; read = false; write = false }
+
+-- whether a set is empty
+abbrev pub is_none : Kinds → Bool
+is_none a = not (a.unknown || (a.allocate || (a.free || (a.read || a.write))))
 
 -- what is in one of two sets
 abbrev pub union : Kinds → Kinds → Kinds
@@ -70,20 +74,3 @@ abbrev mutual
   pub ops_effects : {N T A : Type 0} → (N → Own) → OpsOf N T A → Kinds
   ops_effects own no_ops = none
   ops_effects own (next o os) = union (effects own o) (ops_effects own os)
-
--- each operation of a tree with its effects, in pre-order
-abbrev mutual
-  pub listed : {N T A : Type 0} → (N → Own) → OpOf N T A → List (ℕ × Kinds)
-  listed own (op h rs) = (h.id, effects own (op h rs)) ∷ regions_listed own rs
-
-  pub regions_listed : {N T A : Type 0} → (N → Own) → RegionsOf N T A → List (ℕ × Kinds)
-  regions_listed own no_regions = []
-  regions_listed own (region r rs) = region_listed own r ++ regions_listed own rs
-
-  pub region_listed : {N T A : Type 0} → (N → Own) → RegionOf N T A → List (ℕ × Kinds)
-  region_listed own empty = []
-  region_listed own (block args os) = ops_listed own os
-
-  pub ops_listed : {N T A : Type 0} → (N → Own) → OpsOf N T A → List (ℕ × Kinds)
-  ops_listed own no_ops = []
-  ops_listed own (next o os) = listed own o ++ ops_listed own os

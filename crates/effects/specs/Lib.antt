@@ -1,6 +1,10 @@
 pub mod Effects
+pub mod Dead
+pub mod Reports
 pub mod Spots
 pub mod Walks
 pub mod Following
-pub mod Reports
+pub mod Heads
+pub mod Counts
+pub mod Listed
 pub mod Listeners

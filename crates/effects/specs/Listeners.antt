@@ -2,7 +2,7 @@
 use Rattle.std.specs.Prelude.{◌≡◌, false, None}
 use Rattle.ir_event.specs.Listener.{Listener}
 use Rattle.ir_tree.specs.Ids.{HasDistinctIds}
-use Rattle.effects.specs.declared.listener.Effects.{Effects}
+use Rattle.effects.specs.declared.effects.Effects.{Effects}
 use Rattle.effects.specs.Spots.{spots}
 use Rattle.effects.specs.Walks.{row_at}
 use Rattle.op_registry.specs.Registry.{own_of}

@@ -1,19 +1,24 @@
--- The analysis of effects: each operation that has effects, in order of the ids.
+-- The reports: what is true of each operation of a tree, in order of the ids.
 use Rattle.std.specs.Prelude.{ℕ, List, [], ◌∷◌, ◌++◌, map, nat_lt, Bool, if◌then◌else◌}
+use Rattle.ir_tree.specs.Tree.{OpOf}
 use Rattle.ir_tree.specs.Meaning.{Operation}
+use Rattle.ir_tree_laws.specs.Stands.{stand_id, stands}
 use Rattle.ir_event.specs.Rows.{RowTerm, Op, Tag}
-use Rattle.effects.specs.declared.kinds.Kinds.{Kinds}
-use Rattle.effects.specs.declared.row.Row.{Row}
-use Rattle.effects.specs.Effects.{listed}
 use Rattle.op_registry.specs.Registry.{own_of}
-use Rattle.effects.specs.Walks.{is_none}
+use Rattle.effects.specs.declared.kinds.Kinds.{Kinds}
+use Rattle.effects.specs.Effects.{effects, is_none}
+use Rattle.effects.specs.Dead.{is_dead}
 
--- operations with their effects, put in order of the ids
-abbrev pub put_by_id : ℕ × Kinds → List (ℕ × Kinds) → List (ℕ × Kinds)
+-- each operation of a tree, by its id, with what a function says of it
+abbrev pub of_each : {N T A V : Type 0} → (OpOf N T A → V) → OpOf N T A → List (ℕ × V)
+of_each f t = map (λ s. (stand_id s, f s.here)) (stands [] t)
+
+-- pairs in order of their first parts
+abbrev pub put_by_id : {V : Type 0} → ℕ × V → List (ℕ × V) → List (ℕ × V)
 put_by_id p [] = p ∷ []
 put_by_id p (q ∷ qs) = if nat_lt q.0 p.0 then q ∷ put_by_id p qs else p ∷ q ∷ qs
 
-abbrev pub by_id : List (ℕ × Kinds) → List (ℕ × Kinds)
+abbrev pub by_id : {V : Type 0} → List (ℕ × V) → List (ℕ × V)
 by_id [] = []
 by_id (p ∷ ps) = put_by_id p (by_id ps)
 
@@ -22,22 +27,34 @@ abbrev pub having : List (ℕ × Kinds) → List (ℕ × Kinds)
 having [] = []
 having (p ∷ ps) = if is_none p.1 then having ps else p ∷ having ps
 
+-- each operation of a tree that has effects, with what it has, by id
+abbrev pub effects_of : Operation → List (ℕ × Kinds)
+effects_of t = having (by_id (of_each (effects own_of) t))
+
+-- those of which something is true
+abbrev pub those : List (ℕ × Bool) → List ℕ
+those [] = []
+those (p ∷ ps) = if p.1 then p.0 ∷ those ps else those ps
+
+-- the dead operations of a tree, by id
+abbrev pub dead_of : Operation → List ℕ
+dead_of t = those (by_id (of_each (is_dead t) t))
+
 -- a word, where it holds
 abbrev pub tag_if : {C : Type 0} → (ℕ → C) → Bool → ℕ → List C
 tag_if tag b n = if b then tag n ∷ [] else []
 
--- the operation, and the words unknown, allocate, free, read, write
+-- the row of an operation with effects: the operation, and the words unknown, allocate, free, read, write
 abbrev pub cells_of : {C : Type 0} → (ℕ → C) → (ℕ → C) → ℕ × Kinds → List C
 cells_of op tag p = ((((op p.0 ∷ [] ++ tag_if tag p.1.unknown 5) ++ tag_if tag p.1.allocate 6) ++ tag_if tag p.1.free 7) ++ tag_if tag p.1.read 8) ++ tag_if tag p.1.write 9
 
--- each operation of a tree that has effects with what it has, by id
-abbrev pub effects_of : Operation → List (ℕ × Kinds)
-effects_of t = having (by_id (listed own_of t))
+-- the row of an operation alone
+abbrev pub cell_of : {C : Type 0} → (ℕ → C) → ℕ → List C
+cell_of op x = op x ∷ []
 
--- its rows
+-- the rows of a tree
 abbrev pub effects_rows : Operation → List RowTerm
 effects_rows t = map (cells_of Op Tag) (effects_of t)
 
--- what entries of a table say
-abbrev pub said : List (ℕ × Row) → List (ℕ × Kinds)
-said es = map (λ (e : ℕ × Row). (e.0, e.1.has)) es
+abbrev pub dead_rows : Operation → List RowTerm
+dead_rows t = map (cell_of Op) (dead_of t)

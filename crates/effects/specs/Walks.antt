@@ -7,20 +7,14 @@ use Rattle.effects.specs.declared.kinds.Kinds.{Kinds}
 use Rattle.op_registry.specs.declared.own.Own.{Own}
 use Rattle.effects.specs.declared.row.Counts.{Counts}
 use Rattle.effects.specs.declared.row.Row.{Row}
-use Rattle.effects.specs.Effects.{own_kinds, is_recursive}
+use Rattle.effects.specs.Effects.{union, own_kinds, is_recursive}
 use Rattle.effects.specs.Spots.{one_if, Rows}
-
-abbrev pub is_none : Kinds → Bool
-is_none a = not (a.unknown || (a.allocate || (a.free || (a.read || a.write))))
 
 abbrev pub minus : Kinds → Kinds → Kinds
 minus a b = record { unknown = a.unknown && not b.unknown; allocate = a.allocate && not b.allocate; free = a.free && not b.free; read = a.read && not b.read; write = a.write && not b.write }
 
 abbrev pub both : Kinds → Kinds → Kinds
 both a b = record { unknown = a.unknown && b.unknown; allocate = a.allocate && b.allocate; free = a.free && b.free; read = a.read && b.read; write = a.write && b.write }
-
-abbrev pub union_of : Kinds → Kinds → Kinds
-union_of a b = record { unknown = a.unknown || b.unknown; allocate = a.allocate || b.allocate; free = a.free || b.free; read = a.read || b.read; write = a.write || b.write }
 
 abbrev pub present : Counts → Kinds
 present c = record { unknown = nat_lt 0 c.unknown; allocate = nat_lt 0 c.allocate; free = nat_lt 0 c.free; read = nat_lt 0 c.read; write = nat_lt 0 c.write }
@@ -43,7 +37,7 @@ abbrev pub lost_row : Row → Kinds → Row
 lost_row r s = record { parent = r.parent; recursive = r.recursive; has = if r.recursive then both r.has (present (lowered r.counts s)) else r.has; counts = lowered r.counts s }
 
 abbrev pub gained_row : Row → Kinds → Row
-gained_row r s = record { parent = r.parent; recursive = r.recursive; has = if r.recursive then union_of r.has s else r.has; counts = raised r.counts s }
+gained_row r s = record { parent = r.parent; recursive = r.recursive; has = if r.recursive then union r.has s else r.has; counts = raised r.counts s }
 
 -- what a map keeps of an operation
 abbrev pub row_at : BTreeMap ℕ Row → Rows

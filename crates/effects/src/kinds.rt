@@ -1,7 +1,7 @@
 //! Sets of effects.
 ghost use Rattle.std.specs.Prelude.{◌≡◌};
-ghost use Rattle.effects.specs.Effects.{none, own_kinds, is_recursive};
-ghost use Rattle.effects.specs.Walks.{minus, is_none};
+ghost use Rattle.effects.specs.Effects.{none, own_kinds, is_recursive, is_none};
+ghost use Rattle.effects.specs.Walks.{minus};
 
 use op_registry::own::Own;
 

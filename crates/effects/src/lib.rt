@@ -4,7 +4,7 @@
 mod collect;
 mod follow;
 pub mod kinds;
-pub mod listener;
+pub mod effects;
 mod own;
 mod report;
 pub mod row;

@@ -1,7 +1,8 @@
 //! What is kept of one operation.
 ghost use Rattle.std.specs.Prelude.{◌≡◌, ◌-◌, ◌+◌, IfSome};
 ghost use Rattle.effects.specs.Spots.{one_if};
-ghost use Rattle.effects.specs.Walks.{lowered, lost_row, raised, gained_row, present, both, union_of, new_row};
+ghost use Rattle.effects.specs.Walks.{lowered, lost_row, raised, gained_row, present, both, new_row};
+ghost use Rattle.effects.specs.Effects.{union};
 
 use crate::kinds::{Kinds, recursive};
 use ir_types::ids::OpId;
@@ -102,7 +103,7 @@ fn both(a: &Kinds, b: &Kinds) -> Kinds
 }
 
 fn union_of(a: &Kinds, b: &Kinds) -> Kinds
-    ensures { result ≡ union_of a.now b.now }
+    ensures { result ≡ union a.now b.now }
 {
     Kinds {
         unknown: a.unknown || b.unknown,

@@ -8,7 +8,7 @@ use Rattle.effects.specs.Effects.{own_by}
 use Rattle.effects.specs.Following.{PutAll}
 use Rattle.effects.proofs.Changes.{on_true_is}
 use Rattle.effects.proofs.Agreed.{begun_agrees, meaning_distinct}
-use Rattle.effects.proofs.listener.EffectsAnalysis.begin.Goals as goal
+use Rattle.effects.proofs.effects.EffectsAnalysis.begin.Goals as goal
 
 pub returns-clause-ok : goal.returns-clause-ok
 returns-clause-ok c =

@@ -1,0 +1,76 @@
+-- How many uses the results of operations have: a table of counts, as it follows a tree.
+use Rattle.std.specs.Prelude.{◌≡◌, ℕ, ◌+◌, ◌-◌, nat_lt, List, [], ◌∷◌, eqb, Bool, false, not, ◌&&◌, Option, Some, None, option_map, if◌then◌else◌}
+use Rattle.std.specs.Ordering.{nat_cmp}
+use Rattle.std.specs.BTreeMap.{BTreeMap}
+use Rattle.std.specs.BTreeMap as tree
+use Rattle.ir_types.specs.Things.{Things}
+use Rattle.ir_types.specs.Terms.{TypeTerm, AttrTerm, name_term}
+use Rattle.ir_tree.specs.declared.value.Value.{Value}
+use Rattle.ir_tree.specs.Tree.{HeadOf, OpOf, head}
+use Rattle.ir_tree.specs.Ids.{find}
+use Rattle.ir_tree.specs.Meaning.{Operation}
+use Rattle.ir_event.specs.declared.event.Event.{Event}
+use Rattle.ir_event.specs.declared.event.Event.TheVariants.{Put, Take, SetOperand, SetEntry, Shift}
+use Rattle.effects.specs.declared.row.Row.{Row}
+use Rattle.effects.specs.Spots.{one_if}
+use Rattle.effects.specs.Dead.{is_result_of, is_kept, may_go}
+use Rattle.effects.specs.Heads.{heads, all_operands}
+
+-- a table of counts: that of an operation, if it has one
+abbrev pub Counts : Type 0
+Counts = ℕ → Option ℕ
+
+-- what a map has
+abbrev pub counts_in : BTreeMap ℕ ℕ → Counts
+counts_in m = tree.get nat_cmp m
+
+-- how many of these values are results of x
+abbrev pub results_among : ℕ → List Value → ℕ
+results_among x [] = 0
+results_among x (v ∷ vs) = one_if (is_result_of x v) + results_among x vs
+
+-- a table counts a tree: each operation has one for each use of a result of it, and one more where it is kept
+abbrev pub Counted : Counts → Operation → Type 0
+Counted a t = (x : ℕ) → a x ≡ option_map (λ o. results_among x (all_operands (heads t)) + one_if (is_kept (head o).name)) (find x t)
+
+-- a table with another count for x
+abbrev pub with_count : ℕ → Option ℕ → Counts → Counts
+with_count x n a y = if eqb x y then n else a y
+
+-- from the first table to the second the values were counted as uses
+abbrev pub Raised : List Value → Counts → Counts → Type 0
+Raised vs a b = (y : ℕ) → b y ≡ option_map (λ n. n + results_among y vs) (a y)
+
+-- they are no uses any more
+abbrev pub Lowered : List Value → Counts → Counts → Type 0
+Lowered vs a b = (y : ℕ) → b y ≡ option_map (λ n. n - results_among y vs) (a y)
+
+-- an operation that nobody uses was put in
+abbrev pub Entered : ℕ → Bool → Counts → Counts → Type 0
+Entered x kept a b = (y : ℕ) → b y ≡ with_count x (Some (one_if kept)) a y
+
+-- operations that nobody uses were put in, one after another
+abbrev pub AllEntered : (ℕ → Bool) → List (HeadOf ℕ ℕ ℕ) → Counts → Counts → Type 0
+AllEntered kept [] a b = (y : ℕ) → b y ≡ a y
+AllEntered kept (h ∷ hs) a b = (m : Counts) × Entered h.id (kept h.name) a m × AllEntered kept hs m b
+
+-- whether the operations of a name's number are kept
+abbrev pub kept_by : Things → ℕ → Bool
+kept_by c n = is_kept (name_term c n)
+
+-- an operation with these operands was put in
+abbrev pub EnteredWith : ℕ → Bool → List Value → Counts → Counts → Type 0
+EnteredWith x kept vs a b = Raised vs (with_count x (Some (one_if kept)) a) b
+
+-- or taken out
+abbrev pub LeftWith : ℕ → List Value → Counts → Counts → Type 0
+LeftWith x vs a b = Lowered vs (with_count x None a) b
+
+-- one value is used in the place of another
+abbrev pub Exchanged : Value → Value → Counts → Counts → Type 0
+Exchanged old new a b = (y : ℕ) → b y ≡ option_map (λ n. (n + one_if (is_result_of y new)) - one_if (is_result_of y old)) (a y)
+
+-- whether an operation has a count, and that is 0
+abbrev pub is_zero : Option ℕ → Bool
+is_zero None = false
+is_zero (Some n) = nat_lt n 1

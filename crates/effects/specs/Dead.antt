@@ -1,0 +1,35 @@
+-- Operations that are dead: they have no effect that anyone would miss, and nobody uses what they give (Operation
+-- Canonicalization, "General Design").
+use Rattle.std.specs.Prelude.{ℕ, List, codes, eqb, Bool, false, ◌||◌, ◌&&◌, not}
+use Rattle.std.specs.List.{list_all}
+use Rattle.std.specs.Str.{bytes_eq}
+use Rattle.ir_tree.specs.declared.value.Value.{Value}
+use Rattle.ir_tree.specs.declared.value.Value.TheVariants.{Result, Arg}
+use Rattle.ir_tree.specs.Tree.{OpOf, head}
+use Rattle.ir_tree.specs.Limits.{every}
+use Rattle.ir_tree.specs.Meaning.{Operation}
+use Rattle.op_registry.specs.declared.definition.Trait.TheVariants.{Terminator}
+use Rattle.op_registry.specs.Registry.{own_of, has_trait}
+use Rattle.effects.specs.declared.kinds.Kinds.{Kinds}
+use Rattle.effects.specs.Effects.{effects}
+
+-- whether a value is a result of operation x
+abbrev pub is_result_of : ℕ → Value → Bool
+is_result_of x (Result y k) = eqb y x
+is_result_of x (Arg y r k) = false
+
+-- whether no operation of a tree has a result of operation x as an operand
+abbrev pub is_unused : {N T A : Type 0} → ℕ → OpOf N T A → Bool
+is_unused x t = every (λ o. list_all (λ v. not (is_result_of x v)) (head o).operands) t
+
+-- terminators, functions and modules stay whatever they do
+abbrev pub is_kept : List ℕ → Bool
+is_kept name = has_trait Terminator name || (bytes_eq name (codes "func.func") || bytes_eq name (codes "builtin.module"))
+
+-- whether there is no effect but those that nobody would miss: an allocation and a read
+abbrev pub may_go : Kinds → Bool
+may_go s = not (s.unknown || (s.free || s.write))
+
+-- whether an operation of a whole tree is dead
+abbrev pub is_dead : Operation → Operation → Bool
+is_dead whole o = is_unused (head o).id whole && (not (is_kept (head o).name) && may_go (effects own_of o))
