@@ -10,3 +10,6 @@ pub mod Agreed
 pub mod Sorted
 pub mod Shown
 pub mod Reporting
+pub mod Headed
+pub mod Tallies
+pub mod Counting

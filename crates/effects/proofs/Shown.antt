@@ -115,7 +115,7 @@ each_all P (n ∷ ns) h = (h n (inl refl), each_all P ns (λ m a. h m (inr a)))
 -- ---- what is said of each operation of a tree
 
 module _ {N T A V : Type 0} (f : OpOf N T A → V) where
-  abbrev says : StandOf N T A → ℕ × V
+  abbrev pub says : StandOf N T A → ℕ × V
   says s = (stand_id s, f s.here)
 
   pub said_ids : (ss : List (StandOf N T A)) → map (λ (p : ℕ × V). p.0) (map says ss) ≡ map (λ (s : StandOf N T A). stand_id s) ss

@@ -74,3 +74,11 @@ Exchanged old new a b = (y : ℕ) → b y ≡ option_map (λ n. (n + one_if (is_
 abbrev pub is_zero : Option ℕ → Bool
 is_zero None = false
 is_zero (Some n) = nat_lt n 1
+
+-- a table followed an event, where an operation of the event has this name and these operands
+abbrev pub CountsFollowed : Option (List ℕ × List Value) → Event → Counts → Counts → Type 0
+CountsFollowed node (Put x place fresh) a b = (name : List ℕ) (vs : List Value) → node ≡ Some (name, vs) → EnteredWith x (is_kept name) vs a b
+CountsFollowed node (Take x place fresh) a b = (name : List ℕ) (vs : List Value) → node ≡ Some (name, vs) → LeftWith x vs a b
+CountsFollowed node (SetOperand x k old new) a b = Exchanged old new a b
+CountsFollowed node (SetEntry x part key old new) a b = (y : ℕ) → b y ≡ a y
+CountsFollowed node (Shift x old new) a b = (y : ℕ) → b y ≡ a y

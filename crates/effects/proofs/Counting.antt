@@ -1,0 +1,169 @@
+-- A table of counts that follows an event counts the tree after it.
+use Rattle.std.proofs.Common.{◌≡◌, ℕ, ◌+◌, List, [], ◌∷◌, ◌++◌, Bool, Option, Some, None, refl, sym, ap, ◌∙◌, subst, eqb, slice_get, map}
+use Rattle.std.specs.Prelude.{option_map, option_and_then}
+use Rattle.std.specs.List.{IsDistinct}
+use Rattle.ir_types.specs.Things.{Things}
+use Rattle.ir_types.specs.Terms.{TypeTerm, AttrTerm, name_term, type_term, attr_term}
+use Rattle.ir_types.specs.Words.{is_table}
+use Rattle.ir_tree.specs.declared.value.Value.{Value}
+use Rattle.ir_tree.specs.declared.place.Place.{Place}
+use Rattle.ir_tree.specs.Tree.{HeadOf, OpOf, Op, op, RegionsOf, no_regions, region, RegionOf, empty, block, OpsOf, no_ops, next, head, regions}
+use Rattle.ir_tree.specs.Ids.{find, HasDistinctIds}
+use Rattle.ir_tree.specs.Edits.{at, put_operand, change_part, change_entry}
+use Rattle.ir_tree.specs.Maps.{map_head}
+use Rattle.ir_tree.specs.Meaning.{Operation, meaning, key_before}
+use Rattle.ir_tree.specs.Places.{without}
+use Rattle.ir_tree.specs.WellFormed.{ModuleOf}
+use Rattle.ir_tree.proofs.Heads.{alike_operand, alike_entry, entry_operands}
+use Rattle.ir_tree_laws.specs.Members.{In}
+use Rattle.ir_tree_laws.specs.Stands.{stands}
+use Rattle.ir_tree_laws.specs.Changes.{operand_at, HoldNone, Takes, SetsOperand, SetsEntry, Shifts}
+use Rattle.ir_tree_laws.proofs.Listed.{in_map}
+use Rattle.ir_tree_laws.proofs.Members.{found_stands}
+use Rattle.ir_event.specs.declared.event.Event.{Event}
+use Rattle.ir_event.specs.declared.event.Event.TheVariants.{Put, Take, SetOperand, SetEntry, Shift}
+use Rattle.ir_event.specs.Modules.{Module}
+use Rattle.ir_event.specs.Step.{Step}
+use Rattle.effects.specs.Spots.{one_if}
+use Rattle.effects.specs.Dead.{is_kept}
+use Rattle.effects.specs.Heads.{heads, regions_heads, all_operands}
+use Rattle.effects.specs.Counts.{Counts, results_among, Counted, Raised, Lowered, AllEntered, EnteredWith, LeftWith, Exchanged, CountsFollowed, kept_by}
+use Rattle.effects.proofs.Sorted.{look}
+use Rattle.effects.proofs.Shown.{look_each}
+use Rattle.effects.proofs.Headed.{tagged, HeadCut, cut_heads, heads_ids, heads_tagged, each_heads, mapped_heads, unused_among, head_in, stand_heads}
+use Rattle.effects.proofs.Tallies.{tallied, Different, put_tally, take_tally, moved_tally, same_tally, set_tally, begun_tally, mapped_tally}
+
+module _ {N T A : Type 0} where
+  different : (kept : N → Bool) (t : OpOf N T A) → HasDistinctIds t → Different kept (heads t)
+  different kept t d = subst (IsDistinct eqb) (sym (heads_ids t)) d
+
+  -- blocks without operations
+  no_heads : (rs : RegionsOf N T A) → HoldNone rs → regions_heads rs ≡ []
+  no_heads no_regions h = refl
+  no_heads (region empty rs) h = no_heads rs h
+  no_heads (region (block args no_ops) rs) h = no_heads rs h
+  no_heads (region (block args (next o os)) rs) h = absurd h
+
+  one_head : (o : OpOf N T A) → HoldNone (regions o) → heads o ≡ head o ∷ []
+  one_head (op h rs) e = ap (λ l. h ∷ l) (no_heads rs e)
+
+  -- the head of the operation that has an operand is one of the heads
+  pub record Holder (x k : ℕ) (old : Value) (t : OpOf N T A) : Type 0 where
+    pub here : HeadOf N T A
+    pub there : In here (heads t)
+    pub id : here.id ≡ x
+    pub has : slice_get here.operands k ≡ Some old
+
+  holder : (x k : ℕ) (old : Value) (t : OpOf N T A) → operand_at x k t ≡ Some old → Holder x k old t
+  holder x k old t e = go (find x t) refl e
+    where
+      go : (o : Option (OpOf N T A)) → find x t ≡ o → option_and_then (λ (o : OpOf N T A). slice_get (head o).operands k) o ≡ Some old → Holder x k old t
+      go None f h = absurd cc
+      go (Some o) f h =
+          let s = found_stands x t o f in
+          record {
+            here = head s.0.here;
+            there = subst (In (head s.0.here)) (stand_heads [] t) (in_map head_in s.0 (stands [] t) s.1);
+            id = s.2;
+            has = ap (λ (q : OpOf N T A). slice_get (head q).operands k) s.3 ∙ h;
+          }
+
+module _ (t : Operation) where
+  -- a table counts a tree where it counts its heads
+  counts_heads : (x : ℕ) → option_map (λ (o : Operation). results_among x (all_operands (heads t)) + one_if (is_kept (head o).name)) (find x t) ≡ tallied is_kept (heads t) x
+  counts_heads x =
+      twice (find x t)
+      ∙ ap (option_map (λ k. results_among x (all_operands (heads t)) + one_if k))
+      (sym (look_each (λ (o : Operation). is_kept (head o).name) t x) ∙ ap (look x) (sym (heads_tagged (λ (h : HeadOf (List ℕ) TypeTerm AttrTerm). is_kept h.name) t)))
+    where
+      twice : (f : Option Operation) → option_map (λ (o : Operation). results_among x (all_operands (heads t)) + one_if (is_kept (head o).name)) f
+          ≡ option_map (λ k. results_among x (all_operands (heads t)) + one_if k) (option_map (λ (o : Operation). is_kept (head o).name) f)
+      twice None = refl
+      twice (Some o) = refl
+
+  pub heads_counted : (a : Counts) → Counted a t → (y : ℕ) → a y ≡ tallied is_kept (heads t) y
+  heads_counted a c y = c y ∙ counts_heads y
+
+  pub counted_heads : (a : Counts) → ((y : ℕ) → a y ≡ tallied is_kept (heads t) y) → Counted a t
+  counted_heads a c y = c y ∙ sym (counts_heads y)
+
+-- the operation of an event
+abbrev pub named : Option Operation → Option (List ℕ × List Value)
+named o = option_map (λ (o : Operation). ((head o).name, (head o).operands)) o
+
+put_counts : (x : ℕ) (place : Place) (fresh : Bool) (m n : Module) (a b : Counts) → HasDistinctIds n.tree → Takes x place fresh n m
+    → ((name : List ℕ) (vs : List Value) → named (find x n.tree) ≡ Some (name, vs) → EnteredWith x (is_kept name) vs a b) → Counted a m.tree → Counted b n.tree
+put_counts x place fresh m n a b d takes put was =
+    let c = cut_heads x n.tree place d takes.there in
+    let h = head c.here in
+    let whole : heads n.tree ≡ c.front ++ (h ∷ c.back) = c.was ∙ ap (λ l. c.front ++ (l ++ c.back)) (one_head c.here (takes.empty c.here c.is)) in
+    let left : heads m.tree ≡ c.front ++ c.back = ap heads takes.left ∙ c.rest in
+    let unused : results_among h.id (all_operands (c.front ++ (h ∷ c.back))) ≡ 0 = ap (λ y. results_among y (all_operands (c.front ++ (h ∷ c.back)))) c.id ∙ ap (λ (l : List (HeadOf (List ℕ) TypeTerm AttrTerm)). results_among x (all_operands l)) (sym whole) ∙ unused_among x n.tree takes.unused in
+    let entered : EnteredWith h.id (is_kept h.name) h.operands a b = subst (λ y. EnteredWith y (is_kept h.name) h.operands a b) (sym c.id) (put h.name h.operands (ap named c.is)) in
+    counted_heads n.tree b (λ y. put_tally is_kept c.front c.back h (subst (Different is_kept) whole (different is_kept n.tree d)) a b unused
+    (λ z. heads_counted m.tree a was z ∙ ap (λ l. tallied is_kept l z) left) entered y ∙ ap (λ l. tallied is_kept l y) (sym whole))
+
+take_counts : (x : ℕ) (place : Place) (fresh : Bool) (m n : Module) (a b : Counts) → HasDistinctIds m.tree → Takes x place fresh m n
+    → ((name : List ℕ) (vs : List Value) → named (find x m.tree) ≡ Some (name, vs) → LeftWith x vs a b) → Counted a m.tree → Counted b n.tree
+take_counts x place fresh m n a b d takes take was =
+    let c = cut_heads x m.tree place d takes.there in
+    let h = head c.here in
+    let whole : heads m.tree ≡ c.front ++ (h ∷ c.back) = c.was ∙ ap (λ l. c.front ++ (l ++ c.back)) (one_head c.here (takes.empty c.here c.is)) in
+    let left : heads n.tree ≡ c.front ++ c.back = ap heads takes.left ∙ c.rest in
+    let gone : LeftWith h.id h.operands a b = subst (λ y. LeftWith y h.operands a b) (sym c.id) (take h.name h.operands (ap named c.is)) in
+    counted_heads n.tree b (λ y. take_tally is_kept c.front c.back h (subst (Different is_kept) whole (different is_kept m.tree d)) a b
+    (λ z. heads_counted m.tree a was z ∙ ap (λ l. tallied is_kept l z) whole) gone y ∙ ap (λ l. tallied is_kept l y) (sym left))
+
+set_counts : (x k : ℕ) (old new : Value) (m n : Module) (a b : Counts) → HasDistinctIds m.tree → SetsOperand x k old new m n → Exchanged old new a b → Counted a m.tree → Counted b n.tree
+set_counts x k old new m n a b d sets exchanged was =
+    let o = holder x k old m.tree sets.was in
+    let after : heads n.tree ≡ map (at x (put_operand k new)) (heads m.tree) = ap heads sets.after ∙ each_heads (at x (put_operand k new)) m.tree in
+    counted_heads n.tree b (λ y. set_tally is_kept x k old new a b o.here (heads m.tree) (λ h. (alike_operand x k new h).id) (λ h. (alike_operand x k new h).name) o.there o.id (different is_kept m.tree d) o.has
+    (heads_counted m.tree a was) exchanged y ∙ ap (λ l. tallied is_kept l y) (sym after))
+
+shift_counts : (is_table : List ℕ → Bool) (x : ℕ) (old new : Place) (m n : Module) (a b : Counts) → HasDistinctIds m.tree → HasDistinctIds n.tree → Shifts is_table x old new m n → ((y : ℕ) → b y ≡ a y) → Counted a m.tree → Counted b n.tree
+shift_counts is_table x old new m n a b d e shifts same was =
+    let c = cut_heads x m.tree old d shifts.was in
+    let k = cut_heads x n.tree new e shifts.is in
+    let one : k.here ≡ c.here = some_same k.here c.here (sym k.is ∙ shifts.same ∙ c.is) in
+    let is : heads n.tree ≡ k.front ++ (heads c.here ++ k.back) = k.was ∙ ap (λ o. k.front ++ (heads o ++ k.back)) one in
+    let left : c.front ++ c.back ≡ k.front ++ k.back = sym c.rest ∙ ap heads (sym shifts.rest) ∙ k.rest in
+    counted_heads n.tree b (λ y. same y
+    ∙ heads_counted m.tree a was y
+    ∙ ap (λ l. tallied is_kept l y) c.was
+    ∙ moved_tally is_kept c.front (heads c.here) c.back (subst (Different is_kept) c.was (different is_kept m.tree d)) y
+    ∙ ap (λ l. tallied is_kept (heads c.here ++ l) y) left
+    ∙ sym (moved_tally is_kept k.front (heads c.here) k.back (subst (Different is_kept) is (different is_kept n.tree e)) y)
+    ∙ ap (λ l. tallied is_kept l y) (sym is))
+  where
+    some_same : (p q : Operation) → Some p ≡ Some q → p ≡ q
+    some_same p q e = cc
+
+-- the operation of the event is shown as it is after a put, and as it was before a take
+abbrev pub ShownAt : Event → Option (List ℕ × List Value) → Module → Module → Type 0
+ShownAt (Put x place fresh) node m n = node ≡ named (find x n.tree)
+ShownAt (Take x place fresh) node m n = node ≡ named (find x m.tree)
+ShownAt (SetOperand x k old new) node m n = Unit {0}
+ShownAt (SetEntry x part key old new) node m n = Unit {0}
+ShownAt (Shift x old new) node m n = Unit {0}
+
+pub followed_counts : (c : Things) (e : Event) (m n : Module) (node : Option (List ℕ × List Value)) (a b : Counts) → Step c e m n → ShownAt e node m n → CountsFollowed node e a b → Counted a m.tree → Counted b n.tree
+followed_counts c (Put x place fresh) m n node a b s shown f was = put_counts x place fresh m n a b s.after.distinct s.changes (λ name vs is. f name vs (shown ∙ is)) was
+followed_counts c (Take x place fresh) m n node a b s shown f was = take_counts x place fresh m n a b s.before.distinct s.changes (λ name vs is. f name vs (shown ∙ is)) was
+followed_counts c (SetOperand x k old new) m n node a b s shown f was = set_counts x k old new m n a b s.before.distinct s.changes f was
+followed_counts c (SetEntry x part key old new) m n node a b s shown f was =
+    let g = at x (change_part part (change_entry key_before (name_term c key) (option_map (attr_term c) new))) in
+    let like = alike_entry key_before x part (name_term c key) (option_map (attr_term c) new) in
+    let after : heads n.tree ≡ map g (heads m.tree) = ap heads s.changes.after ∙ each_heads g m.tree in
+    counted_heads n.tree b (λ y. f y
+    ∙ heads_counted m.tree a was y
+    ∙ sym (same_tally is_kept g (λ h. (like h).id) (λ h. (like h).name) (entry_operands key_before x part (name_term c key) (option_map (attr_term c) new)) (heads m.tree) y)
+    ∙ ap (λ l. tallied is_kept l y) (sym after))
+followed_counts c (Shift x old new) m n node a b s shown f was = shift_counts is_table x old new m n a b s.before.distinct s.after.distinct s.changes f was
+
+-- a table that was made for a tree of numbers counts what it stands for
+pub begun_counts : (c : Things) (t : Op) (a m b : Counts) → HasDistinctIds t → ((y : ℕ) → a y ≡ None) → AllEntered (kept_by c) (heads t) a m → Raised (all_operands (heads t)) m b → Counted b (meaning c t)
+begun_counts c t a m b d vacant entered raised =
+    counted_heads (meaning c t) b (λ y. begun_tally (kept_by c) (heads t) a m b (different (kept_by c) t d) vacant entered raised y
+    ∙ sym (mapped_tally (name_term c) (type_term c) (attr_term c) is_kept (heads t) y)
+    ∙ ap (λ l. tallied is_kept l y) (sym (mapped_heads (name_term c) (type_term c) (attr_term c) t)))
