@@ -22,7 +22,10 @@ use Rattle.ir_tree_laws.proofs.Listed.{in_map}
 use Rattle.ir_tree_laws.proofs.Members.{found_stands}
 use Rattle.ir_event.specs.declared.event.Event.{Event}
 use Rattle.ir_event.specs.declared.event.Event.TheVariants.{Put, Take, SetOperand, SetEntry, Shift}
-use Rattle.ir_event.specs.Modules.{Module}
+use Rattle.ir_event.specs.Modules.{Module, Node}
+use Rattle.ir_event.specs.Listener.{ShowsTaken}
+use Rattle.ir_store.specs.Nodes.{node_of}
+use Rattle.effects.proofs.Agreed.{ShowsAll}
 use Rattle.ir_event.specs.Step.{Step}
 use Rattle.effects.specs.Spots.{one_if}
 use Rattle.effects.specs.Dead.{is_kept}
@@ -87,30 +90,26 @@ module _ (t : Operation) where
   pub counted_heads : (a : Counts) → ((y : ℕ) → a y ≡ tallied is_kept (heads t) y) → Counted a t
   counted_heads a c y = c y ∙ sym (counts_heads y)
 
--- the operation of an event
-abbrev pub named : Option Operation → Option (List ℕ × List Value)
-named o = option_map (λ (o : Operation). ((head o).name, (head o).operands)) o
-
 put_counts : (x : ℕ) (place : Place) (fresh : Bool) (m n : Module) (a b : Counts) → HasDistinctIds n.tree → Takes x place fresh n m
-    → ((name : List ℕ) (vs : List Value) → named (find x n.tree) ≡ Some (name, vs) → EnteredWith x (is_kept name) vs a b) → Counted a m.tree → Counted b n.tree
+    → ((o : Operation) → find x n.tree ≡ Some o → EnteredWith x (is_kept (head o).name) (head o).operands a b) → Counted a m.tree → Counted b n.tree
 put_counts x place fresh m n a b d takes put was =
     let c = cut_heads x n.tree place d takes.there in
     let h = head c.here in
     let whole : heads n.tree ≡ c.front ++ (h ∷ c.back) = c.was ∙ ap (λ l. c.front ++ (l ++ c.back)) (one_head c.here (takes.empty c.here c.is)) in
     let left : heads m.tree ≡ c.front ++ c.back = ap heads takes.left ∙ c.rest in
     let unused : results_among h.id (all_operands (c.front ++ (h ∷ c.back))) ≡ 0 = ap (λ y. results_among y (all_operands (c.front ++ (h ∷ c.back)))) c.id ∙ ap (λ (l : List (HeadOf (List ℕ) TypeTerm AttrTerm)). results_among x (all_operands l)) (sym whole) ∙ unused_among x n.tree takes.unused in
-    let entered : EnteredWith h.id (is_kept h.name) h.operands a b = subst (λ y. EnteredWith y (is_kept h.name) h.operands a b) (sym c.id) (put h.name h.operands (ap named c.is)) in
+    let entered : EnteredWith h.id (is_kept h.name) h.operands a b = subst (λ y. EnteredWith y (is_kept h.name) h.operands a b) (sym c.id) (put c.here c.is) in
     counted_heads n.tree b (λ y. put_tally is_kept c.front c.back h (subst (Different is_kept) whole (different is_kept n.tree d)) a b unused
     (λ z. heads_counted m.tree a was z ∙ ap (λ l. tallied is_kept l z) left) entered y ∙ ap (λ l. tallied is_kept l y) (sym whole))
 
 take_counts : (x : ℕ) (place : Place) (fresh : Bool) (m n : Module) (a b : Counts) → HasDistinctIds m.tree → Takes x place fresh m n
-    → ((name : List ℕ) (vs : List Value) → named (find x m.tree) ≡ Some (name, vs) → LeftWith x vs a b) → Counted a m.tree → Counted b n.tree
+    → ((o : Operation) → find x m.tree ≡ Some o → LeftWith x (head o).operands a b) → Counted a m.tree → Counted b n.tree
 take_counts x place fresh m n a b d takes take was =
     let c = cut_heads x m.tree place d takes.there in
     let h = head c.here in
     let whole : heads m.tree ≡ c.front ++ (h ∷ c.back) = c.was ∙ ap (λ l. c.front ++ (l ++ c.back)) (one_head c.here (takes.empty c.here c.is)) in
     let left : heads n.tree ≡ c.front ++ c.back = ap heads takes.left ∙ c.rest in
-    let gone : LeftWith h.id h.operands a b = subst (λ y. LeftWith y h.operands a b) (sym c.id) (take h.name h.operands (ap named c.is)) in
+    let gone : LeftWith h.id h.operands a b = subst (λ y. LeftWith y h.operands a b) (sym c.id) (take c.here c.is) in
     counted_heads n.tree b (λ y. take_tally is_kept c.front c.back h (subst (Different is_kept) whole (different is_kept m.tree d)) a b
     (λ z. heads_counted m.tree a was z ∙ ap (λ l. tallied is_kept l z) whole) gone y ∙ ap (λ l. tallied is_kept l y) (sym left))
 
@@ -139,19 +138,16 @@ shift_counts is_table x old new m n a b d e shifts same was =
     some_same : (p q : Operation) → Some p ≡ Some q → p ≡ q
     some_same p q e = cc
 
--- the operation of the event is shown as it is after a put, and as it was before a take
-abbrev pub ShownAt : Event → Option (List ℕ × List Value) → Module → Module → Type 0
-ShownAt (Put x place fresh) node m n = node ≡ named (find x n.tree)
-ShownAt (Take x place fresh) node m n = node ≡ named (find x m.tree)
-ShownAt (SetOperand x k old new) node m n = Unit {0}
-ShownAt (SetEntry x part key old new) node m n = Unit {0}
-ShownAt (Shift x old new) node m n = Unit {0}
+node_head : (o : Operation) → (node_of o).head ≡ head o
+node_head (op h rs) = refl
 
-pub followed_counts : (c : Things) (e : Event) (m n : Module) (node : Option (List ℕ × List Value)) (a b : Counts) → Step c e m n → ShownAt e node m n → CountsFollowed node e a b → Counted a m.tree → Counted b n.tree
-followed_counts c (Put x place fresh) m n node a b s shown f was = put_counts x place fresh m n a b s.after.distinct s.changes (λ name vs is. f name vs (shown ∙ is)) was
-followed_counts c (Take x place fresh) m n node a b s shown f was = take_counts x place fresh m n a b s.before.distinct s.changes (λ name vs is. f name vs (shown ∙ is)) was
-followed_counts c (SetOperand x k old new) m n node a b s shown f was = set_counts x k old new m n a b s.before.distinct s.changes f was
-followed_counts c (SetEntry x part key old new) m n node a b s shown f was =
+pub followed_counts : (c : Things) (e : Event) (m n : Module) (shown : ℕ → Option Node) (a b : Counts) → Step c e m n → ShowsAll shown n → ShowsTaken e m shown → CountsFollowed shown e a b → Counted a m.tree → Counted b n.tree
+followed_counts c (Put x place fresh) m n shown a b s all taken f was =
+    put_counts x place fresh m n a b s.after.distinct s.changes (λ o there. subst (λ (h : HeadOf (List ℕ) TypeTerm AttrTerm). EnteredWith x (is_kept h.name) h.operands a b) (node_head o) (f (node_of o) (all x o there))) was
+followed_counts c (Take x place fresh) m n shown a b s all taken f was =
+    take_counts x place fresh m n a b s.before.distinct s.changes (λ o there. subst (λ (h : HeadOf (List ℕ) TypeTerm AttrTerm). LeftWith x h.operands a b) (node_head o) (f (node_of o) (taken ∙ ap (option_map node_of) there))) was
+followed_counts c (SetOperand x k old new) m n shown a b s all taken f was = set_counts x k old new m n a b s.before.distinct s.changes f was
+followed_counts c (SetEntry x part key old new) m n shown a b s all taken f was =
     let g = at x (change_part part (change_entry key_before (name_term c key) (option_map (attr_term c) new))) in
     let like = alike_entry key_before x part (name_term c key) (option_map (attr_term c) new) in
     let after : heads n.tree ≡ map g (heads m.tree) = ap heads s.changes.after ∙ each_heads g m.tree in
@@ -159,7 +155,7 @@ followed_counts c (SetEntry x part key old new) m n node a b s shown f was =
     ∙ heads_counted m.tree a was y
     ∙ sym (same_tally is_kept g (λ h. (like h).id) (λ h. (like h).name) (entry_operands key_before x part (name_term c key) (option_map (attr_term c) new)) (heads m.tree) y)
     ∙ ap (λ l. tallied is_kept l y) (sym after))
-followed_counts c (Shift x old new) m n node a b s shown f was = shift_counts is_table x old new m n a b s.before.distinct s.after.distinct s.changes f was
+followed_counts c (Shift x old new) m n shown a b s all taken f was = shift_counts is_table x old new m n a b s.before.distinct s.after.distinct s.changes f was
 
 -- a table that was made for a tree of numbers counts what it stands for
 pub begun_counts : (c : Things) (t : Op) (a m b : Counts) → HasDistinctIds t → ((y : ℕ) → a y ≡ None) → AllEntered (kept_by c) (heads t) a m → Raised (all_operands (heads t)) m b → Counted b (meaning c t)

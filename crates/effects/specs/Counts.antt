@@ -11,6 +11,7 @@ use Rattle.ir_tree.specs.Ids.{find}
 use Rattle.ir_tree.specs.Meaning.{Operation}
 use Rattle.ir_event.specs.declared.event.Event.{Event}
 use Rattle.ir_event.specs.declared.event.Event.TheVariants.{Put, Take, SetOperand, SetEntry, Shift}
+use Rattle.ir_event.specs.Modules.{Node}
 use Rattle.effects.specs.declared.row.Row.{Row}
 use Rattle.effects.specs.Spots.{one_if}
 use Rattle.effects.specs.Dead.{is_result_of, is_kept, may_go}
@@ -75,10 +76,10 @@ abbrev pub is_zero : Option ℕ → Bool
 is_zero None = false
 is_zero (Some n) = nat_lt n 1
 
--- a table followed an event, where an operation of the event has this name and these operands
-abbrev pub CountsFollowed : Option (List ℕ × List Value) → Event → Counts → Counts → Type 0
-CountsFollowed node (Put x place fresh) a b = (name : List ℕ) (vs : List Value) → node ≡ Some (name, vs) → EnteredWith x (is_kept name) vs a b
-CountsFollowed node (Take x place fresh) a b = (name : List ℕ) (vs : List Value) → node ≡ Some (name, vs) → LeftWith x vs a b
-CountsFollowed node (SetOperand x k old new) a b = Exchanged old new a b
-CountsFollowed node (SetEntry x part key old new) a b = (y : ℕ) → b y ≡ a y
-CountsFollowed node (Shift x old new) a b = (y : ℕ) → b y ≡ a y
+-- a table followed an event, where these operations were shown
+abbrev pub CountsFollowed : (ℕ → Option Node) → Event → Counts → Counts → Type 0
+CountsFollowed shown (Put x place fresh) a b = (n : Node) → shown x ≡ Some n → EnteredWith x (is_kept n.head.name) n.head.operands a b
+CountsFollowed shown (Take x place fresh) a b = (n : Node) → shown x ≡ Some n → LeftWith x n.head.operands a b
+CountsFollowed shown (SetOperand x k old new) a b = Exchanged old new a b
+CountsFollowed shown (SetEntry x part key old new) a b = (y : ℕ) → b y ≡ a y
+CountsFollowed shown (Shift x old new) a b = (y : ℕ) → b y ≡ a y

@@ -1,11 +1,10 @@
 -- How a table follows events.
 use Rattle.std.specs.Prelude.{◌≡◌, ℕ, List, [], ◌∷◌, Option, Some, None, Bool, true, false}
-use Rattle.ir_types.specs.Things.{Things}
-use Rattle.ir_tree.specs.Tree.{OpOf, head}
-use Rattle.ir_tree.specs.Ids.{find}
 use Rattle.ir_event.specs.declared.event.Event.{Event}
 use Rattle.ir_event.specs.declared.event.Event.TheVariants.{Put, Take, SetOperand, SetEntry, Shift}
+use Rattle.ir_event.specs.Modules.{Node}
 use Rattle.op_registry.specs.declared.own.Own.{Own}
+use Rattle.op_registry.specs.Registry.{own_of}
 use Rattle.effects.specs.Effects.{none}
 use Rattle.effects.specs.Spots.{Spot, spots, Apart, Childless, Rows, Holds}
 
@@ -25,13 +24,13 @@ TakenOut x a b = (n : Spot) (ns : List Spot) → n.id ≡ x → Apart (n ∷ ns)
 abbrev pub ShiftedTo : ℕ → Option ℕ → Rows → Rows → Type 0
 ShiftedTo x p a b = (n : Spot) (ns : List Spot) → n.id ≡ x → Apart (n ∷ ns) → Whole a (n ∷ ns) → Whole b (record n { parent = p } ∷ ns)
 
--- a table followed an event, after which this is the tree
-abbrev pub Followed : {N T A : Type 0} → (N → Own) → OpOf N T A → Event → Rows → Rows → Type 0
-Followed {N} {T} {A} own t (Put x place fresh) a b = (o : OpOf N T A) → find x t ≡ Some o → PutIn x (Some place.parent) (own (head o).name) a b
-Followed own t (Take x place fresh) a b = TakenOut x a b
-Followed own t (SetOperand x k old new) a b = (x : ℕ) → b x ≡ a x
-Followed own t (SetEntry x part key old new) a b = (x : ℕ) → b x ≡ a x
-Followed own t (Shift x old new) a b = ShiftedTo x (Some new.parent) a b
+-- a table followed an event, where these operations were shown
+abbrev pub Followed : (ℕ → Option Node) → Event → Rows → Rows → Type 0
+Followed shown (Put x place fresh) a b = (n : Node) → shown x ≡ Some n → PutIn x (Some place.parent) (own_of n.head.name) a b
+Followed shown (Take x place fresh) a b = TakenOut x a b
+Followed shown (SetOperand x k old new) a b = (y : ℕ) → b y ≡ a y
+Followed shown (SetEntry x part key old new) a b = (y : ℕ) → b y ≡ a y
+Followed shown (Shift x old new) a b = ShiftedTo x (Some new.parent) a b
 
 -- operations were put in, one after another
 abbrev pub PutAll : List Spot → Rows → Rows → Type 0

@@ -1,13 +1,36 @@
--- What the listener of effects means.
-use Rattle.std.specs.Prelude.{◌≡◌, false, None}
-use Rattle.ir_event.specs.Listener.{Listener}
+-- What the listeners mean.
+use Rattle.std.specs.Prelude.{◌≡◌, ℕ, ◌+◌, false, None, unwrap_or}
+use Rattle.ir_tree.specs.declared.place.Place.{Place}
 use Rattle.ir_tree.specs.Ids.{HasDistinctIds}
+use Rattle.ir_tree.specs.Meaning.{Operation}
+use Rattle.ir_tree_laws.specs.Reads.{around}
+use Rattle.ir_event.specs.declared.event.Event.{Event}
+use Rattle.ir_event.specs.declared.event.Event.TheVariants.{Put, Take, SetOperand, SetEntry, Shift}
+use Rattle.ir_event.specs.Modules.{Module}
+use Rattle.ir_event.specs.Bounds.{operands_of}
+use Rattle.ir_event.specs.Listener.{Listener}
+use Rattle.op_registry.specs.Registry.{own_of}
 use Rattle.effects.specs.declared.effects.Effects.{Effects}
 use Rattle.effects.specs.Spots.{spots}
 use Rattle.effects.specs.Walks.{row_at}
-use Rattle.op_registry.specs.Registry.{own_of}
 use Rattle.effects.specs.Following.{Whole}
 use Rattle.effects.specs.Reports.{effects_rows}
+
+-- how many operations stand around one that stands at a place of a tree
+abbrev pub depth_at : Place → Operation → ℕ
+depth_at place t = unwrap_or (around place.parent t) 0 + 1
+
+-- the depths of the places of an event between two modules
+abbrev pub depths_of : Event → Module → Module → ℕ
+depths_of (Put x place fresh) m n = depth_at place n.tree
+depths_of (Take x place fresh) m n = depth_at place m.tree
+depths_of (SetOperand x k old new) m n = 0
+depths_of (SetEntry x part key old new) m n = 0
+depths_of (Shift x old new) m n = depth_at old m.tree + depth_at new n.tree
+
+-- how often a listener of this crate may look
+abbrev pub most_looks : Event → Module → Module → ℕ
+most_looks e m n = 4 + operands_of e m n + depths_of e m n
 
 -- the table keeps the operations of the module, each with its effects by its counts, and the counts are right
 abbrev pub effects_listener : Effects → Listener
@@ -17,6 +40,7 @@ effects_listener s = record {
   agrees = λ c m. (s.stale ≡ false) × (HasDistinctIds m.tree × Whole (row_at s.rows) (spots own_of None m.tree));
   stale = s.stale;
   heard = None;
+  most = most_looks;
   fresh = λ c m h. h.0;
-  grows = λ c d m holds g h. h;
+  grows = λ c d m holds also g h. h;
 }

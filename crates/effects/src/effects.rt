@@ -1,7 +1,7 @@
 //! The listener that keeps the effects of operations.
-ghost use Rattle.std.specs.Prelude.{◌≡◌, ◌≤◌, ◌+◌, true};
-ghost use Rattle.ir_event.specs.Modules.{Module, things_in, module_in};
-ghost use Rattle.ir_event.specs.Listener.{Told};
+ghost use Rattle.std.specs.Prelude.{◌≡◌, ◌≤◌, ◌+◌, ◌⊎◌, true};
+ghost use Rattle.ir_event.specs.Modules.{Module, things_in, module_in, shown_in};
+ghost use Rattle.ir_event.specs.Listener.{Told, ShowsTaken};
 ghost use Rattle.ir_event.specs.Step.{Step};
 ghost use Rattle.effects.specs.Following.{is_take};
 
@@ -53,9 +53,13 @@ impl Analysis for Effects {
     }
 
     fn begin(&mut self, world: &World) -> Result<(), Memory> {
+        // What was kept goes first, so that there is room for what is kept now.
         self.rows = BTreeMap::new(self.alloc);
         self.stale = true;
-        if !put_tree(&world.ctx, &Registry::new(), world.store.root(), None, &mut self.rows) {
+        let Ok(tree) = world.store.tree() else {
+            return Err(Memory);
+        };
+        if !put_tree(&world.ctx, &Registry::new(), &tree, None, &mut self.rows) {
             return Err(Memory);
         }
         self.stale = false;
@@ -63,9 +67,11 @@ impl Analysis for Effects {
     }
 
     fn told<'a>(&mut self, view: View<'a>, event: Event) -> View<'a>
-        ensures told { Told event (things_in view.entry.world.now) (module_in view.entry.world.now) (effects_listener self.old) (effects_listener self.new) }
+        ensures told { Told event (things_in view.entry.world.now) (module_in view.entry.world.now) (shown_in view.entry.world.now) (effects_listener self.old) (effects_listener self.new) }
+        ensures looks { (m : Module) → Step (things_in view.entry.world.now) event m (module_in view.entry.world.now) → ShowsTaken event m (shown_in view.entry.world.now)
+            → ((effects_listener self.old).agrees (things_in view.entry.world.now) m ⊎ ((effects_listener self.old).stale ≡ true)) → result.looks ≤ view.entry.looks + (effects_listener self.old).most event m (module_in view.entry.world.now) }
         ensures world { result.world.now ≡ view.entry.world.now }
-        ensures looks { result.looks ≤ view.entry.looks + 1 }
+        ensures once { result.looks ≤ view.entry.looks + 1 }
         ensures take { (m : Module) → is_take event ≡ true → Step (things_in view.entry.world.now) event m (module_in view.entry.world.now) → (effects_listener self.old).agrees (things_in view.entry.world.now) m → (effects_listener self.new).agrees (things_in view.entry.world.now) (module_in view.entry.world.now) }
     {
         if self.stale {

@@ -1,11 +1,10 @@
 //! The table follows an event.
 ghost use Rattle.std.specs.Prelude.{◌≡◌, ◌≤◌, ◌+◌, option_map, true};
 ghost use Rattle.std.specs.Bool.{OnTrue};
-ghost use Rattle.ir_tree.specs.Tree.{head};
-ghost use Rattle.ir_tree.specs.Ids.{find};
+ghost use Rattle.op_registry.specs.Registry.{own_of};
 ghost use Rattle.ir_event.specs.Looks.{one_more};
+ghost use Rattle.ir_event.specs.Modules.{shown_in};
 ghost use Rattle.effects.specs.Walks.{row_at};
-ghost use Rattle.effects.specs.Effects.{own_by};
 ghost use Rattle.effects.specs.Following.{Followed, is_take};
 
 use crate::own::own;
@@ -18,9 +17,9 @@ use op_registry::own::Own;
 use op_registry::registry::Registry;
 use std::collections::BTreeMap;
 
-/// What an operation of the module has by itself, if it is there.
+/// What an operation that is shown has by itself.
 fn own_at(view: &mut View<'_>, op: OpId) -> Option<Own>
-    ensures own { result ≡ option_map (λ o. own_by view.old.world.now.ctx (head o).name) (find op view.old.world.now.store.tree) }
+    ensures own { result ≡ option_map (λ n. own_of n.head.name) (shown_in view.old.world.now op) }
     ensures world { view.new.world.now ≡ view.old.world.now }
     ensures looks { view.new.looks ≡ one_more view.old.looks }
 {
@@ -28,9 +27,9 @@ fn own_at(view: &mut View<'_>, op: OpId) -> Option<Own>
     Some(own(view.context(), &Registry::new(), node.name()))
 }
 
-/// Follows an event. It is false where memory was refused.
+/// Follows an event. It is false where memory was refused, or an operation that was put isn't shown.
 pub(crate) fn follow(rows: &mut BTreeMap<OpId, Row>, view: &mut View<'_>, event: &Event) -> bool
-    ensures followed { OnTrue result (Followed (own_by view.old.world.now.ctx) view.old.world.now.store.tree event.now (row_at rows.old) (row_at rows.new)) }
+    ensures followed { OnTrue result (Followed (shown_in view.old.world.now) event.now (row_at rows.old) (row_at rows.new)) }
     ensures world { view.new.world.now ≡ view.old.world.now }
     ensures looks { view.new.looks ≤ view.old.looks + 1 }
     ensures take { is_take event.now ≡ true → result ≡ true }

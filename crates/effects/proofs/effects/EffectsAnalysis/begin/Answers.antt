@@ -13,13 +13,13 @@ use Rattle.effects.proofs.effects.EffectsAnalysis.begin.Goals as goal
 pub returns-clause-ok : goal.returns-clause-ok
 returns-clause-ok c =
     let ctx = c.args.world.now.ctx in
-    let t = c.args.world.now.store.tree in
+    let t = c.args.world.now.store.module_of.tree in
     let yes : c.put_tree.result ≡ true = search rules in
     let distinct = c.args.world.now.formed.distinct in (
       refl,
       (
         meaning_distinct ctx t distinct,
         begun_agrees ctx t (row_at c.new.result) (row_at c.put_tree.new.rows) distinct (λ x. ap (lookup (is_at (nat_cmp x))) c.new.ensures.empty)
-            (subst (λ z. PutAll (spots (own_by ctx) None z) (row_at c.new.result) (row_at c.put_tree.new.rows)) c.root.ensures (on_true_is c.put_tree.result _ yes c.put_tree.ensures)),
+            (subst (λ z. PutAll (spots (own_by ctx) None z) (row_at c.new.result) (row_at c.put_tree.new.rows)) c.in-Ok.ensures (on_true_is c.put_tree.result _ yes c.put_tree.ensures)),
       ),
     )
