@@ -12,4 +12,7 @@ pub mod Shown
 pub mod Reporting
 pub mod Headed
 pub mod Tallies
-pub mod Counting
+pub mod Followed
+pub mod Raising
+pub mod Names
+pub mod Judging

@@ -34,10 +34,10 @@ use Rattle.effects.proofs.Shown.{each_look, each_rising, shown_found}
 
 -- ---- the entries of a map
 
-less_than : (x y : ℕ) → nat_cmp x y ≡ Less → x < y
+pub less_than : (x y : ℕ) → nat_cmp x y ≡ Less → x < y
 less_than x y e = subst (λ r. MatchOrdering r (x < y) (x ≡ y) (y < x)) e (ranks x y)
 
-same_test : (x y : ℕ) → is_eq (nat_cmp x y) ≡ eqb x y
+pub same_test : (x y : ℕ) → is_eq (nat_cmp x y) ≡ eqb x y
 same_test x y = go (nat_cmp x y) refl (ranks x y)
   where
     go : (r : Ordering) → nat_cmp x y ≡ r → MatchOrdering (nat_cmp x y) (x < y) (x ≡ y) (y < x) → is_eq (nat_cmp x y) ≡ eqb x y

@@ -22,9 +22,9 @@ is_result_of x (Arg y r k) = false
 abbrev pub is_unused : {N T A : Type 0} → ℕ → OpOf N T A → Bool
 is_unused x t = every (λ o. list_all (λ v. not (is_result_of x v)) (head o).operands) t
 
--- terminators, functions and modules stay whatever they do
+-- terminators, modules and functions stay whatever they do
 abbrev pub is_kept : List ℕ → Bool
-is_kept name = has_trait Terminator name || (bytes_eq name (codes "func.func") || bytes_eq name (codes "builtin.module"))
+is_kept name = has_trait Terminator name || (bytes_eq name (codes "builtin.module") || bytes_eq name (codes "func.func"))
 
 -- whether there is no effect but those that nobody would miss: an allocation and a read
 abbrev pub may_go : Kinds → Bool

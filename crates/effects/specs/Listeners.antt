@@ -11,10 +11,12 @@ use Rattle.ir_event.specs.Bounds.{operands_of}
 use Rattle.ir_event.specs.Listener.{Listener}
 use Rattle.op_registry.specs.Registry.{own_of}
 use Rattle.effects.specs.declared.effects.Effects.{Effects}
+use Rattle.effects.specs.declared.dead.Dead.{Dead}
 use Rattle.effects.specs.Spots.{spots}
 use Rattle.effects.specs.Walks.{row_at}
 use Rattle.effects.specs.Following.{Whole}
-use Rattle.effects.specs.Reports.{effects_rows}
+use Rattle.effects.specs.Counts.{counts_in, Counted}
+use Rattle.effects.specs.Reports.{effects_rows, dead_rows}
 
 -- how many operations stand around one that stands at a place of a tree
 abbrev pub depth_at : Place → Operation → ℕ
@@ -38,6 +40,19 @@ effects_listener s = record {
   kind = 4;
   analysis = effects_rows;
   agrees = λ c m. (s.stale ≡ false) × (HasDistinctIds m.tree × Whole (row_at s.rows) (spots own_of None m.tree));
+  stale = s.stale;
+  heard = None;
+  most = most_looks;
+  fresh = λ c m h. h.0;
+  grows = λ c d m holds also g h. h;
+}
+
+-- the effects are kept, and how often the results of each operation are used
+abbrev pub dead_listener : Dead → Listener
+dead_listener s = record {
+  kind = 5;
+  analysis = dead_rows;
+  agrees = λ c m. (s.stale ≡ false) × ((effects_listener s.effects).agrees c m × Counted (counts_in s.counts) m.tree);
   stale = s.stale;
   heard = None;
   most = most_looks;

@@ -41,6 +41,13 @@ impl Effects {
             stale: true,
         }
     }
+
+    /// The table.
+    pub(crate) fn rows(&self) -> &BTreeMap<OpId, Row>
+        ensures { result.now ≡ self.now.rows }
+    {
+        &self.rows
+    }
 }
 
 impl Analysis for Effects {

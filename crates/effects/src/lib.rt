@@ -1,12 +1,17 @@
-//! Which operations have which effects, and which are dead, as a module changes.
+//! The listeners that keep the effects of operations and the dead operations: where one agreed with a module before
+//! an event it agrees with the module after it, or is stale.
 #![tactic(auto)]
 
 mod collect;
+mod counting;
+mod counts;
+pub mod dead;
+pub mod effects;
 mod follow;
 pub mod kinds;
-pub mod effects;
 mod own;
 mod report;
 pub mod row;
 mod table;
+mod tally;
 mod walk;

@@ -1,6 +1,7 @@
 -- A table of counts that follows an event counts the tree after it.
-use Rattle.std.proofs.Common.{◌≡◌, ℕ, ◌+◌, List, [], ◌∷◌, ◌++◌, Bool, Option, Some, None, refl, sym, ap, ◌∙◌, subst, eqb, slice_get, map}
-use Rattle.std.specs.Prelude.{option_map, option_and_then}
+use Rattle.std.proofs.Common.{◌≡◌, ℕ, ◌+◌, List, [], ◌∷◌, ◌++◌, Bool, true, false, true≢false, ◌⊎◌, inl, inr, ◌||◌, Option, Some, None, refl, sym, ap, ◌∙◌, subst, eqb, slice_get, map}
+use Rattle.std.specs.Prelude.{option_map, option_and_then, not}
+use Rattle.std.specs.Bool.{OnTrue}
 use Rattle.std.specs.List.{IsDistinct}
 use Rattle.ir_types.specs.Things.{Things}
 use Rattle.ir_types.specs.Terms.{TypeTerm, AttrTerm, name_term, type_term, attr_term}
@@ -27,6 +28,9 @@ use Rattle.ir_event.specs.Listener.{ShowsTaken}
 use Rattle.ir_store.specs.Nodes.{node_of}
 use Rattle.effects.proofs.Agreed.{ShowsAll}
 use Rattle.ir_event.specs.Step.{Step}
+use Rattle.ir_event.specs.Bounds.{op_of}
+use Rattle.effects.specs.Following.{is_take}
+use Rattle.effects.proofs.Changes.{on_true_is}
 use Rattle.effects.specs.Spots.{one_if}
 use Rattle.effects.specs.Dead.{is_kept}
 use Rattle.effects.specs.Heads.{heads, regions_heads, all_operands}
@@ -163,3 +167,29 @@ begun_counts c t a m b d vacant entered raised =
     counted_heads (meaning c t) b (λ y. begun_tally (kept_by c) (heads t) a m b (different (kept_by c) t d) vacant entered raised y
     ∙ sym (mapped_tally (name_term c) (type_term c) (attr_term c) is_kept (heads t) y)
     ∙ ap (λ l. tallied is_kept l y) (sym (mapped_heads (name_term c) (type_term c) (attr_term c) t)))
+
+-- an operation that is taken is shown
+taken_shown : (c : Things) (e : Event) (m n : Module) (shown : ℕ → Option Node) → is_take e ≡ true → Step c e m n → ShowsTaken e m shown → (k : Node) × (shown (op_of e) ≡ Some k)
+taken_shown c (Put x place fresh) m n shown take s taken = absurd (true≢false (sym take))
+taken_shown c (Take x place fresh) m n shown take s taken = let cut = cut_heads x m.tree place s.before.distinct s.changes.there in (node_of cut.here, taken ∙ ap (option_map node_of) cut.is)
+taken_shown c (SetOperand x k old new) m n shown take s taken = absurd (true≢false (sym take))
+taken_shown c (SetEntry x part key old new) m n shown take s taken = absurd (true≢false (sym take))
+taken_shown c (Shift x old new) m n shown take s taken = absurd (true≢false (sym take))
+
+-- what became of the counts, beside a listener that agrees or is stale
+module _ (c : Things) (e : Event) (m n : Module) (shown : ℕ → Option Node) (a b : Counts) (step : Step c e m n) (all : ShowsAll shown n) (taken : ShowsTaken e m shown) (was : Counted a m.tree) (E : Type 0) (stale followed : Bool)
+    (counts : OnTrue followed (CountsFollowed shown e a b)) (fresh : E → stale ≡ false) where
+  pub both_followed : E ⊎ (stale ≡ true) → (((stale || not followed) ≡ false) × (E × Counted b n.tree)) ⊎ ((stale || not followed) ≡ true)
+  both_followed (inr s) = inr (ap (λ b. b || not followed) s)
+  both_followed (inl h) = go followed refl
+    where
+      go : (f : Bool) → followed ≡ f → (((stale || not followed) ≡ false) × (E × Counted b n.tree)) ⊎ ((stale || not followed) ≡ true)
+      go true is = inl ((λ i. fresh h i || not (is i)), (h, followed_counts c e m n shown a b step all taken (on_true_is followed _ is counts) was))
+      go false is = inr (λ i. fresh h i || not (is i))
+
+  -- a Take is always followed
+  pub take_followed : ((k : Node) → is_take e ≡ true → shown (op_of e) ≡ Some k → followed ≡ true) → is_take e ≡ true → E → ((stale || not followed) ≡ false) × (E × Counted b n.tree)
+  take_followed shows take h =
+      let k = taken_shown c e m n shown take step taken in
+      let is = shows k.0 take k.1 in
+      ((λ i. fresh h i || not (is i)), (h, followed_counts c e m n shown a b step all taken (on_true_is followed _ is counts) was))

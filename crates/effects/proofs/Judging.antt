@@ -1,0 +1,144 @@
+-- What a report of dead operations shows.
+use Rattle.std.proofs.Common.{◌≡◌, ℕ, ◌+◌, ◌<◌, List, [], ◌∷◌, ◌++◌, Bool, true, false, Option, Some, None, refl, sym, ap, ◌∙◌, subst, arith, cond, eqb, ◌&&◌, map}
+use Rattle.std.specs.Prelude.{option_map, nat_lt, not}
+use Rattle.std.specs.List.{AllByRecursion, All}
+use Rattle.std.specs.List.Sorted.{IsStrictlySortedBy}
+use Rattle.std.specs.Ordering.{nat_cmp, is_eq}
+use Rattle.std.specs.declared.cmp.Ordering.TheVariants.{Less}
+use Rattle.std.specs.Map.{lookup, keys_of}
+use Rattle.std.specs.BTreeMap.{BTreeMap, is_at}
+use Rattle.std.specs.BTreeMap as tree
+use Rattle.std.proofs.lemmas.Bool.{eqb-true}
+use Rattle.std.proofs.lemmas.Bool.Decides.{nat_tests}
+use Rattle.std.proofs.lemmas.List.Elements.{All-cons, All-nil}
+use Rattle.ir_types.specs.Things.{Things}
+use Rattle.ir_tree.specs.Tree.{head}
+use Rattle.ir_tree.specs.Ids.{HasDistinctIds, find}
+use Rattle.ir_tree.specs.Meaning.{Operation}
+use Rattle.ir_tree_laws.proofs.Members.{found_stands}
+use Rattle.ir_event.specs.declared.row.Cell.{Cell}
+use Rattle.ir_event.specs.declared.row.Cell.TheVariants as cell
+use Rattle.ir_event.specs.declared.row.Row.{Row as Line}
+use Rattle.ir_event.specs.Rows.{Op, cell_meaning, rows_meaning, CellIsOf, RowIsOf, Shows}
+use Rattle.op_registry.specs.Registry.{own_of}
+use Rattle.effects.specs.declared.row.Row.{Row}
+use Rattle.effects.specs.Effects.{effects}
+use Rattle.effects.specs.Dead.{is_unused, is_kept, may_go, is_dead}
+use Rattle.effects.specs.Spots.{spots, one_if}
+use Rattle.effects.specs.Walks.{row_at}
+use Rattle.effects.specs.Following.{Whole}
+use Rattle.effects.specs.Heads.{heads, all_operands}
+use Rattle.effects.specs.Counts.{Counts, results_among, Counted, is_zero}
+use Rattle.effects.specs.Reports.{of_each, by_id, those, cell_of, dead_of, dead_rows}
+use Rattle.effects.specs.Listed.{judged}
+use Rattle.effects.proofs.Sorted.{look, Above, Rising, rising_same}
+use Rattle.effects.proofs.Shown.{each_look, each_rising, shown_found}
+use Rattle.effects.proofs.Headed.{unused_is}
+use Rattle.effects.proofs.Reporting.{less_than, same_test}
+
+-- ---- the entries of a map
+
+module _ (counts : Counts) where
+  above_judged : (x : ℕ) (es : List (ℕ × Row)) → AllByRecursion (λ y. nat_cmp x y ≡ Less) (keys_of es) → Above x (judged counts es)
+  above_judged x [] a = tt
+  above_judged x (e ∷ es) a = (less_than x e.0 a.0, above_judged x es a.1)
+
+  judged_rising : (es : List (ℕ × Row)) → IsStrictlySortedBy nat_cmp (keys_of es) → Rising (judged counts es)
+  unfolding IsStrictlySortedBy
+  judged_rising [] s = tt
+  judged_rising (e ∷ es) s = (above_judged e.0 es s.0, judged_rising es s.1)
+
+  look_judged : (x : ℕ) (es : List (ℕ × Row)) → look x (judged counts es) ≡ option_map (λ (r : Row). is_zero (counts x) && may_go r.has) (lookup (is_at (nat_cmp x)) es)
+  look_judged x [] = refl
+  look_judged x (e ∷ es) =
+      ap (cond (eqb x e.0) (Some (is_zero (counts e.0) && may_go e.1.has))) (look_judged x es)
+      ∙ go (eqb x e.0) refl
+      ∙ ap (λ b. option_map (λ (r : Row). is_zero (counts x) && may_go r.has) (cond b (Some e.1) (lookup (is_at (nat_cmp x)) es))) (sym (same_test x e.0))
+    where
+      go : (b : Bool) → eqb x e.0 ≡ b → cond (eqb x e.0) (Some (is_zero (counts e.0) && may_go e.1.has)) (option_map (λ (r : Row). is_zero (counts x) && may_go r.has) (lookup (is_at (nat_cmp x)) es))
+          ≡ option_map (λ (r : Row). is_zero (counts x) && may_go r.has) (cond (eqb x e.0) (Some e.1) (lookup (is_at (nat_cmp x)) es))
+      go true is =
+          ap (λ b. cond b (Some (is_zero (counts e.0) && may_go e.1.has)) (option_map (λ (r : Row). is_zero (counts x) && may_go r.has) (lookup (is_at (nat_cmp x)) es))) is
+          ∙ ap (λ y. Some (is_zero (counts y) && may_go e.1.has)) (sym (eqb-true x e.0 is))
+          ∙ ap (λ b. option_map (λ (r : Row). is_zero (counts x) && may_go r.has) (cond b (Some e.1) (lookup (is_at (nat_cmp x)) es))) (sym is)
+      go false is =
+          ap (λ b. cond b (Some (is_zero (counts e.0) && may_go e.1.has)) (option_map (λ (r : Row). is_zero (counts x) && may_go r.has) (lookup (is_at (nat_cmp x)) es))) is
+          ∙ ap (λ b. option_map (λ (r : Row). is_zero (counts x) && may_go r.has) (cond b (Some e.1) (lookup (is_at (nat_cmp x)) es))) (sym is)
+
+-- no uses, and not kept
+none_left : (n : ℕ) (kept : Bool) → nat_lt (n + one_if kept) 1 ≡ (nat_lt n 1 && not kept)
+none_left n true = grind (arith, nat_tests, and_false (nat_lt n 1))
+  where
+    and_false : (b : Bool) → (b && false) ≡ false
+    and_false true = refl
+    and_false false = refl
+none_left n false = ap (λ m. nat_lt m 1) (let same : n + 0 ≡ n = omega arith in same) ∙ sym (and_true (nat_lt n 1))
+  where
+    and_true : (b : Bool) → (b && true) ≡ b
+    and_true true = refl
+    and_true false = refl
+
+and_right : (a b c : Bool) → ((a && b) && c) ≡ (a && (b && c))
+and_right true b c = refl
+and_right false b c = refl
+
+module _ (t : Operation) (counts : Counts) (counted : Counted counts t) where
+  -- the judgement on an operation of the tree
+  judged_one : (x : ℕ) (o : Operation) → find x t ≡ Some o → (is_zero (counts x) && may_go (effects own_of o)) ≡ is_dead t o
+  judged_one x o e =
+      let s = found_stands x t o e in
+      let id : (head o).id ≡ x = ap (λ (p : Operation). (head p).id) (sym s.3) ∙ s.2 in
+      let n = results_among x (all_operands (heads t)) in
+      let k = is_kept (head o).name in
+      let zero : is_zero (counts x) ≡ (is_unused (head o).id t && not k) =
+      ap is_zero (counted x ∙ ap (option_map (λ (o : Operation). results_among x (all_operands (heads t)) + one_if (is_kept (head o).name))) e)
+      ∙ none_left n k
+      ∙ ap (λ b. b && not k) (sym (unused_is x t) ∙ ap (λ y. is_unused y t) (sym id)) in
+      ap (λ b. b && may_go (effects own_of o)) zero ∙ and_right (is_unused (head o).id t) (not k) (may_go (effects own_of o))
+
+  judged_all : (x : ℕ) (rows : Option Row) → option_map (effects own_of) (find x t) ≡ option_map (λ (r : Row). r.has) rows → option_map (λ (r : Row). is_zero (counts x) && may_go r.has) rows ≡ option_map (is_dead t) (find x t)
+  judged_all x rows e = twice rows ∙ ap (option_map (λ s. is_zero (counts x) && may_go s)) (sym e) ∙ each (find x t) refl
+    where
+      twice : (r : Option Row) → option_map (λ (r : Row). is_zero (counts x) && may_go r.has) r ≡ option_map (λ s. is_zero (counts x) && may_go s) (option_map (λ (r : Row). r.has) r)
+      twice None = refl
+      twice (Some r) = refl
+
+      each : (o : Option Operation) → find x t ≡ o → option_map (λ s. is_zero (counts x) && may_go s) (option_map (effects own_of) o) ≡ option_map (is_dead t) o
+      each None f = refl
+      each (Some o) f = ap Some (judged_one x o f)
+
+pub judged_listed : (m : BTreeMap ℕ Row) (counts : Counts) (t : Operation) → tree.IsOrdered nat_cmp m → HasDistinctIds t → Whole (row_at m) (spots own_of None t) → Counted counts t → judged counts m.entries ≡ by_id (of_each (is_dead t) t)
+judged_listed m counts t ordered d h counted =
+    rising_same (judged counts m.entries) (by_id (of_each (is_dead t) t)) (judged_rising counts m.entries ordered) (each_rising (is_dead t) t d)
+    (λ x. look_judged counts x m.entries ∙ judged_all t counts counted x (row_at m x) (shown_found own_of t (row_at m) d h x) ∙ sym (each_look (is_dead t) t d x))
+
+-- ---- rows
+
+module _ (c : Things) where
+  rows_say : (rows : List Line) (xs : List ℕ) → map (λ (r : Line). r.cells.items) rows ≡ map (cell_of cell.Op) xs → rows_meaning c rows ≡ map (cell_of Op) xs
+  rows_say [] [] e = refl
+  rows_say [] (x ∷ xs) e = absurd cc
+  rows_say (r ∷ rs) [] e = absurd cc
+  rows_say (r ∷ rs) (x ∷ xs) e =
+      let one : r.cells.items ≡ cell_of cell.Op x = cc in
+      let rest : map (λ (r : Line). r.cells.items) rs ≡ map (cell_of cell.Op) xs = cc in
+      λ i. ap (map (cell_meaning c)) one i ∷ rows_say rs xs rest i
+
+  rows_known : (rows : List Line) (xs : List ℕ) → map (λ (r : Line). r.cells.items) rows ≡ map (cell_of cell.Op) xs → All (RowIsOf c) rows
+  rows_known [] xs e = All-nil (RowIsOf c)
+  rows_known (r ∷ rs) [] e = absurd cc
+  rows_known (r ∷ rs) (x ∷ xs) e =
+      let one : r.cells.items ≡ cell_of cell.Op x = cc in
+      let rest : map (λ (r : Line). r.cells.items) rs ≡ map (cell_of cell.Op) xs = cc in
+      All-cons (RowIsOf c) r rs (subst (All (CellIsOf c)) (sym one) (All-cons (CellIsOf c) (cell.Op x) [] (tt {0}) (All-nil (CellIsOf c)))) (rows_known rs xs rest)
+
+  pub shows_dead : (m : BTreeMap ℕ Row) (counts : Counts) (rows : List Line) (t : Operation) → tree.IsOrdered nat_cmp m → map (λ (r : Line). r.cells.items) rows ≡ map (cell_of cell.Op) (those (judged counts m.entries))
+      → HasDistinctIds t → Whole (row_at m) (spots own_of None t) → Counted counts t → Shows c rows (dead_rows t)
+  shows_dead m counts rows t ordered is d h counted =
+      let e = is ∙ ap (λ l. map (cell_of cell.Op) (those l)) (judged_listed m counts t ordered d h counted) in
+      record { says = rows_say rows (dead_of t) e; known = rows_known rows (dead_of t) e }
+
+  -- the same of a table that is lent
+  pub shown_by : (m lent : BTreeMap ℕ Row) (counts : Counts) (rows : List Line) (t : Operation) → lent ≡ m → tree.IsOrdered nat_cmp lent → map (λ (r : Line). r.cells.items) rows ≡ map (cell_of cell.Op) (those (judged counts lent.entries))
+      → HasDistinctIds t → Whole (row_at m) (spots own_of None t) → Counted counts t → Shows c rows (dead_rows t)
+  shown_by m lent counts rows t same ordered is d h counted = shows_dead lent counts rows t ordered is d (subst (λ (z : BTreeMap ℕ Row). Whole (row_at z) (spots own_of None t)) (sym same) h) counted

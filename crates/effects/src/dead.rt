@@ -1,0 +1,117 @@
+//! The listener that keeps the dead operations.
+ghost use Rattle.std.specs.Prelude.{◌≡◌, ◌≤◌, ◌+◌, ◌⊎◌, ℕ, None, true};
+ghost use Rattle.std.specs.Bool.{OnTrue};
+ghost use Rattle.ir_event.specs.Modules.{Module, things_in, module_in, shown_in};
+ghost use Rattle.ir_event.specs.Listener.{Told, ShowsTaken};
+ghost use Rattle.ir_event.specs.Step.{Step};
+ghost use Rattle.effects.specs.Counts.{counts_in, Counted};
+ghost use Rattle.effects.specs.Following.{is_take};
+
+use crate::counting::follow_counts;
+use crate::effects::Effects;
+use crate::report::dead_lines;
+use crate::tally::{enter_tree, raise_tree};
+use ir_event::analysis::Analysis;
+use ir_event::event::Event;
+use ir_event::row as report;
+use ir_event::row::{Kind, Memory, ReportFault};
+use ir_event::view::View;
+use ir_event::world::World;
+use ir_types::ids::OpId;
+use op_registry::registry::Registry;
+use std::alloc::Global;
+use std::collections::BTreeMap;
+
+/// The analysis `dead`: which operations nobody would miss.
+///
+/// It keeps the effects of operations, as the listener of effects does, and how often the results of each are used.
+#[derive(Drop)]
+pub struct Dead {
+    alloc: Global,
+    effects: Effects,
+    counts: BTreeMap<OpId, u32>,
+    stale: bool,
+}
+
+impl Dead {
+    ghost use Rattle.effects.specs.Listeners.{dead_listener};
+
+    /// A listener that has not begun, and is stale.
+    pub fn new(alloc: Global) -> Dead
+        ensures { (dead_listener result).stale ≡ true }
+    {
+        Dead {
+            alloc,
+            effects: Effects::new(alloc),
+            counts: BTreeMap::new(alloc),
+            stale: true,
+        }
+    }
+}
+
+/// Counts the uses of results in a world's module. It is false where memory was refused.
+fn tally(world: &World, counts: &mut BTreeMap<OpId, u32>) -> bool
+    ensures { ((y : ℕ) → counts_in counts.old y ≡ None) → OnTrue result (Counted (counts_in counts.new) (module_in world.now).tree) }
+{
+    let Ok(tree) = world.store.tree() else {
+        return false;
+    };
+    if !enter_tree(&world.ctx, &Registry::new(), &tree, counts) {
+        return false;
+    }
+    raise_tree(&tree, counts)
+}
+
+impl Analysis for Dead {
+    ghost use Rattle.effects.specs.Listeners.{dead_listener};
+
+    ghost meaning = { dead_listener };
+
+    fn kind(&self) -> Kind {
+        Kind::new(5)
+    }
+
+    fn begin(&mut self, world: &World) -> Result<(), Memory> {
+        // What was kept goes first, so that there is room for what is kept now.
+        self.counts = BTreeMap::new(self.alloc);
+        self.stale = true;
+        self.effects.begin(world)?;
+        if !tally(world, &mut self.counts) {
+            return Err(Memory);
+        }
+        self.stale = false;
+        Ok(())
+    }
+
+    fn told<'a>(&mut self, view: View<'a>, event: Event) -> View<'a>
+        ensures told { Told event (things_in view.entry.world.now) (module_in view.entry.world.now) (shown_in view.entry.world.now) (dead_listener self.old) (dead_listener self.new) }
+        ensures looks { (m : Module) → Step (things_in view.entry.world.now) event m (module_in view.entry.world.now) → ShowsTaken event m (shown_in view.entry.world.now)
+            → ((dead_listener self.old).agrees (things_in view.entry.world.now) m ⊎ ((dead_listener self.old).stale ≡ true)) → result.looks ≤ view.entry.looks + (dead_listener self.old).most event m (module_in view.entry.world.now) }
+        ensures world { result.world.now ≡ view.entry.world.now }
+        ensures twice { result.looks ≤ view.entry.looks + 2 }
+        ensures take { (m : Module) → is_take event ≡ true → Step (things_in view.entry.world.now) event m (module_in view.entry.world.now) → ShowsTaken event m (shown_in view.entry.world.now)
+            → (dead_listener self.old).agrees (things_in view.entry.world.now) m → (dead_listener self.new).agrees (things_in view.entry.world.now) (module_in view.entry.world.now) }
+    {
+        if self.stale {
+            return view;
+        }
+        let mut view = self.effects.told(view, event);
+        let followed = follow_counts(&mut self.counts, &mut view, &event);
+        self.stale = self.effects.stale() || !followed;
+        view
+    }
+
+    fn stale(&self) -> bool {
+        self.stale
+    }
+
+    fn report(&self, alloc: Global) -> Result<Vec<report::Row>, ReportFault> {
+        if self.stale {
+            return Err(ReportFault::Stale);
+        }
+        match dead_lines(alloc, self.effects.rows(), &self.counts) {
+            Ok(rows) => Ok(rows),
+            Err(_) => Err(ReportFault::Memory),
+        }
+    }
+}
