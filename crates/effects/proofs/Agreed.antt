@@ -4,8 +4,8 @@ use Rattle.std.specs.Prelude.{option_map}
 use Rattle.std.specs.List.{IsDistinct}
 use Rattle.ir_types.specs.Things.{Things}
 use Rattle.ir_types.specs.Terms.{name_term, type_term, attr_term}
-use Rattle.ir_tree.specs.Tree.{OpOf, Op, op, head}
-use Rattle.ir_tree.specs.Ids.{ids, find, first_of, HasDistinctIds}
+use Rattle.ir_tree.specs.Tree.{Op, op, head}
+use Rattle.ir_tree.specs.Ids.{find, first_of, HasDistinctIds}
 use Rattle.ir_tree.specs.Edits.{at, put_operand, change_part, change_entry}
 use Rattle.ir_tree.specs.Meaning.{Operation, meaning, key_before}
 use Rattle.ir_tree.proofs.Heads.{alike_operand, alike_entry}
@@ -19,7 +19,6 @@ use Rattle.ir_store.specs.Nodes.{Node as Numbered}
 use Rattle.std.specs.FinMap.{get}
 use Rattle.ir_event.specs.Step.{Step}
 use Rattle.ir_types.specs.Words.{is_table}
-use Rattle.op_registry.specs.declared.own.Own.{Own}
 use Rattle.effects.specs.Spots.{spots, Rows}
 use Rattle.op_registry.specs.Registry.{own_of}
 use Rattle.effects.specs.Effects.{own_by}

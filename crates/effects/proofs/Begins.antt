@@ -1,23 +1,22 @@
 -- A table that is made by putting in each operation of a tree.
-use Rattle.std.proofs.Common.{◌≡◌, ℕ, ◌+◌, List, [], ◌∷◌, ◌++◌, Bool, true, false, true≢false, Option, Some, None, ◌⊎◌, inl, inr, refl, map, sym, ap, ◌∙◌, subst, arith, cond, eqb, ◌&&◌, ◌||◌}
-use Rattle.std.proofs.lemmas.Bool.{eq-eqb, eqb-true}
-use Rattle.std.proofs.lemmas.Map.Keys.{IsDistinct-head, IsDistinct-tail}
+use Rattle.std.proofs.Common.{◌≡◌, ℕ, List, [], ◌∷◌, ◌++◌, false, true≢false, Option, Some, None, refl, map, sym, ap, ◌∙◌, subst, eqb, ◌||◌}
+use Rattle.std.proofs.lemmas.Bool.{eq-eqb}
+use Rattle.std.proofs.lemmas.Map.Keys.{IsDistinct-tail}
 use Rattle.std.specs.List.{IsDistinct, list_any}
 use Rattle.ir_tree.specs.Tree.{HeadOf, OpOf, op, RegionsOf, no_regions, region, RegionOf, empty, block, OpsOf, no_ops, next, head}
 use Rattle.ir_tree.specs.Ids.{ids, regions_ids, region_ids, ops_ids, HasDistinctIds}
-use Rattle.ir_tree.proofs.Moves.{Absent, absent_parts, neither}
+use Rattle.ir_tree.proofs.Moves.{Absent, absent_parts}
 use Rattle.ir_tree.proofs.Returns.{Present, halves, differ, absent_first}
 use Rattle.op_registry.specs.declared.own.Own.{Own}
 use Rattle.effects.specs.Effects.{none}
-use Rattle.ir_tree_laws.specs.Members.{In}
-use Rattle.effects.specs.Spots.{Spot, spots, regions_spots, region_spots, ops_spots, is_in, Lacks, Childless, Apart, Rows, Holds}
+use Rattle.effects.specs.Spots.{Spot, spots, regions_spots, region_spots, ops_spots, is_in, Lacks, Childless, Apart, Rows}
 use Rattle.effects.specs.Following.{Whole, PutIn, PutAll}
 use Rattle.ir_tree.specs.Tree.{Op, regions_of}
 use Rattle.ir_tree.specs.View.{region_view, op_view}
 use Rattle.ir_tree.specs.declared.tree.TreeOp.TheInside.{Inside}
 use Rattle.ir_tree_laws.proofs.Listed.{or_right}
-use Rattle.effects.proofs.Spotted.{present_left, present_right, flipped, spot_ids, lacks_absent, spots_ids, regions_spots_ids, region_spots_ids, ops_spots_ids, childless_op, childless_regions, childless_region, childless_ops}
-use Rattle.effects.proofs.Events.{Alike, holds_alike, alike_sym, alike_join, alike_cons, alike_moved}
+use Rattle.effects.proofs.Spotted.{present_left, present_right, flipped, lacks_absent, spots_ids, region_spots_ids, childless_op, childless_region}
+use Rattle.effects.proofs.Events.{Alike, holds_alike, alike_join, alike_moved}
 
 pub put_joined : (xs ys : List Spot) (a b c : Rows) → PutAll xs a b → PutAll ys b c → PutAll (xs ++ ys) a c
 put_joined [] ys a b c p q = subst (λ (z : Rows). PutAll ys z c) p q

@@ -1,18 +1,15 @@
 -- One step of a walk up.
-use Rattle.std.proofs.Common.{◌≡◌, ℕ, ◌+◌, ◌-◌, ◌≤◌, ◌<◌, List, [], ◌∷◌, Bool, true, false, true≢false, Option, Some, None, ◌⊎◌, inl, inr, refl, sym, ap, ◌∙◌, subst, arith, cond, eqb, ltb, ◌&&◌, ◌||◌, not}
+use Rattle.std.proofs.Common.{◌≡◌, ℕ, ◌+◌, ◌-◌, ◌≤◌, ◌<◌, List, [], ◌∷◌, Bool, true, false, true≢false, Option, Some, None, inl, inr, refl, sym, ap, ◌∙◌, subst, arith, cond, eqb, ◌&&◌, ◌||◌, not}
 use Rattle.std.specs.Prelude.{nat_lt}
-use Rattle.std.specs.Ordering.{nat_cmp}
 use Rattle.std.specs.Map.{lookup, set_value}
-use Rattle.std.specs.BTreeMap.{is_at}
-use Rattle.std.proofs.lemmas.Bool.{eq-eqb, ne_eqb, cases_eq, eqb-true}
+use Rattle.std.proofs.lemmas.Bool.{eq-eqb, cases_eq}
 use Rattle.ir_tree.proofs.Moves.{neither}
 use Rattle.effects.specs.declared.kinds.Kinds.{Kinds}
 use Rattle.op_registry.specs.declared.own.Own.{Own}
 use Rattle.effects.specs.declared.row.Counts.{Counts}
 use Rattle.effects.specs.declared.row.Row.{Row}
 use Rattle.effects.specs.Effects.{Effect, unknown, allocate, free, read, write, has, none, own_kinds, is_recursive, is_none, union}
-use Rattle.ir_tree_laws.specs.Members.{In}
-use Rattle.effects.specs.Spots.{Spot, one_if, is_in, weight, Apart, given, count_of, Rows, has_at, count_at, row_count, with_row, Holds}
+use Rattle.effects.specs.Spots.{Spot, one_if, Apart, given, count_of, Rows, count_at, row_count, with_row, Holds}
 use Rattle.effects.specs.Walks.{minus, both, present, lowered, raised, lost_row, gained_row, size, room, total}
 use Rattle.effects.proofs.Tables.{has_none, spot_of, climbed}
 use Rattle.effects.proofs.Laws.{has_union, some_of_sum, one_counts}

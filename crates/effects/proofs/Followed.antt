@@ -8,17 +8,14 @@ use Rattle.ir_types.specs.Terms.{TypeTerm, AttrTerm, name_term, type_term, attr_
 use Rattle.ir_types.specs.Words.{is_table}
 use Rattle.ir_tree.specs.declared.value.Value.{Value}
 use Rattle.ir_tree.specs.declared.place.Place.{Place}
-use Rattle.ir_tree.specs.Tree.{HeadOf, OpOf, Op, op, RegionsOf, no_regions, region, RegionOf, empty, block, OpsOf, no_ops, next, head, regions}
+use Rattle.ir_tree.specs.Tree.{HeadOf, OpOf, Op, op, RegionsOf, no_regions, region, empty, block, no_ops, next, head, regions}
 use Rattle.ir_tree.specs.Ids.{find, HasDistinctIds}
 use Rattle.ir_tree.specs.Edits.{at, put_operand, change_part, change_entry}
-use Rattle.ir_tree.specs.Maps.{map_head}
 use Rattle.ir_tree.specs.Meaning.{Operation, meaning, key_before}
-use Rattle.ir_tree.specs.Places.{without}
-use Rattle.ir_tree.specs.WellFormed.{ModuleOf}
 use Rattle.ir_tree.proofs.Heads.{alike_operand, alike_entry, entry_operands}
 use Rattle.ir_tree_laws.specs.Members.{In}
 use Rattle.ir_tree_laws.specs.Stands.{stands}
-use Rattle.ir_tree_laws.specs.Changes.{operand_at, HoldNone, Takes, SetsOperand, SetsEntry, Shifts}
+use Rattle.ir_tree_laws.specs.Changes.{operand_at, HoldNone, Takes, SetsOperand, Shifts}
 use Rattle.ir_tree_laws.proofs.Listed.{in_map}
 use Rattle.ir_tree_laws.proofs.Members.{found_stands}
 use Rattle.ir_event.specs.declared.event.Event.{Event}
@@ -34,10 +31,10 @@ use Rattle.effects.proofs.Changes.{on_true_is}
 use Rattle.effects.specs.Spots.{one_if}
 use Rattle.effects.specs.Dead.{is_kept}
 use Rattle.effects.specs.Heads.{heads, regions_heads, all_operands}
-use Rattle.effects.specs.Counts.{Counts, results_among, Counted, Raised, Lowered, AllEntered, EnteredWith, LeftWith, Exchanged, CountsFollowed, kept_by}
+use Rattle.effects.specs.Counts.{Counts, results_among, Counted, Raised, AllEntered, EnteredWith, LeftWith, Exchanged, CountsFollowed, kept_by}
 use Rattle.effects.proofs.Sorted.{look}
 use Rattle.effects.proofs.Shown.{look_each}
-use Rattle.effects.proofs.Headed.{tagged, HeadCut, cut_heads, heads_ids, heads_tagged, each_heads, mapped_heads, unused_among, head_in, stand_heads}
+use Rattle.effects.proofs.Headed.{cut_heads, heads_ids, heads_tagged, each_heads, mapped_heads, unused_among, head_in, stand_heads}
 use Rattle.effects.proofs.Tallies.{tallied, Different, put_tally, take_tally, moved_tally, same_tally, set_tally, begun_tally, mapped_tally}
 
 module _ {N T A : Type 0} where

@@ -1,7 +1,7 @@
 -- The heads of a tree in a list, as the tree changes.
-use Rattle.std.proofs.Common.{◌≡◌, ℕ, ◌+◌, List, [], ◌∷◌, ◌++◌, Bool, true, false, true≢false, Option, Some, None, refl, sym, ap, ◌∙◌, subst, cond, eqb, eq-eqb, ◌&&◌, ◌||◌, map, append_assoc, arith, inl, inr}
-use Rattle.std.specs.Prelude.{nat_lt, not, option_map}
-use Rattle.std.specs.List.{IsDistinct, list_all}
+use Rattle.std.proofs.Common.{◌≡◌, ℕ, ◌+◌, List, [], ◌∷◌, ◌++◌, Bool, true, false, true≢false, Option, Some, refl, sym, ap, ◌∙◌, subst, cond, eqb, eq-eqb, ◌&&◌, map, arith, inl, inr}
+use Rattle.std.specs.Prelude.{nat_lt, not}
+use Rattle.std.specs.List.{list_all}
 use Rattle.std.proofs.lemmas.Bool.{cases_eq, eqb-true}
 use Rattle.std.proofs.lemmas.List.{map-append}
 use Rattle.ir_tree.specs.declared.value.Value.{Value}
@@ -11,10 +11,9 @@ use Rattle.ir_tree.specs.Tree.{HeadOf, OpOf, op, RegionsOf, no_regions, region, 
 use Rattle.ir_tree.specs.Ids.{ids, find, HasDistinctIds}
 use Rattle.ir_tree.specs.Uses.{same_value, operand_uses, uses_of}
 use Rattle.ir_tree.specs.Frames.{owner_of}
-use Rattle.ir_tree.specs.Limits.{every}
 use Rattle.ir_tree.specs.Maps.{map_head, map_tree, map_regions, map_region, map_ops}
 use Rattle.ir_tree.specs.Edits.{each_head, regions_each_head, region_each_head, ops_each_head}
-use Rattle.ir_tree.specs.Places.{first_id, place_of, without}
+use Rattle.ir_tree.specs.Places.{place_of, without}
 use Rattle.ir_tree_laws.specs.Members.{In}
 use Rattle.ir_tree_laws.specs.Stands.{StepOf, StandOf, stand_id, stands, regions_stands, region_stands, ops_stands, gather, place_in, left_stand, dropping}
 use Rattle.ir_tree_laws.proofs.Listed.{gather-append}
@@ -22,7 +21,7 @@ use Rattle.ir_tree_laws.proofs.Readings.{step, stands_ids, stands_uses, stands_e
 use Rattle.ir_tree_laws.proofs.Members.{stand, stand_found}
 use Rattle.ir_tree_laws.proofs.Around.{member_of_place}
 use Rattle.ir_tree_laws.proofs.Without.{same_head}
-use Rattle.ir_tree_laws.proofs.Stretches.{Parted, part}
+use Rattle.ir_tree_laws.proofs.Stretches.{part}
 use Rattle.effects.specs.Spots.{one_if}
 use Rattle.effects.specs.Dead.{is_result_of, is_unused}
 use Rattle.effects.specs.Heads.{heads, regions_heads, region_heads, ops_heads, all_operands}

@@ -1,9 +1,9 @@
 -- What a report of dead operations shows.
-use Rattle.std.proofs.Common.{◌≡◌, ℕ, ◌+◌, ◌<◌, List, [], ◌∷◌, ◌++◌, Bool, true, false, Option, Some, None, refl, sym, ap, ◌∙◌, subst, arith, cond, eqb, ◌&&◌, map}
+use Rattle.std.proofs.Common.{◌≡◌, ℕ, ◌+◌, List, [], ◌∷◌, Bool, true, false, Option, Some, None, refl, sym, ap, ◌∙◌, subst, arith, cond, eqb, ◌&&◌, map}
 use Rattle.std.specs.Prelude.{option_map, nat_lt, not}
 use Rattle.std.specs.List.{AllByRecursion, All}
 use Rattle.std.specs.List.Sorted.{IsStrictlySortedBy}
-use Rattle.std.specs.Ordering.{nat_cmp, is_eq}
+use Rattle.std.specs.Ordering.{nat_cmp}
 use Rattle.std.specs.declared.cmp.Ordering.TheVariants.{Less}
 use Rattle.std.specs.Map.{lookup, keys_of}
 use Rattle.std.specs.BTreeMap.{BTreeMap, is_at}
@@ -16,7 +16,6 @@ use Rattle.ir_tree.specs.Tree.{head}
 use Rattle.ir_tree.specs.Ids.{HasDistinctIds, find}
 use Rattle.ir_tree.specs.Meaning.{Operation}
 use Rattle.ir_tree_laws.proofs.Members.{found_stands}
-use Rattle.ir_event.specs.declared.row.Cell.{Cell}
 use Rattle.ir_event.specs.declared.row.Cell.TheVariants as cell
 use Rattle.ir_event.specs.declared.row.Row.{Row as Line}
 use Rattle.ir_event.specs.Rows.{Op, cell_meaning, rows_meaning, CellIsOf, RowIsOf, Shows}

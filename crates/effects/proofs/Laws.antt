@@ -1,17 +1,16 @@
 -- A table that is right at each operation has the effects of each.
-use Rattle.std.proofs.Common.{◌≡◌, ℕ, ◌+◌, List, [], ◌∷◌, ◌++◌, Bool, true, false, true≢false, Option, Some, None, ◌⊎◌, inl, inr, refl, sym, ap, ◌∙◌, subst, arith, cond, eqb, ltb, ◌&&◌, ◌||◌, map}
+use Rattle.std.proofs.Common.{◌≡◌, ℕ, ◌+◌, List, [], ◌∷◌, ◌++◌, Bool, true, false, Option, Some, None, inl, inr, refl, sym, ap, ◌∙◌, arith, cond, eqb, ◌&&◌, ◌||◌}
 use Rattle.std.specs.Prelude.{nat_lt}
-use Rattle.std.proofs.lemmas.Bool.{eq-eqb, ne_eqb, cases_eq, eqb-true}
-use Rattle.std.proofs.lemmas.Map.Keys.{IsDistinct-head, IsDistinct-tail}
+use Rattle.std.proofs.lemmas.Bool.{eq-eqb, cases_eq}
+use Rattle.std.proofs.lemmas.Map.Keys.{IsDistinct-tail}
 use Rattle.std.specs.List.{IsDistinct, AllByRecursion, list_any}
-use Rattle.ir_tree.specs.Tree.{HeadOf, OpOf, op, RegionsOf, no_regions, region, RegionOf, empty, block, OpsOf, no_ops, next, head}
+use Rattle.ir_tree.specs.Tree.{HeadOf, OpOf, op, RegionsOf, no_regions, region, RegionOf, empty, block, OpsOf, no_ops, next}
 use Rattle.ir_tree.specs.Ids.{ids, regions_ids, region_ids, ops_ids}
 use Rattle.ir_tree.proofs.Moves.{Absent, absent_parts, neither}
 use Rattle.ir_tree.proofs.Returns.{Present, halves, differ, absent_first}
 use Rattle.effects.specs.declared.kinds.Kinds.{Kinds}
 use Rattle.op_registry.specs.declared.own.Own.{Own}
-use Rattle.effects.specs.Effects.{Effect, unknown, allocate, free, read, write, has, none, union, effects_by, effects, regions_effects, region_effects, ops_effects, own_kinds, is_recursive}
-use Rattle.ir_tree_laws.specs.Members.{In}
+use Rattle.effects.specs.Effects.{Effect, unknown, allocate, free, read, write, has, union, effects_by, effects, regions_effects, region_effects, ops_effects, own_kinds, is_recursive}
 use Rattle.effects.specs.Spots.{Spot, spots, regions_spots, region_spots, ops_spots, one_if, is_in, weight, Childless, given}
 use Rattle.effects.proofs.Tables.{has_none, weight_childless}
 use Rattle.effects.proofs.Spotted.{present_left, present_right, flipped, weight_joined, childless_op, childless_regions, childless_region, childless_ops}

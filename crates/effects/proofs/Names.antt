@@ -1,10 +1,10 @@
 -- The operations that define symbols are functions and modules.
-use Rattle.std.proofs.Common.{◌≡◌, ℕ, List, [], ◌∷◌, Bool, true, false, true≢false, Option, Some, None, refl, sym, ap, ◌∙◌, subst, cond, ◌&&◌, ◌||◌, map, codes}
+use Rattle.std.proofs.Common.{◌≡◌, ℕ, List, [], ◌∷◌, Bool, true, false, Some, refl, sym, ap, ◌∙◌, cond, ◌&&◌, ◌||◌, map, codes}
 use Rattle.std.specs.Prelude.{not}
 use Rattle.std.specs.List.{list_any, list_all, filter}
 use Rattle.std.specs.Str.{bytes_eq}
 use Rattle.std.proofs.lemmas.Slice.Eq.{bytes_eq-Decides}
-use Rattle.ir_tree_laws.proofs.Listed.{both, bool_cases}
+use Rattle.ir_tree_laws.proofs.Listed.{both}
 use Rattle.op_registry.specs.declared.definition.Trait.{Trait}
 use Rattle.op_registry.specs.declared.definition.Trait.TheVariants.{Terminator, Symbol}
 use Rattle.op_registry.specs.Rows.{Row, rows}
@@ -61,9 +61,10 @@ module _ (wanted : Trait) (n : List ℕ) where
   only_those (r ∷ rs) =
       ap (λ b. (bytes_eq n r.0 && is_among wanted r.1.traits) || b) (only_those rs)
       ∙ elim (is_among wanted r.1.traits) as (λ b. ((bytes_eq n r.0 && b) || list_any (bytes_eq n) (map (λ (r : Named). r.0) (filter (λ (r : Named). is_among wanted r.1.traits) rs)))
-      ≡ list_any (bytes_eq n) (map (λ (r : Named). r.0) (cond b (r ∷ filter (λ (r : Named). is_among wanted r.1.traits) rs) (filter (λ (r : Named). is_among wanted r.1.traits) rs))))
-      [ true ↦ ap (λ b. b || list_any (bytes_eq n) (map (λ (r : Named). r.0) (filter (λ (r : Named). is_among wanted r.1.traits) rs))) (and_true (bytes_eq n r.0))
-      | false ↦ ap (λ b. b || list_any (bytes_eq n) (map (λ (r : Named). r.0) (filter (λ (r : Named). is_among wanted r.1.traits) rs))) (and_false (bytes_eq n r.0)) ]
+      ≡ list_any (bytes_eq n) (map (λ (r : Named). r.0) (cond b (r ∷ filter (λ (r : Named). is_among wanted r.1.traits) rs) (filter (λ (r : Named). is_among wanted r.1.traits) rs)))) [
+        | true ↦ ap (λ b. b || list_any (bytes_eq n) (map (λ (r : Named). r.0) (filter (λ (r : Named). is_among wanted r.1.traits) rs))) (and_true (bytes_eq n r.0))
+        | false ↦ ap (λ b. b || list_any (bytes_eq n) (map (λ (r : Named). r.0) (filter (λ (r : Named). is_among wanted r.1.traits) rs))) (and_false (bytes_eq n r.0))
+      ]
     where
       and_true : (b : Bool) → (b && true) ≡ b
       and_true true = refl

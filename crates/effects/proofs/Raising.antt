@@ -1,17 +1,12 @@
 -- Uses counted one after another.
-use Rattle.std.proofs.Common.{◌≡◌, ℕ, ◌+◌, ◌-◌, ◌<◌, ◌≤◌, List, [], ◌∷◌, ◌++◌, Option, Some, None, refl, sym, ap, ◌∙◌, subst, arith, drop, length, Bool, true, map}
-use Rattle.std.specs.Prelude.{option_map, slice_get}
-use Rattle.std.specs.Bool.{OnTrue}
-use Rattle.std.proofs.lemmas.List.{at_drop_more}
-use Rattle.std.proofs.Math.ListN.{drop_of_length-le}
+use Rattle.std.proofs.Common.{◌≡◌, ℕ, ◌+◌, ◌-◌, List, [], ◌∷◌, ◌++◌, Option, Some, None, refl, ap, ◌∙◌, subst, arith, Bool, map}
+use Rattle.std.specs.Prelude.{option_map}
 use Rattle.ir_tree.specs.declared.value.Value.{Value}
 use Rattle.ir_tree.specs.Tree.{HeadOf, Op, regions_of}
 use Rattle.ir_tree.specs.View.{region_view, op_view}
 use Rattle.ir_tree.specs.declared.tree.TreeOp.TheInside.{Inside}
 use Rattle.effects.specs.Heads.{heads, regions_heads, all_operands}
-use Rattle.effects.specs.Spots.{one_if}
-use Rattle.effects.specs.Dead.{is_result_of}
-use Rattle.effects.specs.Counts.{Counts, results_among, Raised, Lowered, Entered, AllEntered, EnteredWith, LeftWith, Exchanged, with_count}
+use Rattle.effects.specs.Counts.{Counts, results_among, Raised, Lowered, Entered, AllEntered}
 use Rattle.effects.proofs.Headed.{among_joined}
 
 pub raised_none : (a : Counts) → Raised [] a a

@@ -1,16 +1,11 @@
 -- The rows of a table are those of the analysis.
-use Rattle.std.proofs.Common.{◌≡◌, ℕ, ◌+◌, ◌<◌, ◌≤◌, List, [], ◌∷◌, ◌++◌, Bool, true, false, true≢false, Option, Some, None, ◌⊎◌, inl, inr, refl, sym, ap, ◌∙◌, subst, arith, cond, eqb, map, ◌||◌}
-use Rattle.std.specs.Prelude.{option_map, nat_lt}
-use Rattle.std.specs.List.{IsDistinct, AllByRecursion, list_any, All}
-use Rattle.std.specs.List.Sorted.{IsStrictlySortedBy}
-use Rattle.std.specs.Ordering.{nat_cmp, is_eq}
-use Rattle.std.specs.declared.cmp.Ordering.TheVariants.{Less, Equal, Greater}
-use Rattle.std.specs.Map.{lookup, keys_of}
-use Rattle.std.specs.BTreeMap.{BTreeMap, is_at}
-use Rattle.std.proofs.lemmas.Bool.{eq-eqb, ne_eqb, cases_eq, eqb-true}
+use Rattle.std.proofs.Common.{◌≡◌, ℕ, ◌+◌, List, [], ◌∷◌, ◌++◌, true, false, true≢false, Option, Some, None, ◌⊎◌, inl, inr, refl, sym, ap, ◌∙◌, subst, arith, cond, eqb, map, ◌||◌}
+use Rattle.std.specs.Prelude.{option_map}
+use Rattle.std.specs.List.{IsDistinct, AllByRecursion, list_any}
+use Rattle.std.proofs.lemmas.Bool.{eq-eqb, ne_eqb, cases_eq}
 use Rattle.std.proofs.lemmas.List.{map-append}
 use Rattle.std.proofs.lemmas.Map.Keys.{IsDistinct-head, IsDistinct-tail}
-use Rattle.ir_tree.specs.Tree.{HeadOf, OpOf, op, RegionsOf, no_regions, region, RegionOf, empty, block, OpsOf, no_ops, next, head}
+use Rattle.ir_tree.specs.Tree.{OpOf, op, RegionsOf, no_regions, region, RegionOf, empty, block, OpsOf, no_ops, next}
 use Rattle.ir_tree.specs.Ids.{ids, regions_ids, region_ids, ops_ids, HasDistinctIds, find}
 use Rattle.ir_tree_laws.specs.Stands.{StepOf, StandOf, stand_id, stands, regions_stands, region_stands, ops_stands, stand_in}
 use Rattle.ir_tree_laws.proofs.Readings.{step, stands_ids, stands_find}
@@ -20,14 +15,14 @@ use Rattle.op_registry.specs.declared.own.Own.{Own}
 use Rattle.effects.specs.declared.row.Row.{Row}
 use Rattle.effects.specs.Effects.{Effect, unknown, allocate, free, read, write, has}
 use Rattle.ir_tree_laws.specs.Members.{In}
-use Rattle.effects.specs.Spots.{Spot, spots, Lacks, Rows, has_at, count_at, row_has, given, weight, Holds}
+use Rattle.effects.specs.Spots.{Spot, spots, Lacks, Rows, has_at, count_at, row_has, weight}
 use Rattle.effects.specs.Following.{Whole}
 use Rattle.effects.specs.Effects.{effects}
 use Rattle.effects.specs.Reports.{of_each, by_id}
 use Rattle.effects.proofs.Tables.{spot_of}
 use Rattle.effects.proofs.Spotted.{spot_ids, spots_ids}
 use Rattle.effects.proofs.Laws.{listed, regions_listed, region_listed, ops_listed, law}
-use Rattle.effects.proofs.Sorted.{look, Rising, NotIn, AllApart, rising_same, by_id_rising, by_id_look}
+use Rattle.effects.proofs.Sorted.{look, Rising, NotIn, AllApart, by_id_rising, by_id_look}
 
 abbrev Pair : Type 0
 Pair = ℕ × Kinds

@@ -1,10 +1,10 @@
 -- The operations of a tree in a list.
-use Rattle.std.proofs.Common.{◌≡◌, ℕ, ◌+◌, List, [], ◌∷◌, ◌++◌, Bool, true, false, true≢false, Option, Some, None, ◌⊎◌, inl, inr, refl, sym, ap, ◌∙◌, subst, arith, cond, eqb, ◌&&◌, ◌||◌, map, append_assoc}
-use Rattle.std.proofs.lemmas.Bool.{eq-eqb, ne_eqb, cases_eq, eqb-true}
+use Rattle.std.proofs.Common.{◌≡◌, ℕ, ◌+◌, List, [], ◌∷◌, ◌++◌, Bool, false, true≢false, Option, Some, inl, inr, refl, sym, ap, ◌∙◌, arith, eqb, ◌||◌, map}
+use Rattle.std.proofs.lemmas.Bool.{eq-eqb}
 use Rattle.std.proofs.lemmas.List.{map-append}
 use Rattle.std.proofs.lemmas.Map.Keys.{IsDistinct-head, IsDistinct-tail}
 use Rattle.std.specs.List.{IsDistinct, AllByRecursion, list_any}
-use Rattle.ir_tree.specs.Tree.{HeadOf, OpOf, op, RegionsOf, no_regions, region, RegionOf, empty, block, OpsOf, no_ops, next, head}
+use Rattle.ir_tree.specs.Tree.{OpOf, op, RegionsOf, no_regions, region, RegionOf, empty, block, OpsOf, no_ops, next}
 use Rattle.ir_tree.specs.Ids.{ids, regions_ids, region_ids, ops_ids}
 use Rattle.ir_tree.specs.Maps.{map_tree, map_regions, map_region, map_ops}
 use Rattle.ir_tree.proofs.Moves.{Absent, absent_parts, neither}
@@ -12,8 +12,7 @@ use Rattle.ir_tree.proofs.Returns.{Present, Halves, bool_cases}
 use Rattle.ir_tree_laws.proofs.Listed.{or_right}
 use Rattle.std.proofs.lemmas.List.Folds.{list_any-append}
 use Rattle.op_registry.specs.declared.own.Own.{Own}
-use Rattle.ir_tree_laws.specs.Members.{In}
-use Rattle.effects.specs.Spots.{Spot, spots, regions_spots, region_spots, ops_spots, one_if, is_in, weight, Lacks, Childless, Apart}
+use Rattle.effects.specs.Spots.{Spot, spots, regions_spots, region_spots, ops_spots, is_in, weight, Lacks, Childless, Apart}
 
 -- ---- joined lists
 

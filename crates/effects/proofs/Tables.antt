@@ -1,11 +1,9 @@
 -- Tables that hold lists of operations, as these change.
-use Rattle.std.proofs.Common.{◌≡◌, ℕ, ◌+◌, List, [], ◌∷◌, ◌++◌, Bool, true, false, Option, Some, None, ◌⊎◌, inl, inr, refl, sym, ap, ◌∙◌, subst, arith, cond, eqb, ◌&&◌}
-use Rattle.std.proofs.lemmas.Bool.{eq-eqb, ne_eqb, cases_eq, eqb-true}
+use Rattle.std.proofs.Common.{◌≡◌, ℕ, ◌+◌, List, [], ◌∷◌, Bool, true, false, Option, Some, None, ◌⊎◌, inl, inr, refl, sym, ap, ◌∙◌, subst, arith, cond, eqb, ◌&&◌}
+use Rattle.std.proofs.lemmas.Bool.{eq-eqb, ne_eqb, cases_eq}
 use Rattle.effects.specs.declared.kinds.Kinds.{Kinds}
-use Rattle.op_registry.specs.declared.own.Own.{Own}
-use Rattle.effects.specs.declared.row.Counts.{Counts}
 use Rattle.effects.specs.declared.row.Row.{Row}
-use Rattle.effects.specs.Effects.{Effect, unknown, allocate, free, read, write, has, none, own_kinds, is_recursive}
+use Rattle.effects.specs.Effects.{Effect, unknown, allocate, free, read, write, has, none, is_recursive}
 use Rattle.ir_tree_laws.specs.Members.{In}
 use Rattle.effects.specs.Spots.{Spot, one_if, is_in, weight, Lacks, Childless, Apart, given, count_of, Rows, row_has, row_count, has_at, count_at, with_row, Keeps, Holds}
 

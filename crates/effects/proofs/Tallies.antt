@@ -1,9 +1,8 @@
 -- Counts of uses as the heads of a tree change.
-use Rattle.std.proofs.Common.{◌≡◌, ℕ, zero, suc, ◌+◌, ◌-◌, ◌⊎◌, List, [], ◌∷◌, ◌++◌, Bool, true, false, true≢false, Option, Some, None, refl, sym, ap, ◌∙◌, subst, cond, eqb, eq-eqb, ◌&&◌, ◌||◌, map, arith, inl, inr}
+use Rattle.std.proofs.Common.{◌≡◌, ℕ, zero, suc, ◌+◌, ◌-◌, ◌⊎◌, List, [], ◌∷◌, ◌++◌, Bool, true, false, true≢false, Option, Some, None, refl, sym, ap, ◌∙◌, subst, cond, eqb, eq-eqb, map, arith, inl, inr}
 use Rattle.std.specs.Prelude.{option_map, slice_get, slice_set}
 use Rattle.std.specs.List.{IsDistinct, AllByRecursion}
-use Rattle.std.proofs.lemmas.Bool.{cases_eq, ne_eqb, eqb-true}
-use Rattle.std.proofs.lemmas.List.{map-append}
+use Rattle.std.proofs.lemmas.Bool.{cases_eq, ne_eqb}
 use Rattle.std.proofs.lemmas.Map.Keys.{IsDistinct-head, IsDistinct-tail}
 use Rattle.ir_tree.specs.declared.value.Value.{Value}
 use Rattle.ir_tree.specs.Tree.{HeadOf}
@@ -14,7 +13,7 @@ use Rattle.ir_tree_laws.specs.Members.{In}
 use Rattle.effects.specs.Spots.{one_if}
 use Rattle.effects.specs.Dead.{is_result_of}
 use Rattle.effects.specs.Heads.{all_operands}
-use Rattle.effects.specs.Counts.{Counts, results_among, with_count, Raised, Lowered, Entered, AllEntered, EnteredWith, LeftWith, Exchanged}
+use Rattle.effects.specs.Counts.{Counts, results_among, with_count, Raised, AllEntered, EnteredWith, LeftWith, Exchanged}
 use Rattle.effects.proofs.Sorted.{look, NotIn, AllApart}
 use Rattle.effects.proofs.Shown.{all_apart}
 use Rattle.effects.proofs.Headed.{tagged, among_joined, operands_joined}

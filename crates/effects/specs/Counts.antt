@@ -1,20 +1,19 @@
 -- How many uses the results of operations have: a table of counts, as it follows a tree.
-use Rattle.std.specs.Prelude.{◌≡◌, ℕ, ◌+◌, ◌-◌, nat_lt, List, [], ◌∷◌, eqb, Bool, false, not, ◌&&◌, Option, Some, None, option_map, if◌then◌else◌}
+use Rattle.std.specs.Prelude.{◌≡◌, ℕ, ◌+◌, ◌-◌, nat_lt, List, [], ◌∷◌, eqb, Bool, false, Option, Some, None, option_map, if◌then◌else◌}
 use Rattle.std.specs.Ordering.{nat_cmp}
 use Rattle.std.specs.BTreeMap.{BTreeMap}
 use Rattle.std.specs.BTreeMap as tree
 use Rattle.ir_types.specs.Things.{Things}
-use Rattle.ir_types.specs.Terms.{TypeTerm, AttrTerm, name_term}
+use Rattle.ir_types.specs.Terms.{name_term}
 use Rattle.ir_tree.specs.declared.value.Value.{Value}
-use Rattle.ir_tree.specs.Tree.{HeadOf, OpOf, head}
+use Rattle.ir_tree.specs.Tree.{HeadOf, head}
 use Rattle.ir_tree.specs.Ids.{find}
 use Rattle.ir_tree.specs.Meaning.{Operation}
 use Rattle.ir_event.specs.declared.event.Event.{Event}
 use Rattle.ir_event.specs.declared.event.Event.TheVariants.{Put, Take, SetOperand, SetEntry, Shift}
 use Rattle.ir_event.specs.Modules.{Node}
-use Rattle.effects.specs.declared.row.Row.{Row}
 use Rattle.effects.specs.Spots.{one_if}
-use Rattle.effects.specs.Dead.{is_result_of, is_kept, may_go}
+use Rattle.effects.specs.Dead.{is_result_of, is_kept}
 use Rattle.effects.specs.Heads.{heads, all_operands}
 
 -- a table of counts: that of an operation, if it has one

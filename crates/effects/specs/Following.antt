@@ -6,7 +6,7 @@ use Rattle.ir_event.specs.Modules.{Node}
 use Rattle.op_registry.specs.declared.own.Own.{Own}
 use Rattle.op_registry.specs.Registry.{own_of}
 use Rattle.effects.specs.Effects.{none}
-use Rattle.effects.specs.Spots.{Spot, spots, Apart, Childless, Rows, Holds}
+use Rattle.effects.specs.Spots.{Spot, Apart, Childless, Rows, Holds}
 
 -- a table keeps a list of operations, and each count is right
 abbrev pub Whole : Rows → List Spot → Type 0

@@ -38,8 +38,8 @@ pub(crate) fn put(rows: &mut BTreeMap<OpId, Row>, op: OpId, parent: Option<OpId>
 pub(crate) fn take(rows: &mut BTreeMap<OpId, Row>, op: OpId)
     ensures { TakenOut op (row_at rows.old) (row_at rows.new) }
 {
-    if let Some(row) = drop_row(rows, op) {
-        lose(rows, row.parent, &row.has);
+    if let Some(gone) = drop_row(rows, op) {
+        lose(rows, gone.parent, &gone.has);
     }
 }
 

@@ -1,8 +1,7 @@
-use Rattle.std.proofs.Common.{◌≡◌, ◌+◌, ◌∷◌, [], ◌≤◌, true, sym, ap, ◌∙◌, subst, rules, drop, length}
+use Rattle.std.proofs.Common.{◌+◌, ◌∷◌, [], ◌≤◌, sym, ◌∙◌, subst, rules, drop, length}
 use Rattle.std.proofs.lemmas.List.{at_drop_more}
 use Rattle.std.proofs.Math.ListN.{drop_of_length-le}
 use Rattle.effects.specs.Counts.{counts_in, Lowered}
-use Rattle.effects.proofs.Changes.{on_true_is}
 use Rattle.effects.proofs.Raising.{lowered_none, lowered_joined}
 use Rattle.effects.proofs.counts.lower_all.Goals as goal
 

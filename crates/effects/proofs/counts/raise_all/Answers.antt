@@ -1,4 +1,4 @@
-use Rattle.std.proofs.Common.{◌≡◌, ◌+◌, ◌∷◌, [], ◌≤◌, true, sym, ap, ◌∙◌, subst, rules, drop, length}
+use Rattle.std.proofs.Common.{◌≡◌, ◌+◌, ◌∷◌, [], ◌≤◌, true, sym, ◌∙◌, subst, rules, drop, length}
 use Rattle.std.proofs.lemmas.List.{at_drop_more}
 use Rattle.std.proofs.Math.ListN.{drop_of_length-le}
 use Rattle.effects.specs.Counts.{counts_in, Raised}

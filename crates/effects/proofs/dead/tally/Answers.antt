@@ -1,4 +1,4 @@
-use Rattle.std.proofs.Common.{◌≡◌, true, sym, subst, rules}
+use Rattle.std.proofs.Common.{◌≡◌, true, subst, rules}
 use Rattle.effects.specs.Heads.{heads, all_operands}
 use Rattle.effects.specs.Counts.{counts_in, kept_by, AllEntered, Raised}
 use Rattle.effects.proofs.Changes.{on_true_is, on_true_more}

@@ -1,4 +1,4 @@
-use Rattle.std.proofs.Common.{◌≡◌, ◌||◌, ◌⊎◌, true, false, true≢false, Some, refl, sym, ◌∙◌, inl, inr, subst, rules}
+use Rattle.std.proofs.Common.{◌≡◌, ◌||◌, true≢false, Some, refl, sym, ◌∙◌, inl, inr, subst, rules}
 use Rattle.std.specs.Prelude.{not}
 use Rattle.std.specs.Bool.{OnTrue}
 use Rattle.ir_event.specs.Modules.{module_in, shown_in}
@@ -21,7 +21,7 @@ returns-clause-told c =
     record {
       same = record { kind = refl; analysis = λ t. refl; most = λ e m n. refl };
       agrees = λ m step shows held. elim (both_followed w.ctx c.args.event m (module_in w) (shown_in w) a b step (shown_there w) shows held.1.1 (own.agrees w.ctx (module_in w)) c.told-view.new.self.stale c.follow_counts-followed.result counts (own.fresh w.ctx (module_in w))
-      (c.told-view.ensures.told.agrees m step shows held.1.0)) [ inl h ↦ inl (is ∙ h.0, h.1) | inr h ↦ inr (is ∙ h) ];
+          (c.told-view.ensures.told.agrees m step shows held.1.0)) [ inl h ↦ inl (is ∙ h.0, h.1) | inr h ↦ inr (is ∙ h) ];
       stale = λ h. absurd (true≢false (sym h ∙ c.if-self.false));
       heard = inl refl;
     }
