@@ -13,7 +13,6 @@ use crate::tally::is_kept;
 use ir_event::event::Event;
 use ir_event::view::View;
 use ir_types::ids::OpId;
-use op_registry::registry::Registry;
 use std::collections::BTreeMap;
 
 /// Puts in an operation that is shown. It is false where it isn't, or memory was refused.
@@ -25,7 +24,7 @@ fn put_shown(counts: &mut BTreeMap<OpId, u32>, view: &mut View<'_>, op: OpId) ->
     let Some(node) = view.node(op) else {
         return false;
     };
-    let kept = is_kept(view.context(), &Registry::new(), node.name());
+    let kept = is_kept(view.context(), view.registry(), node.name());
     put(counts, op, kept, node.operands())
 }
 

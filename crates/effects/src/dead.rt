@@ -18,7 +18,6 @@ use ir_event::row::{Kind, Memory, ReportFault};
 use ir_event::view::View;
 use ir_event::world::World;
 use ir_types::ids::OpId;
-use op_registry::registry::Registry;
 use std::alloc::Global;
 use std::collections::BTreeMap;
 
@@ -56,7 +55,7 @@ fn tally(world: &World, counts: &mut BTreeMap<OpId, u32>) -> bool
     let Ok(tree) = world.store.tree() else {
         return false;
     };
-    if !enter_tree(&world.ctx, &Registry::new(), &tree, counts) {
+    if !enter_tree(&world.ctx, &world.registry, &tree, counts) {
         return false;
     }
     raise_tree(&tree, counts)

@@ -16,7 +16,6 @@ use ir_event::row::{Kind, Memory, ReportFault};
 use ir_event::view::View;
 use ir_event::world::World;
 use ir_types::ids::OpId;
-use op_registry::registry::Registry;
 use std::alloc::Global;
 use std::collections::BTreeMap;
 
@@ -66,7 +65,7 @@ impl Analysis for Effects {
         let Ok(tree) = world.store.tree() else {
             return Err(Memory);
         };
-        if !put_tree(&world.ctx, &Registry::new(), &tree, None, &mut self.rows) {
+        if !put_tree(&world.ctx, &world.registry, &tree, None, &mut self.rows) {
             return Err(Memory);
         }
         self.stale = false;

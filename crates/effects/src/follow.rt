@@ -14,7 +14,6 @@ use ir_event::event::Event;
 use ir_event::view::View;
 use ir_types::ids::OpId;
 use op_registry::own::Own;
-use op_registry::registry::Registry;
 use std::collections::BTreeMap;
 
 /// What an operation that is shown has by itself.
@@ -24,7 +23,7 @@ fn own_at(view: &mut View<'_>, op: OpId) -> Option<Own>
     ensures looks { view.new.looks ≡ one_more view.old.looks }
 {
     let node = view.node(op)?;
-    Some(own(view.context(), &Registry::new(), node.name()))
+    Some(own(view.context(), view.registry(), node.name()))
 }
 
 /// Follows an event. It is false where memory was refused, or an operation that was put isn't shown.
