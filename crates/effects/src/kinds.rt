@@ -6,7 +6,7 @@ ghost use Rattle.effects.specs.Walks.{minus};
 use op_registry::own::Own;
 
 /// Which effects an operation has (Rationale, "Side Effects & Speculation").
-#[derive(Clone, Copy, Debug, PartialEq, Eq)]
+#[derive(Clone, Copy)]
 pub struct Kinds {
     pub unknown: bool,
     pub allocate: bool,

@@ -9,7 +9,7 @@ use ir_types::ids::OpId;
 use op_registry::own::Own;
 
 /// How many operations have each effect.
-#[derive(Clone, Copy, Debug)]
+#[derive(Clone, Copy)]
 pub struct Counts {
     pub unknown: u32,
     pub allocate: u32,
@@ -20,7 +20,7 @@ pub struct Counts {
 
 /// An operation: the one around it, whether it is recursive, its effects, and how many of the operations directly
 /// inside have each.
-#[derive(Clone, Copy, Debug)]
+#[derive(Clone, Copy)]
 pub struct Row {
     pub parent: Option<OpId>,
     pub recursive: bool,
