@@ -21,12 +21,11 @@ use Rattle.ir_tree_laws.proofs.Members.{found_stands}
 use Rattle.ir_event.specs.declared.event.Event.{Event}
 use Rattle.ir_event.specs.declared.event.Event.TheVariants.{Put, Take, SetOperand, SetEntry, Shift}
 use Rattle.ir_event.specs.Modules.{Module, Node}
-use Rattle.ir_event.specs.Listener.{ShowsTaken}
+use Rattle.ir_event.specs.Listener.{ShowsTaken, is_take}
 use Rattle.ir_store.specs.Nodes.{node_of}
 use Rattle.effects.proofs.Agreed.{ShowsAll}
 use Rattle.ir_event.specs.Step.{Step}
 use Rattle.ir_event.specs.Bounds.{op_of}
-use Rattle.effects.specs.Following.{is_take}
 use Rattle.effects.proofs.Changes.{on_true_is}
 use Rattle.effects.specs.Spots.{one_if}
 use Rattle.effects.specs.Dead.{is_kept}

@@ -1,5 +1,5 @@
 -- How a table follows events.
-use Rattle.std.specs.Prelude.{◌≡◌, ℕ, List, [], ◌∷◌, Option, Some, None, Bool, true, false}
+use Rattle.std.specs.Prelude.{◌≡◌, ℕ, List, [], ◌∷◌, Option, Some, None}
 use Rattle.ir_event.specs.declared.event.Event.{Event}
 use Rattle.ir_event.specs.declared.event.Event.TheVariants.{Put, Take, SetOperand, SetEntry, Shift}
 use Rattle.ir_event.specs.Modules.{Node}
@@ -36,11 +36,3 @@ Followed shown (Shift x old new) a b = ShiftedTo x (Some new.parent) a b
 abbrev pub PutAll : List Spot → Rows → Rows → Type 0
 PutAll [] a b = b ≡ a
 PutAll (n ∷ ns) a b = (m : Rows) × PutIn n.id n.parent n.own a m × PutAll ns m b
-
--- the event takes an operation out
-abbrev pub is_take : Event → Bool
-is_take (Put x place fresh) = false
-is_take (Take x place fresh) = true
-is_take (SetOperand x k old new) = false
-is_take (SetEntry x part key old new) = false
-is_take (Shift x old new) = false

@@ -31,6 +31,7 @@ abbrev mutual
   ops_spots own p no_ops = []
   ops_spots own p (next o os) = spots own (Some p) o ++ ops_spots own p os
 
+-- one, where something holds
 abbrev pub one_if : Bool → ℕ
 one_if b = if b then 1 else 0
 
@@ -63,6 +64,7 @@ Apart (n ∷ ns) = Lacks n.id ns × Apart ns
 abbrev pub given : Effect → Own → ℕ → Bool
 given e own count = if is_recursive own then nat_lt 0 count else has e (own_kinds own)
 
+-- how many have an effect
 abbrev pub count_of : Effect → Counts → ℕ
 count_of unknown c = c.unknown
 count_of allocate c = c.allocate
@@ -74,10 +76,12 @@ count_of write c = c.write
 abbrev pub Rows : Type 0
 Rows = ℕ → Option Row
 
+-- what a row says of an effect, if there is one
 abbrev pub row_has : Effect → Option Row → Bool
 row_has e None = false
 row_has e (Some r) = has e r.has
 
+-- and how many operations directly inside it says have the effect
 abbrev pub row_count : Effect → Option Row → ℕ
 row_count e None = 0
 row_count e (Some r) = count_of e r.counts

@@ -39,6 +39,7 @@ pub(crate) fn put_tree(
     true
 }
 
+/// Puts in the operations of a region.
 #[cycle(collect)]
 fn put_region(
     ctx: &Context,

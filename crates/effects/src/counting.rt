@@ -4,9 +4,9 @@ ghost use Rattle.std.specs.Bool.{OnTrue};
 ghost use Rattle.ir_event.specs.Looks.{one_more};
 ghost use Rattle.ir_event.specs.Modules.{Node as Shown, shown_in};
 ghost use Rattle.ir_event.specs.Bounds.{op_of};
+ghost use Rattle.ir_event.specs.Listener.{is_take};
 ghost use Rattle.effects.specs.Dead.{is_kept};
 ghost use Rattle.effects.specs.Counts.{counts_in, EnteredWith, LeftWith, CountsFollowed};
-ghost use Rattle.effects.specs.Following.{is_take};
 
 use crate::counts::{exchange, put, take};
 use crate::tally::is_kept;

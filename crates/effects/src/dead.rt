@@ -2,10 +2,9 @@
 ghost use Rattle.std.specs.Prelude.{◌≡◌, ◌≤◌, ◌+◌, ◌⊎◌, ℕ, None, true};
 ghost use Rattle.std.specs.Bool.{OnTrue};
 ghost use Rattle.ir_event.specs.Modules.{Module, things_in, module_in, shown_in};
-ghost use Rattle.ir_event.specs.Listener.{Told, ShowsTaken};
+ghost use Rattle.ir_event.specs.Listener.{Told, ShowsTaken, is_take};
 ghost use Rattle.ir_event.specs.Step.{Step};
 ghost use Rattle.effects.specs.Counts.{counts_in, Counted};
-ghost use Rattle.effects.specs.Following.{is_take};
 
 use crate::counting::follow_counts;
 use crate::effects::Effects;
@@ -21,9 +20,9 @@ use ir_types::ids::OpId;
 use std::alloc::Global;
 use std::collections::BTreeMap;
 
-/// The analysis `dead`: which operations nobody would miss.
+/// The analysis `dead`: which operations nobody would miss (Operation Canonicalization, "General Design").
 ///
-/// It keeps the effects of operations, as the listener of effects does, and how often the results of each are used.
+/// It keeps the effects of operations, as the listener of effects does, and for each how many uses its results have.
 #[derive(Drop)]
 pub struct Dead {
     alloc: Global,
@@ -48,7 +47,8 @@ impl Dead {
     }
 }
 
-/// Counts the uses of results in a world's module. It is false where memory was refused.
+/// Counts the uses of results in a world's module, where no operation has a count so far. It is false where memory
+/// was refused.
 fn tally(world: &World, counts: &mut BTreeMap<OpId, u32>) -> bool
     ensures { ((y : ℕ) → counts_in counts.old y ≡ None) → OnTrue result (Counted (counts_in counts.new) (module_in world.now).tree) }
 {
@@ -82,6 +82,8 @@ impl Analysis for Dead {
         Ok(())
     }
 
+    /// Where it agreed before an operation was taken, and that one is shown, it agrees afterwards, and isn't stale. It
+    /// looks at most twice, at an operation that was put or taken.
     fn told<'a>(&mut self, view: View<'a>, event: Event) -> View<'a>
         ensures told { Told event (things_in view.entry.world.now) (module_in view.entry.world.now) (shown_in view.entry.world.now) (dead_listener self.old) (dead_listener self.new) }
         ensures looks { (m : Module) → Step (things_in view.entry.world.now) event m (module_in view.entry.world.now) → ShowsTaken event m (shown_in view.entry.world.now)

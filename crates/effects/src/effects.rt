@@ -1,9 +1,8 @@
 //! The listener that keeps the effects of operations.
 ghost use Rattle.std.specs.Prelude.{◌≡◌, ◌≤◌, ◌+◌, ◌⊎◌, true};
 ghost use Rattle.ir_event.specs.Modules.{Module, things_in, module_in, shown_in};
-ghost use Rattle.ir_event.specs.Listener.{Told, ShowsTaken};
+ghost use Rattle.ir_event.specs.Listener.{Told, ShowsTaken, is_take};
 ghost use Rattle.ir_event.specs.Step.{Step};
-ghost use Rattle.effects.specs.Following.{is_take};
 
 use crate::collect::put_tree;
 use crate::follow::follow;
@@ -19,7 +18,10 @@ use ir_types::ids::OpId;
 use std::alloc::Global;
 use std::collections::BTreeMap;
 
-/// The analysis `effects`: which effects each operation has.
+/// The analysis `effects`: which effects each operation has (Rationale, "Side Effects & Speculation").
+///
+/// It keeps of each operation the one around it, its effects, and how many of the operations directly inside have each
+/// effect; where one of these gains or loses an effect, what is around it follows as far as that changes anything.
 #[derive(Drop)]
 pub struct Effects {
     alloc: Global,
@@ -72,6 +74,8 @@ impl Analysis for Effects {
         Ok(())
     }
 
+    /// Where it agreed before an operation was taken it agrees afterwards, and isn't stale. It looks once, at an
+    /// operation that was put.
     fn told<'a>(&mut self, view: View<'a>, event: Event) -> View<'a>
         ensures told { Told event (things_in view.entry.world.now) (module_in view.entry.world.now) (shown_in view.entry.world.now) (effects_listener self.old) (effects_listener self.new) }
         ensures looks { (m : Module) → Step (things_in view.entry.world.now) event m (module_in view.entry.world.now) → ShowsTaken event m (shown_in view.entry.world.now)

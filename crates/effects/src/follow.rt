@@ -1,11 +1,12 @@
-//! The table follows an event.
+//! The table of effects follows an event.
 ghost use Rattle.std.specs.Prelude.{◌≡◌, ◌≤◌, ◌+◌, option_map, true};
 ghost use Rattle.std.specs.Bool.{OnTrue};
 ghost use Rattle.op_registry.specs.Registry.{own_of};
 ghost use Rattle.ir_event.specs.Looks.{one_more};
 ghost use Rattle.ir_event.specs.Modules.{shown_in};
+ghost use Rattle.ir_event.specs.Listener.{is_take};
 ghost use Rattle.effects.specs.Walks.{row_at};
-ghost use Rattle.effects.specs.Following.{Followed, is_take};
+ghost use Rattle.effects.specs.Following.{Followed};
 
 use crate::own::own;
 use crate::row::Row;

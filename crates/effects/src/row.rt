@@ -8,7 +8,7 @@ use crate::kinds::{Kinds, recursive};
 use ir_types::ids::OpId;
 use op_registry::own::Own;
 
-/// How many operations have each effect.
+/// How many of some operations have each effect.
 #[derive(Clone, Copy)]
 pub struct Counts {
     pub unknown: u32,
@@ -28,12 +28,14 @@ pub struct Row {
     pub counts: Counts,
 }
 
+/// One less, where one goes.
 fn lower(count: u32, less: bool) -> u32
     ensures { result ≡ count - one_if less }
 {
     if less { count.saturating_sub(1) } else { count }
 }
 
+/// One more, where one comes, unless the count would pass its type.
 fn raise(count: u32, more: bool) -> Option<u32>
     ensures { IfSome result (λ c. c ≡ count + one_if more) }
 {
@@ -58,7 +60,7 @@ impl Counts {
         }
     }
 
-    /// One more of each of these effects.
+    /// One more of each of these effects, unless a count would pass its type.
     fn raised(&self, more: &Kinds) -> Option<Counts>
         ensures { IfSome result (λ c. c ≡ raised self.now more.now) }
     {
@@ -90,6 +92,7 @@ impl Counts {
     }
 }
 
+/// What is in both of two sets.
 fn both(a: &Kinds, b: &Kinds) -> Kinds
     ensures { result ≡ both a.now b.now }
 {
@@ -102,6 +105,7 @@ fn both(a: &Kinds, b: &Kinds) -> Kinds
     }
 }
 
+/// What is in one of two sets.
 fn union_of(a: &Kinds, b: &Kinds) -> Kinds
     ensures { result ≡ union a.now b.now }
 {

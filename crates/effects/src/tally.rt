@@ -47,6 +47,7 @@ pub(crate) fn enter_tree(
     true
 }
 
+/// Gives the operations of a region their counts.
 #[cycle(enter)]
 fn enter_region(
     ctx: &Context,
@@ -82,6 +83,7 @@ pub(crate) fn raise_tree(root: &TreeOp, counts: &mut BTreeMap<OpId, u32>) -> boo
     true
 }
 
+/// Counts the operands in a region.
 #[cycle(raise)]
 fn raise_region(region: &TreeRegion, counts: &mut BTreeMap<OpId, u32>) -> bool
     ensures { OnTrue result (Raised (all_operands (region_heads (region_view region.now))) (counts_in counts.old) (counts_in counts.new)) }
