@@ -1,0 +1,25 @@
+-- The analysis of diagnostics: which operations of a tree break which rules.
+use Rattle.std.specs.Prelude.{ℕ, List, [], ◌∷◌, ◌++◌, Option, option_map}
+use Rattle.ir_tree.specs.Meaning.{Operation}
+use Rattle.ir_event.specs.Rows.{RowTerm, Op, Rule}
+use Rattle.surroundings.specs.Surroundings.{surroundings}
+use Rattle.surroundings.specs.Facts.{sorted_facts}
+use Rattle.ir_verify.specs.Breaks.{broken}
+
+-- the rules that operation x of a tree breaks, if it is there
+abbrev pub broken_at : ℕ → Operation → Option (List ℕ)
+broken_at x t = option_map broken (surroundings x t)
+
+-- the rows of an operation, by the rules' numbers
+abbrev pub rule_rows : ℕ → List ℕ → List RowTerm
+rule_rows x [] = []
+rule_rows x (r ∷ rs) = (Op x ∷ Rule r ∷ []) ∷ rule_rows x rs
+
+-- those of several
+abbrev pub rows_of : List (ℕ × List ℕ) → List RowTerm
+rows_of [] = []
+rows_of (e ∷ es) = rule_rows e.0 e.1 ++ rows_of es
+
+-- the rows of a tree, by operation and rule
+abbrev pub diagnostics_of : Operation → List RowTerm
+diagnostics_of t = rows_of (sorted_facts broken t)

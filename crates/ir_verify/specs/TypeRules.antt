@@ -1,0 +1,122 @@
+-- The rules on types, of an operation of right form.
+use Rattle.std.specs.Prelude.{ℕ, ◌+◌, pos, List, [], ◌∷◌, codes, length, Bool, true, false, not, ◌==◌, ◌&&◌, ◌||◌, nat_lt, Option, Some, None, option_and_then}
+use Rattle.std.specs.Str.{bytes_eq}
+use Rattle.std.specs.Ordering.{int_eq}
+use Rattle.std.specs.Cmp.Lexicographic.{pointwise}
+use Rattle.ir_types.specs.Terms.{TypeTerm, AttrTerm, DenseArray}
+use Rattle.op_registry.specs.Rows.{Row, RegionRow}
+use Rattle.op_registry.specs.Properties.{integer_of}
+use Rattle.ir_verify.specs.Types.{same_type, width_of, is_index, is_number, memref_of}
+use Rattle.ir_verify.specs.Fits.{Surroundings, Known, known_of, property, there, types_fit}
+
+-- whether an operation has a name
+abbrev pub is_named : Surroundings → List ℕ → Bool
+is_named s name = bytes_eq s.node.head.name name
+
+-- rule 2: the first operand that the row calls a number is none, or an operand's type isn't what the row calls it
+abbrev pub is_no_number : Option TypeTerm → Bool
+is_no_number None = false
+is_no_number (Some t) = not (is_number t)
+
+abbrev pub breaks_2 : Row → Surroundings → Bool
+breaks_2 row s = is_no_number (known_of row s).number || not (types_fit (known_of row s) row.operands s.types)
+
+-- rule 4: a result's type isn't what the row calls it
+abbrev pub breaks_4 : Row → Surroundings → Bool
+breaks_4 row s = not (types_fit (known_of row s) row.results (there s.node.head.results))
+
+-- rule 7: the types of the arguments of a block aren't what the row calls them
+abbrev pub arguments_differ : Known → RegionRow → Option (List TypeTerm) → Bool
+arguments_differ known region None = false
+arguments_differ known region (Some args) = not (types_fit known region.arguments (there args))
+
+abbrev pub any_differ : Known → List RegionRow → List (Option (List TypeTerm)) → Bool
+any_differ known (region ∷ regions) (args ∷ more) = arguments_differ known region args || any_differ known regions more
+any_differ known _ _ = false
+
+abbrev pub breaks_7 : Row → Surroundings → Bool
+breaks_7 row s = any_differ (known_of row s) row.regions s.node.arguments
+
+-- rule 14: the value of a constant isn't of its result's type
+abbrev pub is_of_another : Option (TypeTerm × ℕ) → List TypeTerm → Bool
+is_of_another (Some integer) (t ∷ []) = not (same_type integer.0 t)
+is_of_another _ _ = false
+
+abbrev pub breaks_14 : Surroundings → Bool
+breaks_14 s = is_named s (codes "arith.constant") && is_of_another (option_and_then integer_of (property (codes "value") s.node)) s.node.head.results
+
+-- the widths of the one operand and the one result, where both are signless integers
+abbrev pub width_in : Option TypeTerm → Option ℕ
+width_in t = option_and_then width_of t
+
+abbrev pub both_widths : (ℕ → ℕ → Bool) → Option ℕ → Option ℕ → Bool
+both_widths test (Some v) (Some w) = test v w
+both_widths test _ _ = false
+
+abbrev pub widths_are : (ℕ → ℕ → Bool) → List (Option TypeTerm) → List TypeTerm → Bool
+widths_are test (t ∷ []) (u ∷ []) = both_widths test (width_in t) (width_of u)
+widths_are test _ _ = false
+
+-- rule 18: an extension not to a greater width, or a truncation not to a smaller one
+abbrev pub breaks_18 : Surroundings → Bool
+breaks_18 s =
+    ((is_named s (codes "arith.extsi") || is_named s (codes "arith.extui")) && widths_are (λ v w. not (nat_lt v w)) s.types s.node.head.results)
+    || (is_named s (codes "arith.trunci") && widths_are (λ v w. not (nat_lt w v)) s.types s.node.head.results)
+
+-- rule 19: not exactly one of the operand and the result of an index cast is an index
+abbrev pub is_an_index : Option TypeTerm → Bool
+is_an_index None = false
+is_an_index (Some t) = is_index t
+
+abbrev pub not_one : Bool → Bool → Bool
+not_one true b = b
+not_one false b = not b
+
+abbrev pub not_one_index : List (Option TypeTerm) → List TypeTerm → Bool
+not_one_index (t ∷ []) (u ∷ []) = not_one (is_an_index t) (is_index u)
+not_one_index _ _ = false
+
+abbrev pub breaks_19 : Surroundings → Bool
+breaks_19 s = (is_named s (codes "arith.index_cast") || is_named s (codes "arith.index_castui")) && not_one_index s.types s.node.head.results
+
+-- rule 20: a memref is read or written by another number of indices than its rank, or as another type than its elements';
+-- or a memref is made by another number of operands than it has dimensions that aren't known
+abbrev pub element_differs : Option (List (Option ℕ) × TypeTerm) → ℕ → Option TypeTerm → Bool
+element_differs (Some memref) indices (Some t) = not (indices == length memref.0) || not (same_type t memref.1)
+element_differs (Some memref) indices None = not (indices == length memref.0)
+element_differs None indices t = false
+
+abbrev pub load_differs : List (Option TypeTerm) → List TypeTerm → Bool
+load_differs (m ∷ indices) (t ∷ []) = element_differs (option_and_then memref_of m) (length indices) (Some t)
+load_differs _ _ = false
+
+abbrev pub store_differs : List (Option TypeTerm) → Bool
+store_differs (t ∷ m ∷ indices) = element_differs (option_and_then memref_of m) (length indices) t
+store_differs _ = false
+
+abbrev pub unknown_count : List (Option ℕ) → ℕ
+unknown_count [] = 0
+unknown_count (None ∷ dims) = unknown_count dims + 1
+unknown_count (Some d ∷ dims) = unknown_count dims
+
+abbrev pub sizes_differ : ℕ → Option (List (Option ℕ) × TypeTerm) → Bool
+sizes_differ sizes None = false
+sizes_differ sizes (Some memref) = not (sizes == unknown_count memref.0)
+
+abbrev pub alloc_differs : List (Option TypeTerm) → List TypeTerm → Bool
+alloc_differs sizes (t ∷ []) = sizes_differ (length sizes) (memref_of t)
+alloc_differs sizes _ = false
+
+abbrev pub breaks_20 : Surroundings → Bool
+breaks_20 s =
+    (is_named s (codes "memref.load") && load_differs s.types s.node.head.results)
+    || ((is_named s (codes "memref.store") && store_differs s.types)
+    || (is_named s (codes "memref.alloc") && alloc_differs s.types s.node.head.results))
+
+-- rule 24: the segment sizes of an allocation of n operands are there, and aren't n and 0
+abbrev pub segments_differ : ℕ → Option AttrTerm → Bool
+segments_differ n (Some (DenseArray ty values)) = not (pointwise int_eq values (pos n ∷ pos 0 ∷ []))
+segments_differ n _ = false
+
+abbrev pub breaks_24 : Surroundings → Bool
+breaks_24 s = is_named s (codes "memref.alloc") && segments_differ (length s.types) (property (codes "operandSegmentSizes") s.node)

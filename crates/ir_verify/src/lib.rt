@@ -1,0 +1,2 @@
+//! The verifier: which rules the operations of a module break.
+#![tactic(auto)]

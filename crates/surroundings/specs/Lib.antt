@@ -1,0 +1,4 @@
+pub mod Surroundings
+pub mod Near
+pub mod Facts
+pub mod Mapped

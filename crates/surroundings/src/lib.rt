@@ -1,0 +1,2 @@
+//! Which facts about operations an event can change: those about operations near it alone.
+#![tactic(auto)]
