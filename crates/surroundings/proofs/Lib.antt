@@ -1,0 +1,10 @@
+pub mod Typed
+pub mod Spots
+pub mod Left
+pub mod Alike
+pub mod Moves
+pub mod Heads
+pub mod Near
+pub mod Tables
+pub mod SortedFacts
+pub mod Meanings

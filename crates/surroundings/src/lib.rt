@@ -1,2 +1,4 @@
 //! Which facts about operations an event can change: those about operations near it alone.
 #![tactic(auto)]
+
+pub mod laws;

@@ -1,0 +1,42 @@
+-- A table in the order of ids that keeps the facts of a tree has them in that order.
+use Rattle.std.proofs.Common.{◌≡◌, refl, sym, ◌∙◌, ℕ, Bool, true, false, true≢false, cond, eqb, eq-eqb, eqb-true, List, [], ◌∷◌, Some, inl, inr, IsTrue}
+use lib.Dec.{T}
+use Rattle.std.specs.Prelude.{option_map}
+use Rattle.std.specs.Ordering.{nat_cmp, eq_by_cmp}
+use Rattle.std.specs.Cmp.{unsigned_tied}
+use Rattle.std.specs.FinMap.{nat_cmp-IsAntisymmetric}
+use Rattle.std.specs.FinMap.Entries.{find, is_sorted, find-put, is_sorted-put, same_entries}
+use Rattle.std.proofs.lemmas.Cmp.{nat_cmp_total}
+use Rattle.ir_tree.specs.Tree.{OpOf}
+use Rattle.ir_tree_laws.specs.Stands.{StandOf, stand_id, stands, stand_in}
+use Rattle.surroundings.specs.Surroundings.{SurroundingsOf, surround}
+use Rattle.surroundings.specs.Facts.{fact_of, sorted_in, sorted_facts}
+use Rattle.ir_tree_laws.proofs.Listed.{bool_cases}
+
+tied : (q k : ℕ) → eq_by_cmp nat_cmp q k ≡ eqb k q
+tied q k = unsigned_tied q k ∙ turned q k
+  where
+    turned : (a b : ℕ) → eqb a b ≡ eqb b a
+    turned a b = elim (bool_cases (eqb b a)) [
+      | inl e ↦ eq-eqb a b (sym (eqb-true b a e)) ∙ sym e
+      | inr e ↦ elim (bool_cases (eqb a b)) [ inl k ↦ absurd (true≢false (sym (eq-eqb b a (sym (eqb-true a b k))) ∙ e)) | inr k ↦ k ∙ sym e ]
+    ]
+
+as_T : (b : Bool) → b ≡ true → T b
+as_T true e = tt
+as_T false e = absurd (true≢false (sym e))
+
+module _ {N U A F : Type 0} (fact : SurroundingsOf N U A → F) (t : OpOf N U A) where
+  found : (q : ℕ) (ss : List (StandOf N U A)) → find nat_cmp q (sorted_in fact t ss) ≡ option_map fact (option_map (surround t) (stand_in q ss))
+  found q [] = refl
+  found q (s ∷ ss) =
+      find-put nat_cmp nat_cmp_total q (stand_id s) (fact (surround t s)) (sorted_in fact t ss)
+      ∙ (λ i. cond (tied q (stand_id s) i) (Some (fact (surround t s))) (found q ss i))
+      ∙ elim (eqb (stand_id s) q) as (λ b. cond b (Some (fact (surround t s))) (option_map fact (option_map (surround t) (stand_in q ss))) ≡ option_map fact (option_map (surround t) (cond b (Some s) (stand_in q ss)))) [ true ↦ refl | false ↦ refl ]
+
+  is_in_order : (ss : List (StandOf N U A)) → T (is_sorted nat_cmp (sorted_in fact t ss))
+  is_in_order [] = tt
+  is_in_order (s ∷ ss) = is_sorted-put nat_cmp nat_cmp_total (stand_id s) (fact (surround t s)) (sorted_in fact t ss) (is_in_order ss)
+
+  pub kept_in_order : (es : List (ℕ × F)) → IsTrue (is_sorted nat_cmp es) → ((q : ℕ) → find nat_cmp q es ≡ fact_of fact t q) → es ≡ sorted_facts fact t
+  kept_in_order es o h = same_entries nat_cmp nat_cmp_total nat_cmp-IsAntisymmetric es (sorted_facts fact t) (as_T (is_sorted nat_cmp es) o) (is_in_order (stands [] t)) (λ q. h q ∙ sym (found q (stands [] t)))
