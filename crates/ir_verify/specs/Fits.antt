@@ -1,11 +1,12 @@
 -- Whether types are those that a row of the operation table names.
-use Rattle.std.specs.Prelude.{if◌then◌else◌, ℕ, ◌+◌, List, [], ◌∷◌, map, length, drop, codes, Bool, true, false, ◌==◌, ◌&&◌, nat_le, Option, Some, None, option_map, option_and_then, unwrap_or}
+use Rattle.std.specs.Prelude.{if◌then◌else◌, ℕ, ◌+◌, List, [], ◌∷◌, map, length, drop, codes, Bool, true, false, ◌==◌, ◌&&◌, ◌||◌, nat_le, Option, Some, None, option_map, option_and_then, unwrap_or, slice_get}
 use Rattle.std.specs.List.{list_all}
+use Rattle.std.specs.Str.{bytes_eq}
 use Rattle.std.specs.Option.{option_eq}
 use Rattle.ir_types.specs.Terms.{TypeTerm, AttrTerm}
 use Rattle.op_registry.specs.declared.definition.TypeRule.{TypeRule}
 use Rattle.op_registry.specs.declared.definition.TypeRule.TheVariants as type
-use Rattle.op_registry.specs.Rows.{TypesRow, Row}
+use Rattle.op_registry.specs.Rows.{TypesRow, RegionRow, Row}
 use Rattle.op_registry.specs.Registry.{beside}
 use Rattle.op_registry.specs.Properties.{type_of}
 use Rattle.ir_store.specs.Nodes.{NodeOf}
@@ -22,6 +23,10 @@ Outer = OuterOf (List ℕ) TypeTerm AttrTerm
 abbrev pub Surroundings : Type 0
 Surroundings = SurroundingsOf (List ℕ) TypeTerm AttrTerm
 
+-- whether an operation has a name
+abbrev pub is_named : Node → List ℕ → Bool
+is_named node name = bytes_eq node.head.name name
+
 -- the property of an operation at a key
 abbrev pub property : List ℕ → Node → Option AttrTerm
 property key node = beside key node.head.properties
@@ -29,6 +34,16 @@ property key node = beside key node.head.properties
 -- the inputs and outputs of the function type that an operation has as property
 abbrev pub function_type : Node → Option (List TypeTerm × List TypeTerm)
 function_type node = option_and_then function_of (option_and_then type_of (property (codes "function_type") node))
+
+-- the types of the arguments of the block of region k, if it has one
+abbrev pub block_at : ℕ → Node → Option (List TypeTerm)
+block_at k node = option_and_then (λ args. args) (slice_get node.arguments k)
+
+-- whether one of the regions of a row passes a test with its number; no row has more than two
+abbrev pub any_region : (ℕ → RegionRow → Bool) → List RegionRow → Bool
+any_region test [] = false
+any_region test (region ∷ []) = test 0 region
+any_region test (region ∷ second ∷ more) = test 0 region || test 1 second
 
 -- types that are all there
 abbrev pub there : List TypeTerm → List (Option TypeTerm)

@@ -1,5 +1,6 @@
 pub mod Types
 pub mod Fits
+pub mod Numbers
 pub mod Shapes
 pub mod TypeRules
 pub mod BlockRules

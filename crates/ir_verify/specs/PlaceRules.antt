@@ -1,5 +1,5 @@
 -- The rules on where an operation stands.
-use Rattle.std.specs.Prelude.{if◌then◌else◌, ℕ, List, [], ◌∷◌, codes, drop, Bool, true, false, not, ◌&&◌, Option, Some, None, option_map, option_and_then}
+use Rattle.std.specs.Prelude.{if◌then◌else◌, ℕ, List, [], ◌∷◌, codes, drop, Bool, true, false, not, ◌&&◌, ◌||◌, Option, Some, None, option_map, option_and_then}
 use Rattle.std.specs.Str.{bytes_eq}
 use Rattle.std.specs.List.{list_any}
 use Rattle.ir_types.specs.Terms.{TypeTerm}
@@ -8,9 +8,8 @@ use Rattle.op_registry.specs.declared.definition.Trait.TheVariants.{Terminator}
 use Rattle.op_registry.specs.Rows.{Row}
 use Rattle.op_registry.specs.Registry.{row_of, has_trait}
 use Rattle.ir_verify.specs.Types.{same_types}
-use Rattle.ir_verify.specs.Fits.{Node, Outer, Surroundings, there, function_type}
+use Rattle.ir_verify.specs.Fits.{Node, Outer, Surroundings, is_named, block_at, there, function_type}
 use Rattle.ir_verify.specs.Shapes.{is_well_shaped}
-use Rattle.ir_verify.specs.TypeRules.{is_named}
 
 -- whether an operation ends no block
 abbrev pub ends_none : Option Node → Bool
@@ -40,7 +39,7 @@ breaks_11 row s = has_trait Terminator s.node.head.name && stands_elsewhere row.
 
 -- rule 23: a function stands in a listed operation that is no module
 abbrev pub breaks_23 : Surroundings → Bool
-breaks_23 s = is_named s (codes "func.func") && stands_elsewhere (codes "builtin.module" ∷ []) s.outer
+breaks_23 s = is_named s.node (codes "func.func") && stands_elsewhere (codes "builtin.module" ∷ []) s.outer
 
 -- the operation whose block an operation ends, where it is of right form
 abbrev pub if_well_shaped : Node → Option Row → Option Node
@@ -60,31 +59,27 @@ differ (Some wanted) types = not (same_types wanted types)
 
 -- the types that a function returns
 abbrev pub returned : Node → Option (List (Option TypeTerm))
-returned parent = if bytes_eq parent.head.name (codes "func.func") then option_map (λ (f : List TypeTerm × List TypeTerm). there f.1) (function_type parent) else None
+returned parent = if is_named parent (codes "func.func") then option_map (λ (f : List TypeTerm × List TypeTerm). there f.1) (function_type parent) else None
 
 -- rule 15: a return at the end of a function has operands of other types than the function's outputs
 abbrev pub breaks_15 : Surroundings → Bool
-breaks_15 s = is_named s (codes "func.return") && differ (option_and_then returned (ended_of s)) s.types
+breaks_15 s = is_named s.node (codes "func.return") && differ (option_and_then returned (ended_of s)) s.types
 
 -- the types that an operation wants from a yield: of its results, or in a while loop of the arguments of the first block
-abbrev pub first_arguments : List (Option (List TypeTerm)) → Option (List (Option TypeTerm))
-first_arguments [] = None
-first_arguments (args ∷ more) = option_map there args
-
 abbrev pub yielded : Node → Option (List (Option TypeTerm))
 yielded parent =
-    if bytes_eq parent.head.name (codes "scf.while") then first_arguments parent.arguments
-    else if is_one parent.head.name (codes "scf.for" ∷ codes "scf.if" ∷ []) then Some (there parent.head.results)
+    if is_named parent (codes "scf.while") then option_map there (block_at 0 parent)
+    else if is_named parent (codes "scf.for") || is_named parent (codes "scf.if") then Some (there parent.head.results)
     else None
 
 -- rule 16: a yield at the end of a block has operands of other types
 abbrev pub breaks_16 : Surroundings → Bool
-breaks_16 s = is_named s (codes "scf.yield") && differ (option_and_then yielded (ended_of s)) s.types
+breaks_16 s = is_named s.node (codes "scf.yield") && differ (option_and_then yielded (ended_of s)) s.types
 
 -- the types that a while loop wants from a condition: of its results
 abbrev pub passed : Node → Option (List (Option TypeTerm))
-passed parent = if bytes_eq parent.head.name (codes "scf.while") then Some (there parent.head.results) else None
+passed parent = if is_named parent (codes "scf.while") then Some (there parent.head.results) else None
 
 -- rule 17: a condition at the end of a block has, after the first, operands of other types
 abbrev pub breaks_17 : Surroundings → Bool
-breaks_17 s = is_named s (codes "scf.condition") && differ (option_and_then passed (ended_of s)) (drop 1 s.types)
+breaks_17 s = is_named s.node (codes "scf.condition") && differ (option_and_then passed (ended_of s)) (drop 1 s.types)

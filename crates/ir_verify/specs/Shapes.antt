@@ -40,6 +40,12 @@ is_wrong node p = is_refused p.key (property p.key node)
 abbrev pub breaks_13 : Row → Node → Bool
 breaks_13 row node = list_any (is_wrong node) row.properties
 
--- whether an operation's own form is right
+-- whether an operation's own form is right: its counts and its properties
+abbrev pub has_wrong_counts : Row → Node → Bool
+has_wrong_counts row node = breaks_1 row node || (breaks_3 row node || breaks_5 row node)
+
+abbrev pub has_wrong_properties : Row → Node → Bool
+has_wrong_properties row node = breaks_12 row node || breaks_13 row node
+
 abbrev pub is_well_shaped : Row → Node → Bool
-is_well_shaped row node = not (breaks_1 row node || (breaks_3 row node || (breaks_5 row node || (breaks_12 row node || breaks_13 row node))))
+is_well_shaped row node = not (has_wrong_counts row node || has_wrong_properties row node)

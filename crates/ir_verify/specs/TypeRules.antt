@@ -1,5 +1,5 @@
 -- The rules on types, of an operation of right form.
-use Rattle.std.specs.Prelude.{ℕ, ◌+◌, pos, List, [], ◌∷◌, codes, length, Bool, true, false, not, ◌==◌, ◌&&◌, ◌||◌, nat_lt, Option, Some, None, option_and_then}
+use Rattle.std.specs.Prelude.{if◌then◌else◌, ℕ, ◌+◌, pos, List, [], ◌∷◌, codes, length, Bool, true, false, not, ◌==◌, ◌&&◌, ◌||◌, nat_le, Option, Some, None, option_and_then}
 use Rattle.std.specs.Str.{bytes_eq}
 use Rattle.std.specs.Ordering.{int_eq}
 use Rattle.std.specs.Cmp.Lexicographic.{pointwise}
@@ -7,11 +7,7 @@ use Rattle.ir_types.specs.Terms.{TypeTerm, AttrTerm, DenseArray}
 use Rattle.op_registry.specs.Rows.{Row, RegionRow}
 use Rattle.op_registry.specs.Properties.{integer_of}
 use Rattle.ir_verify.specs.Types.{same_type, width_of, is_index, is_number, memref_of}
-use Rattle.ir_verify.specs.Fits.{Surroundings, Known, known_of, property, there, types_fit}
-
--- whether an operation has a name
-abbrev pub is_named : Surroundings → List ℕ → Bool
-is_named s name = bytes_eq s.node.head.name name
+use Rattle.ir_verify.specs.Fits.{Node, Surroundings, Known, known_of, is_named, property, block_at, any_region, there, types_fit}
 
 -- rule 2: the first operand that the row calls a number is none, or an operand's type isn't what the row calls it
 abbrev pub is_no_number : Option TypeTerm → Bool
@@ -30,12 +26,11 @@ abbrev pub arguments_differ : Known → RegionRow → Option (List TypeTerm) →
 arguments_differ known region None = false
 arguments_differ known region (Some args) = not (types_fit known region.arguments (there args))
 
-abbrev pub any_differ : Known → List RegionRow → List (Option (List TypeTerm)) → Bool
-any_differ known (region ∷ regions) (args ∷ more) = arguments_differ known region args || any_differ known regions more
-any_differ known _ _ = false
+abbrev pub any_differ : Known → List RegionRow → Node → Bool
+any_differ known regions node = any_region (λ k region. arguments_differ known region (block_at k node)) regions
 
 abbrev pub breaks_7 : Row → Surroundings → Bool
-breaks_7 row s = any_differ (known_of row s) row.regions s.node.arguments
+breaks_7 row s = any_differ (known_of row s) row.regions s.node
 
 -- rule 14: the value of a constant isn't of its result's type
 abbrev pub is_of_another : Option (TypeTerm × ℕ) → List TypeTerm → Bool
@@ -43,25 +38,41 @@ is_of_another (Some integer) (t ∷ []) = not (same_type integer.0 t)
 is_of_another _ _ = false
 
 abbrev pub breaks_14 : Surroundings → Bool
-breaks_14 s = is_named s (codes "arith.constant") && is_of_another (option_and_then integer_of (property (codes "value") s.node)) s.node.head.results
+breaks_14 s = is_named s.node (codes "arith.constant") && is_of_another (option_and_then integer_of (property (codes "value") s.node)) s.node.head.results
 
 -- the widths of the one operand and the one result, where both are signless integers
-abbrev pub width_in : Option TypeTerm → Option ℕ
-width_in t = option_and_then width_of t
+abbrev pub both_widths : Option ℕ → Option ℕ → Option (ℕ × ℕ)
+both_widths (Some v) (Some w) = Some (v, w)
+both_widths _ _ = None
 
-abbrev pub both_widths : (ℕ → ℕ → Bool) → Option ℕ → Option ℕ → Bool
-both_widths test (Some v) (Some w) = test v w
-both_widths test _ _ = false
+abbrev pub widths : List (Option TypeTerm) → List TypeTerm → Option (ℕ × ℕ)
+widths (t ∷ []) (u ∷ []) = both_widths (option_and_then width_of t) (width_of u)
+widths _ _ = None
 
-abbrev pub widths_are : (ℕ → ℕ → Bool) → List (Option TypeTerm) → List TypeTerm → Bool
-widths_are test (t ∷ []) (u ∷ []) = both_widths test (width_in t) (width_of u)
-widths_are test _ _ = false
+-- whether there are such widths, and that of the result isn't greater
+abbrev pub no_greater : Option (ℕ × ℕ) → Bool
+no_greater None = false
+no_greater (Some p) = nat_le p.1 p.0
+
+abbrev pub isnt_greater : List (Option TypeTerm) → List TypeTerm → Bool
+isnt_greater operands results = no_greater (widths operands results)
+
+-- or isn't smaller
+abbrev pub no_smaller : Option (ℕ × ℕ) → Bool
+no_smaller None = false
+no_smaller (Some p) = nat_le p.0 p.1
+
+abbrev pub isnt_smaller : List (Option TypeTerm) → List TypeTerm → Bool
+isnt_smaller operands results = no_smaller (widths operands results)
 
 -- rule 18: an extension not to a greater width, or a truncation not to a smaller one
+abbrev pub is_extension : Node → Bool
+is_extension node = is_named node (codes "arith.extsi") || is_named node (codes "arith.extui")
+
 abbrev pub breaks_18 : Surroundings → Bool
 breaks_18 s =
-    ((is_named s (codes "arith.extsi") || is_named s (codes "arith.extui")) && widths_are (λ v w. not (nat_lt v w)) s.types s.node.head.results)
-    || (is_named s (codes "arith.trunci") && widths_are (λ v w. not (nat_lt w v)) s.types s.node.head.results)
+    if is_named s.node (codes "arith.trunci") then isnt_smaller s.types s.node.head.results
+    else is_extension s.node && isnt_greater s.types s.node.head.results
 
 -- rule 19: not exactly one of the operand and the result of an index cast is an index
 abbrev pub is_an_index : Option TypeTerm → Bool
@@ -76,8 +87,11 @@ abbrev pub not_one_index : List (Option TypeTerm) → List TypeTerm → Bool
 not_one_index (t ∷ []) (u ∷ []) = not_one (is_an_index t) (is_index u)
 not_one_index _ _ = false
 
+abbrev pub is_index_cast : Node → Bool
+is_index_cast node = is_named node (codes "arith.index_cast") || is_named node (codes "arith.index_castui")
+
 abbrev pub breaks_19 : Surroundings → Bool
-breaks_19 s = (is_named s (codes "arith.index_cast") || is_named s (codes "arith.index_castui")) && not_one_index s.types s.node.head.results
+breaks_19 s = is_index_cast s.node && not_one_index s.types s.node.head.results
 
 -- rule 20: a memref is read or written by another number of indices than its rank, or as another type than its elements';
 -- or a memref is made by another number of operands than it has dimensions that aren't known
@@ -109,9 +123,9 @@ alloc_differs sizes _ = false
 
 abbrev pub breaks_20 : Surroundings → Bool
 breaks_20 s =
-    (is_named s (codes "memref.load") && load_differs s.types s.node.head.results)
-    || ((is_named s (codes "memref.store") && store_differs s.types)
-    || (is_named s (codes "memref.alloc") && alloc_differs s.types s.node.head.results))
+    (is_named s.node (codes "memref.load") && load_differs s.types s.node.head.results)
+    || ((is_named s.node (codes "memref.store") && store_differs s.types)
+    || (is_named s.node (codes "memref.alloc") && alloc_differs s.types s.node.head.results))
 
 -- rule 24: the segment sizes of an allocation of n operands are there, and aren't n and 0
 abbrev pub segments_differ : ℕ → Option AttrTerm → Bool
@@ -119,4 +133,4 @@ segments_differ n (Some (DenseArray ty values)) = not (pointwise int_eq values (
 segments_differ n _ = false
 
 abbrev pub breaks_24 : Surroundings → Bool
-breaks_24 s = is_named s (codes "memref.alloc") && segments_differ (length s.types) (property (codes "operandSegmentSizes") s.node)
+breaks_24 s = is_named s.node (codes "memref.alloc") && segments_differ (length s.types) (property (codes "operandSegmentSizes") s.node)

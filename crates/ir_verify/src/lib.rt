@@ -1,2 +1,10 @@
 //! The verifier: which rules the operations of a module break.
 #![tactic(auto)]
+
+mod block_rules;
+mod fits;
+mod node;
+mod place_rules;
+mod shapes;
+mod type_rules;
+mod types;

@@ -2,3 +2,4 @@ pub mod Surroundings
 pub mod Near
 pub mod Facts
 pub mod Mapped
+pub mod Gathered

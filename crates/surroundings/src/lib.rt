@@ -1,4 +1,5 @@
 //! Which facts about operations an event can change: those about operations near it alone.
 #![tactic(auto)]
 
+pub mod around;
 pub mod laws;

@@ -1,0 +1,163 @@
+//! The rules on the blocks of an operation of right form.
+ghost use Rattle.std.specs.Prelude.{◌≡◌, ◌==◌, Some, map, length, not, slice_get, option_and_then};
+ghost use Rattle.std.specs.Option.{option_map};
+ghost use Rattle.ir_types.specs.Terms.{name_term};
+ghost use Rattle.ir_types.specs.WordNames.{word_bytes};
+ghost use Rattle.op_registry.specs.Registry.{region_row};
+ghost use Rattle.op_registry.specs.Properties.{string_of as string_in};
+ghost use Rattle.surroundings.specs.Gathered.{NodeIsOf, AroundIsOf};
+ghost use Rattle.ir_verify.specs.Numbers.{node_in, around_in, row_in};
+ghost use Rattle.ir_verify.specs.Fits as fits;
+ghost use Rattle.ir_verify.specs.BlockRules as rules;
+
+use crate::node::{has_block, is_named, property, string_of};
+use ir_store::node::Node;
+use ir_types::context::Context;
+use ir_types::ids::NameId;
+use ir_types::word::Word;
+use op_registry::definition::{OpDef, RegionRule, Trait};
+use op_registry::registry::Registry;
+use surroundings::around::Around;
+
+/// The name of the last operation of the block of a region.
+fn last(ctx: &Context, around: &Around<'_>, region: u32) -> Option<NameId>
+    ensures { option_map (name_term ctx.now) result ≡ rules.last_at region (around_in ctx.now around.now) }
+{
+    last_of(ctx, &around.lasts, region)
+}
+
+fn last_of(_ctx: &Context, lasts: &[Option<NameId>], region: u32) -> Option<NameId>
+    ensures { option_map (name_term _ctx.now) result ≡ option_and_then (λ last. last) (slice_get (map (option_map (name_term _ctx.now)) lasts.now) region) }
+{
+    match lasts.get(region as usize) {
+        None => None,
+        Some(last) => *last,
+    }
+}
+
+/// Rule 6: a region that must have a block has none.
+pub(crate) fn breaks_6(ctx: &Context, def: &OpDef, around: &Around<'_>) -> bool
+    requires { AroundIsOf ctx.now around.now }
+    ensures { result ≡ rules.breaks_6 (row_in def.now) (around_in ctx.now around.now) }
+{
+    any_without(ctx, def.regions, &around.node)
+}
+
+fn any_without(ctx: &Context, regions: &[RegionRule], node: &Node<'_>) -> bool
+    requires { NodeIsOf ctx.now node.now }
+    ensures { result ≡ fits.any_region (rules.is_without (node_in ctx.now node.now)) (map region_row regions.now) }
+{
+    match regions {
+        [] => false,
+        [one] => is_without(ctx, one, node, 0),
+        [one, two, ..] => is_without(ctx, one, node, 0) || is_without(ctx, two, node, 1),
+    }
+}
+
+fn is_without(ctx: &Context, region: &RegionRule, node: &Node<'_>, number: u32) -> bool
+    requires { NodeIsOf ctx.now node.now }
+    ensures { result ≡ rules.is_without (node_in ctx.now node.now) number (region_row region.now) }
+{
+    !region.may_be_empty && !has_block(ctx, node, number)
+}
+
+/// Rule 8: the block of a function is empty, or its last operation is listed and no terminator.
+pub(crate) fn breaks_8(ctx: &Context, registry: &Registry, around: &Around<'_>) -> bool
+    requires { AroundIsOf ctx.now around.now }
+    ensures { result ≡ rules.breaks_8 (around_in ctx.now around.now) }
+{
+    is_named(ctx, &around.node, Word::FuncFunc)
+        && has_block(ctx, &around.node, 0)
+        && ends_badly(ctx, registry, last(ctx, around, 0))
+}
+
+fn ends_badly(ctx: &Context, registry: &Registry, last: Option<NameId>) -> bool
+    ensures { result ≡ rules.ends_badly (option_map (name_term ctx.now) last) }
+{
+    match last {
+        None => true,
+        Some(name) => is_listed_and_ends_none(ctx, registry, name),
+    }
+}
+
+fn is_listed_and_ends_none(ctx: &Context, registry: &Registry, name: NameId) -> bool
+    ensures { result ≡ rules.ends_badly (Some (name_term ctx.now name)) }
+{
+    ctx.sound();
+    ctx.listed(name) && !registry.has(name, Trait::Terminator)
+}
+
+/// Rule 9: the last operation of a block isn't the one that must end it, or the block is empty.
+pub(crate) fn breaks_9(ctx: &Context, around: &Around<'_>) -> bool
+    requires { AroundIsOf ctx.now around.now }
+    ensures { result ≡ rules.breaks_9 (around_in ctx.now around.now) }
+{
+    if is_named(ctx, &around.node, Word::ScfWhile) {
+        return ends_otherwise(ctx, around, 0, Word::ScfCondition)
+            || ends_otherwise(ctx, around, 1, Word::ScfYield);
+    }
+    if is_named(ctx, &around.node, Word::ScfIf) {
+        return ends_otherwise(ctx, around, 0, Word::ScfYield)
+            || ends_otherwise(ctx, around, 1, Word::ScfYield);
+    }
+    is_named(ctx, &around.node, Word::ScfFor) && ends_otherwise(ctx, around, 0, Word::ScfYield)
+}
+
+fn ends_otherwise(ctx: &Context, around: &Around<'_>, region: u32, wanted: Word) -> bool
+    requires { AroundIsOf ctx.now around.now }
+    ensures { result ≡ rules.ends_otherwise region (word_bytes wanted) (around_in ctx.now around.now) }
+{
+    has_block(ctx, &around.node, region) && isnt_wanted(ctx, last(ctx, around, region), wanted)
+}
+
+fn isnt_wanted(ctx: &Context, last: Option<NameId>, wanted: Word) -> bool
+    ensures { result ≡ rules.isnt_wanted (word_bytes wanted) (option_map (name_term ctx.now) last) }
+{
+    match last {
+        None => true,
+        Some(name) => !ctx.is_word(name, wanted),
+    }
+}
+
+/// Rule 21: a condition with results has no second block.
+pub(crate) fn breaks_21(ctx: &Context, around: &Around<'_>) -> bool
+    requires { AroundIsOf ctx.now around.now }
+    ensures { result ≡ rules.breaks_21 (around_in ctx.now around.now) }
+{
+    is_named(ctx, &around.node, Word::ScfIf)
+        && has_results(ctx, &around.node)
+        && !has_block(ctx, &around.node, 1)
+}
+
+fn has_results(_ctx: &Context, node: &Node<'_>) -> bool
+    ensures { result ≡ not (length (node_in _ctx.now node.now).head.results == 0) }
+{
+    node.results().len() != 0
+}
+
+/// Rule 22: a function without a block is public: its visibility is missing or says so.
+pub(crate) fn breaks_22(ctx: &Context, around: &Around<'_>) -> bool
+    requires { AroundIsOf ctx.now around.now }
+    ensures { result ≡ rules.breaks_22 (around_in ctx.now around.now) }
+{
+    is_named(ctx, &around.node, Word::FuncFunc)
+        && !has_block(ctx, &around.node, 0)
+        && is_public(ctx, visibility(ctx, &around.node))
+}
+
+fn is_public(ctx: &Context, visibility: Option<NameId>) -> bool
+    ensures { result ≡ rules.is_public (option_map (name_term ctx.now) visibility) }
+{
+    match visibility {
+        None => true,
+        Some(name) => ctx.is_word(name, Word::Public),
+    }
+}
+
+/// The visibility of a symbol, if it says one (Symbols and Symbol Tables, "Symbol Visibility").
+fn visibility(ctx: &Context, node: &Node<'_>) -> Option<NameId>
+    requires { NodeIsOf ctx.now node.now }
+    ensures { option_map (name_term ctx.now) result ≡ option_and_then string_in (fits.property (word_bytes Word.SymVisibility) (node_in ctx.now node.now)) }
+{
+    string_of(ctx, property(ctx, node, Word::SymVisibility)?)
+}
