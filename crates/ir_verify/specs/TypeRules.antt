@@ -95,9 +95,9 @@ breaks_19 s = is_index_cast s.node && not_one_index s.types s.node.head.results
 
 -- rule 20: a memref is read or written by another number of indices than its rank, or as another type than its elements';
 -- or a memref is made by another number of operands than it has dimensions that aren't known
-abbrev pub element_differs : Option (List (Option ℕ) × TypeTerm) → ℕ → Option TypeTerm → Bool
-element_differs (Some memref) indices (Some t) = not (indices == length memref.0) || not (same_type t memref.1)
-element_differs (Some memref) indices None = not (indices == length memref.0)
+abbrev pub element_differs : Option (ℕ × ℕ × TypeTerm) → ℕ → Option TypeTerm → Bool
+element_differs (Some memref) indices (Some t) = not (indices == memref.0) || not (same_type t memref.2)
+element_differs (Some memref) indices None = not (indices == memref.0)
 element_differs None indices t = false
 
 abbrev pub load_differs : List (Option TypeTerm) → List TypeTerm → Bool
@@ -108,14 +108,9 @@ abbrev pub store_differs : List (Option TypeTerm) → Bool
 store_differs (t ∷ m ∷ indices) = element_differs (option_and_then memref_of m) (length indices) t
 store_differs _ = false
 
-abbrev pub unknown_count : List (Option ℕ) → ℕ
-unknown_count [] = 0
-unknown_count (None ∷ dims) = unknown_count dims + 1
-unknown_count (Some d ∷ dims) = unknown_count dims
-
-abbrev pub sizes_differ : ℕ → Option (List (Option ℕ) × TypeTerm) → Bool
+abbrev pub sizes_differ : ℕ → Option (ℕ × ℕ × TypeTerm) → Bool
 sizes_differ sizes None = false
-sizes_differ sizes (Some memref) = not (sizes == unknown_count memref.0)
+sizes_differ sizes (Some memref) = not (sizes == memref.1)
 
 abbrev pub alloc_differs : List (Option TypeTerm) → List TypeTerm → Bool
 alloc_differs sizes (t ∷ []) = sizes_differ (length sizes) (memref_of t)
@@ -123,9 +118,9 @@ alloc_differs sizes _ = false
 
 abbrev pub breaks_20 : Surroundings → Bool
 breaks_20 s =
-    (is_named s.node (codes "memref.load") && load_differs s.types s.node.head.results)
-    || ((is_named s.node (codes "memref.store") && store_differs s.types)
-    || (is_named s.node (codes "memref.alloc") && alloc_differs s.types s.node.head.results))
+    if is_named s.node (codes "memref.load") then load_differs s.types s.node.head.results
+    else if is_named s.node (codes "memref.store") then store_differs s.types
+    else is_named s.node (codes "memref.alloc") && alloc_differs s.types s.node.head.results
 
 -- rule 24: the segment sizes of an allocation of n operands are there, and aren't n and 0
 abbrev pub segments_differ : ℕ → Option AttrTerm → Bool

@@ -1,5 +1,5 @@
 -- Types, as rules look at them (Builtin Dialect, "Types").
-use Rattle.std.specs.Prelude.{ℕ, List, [], ◌∷◌, Bool, true, false, ◌==◌, ◌&&◌, ◌||◌, Option, Some, None}
+use Rattle.std.specs.Prelude.{ℕ, ◌+◌, length, List, [], ◌∷◌, Bool, true, false, ◌==◌, ◌&&◌, ◌||◌, Option, Some, None}
 use Rattle.std.specs.Option.{option_eq}
 use Rattle.std.specs.Cmp.Lexicographic.{pointwise}
 use Rattle.ir_types.specs.declared.node.Sign.TheVariants.{Signless}
@@ -54,9 +54,15 @@ abbrev pub is_memref : TypeTerm → Bool
 is_memref (Memref dims elem) = true
 is_memref _ = false
 
--- what a memref type holds: its dimensions, none for one that isn't known, and the type of its elements
-abbrev pub memref_of : TypeTerm → Option (List (Option ℕ) × TypeTerm)
-memref_of (Memref dims elem) = Some (dims, elem)
+-- how many of some dimensions aren't known
+abbrev pub unknown_count : List (Option ℕ) → ℕ
+unknown_count [] = 0
+unknown_count (None ∷ dims) = unknown_count dims + 1
+unknown_count (Some d ∷ dims) = unknown_count dims
+
+-- what a memref type says: its rank, how many of its dimensions aren't known, and the type of its elements
+abbrev pub memref_of : TypeTerm → Option (ℕ × ℕ × TypeTerm)
+memref_of (Memref dims elem) = Some (length dims, unknown_count dims, elem)
 memref_of _ = None
 
 -- the inputs and outputs of a function type

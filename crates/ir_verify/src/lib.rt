@@ -3,6 +3,7 @@
 
 mod block_rules;
 mod fits;
+mod memref_rules;
 mod node;
 mod place_rules;
 mod shapes;
