@@ -1,3 +1,4 @@
 pub mod SameTypes
 pub mod Words
 pub mod Nodes
+pub mod Sets

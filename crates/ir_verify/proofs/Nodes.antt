@@ -1,5 +1,5 @@
 -- What is read of an operation by numbers is read of what it stands for.
-use Rattle.std.proofs.Common.{◌≡◌, refl, sym, ap, ◌∙◌, ℕ, List, [], ◌∷◌, map}
+use Rattle.std.proofs.Common.{◌≡◌, refl, ap, ℕ, List, [], ◌∷◌, map}
 use Rattle.ir_types.specs.Terms.{TypeTerm, type_at, types_at}
 use Rattle.ir_verify.specs.Types.{type_list}
 

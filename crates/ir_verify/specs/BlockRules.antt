@@ -1,7 +1,6 @@
 -- The rules on the blocks of an operation of right form.
-use Rattle.std.specs.Prelude.{if◌then◌else◌, ℕ, ◌+◌, List, [], ◌∷◌, codes, length, Bool, true, false, not, ◌==◌, ◌&&◌, ◌||◌, Option, Some, None, option_and_then, is_some, is_none, slice_get}
+use Rattle.std.specs.Prelude.{if◌then◌else◌, ℕ, List, codes, length, Bool, true, not, ◌==◌, ◌&&◌, ◌||◌, Option, Some, None, option_and_then, is_some, is_none, slice_get}
 use Rattle.std.specs.Str.{bytes_eq}
-use Rattle.ir_types.specs.Terms.{TypeTerm}
 use Rattle.ir_types.specs.Words.{is_listed}
 use Rattle.op_registry.specs.declared.definition.Trait.TheVariants.{Terminator}
 use Rattle.op_registry.specs.Rows.{Row, RegionRow}

@@ -6,4 +6,5 @@ pub mod TypeRules
 pub mod BlockRules
 pub mod PlaceRules
 pub mod Breaks
+pub mod Sets
 pub mod Diagnostics

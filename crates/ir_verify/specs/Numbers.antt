@@ -1,7 +1,7 @@
 -- What rules look at, given by the numbers of a context.
 use Rattle.std.specs.Prelude.{◌≡◌, ℕ, List, map, Option, option_map, IfSome}
 use Rattle.std.specs.List.{All}
-use Rattle.ir_types.specs.Things.{Things, IsType, IsAttr}
+use Rattle.ir_types.specs.Things.{Things, IsType}
 use Rattle.ir_types.specs.Terms.{TypeTerm, AttrTerm, name_term, type_term, attr_term}
 use Rattle.ir_types.specs.WordNames.{word_bytes}
 use Rattle.ir_store.specs.Nodes.{Node as NumberNode}

@@ -1,6 +1,5 @@
 -- The rules on types, of an operation of right form.
-use Rattle.std.specs.Prelude.{if◌then◌else◌, ℕ, ◌+◌, pos, List, [], ◌∷◌, codes, length, Bool, true, false, not, ◌==◌, ◌&&◌, ◌||◌, nat_le, Option, Some, None, option_and_then}
-use Rattle.std.specs.Str.{bytes_eq}
+use Rattle.std.specs.Prelude.{if◌then◌else◌, ℕ, pos, List, [], ◌∷◌, codes, length, Bool, true, false, not, ◌==◌, ◌&&◌, ◌||◌, nat_le, Option, Some, None, option_and_then}
 use Rattle.std.specs.Ordering.{int_eq}
 use Rattle.std.specs.Cmp.Lexicographic.{pointwise}
 use Rattle.ir_types.specs.Terms.{TypeTerm, AttrTerm, DenseArray}

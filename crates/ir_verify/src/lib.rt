@@ -6,6 +6,7 @@ mod fits;
 mod memref_rules;
 mod node;
 mod place_rules;
+pub mod rules;
 mod shapes;
 mod type_rules;
 mod types;

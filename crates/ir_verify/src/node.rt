@@ -3,12 +3,12 @@ ghost use Rattle.std.specs.Prelude.{◌≡◌, IfSome, List, [], ℕ, map, is_so
 ghost use Rattle.std.specs.List.{All};
 ghost use Rattle.std.specs.Option.{option_map};
 ghost use Rattle.std.specs.Str.{bytes_eq};
-ghost use Rattle.ir_types.specs.Things.{Things, IsAttr, IsType, AttrIsOf, TypeIsOf};
+ghost use Rattle.ir_types.specs.Things.{Things, IsName, IsAttr, IsType, AttrIsOf, TypeIsOf};
 ghost use Rattle.ir_types.specs.Terms.{TypeTerm, AttrTerm, attr_from, attr_term, type_at, type_from, name_term, type_term};
 ghost use Rattle.ir_types.specs.WordNames.{word_bytes};
 ghost use Rattle.op_registry.specs.Registry.{beside};
 ghost use Rattle.op_registry.specs.Properties as properties;
-ghost use Rattle.surroundings.specs.Gathered.{NodeIsOf};
+ghost use Rattle.ir_event.specs.Modules.{NodeIsOf};
 ghost use Rattle.ir_verify.specs.Numbers.{entries_in, node_in};
 ghost use Rattle.ir_verify.specs.Fits as fits;
 ghost use Rattle.ir_verify.specs.Types as types;
@@ -38,7 +38,7 @@ pub(crate) fn property(ctx: &Context, node: &Node<'_>, key: Word) -> Option<Attr
 
 /// The attribute at a key of a dictionary, if there is one.
 fn entry(ctx: &Context, entries: &[(NameId, AttrId)], key: Word) -> Option<AttrId>
-    requires { All (λ e. IsAttr ctx.now e.1) entries.now }
+    requires { All (λ e. IsName ctx.now e.0 × IsAttr ctx.now e.1) entries.now }
     ensures entry { option_map (attr_term ctx.now) result ≡ beside (word_bytes key) (entries_in ctx.now entries.now) }
     ensures attr { IfSome result (λ a. IsAttr ctx.now a) }
 {

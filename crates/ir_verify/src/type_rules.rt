@@ -7,7 +7,8 @@ ghost use Rattle.ir_types.specs.Terms.{TypeTerm, AttrTerm, attr_from, attr_term,
 ghost use Rattle.ir_types.specs.WordNames.{word_bytes};
 ghost use Rattle.op_registry.specs.Registry.{region_row};
 ghost use Rattle.op_registry.specs.Properties.{integer_of as integer_in};
-ghost use Rattle.surroundings.specs.Gathered.{NodeIsOf, AroundIsOf};
+ghost use Rattle.ir_event.specs.Modules.{NodeIsOf};
+ghost use Rattle.surroundings.specs.Gathered.{AroundIsOf};
 ghost use Rattle.ir_verify.specs.Numbers.{typed, known_in, node_in, around_in, row_in, AreKnown, AreKnownOf};
 ghost use Rattle.ir_verify.specs.Fits as fits;
 ghost use Rattle.ir_verify.specs.Types as types;

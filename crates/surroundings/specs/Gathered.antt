@@ -1,8 +1,8 @@
 -- What an operation is and has around it, as it is gathered.
-use Rattle.std.specs.Prelude.{◌≡◌, ℕ, List, map, Option, Some, option_map, option_and_then, IfSome}
+use Rattle.std.specs.Prelude.{ℕ, map, Some, option_map, option_and_then, IfSome}
 use Rattle.std.specs.List.{All}
-use Rattle.ir_types.specs.Things.{Things, IsType, IsAttr}
-use Rattle.ir_store.specs.Nodes.{Node}
+use Rattle.ir_types.specs.Things.{Things, IsType}
+use Rattle.ir_event.specs.Modules.{NodeIsOf}
 use Rattle.surroundings.specs.declared.around.Around.{Around}
 use Rattle.surroundings.specs.declared.around.Outer.{Outer}
 use Rattle.surroundings.specs.Surroundings.{SurroundingsOf, OuterOf}
@@ -20,13 +20,7 @@ gathered a = record {
   outer = option_map outer_in a.outer;
 }
 
--- the types and attributes that an operation has are numbers of a context
-pub record NodeIsOf (c : Things) (n : Node) : Type 0 where
-  pub results : All (λ t. IsType c t) n.head.results
-  pub arguments : All (λ args. IfSome args (All (λ t. IsType c t))) n.arguments
-  pub properties : All (λ (e : ℕ × ℕ). IsAttr c e.1) n.head.properties
-
--- and those that it has around it
+-- the numbers in what is gathered are of a context
 pub record AroundIsOf (c : Things) (a : Around) : Type 0 where
   pub node : NodeIsOf c a.node
   pub types : All (λ t. IsType c t) a.types.items

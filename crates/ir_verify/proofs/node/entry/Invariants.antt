@@ -1,6 +1,6 @@
 use Rattle.std.proofs.Common.{◌≡◌, length}
 use Rattle.std.specs.List.{All}
-use Rattle.ir_types.specs.Things.{IsAttr}
+use Rattle.ir_types.specs.Things.{IsName, IsAttr}
 use Rattle.ir_types.specs.WordNames.{word_bytes}
 use Rattle.op_registry.specs.Registry.{beside}
 use Rattle.ir_verify.specs.Numbers.{entries_in}
@@ -8,7 +8,7 @@ use Rattle.ir_verify.proofs.node.entry.Given as goal
 
 abbrev pub invariant-loop-rest : goal.invariant-loop-rest
 invariant-loop-rest l = record {
-  numbers : All (λ e. IsAttr l.ctx e.1) l.rest;
+  numbers : All (λ e. IsName l.ctx e.0 × IsAttr l.ctx e.1) l.rest;
   left : beside (word_bytes l.key) (entries_in l.ctx l.rest) ≡ beside (word_bytes l.key) (entries_in l.ctx l.fn.entries);
 }
 

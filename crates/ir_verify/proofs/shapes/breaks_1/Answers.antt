@@ -1,8 +1,6 @@
-use Rattle.std.proofs.Common.{◌∙◌, ap, sym, length}
-use Rattle.std.proofs.lemmas.List.{length-map}
+use Rattle.std.proofs.Common.{◌∙◌, ap, length}
 use Rattle.std.specs.Prelude.{not}
 use Rattle.op_registry.specs.Registry.{types_row}
-use Rattle.ir_types.specs.Terms.{type_term}
 use Rattle.ir_verify.specs.Fits.{count_fits}
 use Rattle.ir_verify.proofs.shapes.breaks_1.Goals as goal
 

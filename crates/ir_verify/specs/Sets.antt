@@ -1,0 +1,29 @@
+-- Sets of rules, as numbers of 24 bits.
+use Rattle.std.specs.Prelude.{ℕ, zero, suc, ◌+◌, ◌*◌, ◌/◌, ◌%◌, List, [], ◌∷◌, Bool, true, false, ◌==◌}
+use Rattle.op_registry.specs.Registry.{row_of}
+use Rattle.ir_verify.specs.declared.rules.RuleSet.{RuleSet}
+use Rattle.ir_verify.specs.Fits.{Surroundings}
+use Rattle.ir_verify.specs.Breaks.{told_in, numbers_from}
+
+-- a number with one bit more below the others
+abbrev pub with_bit : Bool → ℕ → ℕ
+with_bit true n = 2 * n + 1
+with_bit false n = 2 * n
+
+-- the number whose bits, from the lowest on, say what holds
+abbrev pub packed : List Bool → ℕ
+packed [] = 0
+packed (b ∷ bs) = with_bit b (packed bs)
+
+-- the lowest bits of a number, so many of them
+abbrev pub bits_of : ℕ → ℕ → List Bool
+bits_of zero n = []
+bits_of (suc k) n = (n % 2 == 1) ∷ bits_of k (n / 2)
+
+-- the numbers of the rules in a set, rising
+unfoldable pub rules_in : RuleSet → List ℕ
+rules_in set = numbers_from 1 (bits_of 24 set.bits)
+
+-- the set of the rules that an operation breaks
+abbrev pub set_of : Surroundings → RuleSet
+set_of s = record { bits = packed (told_in (row_of s.node.head.name) s) }

@@ -1,0 +1,168 @@
+//! The rules that an operation breaks.
+ghost use Rattle.std.specs.Prelude.{◌≡◌, ◌≤◌, ◌<◌, ◌^◌, [], ◌∷◌, ◌++◌, IfOk, OnOk, length, true, false};
+ghost use Rattle.surroundings.specs.Gathered.{AroundIsOf};
+ghost use Rattle.ir_verify.specs.Breaks.{told_of, numbers_from};
+ghost use Rattle.ir_verify.specs.Numbers.{around_in, node_in, row_in};
+ghost use Rattle.ir_verify.specs.Sets.{packed, rules_in, set_of, with_bit};
+ghost use Rattle.ir_verify.specs.Shapes as shapes;
+
+use crate::block_rules::{breaks_6, breaks_8, breaks_9, breaks_21, breaks_22};
+use crate::memref_rules::{breaks_20, breaks_24};
+use crate::place_rules::{
+    breaks_10, breaks_11, breaks_15, breaks_16, breaks_17, breaks_23, definition, ended,
+};
+use crate::shapes::{breaks_1, breaks_3, breaks_5, breaks_12, breaks_13, is_well_shaped};
+use crate::type_rules::{breaks_2, breaks_4, breaks_7, breaks_14, breaks_18, breaks_19, known_of};
+use ir_types::context::Context;
+use op_registry::definition::OpDef;
+use op_registry::registry::Registry;
+use std::alloc::{AllocError, Global};
+use surroundings::around::Around;
+
+/// A set of rules.
+#[derive(Clone, Copy)]
+pub struct RuleSet {
+    /// Bit r - 1 says whether rule r is in it.
+    bits: u32,
+}
+
+impl RuleSet {
+    /// The set of the rules that hold, in the order of their numbers.
+    fn of(held: &[bool]) -> RuleSet
+        requires { length held.now ≤ 24 }
+        ensures { result.bits ≡ packed held.now }
+    {
+        let mut bits: u32 = 0;
+        let mut place = held.len();
+        while place > 0 {
+            place -= 1;
+            bits = with_bit(held[place], bits);
+        }
+        RuleSet { bits }
+    }
+
+    /// The numbers of the rules in the set, rising.
+    pub fn numbers(&self, alloc: Global) -> Result<Vec<u8>, AllocError>
+        ensures { IfOk result (λ v. v.items ≡ rules_in self.now) }
+    {
+        let mut numbers = Vec::new(alloc);
+        let mut rest = self.bits;
+        for number in 1..25 {
+            push_if(rest % 2 == 1, number, &mut numbers)?;
+            rest /= 2;
+        }
+        Ok(numbers)
+    }
+}
+
+/// Adds a number where it is in the set.
+fn push_if(held: bool, number: u8, numbers: &mut Vec<u8>) -> Result<(), AllocError>
+    ensures { OnOk result (numbers.new.items ≡ numbers.old.items ++ numbers_from number (held ∷ [])) }
+{
+    if held {
+        numbers.push(number)?;
+    }
+    Ok(())
+}
+
+/// A number with one bit more below the others.
+fn with_bit(bit: bool, bits: u32) -> u32
+    requires { bits < 2 ^ 31 }
+    ensures { result ≡ with_bit bit bits }
+{
+    if bit { 2 * bits + 1 } else { 2 * bits }
+}
+
+/// The rules that an operation breaks, from what is around it.
+pub fn told(ctx: &Context, registry: &Registry, around: &Around<'_>) -> RuleSet
+    requires { AroundIsOf ctx.now around.now }
+    ensures { result ≡ set_of (around_in ctx.now around.now) }
+{
+    match definition(ctx, registry, &around.node) {
+        None => RuleSet { bits: 0 },
+        Some(def) => told_by(ctx, registry, def, around),
+    }
+}
+
+/// The rules that a listed operation breaks.
+fn told_by(ctx: &Context, registry: &Registry, def: &OpDef, around: &Around<'_>) -> RuleSet
+    requires { AroundIsOf ctx.now around.now }
+    ensures { result.bits ≡ packed (told_of (row_in def.now) (around_in ctx.now around.now)) }
+{
+    if is_well_shaped(ctx, def, &around.node) {
+        told_shaped(ctx, registry, def, around)
+    } else {
+        told_unshaped(ctx, registry, def, around)
+    }
+}
+
+/// Those of one whose own form isn't right.
+fn told_unshaped(ctx: &Context, registry: &Registry, def: &OpDef, around: &Around<'_>) -> RuleSet
+    requires around { AroundIsOf ctx.now around.now }
+    requires shaped { shapes.is_well_shaped (row_in def.now) (node_in ctx.now around.now.node) ≡ false }
+    ensures { result.bits ≡ packed (told_of (row_in def.now) (around_in ctx.now around.now)) }
+{
+    let node = &around.node;
+    RuleSet::of(&[
+        breaks_1(ctx, def, node),
+        false,
+        breaks_3(ctx, def, node),
+        false,
+        breaks_5(ctx, def, node),
+        false,
+        false,
+        false,
+        false,
+        breaks_10(ctx, registry, around),
+        breaks_11(ctx, registry, def, around),
+        breaks_12(ctx, def, node),
+        breaks_13(ctx, def, node),
+        false,
+        false,
+        false,
+        false,
+        false,
+        false,
+        false,
+        false,
+        false,
+        breaks_23(ctx, around),
+        false,
+    ])
+}
+
+/// Those of one whose own form is right.
+fn told_shaped(ctx: &Context, registry: &Registry, def: &OpDef, around: &Around<'_>) -> RuleSet
+    requires around { AroundIsOf ctx.now around.now }
+    requires shaped { shapes.is_well_shaped (row_in def.now) (node_in ctx.now around.now.node) ≡ true }
+    ensures { result.bits ≡ packed (told_of (row_in def.now) (around_in ctx.now around.now)) }
+{
+    let known = known_of(ctx, def, around);
+    let ended = ended(ctx, registry, around);
+    RuleSet::of(&[
+        false,
+        breaks_2(ctx, def, around, &known),
+        false,
+        breaks_4(ctx, def, around, &known),
+        false,
+        breaks_6(ctx, def, around),
+        breaks_7(ctx, def, around, &known),
+        breaks_8(ctx, registry, around),
+        breaks_9(ctx, around),
+        breaks_10(ctx, registry, around),
+        breaks_11(ctx, registry, def, around),
+        false,
+        false,
+        breaks_14(ctx, around),
+        breaks_15(ctx, around, ended),
+        breaks_16(ctx, around, ended),
+        breaks_17(ctx, around, ended),
+        breaks_18(ctx, around),
+        breaks_19(ctx, around),
+        breaks_20(ctx, around),
+        breaks_21(ctx, around),
+        breaks_22(ctx, around),
+        breaks_23(ctx, around),
+        breaks_24(ctx, around),
+    ])
+}
