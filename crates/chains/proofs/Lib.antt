@@ -1,0 +1,9 @@
+pub mod Fields
+pub mod Around
+pub mod Cuts
+pub mod Joins
+pub mod Readings
+pub mod Grown
+pub mod Walks
+pub mod Once
+pub mod Heads
