@@ -1,0 +1,4 @@
+pub mod Laws
+pub mod Spreads
+pub mod Kept
+pub mod Walks
