@@ -1,0 +1,4 @@
+pub mod Orders
+pub mod Splits
+pub mod Lookups
+pub mod Changed
