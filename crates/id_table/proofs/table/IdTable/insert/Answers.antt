@@ -1,0 +1,47 @@
+use Rattle.std.proofs.Common.{◌<◌, ap, ◌∙◌, set, length, arith}
+use Rattle.std.specs.Ordering.{nat_cmp}
+use Rattle.std.specs.BTreeMap as sorted
+use Rattle.std.specs.FinMap as map
+use Rattle.id_table.specs.Slots.{slot_in, map_is}
+use Rattle.id_table.proofs.Tables.{near_changed, some_slot, changed, inserted, put_known, put_inserted, put_refused}
+use Rattle.id_table.proofs.table.IdTable.insert.Goals as goal
+
+pub invariant_of-self-inside : goal.invariant_of-self-inside
+invariant_of-self-inside c =
+    let near = c.self.inside.near.items in
+    let far = sorted.get nat_cmp c.self.inside.far in
+    let l : c.args.id < length near = omega (arith, c.if-place-len.true, c.len.ensures, c.self.inside.near.ok.0) in (
+      (
+        map.insert c.self.inside.known.0 c.args.id c.args.slot,
+        inserted (slot_in near far) (slot_in (set near c.args.id c.args.slot) far) c.args.id c.self.inside.known c.args.slot
+            (λ x. near_changed near far c.args.id c.args.slot l x ∙ ap (λ o. changed c.args.id o (slot_in near far) x) (some_slot c.args.slot c.requires)),
+      ),
+      tt,
+    )
+
+pub returns-then-place-len-clause-inserted : goal.returns-then-place-len-clause-inserted
+returns-then-place-len-clause-inserted c =
+    let near = c.self.inside.near.items in
+    let far = sorted.get nat_cmp c.self.inside.far in
+    let l : c.args.id < length near = omega (arith, c.if-place-len.true, c.len.ensures, c.self.inside.near.ok.0) in
+    map_is (slot_in (set near c.args.id c.args.slot) far) c.self-then-place-len-1.given.0 (map.insert c.self.inside.known.0 c.args.id c.args.slot)
+    (inserted (slot_in near far) (slot_in (set near c.args.id c.args.slot) far) c.args.id c.self.inside.known c.args.slot
+    (λ x. near_changed near far c.args.id c.args.slot l x ∙ ap (λ o. changed c.args.id o (slot_in near far) x) (some_slot c.args.slot c.requires)))
+    ∙ ap (λ z. map.insert z c.args.id c.args.slot) c.self.view_is
+
+pub invariant_of-self-inside-2 : goal.invariant_of-self-inside-2
+invariant_of-self-inside-2 c = (
+  put_known c.self.inside.near.items (sorted.get nat_cmp c.self.inside.far) (sorted.get nat_cmp c.put.new.far) c.args.id c.args.slot
+      (omega (arith, c.if-place-len.false, c.len.ensures, c.self.inside.near.ok.0)) c.self.inside.known c.put.result c.put.ensures,
+  tt,
+)
+
+pub returns-clause-inserted : goal.returns-clause-inserted
+returns-clause-inserted c =
+    put_inserted c.self.inside.near.items (sorted.get nat_cmp c.self.inside.far) (sorted.get nat_cmp c.put.new.far) c.args.id c.args.slot
+    (omega (arith, c.if-place-len.false, c.len.ensures, c.self.inside.near.ok.0)) c.self.inside.known c.args.self.now c.self.view_is c.self-2-1.given.0 c.put.result c.put.ensures
+
+pub returns-clause-refused : goal.returns-clause-refused
+returns-clause-refused c =
+    put_refused c.self.inside.near.items (sorted.get nat_cmp c.self.inside.far) (sorted.get nat_cmp c.put.new.far) c.args.id c.args.slot
+    (omega (arith, c.if-place-len.false, c.len.ensures, c.self.inside.near.ok.0)) c.self.inside.known c.args.self.now c.self.view_is c.self-2-1.given.0 c.put.result c.put.ensures

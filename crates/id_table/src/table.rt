@@ -1,0 +1,102 @@
+ghost use Rattle.std.specs.Prelude.{◌≡◌, ℕ, ◌<◌, eqb, if◌then◌else◌, Some, None, IfOk, OnOk, OnErr, MatchResult};
+ghost use Rattle.std.specs.FinMap as map;
+ghost use Rattle.std.specs.BTreeMap as sorted;
+ghost use Rattle.std.specs.Ordering.{nat_cmp};
+ghost use Rattle.id_table.specs.Slots.{no_slot, slot_in, MapOf, MapOf-prop};
+
+use std::alloc::{AllocError, Global};
+use std::collections::BTreeMap;
+use std::marker::Model;
+
+const NO_SLOT: usize = usize::MAX;
+
+/// The slots of ids.
+#[derive(Drop)]
+pub struct IdTable {
+    near: Vec<usize>,
+    far: BTreeMap<u32, usize>,
+    ghost known: { MapOf (slot_in near.items (sorted.get nat_cmp far)) } by { MapOf-prop (slot_in near.items (sorted.get nat_cmp far)) },
+}
+
+impl Model for IdTable {
+    ghost use Rattle.std.specs.Prelude.{ℕ};
+    ghost use Rattle.std.specs.Ordering.{nat_cmp};
+    ghost use Rattle.std.specs.Coded.{coded_ℕ};
+    ghost use Rattle.std.specs.FinMap as map;
+
+    ghost Value = { map.FinMap nat_cmp ℕ };
+
+    ghost coded = { map.code coded_ℕ coded_ℕ };
+
+    ghost view = { λ t. t.known.0 };
+}
+
+impl IdTable {
+    /// No ids. Those below `bound` will be found in one step.
+    pub fn new(alloc: Global, bound: usize) -> Result<IdTable, AllocError>
+        ensures { IfOk result (λ t. t ≡ map.empty) }
+    {
+        let near = vec![in alloc; NO_SLOT; bound]?;
+        Ok(IdTable {
+            near,
+            far: BTreeMap::new(alloc),
+        })
+    }
+
+    /// The slot of an id, if it has one.
+    pub fn get(&self, id: u32) -> Option<usize>
+        ensures { result ≡ map.get self.now id }
+    {
+        let place = id as usize;
+        if place >= self.near.len() {
+            return self.far.get(&id).copied();
+        }
+        let slot = self.near[place];
+        if slot == NO_SLOT { None } else { Some(slot) }
+    }
+
+    /// Gives an id a slot, in place of the one that it had, if any.
+    pub fn insert(&mut self, id: u32, slot: usize) -> Result<(), AllocError>
+        requires { slot < no_slot }
+        ensures inserted { OnOk result (self.new ≡ map.insert self.old id slot) }
+        ensures refused { OnErr result (self.new ≡ self.old) }
+    {
+        let place = id as usize;
+        if place < self.near.len() {
+            self.near[place] = slot;
+            return Ok(());
+        }
+        put(&mut self.far, id, slot)
+    }
+
+    /// Takes the slot of an id from it, if it has one. It wants no memory.
+    pub fn remove(&mut self, id: u32)
+        ensures { self.new ≡ map.remove self.old id }
+    {
+        let place = id as usize;
+        if place < self.near.len() {
+            self.near[place] = NO_SLOT;
+        } else {
+            drop_id(&mut self.far, id);
+        }
+    }
+}
+
+/// Gives an id a slot in a map.
+fn put(far: &mut BTreeMap<u32, usize>, id: u32, slot: usize) -> Result<(), AllocError>
+    ensures { MatchResult result
+        (λ _. (x : ℕ) → sorted.get nat_cmp far.new x ≡ (if eqb x id then Some slot else sorted.get nat_cmp far.old x))
+        (λ _. (x : ℕ) → sorted.get nat_cmp far.new x ≡ sorted.get nat_cmp far.old x) }
+{
+    match far.insert(id, slot) {
+        Ok(_) => Ok(()),
+        Err(_) => Err(AllocError),
+    }
+}
+
+/// Takes the slot of an id from it in a map.
+fn drop_id(far: &mut BTreeMap<u32, usize>, id: u32)
+    ensures { (x : ℕ) → sorted.get nat_cmp far.new x ≡ (if eqb x id then None else sorted.get nat_cmp far.old x) }
+{
+    let _slot = far.remove(&id);
+}
