@@ -1,8 +1,8 @@
 -- What writes to the whole list of entries make of the two parts.
 use Rattle.std.proofs.Common.{◌≡◌, ℕ, suc, ◌+◌, ◌-◌, ◌<◌, ◌≤◌, List, [], ◌∷◌, ◌++◌, set, take, drop, refl, sym, ap, ◌∙◌, subst, length, arith, length-append, append_assoc, Bool, true, false, ◌||◌, eqb, Some, None}
 use Rattle.std.specs.List.{insert, remove}
-use Rattle.std.proofs.Math.Seq.{take-append_seam, drop-append_seam, drop-append-add, take-append-add, take-set-lt}
-use Rattle.std.proofs.lemmas.List.{take-append-drop, take-append-le, drop-append-le, drop-set-lt, length-take-le, length-drop, map-append}
+use Rattle.std.proofs.Math.Seq.{take-append_seam, drop-append_seam, drop-append-add, take-append-add, take-set-lt, take-add}
+use Rattle.std.proofs.lemmas.List.{length-take, take-append-drop, take-append-le, drop-append-le, drop-set-lt, length-take-le, length-drop, map-append, take_at}
 use Rattle.ir_tree.specs.Edits.{put_entry, drop_entry}
 use Rattle.entries.specs.Slots.{keys, slots_of, has_key, is_gone, has_slot, keep_gone, with_change}
 
@@ -86,3 +86,13 @@ forget_shows k n at old l e =
     ∙ append_assoc front (take at back) (drop (suc at) back) in
     let own : drop n (remove (front ++ back) (n + at)) ≡ remove back at = subst P long (ap (drop (length front)) whole ∙ drop-append_seam front (remove back at)) in
     ap keys (ap (λ z. drop n (remove z (n + at))) (sym (take-append-drop n old)) ∙ own) ∙ sym e
+
+-- what stands before it stays
+pub forget_keeps : (n at : ℕ) (old : List (ℕ × ℕ)) → n ≤ length old → take n (remove old (n + at)) ≡ take n old
+forget_keeps n at old l =
+    ap (λ z. take n (z ++ drop (suc (n + at)) old)) (take-add n at old)
+    ∙ ap (take n) (append_assoc (take n old) (take at (drop n old)) (drop (suc (n + at)) old))
+    ∙ take_at (take n old) (take at (drop n old) ++ drop (suc (n + at)) old) n (length-take-le n old l)
+
+pub forget_long : (n at : ℕ) (old : List (ℕ × ℕ)) → n ≤ length old → n ≤ length (remove old (n + at))
+forget_long n at old l = omega (arith, length-append (take (n + at) old) (drop (suc (n + at)) old), length-take (n + at) old, length-drop (suc (n + at)) old)

@@ -1,7 +1,7 @@
-use Rattle.std.proofs.Common.{◌≡◌, ◌∙◌, ap, subst, ◌<◌, drop, length, ℕ, List}
+use Rattle.std.proofs.Common.{◌≡◌, ◌∙◌, ap, subst, ◌<◌, take, drop, length, ℕ, List, inr, arith}
 use Rattle.std.specs.List.{remove}
 use Rattle.entries.specs.Slots.{keys, keep_gone}
-use Rattle.entries.proofs.Changed.{forget_shows}
+use Rattle.entries.proofs.Changed.{forget_shows, forget_keeps, forget_long}
 use Rattle.entries.proofs.lookup.forget.Goals as goal
 
 pub returns-clause-gone : goal.returns-clause-gone
@@ -10,3 +10,15 @@ returns-clause-gone c =
     let found = subst P (c.split_at.ensures.back ∙ ap (drop c.args.len) c.as_slice.ensures.value) c.in-Some.ensures in
     ap (λ z. keys (drop c.args.len z)) c.remove-slot.ensures.items
     ∙ forget_shows c.args.key c.args.len c.in-Some.at c.args.items.now.items c.requires found.1
+
+pub returns-clause-len : goal.returns-clause-len
+returns-clause-len c = omega (arith, ap length c.remove-slot.ensures.items, forget_long c.args.len c.in-Some.at c.args.items.now.items c.requires)
+
+pub returns-clause-present : goal.returns-clause-present
+returns-clause-present c = ap (take c.args.len) c.remove-slot.ensures.items ∙ forget_keeps c.args.len c.in-Some.at c.args.items.now.items c.requires
+
+pub returns-clause-kept : goal.returns-clause-kept
+returns-clause-kept c = inr (omega (arith, c.remove-slot.ensures.len, c.remove-slot.ensures.capacity, c.args.items.now.ok))
+
+pub returns-clause-room : goal.returns-clause-room
+returns-clause-room c = λ _. omega (arith, c.remove-slot.ensures.len, c.remove-slot.ensures.capacity, c.args.items.now.ok)
