@@ -1,0 +1,6 @@
+"""What the rules say of modules, analyses, edits and scripts, worked out slowly and simply, apart from the crates, so that
+tables of cases don't come from the program that they test. Written from the rules in words.
+
+module.py has modules as plain trees, read and printed by crates/ir_text_cases/rules.py and printing.py; operations.py the
+operation table; verifier.py the verifier's rules; analyses.py uses, symbols, effects, dead operations and constants, with
+folds.py; edits.py the edits and why they are refused; script.py whole runs; chance.py makes modules by chance."""

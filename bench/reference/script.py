@@ -1,0 +1,231 @@
+"""Whole runs: a module, a script, and what is written."""
+import re
+
+from . import edits
+from .analyses import ANALYSES, KINDS
+from .module import printing, read, read_attr, read_op, rules, text_of
+
+WORDS = {20: "NoSuchOp", 21: "NoSuchValue", 22: "HasUses", 23: "NotVisible", 24: "TypeDiffers", 25: "NoSuchIndex", 26: "NoSuchKey",
+         27: "IntoItself", 28: "OtherTable", 29: "IsRoot", 30: "NotEmpty", 31: "Full", 32: "IdsExhausted", 33: "TooDeepHere",
+         34: "TooManyMarks", 35: "NoMark", 41: "NoSuchKind", 60: "BadCommand"}
+BOXES = tuple(KINDS.values())
+MOST_MARKS = 16
+FIRST = {"report", "print", "set-operand"}
+EDITS = FIRST | {"erase", "move", "insert", "replace", "set-attr", "drop-attr", "resync", "detach"}
+ALL = EDITS | {"begin", "commit", "rollback"}
+
+
+class Bad(Exception):
+    """A line is no command."""
+
+
+def number(digits):
+    if not re.fullmatch("[0-9]+", digits) or int(digits) > 4294967295:
+        raise Bad
+    return int(digits)
+
+
+def op_of(word):
+    if not word.startswith("#"):
+        raise Bad
+    return number(word[1:])
+
+
+def value_of(word):
+    found = re.fullmatch(r"%v([0-9]+)\.([0-9]+)|%a([0-9]+)\.([0-9]+)\.([0-9]+)", word)
+    if not found:
+        raise Bad
+    return (word[1],) + tuple(number(it) for it in found.groups() if it is not None)
+
+
+def kind_of(word):
+    for kind in range(256):
+        if word == KINDS.get(kind, f"kind{kind}"):
+            return word
+    raise Bad
+
+
+def cut(text):
+    """The first word of a text, and the rest."""
+    found = re.fullmatch(r"([^ \t]*)[ \t]*(.*)", text, re.S)
+    return found[1], found[2]
+
+
+def cut_place(text):
+    word, rest = cut(text)
+    op, rest = cut(rest)
+    if word in ("before", "after"):
+        return (word, op_of(op), None), rest
+    if word not in ("start", "end"):
+        raise Bad
+    region, rest = cut(rest)
+    return (word, op_of(op), number(region)), rest
+
+
+def cut_key(text):
+    if text.startswith('"'):
+        try:
+            key = rules.token(text.encode("latin-1"), 0)
+        except rules.Refused:
+            raise Bad from None
+        if text[key.end:key.end + 1] not in ("", " ", "\t"):
+            raise Bad
+        return key.text, text[key.end:].lstrip(" \t")
+    key, rest = cut(text)
+    if not re.fullmatch(r"[A-Za-z_][A-Za-z0-9_$.]*", key):
+        raise Bad
+    return key.encode(), rest
+
+
+def need(is_so):
+    if not is_so:
+        raise Bad
+
+
+class Run:
+    """A module with its marks and the kinds that are attached."""
+
+    def __init__(self, module, boxes=BOXES, commands=ALL):
+        self.module, self.boxes, self.commands, self.marks, self.listing = module, list(boxes), commands, [], b""
+
+    def edit(self, call, *args):
+        """Makes an edit whole, or not at all."""
+        tried = self.module.copy()
+        call(tried, *args)
+        self.module = tried
+
+    def is_attached(self, kind):
+        edits.refuse(41, kind not in self.boxes)
+
+    def rows(self, kind):
+        return "".join(row + "\n" for row in ANALYSES[kind](self.module))
+
+    # Each command takes its text, and gives what stands behind `ok` and what is written below it.
+
+    def report(self, text):
+        kind = kind_of(text)
+        self.is_attached(kind)
+        return "", self.rows(kind)
+
+    def print(self, text):
+        need(text == "")
+        return "", text_of(self.module)
+
+    def set_operand(self, text):
+        words = re.split("[ \t]+", text)
+        need(len(words) == 3)
+        self.edit(edits.set_operand, op_of(words[0]), number(words[1]), value_of(words[2]))
+
+    def erase(self, text):
+        self.edit(edits.erase, op_of(text))
+
+    def replace(self, text):
+        words = re.split("[ \t]+", text)
+        need(len(words) == 2)
+        self.edit(edits.replace_all, *map(value_of, words))
+
+    def move(self, text):
+        op, rest = cut(text)
+        op = op_of(op)
+        words, rest = cut_place(rest)
+        need(rest == "")
+        self.edit(edits.move, op, edits.resolved(self.module, words, op))
+
+    def insert(self, text):
+        words, rest = cut_place(text)
+        need(rest != "")
+        tree = read_op(rest.encode("latin-1"), self.module)
+        self.edit(edits.insert, edits.resolved(self.module, words), tree)
+        return f" #{tree.id}", ""
+
+    def set_attr(self, text):
+        op, rest = cut(text)
+        op = op_of(op)
+        key, rest = cut_key(rest)
+        need(rest != "")
+        self.edit(edits.set_attr, op, key, read_attr(rest.encode("latin-1")))
+
+    def drop_attr(self, text):
+        op, rest = cut(text)
+        op = op_of(op)
+        key, rest = cut_key(rest)
+        need(rest == "")
+        self.edit(edits.drop_attr, op, key)
+
+    def resync(self, text):
+        self.is_attached(kind_of(text))
+
+    def detach(self, text):
+        self.is_attached(kind_of(text))
+        self.boxes.remove(text)
+
+    def begin(self, text):
+        need(text == "")
+        edits.refuse(34, len(self.marks) == MOST_MARKS)
+        self.marks.append(self.module)
+
+    def commit(self, text):
+        need(text == "")
+        edits.refuse(35, not self.marks)
+        self.marks.pop()
+
+    def rollback(self, text):
+        need(text == "")
+        edits.refuse(35, not self.marks)
+        self.module = self.marks.pop()
+
+    def reply(self, line):
+        """The reply to a line that is no comment, and whether it has a listing."""
+        word, rest = cut(line)
+        if word in ("canon", "convert"):
+            raise NotImplementedError(word)
+        try:
+            need(word in self.commands)
+            after, below = getattr(self, word.replace("-", "_"))(rest) or ("", "")
+            return f" ok{after}\n{below}", word not in ("report", "print")
+        except Bad:
+            return " refused 60 BadCommand\n", True
+        except rules.Refused as fault:
+            text = "32 IdsExhausted" if fault.number == 32 else printing.refusal(fault)
+            return f" refused {text}\n", True
+        except edits.Refused as fault:
+            return f" refused {fault.number} {WORDS[fault.number]}\n", word not in ("report", "print")
+
+    def all_rows(self):
+        return text_of(self.module) + "".join(f"-- {kind}\n{self.rows(kind)}" for kind in self.boxes)
+
+
+def split(text):
+    """The module and the script."""
+    found = re.search(rb"(?:\A|(?<=\n))// -----(?:\n|\Z)", text)
+    return (text[:found.start()], text[found.end():]) if found else (text, b"")
+
+
+def lines_of(script):
+    """The lines of a script that are no comment, each as Latin-1 text, or none where it isn't UTF-8."""
+    for line in script.split(b"\n"):
+        try:
+            line.decode()
+        except UnicodeDecodeError:
+            yield None
+            continue
+        line = line.strip(b" \t\r")
+        if line and not line.startswith(b"//"):
+            yield line.decode("latin-1")
+
+
+def run(text, brief=True, boxes=BOXES, commands=ALL):
+    """The status of a run over an input, and what it writes."""
+    text, script = split(text)
+    try:
+        here = Run(read(text), boxes, commands)
+    except rules.Refused as fault:
+        return 3, f"module refused {printing.refusal(fault)}\n".encode()
+    out, status = [], 0
+    for count, line in enumerate(lines_of(script), 1):
+        reply, is_listed = here.reply(line) if line is not None else (" refused 60 BadCommand\n", True)
+        status = 1 if reply.startswith(" refused") else status
+        out.append(f"{count}{reply}")
+        if is_listed and not brief:
+            out.append(here.all_rows())
+    return status, "".join(out).encode()
