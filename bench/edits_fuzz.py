@@ -1,0 +1,78 @@
+#!/usr/bin/env python3
+"""Runs random scripts of all edits, marks, commits and rollbacks in the program and by the rules (bench/reference), and compares
+the status and every byte that is written: replies, modules, and the rows of each listener after each command.
+
+usage: bench/edits_fuzz.py PROGRAM [COUNT [SEED [KINDS]]]
+
+COUNT is 2000 and SEED 19 where they aren't given; KINDS are the program's listeners in their order, with commas (all six where
+they aren't given). The seed is printed. A difference is printed whole, and ends it with status 1."""
+import random
+import subprocess
+import sys
+
+sys.dont_write_bytecode = True
+
+from reference import chance, script  # noqa: E402
+from reference.module import rules, text_of  # noqa: E402
+
+MOST_COMMANDS, MOST_OPS = 24, 18
+# Lines that are no commands, or say what isn't there; and blanks, comments and lines that stay what they are.
+ODD = ["jump", "erase", "erase 3", "erase #3 x", "erase #4294967296", "move #1", "move #2 before", "insert end #0 0", "insert end #0", "set-operand #1 0",
+       "set-attr #1 k", "set-attr #1 \"a\"b 1", "set-attr #1 \"\" 1", "set-attr #1 k f32", "set-attr #1 k [1, \"a\", {b, c = @f}]", "drop-attr #1 \"k\"", "drop-attr #1 k l",
+       "replace %v1.0", "replace %v1.0 %a1.0", "begin x", "commit 1", "rollback #1", "insert before #1 %0 = \"test.a\"() : () -> ()", "// a comment", "", " \terase\t#2  \r",
+       "insert end #0 0 \"test.a\"(%v99.0) : (i32) -> ()", "insert end #0 0 \"test.a\"() : () -> () \"test.b\"() : () -> ()", "insert end #0 0 \"test.a\"()", "report uses",
+       "report kind9", "report use", "print", "resync kind7", "detach kind7", "insert start #0 0 %a:2 = \"test.a\"() ({ ^bb0(%b: i8): \"test.b\"(%b) : (i8) -> () }, {}) {k} : () -> (i1, i2)"]
+
+
+def line_of(maker, run, scripter):
+    part = maker.random()
+    if part < 0.62:
+        return scripter.edit()
+    if part < 0.8:
+        return scripter.mark()
+    if part < 0.9:
+        return maker.choice(ODD)
+    if part < 0.98:
+        return maker.choice(["resync", "resync", "resync", "report"]) + " " + maker.choice(script.BOXES)
+    return f"detach {maker.choice(script.BOXES)}"
+
+
+def script_for(maker, text, kinds):
+    run, lines = script.Run(script.read(text), kinds), []
+    # A few scripts open more marks than there may be.
+    scripter, deep = chance.Scripter(maker, run), maker.random() < 0.03
+    for left in reversed(range(maker.randrange(1, MOST_COMMANDS))):
+        line = "begin" if left > 6 and deep else line_of(maker, run, scripter)
+        for kept in script.lines_of(line.encode()):
+            run.reply(kept)
+        lines.append(line)
+    return text + ("// -----\n" + "\n".join(lines)).encode() + maker.choice([b"", b"\n"])
+
+
+def main(argv):
+    if not 1 <= len(argv) <= 4:
+        sys.exit(__doc__)
+    count, seed = map(int, (argv[1:3] + ["2000", "19"][len(argv[1:3]):]))
+    kinds = argv[3].split(",") if len(argv) > 3 else script.BOXES
+    print("seed", seed)
+    maker, commands = random.Random(seed), 0
+    for number in range(count):
+        taste = maker.choice(sorted(chance.TASTES))
+        text = text_of(chance.module(maker, maker.randrange(2, MOST_OPS), maker.choice([0, 0.1, 0.3]), taste)).encode()
+        try:
+            text = script_for(maker, text, kinds)
+        except rules.Open:
+            continue
+        brief = number % 3 == 0
+        status, out = script.run(text, brief, kinds)
+        commands += text.partition(b"// -----\n")[2].count(b"\n")
+        it = subprocess.run([argv[0]] + ["--brief"] * brief, input=text, capture_output=True)
+        if (it.returncode, it.stdout) != (status, out):
+            print(f"script {number}{' --brief' * brief}:\n{text.decode()}\nthe program: {it.returncode}\n{it.stdout.decode()}\nthe rules: {status}\n{out.decode()}")
+            return 1
+    print(f"{count} scripts of about {commands} commands: no difference")
+    return 0
+
+
+if __name__ == "__main__":
+    sys.exit(main(sys.argv[1:]))
