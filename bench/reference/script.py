@@ -86,7 +86,7 @@ class Run:
     """A module with its marks and the kinds that are attached."""
 
     def __init__(self, module, boxes=BOXES, commands=ALL):
-        self.module, self.boxes, self.commands, self.marks, self.listing = module, list(boxes), commands, [], b""
+        self.module, self.boxes, self.commands, self.marks = module, list(boxes), commands, []
 
     def edit(self, call, *args):
         """Makes an edit whole, or not at all."""
