@@ -2,10 +2,11 @@
 """Runs random scripts of all edits, marks, commits and rollbacks in the program and by the rules (bench/reference), and compares
 the status and every byte that is written: replies, modules, and the rows of each listener after each command.
 
-usage: bench/edits_fuzz.py PROGRAM [COUNT [SEED [KINDS]]]
+usage: bench/edits_fuzz.py PROGRAM [COUNT [SEED [KINDS [rewrites]]]]
 
 COUNT is 2000 and SEED 19 where they aren't given; KINDS are the program's listeners in their order, with commas (all six where
-they aren't given). The seed is printed. A difference is printed whole, and ends it with status 1."""
+they aren't given). With `rewrites` there are canonicalizations and conversions too. The seed is printed. A difference is printed
+whole, and ends it with status 1."""
 import random
 import subprocess
 import sys
@@ -24,8 +25,27 @@ ODD = ["jump", "erase", "erase 3", "erase #3 x", "erase #4294967296", "move #1",
        "report kind9", "report use", "print", "resync kind7", "detach kind7", "insert start #0 0 %a:2 = \"test.a\"() ({ ^bb0(%b: i8): \"test.b\"(%b) : (i8) -> () }, {}) {k} : () -> (i1, i2)"]
 
 
+NAMES = ["arith.maxsi", "arith.minui", "arith.subi", "arith.remsi", "arith.remui", "arith.addi", "arith.constant", "arith.cmpi", "scf.for", "scf.if", "func.func",
+         "func.return", "builtin.module", "scf.yield", "test.a", "arith.index_cast", "memref.load"]
+
+
+def rewriting(maker):
+    """A canonicalization or a conversion."""
+    if maker.random() < 0.5:
+        return maker.choice(["canon", "canon", "canon limit 1", "canon limit 3", "canon limit 0", "canon limit"])
+    names = maker.sample(NAMES, maker.randrange(1, 12))
+    cuts = sorted(maker.randrange(len(names) + 1) for _ in range(2))
+    lists = {"legal": names[:cuts[0]], "illegal": names[cuts[0]:cuts[1]], "dynamic": names[cuts[1]:]}
+    clauses = [f"{word} {','.join(them)}" for word, them in lists.items() if them]
+    clauses.append("rules " + ",".join(map(str, maker.sample([2, 25, 26, 27, 28, 29, 30], maker.randrange(1, 8)))))
+    clauses += [f"depth {maker.choice([1, 2, 3, 16])}"] * (maker.random() < 0.3)
+    return f"convert {maker.choice(['partial', 'partial', 'full'])} {' '.join(clauses)}"
+
+
 def line_of(maker, run, scripter):
     part = maker.random()
+    if "canon" in run.commands and maker.random() < 0.3:
+        return rewriting(maker)
     if part < 0.62:
         return scripter.edit()
     if part < 0.8:
@@ -37,8 +57,8 @@ def line_of(maker, run, scripter):
     return f"detach {maker.choice(script.BOXES)}"
 
 
-def script_for(maker, text, kinds):
-    run, lines = script.Run(script.read(text), kinds), []
+def script_for(maker, text, kinds, commands):
+    run, lines = script.Run(script.read(text), kinds, commands), []
     # A few scripts open more marks than there may be.
     scripter, deep = chance.Scripter(maker, run), maker.random() < 0.03
     for left in reversed(range(maker.randrange(1, MOST_COMMANDS))):
@@ -50,21 +70,22 @@ def script_for(maker, text, kinds):
 
 
 def main(argv):
-    if not 1 <= len(argv) <= 4:
+    if not 1 <= len(argv) <= 5 or argv[4:] not in ([], ["rewrites"]):
         sys.exit(__doc__)
     count, seed = map(int, (argv[1:3] + ["2000", "19"][len(argv[1:3]):]))
     kinds = argv[3].split(",") if len(argv) > 3 else script.BOXES
+    known = script.REWRITES if argv[4:] else script.ALL
     print("seed", seed)
     maker, commands = random.Random(seed), 0
     for number in range(count):
         taste = maker.choice(sorted(chance.TASTES))
         text = text_of(chance.module(maker, maker.randrange(2, MOST_OPS), maker.choice([0, 0.1, 0.3]), taste)).encode()
         try:
-            text = script_for(maker, text, kinds)
+            text = script_for(maker, text, kinds, known)
         except rules.Open:
             continue
         brief = number % 3 == 0
-        status, out = script.run(text, brief, kinds)
+        status, out = script.run(text, brief, kinds, known)
         commands += text.partition(b"// -----\n")[2].count(b"\n")
         it = subprocess.run([argv[0]] + ["--brief"] * brief, input=text, capture_output=True)
         if (it.returncode, it.stdout) != (status, out):

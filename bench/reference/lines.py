@@ -33,6 +33,7 @@ class Table:
 
     def write(self, crate):
         folder = pathlib.Path("crates") / crate
+        folder.mkdir(exist_ok=True)
         (folder / "stdin").write_text("".join(line + "\n" for line in self.cases))
         (folder / "stdout").write_text("".join(want + "\n" for want in self.cases.values()))
         size = sum(map(len, self.cases))

@@ -1,5 +1,4 @@
 """Modules as plain trees: operations with ids, values by their owner's id."""
-import copy
 import pathlib
 import sys
 
@@ -28,6 +27,12 @@ class Op:
     def __init__(self, name, operands=(), results=(), props=None, attrs=None, regions=()):
         self.id, self.name, self.operands, self.results = None, name, list(operands), list(results)
         self.props, self.attrs, self.regions = dict(props or {}), dict(attrs or {}), list(regions)
+
+    def copy(self):
+        """A copy; types and attributes can't be changed, so they are shared."""
+        made = Op(self.name, self.operands, self.results, self.props, self.attrs)
+        made.id, made.regions = self.id, [block and Block(block.args, [op.copy() for op in block.ops]) for block in self.regions]
+        return made
 
     def blocks(self):
         return [block for block in self.regions if block is not None]
@@ -61,7 +66,7 @@ class Module:
         self.root, self.next = root, next
 
     def copy(self):
-        return copy.deepcopy(self)
+        return Module(self.root.copy(), self.next)
 
     def ops(self):
         """All operations by their ids, in pre-order."""

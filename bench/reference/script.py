@@ -1,18 +1,21 @@
 """Whole runs: a module, a script, and what is written."""
 import re
 
-from . import edits
+from . import conversion, edits, rewrites
 from .analyses import ANALYSES, KINDS
 from .module import printing, read, read_attr, read_op, rules, text_of
 
 WORDS = {20: "NoSuchOp", 21: "NoSuchValue", 22: "HasUses", 23: "NotVisible", 24: "TypeDiffers", 25: "NoSuchIndex", 26: "NoSuchKey",
          27: "IntoItself", 28: "OtherTable", 29: "IsRoot", 30: "NotEmpty", 31: "Full", 32: "IdsExhausted", 33: "TooDeepHere",
-         34: "TooManyMarks", 35: "NoMark", 41: "NoSuchKind", 60: "BadCommand"}
+         34: "TooManyMarks", 35: "NoMark", 41: "NoSuchKind", 50: "BadLimit", 51: "NotLegalised", 52: "ChainTooDeep", 53: "Unreconciled",
+         54: "BadTarget", 60: "BadCommand"}
 BOXES = tuple(KINDS.values())
 MOST_MARKS = 16
 FIRST = {"report", "print", "set-operand"}
 EDITS = FIRST | {"erase", "move", "insert", "replace", "set-attr", "drop-attr", "resync", "detach"}
 ALL = EDITS | {"begin", "commit", "rollback"}
+REWRITES = ALL | {"canon", "convert"}
+MOST_LIMIT, LIMIT = 1000000, 1000
 
 
 class Bad(Exception):
@@ -85,7 +88,8 @@ def need(is_so):
 class Run:
     """A module with its marks and the kinds that are attached."""
 
-    def __init__(self, module, boxes=BOXES, commands=ALL):
+    def __init__(self, module, boxes=BOXES, commands=ALL, limit=LIMIT):
+        self.limit = limit
         self.module, self.boxes, self.commands, self.marks = module, list(boxes), commands, []
 
     def edit(self, call, *args):
@@ -100,7 +104,7 @@ class Run:
     def rows(self, kind):
         return "".join(row + "\n" for row in ANALYSES[kind](self.module))
 
-    # Each command takes its text, and gives what stands behind `ok` and what is written below it.
+    # Each command takes its text, and gives what stands in place of `ok` and what is written below it.
 
     def report(self, text):
         kind = kind_of(text)
@@ -136,7 +140,7 @@ class Run:
         need(rest != "")
         tree = read_op(rest.encode("latin-1"), self.module)
         self.edit(edits.insert, edits.resolved(self.module, words), tree)
-        return f" #{tree.id}", ""
+        return f"ok #{tree.id}", ""
 
     def set_attr(self, text):
         op, rest = cut(text)
@@ -174,20 +178,45 @@ class Run:
         edits.refuse(35, not self.marks)
         self.module = self.marks.pop()
 
+    def canon(self, text):
+        words = re.split("[ \t]+", text) if text else []
+        need(not words or len(words) == 2 and words[0] == "limit")
+        limit = number(words[1]) if words else self.limit
+        edits.refuse(50, not 1 <= limit <= MOST_LIMIT)
+        self.module, count, is_done = rewrites.canonical(self.module, limit)
+        return ("converged" if is_done else "limit") + f" {count}", ""
+
+    def convert(self, text):
+        words = re.split("[ \t]+", text)
+        need(words[0] in ("partial", "full") and len(words) % 2 == 1)
+        clauses = list(zip(words[1::2], words[2::2]))
+        need(len(dict(clauses)) == len(clauses))
+        target = {}
+        for word, rest in clauses:
+            need(word in ("legal", "illegal", "dynamic", "rules", "depth"))
+            parts = rest.split(",")
+            need("" not in parts)
+            numbers = [number(part) for part in parts] if word in ("rules", "depth") else []
+            need(word != "depth" or len(parts) == 1)
+            target[word] = numbers[0] if word == "depth" else numbers or [part.encode("latin-1") for part in parts]
+        self.module, count = conversion.converted(self.module, conversion.Target(words[0] == "full", **target))
+        return f"converted {count}", ""
+
     def reply(self, line):
         """The reply to a line that is no comment, and whether it has a listing."""
         word, rest = cut(line)
-        if word in ("canon", "convert"):
-            raise NotImplementedError(word)
         try:
             need(word in self.commands)
             after, below = getattr(self, word.replace("-", "_"))(rest) or ("", "")
-            return f" ok{after}\n{below}", word not in ("report", "print")
+            return f" {after or 'ok'}\n{below}", word not in ("report", "print")
         except Bad:
             return " refused 60 BadCommand\n", True
         except rules.Refused as fault:
             text = "32 IdsExhausted" if fault.number == 32 else printing.refusal(fault)
             return f" refused {text}\n", True
+        except conversion.Refused as fault:
+            op = "" if fault.op is None else f" #{fault.op}"
+            return f" refused {fault.number} {WORDS[fault.number]}{op}\n", True
         except edits.Refused as fault:
             return f" refused {fault.number} {WORDS[fault.number]}\n", word not in ("report", "print")
 
@@ -214,11 +243,11 @@ def lines_of(script):
             yield line.decode("latin-1")
 
 
-def run(text, brief=True, boxes=BOXES, commands=ALL):
+def run(text, brief=True, boxes=BOXES, commands=ALL, limit=LIMIT):
     """The status of a run over an input, and what it writes."""
     text, script = split(text)
     try:
-        here = Run(read(text), boxes, commands)
+        here = Run(read(text), boxes, commands, limit)
     except rules.Refused as fault:
         return 3, f"module refused {printing.refusal(fault)}\n".encode()
     out, status = [], 0
