@@ -27,12 +27,18 @@ ODD = ["jump", "erase", "erase 3", "erase #3 x", "erase #4294967296", "move #1",
 
 NAMES = ["arith.maxsi", "arith.minui", "arith.subi", "arith.remsi", "arith.remui", "arith.addi", "arith.constant", "arith.cmpi", "scf.for", "scf.if", "func.func",
          "func.return", "builtin.module", "scf.yield", "test.a", "arith.index_cast", "memref.load"]
+INDEXED = ",".join(f"arith.{word}" for word in "constant addi subi muli cmpi select divsi divui remsi andi ori xori shli shrsi shrui maxsi minui".split())
+TARGETS = ["illegal arith.remsi,arith.remui rules 27", "illegal arith.maxsi,arith.maxui,arith.minsi,arith.minui rules 25", "illegal arith.subi rules 26",
+           "illegal arith.remsi,arith.remui,arith.subi rules 2,27,26", f"dynamic {INDEXED} rules 28", f"dynamic {INDEXED},scf.for,scf.if rules 28,29,30",
+           "dynamic scf.for rules 29", "dynamic scf.if rules 30", "dynamic scf.for,scf.if,arith.constant rules 30,29,28", "legal test.a rules 2"]
 
 
 def rewriting(maker):
     """A canonicalization or a conversion."""
     if maker.random() < 0.5:
         return maker.choice(["canon", "canon", "canon limit 1", "canon limit 3", "canon limit 0", "canon limit"])
+    if maker.random() < 0.7:
+        return f"convert partial {maker.choice(TARGETS)}" + maker.choice(["", "", ",2", " depth 1", " depth 2"])
     names = maker.sample(NAMES, maker.randrange(1, 12))
     cuts = sorted(maker.randrange(len(names) + 1) for _ in range(2))
     lists = {"legal": names[:cuts[0]], "illegal": names[cuts[0]:cuts[1]], "dynamic": names[cuts[1]:]}
