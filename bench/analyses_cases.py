@@ -2,8 +2,8 @@
 """Writes stdin and stdout of crates/analyses_cases: whole runs with the six listeners, one a line, and what they write by the
 rules (bench/reference). Run it at the top of the repository.
 
-For each of symbols, effects, dead operations and constants a few modules by hand, and modules by chance with their rows; then
-scripts of edits, marks and rollbacks with all rows after each command. By chance is from the seed below."""
+For each of symbols, effects, dead operations and constants a few modules by hand, and modules by chance with their rows; edits by
+hand that change rows elsewhere; then scripts of edits, marks and rollbacks with all rows after each command. By chance is from the seed below."""
 import random
 import sys
 
@@ -123,6 +123,58 @@ for number, word in enumerate("eq ne slt sle sgt sge ult ule ugt uge".split()):
     compared = "".join(f'%c{k} = "arith.cmpi"({a}, {b}) <{{predicate = {number} : i64}}> : (i8, i8) -> i1\n' for k, (a, b) in enumerate(pairs))
     BY_HAND["constants"].append((known("-1 : i8", "1 : i8") + compared, ["%v1.0 -1 : i8", "%v2.0 1 : i8"] + [f"%v{k + 3}.0 {row}" for k, row in enumerate(rows)]))
 
+# A module, and edits after each of which all rows are reported: each changes rows of an operation that isn't the edited one.
+NEAR = """%t = "test.d"() : () -> i1
+%a = "test.d"() : () -> i32
+%r = "scf.if"(%t) ({
+  "test.a"() : () -> ()
+  "scf.yield"(%a) : (i32) -> ()
+}, {
+  "scf.yield"(%a) : (i32) -> ()
+}) : (i1) -> i32
+"test.r"() ({
+  "test.b"() : () -> ()
+}, {
+^bb0:
+}) : () -> ()
+"func.func"() <{function_type = (i32) -> i32, sym_name = "f"}> ({
+^bb0(%x: i32):
+  %c = "arith.constant"() <{value = 5 : i32}> : () -> i32
+  %s = "arith.addi"(%x, %c) : (i32, i32) -> i32
+  "func.return"(%s) : (i32) -> ()
+}) : () -> ()
+"func.call"() <{callee = @f}> : () -> ()
+"""
+EDITS = [
+    # The last operation of a block goes, comes, and is shifted away and back.
+    ["begin", "erase #5", "insert end #3 0 \"scf.yield\"(%v2.0) : (i32) -> ()", "move #4 end #3 0", "rollback", "move #5 start #3 0", "move #4 before #5", "move #5 start #7 1",
+     "move #5 end #3 0", "move #6 end #3 0", "move #6 end #3 1"],
+    ["erase #6", "insert end #3 1 \"test.c\"() : () -> ()", "insert end #3 1 \"scf.yield\"(%v2.0) : (i32) -> ()", "erase #14", "move #5 end #3 1"],
+    ["begin", "erase #3", "rollback", "begin", "move #5 after #6", "move #6 end #0 0", "rollback", "begin", "erase #12", "insert end #9 0 \"test.c\"() : () -> ()", "rollback"],
+    # Properties of the operation around, of a callee, of a constant.
+    ["set-attr #9 function_type (i32) -> i64", "set-attr #9 function_type (i64) -> i32", "drop-attr #9 function_type", "set-attr #9 function_type () -> ()",
+     "set-attr #9 function_type (i32) -> i32", "set-attr #9 sym_name 3 : i8", "set-attr #9 sym_name \"g\"", "set-attr #13 callee @g", "drop-attr #9 sym_name"],
+    ["set-attr #10 value 6 : i32", "set-attr #10 value 6 : i64", "drop-attr #10 value", "set-attr #10 value \"x\"", "set-attr #10 value -1 : i32", "set-attr #11 extra unit", "drop-attr #11 extra",
+     "set-attr #11 overflowFlags 1 : i32", "set-attr #11 overflowFlags #arith.overflow<nsw>"],
+    # Operands.
+    ["set-operand #5 0 %v1.0", "set-operand #3 0 %v2.0", "set-operand #5 0 %v2.0", "set-operand #11 0 %v10.0", "set-operand #12 0 %v10.0", "set-operand #11 1 %a9.0.0", "set-operand #12 0 %a9.0.0"],
+    ["replace %v11.0 %v10.0", "erase #11", "replace %v10.0 %a9.0.0", "erase #10", "begin", "erase #9", "rollback"],
+    # Functions and modules under other operations.
+    ["move #9 start #7 1", "move #9 start #3 0", "move #9 end #3 0", "move #9 end #0 0", "move #13 start #0 0", "insert end #0 0 \"builtin.module\"() <{sym_name = \"m\"}> ({ ^bb0: }) : () -> ()",
+     "insert end #14 0 \"func.func\"() <{function_type = () -> (), sym_name = \"f\", sym_visibility = \"private\"}> ({}) : () -> ()", "set-attr #13 callee @m::@f", "set-attr #8 k [@m::@f, @f]",
+     "erase #15", "erase #14", "set-attr #13 callee @f"],
+    # Memory inside.
+    ["insert before #4 %m = \"memref.alloc\"() : () -> memref<i32>", "insert before #4 \"memref.store\"(%v2.0, %v14.0) : (i32, memref<i32>) -> ()", "move #4 end #0 0", "erase #15", "erase #14",
+     "set-operand #12 0 %a9.0.0", "erase #11", "begin", "begin", "erase #10", "insert before #12 \"arith.constant\"() <{value = 5 : i32}> : () -> i32", "rollback", "commit", "rollback"],
+]
+
+
+def by_edits():
+    reports = "".join(f"report {kind}\n" for kind in script.BOXES)
+    for edits in EDITS:
+        case((NEAR + "// -----\n" + reports + "".join(f"{line}\n{reports}" for line in edits)).encode())
+        case((NEAR + "// -----\n" + "\n".join(edits)).encode(), brief=False)
+
 
 def by_hand():
     for kind, modules in BY_HAND.items():
@@ -151,6 +203,7 @@ def scripts():
 
 
 by_hand()
+by_edits()
 modules()
 scripts()
 print("seed", SEED)
