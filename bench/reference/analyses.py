@@ -110,6 +110,49 @@ def symbols(module):
     return sum(groups, []) + used + unresolved + mismatches
 
 
+class Reach:
+    """Which private definitions of a module something reaches."""
+
+    def __init__(self, module):
+        self.symbols = Symbols(module)
+        ops = self.symbols.ops
+        self.names = {number: name for _, name, number in self.symbols.definitions
+                      if ops[number].props.get(b"sym_visibility") == ("str", b"private")}
+        self.by = [(self.around(op), self.reached_by(op)) for op in ops.values()]
+
+    def around(self, op):
+        """The private definitions that an operation is or stands in."""
+        found, where = {op.id}, self.symbols.places.get(op.id)
+        while where is not None:
+            found.add(where.parent.id)
+            where = self.symbols.places.get(where.parent.id)
+        return found & self.names.keys()
+
+    def reached_by(self, op):
+        """Those that a front of a reference of an operation resolves to."""
+        fronts = [parts[:count] for parts in references(op) for count in range(1, len(parts) + 1)]
+        return {self.symbols.resolved(op, parts) for parts in fronts} & self.names.keys()
+
+    def reached(self):
+        found = set()
+        while True:
+            more = set().union(found, *(to for around, to in self.by if around <= found))
+            if more == found:
+                return found
+            found = more
+
+
+def unreached_ops(module):
+    """The private definitions that nothing reaches, with their names."""
+    them = Reach(module)
+    found = them.reached()
+    return {number: name for number, name in them.names.items() if number not in found}
+
+
+def unreached(module):
+    return [f"#{number} {symbol_text((name,))}" for number, name in sorted(unreached_ops(module).items())]
+
+
 # Effects, dead operations, constants.
 
 def effects_of(op):
@@ -149,5 +192,5 @@ def constants(module):
 
 
 ANALYSES = {"uses": uses, "symbols": symbols, "diagnostics": diagnostics, "effects": effects, "dead": dead,
-            "constants": constants}
+            "constants": constants, "unreached": unreached}
 KINDS = {1: "uses", 2: "symbols", 3: "diagnostics", 4: "effects", 5: "dead", 6: "constants"}

@@ -2,7 +2,7 @@
 import re
 
 from . import conversion, edits, rewrites
-from .analyses import ANALYSES, KINDS
+from .analyses import ANALYSES, KINDS, unreached_ops
 from .module import printing, read, read_attr, read_op, rules, text_of
 
 WORDS = {20: "NoSuchOp", 21: "NoSuchValue", 22: "HasUses", 23: "NotVisible", 24: "TypeDiffers", 25: "NoSuchIndex", 26: "NoSuchKey",
@@ -15,6 +15,7 @@ FIRST = {"report", "print", "set-operand"}
 EDITS = FIRST | {"erase", "move", "insert", "replace", "set-attr", "drop-attr", "resync", "detach"}
 ALL = EDITS | {"begin", "commit", "rollback"}
 REWRITES = ALL | {"canon", "convert"}
+LAST = REWRITES | {"sweep"}
 MOST_LIMIT, LIMIT = 1000000, 1000
 
 
@@ -39,13 +40,6 @@ def value_of(word):
     if not found:
         raise Bad
     return (word[1],) + tuple(number(it) for it in found.groups() if it is not None)
-
-
-def kind_of(word):
-    for kind in range(256):
-        if word == KINDS.get(kind, f"kind{kind}"):
-            return word
-    raise Bad
 
 
 def cut(text):
@@ -89,7 +83,7 @@ class Run:
     """A module with its marks and the kinds that are attached."""
 
     def __init__(self, module, boxes=BOXES, commands=ALL, limit=LIMIT):
-        self.limit = limit
+        self.limit, self.kinds = limit, {**KINDS, 7: "unreached"} if "sweep" in commands else KINDS
         self.module, self.boxes, self.commands, self.marks = module, list(boxes), commands, []
 
     def edit(self, call, *args):
@@ -97,6 +91,10 @@ class Run:
         tried = self.module.copy()
         call(tried, *args)
         self.module = tried
+
+    def kind_of(self, word):
+        need(word in [self.kinds.get(kind, f"kind{kind}") for kind in range(256)])
+        return word
 
     def is_attached(self, kind):
         edits.refuse(41, kind not in self.boxes)
@@ -107,7 +105,7 @@ class Run:
     # Each command takes its text, and gives what stands in place of `ok` and what is written below it.
 
     def report(self, text):
-        kind = kind_of(text)
+        kind = self.kind_of(text)
         self.is_attached(kind)
         return "", self.rows(kind)
 
@@ -157,10 +155,10 @@ class Run:
         self.edit(edits.drop_attr, op, key)
 
     def resync(self, text):
-        self.is_attached(kind_of(text))
+        self.is_attached(self.kind_of(text))
 
     def detach(self, text):
-        self.is_attached(kind_of(text))
+        self.is_attached(self.kind_of(text))
         self.boxes.remove(text)
 
     def begin(self, text):
@@ -201,6 +199,12 @@ class Run:
             target[word] = numbers[0] if word == "depth" else numbers or [part.encode("latin-1") for part in parts]
         self.module, count = conversion.converted(self.module, conversion.Target(words[0] == "full", **target))
         return f"converted {count}", ""
+
+    def sweep(self, text):
+        need(text == "")
+        numbers = unreached_ops(self.module)
+        self.edit(edits.sweep, numbers)
+        return f"swept {len(numbers)}", ""
 
     def reply(self, line):
         """The reply to a line that is no comment, and whether it has a listing."""
