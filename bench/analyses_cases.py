@@ -1,9 +1,11 @@
 #!/usr/bin/env python3
-"""Writes stdin and stdout of crates/analyses_cases: whole runs with the six listeners, one a line, and what they write by the
-rules (bench/reference). Run it at the top of the repository.
+"""Writes stdin and stdout of crates/effects_cases, symbols_cases, constants_cases and analyses_cases: whole runs with the listeners
+of effects and dead operations, of symbols, of constants (each beside that of uses), and with all six, one a line, and what they
+write by the rules (bench/reference). Run it at the top of the repository.
 
-For each of symbols, effects, dead operations and constants a few modules by hand, and modules by chance with their rows; edits by
-hand that change rows elsewhere; then scripts of edits, marks and rollbacks with all rows after each command. By chance is from the seed below."""
+For each listener there are modules by hand, modules by chance, and scripts that set operands; for all six together edits by hand
+that change rows elsewhere, and scripts of edits, marks and rollbacks with all rows after each command. By chance is from the
+seed below."""
 import random
 import sys
 
@@ -16,13 +18,20 @@ from reference.module import text_of  # noqa: E402
 SEED = 20
 MODULES, SCRIPTS, COMMANDS = 300, 100, 10
 KINDS = ("symbols", "effects", "dead", "constants")
-table = Table()
+CRATES = {"symbols_cases": ("symbols",), "effects_cases": ("effects", "dead"), "constants_cases": ("constants",)}
 
 
-def case(text, brief=True):
-    status, out = script.run(text, brief)
-    table.case(f"{'brief' if brief else 'full'} {given(text)}", f"{status} {told(out)}")
-    return out
+class Cases(Table):
+    """The cases of one program, with its listeners and the commands that it is asked."""
+
+    def __init__(self, kinds, commands):
+        super().__init__()
+        self.kinds, self.commands = kinds, commands
+
+    def run(self, text, brief=True):
+        status, out = script.run(text, brief, self.kinds, self.commands)
+        self.case(f"{'brief' if brief else 'full'} {given(text)}", f"{status} {told(out)}")
+        return out
 
 
 def function(name, ty, args, body, more=""):
@@ -169,42 +178,53 @@ EDITS = [
 ]
 
 
-def by_edits():
-    reports = "".join(f"report {kind}\n" for kind in script.BOXES)
+def asked(kinds):
+    return "".join(f"report {kind}\n" for kind in kinds)
+
+
+def script_of(text, lines, below):
+    """A module, and a script with the same commands before the first line and after each."""
+    return text + ("// -----\n" + below + "".join(f"{line}\n{below}" for line in lines)).encode()
+
+
+def by_hand(cases, kind):
+    for text, want in BY_HAND[kind]:
+        found = cases.run((text + "// -----\n" + asked([kind])).encode()).decode().splitlines()[1:]
+        assert found == want, (text, found, want)
+
+
+def by_chance(cases, kind, maker):
+    for number in range(MODULES):
+        text = text_of(chance.module(maker, maker.randrange(4, 16), maker.choice([0, 0.1, 0.3]), kind)).encode()
+        if number % 5:
+            cases.run(text + f"// -----\nreport {kind}\n".encode())
+        else:
+            lines = chance.commands(maker, text, 4, chance.Scripter.set_operand)
+            cases.run(script_of(text, lines, asked([kind]) if number % 25 else ""), number % 25 != 0)
+
+
+def by_edits(cases):
     for edits in EDITS:
-        case((NEAR + "// -----\n" + reports + "".join(f"{line}\n{reports}" for line in edits)).encode())
-        case((NEAR + "// -----\n" + "\n".join(edits)).encode(), brief=False)
+        cases.run(script_of(NEAR.encode(), edits, asked(script.BOXES)))
+        cases.run(script_of(NEAR.encode(), edits, ""), brief=False)
 
 
-def by_hand():
-    for kind, modules in BY_HAND.items():
-        for text, want in modules:
-            found = case((text + f"// -----\nreport {kind}\n").encode()).decode().splitlines()[1:]
-            assert found == want, (text, found, want)
-
-
-def modules():
-    maker = random.Random(SEED)
-    for kind in KINDS:
-        for _ in range(MODULES):
-            made = chance.module(maker, maker.randrange(4, 16), maker.choice([0, 0.1, 0.3]), kind)
-            case(text_of(made).encode() + f"// -----\nreport {kind}\n".encode())
-
-
-def scripts():
-    maker = random.Random(SEED + 1)
-    reports = "".join(f"report {kind}\n" for kind in script.BOXES)
+def by_scripts(cases, maker):
     for number in range(SCRIPTS):
         text = text_of(chance.module(maker, maker.randrange(5, 14), maker.choice([0, 0.1, 0.3]), (KINDS + ("any",))[number % 5])).encode()
-        lines = chance.commands(maker, text, COMMANDS)
-        brief = number % 10 != 0
-        below = reports if brief else ""
-        case(text + ("// -----\n" + below + "".join(f"{line}\n{below}" for line in lines)).encode(), brief)
+        lines, brief = chance.commands(maker, text, COMMANDS, chance.Scripter.edit_or_mark), number % 10 != 0
+        cases.run(script_of(text, lines, asked(script.BOXES) if brief else ""), brief)
 
 
-by_hand()
-by_edits()
-modules()
-scripts()
 print("seed", SEED)
-table.write("analyses_cases")
+maker = random.Random(SEED)
+for crate, kinds in CRATES.items():
+    cases = Cases(("uses", *kinds), script.FIRST)
+    for kind in kinds:
+        by_hand(cases, kind)
+        by_chance(cases, kind, maker)
+    cases.write(crate)
+cases = Cases(script.BOXES, script.ALL)
+by_edits(cases)
+by_scripts(cases, maker)
+cases.write("analyses_cases")

@@ -409,17 +409,18 @@ class Scripter:
         words = ["begin", "begin", "commit", "rollback", "rollback"] if self.run.marks else ["begin"] * 6 + ["commit", "rollback"]
         return self.chance.choice(words)
 
+    def edit_or_mark(self):
+        return self.edit() if self.chance.random() < 0.75 else self.mark()
 
-def commands(chance, text, count):
-    """A script of edits, marks and rollbacks over a module; a mark that is open is closed in the end, most of the time."""
+
+def commands(chance, text, count, make):
+    """A script over a module, of commands that a call of `Scripter` makes; marks that are open are closed in the end, most of
+    the time."""
     from . import script
     run, lines = script.Run(script.read(text)), []
     scripter = Scripter(chance, run)
     while len(lines) < count or run.marks and chance.random() < 0.9:
-        if len(lines) >= count:
-            line = chance.choice(["commit", "rollback", "rollback"])
-        else:
-            line = scripter.edit() if chance.random() < 0.75 else scripter.mark()
+        line = make(scripter) if len(lines) < count else chance.choice(["commit", "rollback", "rollback"])
         run.reply(line)
         lines.append(line)
     return lines

@@ -37,4 +37,4 @@ class Table:
         (folder / "stdin").write_text("".join(line + "\n" for line in self.cases))
         (folder / "stdout").write_text("".join(want + "\n" for want in self.cases.values()))
         size = sum(map(len, self.cases))
-        print(len(self.cases), "cases,", size, "bytes")
+        print(f"{crate}: {len(self.cases)} cases, {size} bytes")
