@@ -4,6 +4,5 @@ pub mod Rows
 pub mod Listener
 pub mod Bounds
 pub mod Panels
-pub mod Follows
 pub mod Looks
 pub mod Facts

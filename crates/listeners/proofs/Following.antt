@@ -135,12 +135,12 @@ followed_agrees c (Put x place fresh) s m ks ls step shows f is =
     let now : ls ≡ keys_of (put_all (operand_uses x 0 vs) (all_uses m.tree)) = f vs (all_uses m.tree) operands (few_operands n x p.here step.after p.found) is in
     now
     ∙ ap keys_of (
-        put_all_order (operand_uses x 0 vs) (uses_in m.tree)
-        ∙ sym (
-            cut_order p.here n.tree (without x n.tree) cut
-            ∙ ap in_order (leaf_uses p.here (uses_in (without x n.tree)) (step.changes.empty p.here p.found))
-            ∙ (λ i. in_order (operand_uses (p.id i) 0 vs ++ uses_in (sym step.changes.left i)))
-        )
+    put_all_order (operand_uses x 0 vs) (uses_in m.tree)
+    ∙ sym (
+    cut_order p.here n.tree (without x n.tree) cut
+    ∙ ap in_order (leaf_uses p.here (uses_in (without x n.tree)) (step.changes.empty p.here p.found))
+    ∙ (λ i. in_order (operand_uses (p.id i) 0 vs ++ uses_in (sym step.changes.left i)))
+    )
     )
 followed_agrees c (Take x place fresh) s m ks ls step shows f is =
     let n : Module = module_meaning c s.module_of in
@@ -151,9 +151,9 @@ followed_agrees c (Take x place fresh) s m ks ls step shows f is =
     let now : ls ≡ keys_of (drop_all (operand_uses x 0 vs) (all_uses m.tree)) = f vs (all_uses m.tree) operands (few_operands m x p.here step.before p.found) is in
     now
     ∙ ap (λ l. keys_of (drop_all (operand_uses x 0 vs) l)) (
-        cut_order p.here m.tree (without x m.tree) cut
-        ∙ ap in_order (leaf_uses p.here (uses_in (without x m.tree)) (step.changes.empty p.here p.found))
-        ∙ (λ i. in_order (operand_uses (p.id i) 0 vs ++ uses_in (sym step.changes.left i)))
+    cut_order p.here m.tree (without x m.tree) cut
+    ∙ ap in_order (leaf_uses p.here (uses_in (without x m.tree)) (step.changes.empty p.here p.found))
+    ∙ (λ i. in_order (operand_uses (p.id i) 0 vs ++ uses_in (sym step.changes.left i)))
     )
     ∙ ap keys_of (drop_all_order (operand_uses x 0 vs) (uses_in n.tree))
 followed_agrees c (SetOperand x k old new) s m ks ls step shows f is =
@@ -173,9 +173,9 @@ followed_agrees c (Shift x old new) s m ks ls step shows f is =
     let after = taken x n.tree p.here step.after.distinct (step.changes.same ∙ p.found) q.inner in
     f ∙ is
     ∙ ap keys_of (
-        cut_order p.here m.tree (without x m.tree) before
-        ∙ ap (λ t. in_order (uses_in p.here ++ uses_in t)) (sym step.changes.rest)
-        ∙ sym (cut_order p.here n.tree (without x n.tree) after)
+    cut_order p.here m.tree (without x m.tree) before
+    ∙ ap (λ t. in_order (uses_in p.here ++ uses_in t)) (sym step.changes.rest)
+    ∙ sym (cut_order p.here n.tree (without x n.tree) after)
     )
 
 -- the row of a key says its use

@@ -63,10 +63,7 @@ fn push_row(alloc: Global, key: &Key, rows: &mut Vec<Row>) -> Result<(), AllocEr
 }
 
 /// The rows of a table.
-pub(crate) fn rows_of_table(
-    alloc: Global,
-    table: &BTreeSet<Key>,
-) -> Result<Vec<Row>, AllocError>
+pub(crate) fn rows_of_table(alloc: Global, table: &BTreeSet<Key>) -> Result<Vec<Row>, AllocError>
     ensures { IfOk result (λ rows. map (λ (r : Line). r.cells.items) rows.items ≡ map key_cells table.now.keys) }
 {
     let mut rows = Vec::with_capacity(alloc, table.len())?;

@@ -1,4 +1,4 @@
-use Rattle.ir_event.specs.Follows.{all_told, all_more, all_kept, all_kinds}
+use Rattle.ir_event.proofs.Follows.{all_told, all_more, all_kept, all_kinds}
 use Rattle.ir_event.proofs.laws.told_listeners_follow.Goals as goal
 
 pub returns-clause-kept : goal.returns-clause-kept
