@@ -16,10 +16,10 @@ use Rattle.mlir_work_run_base.specs.Output.{IsSession}
 abbrev pub IsRefusal : Refusal → Option ℕ → ℕ → List ℕ → Type 0
 IsRefusal refusal offset status out = (status ≡ 3) × (out ≡ module_refused_line refusal offset)
 
--- why a text isn't read: there is no memory, it spells no tree, or the context is full
+-- why a text isn't read: there is no memory, or it spells no tree. The context is new, and no text fills it
 abbrev pub WhyNot : List ℕ → Refusal → Option ℕ → Type 0
 WhyNot text refusal None = refusal ≡ Memory
-WhyNot text refusal (Some offset) = ((y : Operation) → Spells text y → ⊥) ⊎ (refusal ≡ TooMany)
+WhyNot text refusal (Some offset) = (y : Operation) → Spells text y → ⊥
 
 -- the text is refused for that; its refusal and offset are open
 abbrev pub IsUnread : List ℕ → ℕ → List ℕ → Type 0

@@ -52,14 +52,14 @@ pub struct Unread {
     pub offset: Option<usize>,
 }
 
-/// The tree that a text spells.
-fn tree_of(alloc: Global, ctx: &mut Context, text: &[u8]) -> Result<TreeOp, Unread>
-    ensures read { IfOk result (λ t. IsOnly (Spells text.now) ctx.new t) }
-    ensures sound { IfOk result (λ t. IsSoundIn ctx.new t) }
+/// The tree that a text spells, and a context that holds what it names. No text within its limit fills it.
+fn tree_of(alloc: Global, text: &[u8]) -> Result<(Context, TreeOp), Unread>
+    ensures read { IfOk result (λ x. IsOnly (Spells text.now) x.0 x.1) }
+    ensures sound { IfOk result (λ x. IsSoundIn x.0 x.1) }
     ensures unread { IfErr result (λ e. WhyNot text.now e.refusal e.offset) }
 {
-    match reader::read(alloc, ctx, text) {
-        Ok(tree) => Ok(tree),
+    match reader::read_new(alloc, text) {
+        Ok(found) => Ok(found),
         Err(ReadError::Memory) => Err(Unread {
             refusal: Refusal::Memory,
             offset: None,
@@ -115,11 +115,8 @@ fn world_of(alloc: Global, text: &[u8]) -> Result<World, Unread>
     ensures read { IfOk result (λ w. IsWorldOf text.now (module_in w)) }
     ensures unread { IfErr result (λ e. WhyNot text.now e.refusal e.offset) }
 {
-    let Ok(mut ctx) = Context::new(alloc) else {
-        return Err(no_memory());
-    };
-    let tree = match tree_of(alloc, &mut ctx, text) {
-        Ok(tree) => tree,
+    let (ctx, tree) = match tree_of(alloc, text) {
+        Ok(found) => found,
         Err(unread) => return Err(unread),
     };
     let Some(world) = hold(alloc, ctx, tree) else {
