@@ -18,6 +18,7 @@ use crate::places::{attrs_apart, intern_attr, intern_name, intern_type, names_ap
 use crate::refusal::Refusal;
 use crate::words::{WORDS, word};
 use indexmap::{IndexMap, IndexSet};
+use ir_types_base::keyed::Keyed;
 use ir_types_base::lists::Items;
 use std::alloc::Global;
 use std::marker::Model;
@@ -26,9 +27,10 @@ use std::marker::Model;
 #[derive(Drop)]
 pub struct Context {
     alloc: Global,
-    names: IndexSet<Vec<u8>>,
-    types: IndexMap<TypeNode, u32>,
-    attrs: IndexMap<AttrNode, u32>,
+    keyed: Keyed,
+    names: IndexSet<Vec<u8>, Keyed>,
+    types: IndexMap<TypeNode, u32, Keyed>,
+    attrs: IndexMap<AttrNode, u32, Keyed>,
 }
 
 impl Model for Context {
@@ -53,16 +55,33 @@ impl Context {
         ensures ok { IfOk result (λ c. c ≡ record { names = words; types = []; attrs = [] }) }
         ensures refused { IfErr result (λ refusal. refusal ≡ Refusal.Memory) }
     {
-        let mut names: IndexSet<Vec<u8>> = IndexSet::new(alloc);
+        Context::keyed(alloc, Keyed::new(0))
+    }
+
+    /// The same with a key of its own, so that nobody who doesn't know it can write a text whose names
+    /// collide.
+    ///
+    /// Refusals: `Memory` alone.
+    pub fn keyed(alloc: Global, keyed: Keyed) -> Result<Context, Refusal>
+        ensures ok { IfOk result (λ c. c ≡ record { names = words; types = []; attrs = [] }) }
+        ensures refused { IfErr result (λ refusal. refusal ≡ Refusal.Memory) }
+    {
+        let mut names: IndexSet<Vec<u8>, Keyed> = IndexSet::with_hasher(alloc, keyed);
         for index in 0..WORDS {
             names.insert(Vec::from_slice(alloc, word(index))?)?;
         }
         Ok(Context {
             alloc,
+            keyed,
             names,
-            types: IndexMap::new(alloc),
-            attrs: IndexMap::new(alloc),
+            types: IndexMap::with_hasher(alloc, keyed),
+            attrs: IndexMap::with_hasher(alloc, keyed),
         })
+    }
+
+    /// What its things are hashed with.
+    pub fn hasher(&self) -> Keyed {
+        self.keyed
     }
 
     /// Whether a number is a name's.

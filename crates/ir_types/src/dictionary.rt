@@ -8,9 +8,10 @@ ghost use Rattle.ir_types.specs.Sound.{IsRising};
 use crate::ids::{AttrId, NameId};
 use crate::places::names_apart;
 use indexmap::IndexSet;
+use ir_types_base::keyed::Keyed;
 
 /// The bytes of a name, or none where the number is no name's.
-pub fn bytes_or_none(names: &IndexSet<Vec<u8>>, name: NameId) -> &[u8]
+pub fn bytes_or_none(names: &IndexSet<Vec<u8>, Keyed>, name: NameId) -> &[u8]
     ensures { result.now ≡ slice_index_or (map (λ v. v.items) names.now.keys) name [] }
 {
     match names.get_index(name.number() as usize) {
@@ -20,7 +21,7 @@ pub fn bytes_or_none(names: &IndexSet<Vec<u8>>, name: NameId) -> &[u8]
 }
 
 /// Sorts entries by their keys' bytes, and says whether a key stands twice. No memory.
-pub fn sort_entries(names: &IndexSet<Vec<u8>>, entries: &mut Vec<(NameId, AttrId)>) -> bool
+pub fn sort_entries(names: &IndexSet<Vec<u8>, Keyed>, entries: &mut Vec<(NameId, AttrId)>) -> bool
     requires { All (λ (e : ℕ × ℕ). e.0 < length names.now.keys) entries.old.items }
     ensures twin { result ≡ has_twin (map (λ (e : ℕ × ℕ). e.0) entries.old.items) }
     ensures moved { IsPermutation entries.old.items entries.new.items }
@@ -33,7 +34,7 @@ pub fn sort_entries(names: &IndexSet<Vec<u8>>, entries: &mut Vec<(NameId, AttrId
 }
 
 /// Puts entries into the order of their keys' bytes.
-fn order_entries(names: &IndexSet<Vec<u8>>, entries: &mut Vec<(NameId, AttrId)>)
+fn order_entries(names: &IndexSet<Vec<u8>, Keyed>, entries: &mut Vec<(NameId, AttrId)>)
     ensures moved { IsPermutation entries.old.items entries.new.items }
     ensures sorted { IsSortedBy (comes_before (map (λ v. v.items) names.now.keys)) entries.new.items }
 {

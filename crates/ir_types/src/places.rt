@@ -13,11 +13,12 @@ use crate::node::{AttrNode, TypeNode};
 use crate::refusal::Refusal;
 use indexmap::{IndexMap, IndexSet};
 use ir_types_base::intern::intern;
+use ir_types_base::keyed::Keyed;
 use std::alloc::Global;
 
 /// The place of a name. One that is there takes no memory.
 pub fn intern_name(
-    names: &mut IndexSet<Vec<u8>>,
+    names: &mut IndexSet<Vec<u8>, Keyed>,
     alloc: Global,
     bytes: &[u8],
 ) -> Result<u32, Refusal>
@@ -42,7 +43,7 @@ pub fn intern_name(
 
 /// The place of a type, which is kept with its depth.
 pub fn intern_type(
-    types: &mut IndexMap<TypeNode, u32>,
+    types: &mut IndexMap<TypeNode, u32, Keyed>,
     node: TypeNode,
     depth: u32,
 ) -> Result<u32, Refusal>
@@ -63,7 +64,7 @@ pub fn intern_type(
 
 /// The place of an attribute, which is kept with its depth.
 pub fn intern_attr(
-    attrs: &mut IndexMap<AttrNode, u32>,
+    attrs: &mut IndexMap<AttrNode, u32, Keyed>,
     node: AttrNode,
     depth: u32,
 ) -> Result<u32, Refusal>
@@ -83,21 +84,21 @@ pub fn intern_attr(
 }
 
 /// No two names have the same bytes.
-pub fn names_apart(names: &IndexSet<Vec<u8>>)
+pub fn names_apart(names: &IndexSet<Vec<u8>, Keyed>)
     ensures { AreApart (map (λ v. v.items) names.now.keys) }
 {
     let _count = names.len();
 }
 
 /// No type stands at two places.
-pub fn types_apart(types: &IndexMap<TypeNode, u32>)
+pub fn types_apart(types: &IndexMap<TypeNode, u32, Keyed>)
     ensures { AreApart (keys_of types.now.entries) }
 {
     let _count = types.len();
 }
 
 /// No attribute stands at two places.
-pub fn attrs_apart(attrs: &IndexMap<AttrNode, u32>)
+pub fn attrs_apart(attrs: &IndexMap<AttrNode, u32, Keyed>)
     ensures { AreApart (keys_of attrs.now.entries) }
 {
     let _count = attrs.len();

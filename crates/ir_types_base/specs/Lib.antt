@@ -1,2 +1,3 @@
 pub mod Built
 pub mod Interned
+pub mod Keyed

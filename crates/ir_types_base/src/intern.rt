@@ -4,6 +4,7 @@ ghost use Rattle.std.specs.List.{position_or_len, list_any};
 ghost use Rattle.indexmap.specs.IndexMap.{keys, index_map_len};
 ghost use Rattle.ir_types_base.specs.Interned.{with_last};
 
+use crate::keyed::Keyed;
 use indexmap::IndexMap;
 use std::alloc::AllocFailed;
 use std::hash::Hash;
@@ -31,7 +32,7 @@ impl<T: Drop> From<AllocFailed<T>> for InternFault {
 /// The place of a key in a map of at most `limit` keys. One that isn't there is put last, with the
 /// value. A key that is there takes no memory.
 pub fn intern<K: Eq + Hash + Drop, V: Drop>(
-    map: &mut IndexMap<K, V>,
+    map: &mut IndexMap<K, V, Keyed>,
     limit: u32,
     key: K,
     value: V,

@@ -2,4 +2,5 @@
 #![tactic(auto)]
 
 pub mod intern;
+pub mod keyed;
 pub mod lists;

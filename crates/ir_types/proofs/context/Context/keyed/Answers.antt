@@ -1,6 +1,6 @@
 use Rattle.std.proofs.Common.{arith, rules}
 use Rattle.ir_types.proofs.Beginning.{one_more_word, begun_with, begun_things}
-use Rattle.ir_types.proofs.context.Context.new.Goals as goal
+use Rattle.ir_types.proofs.context.Context.keyed.Goals as goal
 
 pub loop-index-preserved : goal.loop-index-preserved
 loop-index-preserved c = one_more_word (λ v. v.items) c.loop-index.index c.word.result.now c.loop-index.names.keys c.insert.new.self.keys c.in_ok-from_slice.field-0 c.loop-index.invariant c.word.ensures c.in_ok-from_slice.ensures.items c.in_ok-insert.ensures.keys
