@@ -4,6 +4,7 @@ ghost use Rattle.std.specs.HashMap.{get};
 ghost use Rattle.ir_text_base.specs.Scopes.{Scopes, bound, entered, find, left};
 ghost use Rattle.ir_text_base.specs.Places.{Agrees, joined, key_eq, pick, views};
 
+use ir_types_base::keyed::Keyed;
 use std::alloc::{AllocError, Global};
 use std::collections::HashMap;
 use std::marker::Model;
@@ -26,7 +27,7 @@ pub(crate) struct Floor {
 /// The names that are bound, with those that can be seen. MLIR Language Reference, "Regions".
 #[derive(Drop)]
 pub struct Names<'a, T> {
-    latest: HashMap<&'a [u8], Option<usize>>,
+    latest: HashMap<&'a [u8], Option<usize>, Keyed>,
     entries: Vec<Entry<'a, T>>,
     floors: Vec<Floor>,
     first: usize,
@@ -47,7 +48,7 @@ impl<'a, T> Model for Names<'a, T> {
 }
 
 /// The place that the map has for a name.
-fn place_of<'a>(latest: &HashMap<&'a [u8], Option<usize>>, name: &'a [u8]) -> Option<usize>
+fn place_of<'a>(latest: &HashMap<&'a [u8], Option<usize>, Keyed>, name: &'a [u8]) -> Option<usize>
     ensures { result ≡ joined (get key_eq latest.now name.entry) }
 {
     match latest.get(&name) {
@@ -70,7 +71,7 @@ fn pick<'s, 'a, T>(entries: &'s [Entry<'a, T>], first: usize, place: Option<usiz
 
 /// Puts an entry last.
 fn put<'a, T: Drop>(
-    latest: &mut HashMap<&'a [u8], Option<usize>>,
+    latest: &mut HashMap<&'a [u8], Option<usize>, Keyed>,
     entries: &mut Vec<Entry<'a, T>>,
     name: &'a [u8],
     value: T,
@@ -98,7 +99,7 @@ fn put<'a, T: Drop>(
 
 /// Takes entries away until there are so many.
 fn cut<'a, T: Drop>(
-    latest: &mut HashMap<&'a [u8], Option<usize>>,
+    latest: &mut HashMap<&'a [u8], Option<usize>, Keyed>,
     entries: &mut Vec<Entry<'a, T>>,
     count: usize,
 )
@@ -116,20 +117,19 @@ fn cut<'a, T: Drop>(
 }
 
 impl<'a, T: Drop> Names<'a, T> {
-    /// No names.
-    pub fn new(alloc: Global) -> Names<'a, T>
+    /// No names, which will be hashed with this key.
+    pub fn new(alloc: Global, keyed: Keyed) -> Names<'a, T>
         ensures { result ≡ record { here = []; outer = [] } }
     {
         Names {
-            latest: HashMap::new(alloc),
+            latest: HashMap::with_hasher(alloc, keyed),
             entries: Vec::new(alloc),
             floors: Vec::new(alloc),
             first: 0,
         }
     }
 
-    /// What the name stands for, where it can be seen. It takes time that does not grow with the
-    /// number of names.
+    /// What the name stands for, where it can be seen. It is found by its hash.
     pub fn find(&self, name: &'a [u8]) -> Option<&T>
         ensures { option_map (λ value. value.now) result ≡ find name.now self.now.here }
     {

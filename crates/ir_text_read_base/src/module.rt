@@ -106,7 +106,7 @@ pub fn explicit(alloc: Global, ctx: &mut Context, bytes: &[u8]) -> Result<Root, 
         Err(_) => return Err(ReadError::Memory),
     }
     let mut scope = Scope {
-        names: Names::new(alloc),
+        names: Names::new(alloc, ctx.hasher()),
         next: 0,
     };
     let around = Around {
@@ -158,7 +158,7 @@ pub fn implicit(alloc: Global, ctx: &mut Context, bytes: &[u8]) -> Result<TreeOp
     };
     ctx.sound();
     let mut scope = Scope {
-        names: Names::new(alloc),
+        names: Names::new(alloc, ctx.hasher()),
         next: 1,
     };
     let around = Around {
@@ -198,7 +198,7 @@ fn without_root(
     ensures full { (left : ℕ) → result ≡ Err (ReadError.Full left) → OpsFill 129 0 bytes.now ctx.old }
 {
     let mut scope = Scope {
-        names: Names::new(alloc),
+        names: Names::new(alloc, ctx.hasher()),
         next: 0,
     };
     let around = Around {

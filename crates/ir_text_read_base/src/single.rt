@@ -63,7 +63,7 @@ fn single<O: Outer>(
     ensures grows { Grows ctx.old ctx.new }
 {
     let mut scope = Scope {
-        names: Names::new(alloc),
+        names: Names::new(alloc, ctx.hasher()),
         next,
     };
     let around = Around { outer, last };

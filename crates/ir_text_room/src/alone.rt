@@ -14,24 +14,24 @@ use ir_tree::tree::TreeOp;
 use ir_types::context::Context;
 use std::alloc::Global;
 
-/// A context with nothing but the words of the operation table.
-fn new_context(alloc: Global) -> Result<Context, ReadError>
+/// A context with nothing but the words of the operation table, which hashes with a key.
+fn new_context(alloc: Global, key: u64) -> Result<Context, ReadError>
     ensures ok { IfOk result (λ c. c ≡ new_things) }
     ensures err { IfErr result (λ e. e ≡ ReadError.Memory) }
 {
-    match Context::new(alloc) {
+    match Context::keyed(alloc, key) {
         Ok(ctx) => Ok(ctx),
         Err(_) => Err(ReadError::Memory),
     }
 }
 
 /// The root, where the text is one module without operands and results.
-fn root_alone(alloc: Global, bytes: &[u8]) -> Result<(Context, Root), ReadError>
+fn root_alone(alloc: Global, key: u64, bytes: &[u8]) -> Result<(Context, Root), ReadError>
     ensures ok { IfOk result (λ x. IsRootOrNone bytes.now x.0 x.1) }
     ensures err { (f : TextFault) → result ≡ Err (ReadError.Refused f) → ⊥ }
     ensures full { (left : ℕ) → result ≡ Err (ReadError.Full left) → RootFills bytes.now new_things }
 {
-    let mut ctx = match new_context(alloc) {
+    let mut ctx = match new_context(alloc, key) {
         Ok(ctx) => ctx,
         Err(_) => return Err(ReadError::Memory),
     };
@@ -42,12 +42,12 @@ fn root_alone(alloc: Global, bytes: &[u8]) -> Result<(Context, Root), ReadError>
 }
 
 /// An implicit root of the operations of a text.
-fn body_alone(alloc: Global, bytes: &[u8]) -> Result<(Context, TreeOp), ReadError>
+fn body_alone(alloc: Global, key: u64, bytes: &[u8]) -> Result<(Context, TreeOp), ReadError>
     ensures read { IfOk result (λ x. IsOnly (IsBody bytes.now) x.0 x.1) }
     ensures refused { (f : TextFault) → result ≡ Err (ReadError.Refused f) → IsNone (IsBody bytes.now) }
     ensures full { (left : ℕ) → result ≡ Err (ReadError.Full left) → BodyFills bytes.now new_things }
 {
-    let mut ctx = match new_context(alloc) {
+    let mut ctx = match new_context(alloc, key) {
         Ok(ctx) => ctx,
         Err(_) => return Err(ReadError::Memory),
     };
@@ -58,10 +58,10 @@ fn body_alone(alloc: Global, bytes: &[u8]) -> Result<(Context, TreeOp), ReadErro
 }
 
 /// The fault of a text as it is written.
-fn fault_alone(alloc: Global, bytes: &[u8], fault: Fault) -> Result<Fault, ReadError>
+fn fault_alone(alloc: Global, key: u64, bytes: &[u8], fault: Fault) -> Result<Fault, ReadError>
     ensures { (left : ℕ) → result ≡ Err (ReadError.Full left) → OpsFill 129 0 bytes.now new_things }
 {
-    let mut ctx = match new_context(alloc) {
+    let mut ctx = match new_context(alloc, key) {
         Ok(ctx) => ctx,
         Err(_) => return Err(ReadError::Memory),
     };
@@ -75,6 +75,7 @@ fn fault_alone(alloc: Global, bytes: &[u8], fault: Fault) -> Result<Fault, ReadE
 /// the way of the root itself comes first.
 fn without_root(
     alloc: Global,
+    key: u64,
     bytes: &[u8],
     other: Option<Fault>,
 ) -> Result<(Context, TreeOp), ReadError>
@@ -82,11 +83,11 @@ fn without_root(
     ensures refused { (f : TextFault) → result ≡ Err (ReadError.Refused f) → IsNone (IsBody bytes.now) }
     ensures full { (left : ℕ) → result ≡ Err (ReadError.Full left) → Fills bytes.now }
 {
-    match body_alone(alloc, bytes) {
+    match body_alone(alloc, key, bytes) {
         Ok(found) => Ok(found),
         Err(ReadError::Refused(fault)) => match other {
             Some(other) => Err(ReadError::Refused(other)),
-            None => match fault_alone(alloc, bytes, fault) {
+            None => match fault_alone(alloc, key, bytes, fault) {
                 Ok(fault) => Err(ReadError::Refused(fault)),
                 Err(e) => Err(e),
             },
@@ -96,28 +97,29 @@ fn without_root(
 }
 
 /// The tree of a text, before its limits are looked at.
-fn source_alone(alloc: Global, bytes: &[u8]) -> Result<(Context, TreeOp), ReadError>
+fn source_alone(alloc: Global, key: u64, bytes: &[u8]) -> Result<(Context, TreeOp), ReadError>
     ensures read { IfOk result (λ x. IsOnly (IsSource bytes.now) x.0 x.1) }
     ensures refused { (f : TextFault) → result ≡ Err (ReadError.Refused f) → IsNone (IsSource bytes.now) }
     ensures full { (left : ℕ) → result ≡ Err (ReadError.Full left) → Fills bytes.now }
 {
-    let (ctx, root) = match root_alone(alloc, bytes) {
+    let (ctx, root) = match root_alone(alloc, key, bytes) {
         Ok(found) => found,
         Err(e) => return Err(e),
     };
     match root {
         Root::Is(tree) => Ok((ctx, tree)),
-        Root::Other(other) => without_root(alloc, bytes, other),
+        Root::Other(other) => without_root(alloc, key, bytes, other),
     }
 }
 
 /// The tree that a text spells, numbered from 0 in pre-order, and a context that holds what it names. A text
 /// that is one `builtin.module` without operands and results has it as its root; any other is the body of an
-/// implicit root.
+/// implicit root. The context hashes with a key, on which no answer depends; to whoever writes the text it is to be
+/// unknown, so that no text has names that collide.
 ///
 /// Refusals: those of reading into a context that is there. `Full` is none of them: no text within its limit
 /// fills a new context.
-pub fn read_new(alloc: Global, bytes: &[u8]) -> Result<(Context, TreeOp), ReadError>
+pub fn read_new(alloc: Global, key: u64, bytes: &[u8]) -> Result<(Context, TreeOp), ReadError>
     ensures read { IfOk result (λ x. IsOnly (Spells bytes.now) x.0 x.1) }
     ensures sound { IfOk result (λ x. IsSoundIn x.0 x.1) }
     ensures refused { (f : TextFault) → result ≡ Err (ReadError.Refused f) → IsNone (Spells bytes.now) }
@@ -130,7 +132,7 @@ pub fn read_new(alloc: Global, bytes: &[u8]) -> Result<(Context, TreeOp), ReadEr
             return Err(ReadError::Refused(Fault { refusal, left }));
         }
     }
-    let (ctx, tree) = match source_alone(alloc, bytes) {
+    let (ctx, tree) = match source_alone(alloc, key, bytes) {
         Ok(found) => found,
         Err(e) => return Err(e),
     };

@@ -55,17 +55,18 @@ impl Context {
         ensures ok { IfOk result (λ c. c ≡ record { names = words; types = []; attrs = [] }) }
         ensures refused { IfErr result (λ refusal. refusal ≡ Refusal.Memory) }
     {
-        Context::keyed(alloc, Keyed::new(0))
+        Context::keyed(alloc, 0)
     }
 
     /// The same with a key of its own, so that nobody who doesn't know it can write a text whose names
     /// collide.
     ///
     /// Refusals: `Memory` alone.
-    pub fn keyed(alloc: Global, keyed: Keyed) -> Result<Context, Refusal>
+    pub fn keyed(alloc: Global, key: u64) -> Result<Context, Refusal>
         ensures ok { IfOk result (λ c. c ≡ record { names = words; types = []; attrs = [] }) }
         ensures refused { IfErr result (λ refusal. refusal ≡ Refusal.Memory) }
     {
+        let keyed = Keyed::new(key);
         let mut names: IndexSet<Vec<u8>, Keyed> = IndexSet::with_hasher(alloc, keyed);
         for index in 0..WORDS {
             names.insert(Vec::from_slice(alloc, word(index))?)?;

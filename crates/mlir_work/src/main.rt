@@ -9,6 +9,7 @@ use mlir_work_options::options_of;
 use mlir_work_run::run::run;
 use std::io::BufWriter;
 use std::process::ExitCode;
+use std::random::RandomSource;
 use std::{env, io};
 
 /// Says that there is no memory to begin a run, and gives the status.
@@ -31,6 +32,15 @@ fn refuse_words(rt: &HostRuntime, error: &io::Error) -> u8 {
     2
 }
 
+/// A key that nobody who writes a text knows, or 0 where there is none to be had.
+fn key_of<R: RandomSource>(rt: &R) -> u64 {
+    let mut bytes = [0u8; 8];
+    match rt.fill_bytes(&mut bytes) {
+        Ok(()) => u64::from_le_bytes(bytes),
+        Err(_) => 0,
+    }
+}
+
 /// Prints the help that was asked for, or what is wrong with the command line, and gives the status.
 fn answer_words(rt: &HostRuntime, error: &Error) -> u8 {
     if error.kind() == ErrorKind::OutOfMemory {
@@ -48,10 +58,11 @@ fn main(rt: HostRuntime) -> ExitCode {
         Ok(words) => words,
         Err(error) => return ExitCode::from(refuse_words(&rt, &error)),
     };
-    let options = match options_of(rt.alloc(), &words) {
+    let mut options = match options_of(rt.alloc(), &words) {
         Ok(options) => options,
         Err(error) => return ExitCode::from(answer_words(&rt, &error)),
     };
+    options.key = key_of(&rt);
     let mut boxes: Vec<Box<dyn Analysis>> = Vec::new(rt.alloc());
     let Ok(uses) = Box::new(rt.alloc(), Uses::new(rt.alloc())) else {
         return ExitCode::from(no_memory(&rt));

@@ -19,7 +19,7 @@ fn status_of<R: Read, W: Write>(
     let mut boxes: Vec<Box<dyn Analysis>> = Vec::new(alloc);
     let uses = Box::new(alloc, Uses::new(alloc))?;
     boxes.push(uses)?;
-    Ok(run(alloc, Options { brief }, reader, writer, boxes))
+    Ok(run(alloc, Options { brief, key: 7 }, reader, writer, boxes))
 }
 
 /// A text for the status of a run and what it wrote.
@@ -80,7 +80,7 @@ fn listeners(alloc: Global, count: u64) -> Result<Vec<Uses>, AllocError> {
 fn with(alloc: Global, boxes: Vec<Uses>, input: &[u8]) -> Result<String, AllocError> {
     let mut reader = input;
     let mut out: Vec<u8> = Vec::new(alloc);
-    let status = run(alloc, Options { brief: true }, &mut reader, &mut out, boxes);
+    let status = run(alloc, Options { brief: true, key: 0 }, &mut reader, &mut out, boxes);
     told(alloc, status, &out)
 }
 

@@ -27,7 +27,7 @@ fn command<'a>(alloc: Global) -> Result<Command<'a>, AllocError> {
         .arg(brief(alloc))
 }
 
-/// Reads the words of a command line, the name of the program first.
+/// Reads the words of a command line, the name of the program first. No word says the key.
 ///
 /// An error is what is wrong with them, or the text of `--help` or `--version`, or want of memory.
 pub fn options_of(alloc: Global, words: &[String]) -> Result<Options, Error> {
@@ -35,5 +35,6 @@ pub fn options_of(alloc: Global, words: &[String]) -> Result<Options, Error> {
     let matches = command.try_get_matches_from(words)?;
     Ok(Options {
         brief: matches.get_flag("brief"),
+        key: 0,
     })
 }

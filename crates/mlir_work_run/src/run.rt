@@ -34,6 +34,8 @@ use std::io::{Read, Write};
 pub struct Options {
     /// The module and the rows don't follow each command.
     pub brief: bool,
+    /// What names are hashed with. Nothing that is written depends on it.
+    pub key: u64,
 }
 
 /// Why a run has no status of its own.
@@ -53,12 +55,12 @@ pub struct Unread {
 }
 
 /// The tree that a text spells, and a context that holds what it names. No text within its limit fills it.
-fn tree_of(alloc: Global, text: &[u8]) -> Result<(Context, TreeOp), Unread>
+fn tree_of(alloc: Global, key: u64, text: &[u8]) -> Result<(Context, TreeOp), Unread>
     ensures read { IfOk result (λ x. IsOnly (Spells text.now) x.0 x.1) }
     ensures sound { IfOk result (λ x. IsSoundIn x.0 x.1) }
     ensures unread { IfErr result (λ e. WhyNot text.now e.refusal e.offset) }
 {
-    match reader::read_new(alloc, text) {
+    match reader::read_new(alloc, key, text) {
         Ok(found) => Ok(found),
         Err(ReadError::Memory) => Err(Unread {
             refusal: Refusal::Memory,
@@ -111,11 +113,11 @@ fn no_memory() -> Unread
 }
 
 /// The world of the tree that a text spells.
-fn world_of(alloc: Global, text: &[u8]) -> Result<World, Unread>
+fn world_of(alloc: Global, key: u64, text: &[u8]) -> Result<World, Unread>
     ensures read { IfOk result (λ w. IsWorldOf text.now (module_in w)) }
     ensures unread { IfErr result (λ e. WhyNot text.now e.refusal e.offset) }
 {
-    let (ctx, tree) = match tree_of(alloc, text) {
+    let (ctx, tree) = match tree_of(alloc, key, text) {
         Ok(found) => found,
         Err(unread) => return Err(unread),
     };
@@ -148,13 +150,13 @@ fn refuse<W: Write>(writer: &mut W, unread: Unread) -> Result<u8, WriteFault>
 
 /// The world of the tree that the module of an input spells, and the script. The input is given back to the
 /// allocator, since its text may be as large as the module.
-fn taken_apart(alloc: Global, input: Vec<u8>) -> Result<(World, Vec<u8>), Unread>
+fn taken_apart(alloc: Global, key: u64, input: Vec<u8>) -> Result<(World, Vec<u8>), Unread>
     ensures read { IfOk result (λ x. IsWorldOf (module_text input.items) (module_in x.0)) }
     ensures script { IfOk result (λ x. x.1.items ≡ script_text input.items) }
     ensures unread { IfErr result (λ e. WhyNot (module_text input.items) e.refusal e.offset) }
 {
     let (module, script) = split(&input);
-    let world = match world_of(alloc, module) {
+    let world = match world_of(alloc, key, module) {
         Ok(world) => world,
         Err(unread) => return Err(unread),
     };
@@ -175,7 +177,7 @@ fn answer_input<W: Write, L: Analysis>(
     requires { length input.items ≤ MAX_INPUT_BYTES }
     ensures { RanOut (IsOutput options.brief (all_shown L.meaning boxes.items) input.items) (W.contents writer.old) (W.contents writer.new) result }
 {
-    let (world, script) = match taken_apart(alloc, input) {
+    let (world, script) = match taken_apart(alloc, options.key, input) {
         Ok(parts) => parts,
         Err(unread) => return refuse(writer, unread),
     };

@@ -4,8 +4,8 @@ use Rattle.ir_text_base.proofs.Kept.{no_marks, no_entries}
 use Rattle.ir_text_base.proofs.names.Names.new.Goals as goal
 
 pub invariant_of-result : goal.invariant_of-result
-invariant_of-result g c = record { agrees = rw c.new-2.ensures.items (no_entries c.new.result c.new.ensures.empty); standing = rw c.new-3.ensures.items (no_marks _); floor = omega arith }
+invariant_of-result g c = record { agrees = rw c.new.ensures.items (no_entries c.with_hasher.result c.with_hasher.ensures.empty); standing = rw c.new-2.ensures.items (no_marks _); floor = omega arith }
 
 pub returns : goal.returns
 unfolding seen_onto
-returns g c = rw (c.new-2.ensures.items, c.new-3.ensures.items) refl
+returns g c = rw (c.new.ensures.items, c.new-2.ensures.items) refl
