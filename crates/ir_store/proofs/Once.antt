@@ -98,7 +98,7 @@ all_once v [] d = tt
 all_once v (s ∷ ss) d =
     once_joined (uses_at v s) (gather (uses_at v) ss) (own_once v (stand_id s) 0 (head s.here).operands) (all_once v ss (IsDistinct-tail eqb (stand_id s) _ d))
     (λ x j h. none_else v x j ss
-        (subst (λ z. AllByRecursion (λ y. eqb z y ≡ false) (map (λ (s : Stand). stand_id s) ss)) (sym (own_use v (stand_id s) 0 (head s.here).operands x j h).user) (IsDistinct-head eqb (stand_id s) _ d)))
+    (subst (λ z. AllByRecursion (λ y. eqb z y ≡ false) (map (λ (s : Stand). stand_id s) ss)) (sym (own_use v (stand_id s) 0 (head s.here).operands x j h).user) (IsDistinct-head eqb (stand_id s) _ d)))
 
 pub uses_once : (v : Value) (t : Op) → HasDistinctIds t → EachOnce (uses_of v t)
 uses_once v t d = subst EachOnce (stands_uses v [] t) (all_once v (stands [] t) (subst (IsDistinct eqb) (sym (stands_ids [] t)) d))

@@ -74,12 +74,7 @@ impl Store {
     }
 
     /// The same module of a tree that is handed over, and is known to be formed: it isn't checked again.
-    pub fn hold(
-        alloc: Global,
-        ctx: &Context,
-        tree: TreeOp,
-        next: u32,
-    ) -> Result<Store, AllocError>
+    pub fn hold(alloc: Global, ctx: &Context, tree: TreeOp, next: u32) -> Result<Store, AllocError>
         requires sound { IsSoundIn ctx.now tree }
         requires distinct { HasDistinctIds tree }
         requires below { All (λ x. x < next) (ids tree) }

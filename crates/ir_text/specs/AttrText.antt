@@ -6,7 +6,7 @@ use Rattle.ir_types.specs.declared.node.Sign.TheVariants.{Signless}
 use Rattle.ir_types.specs.Terms.{TypeTerm, Integer, AttrTerm, IntegerOf, String, TypeOf, Flag, Array, Dictionary, Symbol, DenseArray, Overflow, AttrTerms, no_attrs, next_attr, EntryTerms, no_entries, next_entry}
 use Rattle.ir_types.specs.Readings.{reading_of}
 use Rattle.ir_text.specs.Rows.{parted}
-use Rattle.ir_text_base.specs.Printing.{string_text, key_text}
+use Rattle.ir_text_tokens.specs.Printing.{string_text, key_text}
 use Rattle.ir_text.specs.TypeText.{type_text}
 
 -- whether a type is `i1`

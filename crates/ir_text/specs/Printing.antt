@@ -4,7 +4,7 @@ use Rattle.std.specs.Fmt.{decimal}
 use Rattle.ir_types.specs.Terms.{TypeTerm, Function, TypeTerms, no_types, next_type, AttrTerm, EntryTerms, no_entries, next_entry}
 use Rattle.ir_tree.specs.declared.value.Value.{Value}
 use Rattle.ir_tree.specs.Tree.{HeadOf, op, RegionsOf, no_regions, region, RegionOf, empty, block, OpsOf, no_ops, next}
-use Rattle.ir_text_base.specs.Printing.{string_text}
+use Rattle.ir_text_tokens.specs.Printing.{string_text}
 use Rattle.ir_text.specs.TypeText.{in_round, type_text}
 use Rattle.ir_text.specs.AttrText.{in_curly, entry_texts}
 use Rattle.ir_tree.specs.Meaning.{Operation}

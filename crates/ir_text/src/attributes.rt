@@ -11,7 +11,7 @@ use crate::between::put_between;
 use crate::numbers::{put_reading, put_signed};
 use crate::things::{attr_of, name_of, type_of};
 use crate::types::put_type;
-use ir_text_base::print::{put_key, put_string};
+use ir_text_tokens::print::{put_key, put_string};
 use ir_types::context::Context;
 use ir_types::ids::{AttrId, NameId, TypeId};
 use ir_types::node::{AttrNode, Sign, TypeNode};

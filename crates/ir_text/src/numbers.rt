@@ -2,7 +2,7 @@
 ghost use Rattle.std.specs.Prelude.{◌≡◌, ◌++◌, ℤ, pos, int_lt, unsigned_abs, OnOk};
 ghost use Rattle.std.specs.Fmt.{decimal, signed_decimal};
 
-use ir_text_base::print;
+use ir_text_tokens::print;
 use ir_types::readings::Reading;
 use itoa::Buffer;
 use std::alloc::AllocError;

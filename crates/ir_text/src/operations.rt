@@ -22,7 +22,7 @@ use crate::things::name_of;
 use crate::types::{put_outputs, put_type};
 use crate::values::{name_argument, name_results, put_operand_types, put_operands};
 use indexmap::IndexMap;
-use ir_text_base::print::put_string;
+use ir_text_tokens::print::put_string;
 use ir_tree::tree::{TreeOp, TreeRegion};
 use ir_tree::value::Value;
 use ir_types::context::Context;

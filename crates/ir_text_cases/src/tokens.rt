@@ -1,8 +1,8 @@
 //! The token at the front of a text.
 use crate::shown::{put_bytes, refused};
-use ir_text_base::lexer::token;
-use ir_text_base::token::Token;
-use ir_text_type_base::error::ReadError;
+use ir_text_reading::error::ReadError;
+use ir_text_tokens::lexer::token;
+use ir_text_tokens::token::Token;
 use ir_types::refusal::Refusal;
 use std::alloc::{AllocError, Global};
 

@@ -3,11 +3,11 @@ use Rattle.std.proofs.Common.{◌≡◌, ◌≤◌, ◌+◌, ℕ, zero, suc, Boo
 use Rattle.std.specs.Prelude.{if◌then◌else◌, nat_le, map}
 use Rattle.std.specs.List.{list_all}
 use Rattle.std.specs.Str.{bytes_eq}
-use Rattle.ir_text_base.specs.declared.token.Mark.{Mark}
-use Rattle.ir_text_base.specs.declared.token.Mark.TheVariants.{OpenRound, OpenCurly, CloseCurly, OpenSquare, CloseSquare, Less, Greater, Comma, Equal, Colon, DoubleColon, Minus}
-use Rattle.ir_text_base.specs.Tokens.{Lexeme, mark, integer, string, bare, hash, symbol, quoted, next}
-use Rattle.ir_text_base.specs.Strings.{string_bytes}
-use Rattle.ir_text_base.specs.Numbers.{integer_of, below_limit}
+use Rattle.ir_text_tokens.specs.declared.token.Mark.{Mark}
+use Rattle.ir_text_tokens.specs.declared.token.Mark.TheVariants.{OpenRound, OpenCurly, CloseCurly, OpenSquare, CloseSquare, Less, Greater, Comma, Equal, Colon, DoubleColon, Minus}
+use Rattle.ir_text_tokens.specs.Tokens.{Lexeme, mark, integer, string, bare, hash, symbol, quoted, next}
+use Rattle.ir_text_tokens.specs.Strings.{string_bytes}
+use Rattle.ir_text_tokens.specs.Numbers.{integer_of, below_limit}
 use Rattle.ir_types.specs.declared.node.Sign.TheVariants.{Signless}
 use Rattle.ir_types.specs.declared.node.TypeNode.TheVariants as type
 use Rattle.ir_types.specs.declared.node.AttrNode.{AttrNode}
@@ -26,16 +26,16 @@ use Rattle.ir_types.specs.Terms as terms
 use Rattle.ir_types.specs.Things.{Things}
 use Rattle.ir_types.proofs.Growth.{attr_names, attr_types, attr_attrs}
 use Rattle.ir_types.proofs.Placing.{length-with_last}
-use Rattle.ir_text_type_base.specs.Outcomes.{Outcome, Read, Wrong, Full, ◌>>=◌, of_option, interned, Parse}
-use Rattle.ir_text_type_base.specs.Typed.{Typed, after_typed, name_step, attr_step}
-use Rattle.ir_text_type_base.specs.TypeReading.{many, type_done, type_at}
-use Rattle.ir_text_type_base.proofs.TypeLaws.{full_count}
-use Rattle.ir_text_type_base.specs.Lists.{more_at, more_from, list_at, list_from}
-use Rattle.ir_text_type_base.proofs.Worlds.{bind_read, option_read}
-use Rattle.ir_text_attr_base.specs.declared.flag.Flag.{Flag}
-use Rattle.ir_text_attr_base.specs.Literals.{Word, Truth, UnitWord, ArrayWord, TypeWord, word_of, truth_bits, overflow_word, none_word, flag_of, has_nsw, has_nuw}
-use Rattle.ir_text_attr_base.specs.Elements.{bits_of, type_of, element_named, is_bit, item_value}
-use Rattle.ir_text_attr_base.specs.AttrReading.{attr_done, name_done, truth_at, string_at, type_attr_at, suffix_from, suffix_at, literal_done, literal_at, negative_from, negative_at, flag_from, flag_at, some_flags_at, no_flags_at, flags_from, flags_at, overflow_at, part_from, part_at, parts_from, parts_at, symbol_at, element_from, element_at, truth_item, number_item, minus_from, minus_item, mark_item, item_from, item_at, some_items_at, no_items_at, items_from, items_at, dense_done, dense_at, knows_key, Entries, key_from, key_at, unit_value_at, value_from, value_by, entry_by, entries_by, dictionary_by, attrs_by, array_by, word_attr, mark_attr, attr_from, attr_at}
+use Rattle.ir_text_reading.specs.Outcomes.{Outcome, Read, Wrong, Full, ◌>>=◌, of_option, interned, Parse}
+use Rattle.ir_text_reading.specs.Typed.{Typed, after_typed, name_step, attr_step}
+use Rattle.ir_text_types.specs.TypeReading.{many, type_done, type_at}
+use Rattle.ir_text_types.proofs.TypeLaws.{full_count}
+use Rattle.ir_text_reading.specs.Lists.{more_at, more_from, list_at, list_from}
+use Rattle.ir_text_reading.proofs.Worlds.{bind_read, option_read}
+use Rattle.ir_text_attributes.specs.declared.flag.Flag.{Flag}
+use Rattle.ir_text_attributes.specs.Literals.{Word, Truth, UnitWord, ArrayWord, TypeWord, word_of, truth_bits, overflow_word, none_word, flag_of, has_nsw, has_nuw}
+use Rattle.ir_text_attributes.specs.Elements.{bits_of, type_of, element_named, is_bit, item_value}
+use Rattle.ir_text_attributes.specs.AttrReading.{attr_done, name_done, truth_at, string_at, type_attr_at, suffix_from, suffix_at, literal_done, literal_at, negative_from, negative_at, flag_from, flag_at, some_flags_at, no_flags_at, flags_from, flags_at, overflow_at, part_from, part_at, parts_from, parts_at, symbol_at, element_from, element_at, truth_item, number_item, minus_from, minus_item, mark_item, item_from, item_at, some_items_at, no_items_at, items_from, items_at, dense_done, dense_at, knows_key, Entries, key_from, key_at, unit_value_at, value_from, value_by, entry_by, entries_by, dictionary_by, attrs_by, array_by, word_attr, mark_attr, attr_from, attr_at}
 use Rattle.ir_text_room.specs.Room.{Fits}
 use Rattle.ir_text_room.proofs.Lengths.{gain}
 use Rattle.ir_text_room.proofs.Fits.{fits_to, Has, Good, wrong, reads, good_then, good_some, unless_good, more_good, list_good, text, things}

@@ -1,15 +1,15 @@
 -- Reading fits: it adds no more than there is room for.
 use Rattle.std.proofs.Common.{◌≡◌, ◌≤◌, ◌+◌, ℕ, zero, suc, Bool, true, false, List, [], ◌∷◌, ◌++◌, length, Option, Some, None, refl, arith}
 use Rattle.std.specs.Prelude.{if◌then◌else◌}
-use Rattle.ir_text_base.specs.declared.token.Mark.{Mark}
-use Rattle.ir_text_base.specs.declared.token.Mark.TheVariants.{Comma}
-use Rattle.ir_text_base.specs.Tokens.{mark}
+use Rattle.ir_text_tokens.specs.declared.token.Mark.{Mark}
+use Rattle.ir_text_tokens.specs.declared.token.Mark.TheVariants.{Comma}
+use Rattle.ir_text_tokens.specs.Tokens.{mark}
 use Rattle.ir_types.specs.Things.{Things}
-use Rattle.ir_text_type_base.specs.Marks.{after}
-use Rattle.ir_text_type_base.specs.Outcomes.{Outcome, Read, Wrong, Full, ◌>>=◌, of_option, Parse}
-use Rattle.ir_text_type_base.specs.Lists.{more_at, more_from, list_at, list_from}
-use Rattle.ir_text_type_base.specs.Typed.{Typed}
-use Rattle.ir_text_type_base.proofs.TextLaws.{after_found}
+use Rattle.ir_text_reading.specs.Marks.{after}
+use Rattle.ir_text_reading.specs.Outcomes.{Outcome, Read, Wrong, Full, ◌>>=◌, of_option, Parse}
+use Rattle.ir_text_reading.specs.Lists.{more_at, more_from, list_at, list_from}
+use Rattle.ir_text_reading.specs.Typed.{Typed}
+use Rattle.ir_text_reading.proofs.TextLaws.{after_found}
 use Rattle.ir_text_room.specs.Room.{Fits}
 use Rattle.ir_text_room.proofs.Lengths.{gain, next_length}
 

@@ -3,11 +3,11 @@ use Rattle.std.proofs.Common.{◌≡◌, ◌≤◌, ◌+◌, ℕ, zero, suc, Boo
 use Rattle.std.specs.Prelude.{if◌then◌else◌, ◌==◌, ◌||◌, ◌&&◌, nat_le, option_map}
 use Rattle.std.specs.List.{prefix_len}
 use Rattle.std.specs.Char.{is_ascii_digit}
-use Rattle.ir_text_base.specs.Bytes.{is_blank, is_letter, is_word}
-use Rattle.ir_text_base.specs.Strings.{closing}
-use Rattle.ir_text_base.specs.declared.token.Mark.{Mark}
-use Rattle.ir_text_base.specs.declared.token.Mark.TheVariants.{End}
-use Rattle.ir_text_base.specs.Tokens.{Lexeme, mark, integer, float, string, bare, value, label, hash, bang, symbol, quoted, skip, skip_line, is_comment, next, first_token, token_at, sign_at, number_at, decimal_at, digits_len, hex_len, fraction_len, cut, suffix_len, name_at, string_at, symbol_at, longer, mark_of, mark_at}
+use Rattle.ir_text_tokens.specs.Bytes.{is_blank, is_letter, is_word}
+use Rattle.ir_text_tokens.specs.Strings.{closing}
+use Rattle.ir_text_tokens.specs.declared.token.Mark.{Mark}
+use Rattle.ir_text_tokens.specs.declared.token.Mark.TheVariants.{End}
+use Rattle.ir_text_tokens.specs.Tokens.{Lexeme, mark, integer, float, string, bare, value, label, hash, bang, symbol, quoted, skip, skip_line, is_comment, next, first_token, token_at, sign_at, number_at, decimal_at, digits_len, hex_len, fraction_len, cut, suffix_len, name_at, string_at, symbol_at, longer, mark_of, mark_at}
 
 skipped : (c : ℕ) (cs : List ℕ) (p q : Bool) → length (skip_line cs) ≤ length cs → length (skip cs) ≤ length cs → length (if p then skip_line cs else if q then skip cs else c ∷ cs) ≤ suc (length cs)
 skipped c cs true q line next = omega arith

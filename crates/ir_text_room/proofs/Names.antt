@@ -3,20 +3,20 @@ use Rattle.std.proofs.Common.{◌≡◌, ◌+◌, ℕ, Bool, true, false, List, 
 use Rattle.std.specs.Prelude.{if◌then◌else◌, ◌==◌, nat_le}
 use Rattle.std.specs.List.{list_all}
 use Rattle.std.specs.Char.{is_ascii_digit}
-use Rattle.ir_text_base.specs.declared.token.Mark.{Mark}
-use Rattle.ir_text_base.specs.declared.token.Mark.TheVariants.{OpenRound, CloseRound, Equal, Colon}
-use Rattle.ir_text_base.specs.Tokens.{Lexeme, mark, integer, string, value, hash, next}
-use Rattle.ir_text_base.specs.Strings.{string_bytes}
-use Rattle.ir_text_base.specs.Numbers.{integer_of, place_value}
-use Rattle.ir_text_base.specs.Scopes.{Binding}
+use Rattle.ir_text_tokens.specs.declared.token.Mark.{Mark}
+use Rattle.ir_text_tokens.specs.declared.token.Mark.TheVariants.{OpenRound, CloseRound, Equal, Colon}
+use Rattle.ir_text_tokens.specs.Tokens.{Lexeme, mark, integer, string, value, hash, next}
+use Rattle.ir_text_tokens.specs.Strings.{string_bytes}
+use Rattle.ir_text_tokens.specs.Numbers.{integer_of, place_value}
+use Rattle.ir_text_tokens.specs.Scopes.{Binding}
 use Rattle.ir_types.specs.Things.{Things}
-use Rattle.ir_text_type_base.specs.Marks.{after}
-use Rattle.ir_text_type_base.specs.Outcomes.{Outcome, Read, Wrong}
-use Rattle.ir_text_names_base.specs.declared.bound.Bound.{Bound}
-use Rattle.ir_text_names_base.specs.Packs.{Counted, counts}
-use Rattle.ir_text_names_base.specs.NameReading.{Text, name_from, name_at, number_from, number_at, some_count, within, count_at, result_at, names_at, results_from, results_at}
-use Rattle.ir_text_read_base.specs.Free.{seen_as}
-use Rattle.ir_text_read_base.specs.FrontReading.{op_name_from, op_name_at, place_of, place_from, place_at, member_at, Frees, use_from, use_at, uses_at, start_at}
+use Rattle.ir_text_reading.specs.Marks.{after}
+use Rattle.ir_text_reading.specs.Outcomes.{Outcome, Read, Wrong}
+use Rattle.ir_text_names.specs.declared.bound.Bound.{Bound}
+use Rattle.ir_text_names.specs.Packs.{Counted, counts}
+use Rattle.ir_text_names.specs.NameReading.{Text, name_from, name_at, number_from, number_at, some_count, within, count_at, result_at, names_at, results_from, results_at}
+use Rattle.ir_text_operations.specs.Free.{seen_as}
+use Rattle.ir_text_operations.specs.FrontReading.{op_name_from, op_name_at, place_of, place_from, place_at, member_at, Frees, use_from, use_at, uses_at, start_at}
 use Rattle.ir_text_room.specs.Room.{Fits}
 use Rattle.ir_text_room.proofs.Lengths.{gain}
 use Rattle.ir_text_room.proofs.Fits.{fits_to, after_length, Good, wrong, reads, good_then, good_some, more_good, list_good}

@@ -2,10 +2,10 @@
 use Rattle.std.proofs.Common.{◌≡◌, ◌+◌, ℕ, zero, suc, Bool, true, false, List, [], ◌∷◌, ◌++◌, length, take, drop, Option, Some, None, is_some, refl, arith}
 use Rattle.std.specs.Prelude.{if◌then◌else◌, ◌==◌, nat_lt, option_map}
 use Rattle.std.specs.Str.{bytes_eq}
-use Rattle.ir_text_base.specs.declared.token.Mark.{Mark}
-use Rattle.ir_text_base.specs.declared.token.Mark.TheVariants.{OpenRound, CloseRound, OpenCurly, CloseCurly, Colon}
-use Rattle.ir_text_base.specs.Tokens.{Lexeme, mark, label, next}
-use Rattle.ir_text_base.specs.Scopes.{Scopes, find, bound}
+use Rattle.ir_text_tokens.specs.declared.token.Mark.{Mark}
+use Rattle.ir_text_tokens.specs.declared.token.Mark.TheVariants.{OpenRound, CloseRound, OpenCurly, CloseCurly, Colon}
+use Rattle.ir_text_tokens.specs.Tokens.{Lexeme, mark, label, next}
+use Rattle.ir_text_tokens.specs.Scopes.{Scopes, find, bound}
 use Rattle.ir_types.specs.declared.refusal.Refusal.{Refusal}
 use Rattle.ir_types.specs.declared.refusal.Refusal.TheVariants.{TooMany}
 use Rattle.ir_types.specs.Interning.{with_name}
@@ -14,19 +14,19 @@ use Rattle.ir_types.specs.Things.{Things}
 use Rattle.ir_tree.specs.declared.value.Value.TheVariants as values
 use Rattle.ir_tree.specs.Meaning.{isolated_in}
 use Rattle.ir_tree.specs.Tree.{Op, Region}
-use Rattle.ir_text_type_base.specs.Marks.{after}
-use Rattle.ir_text_type_base.specs.Outcomes.{Outcome, Read, Wrong, Full, ◌>>=◌, interned, Parse}
-use Rattle.ir_text_type_base.specs.Typed.{Typed, after_typed, name_step}
-use Rattle.ir_text_type_base.specs.TypeReading.{type_at, function_type_at}
-use Rattle.ir_text_names_base.specs.declared.bound.Bound.{Bound}
-use Rattle.ir_text_names_base.specs.BlockReading.{bind, results_of, bind_results, finish, arg_at, args_at, label_args_from, some_args_at, label_args_at, head_from, head_at}
-use Rattle.ir_text_names_base.specs.NameReading.{name_at}
-use Rattle.ir_text_names_base.specs.Packs.{Counted, counts}
-use Rattle.ir_text_names_base.specs.States.{State, to_bytes, after_in, typed, with_typed, with_scopes, inside, outside}
-use Rattle.ir_text_read_base.specs.EntryReading.{Entries, properties_at, attributes_at}
-use Rattle.ir_text_read_base.specs.FrontReading.{Frees, Start, start_at}
-use Rattle.ir_text_read_base.specs.Made.{region_of}
-use Rattle.ir_text_read_base.specs.OpReading.{ops_from, ops_at, region_at, regions_from, regions_at, types_of, op_of, tail_at, begun, op_with, op_at}
+use Rattle.ir_text_reading.specs.Marks.{after}
+use Rattle.ir_text_reading.specs.Outcomes.{Outcome, Read, Wrong, Full, ◌>>=◌, interned, Parse}
+use Rattle.ir_text_reading.specs.Typed.{Typed, after_typed, name_step}
+use Rattle.ir_text_types.specs.TypeReading.{type_at, function_type_at}
+use Rattle.ir_text_names.specs.declared.bound.Bound.{Bound}
+use Rattle.ir_text_names.specs.BlockReading.{bind, results_of, bind_results, finish, arg_at, args_at, label_args_from, some_args_at, label_args_at, head_from, head_at}
+use Rattle.ir_text_names.specs.NameReading.{name_at}
+use Rattle.ir_text_names.specs.Packs.{Counted, counts}
+use Rattle.ir_text_names.specs.States.{State, to_bytes, after_in, typed, with_typed, with_scopes, inside, outside}
+use Rattle.ir_text_operations.specs.EntryReading.{Entries, properties_at, attributes_at}
+use Rattle.ir_text_operations.specs.FrontReading.{Frees, Start, start_at}
+use Rattle.ir_text_operations.specs.Made.{region_of}
+use Rattle.ir_text_operations.specs.OpReading.{ops_from, ops_at, region_at, regions_from, regions_at, types_of, op_of, tail_at, begun, op_with, op_at}
 use Rattle.ir_text_room.specs.Room.{Fits}
 use Rattle.ir_text_room.proofs.Lengths.{gain}
 use Rattle.ir_text_room.proofs.Fits.{fits_to, after_length, Has, Good, wrong, reads, good_then, good_into, good_some, good_quiet, more_good, list_good, text, things}

@@ -7,11 +7,11 @@ use Rattle.ir_types.specs.declared.refusal.Refusal.{Refusal}
 use Rattle.ir_types.specs.declared.refusal.Refusal.TheVariants.{TooMany, NotUtf8}
 use Rattle.ir_types.specs.Things.{Things}
 use Rattle.ir_tree.specs.Tree.{Op}
-use Rattle.ir_text_base.specs.Limits.{most_bytes, text_reason}
-use Rattle.ir_text_type_base.specs.declared.error.ReadError.{ReadError}
-use Rattle.ir_text_read_base.specs.Claims.{IsOnly, IsNone, IsBody, IsSource}
-use Rattle.ir_text_read_base.specs.Spelling.{IsExplicit}
-use Rattle.ir_text_read_base.proofs.Modules.{body_is_source}
+use Rattle.ir_text_tokens.specs.Limits.{most_bytes, text_reason}
+use Rattle.ir_text_reading.specs.declared.error.ReadError.{ReadError}
+use Rattle.ir_text_operations.specs.Claims.{IsOnly, IsNone, IsBody, IsSource}
+use Rattle.ir_text_operations.specs.Spelling.{IsExplicit}
+use Rattle.ir_text_operations.proofs.Modules.{body_is_source}
 
 pub source_read : (bytes : List ℕ) (r : Result (Things × Op) ReadError) → IsNone (IsExplicit bytes) → IfOk r (λ x. IsOnly (IsBody bytes) x.0 x.1) → IfOk r (λ x. IsOnly (IsSource bytes) x.0 x.1)
 source_read bytes (Ok x) none h = body_is_source bytes x.0 x.1 none h

@@ -3,8 +3,8 @@ use Rattle.std.proofs.Common.{◌≡◌, ◌+◌, ℕ, Bool, true, false, List, 
 use Rattle.std.specs.Prelude.{if◌then◌else◌, nat_le, option_map}
 use Rattle.std.specs.List.{list_all}
 use Rattle.std.specs.Str.{bytes_eq}
-use Rattle.ir_text_base.specs.declared.token.Mark.{Mark}
-use Rattle.ir_text_base.specs.Tokens.{Lexeme, mark, next}
+use Rattle.ir_text_tokens.specs.declared.token.Mark.{Mark}
+use Rattle.ir_text_tokens.specs.Tokens.{Lexeme, mark, next}
 use Rattle.ir_types.specs.declared.node.TypeNode.{TypeNode}
 use Rattle.ir_types.specs.declared.refusal.Refusal.{Refusal}
 use Rattle.ir_types.specs.declared.refusal.Refusal.TheVariants.{TooMany, TooDeep, BadWidth, BadValue}
@@ -17,11 +17,11 @@ use Rattle.ir_types.specs.Terms as terms
 use Rattle.ir_types.specs.Things.{Things}
 use Rattle.ir_types.proofs.Growth.{name_names, name_types, name_attrs, type_names, type_types, type_attrs}
 use Rattle.ir_types.proofs.Placing.{length-with_last}
-use Rattle.ir_text_type_base.specs.Outcomes.{Read, ◌>>=◌, interned}
-use Rattle.ir_text_type_base.specs.Typed.{Typed, after_typed, type_step}
-use Rattle.ir_text_type_base.specs.TypeReading.{type_done}
-use Rattle.ir_text_type_base.specs.Marks.{after}
-use Rattle.ir_text_type_base.proofs.TypeLaws.{full_count}
+use Rattle.ir_text_reading.specs.Outcomes.{Read, ◌>>=◌, interned}
+use Rattle.ir_text_reading.specs.Typed.{Typed, after_typed, type_step}
+use Rattle.ir_text_types.specs.TypeReading.{type_done}
+use Rattle.ir_text_reading.specs.Marks.{after}
+use Rattle.ir_text_types.proofs.TypeLaws.{full_count}
 use Rattle.ir_text_room.specs.Room.{Fits}
 use Rattle.ir_text_room.proofs.Lengths.{gain, next_length}
 use Rattle.ir_text_room.proofs.Fits.{fits_to, after_length, Has, Good, wrong, reads, text, things}

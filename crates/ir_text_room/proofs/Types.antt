@@ -3,15 +3,15 @@ use Rattle.std.proofs.Common.{◌≡◌, ◌≤◌, ◌+◌, ℕ, zero, suc, Boo
 use Rattle.std.specs.Prelude.{if◌then◌else◌, ◌==◌, option_map, option_and_then}
 use Rattle.std.specs.Char.{is_ascii_digit}
 use Rattle.std.specs.Str.{bytes_eq}
-use Rattle.ir_text_base.specs.declared.token.Mark.TheVariants.{OpenRound, CloseRound, Less, Greater, Arrow}
-use Rattle.ir_text_base.specs.Tokens.{Lexeme, bare, next, skip, digits_len}
+use Rattle.ir_text_tokens.specs.declared.token.Mark.TheVariants.{OpenRound, CloseRound, Less, Greater, Arrow}
+use Rattle.ir_text_tokens.specs.Tokens.{Lexeme, bare, next, skip, digits_len}
 use Rattle.ir_types.specs.declared.node.TypeNode.TheVariants.{Func, Memref}
-use Rattle.ir_text_type_base.specs.Outcomes.{Read, ◌>>=◌, of_option, Parse}
-use Rattle.ir_text_type_base.specs.Typed.{Typed, after_typed}
-use Rattle.ir_text_type_base.specs.Scalars.{scalar_of, memref_word}
-use Rattle.ir_text_type_base.specs.ShapeGrammar.{begins_dimension}
-use Rattle.ir_text_type_base.specs.ShapeReading.{cross_from, cross_at, crossed, size_of, sized, dimension_from, dimension_at, dimensions_at}
-use Rattle.ir_text_type_base.specs.TypeReading.{many, type_done, scalar_done, scalar_from, scalar_at, shape_at, memref_at, word_from, word_type_from, word_type_at, types_at, outputs_from, outputs_at, signature_at, function_at, type_from, type_at, function_type_at}
+use Rattle.ir_text_reading.specs.Outcomes.{Read, ◌>>=◌, of_option, Parse}
+use Rattle.ir_text_reading.specs.Typed.{Typed, after_typed}
+use Rattle.ir_text_types.specs.Scalars.{scalar_of, memref_word}
+use Rattle.ir_text_types.specs.ShapeGrammar.{begins_dimension}
+use Rattle.ir_text_types.specs.ShapeReading.{cross_from, cross_at, crossed, size_of, sized, dimension_from, dimension_at, dimensions_at}
+use Rattle.ir_text_types.specs.TypeReading.{many, type_done, scalar_done, scalar_from, scalar_at, shape_at, memref_at, word_from, word_type_from, word_type_at, types_at, outputs_from, outputs_at, signature_at, function_at, type_from, type_at, function_type_at}
 use Rattle.ir_text_room.specs.Room.{Fits}
 use Rattle.ir_text_room.proofs.Lengths.{skip_length, drop_less}
 use Rattle.ir_text_room.proofs.Fits.{fits_to, Has, Good, wrong, reads, good_then, good_some, list_good, text, things}

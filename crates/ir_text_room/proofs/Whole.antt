@@ -1,25 +1,25 @@
 -- No text within its limit fills a new context.
 use Rattle.std.proofs.Common.{◌≡◌, ◌≤◌, ℕ, List, [], length, subst, ⊎_elim, arith}
 use Rattle.std.specs.Str.{bytes_eq}
-use Rattle.ir_text_base.specs.declared.token.Mark.{Mark}
-use Rattle.ir_text_base.specs.declared.token.Mark.TheVariants.{End}
+use Rattle.ir_text_tokens.specs.declared.token.Mark.{Mark}
+use Rattle.ir_text_tokens.specs.declared.token.Mark.TheVariants.{End}
 use Rattle.ir_types.specs.Interning.{with_name}
 use Rattle.ir_types.specs.Reasons.{name_reason}
 use Rattle.ir_types.specs.Things.{Things}
 use Rattle.ir_types.specs.Words.{words}
 use Rattle.ir_types.proofs.WordNumbers.{word_count}
 use Rattle.ir_tree.specs.Tree.{Op}
-use Rattle.ir_text_type_base.specs.Outcomes.{Outcome, Read, Full}
-use Rattle.ir_text_type_base.specs.Typed.{name_step}
-use Rattle.ir_text_type_base.specs.TypeReading.{type_at, function_type_at}
-use Rattle.ir_text_type_base.proofs.TypeLaws.{full_count, full_interned}
-use Rattle.ir_text_attr_base.specs.AttrReading.{attr_at}
-use Rattle.ir_text_names_base.specs.States.{State, fresh}
-use Rattle.ir_text_read_base.specs.Filling.{new_things, RootFills, OpsFill, Fills}
-use Rattle.ir_text_read_base.specs.Free.{free_bound, no_types}
-use Rattle.ir_text_read_base.specs.FrontReading.{Frees}
-use Rattle.ir_text_read_base.specs.OpReading.{op_at, ops_at}
-use Rattle.ir_text_read_base.specs.Spelling.{module_word}
+use Rattle.ir_text_reading.specs.Outcomes.{Outcome, Read, Full}
+use Rattle.ir_text_reading.specs.Typed.{name_step}
+use Rattle.ir_text_types.specs.TypeReading.{type_at, function_type_at}
+use Rattle.ir_text_types.proofs.TypeLaws.{full_count, full_interned}
+use Rattle.ir_text_attributes.specs.AttrReading.{attr_at}
+use Rattle.ir_text_names.specs.States.{State, fresh}
+use Rattle.ir_text_operations.specs.Filling.{new_things, RootFills, OpsFill, Fills}
+use Rattle.ir_text_operations.specs.Free.{free_bound, no_types}
+use Rattle.ir_text_operations.specs.FrontReading.{Frees}
+use Rattle.ir_text_operations.specs.OpReading.{op_at, ops_at}
+use Rattle.ir_text_operations.specs.Spelling.{module_word}
 use Rattle.ir_text_room.specs.Room.{Fits, HasRoom}
 use Rattle.ir_text_room.proofs.Fits.{fits_to, Good, never, text, things}
 use Rattle.ir_text_room.proofs.Steps.{with_name_fits}

@@ -1,15 +1,15 @@
 //! A module's text, read with a context of its own. Language Reference, "High-Level Structure".
 ghost use Rattle.std.specs.Prelude.{◌≡◌, ℕ, IfOk, IfErr, Err};
 ghost use Rattle.ir_tree.specs.Meaning.{IsSoundIn};
-ghost use Rattle.ir_text_base.specs.declared.fault.Fault.{Fault as TextFault};
-ghost use Rattle.ir_text_read_base.specs.Claims.{IsOnly, IsNone, IsRootOrNone, IsBody, IsSource};
-ghost use Rattle.ir_text_read_base.specs.Filling.{new_things, RootFills, BodyFills, OpsFill, Fills};
-ghost use Rattle.ir_text_read_base.specs.Spelling.{Spells};
+ghost use Rattle.ir_text_tokens.specs.declared.fault.Fault.{Fault as TextFault};
+ghost use Rattle.ir_text_operations.specs.Claims.{IsOnly, IsNone, IsRootOrNone, IsBody, IsSource};
+ghost use Rattle.ir_text_operations.specs.Filling.{new_things, RootFills, BodyFills, OpsFill, Fills};
+ghost use Rattle.ir_text_operations.specs.Spelling.{Spells};
 
-use ir_text_base::fault::Fault;
-use ir_text_base::limits::check_text;
-use ir_text_read_base::module::{Root, as_written, explicit, implicit, looked_at};
-use ir_text_type_base::error::ReadError;
+use ir_text_operations::module::{Root, as_written, explicit, implicit, looked_at};
+use ir_text_reading::error::ReadError;
+use ir_text_tokens::fault::Fault;
+use ir_text_tokens::limits::check_text;
 use ir_tree::tree::TreeOp;
 use ir_types::context::Context;
 use std::alloc::Global;

@@ -3,14 +3,14 @@
 ghost use Rattle.std.specs.Prelude.{◌≡◌, ◌≤◌, ℕ, List, [], length};
 ghost use Rattle.ir_types.specs.Things.{Things};
 ghost use Rattle.ir_tree.specs.Tree.{Op};
-ghost use Rattle.ir_text_base.specs.declared.token.Mark.{Mark};
-ghost use Rattle.ir_text_type_base.specs.Outcomes.{Read, Full};
-ghost use Rattle.ir_text_type_base.specs.TypeReading.{type_at, function_type_at};
-ghost use Rattle.ir_text_attr_base.specs.AttrReading.{attr_at};
-ghost use Rattle.ir_text_names_base.specs.States.{State, fresh};
-ghost use Rattle.ir_text_read_base.specs.Filling.{Fills};
-ghost use Rattle.ir_text_read_base.specs.FrontReading.{Frees};
-ghost use Rattle.ir_text_read_base.specs.OpReading.{op_at, ops_at};
+ghost use Rattle.ir_text_tokens.specs.declared.token.Mark.{Mark};
+ghost use Rattle.ir_text_reading.specs.Outcomes.{Read, Full};
+ghost use Rattle.ir_text_types.specs.TypeReading.{type_at, function_type_at};
+ghost use Rattle.ir_text_attributes.specs.AttrReading.{attr_at};
+ghost use Rattle.ir_text_names.specs.States.{State, fresh};
+ghost use Rattle.ir_text_operations.specs.Filling.{Fills};
+ghost use Rattle.ir_text_operations.specs.FrontReading.{Frees};
+ghost use Rattle.ir_text_operations.specs.OpReading.{op_at, ops_at};
 ghost use Rattle.ir_text_room.specs.Room.{HasRoom};
 
 /// Where a context has room for a text, reading a type of it doesn't fill the context; and then there is room

@@ -1,9 +1,9 @@
 -- Grammars that see of a text only the next token and what follows it: blanks in front change nothing.
 use Rattle.std.proofs.Common.{◌≡◌, ℕ, zero, suc, List, [], ◌∷◌, refl, sym, ◌∙◌, inl, inr}
-use Rattle.ir_text_base.specs.declared.token.Mark.{Mark}
-use Rattle.ir_text_base.specs.Tokens.{Lexeme, next}
-use Rattle.ir_text_base.proofs.Printed.{blank_passed}
-use Rattle.ir_text_type_base.specs.Grammars.{Grammar, Then, After, Not, Either, IsMore, IsList, Token, IsMark}
+use Rattle.ir_text_tokens.specs.declared.token.Mark.{Mark}
+use Rattle.ir_text_tokens.specs.Tokens.{Lexeme, next}
+use Rattle.ir_text_tokens.proofs.Printed.{blank_passed}
+use Rattle.ir_text_reading.specs.Grammars.{Grammar, Then, After, Not, Either, IsMore, IsList, Token, IsMark}
 
 abbrev pub Ahead : {B : Type 0} → Grammar (List ℕ) B → Type 0
 Ahead {B = B} P = (y : B) (a b new : List ℕ) → next a ≡ next b → P y a new → P y b new

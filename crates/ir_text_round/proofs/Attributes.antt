@@ -10,16 +10,16 @@ use Rattle.ir_types.specs.Ranges.{is_value_number}
 use Rattle.ir_types.specs.Readings.{is_bits_of}
 use Rattle.ir_types.specs.Reasons.{attr_fault}
 use Rattle.ir_tree.specs.Meaning.{key_before, rises}
-use Rattle.ir_text_base.specs.declared.token.Mark.{Mark}
-use Rattle.ir_text_base.specs.declared.token.Mark.TheVariants.{OpenRound, OpenCurly, CloseCurly, OpenSquare, CloseSquare, Comma, Minus}
-use Rattle.ir_text_base.specs.Tokens.{Lexeme, mark, integer, string, bare, hash, symbol, quoted}
-use Rattle.ir_text_base.specs.Printing.{AreBytes}
-use Rattle.ir_text_base.proofs.Printed.{mark_token}
+use Rattle.ir_text_tokens.specs.declared.token.Mark.{Mark}
+use Rattle.ir_text_tokens.specs.declared.token.Mark.TheVariants.{OpenRound, OpenCurly, CloseCurly, OpenSquare, CloseSquare, Comma, Minus}
+use Rattle.ir_text_tokens.specs.Tokens.{Lexeme, mark, integer, string, bare, hash, symbol, quoted}
+use Rattle.ir_text_tokens.specs.Printing.{AreBytes}
+use Rattle.ir_text_tokens.proofs.Printed.{mark_token}
 use Rattle.ir_text.specs.Rows.{parted}
 use Rattle.ir_text.specs.AttrText.{attr_text, attr_texts, entry_texts}
-use Rattle.ir_text_type_base.specs.TypeReading.{many}
-use Rattle.ir_text_attr_base.specs.Literals.{Word, Truth, UnitWord, ArrayWord, TypeWord, word_of}
-use Rattle.ir_text_attr_base.specs.AttrGrammar.{IsTypeAttr, IsPart, IsParts, IsSymbol, EntryTerm, attrs_of, entries_of, in_order, has_key, IsKey, IsUnitValue, IsEntry, IsDictionary, IsArray, IsWordAttr, IsMarkAttr, IsAttrFrom, IsAttr}
+use Rattle.ir_text_types.specs.TypeReading.{many}
+use Rattle.ir_text_attributes.specs.Literals.{Word, Truth, UnitWord, ArrayWord, TypeWord, word_of}
+use Rattle.ir_text_attributes.specs.AttrGrammar.{IsTypeAttr, IsPart, IsParts, IsSymbol, EntryTerm, attrs_of, entries_of, in_order, has_key, IsKey, IsUnitValue, IsEntry, IsDictionary, IsArray, IsWordAttr, IsMarkAttr, IsAttrFrom, IsAttr}
 use Rattle.ir_text_round.specs.Written.{is_written_type}
 use Rattle.ir_text_round.specs.WrittenAttributes.{attrs_list, entries_list, are_bytes as are_bytes_test, is_element, is_written, are_written, are_written_entries, FitsAttr, EndsAttr}
 use Rattle.ir_text_round.proofs.Small.{both, in_range, lacks_token, ends_word, are_bytes}

@@ -10,20 +10,20 @@ use Rattle.ir_types.specs.declared.node.Sign.TheVariants.{Signless, Signed, Unsi
 use Rattle.ir_types.specs.Terms.{TypeTerm, Integer, Index, Function, Memref, DenseArray}
 use Rattle.ir_types.specs.Ranges.{is_value_number}
 use Rattle.ir_types.specs.Reasons.{attr_fault}
-use Rattle.ir_text_base.specs.declared.token.Mark.TheVariants.{Less, Greater, Comma, Colon, Minus}
-use Rattle.ir_text_base.specs.Bytes.{is_word}
-use Rattle.ir_text_base.specs.Tokens.{mark, integer, bare}
-use Rattle.ir_text_base.specs.Printing.{Stops, extends_integer, is_bare_id}
-use Rattle.ir_text_base.proofs.Decimals.{integer_again}
-use Rattle.ir_text_base.proofs.Printed.{bare_token, decimal_token, mark_token, minus_token}
+use Rattle.ir_text_tokens.specs.declared.token.Mark.TheVariants.{Less, Greater, Comma, Colon, Minus}
+use Rattle.ir_text_tokens.specs.Bytes.{is_word}
+use Rattle.ir_text_tokens.specs.Tokens.{mark, integer, bare}
+use Rattle.ir_text_tokens.specs.Printing.{Stops, extends_integer, is_bare_id}
+use Rattle.ir_text_tokens.proofs.Decimals.{integer_again}
+use Rattle.ir_text_tokens.proofs.Printed.{bare_token, decimal_token, mark_token, minus_token}
 use Rattle.ir_text.specs.Rows.{parted}
 use Rattle.ir_text.specs.TypeText.{type_text}
 use Rattle.ir_text.specs.AttrText.{is_truth, number_text, items_text, dense_text}
-use Rattle.ir_text_type_base.specs.Grammars.{IsMore, IsMark}
-use Rattle.ir_text_type_base.specs.TypeReading.{many}
-use Rattle.ir_text_attr_base.specs.Literals.{true_word, false_word, array_word}
-use Rattle.ir_text_attr_base.specs.Elements.{element_of}
-use Rattle.ir_text_attr_base.specs.AttrGrammar.{IsItem, IsItems, IsDense}
+use Rattle.ir_text_reading.specs.Grammars.{IsMore, IsMark}
+use Rattle.ir_text_types.specs.TypeReading.{many}
+use Rattle.ir_text_attributes.specs.Literals.{true_word, false_word, array_word}
+use Rattle.ir_text_attributes.specs.Elements.{element_of}
+use Rattle.ir_text_attributes.specs.AttrGrammar.{IsItem, IsItems, IsDense}
 use Rattle.ir_text_round.specs.Written.{is_written_type}
 use Rattle.ir_text_round.specs.WrittenAttributes.{is_element}
 use Rattle.ir_text_round.proofs.Small.{both, in_range, lacks_token}

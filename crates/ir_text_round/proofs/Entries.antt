@@ -2,16 +2,16 @@
 use Rattle.std.proofs.Common.{◌≡◌, ℕ, Bool, true, false, List, [], ◌∷◌, ◌++◌, map, refl, sym, ap, subst, ◌∙◌, append_assoc, inl, inr}
 use Rattle.std.specs.Prelude.{codes}
 use Rattle.ir_types.specs.Terms.{AttrTerm, IntegerOf, String, TypeOf, Flag, Array, Dictionary, Symbol, DenseArray, Overflow, EntryTerms, no_entries, next_entry}
-use Rattle.ir_text_base.specs.declared.token.Mark.{Mark}
-use Rattle.ir_text_base.specs.declared.token.Mark.TheVariants.{CloseCurly, CloseSquare, Comma, DoubleColon, Equal, End}
-use Rattle.ir_text_base.specs.Bytes.{is_word}
-use Rattle.ir_text_base.specs.Tokens.{mark, bare, string}
-use Rattle.ir_text_base.specs.Printing.{AreBytes, Stops, is_bare_id, key_text, raw_text}
-use Rattle.ir_text_base.proofs.Escapes.{either, value_again}
-use Rattle.ir_text_base.proofs.Printed.{mark_token, bare_key, string_key}
+use Rattle.ir_text_tokens.specs.declared.token.Mark.{Mark}
+use Rattle.ir_text_tokens.specs.declared.token.Mark.TheVariants.{CloseCurly, CloseSquare, Comma, DoubleColon, Equal, End}
+use Rattle.ir_text_tokens.specs.Bytes.{is_word}
+use Rattle.ir_text_tokens.specs.Tokens.{mark, bare, string}
+use Rattle.ir_text_tokens.specs.Printing.{AreBytes, Stops, is_bare_id, key_text, raw_text}
+use Rattle.ir_text_tokens.proofs.Escapes.{either, value_again}
+use Rattle.ir_text_tokens.proofs.Printed.{mark_token, bare_key, string_key}
 use Rattle.ir_text.specs.AttrText.{is_flag, entry_text, attr_text, entry_texts}
-use Rattle.ir_text_type_base.specs.Grammars.{Grammar, Not, Either, IsMark}
-use Rattle.ir_text_attr_base.specs.AttrGrammar.{EntryTerm, IsKey}
+use Rattle.ir_text_reading.specs.Grammars.{Grammar, Not, Either, IsMark}
+use Rattle.ir_text_attributes.specs.AttrGrammar.{EntryTerm, IsKey}
 use Rattle.ir_text_round.specs.WrittenAttributes.{entries_list, EndsAttr}
 use Rattle.ir_text_round.proofs.Small.{lacks_token}
 use Rattle.ir_text_round.proofs.Ahead.{Ahead, Lacks, space, space_token}

@@ -11,8 +11,8 @@ use Rattle.std.proofs.lemmas.Map.Text.{is_eq-slice_cmp}
 use Rattle.ir_types.proofs.Growth.{name_is, name_refl}
 use Rattle.ir_types.specs.Terms.{AttrTerm, EntryTerms, no_entries, next_entry}
 use Rattle.ir_tree.specs.Meaning.{key_before, rises, rises_after}
-use Rattle.ir_text_base.proofs.Escapes.{either}
-use Rattle.ir_text_attr_base.specs.AttrGrammar.{EntryTerm, entries_of, placed, in_order, has_key}
+use Rattle.ir_text_tokens.proofs.Escapes.{either}
+use Rattle.ir_text_attributes.specs.AttrGrammar.{EntryTerm, entries_of, placed, in_order, has_key}
 use Rattle.ir_text_round.specs.WrittenAttributes.{entries_list}
 use Rattle.ir_text_round.proofs.Small.{both}
 

@@ -10,28 +10,28 @@ use Rattle.ir_types.specs.Terms.{TypeTerm, Integer, Index, Function, Memref, Att
 use Rattle.ir_types.specs.Depths.{type_depth}
 use Rattle.ir_types.specs.Readings.{is_bits_of, literal_bits, reading_of, signed_of}
 use Rattle.ir_types.specs.Reasons.{attr_fault}
-use Rattle.ir_text_base.specs.declared.token.Mark.TheVariants.{OpenRound, Less, Greater, Comma, Colon, Minus}
-use Rattle.ir_text_base.specs.Bytes.{is_word}
-use Rattle.ir_text_base.specs.Tokens.{Lexeme, mark, integer, string, bare, hash}
-use Rattle.ir_text_base.specs.Printing.{AreBytes, Stops, raw_text, string_text}
-use Rattle.ir_text_base.proofs.Decimals.{integer_again}
-use Rattle.ir_text_base.proofs.Escapes.{value_again}
-use Rattle.ir_text_base.proofs.Printed.{bare_token, decimal_token, hash_token, mark_token, minus_token, string_token}
+use Rattle.ir_text_tokens.specs.declared.token.Mark.TheVariants.{OpenRound, Less, Greater, Comma, Colon, Minus}
+use Rattle.ir_text_tokens.specs.Bytes.{is_word}
+use Rattle.ir_text_tokens.specs.Tokens.{Lexeme, mark, integer, string, bare, hash}
+use Rattle.ir_text_tokens.specs.Printing.{AreBytes, Stops, raw_text, string_text}
+use Rattle.ir_text_tokens.proofs.Decimals.{integer_again}
+use Rattle.ir_text_tokens.proofs.Escapes.{value_again}
+use Rattle.ir_text_tokens.proofs.Printed.{bare_token, decimal_token, hash_token, mark_token, minus_token, string_token}
 use Rattle.ir_text.specs.TypeText.{type_text}
 use Rattle.ir_text.specs.AttrText.{is_truth, number_text, integer_text, flags_text, attr_text}
-use Rattle.ir_text_type_base.specs.Grammars.{Token}
-use Rattle.ir_text_type_base.specs.TypeGrammar.{IsType}
-use Rattle.ir_text_attr_base.specs.Literals.{TypeWord, word_of, true_word, false_word, unit_word, none_word, overflow_word}
-use Rattle.ir_text_attr_base.specs.AttrGrammar.{IsSuffix, IsLiteral, IsFlags, IsWordAttr, IsAttrFrom, IsAttr}
-use Rattle.ir_text_attr_base.specs.declared.flag.Flag as code
-use Rattle.ir_text_attr_base.specs.declared.flag.Flag.TheVariants.{NoSignedWrap, NoUnsignedWrap}
-use Rattle.ir_text_attr_base.specs.Literals.{array_word, has_nsw, has_nuw}
-use Rattle.ir_text_base.proofs.Escapes.{either}
+use Rattle.ir_text_reading.specs.Grammars.{Token}
+use Rattle.ir_text_types.specs.TypeGrammar.{IsType}
+use Rattle.ir_text_attributes.specs.Literals.{TypeWord, word_of, true_word, false_word, unit_word, none_word, overflow_word}
+use Rattle.ir_text_attributes.specs.AttrGrammar.{IsSuffix, IsLiteral, IsFlags, IsWordAttr, IsAttrFrom, IsAttr}
+use Rattle.ir_text_attributes.specs.declared.flag.Flag as code
+use Rattle.ir_text_attributes.specs.declared.flag.Flag.TheVariants.{NoSignedWrap, NoUnsignedWrap}
+use Rattle.ir_text_attributes.specs.Literals.{array_word, has_nsw, has_nuw}
+use Rattle.ir_text_tokens.proofs.Escapes.{either}
 use Rattle.ir_types.proofs.Growth.{name_is}
 use Rattle.ir_types.specs.declared.node.TypeNode.{TypeNode}
-use Rattle.ir_text_type_base.specs.Grammars.{IsMore}
-use Rattle.ir_text_type_base.specs.Scalars.{memref_word, scalar_of}
-use Rattle.ir_text_type_base.specs.TypeGrammar.{IsWordFrom}
+use Rattle.ir_text_reading.specs.Grammars.{IsMore}
+use Rattle.ir_text_types.specs.Scalars.{memref_word, scalar_of}
+use Rattle.ir_text_types.specs.TypeGrammar.{IsWordFrom}
 use Rattle.ir_text_round.specs.Written.{is_written_type}
 use Rattle.ir_text_round.proofs.Small.{lacks_token}
 use Rattle.ir_text_round.proofs.Ahead.{space, space_token}

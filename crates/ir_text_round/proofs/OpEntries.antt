@@ -7,18 +7,18 @@ use Rattle.std.proofs.lemmas.Bool.Decides.{nat_tests}
 use Rattle.std.proofs.lemmas.List.{length-append}
 use Rattle.ir_types.specs.Terms.{AttrTerm, Flag}
 use Rattle.ir_tree.specs.Meaning.{key_before, rises}
-use Rattle.ir_text_base.specs.declared.token.Mark.TheVariants.{OpenCurly, CloseCurly, Less, Greater, Comma}
-use Rattle.ir_text_base.specs.Tokens.{mark}
-use Rattle.ir_text_base.specs.Printing.{AreBytes}
-use Rattle.ir_text_base.proofs.Escapes.{either}
-use Rattle.ir_text_base.proofs.Printed.{mark_token}
+use Rattle.ir_text_tokens.specs.declared.token.Mark.TheVariants.{OpenCurly, CloseCurly, Less, Greater, Comma}
+use Rattle.ir_text_tokens.specs.Tokens.{mark}
+use Rattle.ir_text_tokens.specs.Printing.{AreBytes}
+use Rattle.ir_text_tokens.proofs.Escapes.{either}
+use Rattle.ir_text_tokens.proofs.Printed.{mark_token}
 use Rattle.ir_text.specs.Rows.{parted}
 use Rattle.ir_text.specs.AttrText.{entry_texts}
 use Rattle.ir_text.specs.Printing.{entries_of, properties_text, attributes_text}
-use Rattle.ir_text_type_base.specs.Grammars.{Not, IsMark}
-use Rattle.ir_text_attr_base.specs.AttrGrammar.{EntryTerm, IsAttr, IsFine, IsKey}
-use Rattle.ir_text_read_base.specs.Entries.{has_key, staying, is_refused}
-use Rattle.ir_text_read_base.specs.OpGrammar.{is_property, IsEntry, IsEntries, IsProperties, IsAttributes}
+use Rattle.ir_text_reading.specs.Grammars.{Not, IsMark}
+use Rattle.ir_text_attributes.specs.AttrGrammar.{EntryTerm, IsAttr, IsFine, IsKey}
+use Rattle.ir_text_operations.specs.Entries.{has_key, staying, is_refused}
+use Rattle.ir_text_operations.specs.OpGrammar.{is_property, IsEntry, IsEntries, IsProperties, IsAttributes}
 use Rattle.ir_text_round.specs.WrittenAttributes.{entries_list, are_bytes as are_bytes_test, FitsAttr, FitsDictionary, AreOthers}
 use Rattle.ir_text_round.proofs.Small.{lacks_token, are_bytes}
 use Rattle.ir_text_round.proofs.Ahead.{then_ahead, space_token}

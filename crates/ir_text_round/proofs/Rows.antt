@@ -1,11 +1,11 @@
 -- Lists whose items are printed with `, ` between them are read again.
 use Rattle.std.proofs.Common.{◌≡◌, ℕ, zero, suc, ◌≤◌, true, false, List, [], ◌∷◌, ◌++◌, map, length, refl, sym, ap, subst, append_assoc, arith, inl, inr}
 use Rattle.std.specs.Prelude.{codes}
-use Rattle.ir_text_base.specs.declared.token.Mark.{Mark}
-use Rattle.ir_text_base.specs.declared.token.Mark.TheVariants.{Comma}
-use Rattle.ir_text_base.specs.Printing.{mark_text}
-use Rattle.ir_text_base.proofs.Printed.{mark_token}
-use Rattle.ir_text_type_base.specs.Grammars.{Grammar, Not, IsMore, IsList, IsMark}
+use Rattle.ir_text_tokens.specs.declared.token.Mark.{Mark}
+use Rattle.ir_text_tokens.specs.declared.token.Mark.TheVariants.{Comma}
+use Rattle.ir_text_tokens.specs.Printing.{mark_text}
+use Rattle.ir_text_tokens.proofs.Printed.{mark_token}
+use Rattle.ir_text_reading.specs.Grammars.{Grammar, Not, IsMore, IsList, IsMark}
 use Rattle.ir_text.specs.Rows.{parted}
 use Rattle.ir_text_round.proofs.Ahead.{Ahead, Lacks, more_ahead, space}
 

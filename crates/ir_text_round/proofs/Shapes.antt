@@ -7,14 +7,14 @@ use Rattle.std.specs.Fmt.{decimal}
 use Rattle.std.proofs.lemmas.Bool.Decides.{nat_tests}
 use Rattle.std.proofs.lemmas.List.Concat.{flat_map-cons}
 use Rattle.ir_types.specs.Reasons.{is_dimension}
-use Rattle.ir_text_base.specs.Bytes.{is_blank, is_letter, is_word}
-use Rattle.ir_text_base.specs.Tokens.{bare, skip}
-use Rattle.ir_text_base.specs.Printing.{is_bare_id}
-use Rattle.ir_text_base.proofs.Decimals.{decimal_number, first_passes}
-use Rattle.ir_text_base.proofs.Fronts.{next_front}
-use Rattle.ir_text_base.proofs.Wholes.{next_whole}
-use Rattle.ir_text_type_base.specs.Grammars.{Token}
-use Rattle.ir_text_type_base.specs.ShapeGrammar.{is_decimal, begins_dimension, AreDimensions}
+use Rattle.ir_text_tokens.specs.Bytes.{is_blank, is_letter, is_word}
+use Rattle.ir_text_tokens.specs.Tokens.{bare, skip}
+use Rattle.ir_text_tokens.specs.Printing.{is_bare_id}
+use Rattle.ir_text_tokens.proofs.Decimals.{decimal_number, first_passes}
+use Rattle.ir_text_tokens.proofs.Fronts.{next_front}
+use Rattle.ir_text_tokens.proofs.Wholes.{next_whole}
+use Rattle.ir_text_reading.specs.Grammars.{Token}
+use Rattle.ir_text_types.specs.ShapeGrammar.{is_decimal, begins_dimension, AreDimensions}
 use Rattle.ir_text.specs.TypeText.{dimension_text}
 use Rattle.ir_text_round.proofs.Small.{both}
 use Rattle.ir_text_round.proofs.Words.{all_digits}

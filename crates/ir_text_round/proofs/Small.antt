@@ -4,12 +4,12 @@ use Rattle.std.specs.Prelude.{◌&&◌, nat_le, nat_lt}
 use Rattle.std.specs.List.{list_all}
 use Rattle.std.proofs.lemmas.Bool.Decides.{nat_tests}
 use Rattle.std.proofs.lemmas.Option.{some_pair_parts}
-use Rattle.ir_text_base.specs.declared.token.Mark.{Mark}
-use Rattle.ir_text_base.specs.Tokens.{Lexeme, mark}
-use Rattle.ir_text_base.specs.Printing.{AreBytes, Stops}
-use Rattle.ir_text_base.specs.Bytes.{is_word, is_suffix}
-use Rattle.ir_text_base.proofs.Escapes.{either}
-use Rattle.ir_text_type_base.specs.Grammars.{Not, Token, IsMark}
+use Rattle.ir_text_tokens.specs.declared.token.Mark.{Mark}
+use Rattle.ir_text_tokens.specs.Tokens.{Lexeme, mark}
+use Rattle.ir_text_tokens.specs.Printing.{AreBytes, Stops}
+use Rattle.ir_text_tokens.specs.Bytes.{is_word, is_suffix}
+use Rattle.ir_text_tokens.proofs.Escapes.{either}
+use Rattle.ir_text_reading.specs.Grammars.{Not, Token, IsMark}
 
 pub both : (a b : Bool) → (a && b) ≡ true → (a ≡ true) × (b ≡ true)
 both true b e = (refl, e)

@@ -3,9 +3,9 @@ use Rattle.std.proofs.Common.{◌≡◌, ℕ, true, List, [], ◌∷◌, ◌++�
 use Rattle.std.specs.List.{prefix_len}
 use Rattle.std.proofs.lemmas.List.{take_at, drop_at}
 use Rattle.ir_tree.specs.Meaning.{key_before, rises}
-use Rattle.ir_text_read_base.specs.Entries.{moved, staying, put_among, put_all, properties_of, attributes_of}
-use Rattle.ir_text_attr_base.specs.AttrGrammar.{EntryTerm}
-use Rattle.ir_text_read_base.specs.OpGrammar.{is_property}
+use Rattle.ir_text_operations.specs.Entries.{moved, staying, put_among, put_all, properties_of, attributes_of}
+use Rattle.ir_text_attributes.specs.AttrGrammar.{EntryTerm}
+use Rattle.ir_text_operations.specs.OpGrammar.{is_property}
 use Rattle.ir_text_round.specs.WrittenAttributes.{AreOthers}
 use Rattle.ir_text_round.proofs.Keys.{AreBefore, AreBeforeFirst, next_before}
 

@@ -3,17 +3,17 @@ use Rattle.std.proofs.Common.{◌≡◌, ℕ, zero, suc, ◌≤◌, true, false,
 use Rattle.std.specs.Prelude.{◌&&◌, ◌==◌, not, codes, nat_le}
 use Rattle.std.specs.List.{list_all}
 use Rattle.ir_types.specs.Terms.{Symbol}
-use Rattle.ir_text_base.specs.declared.token.Mark.TheVariants.{DoubleColon}
-use Rattle.ir_text_base.specs.Bytes.{is_suffix}
-use Rattle.ir_text_base.specs.Tokens.{Lexeme, symbol, quoted}
-use Rattle.ir_text_base.specs.Printing.{AreBytes, Stops, is_bare_id, raw_text}
-use Rattle.ir_text_base.proofs.Escapes.{either, value_again}
-use Rattle.ir_text_base.proofs.Printed.{mark_token, symbol_token, quoted_token}
+use Rattle.ir_text_tokens.specs.declared.token.Mark.TheVariants.{DoubleColon}
+use Rattle.ir_text_tokens.specs.Bytes.{is_suffix}
+use Rattle.ir_text_tokens.specs.Tokens.{Lexeme, symbol, quoted}
+use Rattle.ir_text_tokens.specs.Printing.{AreBytes, Stops, is_bare_id, raw_text}
+use Rattle.ir_text_tokens.proofs.Escapes.{either, value_again}
+use Rattle.ir_text_tokens.proofs.Printed.{mark_token, symbol_token, quoted_token}
 use Rattle.ir_text.specs.Rows.{parted}
 use Rattle.ir_text.specs.AttrText.{part_text, attr_text}
-use Rattle.ir_text_type_base.specs.Grammars.{Token}
-use Rattle.ir_text_type_base.specs.TypeReading.{many}
-use Rattle.ir_text_attr_base.specs.AttrGrammar.{IsPart, IsParts, IsSymbol}
+use Rattle.ir_text_reading.specs.Grammars.{Token}
+use Rattle.ir_text_types.specs.TypeReading.{many}
+use Rattle.ir_text_attributes.specs.AttrGrammar.{IsPart, IsParts, IsSymbol}
 use Rattle.ir_text_round.specs.WrittenAttributes.{are_bytes as are_bytes_test, are_parts, EndsAttr}
 use Rattle.ir_text_round.proofs.Small.{both, in_range, are_bytes}
 use Rattle.ir_text_round.proofs.Leaves.{Begins}

@@ -9,19 +9,19 @@ use Rattle.ir_types.specs.Terms.{TypeTerm, Integer, Index, Function, Memref, Typ
 use Rattle.ir_types.specs.Depths.{is_scalar, type_depth, types_depth}
 use Rattle.std.specs.List.{AllByRecursion, list_all}
 use Rattle.ir_types.specs.Reasons.{is_dimension, type_fault}
-use Rattle.ir_text_base.specs.declared.token.Mark.{Mark}
-use Rattle.ir_text_base.specs.declared.token.Mark.TheVariants.{OpenRound, CloseRound, Less, Greater, Comma, Arrow}
-use Rattle.ir_text_base.specs.Bytes.{is_word}
-use Rattle.ir_text_base.specs.Tokens.{mark, bare}
-use Rattle.ir_text_base.specs.Printing.{Stops}
-use Rattle.ir_text_base.proofs.Printed.{bare_token, mark_token}
+use Rattle.ir_text_tokens.specs.declared.token.Mark.{Mark}
+use Rattle.ir_text_tokens.specs.declared.token.Mark.TheVariants.{OpenRound, CloseRound, Less, Greater, Comma, Arrow}
+use Rattle.ir_text_tokens.specs.Bytes.{is_word}
+use Rattle.ir_text_tokens.specs.Tokens.{mark, bare}
+use Rattle.ir_text_tokens.specs.Printing.{Stops}
+use Rattle.ir_text_tokens.proofs.Printed.{bare_token, mark_token}
 use Rattle.ir_text.specs.Printing.{types_of}
 use Rattle.ir_text.specs.Rows.{parted}
 use Rattle.ir_text.specs.TypeText.{sign_text, dimension_text, is_function, is_lone, in_round, outputs_text, type_text, type_texts}
-use Rattle.ir_text_type_base.specs.Scalars.{index_word, memref_word, scalar_of}
-use Rattle.ir_text_type_base.specs.TypeReading.{many}
-use Rattle.ir_text_type_base.specs.Grammars.{Then, Done, After, Not, IsMark}
-use Rattle.ir_text_type_base.specs.TypeGrammar.{terms_of, IsScalar, IsMemref, IsWordFrom, IsWordType, IsTypes, IsOutputs, IsSignature, IsFunction, IsType, IsFunctionType}
+use Rattle.ir_text_types.specs.Scalars.{index_word, memref_word, scalar_of}
+use Rattle.ir_text_types.specs.TypeReading.{many}
+use Rattle.ir_text_reading.specs.Grammars.{Then, Done, After, Not, IsMark}
+use Rattle.ir_text_types.specs.TypeGrammar.{terms_of, IsScalar, IsMemref, IsWordFrom, IsWordType, IsTypes, IsOutputs, IsSignature, IsFunction, IsType, IsFunctionType}
 use Rattle.std.specs.Str.{bytes_eq}
 use Rattle.ir_text_round.specs.Written.{types_list, is_written_type, are_written_types, FitsType}
 use Rattle.ir_text_round.proofs.Ahead.{Ahead, Lacks, either_ahead, then_ahead, space, space_token}

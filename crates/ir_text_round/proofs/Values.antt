@@ -9,7 +9,7 @@ use Rattle.ir_types.specs.Ranges.{is_literal, is_signed, is_value_number}
 use Rattle.ir_types.specs.Readings.{is_bits_of, literal_bits, reading_of, type_width, wrapped}
 use Rattle.ir_types.specs.Reasons.{is_width, attr_fault}
 use Rattle.ir_types.proofs.ReadingLaws.{literal_small, number_is, type_number_back, type_number_fits, printed_is_literal, value_is_literal}
-use Rattle.ir_text_base.specs.Numbers.{below_limit}
+use Rattle.ir_text_tokens.specs.Numbers.{below_limit}
 use Rattle.ir_text_round.specs.Written.{is_written_type}
 
 width_bounds : (w : ℕ) → is_width w ≡ true → (1 ≤ w) × (w ≤ 128)

@@ -11,10 +11,10 @@ use Rattle.ir_types.specs.declared.node.Sign.{Sign}
 use Rattle.ir_types.specs.declared.node.Sign.TheVariants.{Signless, Signed, Unsigned}
 use Rattle.ir_types.specs.declared.node.TypeNode.TheVariants.{Int}
 use Rattle.ir_types.specs.Reasons.{is_width}
-use Rattle.ir_text_base.specs.Bytes.{is_word}
-use Rattle.ir_text_base.specs.Printing.{is_bare_id}
-use Rattle.ir_text_base.proofs.Decimals.{eqb_self, decimal_number, first_passes, rest_passes, integer_again}
-use Rattle.ir_text_type_base.specs.Scalars.{begins_zero, width_of, within, index_word, memref_word, scalar_of}
+use Rattle.ir_text_tokens.specs.Bytes.{is_word}
+use Rattle.ir_text_tokens.specs.Printing.{is_bare_id}
+use Rattle.ir_text_tokens.proofs.Decimals.{eqb_self, decimal_number, first_passes, rest_passes, integer_again}
+use Rattle.ir_text_types.specs.Scalars.{begins_zero, width_of, within, index_word, memref_word, scalar_of}
 use Rattle.ir_text.specs.TypeText.{sign_text}
 
 -- a run of one class is one of a larger class

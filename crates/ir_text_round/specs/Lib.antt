@@ -1,2 +1,5 @@
 pub mod Written
 pub mod WrittenAttributes
+pub mod Standing
+pub mod Runs
+pub mod WrittenTrees

@@ -4,7 +4,7 @@ use Rattle.std.specs.List.{list_all}
 use Rattle.ir_types.specs.Terms.{TypeTerm, Integer, Index, Function, Memref, TypeTerms, no_types, next_type}
 use Rattle.ir_types.specs.Depths.{is_scalar, type_depth}
 use Rattle.ir_types.specs.Reasons.{is_width, is_dimension}
-use Rattle.ir_text_type_base.specs.TypeReading.{many}
+use Rattle.ir_text_types.specs.TypeReading.{many}
 
 -- the types of a list
 abbrev pub types_list : TypeTerms → List TypeTerm

@@ -9,12 +9,12 @@ use Rattle.ir_types.specs.Ranges.{is_value_number}
 use Rattle.ir_types.specs.Readings.{is_bits_of}
 use Rattle.ir_types.specs.Words.{is_inherent}
 use Rattle.ir_tree.specs.Meaning.{key_before, rises}
-use Rattle.ir_text_base.specs.declared.token.Mark.TheVariants.{DoubleColon}
-use Rattle.ir_text_base.specs.Bytes.{is_suffix}
-use Rattle.ir_text_base.specs.Printing.{Stops}
-use Rattle.ir_text_type_base.specs.Grammars.{Not, IsMark}
-use Rattle.ir_text_type_base.specs.TypeReading.{many}
-use Rattle.ir_text_read_base.specs.Entries.{has_key}
+use Rattle.ir_text_tokens.specs.declared.token.Mark.TheVariants.{DoubleColon}
+use Rattle.ir_text_tokens.specs.Bytes.{is_suffix}
+use Rattle.ir_text_tokens.specs.Printing.{Stops}
+use Rattle.ir_text_reading.specs.Grammars.{Not, IsMark}
+use Rattle.ir_text_types.specs.TypeReading.{many}
+use Rattle.ir_text_operations.specs.Entries.{has_key}
 use Rattle.ir_text_round.specs.Written.{is_written_type}
 
 -- the attributes of an array, and the entries of a dictionary

@@ -19,4 +19,4 @@ pub mod word;
 pub mod word_laws;
 pub mod words;
 
-pub use ir_types_base::lists::Items;
+pub use ir_items::lists::Items;

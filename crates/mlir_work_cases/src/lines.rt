@@ -2,13 +2,13 @@
 use crate::texts::{both_shown, bytes, number, shown};
 use ir_tree::value::Value;
 use ir_types::ids::OpId;
-use mlir_work_base::command::{Command, Line, read_line};
-use mlir_work_base::input::{script_is_too_long, split};
-use mlir_work_base::kind::{Kind, kind_named};
-use mlir_work_base::lines::split_line;
-use mlir_work_base::numbers;
-use mlir_work_base::values::{op_named, value_named};
-use mlir_work_base::words::{split_word, trim};
+use mlir_work_script::command::{Command, Line, read_line};
+use mlir_work_script::input::{script_is_too_long, split};
+use mlir_work_script::kind::{Kind, kind_named};
+use mlir_work_script::lines::split_line;
+use mlir_work_script::numbers;
+use mlir_work_script::values::{op_named, value_named};
+use mlir_work_script::words::{split_word, trim};
 use std::alloc::{AllocError, Global};
 
 /// A line that sets an operand.

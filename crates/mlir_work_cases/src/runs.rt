@@ -80,7 +80,16 @@ fn listeners(alloc: Global, count: u64) -> Result<Vec<Uses>, AllocError> {
 fn with(alloc: Global, boxes: Vec<Uses>, input: &[u8]) -> Result<String, AllocError> {
     let mut reader = input;
     let mut out: Vec<u8> = Vec::new(alloc);
-    let status = run(alloc, Options { brief: true, key: 0 }, &mut reader, &mut out, boxes);
+    let status = run(
+        alloc,
+        Options {
+            brief: true,
+            key: 0,
+        },
+        &mut reader,
+        &mut out,
+        boxes,
+    );
     told(alloc, status, &out)
 }
 

@@ -2,11 +2,11 @@
 use Rattle.std.proofs.Common.{◌≡◌, sym, subst, inl, inr, ◌⊎◌, refl, ℕ, ◌+◌, List, [], ◌∷◌, Bool, true, false, Option, Some, None, Result, Ok, Err}
 use Rattle.std.specs.Prelude.{IfSome}
 use Rattle.ir_event.specs.Modules.{Module}
-use Rattle.mlir_work_base.specs.Commands.{Spoken, Nothing, Bad, Obey, line_says}
-use Rattle.mlir_work_base.specs.Lines.{lines_of}
-use Rattle.mlir_work_base.specs.Parts.{script_text}
-use Rattle.mlir_work_run_base.specs.Machine.{Shown, State}
-use Rattle.mlir_work_run_base.specs.Output.{Line, Runs, IsSession, worse, is_accepted}
+use Rattle.mlir_work_script.specs.Commands.{Spoken, Nothing, Bad, Obey, line_says}
+use Rattle.mlir_work_script.specs.Lines.{lines_of}
+use Rattle.mlir_work_script.specs.Parts.{script_text}
+use Rattle.mlir_work_session.specs.Machine.{Shown, State}
+use Rattle.mlir_work_session.specs.Output.{Line, Runs, IsSession, worse, is_accepted}
 use Rattle.mlir_work_run.specs.Ends.{EndedSo, HasStatus, IsFinal, status_of}
 use Rattle.mlir_work_run.specs.Whole.{IsOutput}
 use Rattle.mlir_work_run.specs.declared.run.Fault.{Fault}

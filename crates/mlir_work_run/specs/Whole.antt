@@ -5,12 +5,12 @@ use Rattle.ir_types.specs.declared.refusal.Refusal.TheVariants.{TooMany, Memory}
 use Rattle.ir_tree.specs.Ids.{op_count}
 use Rattle.ir_tree.specs.Meaning.{Operation}
 use Rattle.ir_event.specs.Modules.{Module}
-use Rattle.ir_text_read_base.specs.Spelling.{Spells}
-use Rattle.mlir_work_base.specs.Parts.{module_text, script_text}
-use Rattle.mlir_work_base.specs.Replies.{module_refused_line}
-use Rattle.mlir_work_base.specs.declared.input.TheConstants.{MAX_INPUT_BYTES}
-use Rattle.mlir_work_run_base.specs.Machine.{Shown}
-use Rattle.mlir_work_run_base.specs.Output.{IsSession}
+use Rattle.ir_text_operations.specs.Spelling.{Spells}
+use Rattle.mlir_work_script.specs.Parts.{module_text, script_text}
+use Rattle.mlir_work_script.specs.Replies.{module_refused_line}
+use Rattle.mlir_work_script.specs.declared.input.TheConstants.{MAX_INPUT_BYTES}
+use Rattle.mlir_work_session.specs.Machine.{Shown}
+use Rattle.mlir_work_session.specs.Output.{IsSession}
 
 -- the module is refused
 abbrev pub IsRefusal : Refusal → Option ℕ → ℕ → List ℕ → Type 0

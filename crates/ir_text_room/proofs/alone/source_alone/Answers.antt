@@ -1,4 +1,4 @@
-use Rattle.ir_text_read_base.proofs.Modules.{root_is_source, no_source}
+use Rattle.ir_text_operations.proofs.Modules.{root_is_source, no_source}
 use Rattle.ir_text_room.proofs.Sources.{source_read}
 use Rattle.ir_text_room.proofs.alone.source_alone.Goals as goal
 

@@ -1,7 +1,0 @@
-use Rattle.ir_types.specs.declared.node.Sign.TheVariants.{Signless}
-use Rattle.ir_types.specs.declared.node.TypeNode.TheVariants as type
-use Rattle.ir_text_type_base.proofs.Numbered.{type_done_known}
-use Rattle.ir_text_attr_base.proofs.attributes.truth.Goals as goal
-
-pub kept-requires-2 : goal.kept-requires-2
-kept-requires-2 c = type_done_known (type.Int Signless 1) c.args.bytes.now _ c.args.ctx.now c.kept.new.ctx c.in-Ok.found.0 c.in-Ok.ensures.reads

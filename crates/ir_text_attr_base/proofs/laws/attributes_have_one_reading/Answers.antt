@@ -1,5 +1,0 @@
-use Rattle.ir_text_attr_base.proofs.UniqueAttributes.{attr_one}
-use Rattle.ir_text_attr_base.proofs.laws.attributes_have_one_reading.Goals as goal
-
-pub returns : goal.returns
-returns _ depth bytes rest other y z = attr_one depth bytes y z rest other

@@ -1,0 +1,223 @@
+-- Attributes of one token, literals and flags: those that are read are spelled, and those that are
+-- spelled are read.
+use Rattle.std.specs.Str.{bytes_eq}
+use Rattle.std.proofs.Common.{◌≡◌, ℕ, Bool, true, false, List, [], ◌∷◌, Some, None, refl, sym, ap, subst, ◌∙◌, ◌⊎◌, inl, inr}
+use Rattle.ir_text_tokens.specs.declared.token.Mark.TheVariants.{Less, Greater, Colon}
+use Rattle.ir_text_tokens.specs.Strings.{string_bytes}
+use Rattle.ir_text_tokens.specs.Numbers.{integer_of, below_limit}
+use Rattle.ir_text_tokens.specs.Tokens.{Lexeme, integer, bare}
+use Rattle.ir_types.specs.declared.node.Sign.TheVariants.{Signless}
+use Rattle.ir_types.specs.declared.node.TypeNode.TheVariants as type
+use Rattle.ir_types.specs.declared.node.AttrNode.TheVariants as attr
+use Rattle.ir_types.specs.Things.{Things}
+use Rattle.ir_types.specs.Terms.{TypeTerm, Integer, AttrTerm, IntegerOf, String, TypeOf, Flag, Overflow}
+use Rattle.ir_types.specs.Dictionaries.{kept}
+use Rattle.ir_types.specs.Readings.{literal_bits}
+use Rattle.ir_types.specs.Reasons.{type_fault}
+use Rattle.ir_text_attributes.specs.declared.flag.Flag as code
+use Rattle.ir_text_reading.specs.Outcomes.{Read, ◌>>=◌, of_option, Parse}
+use Rattle.ir_text_reading.specs.Typed.{Typed, after_typed, name_step}
+use Rattle.ir_text_attributes.specs.Literals.{truth_bits, none_word, flag_of, has_nsw, has_nuw}
+use Rattle.ir_text_types.specs.TypeReading.{many, type_done, type_at}
+use Rattle.ir_text_attributes.specs.AttrReading.{attr_done, truth_at, string_at, type_attr_at, suffix_from, suffix_at, literal_done, literal_at, negative_from, negative_at, flag_from, flag_at, some_flags_at, no_flags_at, flags_from, flags_at, overflow_at}
+use Rattle.ir_text_reading.specs.Grammars.{Grammar, Then, Done, After, IsMore, IsMark, Token}
+use Rattle.ir_text_types.specs.TypeGrammar.{IsType}
+use Rattle.ir_text_attributes.specs.AttrGrammar.{IsFine, IsTypeAttr, IsSuffix, IsLiteralOf, IsLiteral, IsNegative, IsFlag, IsFlags, IsOverflow}
+use Rattle.ir_text_reading.specs.Worlds.{From}
+use Rattle.ir_text_reading.specs.Standing.{NameStands, TypeStands, AttrStands}
+use Rattle.ir_text_reading.specs.Laws.{Each}
+use Rattle.ir_text_reading.proofs.Worlds.{bind_assoc, Exact, exact_where, exact_spelled, exact_for, nothing_exact, choice_exact, some_exact, then_exact, done_exact, after_exact, either_exact, more_exact}
+use Rattle.ir_text_reading.proofs.TextLaws.{things, Same, typed_marks}
+use Rattle.ir_text_reading.proofs.TokenLaws.{behind_exact, token_exact}
+use Rattle.ir_text_types.proofs.TypeLaws.{type_done_exact, type_exact}
+use Rattle.ir_text_attributes.proofs.NodeLaws.{IsNodeOf, Text, moved, done, name_at, name_exact, attr_done_exact, done_then, then_done, done_if_exact}
+
+-- ---- attributes of one token
+
+string_node : (z : Things) (n : ℕ) (y : List ℕ) → NameStands z n y → IsNodeOf (attr.Str n) (String y) z
+unfolding kept
+string_node z n y h = (h.0, ap String h.1)
+
+type_node : (z : Things) (n : ℕ) (y : TypeTerm) → TypeStands z n y → IsNodeOf (attr.Ty n) (TypeOf y) z
+unfolding kept
+type_node z n y h = (h.0, ap TypeOf h.1)
+
+integer_node : (v : ℕ) (z : Things) (n : ℕ) (y : TypeTerm) → TypeStands z n y → IsNodeOf (attr.Int n v) (IntegerOf y v) z
+unfolding kept
+integer_node v z n y h = (h.0, ap (λ t. IntegerOf t v) h.1)
+
+pub unit_node : (z : Things) → IsNodeOf attr.Unit Flag z
+unfolding kept
+unit_node z = (tt, refl)
+
+overflow_node : (nsw nuw : Bool) (z : Things) → IsNodeOf (attr.Overflow nsw nuw) (Overflow nsw nuw) z
+unfolding kept
+overflow_node nsw nuw z = (tt, refl)
+
+pub string_exact : (raw : List ℕ) (c : Things) → Exact things Same c AttrStands (string_at raw) (IsFine (String (string_bytes raw)))
+unfolding string_at
+string_exact raw c =
+    exact_where things Same c AttrStands (string_at raw) (λ s. name_at (string_bytes raw) s >>= λ n. attr_done (attr.Str n.0) n.1) (IsFine (String (string_bytes raw)))
+    (λ s g sound. sym (bind_assoc (name_step (string_bytes raw) s.1) (λ n. done (moved s n)) (λ n. attr_done (attr.Str n.0) n.1)))
+    (exact_spelled things Same c AttrStands (λ s. name_at (string_bytes raw) s >>= λ n. attr_done (attr.Str n.0) n.1) (Then (Done (string_bytes raw)) (λ y. IsFine (String y))) (IsFine (String (string_bytes raw)))
+    (done_then (string_bytes raw) (λ y. IsFine (String y))) (then_done (string_bytes raw) (λ y. IsFine (String y)))
+    (then_exact things Same c NameStands AttrStands (name_at (string_bytes raw)) (Done (string_bytes raw)) (λ n. attr_done (attr.Str n)) (λ y. IsFine (String y)) (name_exact c (string_bytes raw)) (λ d n y g r.
+    attr_done_exact d (attr.Str n) (String y) (refl, refl) (λ z k w. string_node z n y (r z k w)))))
+
+-- a signless integer type whose width is fine
+pub signless_exact : (w : ℕ) → type_fault (Integer Signless w) ≡ None → (c : Things) → Exact things Same c TypeStands (type_done (type.Int Signless w)) (Done (Integer Signless w))
+signless_exact w fine c = done_if_exact c TypeStands (type_done (type.Int Signless w)) (type_fault (Integer Signless w) ≡ None) (Integer Signless w) fine (type_done_exact c (type.Int Signless w) (Integer Signless w) (λ z g k. (tt, refl)))
+
+pub truth_exact : (b : Bool) (c : Things) → Exact things Same c AttrStands (truth_at b) (IsFine (IntegerOf (Integer Signless 1) (truth_bits b)))
+unfolding truth_at
+truth_exact b c =
+    exact_spelled things Same c AttrStands (λ s. type_done (type.Int Signless 1) s >>= λ t. attr_done (attr.Int t.0 (truth_bits b)) t.1) (Then (Done (Integer Signless 1)) (λ y. IsFine (IntegerOf y (truth_bits b)))) (IsFine (IntegerOf (Integer Signless 1) (truth_bits b)))
+    (done_then (Integer Signless 1) (λ y. IsFine (IntegerOf y (truth_bits b)))) (then_done (Integer Signless 1) (λ y. IsFine (IntegerOf y (truth_bits b))))
+    (then_exact things Same c TypeStands AttrStands (type_done (type.Int Signless 1)) (Done (Integer Signless 1)) (λ t. attr_done (attr.Int t (truth_bits b))) (λ y. IsFine (IntegerOf y (truth_bits b))) (signless_exact 1 refl c) (λ d t y g r.
+    attr_done_exact d (attr.Int t (truth_bits b)) (IntegerOf y (truth_bits b)) (refl, refl) (λ z k w. integer_node (truth_bits b) z t y (r z k w))))
+
+pub type_attr_exact : (depth : ℕ) (c : Things) → Exact things Same c AttrStands (type_attr_at depth) (IsTypeAttr depth)
+unfolding type_attr_at
+type_attr_exact depth c =
+    then_exact things Same c TypeStands AttrStands (type_at depth) (IsType depth) (λ t. attr_done (attr.Ty t)) (λ t. IsFine (TypeOf t)) (type_exact depth c) (λ d t y g r.
+    attr_done_exact d (attr.Ty t) (TypeOf y) (refl, refl) (λ z k w. type_node z t y (r z k w)))
+
+-- ---- literals
+
+suffix_exact : (c : Things) → Exact things Same c TypeStands suffix_at IsSuffix
+unfolding suffix_at
+suffix_exact c =
+    either_exact things Same after_typed IsMark typed_marks c TypeStands Colon suffix_from (type_at 32) (type_done (type.Int Signless 64)) (IsType 32) (Done (Integer Signless 64)) (λ s mid. refl) (λ s. refl) (type_exact 32 c) (signless_exact 64 refl c)
+
+abbrev literal_of : Bool → ℕ → ℕ → TypeTerm → Parse Typed ℕ
+literal_of negative n t ty s = of_option (literal_bits ty negative n) >>= λ bits. attr_done (attr.Int t bits) s
+
+literal_done_exact : (negative : Bool) (n : ℕ) (c : Things) (t : ℕ) (ty : TypeTerm) → From (λ z. TypeStands z t ty) c → Exact things Same c AttrStands (literal_done negative n t) (IsLiteralOf negative n ty)
+unfolding literal_done
+literal_done_exact negative n c t ty r =
+    exact_where things Same c AttrStands (literal_done negative n t) (literal_of negative n t ty) (IsLiteralOf negative n ty) (λ s g sound. ap (λ u. literal_of negative n t u s) (r s.1 g sound).1)
+    (some_exact things Same c AttrStands (literal_bits ty negative n) (λ bits. attr_done (attr.Int t bits)) (λ bits. IsFine (IntegerOf ty bits)) (λ bits.
+    attr_done_exact c (attr.Int t bits) (IntegerOf ty bits) (refl, refl) (λ z k w. integer_node bits z t ty (r z k w))))
+
+pub literal_exact : (negative : Bool) (digits : List ℕ) (c : Things) → Exact things Same c AttrStands (literal_at negative digits) (IsLiteral negative digits)
+unfolding literal_at
+literal_exact negative digits c =
+    some_exact things Same c AttrStands (below_limit (integer_of digits)) (λ n s. suffix_at s >>= λ t. literal_done negative n t.0 t.1) (λ n. Then IsSuffix (IsLiteralOf negative n)) (λ n.
+    then_exact things Same c TypeStands AttrStands suffix_at IsSuffix (literal_done negative n) (IsLiteralOf negative n) (suffix_exact c) (λ d t ty g r. literal_done_exact negative n d t ty r))
+
+abbrev NegativeFrom : Lexeme → Text → Grammar Text AttrTerm
+NegativeFrom (integer digits) rest y old new = IsLiteral true digits y rest new
+NegativeFrom _ rest y old new = ⊥
+
+negative_from_exact : (c : Things) (l : Lexeme) (rest : Text) → Exact things Same c AttrStands (λ s. negative_from s.1 l rest) (NegativeFrom l rest)
+negative_from_exact c (integer digits) rest = behind_exact c AttrStands rest (literal_at true digits) (IsLiteral true digits) (literal_exact true digits c)
+negative_from_exact c _ rest = nothing_exact things Same c AttrStands
+
+negative_into : (y : AttrTerm) (t t' : Text) → (l : Lexeme) × (rest : Text) × Token l t rest × NegativeFrom l rest y t t' → IsNegative y t t'
+negative_into y t t' k = by_token k.0 k.1 k.2 k.3
+  where
+    by_token : (l : Lexeme) (rest : Text) → Token l t rest → NegativeFrom l rest y t t' → IsNegative y t t'
+    by_token (integer digits) rest token k = (digits, rest, token, k)
+    by_token _ rest token k = absurd k
+
+pub negative_exact : (c : Things) → Exact things Same c AttrStands negative_at IsNegative
+unfolding negative_at
+negative_exact c =
+    exact_spelled things Same c AttrStands negative_at (λ y old new. (l : Lexeme) × (rest : Text) × Token l old rest × NegativeFrom l rest y old new) IsNegative negative_into (λ y t t' k. (integer k.0, k.1, k.2, k.3))
+    (token_exact c AttrStands (λ s l rest. negative_from s.1 l rest) NegativeFrom (negative_from_exact c))
+
+-- ---- flags
+
+-- a flag is read as it is
+abbrev pub FlagStands : Things → code.Flag → code.Flag → Type 0
+FlagStands z x y = x ≡ y
+
+abbrev pub FlagsStand : Things → List code.Flag → List code.Flag → Type 0
+FlagsStand z xs ys = xs ≡ ys
+
+each_same : (z : Things) (xs ys : List code.Flag) → Each FlagStands z xs ys → xs ≡ ys
+each_same z [] [] h = refl
+each_same z [] (y ∷ ys) h = absurd h
+each_same z (x ∷ xs) [] h = absurd h
+each_same z (x ∷ xs) (y ∷ ys) h = λ i. h.0 i ∷ each_same z xs ys h.1 i
+
+abbrev FlagOf : List ℕ → Grammar Text code.Flag
+FlagOf w y old new = (f : code.Flag) × (flag_of w ≡ Some f) × Done f y old new
+
+abbrev FlagFrom : Lexeme → Text → Grammar Text code.Flag
+FlagFrom (bare w) rest y old new = FlagOf w y rest new
+FlagFrom _ rest y old new = ⊥
+
+flag_from_exact : (c : Things) (l : Lexeme) (rest : Text) → Exact things Same c FlagStands (λ s. flag_from s.1 l rest) (FlagFrom l rest)
+flag_from_exact c (bare w) rest =
+    behind_exact c FlagStands rest (λ s. of_option (flag_of w) >>= λ f. Read (f, s)) (FlagOf w)
+    (some_exact things Same c FlagStands (flag_of w) (λ f s. Read (f, s)) (λ f. Done f) (λ f. done_exact things Same c FlagStands f f (λ z g k. refl)))
+flag_from_exact c _ rest = nothing_exact things Same c FlagStands
+
+flag_into : (y : code.Flag) (t t' : Text) → (l : Lexeme) × (rest : Text) × Token l t rest × FlagFrom l rest y t t' → IsFlag y t t'
+flag_into y t t' k = by_token k.0 k.1 k.2 k.3
+  where
+    by_token : (l : Lexeme) (rest : Text) → Token l t rest → FlagFrom l rest y t t' → IsFlag y t t'
+    by_token (bare w) rest token k = (w, subst (λ r. Token (bare w) t r) (sym k.2.1) token, k.1 ∙ ap Some (sym k.2.0))
+    by_token _ rest token k = absurd k
+
+flag_exact : (c : Things) → Exact things Same c FlagStands flag_at IsFlag
+unfolding flag_at
+flag_exact c =
+    exact_spelled things Same c FlagStands flag_at (λ y old new. (l : Lexeme) × (rest : Text) × Token l old rest × FlagFrom l rest y old new) IsFlag flag_into (λ y t t' k. (bare k.0, t', k.1, (y, k.2, (refl, refl))))
+    (token_exact c FlagStands (λ s l rest. flag_from s.1 l rest) FlagFrom (flag_from_exact c))
+
+abbrev SomeFlags : Grammar Text (List code.Flag)
+SomeFlags = IsMore IsMark Greater (λ before. IsFlag) many []
+
+some_flags_exact : (c : Things) → Exact things Same c FlagsStand some_flags_at SomeFlags
+unfolding some_flags_at
+some_flags_exact c =
+    exact_for things Same c (Each FlagStands) FlagsStand some_flags_at SomeFlags each_same
+    (more_exact things Same after_typed IsMark typed_marks FlagStands Greater (λ before. flag_at) (λ before. IsFlag) (λ d xs ys r. flag_exact d) many c [] [] (λ z g k. tt))
+
+abbrev NoFlags : Grammar Text (List code.Flag)
+NoFlags fs old new = IsMark Greater old new × (fs ≡ [])
+
+no_flags_exact : (c : Things) → Exact things Same c FlagsStand no_flags_at NoFlags
+unfolding no_flags_at
+no_flags_exact c =
+    exact_spelled things Same c FlagsStand no_flags_at (After IsMark Greater (Done [])) NoFlags (λ y t t' k. (subst (λ r. IsMark Greater t r) (sym k.2.1) k.1, k.2.0)) (λ y t t' k. (t', k.0, (k.1, refl)))
+    (after_exact things Same after_typed IsMark typed_marks c FlagsStand Greater (λ s. Read ([], s)) (Done []) (done_exact things Same c FlagsStand [] [] (λ z g k. refl)))
+
+abbrev FlagsFrom : Lexeme → Text → Grammar Text (List code.Flag)
+FlagsFrom (bare w) rest fs old new = ((bytes_eq w none_word ≡ true) × NoFlags fs rest new) ⊎ ((bytes_eq w none_word ≡ false) × SomeFlags fs old new)
+FlagsFrom _ rest fs old new = ⊥
+
+flags_from_exact : (c : Things) (l : Lexeme) (rest : Text) → Exact things Same c FlagsStand (λ s. flags_from s l rest) (FlagsFrom l rest)
+flags_from_exact c (bare w) rest =
+    choice_exact things Same c FlagsStand (bytes_eq w none_word) (λ s. no_flags_at (rest, s.1)) some_flags_at (λ fs old new. NoFlags fs rest new) SomeFlags (behind_exact c FlagsStand rest no_flags_at NoFlags (no_flags_exact c)) (some_flags_exact c)
+flags_from_exact c _ rest = nothing_exact things Same c FlagsStand
+
+flags_into : (y : List code.Flag) (t t' : Text) → (l : Lexeme) × (rest : Text) × Token l t rest × FlagsFrom l rest y t t' → IsFlags y t t'
+flags_into y t t' k = by_token k.0 k.1 k.2 k.3
+  where
+    by_token : (l : Lexeme) (rest : Text) → Token l t rest → FlagsFrom l rest y t t' → IsFlags y t t'
+    by_token (bare w) rest token (inl k) = (w, rest, token, inl (k.0, k.1.0, k.1.1))
+    by_token (bare w) rest token (inr k) = (w, rest, token, inr k)
+    by_token _ rest token k = absurd k
+
+flags_back : (y : List code.Flag) (t t' : Text) → IsFlags y t t' → (l : Lexeme) × (rest : Text) × Token l t rest × FlagsFrom l rest y t t'
+flags_back y t t' k = (bare k.0, k.1, k.2, by_case k.3)
+  where
+    by_case : ((bytes_eq k.0 none_word ≡ true) × IsMark Greater k.1 t' × (y ≡ [])) ⊎ ((bytes_eq k.0 none_word ≡ false) × SomeFlags y t t') → FlagsFrom (bare k.0) k.1 y t t'
+    by_case (inl j) = inl (j.0, (j.1, j.2))
+    by_case (inr j) = inr j
+
+flags_exact : (c : Things) → Exact things Same c FlagsStand flags_at IsFlags
+unfolding flags_at
+flags_exact c =
+    exact_spelled things Same c FlagsStand flags_at (λ y old new. (l : Lexeme) × (rest : Text) × Token l old rest × FlagsFrom l rest y old new) IsFlags flags_into flags_back
+    (token_exact c FlagsStand flags_from FlagsFrom (flags_from_exact c))
+
+pub overflow_exact : (c : Things) → Exact things Same c AttrStands overflow_at IsOverflow
+unfolding overflow_at
+overflow_exact c =
+    after_exact things Same after_typed IsMark typed_marks c AttrStands Less (λ s. flags_at s >>= λ f. attr_done (attr.Overflow (has_nsw f.0) (has_nuw f.0)) f.1) (Then IsFlags (λ fs. IsFine (Overflow (has_nsw fs) (has_nuw fs))))
+    (then_exact things Same c FlagsStand AttrStands flags_at IsFlags (λ f. attr_done (attr.Overflow (has_nsw f) (has_nuw f))) (λ fs. IsFine (Overflow (has_nsw fs) (has_nuw fs))) (flags_exact c) (λ d fs gs g r.
+    attr_done_exact d (attr.Overflow (has_nsw fs) (has_nuw fs)) (Overflow (has_nsw gs) (has_nuw gs)) (refl, refl) (λ z k w. subst (λ l. IsNodeOf (attr.Overflow (has_nsw fs) (has_nuw fs)) (Overflow (has_nsw l) (has_nuw l)) z) (r z k w) (overflow_node (has_nsw fs) (has_nuw fs) z))))

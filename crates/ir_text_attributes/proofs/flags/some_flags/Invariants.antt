@@ -1,0 +1,14 @@
+use Rattle.std.proofs.Common.{◌≡◌, ◌-◌, length}
+use Rattle.ir_text_tokens.specs.declared.token.Mark.TheVariants.{Greater}
+use Rattle.ir_types.specs.Things.{Things}
+use Rattle.ir_text_reading.specs.Lists.{more_at}
+use Rattle.ir_text_reading.specs.Typed.{after_typed}
+use Rattle.ir_text_types.specs.TypeReading.{many}
+use Rattle.ir_text_attributes.specs.AttrReading.{flag_at, some_flags_at}
+use Rattle.ir_text_attributes.proofs.flags.some_flags.Given as goal
+
+abbrev pub invariant-items : goal.invariant-items
+invariant-items l = record {
+  reads : (c : Things) → more_at after_typed Greater (λ before. flag_at) (many - l.counter) l.items.items (l.rest, c) ≡ some_flags_at (l.bytes, c);
+  count : length l.items.items ≡ l.counter;
+}

@@ -1,0 +1,290 @@
+-- Reading attributes into numbers of a context.
+use Rattle.std.specs.Prelude.{ℕ, zero, suc, nat_eq, Bool, true, false, if◌then◌else◌, List, [], ◌∷◌, ◌++◌, Option, Some, None, ℤ}
+use Rattle.std.specs.List.{list_any}
+use Rattle.std.specs.Str.{bytes_eq}
+use Rattle.ir_text_tokens.specs.declared.token.Mark.{Mark}
+use Rattle.ir_text_tokens.specs.declared.token.Mark.TheVariants.{OpenRound, OpenCurly, CloseCurly, OpenSquare, CloseSquare, Less, Greater, Equal, Colon, DoubleColon, Minus}
+use Rattle.ir_text_tokens.specs.Tokens.{Lexeme, mark, integer, string, bare, hash, symbol, quoted, next}
+use Rattle.ir_text_tokens.specs.Strings.{string_bytes}
+use Rattle.ir_text_tokens.specs.Numbers.{integer_of, below_limit}
+use Rattle.ir_types.specs.declared.node.Sign.TheVariants.{Signless}
+use Rattle.ir_types.specs.declared.node.TypeNode.TheVariants as type
+use Rattle.ir_types.specs.declared.node.AttrNode.{AttrNode}
+use Rattle.ir_types.specs.declared.node.AttrNode.TheVariants as attr
+use Rattle.ir_types.specs.Things.{Things}
+use Rattle.ir_types.specs.Terms.{TypeTerm, type_term}
+use Rattle.ir_types.specs.Readings.{literal_bits, reading_of}
+use Rattle.ir_text_attributes.specs.declared.flag.Flag.{Flag}
+use Rattle.ir_text_attributes.specs.declared.element.Element.{Element}
+use Rattle.ir_text_reading.specs.Outcomes.{Outcome, Read, Wrong, ◌>>=◌, of_option, Parse}
+use Rattle.ir_text_reading.specs.Lists.{more_at, list_at}
+use Rattle.ir_text_reading.specs.Typed.{Typed, after_typed, name_step, attr_step}
+use Rattle.ir_text_types.specs.TypeReading.{many, type_done, type_at}
+use Rattle.ir_text_attributes.specs.Literals.{Word, Truth, UnitWord, ArrayWord, TypeWord, word_of, truth_bits, overflow_word, none_word, flag_of, has_nsw, has_nuw}
+use Rattle.ir_text_attributes.specs.Elements.{bits_of, type_of, element_named, is_bit, item_value}
+
+-- a node is interned, and the text stays where it is
+unfoldable pub attr_done : AttrNode → Parse Typed ℕ
+attr_done node s = do
+  n ← attr_step node s.1
+  Read (n.0, (s.0, n.1))
+
+-- a name is interned, and the text stays where it is
+unfoldable pub name_done : List ℕ → Parse Typed ℕ
+name_done bytes s = do
+  n ← name_step bytes s.1
+  Read (n.0, (s.0, n.1))
+
+unfoldable pub truth_at : Bool → Parse Typed ℕ
+truth_at b s = do
+  t ← type_done (type.Int Signless 1) s
+  attr_done (attr.Int t.0 (truth_bits b)) t.1
+
+unfoldable pub string_at : List ℕ → Parse Typed ℕ
+string_at raw s = do
+  n ← name_step (string_bytes raw) s.1
+  attr_done (attr.Str n.0) (s.0, n.1)
+
+unfoldable pub type_attr_at : ℕ → Parse Typed ℕ
+type_attr_at depth s = do
+  t ← type_at depth s
+  attr_done (attr.Ty t.0) t.1
+
+-- ---- literals
+
+abbrev pub suffix_from : Typed → Option Typed → Outcome (ℕ × Typed)
+suffix_from s (Some c) = type_at 32 c
+suffix_from s None = type_done (type.Int Signless 64) s
+
+-- the type of a literal: 64 bits where no colon follows
+unfoldable pub suffix_at : Parse Typed ℕ
+suffix_at s = suffix_from s (after_typed Colon s)
+
+-- the literal of a type, where it is one
+unfoldable pub literal_done : Bool → ℕ → ℕ → Parse Typed ℕ
+literal_done negative n t s = of_option (literal_bits (type_term s.1 t) negative n) >>= λ bits. attr_done (attr.Int t bits) s
+
+-- behind the digits
+unfoldable pub literal_at : Bool → List ℕ → Parse Typed ℕ
+literal_at negative digits s = do
+  n ← of_option (below_limit (integer_of digits))
+  t ← suffix_at s
+  literal_done negative n t.0 t.1
+
+abbrev pub negative_from : Things → Lexeme → List ℕ → Outcome (ℕ × Typed)
+negative_from c (integer digits) rest = literal_at true digits (rest, c)
+negative_from c _ rest = Wrong
+
+-- behind a minus
+unfoldable pub negative_at : Parse Typed ℕ
+negative_at s = of_option (next s.0) >>= λ t. negative_from s.1 t.0 t.1
+
+-- ---- flags
+
+abbrev pub flag_from : Things → Lexeme → List ℕ → Outcome (Flag × Typed)
+flag_from c (bare w) rest = of_option (flag_of w) >>= λ f. Read (f, (rest, c))
+flag_from c _ rest = Wrong
+
+unfoldable pub flag_at : Parse Typed Flag
+flag_at s = of_option (next s.0) >>= λ t. flag_from s.1 t.0 t.1
+
+unfoldable pub some_flags_at : Parse Typed (List Flag)
+some_flags_at s = more_at after_typed Greater (λ before. flag_at) many [] s
+
+unfoldable pub no_flags_at : Parse Typed (List Flag)
+no_flags_at s = of_option (after_typed Greater s) >>= λ e. Read ([], e)
+
+abbrev pub flags_from : Typed → Lexeme → List ℕ → Outcome (List Flag × Typed)
+flags_from s (bare w) rest = if bytes_eq w none_word then no_flags_at (rest, s.1) else some_flags_at s
+flags_from s _ rest = Wrong
+
+-- none, or flags, up to the closing mark
+unfoldable pub flags_at : Parse Typed (List Flag)
+flags_at s = of_option (next s.0) >>= λ t. flags_from s t.0 t.1
+
+unfoldable pub overflow_at : Parse Typed ℕ
+overflow_at s = do
+  c ← of_option (after_typed Less s)
+  f ← flags_at c
+  attr_done (attr.Overflow (has_nsw f.0) (has_nuw f.0)) f.1
+
+-- ---- symbols
+
+abbrev pub part_from : Things → Lexeme → List ℕ → Outcome (ℕ × Typed)
+part_from c (symbol n) rest = name_done n (rest, c)
+part_from c (quoted raw) rest = name_done (string_bytes raw) (rest, c)
+part_from c _ rest = Wrong
+
+unfoldable pub part_at : Parse Typed ℕ
+part_at s = of_option (next s.0) >>= λ t. part_from s.1 t.0 t.1
+
+abbrev pub parts_from : Parse Typed (List ℕ) → List ℕ → Typed → Option Typed → Outcome (List ℕ × Typed)
+parts_from go items s (Some c) = go c
+parts_from go items s None = Read (items, s)
+
+-- the parts so far and at least one more, of which there are at most `room`
+unfoldable pub parts_at : ℕ → List ℕ → Parse Typed (List ℕ)
+parts_at zero items s = Wrong
+parts_at (suc room) items s = part_at s >>= λ x. parts_from (parts_at room (items ++ x.0 ∷ [])) (items ++ x.0 ∷ []) x.1 (after_typed DoubleColon x.1)
+
+unfoldable pub symbol_at : Parse Typed ℕ
+symbol_at s = do
+  ns ← parts_at many [] s
+  attr_done (attr.Sym ns.0) ns.1
+
+-- ---- dense arrays
+
+abbrev pub element_from : Things → Lexeme → List ℕ → Outcome (Element × Typed)
+element_from c (bare w) rest = of_option (element_named w) >>= λ e. Read (e, (rest, c))
+element_from c _ rest = Wrong
+
+unfoldable pub element_at : Parse Typed Element
+element_at s = of_option (next s.0) >>= λ t. element_from s.1 t.0 t.1
+
+abbrev pub truth_item : TypeTerm → Word → Parse Typed ℤ
+truth_item elem (Truth b) s = if is_bit elem then Read (reading_of elem (truth_bits b), s) else Wrong
+truth_item elem _ s = Wrong
+
+abbrev pub number_item : TypeTerm → Bool → List ℕ → Parse Typed ℤ
+number_item elem negative digits s = of_option (item_value elem negative digits) >>= λ v. Read (v, s)
+
+abbrev pub minus_from : TypeTerm → Things → Lexeme → List ℕ → Outcome (ℤ × Typed)
+minus_from elem c (integer digits) rest = number_item elem true digits (rest, c)
+minus_from elem c _ rest = Wrong
+
+-- behind a minus
+unfoldable pub minus_item : TypeTerm → Parse Typed ℤ
+minus_item elem s = of_option (next s.0) >>= λ t. minus_from elem s.1 t.0 t.1
+
+abbrev pub mark_item : TypeTerm → Mark → Parse Typed ℤ
+mark_item elem Minus s = minus_item elem s
+mark_item elem _ s = Wrong
+
+abbrev pub item_from : TypeTerm → Things → Lexeme → List ℕ → Outcome (ℤ × Typed)
+item_from elem c (bare w) rest = truth_item elem (word_of w) (rest, c)
+item_from elem c (integer digits) rest = number_item elem false digits (rest, c)
+item_from elem c (mark m) rest = mark_item elem m (rest, c)
+item_from elem c _ rest = Wrong
+
+unfoldable pub item_at : TypeTerm → Parse Typed ℤ
+item_at elem s = of_option (next s.0) >>= λ t. item_from elem s.1 t.0 t.1
+
+unfoldable pub some_items_at : TypeTerm → Parse Typed (List ℤ)
+some_items_at elem s = more_at after_typed Greater (λ before. item_at elem) many [] s
+
+unfoldable pub no_items_at : Parse Typed (List ℤ)
+no_items_at s = of_option (after_typed Greater s) >>= λ e. Read ([], e)
+
+abbrev pub items_from : TypeTerm → Typed → Option Typed → Outcome (List ℤ × Typed)
+items_from elem s (Some c) = some_items_at elem c
+items_from elem s None = no_items_at s
+
+-- behind the element type
+unfoldable pub items_at : TypeTerm → Parse Typed (List ℤ)
+items_at elem s = items_from elem s (after_typed Colon s)
+
+unfoldable pub dense_done : Element → Parse Typed ℕ
+dense_done e s = do
+  t ← type_done (type.Int Signless (bits_of e)) s
+  vs ← items_at (type_of e) t.1
+  attr_done (attr.Dense t.0 vs.0) vs.1
+
+-- behind its word
+unfoldable pub dense_at : Parse Typed ℕ
+dense_at s = do
+  c ← of_option (after_typed Less s)
+  e ← element_at c
+  dense_done e.0 e.1
+
+-- ---- arrays and dictionaries
+
+abbrev pub Entries : Type 0
+Entries = List (ℕ × ℕ)
+
+-- whether an entry has the key
+abbrev pub knows_key : ℕ → Entries → Bool
+knows_key k es = list_any (λ e. nat_eq e.0 k) es
+
+abbrev pub key_from : Things → Lexeme → List ℕ → Outcome (ℕ × Typed)
+key_from c (bare w) rest = name_done w (rest, c)
+key_from c (string raw) rest = name_done (string_bytes raw) (rest, c)
+key_from c _ rest = Wrong
+
+unfoldable pub key_at : Parse Typed ℕ
+key_at s = of_option (next s.0) >>= λ t. key_from s.1 t.0 t.1
+
+-- unit, where a depth of 1 is left
+unfoldable pub unit_value_at : ℕ → Parse Typed ℕ
+unit_value_at zero s = Wrong
+unit_value_at (suc depth) s = attr_done attr.Unit s
+
+-- p reads attributes of at most that depth
+module _ (depth : ℕ) (p : Parse Typed ℕ) where
+  abbrev pub value_from : Typed → Option Typed → Outcome (ℕ × Typed)
+  value_from s (Some c) = p c
+  value_from s None = unit_value_at depth s
+
+  -- the attribute behind an equal sign, or unit where none stands
+  unfoldable pub value_by : Parse Typed ℕ
+  value_by s = value_from s (after_typed Equal s)
+
+  unfoldable pub entry_by : Entries → Parse Typed (ℕ × ℕ)
+  entry_by before s = do
+    k ← key_at s
+    a ← (if knows_key k.0 before then Wrong else value_by k.1)
+    Read ((k.0, a.0), a.1)
+
+  -- entries up to the closing brace
+  unfoldable pub entries_by : Parse Typed Entries
+  entries_by s = list_at after_typed CloseCurly entry_by 256 s
+
+  -- behind the opening brace
+  unfoldable pub dictionary_by : Parse Typed ℕ
+  dictionary_by s = do
+    es ← entries_by s
+    attr_done (attr.Dict es.0) es.1
+
+  -- attributes up to the closing bracket
+  unfoldable pub attrs_by : Parse Typed (List ℕ)
+  attrs_by s = list_at after_typed CloseSquare (λ before. p) many s
+
+  -- behind the opening bracket
+  unfoldable pub array_by : Parse Typed ℕ
+  array_by s = do
+    xs ← attrs_by s
+    attr_done (attr.Array xs.0) xs.1
+
+-- ---- by the first token, behind which stands `rest`; types have a depth of their own
+
+abbrev pub word_attr : ℕ → Word → Typed → List ℕ → Outcome (ℕ × Typed)
+word_attr types (Truth b) s rest = truth_at b (rest, s.1)
+word_attr types UnitWord s rest = attr_done attr.Unit (rest, s.1)
+word_attr types ArrayWord s rest = dense_at (rest, s.1)
+word_attr types TypeWord s rest = type_attr_at types s
+
+module _ (types depth : ℕ) (p : Parse Typed ℕ) where
+  abbrev pub mark_attr : Mark → Typed → List ℕ → Outcome (ℕ × Typed)
+  mark_attr Minus s rest = negative_at (rest, s.1)
+  mark_attr OpenRound s rest = type_attr_at types s
+  mark_attr OpenSquare s rest = array_by depth p (rest, s.1)
+  mark_attr OpenCurly s rest = dictionary_by depth p (rest, s.1)
+  mark_attr _ s rest = Wrong
+
+  abbrev pub attr_from : Typed → Lexeme → List ℕ → Outcome (ℕ × Typed)
+  attr_from s (bare w) rest = word_attr types (word_of w) s rest
+  attr_from s (mark m) rest = mark_attr m s rest
+  attr_from s (integer digits) rest = literal_at false digits (rest, s.1)
+  attr_from s (string raw) rest = string_at raw (rest, s.1)
+  attr_from s (symbol n) rest = symbol_at s
+  attr_from s (quoted raw) rest = symbol_at s
+  attr_from s (hash w) rest = if bytes_eq w overflow_word then overflow_at (rest, s.1) else Wrong
+  attr_from s _ rest = Wrong
+
+-- an attribute of at most that depth
+unfoldable pub attr_at : ℕ → Parse Typed ℕ
+attr_at zero s = Wrong
+attr_at (suc depth) s = of_option (next s.0) >>= λ t. attr_from (suc depth) depth (attr_at depth) s t.0 t.1
+
+-- the value of an entry
+abbrev pub value_at : ℕ → Parse Typed ℕ
+value_at depth = value_by depth (attr_at depth)

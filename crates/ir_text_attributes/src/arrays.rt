@@ -1,0 +1,68 @@
+//! Arrays. Builtin Dialect, "ArrayAttr".
+ghost use Rattle.std.specs.Prelude.{◌≡◌};
+ghost use Rattle.ir_types.specs.Things.{Grows};
+ghost use Rattle.ir_text_reading.specs.Outcomes.{Gives};
+ghost use Rattle.ir_text_attributes.specs.AttrReading.{attrs_by, array_by, attr_at};
+
+use crate::attributes::{attr, kept};
+use ir_items::lists::Items;
+use ir_text_reading::error::{ReadError, wrong};
+use ir_text_reading::steps::{after, expect};
+use ir_text_tokens::token::Mark;
+use ir_text_types::types::MANY;
+use ir_types::context::Context;
+use ir_types::ids::AttrId;
+use ir_types::node::AttrNode;
+use ir_types::refusal::Refusal;
+use std::alloc::Global;
+
+/// Attributes up to a closing bracket.
+#[cycle(attr)]
+#[tactic(auto, using(ir_types::proofs::Growth::grows_refl, ir_types::proofs::Growth::grows_trans), unfolding(ir_text_reading::specs::Lists::list_at, crate::specs::AttrReading::attrs_by))]
+fn attrs<'a>(
+    alloc: Global,
+    ctx: &mut Context,
+    bytes: &'a [u8],
+    depth: u32,
+) -> Result<(Vec<AttrId>, &'a [u8]), ReadError>
+    ensures reads { Gives (λ x. (x.0.items, (x.1.now, ctx.new))) result (attrs_by depth (attr_at depth) (bytes.now, ctx.old)) }
+    ensures grows { Grows ctx.old ctx.new }
+{
+    let mut items = Vec::new(alloc);
+    if let Some(rest) = after(bytes, Mark::CloseSquare) {
+        return Ok((items, rest));
+    }
+    let mut rest = bytes;
+    'items: for _ in 0..MANY {
+        let (item, tail) = match attr(alloc, ctx, rest, depth) {
+            Ok(found) => found,
+            Err(e) => return Err(e),
+        };
+        items.push(item)?;
+        if let Some(end) = after(tail, Mark::CloseSquare) {
+            return Ok((items, end));
+        }
+        rest = expect(tail, Mark::Comma)?;
+    }
+    Err(ReadError::Refused(wrong(Refusal::TooMany, rest)))
+}
+
+/// An array behind its opening bracket, of attributes of at most that depth.
+#[cycle(attr)]
+#[tactic(auto, using(ir_types::proofs::Growth::grows_refl, ir_types::proofs::Growth::grows_trans), unfolding(crate::specs::AttrReading::array_by))]
+pub(crate) fn array<'a>(
+    alloc: Global,
+    ctx: &mut Context,
+    bytes: &'a [u8],
+    depth: u32,
+) -> Result<(AttrId, &'a [u8]), ReadError>
+    ensures reads { Gives (λ x. (x.0, (x.1.now, ctx.new))) result (array_by depth (attr_at depth) (bytes.now, ctx.old)) }
+    ensures grows { Grows ctx.old ctx.new }
+{
+    ctx.sound();
+    let (items, rest) = match attrs(alloc, ctx, bytes, depth) {
+        Ok(found) => found,
+        Err(e) => return Err(e),
+    };
+    kept(ctx, AttrNode::Array(Items::new(items)), rest)
+}

@@ -1,0 +1,322 @@
+//! Dense arrays of integers. Builtin Dialect, "DenseArrayAttr".
+ghost use Rattle.std.specs.Prelude.{◌≡◌, ◌<◌, ◌≤◌, ◌^◌, IfSome};
+ghost use Rattle.ir_types.specs.Things.{Things, Grows};
+ghost use Rattle.ir_types.specs.Readings as readings;
+ghost use Rattle.ir_types.specs.Readings.{reading_of};
+ghost use Rattle.ir_text_reading.specs.Outcomes.{Gives};
+ghost use Rattle.ir_text_attributes.specs.Elements.{bits_of, type_of, element_named, item_bits, item_value};
+ghost use Rattle.ir_text_attributes.specs.Literals.{truth_bits, word_of};
+ghost use Rattle.ir_text_attributes.specs.declared.element.Element.TheVariants.{I1};
+ghost use Rattle.ir_text_attributes.specs.AttrReading.{element_at, truth_item, number_item, minus_item, mark_item, item_at, some_items_at, no_items_at, items_at, dense_done, dense_at};
+
+use crate::attributes::kept;
+use crate::element::Element;
+use ir_items::lists::Items;
+use ir_text_reading::error::{ReadError, wrong};
+use ir_text_reading::steps::{after, expect, token};
+use ir_text_tokens::numbers::integer_value;
+use ir_text_tokens::token::{Mark, Token};
+use ir_text_types::types::{self, MANY, token_refusal};
+use ir_types::context::Context;
+use ir_types::ids::AttrId;
+use ir_types::limits::MOST_WIDTH;
+use ir_types::node::{AttrNode, Sign, TypeNode};
+use ir_types::readings::{literal_bits, signed_number};
+use ir_types::refusal::Refusal;
+use std::alloc::Global;
+
+/// The element type that a word names.
+fn element_named(word: &[u8]) -> Option<Element>
+    ensures { result ≡ element_named word.now }
+{
+    if word == b"i1".as_slice() {
+        return Some(Element::I1);
+    }
+    if word == b"i8".as_slice() {
+        return Some(Element::I8);
+    }
+    if word == b"i16".as_slice() {
+        return Some(Element::I16);
+    }
+    if word == b"i32".as_slice() {
+        return Some(Element::I32);
+    }
+    if word == b"i64".as_slice() {
+        return Some(Element::I64);
+    }
+    None
+}
+
+/// How many bits an element has.
+fn bits_of(element: &Element) -> u32
+    ensures bits { result ≡ bits_of element.now }
+    ensures low { 1 ≤ result }
+    ensures high { result ≤ 64 }
+{
+    match element {
+        Element::I1 => 1,
+        Element::I8 => 8,
+        Element::I16 => 16,
+        Element::I32 => 32,
+        Element::I64 => 64,
+    }
+}
+
+/// Whether digits write a width, from 1 to 128.
+fn writes_width(digits: &[u8]) -> bool {
+    match digits {
+        [b'0', ..] => false,
+        _ => match integer_value(digits) {
+            Some(width) => 1 <= width && width <= MOST_WIDTH as u128,
+            None => false,
+        },
+    }
+}
+
+/// Why a word names no element type: an integer type with a bad width, or what is left out.
+fn word_refusal(word: &[u8]) -> Refusal {
+    let digits = match word {
+        [b'i', digits @ ..] => digits,
+        [b's', b'i', digits @ ..] => digits,
+        [b'u', b'i', digits @ ..] => digits,
+        _ => return Refusal::LeftOut,
+    };
+    let all_digits = !digits.is_empty() && digits.iter().all(|digit| digit.is_ascii_digit());
+    if all_digits && !writes_width(digits) {
+        Refusal::BadWidth
+    } else {
+        Refusal::LeftOut
+    }
+}
+
+/// An element type.
+#[tactic(auto, unfolding(crate::specs::AttrReading::element_at))]
+fn element(bytes: &[u8]) -> Result<(Element, &[u8]), ReadError>
+    ensures { (c : Things) → Gives (λ x. (x.0, (x.1.now, c))) result (element_at (bytes.now, c)) }
+{
+    let (found, rest) = token(bytes)?;
+    match found {
+        Token::Bare(word) => match element_named(word) {
+            Some(element) => Ok((element, rest)),
+            None => Err(ReadError::Refused(wrong(word_refusal(word), bytes))),
+        },
+        Token::Mark(Mark::OpenRound) => { Err(ReadError::Refused(wrong(Refusal::LeftOut, bytes))) }
+        _ => Err(ReadError::Refused(wrong(token_refusal(&found), bytes))),
+    }
+}
+
+/// The bits of a literal, where it is one of the element type.
+fn literal_in(element: &Element, negative: bool, magnitude: u128) -> Option<u128>
+    ensures bits { result ≡ readings.literal_bits (type_of element.now) negative magnitude }
+    ensures below { IfSome result (λ bits. bits < 2 ^ bits_of element.now) }
+{
+    let node = TypeNode::Int {
+        sign: Sign::Signless,
+        width: bits_of(element),
+    };
+    literal_bits(&node, negative, magnitude)
+}
+
+/// The bits of an element type that digits write as a literal, with a minus before them or none.
+fn item_bits(element: &Element, negative: bool, digits: &[u8]) -> Option<u128>
+    ensures bits { result ≡ item_bits (type_of element.now) negative digits.now }
+    ensures below { IfSome result (λ bits. bits < 2 ^ bits_of element.now) }
+{
+    let magnitude = integer_value(digits)?;
+    literal_in(element, negative, magnitude)
+}
+
+/// The number that the bits of an element type are read as.
+fn reading(element: &Element, bits: u128) -> i64
+    requires { bits < 2 ^ bits_of element.now }
+    ensures { result ≡ reading_of (type_of element.now) bits }
+{
+    signed_number(bits_of(element), bits) as i64
+}
+
+/// The value of an element type that digits write, with a minus before them or none.
+fn item_value(element: &Element, negative: bool, digits: &[u8]) -> Option<i64>
+    ensures { result ≡ item_value (type_of element.now) negative digits.now }
+{
+    let bits = item_bits(element, negative, digits)?;
+    Some(reading(element, bits))
+}
+
+/// An item behind its digits. It begins, its minus included, at `start`.
+fn number_item<'a>(
+    element: &Element,
+    negative: bool,
+    digits: &[u8],
+    start: &[u8],
+    rest: &'a [u8],
+) -> Result<(i64, &'a [u8]), ReadError>
+    ensures { (c : Things) → Gives (λ x. (x.0, (x.1.now, c))) result (number_item (type_of element.now) negative digits.now (rest.now, c)) }
+{
+    match item_value(element, negative, digits) {
+        Some(value) => Ok((value, rest)),
+        None => Err(ReadError::Refused(wrong(Refusal::BadValue, start))),
+    }
+}
+
+/// The number that the bit of a truth value is read as.
+#[tactic(auto, unfolding(ir_types::specs::Readings::signed_of))]
+fn truth_value(is_true: bool) -> i64
+    ensures { result ≡ reading_of (type_of I1) (truth_bits is_true) }
+{
+    if is_true { -1 } else { 0 }
+}
+
+/// A truth value as an item, behind which stands `rest`.
+fn truth_item<'a>(
+    element: &Element,
+    word: &[u8],
+    bytes: &[u8],
+    rest: &'a [u8],
+) -> Result<(i64, &'a [u8]), ReadError>
+    ensures { (c : Things) → Gives (λ x. (x.0, (x.1.now, c))) result (truth_item (type_of element.now) (word_of word.now) (rest.now, c)) }
+{
+    let is_bit = matches!(element, Element::I1);
+    if is_bit && word == b"true".as_slice() {
+        return Ok((truth_value(true), rest));
+    }
+    if is_bit && word == b"false".as_slice() {
+        return Ok((truth_value(false), rest));
+    }
+    Err(ReadError::Refused(wrong(Refusal::Unexpected, bytes)))
+}
+
+/// An item behind its minus, which stands at `start`.
+#[tactic(auto, unfolding(crate::specs::AttrReading::minus_item))]
+fn minus_item<'a>(
+    element: &Element,
+    start: &[u8],
+    bytes: &'a [u8],
+) -> Result<(i64, &'a [u8]), ReadError>
+    ensures { (c : Things) → Gives (λ x. (x.0, (x.1.now, c))) result (minus_item (type_of element.now) (bytes.now, c)) }
+{
+    let (found, rest) = token(bytes)?;
+    match found {
+        Token::Integer(digits) => number_item(element, true, digits, start, rest),
+        _ => Err(ReadError::Refused(wrong(Refusal::Unexpected, bytes))),
+    }
+}
+
+/// An item that begins with a mark.
+fn mark_item<'a>(
+    element: &Element,
+    mark: Mark,
+    bytes: &[u8],
+    rest: &'a [u8],
+) -> Result<(i64, &'a [u8]), ReadError>
+    ensures { (c : Things) → Gives (λ x. (x.0, (x.1.now, c))) result (mark_item (type_of element.now) mark (rest.now, c)) }
+{
+    match mark {
+        Mark::Minus => minus_item(element, bytes, rest),
+        _ => Err(ReadError::Refused(wrong(Refusal::Unexpected, bytes))),
+    }
+}
+
+/// An item: a literal of the element type, or of `i1` a truth value.
+#[tactic(auto, unfolding(crate::specs::AttrReading::item_at))]
+fn item<'a>(element: &Element, bytes: &'a [u8]) -> Result<(i64, &'a [u8]), ReadError>
+    ensures { (c : Things) → Gives (λ x. (x.0, (x.1.now, c))) result (item_at (type_of element.now) (bytes.now, c)) }
+{
+    let (found, rest) = token(bytes)?;
+    match found {
+        Token::Bare(word) => truth_item(element, word, bytes, rest),
+        Token::Integer(digits) => number_item(element, false, digits, bytes, rest),
+        Token::Mark(mark) => mark_item(element, mark, bytes, rest),
+        _ => Err(ReadError::Refused(wrong(Refusal::Unexpected, bytes))),
+    }
+}
+
+/// Items parted by commas, up to the closing mark.
+#[tactic(auto, unfolding(crate::specs::AttrReading::some_items_at))]
+fn some_items<'a>(
+    alloc: Global,
+    element: &Element,
+    bytes: &'a [u8],
+) -> Result<(Vec<i64>, &'a [u8]), ReadError>
+    ensures { (c : Things) → Gives (λ x. (x.0.items, (x.1.now, c))) result (some_items_at (type_of element.now) (bytes.now, c)) }
+{
+    let mut items = Vec::new(alloc);
+    let mut rest = bytes;
+    'items: for _ in 0..MANY {
+        let (item, tail) = match item(element, rest) {
+            Ok(found) => found,
+            Err(e) => return Err(e),
+        };
+        items.push(item)?;
+        if let Some(end) = after(tail, Mark::Greater) {
+            return Ok((items, end));
+        }
+        rest = expect(tail, Mark::Comma)?;
+    }
+    Err(ReadError::Refused(wrong(Refusal::TooMany, rest)))
+}
+
+/// No items: the closing mark behind the element type.
+#[tactic(auto, unfolding(crate::specs::AttrReading::no_items_at))]
+fn no_items(alloc: Global, bytes: &[u8]) -> Result<(Vec<i64>, &[u8]), ReadError>
+    ensures { (c : Things) → Gives (λ x. (x.0.items, (x.1.now, c))) result (no_items_at (bytes.now, c)) }
+{
+    let rest = expect(bytes, Mark::Greater)?;
+    Ok((Vec::new(alloc), rest))
+}
+
+/// The items behind a colon, or none, up to the closing mark.
+#[tactic(auto, unfolding(crate::specs::AttrReading::items_at))]
+fn items<'a>(
+    alloc: Global,
+    element: &Element,
+    bytes: &'a [u8],
+) -> Result<(Vec<i64>, &'a [u8]), ReadError>
+    ensures { (c : Things) → Gives (λ x. (x.0.items, (x.1.now, c))) result (items_at (type_of element.now) (bytes.now, c)) }
+{
+    match after(bytes, Mark::Colon) {
+        Some(rest) => some_items(alloc, element, rest),
+        None => no_items(alloc, bytes),
+    }
+}
+
+/// A dense array behind its element type.
+#[tactic(auto, using(ir_types::proofs::Growth::grows_refl, ir_types::proofs::Growth::grows_trans), unfolding(crate::specs::AttrReading::dense_done))]
+fn dense_of<'a>(
+    alloc: Global,
+    ctx: &mut Context,
+    element: &Element,
+    bytes: &'a [u8],
+) -> Result<(AttrId, &'a [u8]), ReadError>
+    ensures reads { Gives (λ x. (x.0, (x.1.now, ctx.new))) result (dense_done element.now (bytes.now, ctx.old)) }
+    ensures grows { Grows ctx.old ctx.new }
+{
+    let node = TypeNode::Int {
+        sign: Sign::Signless,
+        width: bits_of(element),
+    };
+    let (elem, rest) = match types::kept(ctx, node, bytes) {
+        Ok(found) => found,
+        Err(e) => return Err(e),
+    };
+    let (values, rest) = items(alloc, element, rest)?;
+    let values = Items::new(values);
+    kept(ctx, AttrNode::Dense { elem, values }, rest)
+}
+
+/// A dense array behind its word.
+///
+/// Refusals: `Unexpected` where no `<` follows; `LeftOut` at another element type, or `BadWidth`; and
+/// `BadValue` at an item, or its minus, that does not fit.
+#[tactic(auto, using(ir_types::proofs::Growth::grows_refl, ir_types::proofs::Growth::grows_trans), unfolding(crate::specs::AttrReading::dense_at))]
+pub(crate) fn dense<'a>(
+    alloc: Global,
+    ctx: &mut Context,
+    bytes: &'a [u8],
+) -> Result<(AttrId, &'a [u8]), ReadError>
+    ensures reads { Gives (λ x. (x.0, (x.1.now, ctx.new))) result (dense_at (bytes.now, ctx.old)) }
+    ensures grows { Grows ctx.old ctx.new }
+{
+    let rest = expect(bytes, Mark::Less)?;
+    let (element, rest) = element(rest)?;
+    dense_of(alloc, ctx, &element, rest)
+}

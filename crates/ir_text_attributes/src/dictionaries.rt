@@ -1,0 +1,189 @@
+//! Dictionaries. Builtin Dialect, "DictionaryAttr"; Language Reference, "Attributes".
+ghost use Rattle.std.specs.Prelude.{◌≡◌};
+ghost use Rattle.ir_types.specs.Things.{Grows};
+ghost use Rattle.ir_text_reading.specs.Outcomes.{Gives};
+ghost use Rattle.ir_text_attributes.specs.AttrReading.{knows_key, key_at, unit_value_at, value_at, entry_by, entries_by, dictionary_by, attr_at};
+
+use crate::attributes::{attr, kept};
+use crate::symbols::named;
+use ir_items::lists::Items;
+use ir_text_reading::error::{ReadError, wrong};
+use ir_text_reading::steps::{after, expect, token};
+use ir_text_tokens::fault::Fault;
+use ir_text_tokens::strings::string_value;
+use ir_text_tokens::token::{Mark, Token};
+use ir_types::context::Context;
+use ir_types::ids::{AttrId, NameId};
+use ir_types::node::AttrNode;
+use ir_types::refusal::Refusal;
+use std::alloc::Global;
+
+/// A key and an attribute.
+pub type Entry = (NameId, AttrId);
+
+/// The most entries of a dictionary.
+const MOST_ENTRIES: usize = 256;
+
+/// The number of a key: a bare identifier or a string.
+///
+/// Refusals: what the lexer refuses; `Unexpected` at another token.
+#[tactic(auto, using(ir_types::proofs::Growth::grows_refl, ir_types::proofs::Growth::grows_trans), unfolding(crate::specs::AttrReading::key_at))]
+pub fn key<'a>(
+    alloc: Global,
+    ctx: &mut Context,
+    bytes: &'a [u8],
+) -> Result<(NameId, &'a [u8]), ReadError>
+    ensures reads { Gives (λ x. (x.0, (x.1.now, ctx.new))) result (key_at (bytes.now, ctx.old)) }
+    ensures grows { Grows ctx.old ctx.new }
+{
+    let (found, rest) = token(bytes)?;
+    match found {
+        Token::Bare(word) => named(ctx, word, rest),
+        Token::String(raw) => {
+            let word = string_value(alloc, raw)?;
+            named(ctx, word.as_slice(), rest)
+        }
+        _ => Err(ReadError::Refused(wrong(Refusal::Unexpected, bytes))),
+    }
+}
+
+/// Whether an entry has the key.
+fn knows_key(key: NameId, entries: &[Entry]) -> bool
+    ensures { result ≡ knows_key key entries.now }
+{
+    entries.iter().any(|entry| entry.0 == key)
+}
+
+/// The unit attribute of a key that stands at `start`, in front of these bytes.
+#[tactic(auto, using(ir_types::proofs::Growth::grows_refl, ir_types::proofs::Growth::grows_trans), unfolding(crate::specs::AttrReading::unit_value_at))]
+fn unit_value<'a>(
+    ctx: &mut Context,
+    start: &[u8],
+    bytes: &'a [u8],
+    depth: u32,
+) -> Result<(AttrId, &'a [u8]), ReadError>
+    ensures reads { Gives (λ x. (x.0, (x.1.now, ctx.new))) result (unit_value_at depth (bytes.now, ctx.old)) }
+    ensures grows { Grows ctx.old ctx.new }
+{
+    if depth == 0 {
+        return Err(ReadError::Refused(wrong(Refusal::TooDeep, start)));
+    }
+    kept(ctx, AttrNode::Unit, bytes)
+}
+
+/// The attribute of at most that depth behind an equal sign, or unit where none stands. Its key stands
+/// at `start`.
+///
+/// Refusals: those of attributes; `TooDeep` at the key where no depth is left for unit.
+#[cycle(attr)]
+#[tactic(auto, using(ir_types::proofs::Growth::grows_refl, ir_types::proofs::Growth::grows_trans), unfolding(crate::specs::AttrReading::value_by))]
+pub fn value<'a>(
+    alloc: Global,
+    ctx: &mut Context,
+    start: &[u8],
+    bytes: &'a [u8],
+    depth: u32,
+) -> Result<(AttrId, &'a [u8]), ReadError>
+    ensures reads { Gives (λ x. (x.0, (x.1.now, ctx.new))) result (value_at depth (bytes.now, ctx.old)) }
+    ensures grows { Grows ctx.old ctx.new }
+{
+    match after(bytes, Mark::Equal) {
+        Some(rest) => attr(alloc, ctx, rest, depth),
+        None => unit_value(ctx, start, bytes, depth),
+    }
+}
+
+/// An entry whose key does not stand before it.
+#[cycle(attr)]
+#[tactic(auto, using(ir_types::proofs::Growth::grows_refl, ir_types::proofs::Growth::grows_trans), unfolding(crate::specs::AttrReading::entry_by))]
+fn entry<'a>(
+    alloc: Global,
+    ctx: &mut Context,
+    before: &[Entry],
+    bytes: &'a [u8],
+    depth: u32,
+) -> Result<(Entry, &'a [u8]), ReadError>
+    ensures reads { Gives (λ x. (x.0, (x.1.now, ctx.new))) result (entry_by depth (attr_at depth) before.now (bytes.now, ctx.old)) }
+    ensures grows { Grows ctx.old ctx.new }
+{
+    let (key, rest) = match key(alloc, ctx, bytes) {
+        Ok(found) => found,
+        Err(e) => return Err(e),
+    };
+    if knows_key(key, before) {
+        return Err(ReadError::Refused(wrong(Refusal::DuplicateKey, bytes)));
+    }
+    let (attr, rest) = match value(alloc, ctx, bytes, rest, depth) {
+        Ok(found) => found,
+        Err(e) => return Err(e),
+    };
+    Ok(((key, attr), rest))
+}
+
+/// Why no entry may come behind so many: its key stands there, or there is no room, where one begins.
+#[tactic(auto, using(ir_types::proofs::Growth::grows_refl, ir_types::proofs::Growth::grows_trans))]
+fn past_fault(alloc: Global, ctx: &mut Context, before: &[Entry], bytes: &[u8]) -> Fault
+    ensures { Grows ctx.old ctx.new }
+{
+    let (key, _) = match key(alloc, ctx, bytes) {
+        Ok(found) => found,
+        Err(ReadError::Refused(fault)) => return fault,
+        Err(_) => return wrong(Refusal::TooMany, bytes),
+    };
+    let is_known = knows_key(key, before);
+    if is_known {
+        return wrong(Refusal::DuplicateKey, bytes);
+    }
+    wrong(Refusal::TooMany, bytes)
+}
+
+/// Entries up to the closing brace.
+#[cycle(attr)]
+#[tactic(auto, using(ir_types::proofs::Growth::grows_refl, ir_types::proofs::Growth::grows_trans), unfolding(ir_text_reading::specs::Lists::list_at, crate::specs::AttrReading::entries_by))]
+fn entries<'a>(
+    alloc: Global,
+    ctx: &mut Context,
+    bytes: &'a [u8],
+    depth: u32,
+) -> Result<(Vec<Entry>, &'a [u8]), ReadError>
+    ensures reads { Gives (λ x. (x.0.items, (x.1.now, ctx.new))) result (entries_by depth (attr_at depth) (bytes.now, ctx.old)) }
+    ensures grows { Grows ctx.old ctx.new }
+{
+    let mut items = Vec::new(alloc);
+    if let Some(rest) = after(bytes, Mark::CloseCurly) {
+        return Ok((items, rest));
+    }
+    let mut rest = bytes;
+    'items: for _ in 0..MOST_ENTRIES {
+        let (item, tail) = match entry(alloc, ctx, &items, rest, depth) {
+            Ok(found) => found,
+            Err(e) => return Err(e),
+        };
+        items.push(item)?;
+        if let Some(end) = after(tail, Mark::CloseCurly) {
+            return Ok((items, end));
+        }
+        rest = expect(tail, Mark::Comma)?;
+    }
+    Err(ReadError::Refused(past_fault(alloc, ctx, &items, rest)))
+}
+
+/// A dictionary behind its opening brace, of attributes of at most that depth.
+#[cycle(attr)]
+#[tactic(auto, using(ir_types::proofs::Growth::grows_refl, ir_types::proofs::Growth::grows_trans), unfolding(crate::specs::AttrReading::dictionary_by))]
+pub(crate) fn dictionary<'a>(
+    alloc: Global,
+    ctx: &mut Context,
+    bytes: &'a [u8],
+    depth: u32,
+) -> Result<(AttrId, &'a [u8]), ReadError>
+    ensures reads { Gives (λ x. (x.0, (x.1.now, ctx.new))) result (dictionary_by depth (attr_at depth) (bytes.now, ctx.old)) }
+    ensures grows { Grows ctx.old ctx.new }
+{
+    ctx.sound();
+    let (entries, rest) = match entries(alloc, ctx, bytes, depth) {
+        Ok(found) => found,
+        Err(e) => return Err(e),
+    };
+    kept(ctx, AttrNode::Dict(Items::new(entries)), rest)
+}

@@ -1,0 +1,124 @@
+//! The flags of integer operations in a text. `arith` Dialect, "IntegerOverflowFlagsAttr".
+ghost use Rattle.std.specs.Prelude.{◌≡◌};
+ghost use Rattle.ir_types.specs.Things.{Things};
+ghost use Rattle.ir_text_reading.specs.Outcomes.{Gives};
+ghost use Rattle.ir_text_attributes.specs.Literals.{flag_of, is_nsw, is_nuw, has_nsw, has_nuw};
+ghost use Rattle.ir_text_attributes.specs.AttrReading.{flag_at, some_flags_at, no_flags_at, flags_at};
+
+use crate::flag::Flag;
+use ir_text_reading::error::{ReadError, wrong};
+use ir_text_reading::steps::{after, expect, token};
+use ir_text_tokens::token::{Mark, Token};
+use ir_text_types::types::MANY;
+use ir_types::refusal::Refusal;
+use std::alloc::Global;
+
+/// The flag that a word is.
+fn flag_of(word: &[u8]) -> Option<Flag>
+    ensures { result ≡ flag_of word.now }
+{
+    if word == b"nsw".as_slice() {
+        return Some(Flag::NoSignedWrap);
+    }
+    if word == b"nuw".as_slice() {
+        return Some(Flag::NoUnsignedWrap);
+    }
+    None
+}
+
+fn is_nsw(flag: Flag) -> bool
+    ensures { result ≡ is_nsw flag }
+{
+    match flag {
+        Flag::NoSignedWrap => true,
+        Flag::NoUnsignedWrap => false,
+    }
+}
+
+fn is_nuw(flag: Flag) -> bool
+    ensures { result ≡ is_nuw flag }
+{
+    match flag {
+        Flag::NoSignedWrap => false,
+        Flag::NoUnsignedWrap => true,
+    }
+}
+
+/// Whether `nsw` is among the flags.
+pub(crate) fn has_nsw(flags: &[Flag]) -> bool
+    ensures { result ≡ has_nsw flags.now }
+{
+    flags.iter().any(|flag| is_nsw(*flag))
+}
+
+/// Whether `nuw` is among the flags.
+pub(crate) fn has_nuw(flags: &[Flag]) -> bool
+    ensures { result ≡ has_nuw flags.now }
+{
+    flags.iter().any(|flag| is_nuw(*flag))
+}
+
+/// One flag.
+#[tactic(auto, unfolding(crate::specs::AttrReading::flag_at))]
+fn flag(bytes: &[u8]) -> Result<(Flag, &[u8]), ReadError>
+    ensures { (c : Things) → Gives (λ x. (x.0, (x.1.now, c))) result (flag_at (bytes.now, c)) }
+{
+    let (found, rest) = token(bytes)?;
+    match found {
+        Token::Bare(word) => match flag_of(word) {
+            Some(flag) => Ok((flag, rest)),
+            None => Err(ReadError::Refused(wrong(Refusal::Unexpected, bytes))),
+        },
+        _ => Err(ReadError::Refused(wrong(Refusal::Unexpected, bytes))),
+    }
+}
+
+/// Flags parted by commas, up to the closing mark.
+#[tactic(auto, unfolding(crate::specs::AttrReading::some_flags_at))]
+fn some_flags(alloc: Global, bytes: &[u8]) -> Result<(Vec<Flag>, &[u8]), ReadError>
+    ensures { (c : Things) → Gives (λ x. (x.0.items, (x.1.now, c))) result (some_flags_at (bytes.now, c)) }
+{
+    let mut items = Vec::new(alloc);
+    let mut rest = bytes;
+    'items: for _ in 0..MANY {
+        let (item, tail) = match flag(rest) {
+            Ok(found) => found,
+            Err(e) => return Err(e),
+        };
+        items.push(item)?;
+        if let Some(end) = after(tail, Mark::Greater) {
+            return Ok((items, end));
+        }
+        rest = expect(tail, Mark::Comma)?;
+    }
+    Err(ReadError::Refused(wrong(Refusal::TooMany, rest)))
+}
+
+/// No flags: the closing mark behind `none`.
+#[tactic(auto, unfolding(crate::specs::AttrReading::no_flags_at))]
+fn no_flags(alloc: Global, bytes: &[u8]) -> Result<(Vec<Flag>, &[u8]), ReadError>
+    ensures { (c : Things) → Gives (λ x. (x.0.items, (x.1.now, c))) result (no_flags_at (bytes.now, c)) }
+{
+    let rest = expect(bytes, Mark::Greater)?;
+    Ok((Vec::new(alloc), rest))
+}
+
+/// `none`, or flags parted by commas, up to the closing mark.
+///
+/// Refusals: `Unexpected` where no flag stands, or no comma and no closing mark follows one.
+#[tactic(auto, unfolding(crate::specs::AttrReading::flags_at))]
+pub(crate) fn flags(alloc: Global, bytes: &[u8]) -> Result<(Vec<Flag>, &[u8]), ReadError>
+    ensures { (c : Things) → Gives (λ x. (x.0.items, (x.1.now, c))) result (flags_at (bytes.now, c)) }
+{
+    let (found, rest) = token(bytes)?;
+    match found {
+        Token::Bare(word) => {
+            if word == b"none".as_slice() {
+                no_flags(alloc, rest)
+            } else {
+                some_flags(alloc, bytes)
+            }
+        }
+        _ => Err(ReadError::Refused(wrong(Refusal::Unexpected, bytes))),
+    }
+}

@@ -1,0 +1,113 @@
+//! Integer literals. Builtin Dialect, "IntegerAttr".
+ghost use Rattle.std.specs.Prelude.{◌≡◌};
+ghost use Rattle.ir_types.specs.Things.{IsType, Grows};
+ghost use Rattle.ir_text_reading.specs.Outcomes.{Gives};
+ghost use Rattle.ir_text_attributes.specs.AttrReading.{suffix_at, literal_done, literal_at, negative_at};
+
+use crate::attributes::kept;
+use ir_text_reading::error::{ReadError, wrong};
+use ir_text_reading::steps::{after, token};
+use ir_text_tokens::fault::Fault;
+use ir_text_tokens::numbers::integer_value;
+use ir_text_tokens::token::{Mark, Token};
+use ir_text_types::types::{self, MOST_DEPTH, ty};
+use ir_types::context::Context;
+use ir_types::ids::{AttrId, TypeId};
+use ir_types::node::{AttrNode, Sign, TypeNode};
+use ir_types::refusal::Refusal;
+use std::alloc::Global;
+
+/// The type of a literal behind a colon, or `i64` where none follows.
+#[tactic(auto, using(ir_types::proofs::Growth::grows_refl, ir_types::proofs::Growth::grows_trans), unfolding(crate::specs::AttrReading::suffix_at))]
+fn suffix<'a>(
+    alloc: Global,
+    ctx: &mut Context,
+    bytes: &'a [u8],
+) -> Result<(TypeId, &'a [u8]), ReadError>
+    ensures reads { Gives (λ x. (x.0, (x.1.now, ctx.new))) result (suffix_at (bytes.now, ctx.old)) }
+    ensures grows { Grows ctx.old ctx.new }
+{
+    match after(bytes, Mark::Colon) {
+        Some(rest) => ty(alloc, ctx, rest, MOST_DEPTH),
+        None => {
+            let word = TypeNode::Int {
+                sign: Sign::Signless,
+                width: 64,
+            };
+            types::kept(ctx, word, bytes)
+        }
+    }
+}
+
+/// Whether literals may have the type: an integer type or index.
+fn has_literals(ctx: &Context, ty: TypeId) -> bool
+    requires { IsType ctx.now ty }
+{
+    match ctx.type_node(ty) {
+        TypeNode::Int { .. } => true,
+        TypeNode::Index => true,
+        _ => false,
+    }
+}
+
+/// Why a literal is none of its type: `BadValue` at the literal, or `TypeMismatch` at the type, which
+/// stands behind the colon that follows the digits.
+fn misfit(ctx: &Context, ty: TypeId, start: &[u8], bytes: &[u8]) -> Fault
+    requires { IsType ctx.now ty }
+{
+    if has_literals(ctx, ty) {
+        return wrong(Refusal::BadValue, start);
+    }
+    match after(bytes, Mark::Colon) {
+        Some(at) => wrong(Refusal::TypeMismatch, at),
+        None => wrong(Refusal::BadValue, start),
+    }
+}
+
+/// A literal behind its digits, where `bytes` stand. It begins, its minus included, at `start`.
+#[tactic(auto, using(ir_types::proofs::Growth::grows_refl, ir_types::proofs::Growth::grows_trans), unfolding(crate::specs::AttrReading::literal_at, crate::specs::AttrReading::literal_done))]
+pub(crate) fn literal<'a>(
+    alloc: Global,
+    ctx: &mut Context,
+    start: &[u8],
+    negative: bool,
+    digits: &[u8],
+    bytes: &'a [u8],
+) -> Result<(AttrId, &'a [u8]), ReadError>
+    ensures reads { Gives (λ x. (x.0, (x.1.now, ctx.new))) result (literal_at negative digits.now (bytes.now, ctx.old)) }
+    ensures grows { Grows ctx.old ctx.new }
+{
+    ctx.sound();
+    let Some(magnitude) = integer_value(digits) else {
+        return Err(ReadError::Refused(wrong(Refusal::BadValue, start)));
+    };
+    let (ty, rest) = match suffix(alloc, ctx, bytes) {
+        Ok(found) => found,
+        Err(e) => return Err(e),
+    };
+    match ctx.literal_bits(ty, negative, magnitude) {
+        Some(value) => kept(ctx, AttrNode::Int { ty, value }, rest),
+        None => Err(ReadError::Refused(misfit(ctx, ty, start, bytes))),
+    }
+}
+
+/// A literal behind its minus, which stands at `start`.
+///
+/// Refusals: `LeftOut` at a float, and `Unexpected` at what is no number; and those of literals.
+#[tactic(auto, using(ir_types::proofs::Growth::grows_refl, ir_types::proofs::Growth::grows_trans), unfolding(crate::specs::AttrReading::negative_at))]
+pub(crate) fn negative<'a>(
+    alloc: Global,
+    ctx: &mut Context,
+    start: &[u8],
+    bytes: &'a [u8],
+) -> Result<(AttrId, &'a [u8]), ReadError>
+    ensures reads { Gives (λ x. (x.0, (x.1.now, ctx.new))) result (negative_at (bytes.now, ctx.old)) }
+    ensures grows { Grows ctx.old ctx.new }
+{
+    let (found, rest) = token(bytes)?;
+    match found {
+        Token::Integer(digits) => literal(alloc, ctx, start, true, digits, rest),
+        Token::Float(_) => Err(ReadError::Refused(wrong(Refusal::LeftOut, bytes))),
+        _ => Err(ReadError::Refused(wrong(Refusal::Unexpected, bytes))),
+    }
+}

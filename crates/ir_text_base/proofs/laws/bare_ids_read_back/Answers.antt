@@ -1,5 +1,0 @@
-use Rattle.ir_text_base.proofs.Printed.{bare_token}
-use Rattle.ir_text_base.proofs.laws.bare_ids_read_back.Goals as goal
-
-pub returns : goal.returns
-returns c = bare_token

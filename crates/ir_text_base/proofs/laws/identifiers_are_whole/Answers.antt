@@ -1,5 +1,0 @@
-use Rattle.ir_text_base.proofs.Wholes.{next_whole}
-use Rattle.ir_text_base.proofs.laws.identifiers_are_whole.Goals as goal
-
-pub returns : goal.returns
-returns c = next_whole

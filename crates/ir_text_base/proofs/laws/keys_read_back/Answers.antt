@@ -1,5 +1,0 @@
-use Rattle.ir_text_base.proofs.Printed.{bare_key, string_key}
-use Rattle.ir_text_base.proofs.laws.keys_read_back.Goals as goal
-
-pub returns : goal.returns
-returns c = record { bare = bare_key; string = string_key }

@@ -1,5 +1,0 @@
-use Rattle.ir_text_base.proofs.Printed.{mark_token}
-use Rattle.ir_text_base.proofs.laws.marks_read_back.Goals as goal
-
-pub returns : goal.returns
-returns c = mark_token

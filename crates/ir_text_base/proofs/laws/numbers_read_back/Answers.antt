@@ -1,6 +1,0 @@
-use Rattle.ir_text_base.proofs.Decimals.{integer_again}
-use Rattle.ir_text_base.proofs.Printed.{decimal_token, minus_token}
-use Rattle.ir_text_base.proofs.laws.numbers_read_back.Goals as goal
-
-pub returns : goal.returns
-returns c = record { token = decimal_token; minus = minus_token; value = integer_again }

@@ -1,9 +1,0 @@
-use Rattle.std.proofs.Common.{◌≡◌, length}
-use Rattle.ir_text_base.specs.Tokens.{skip}
-use Rattle.ir_text_base.proofs.lexer.skip.Given as goal
-
-abbrev pub invariant-blanks : goal.invariant-blanks
-invariant-blanks l = skip l.rest ≡ skip l.bytes
-
-abbrev pub decreases-blanks : goal.decreases-blanks
-decreases-blanks l = length l.rest

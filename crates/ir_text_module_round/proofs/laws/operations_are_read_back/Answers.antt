@@ -1,5 +1,0 @@
-use Rattle.ir_text_module_round.proofs.Whole.{single_again}
-use Rattle.ir_text_module_round.proofs.laws.operations_are_read_back.Goals as goal
-
-pub returns : goal.returns
-returns c = single_again

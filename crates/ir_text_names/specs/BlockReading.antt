@@ -1,0 +1,86 @@
+-- Names that are bound: those of results, and those of a block's arguments.
+use Rattle.std.specs.Prelude.{ℕ, ◌+◌, ◌==◌, Bool, if◌then◌else◌, List, [], ◌∷◌, length, take, drop, is_some, Option, Some, None}
+use Rattle.ir_text_tokens.specs.declared.token.Mark.TheVariants.{OpenRound, CloseRound, OpenCurly, Colon}
+use Rattle.ir_text_tokens.specs.Tokens.{Lexeme, label, next}
+use Rattle.ir_text_tokens.specs.Scopes.{Scopes, bound, find}
+use Rattle.ir_tree.specs.declared.value.Value.TheVariants as values
+use Rattle.ir_text_reading.specs.Outcomes.{Outcome, Read, Wrong, ◌>>=◌, of_option, Parse}
+use Rattle.ir_text_reading.specs.Lists.{list_at}
+use Rattle.ir_text_reading.specs.Typed.{Typed, after_typed}
+use Rattle.ir_text_types.specs.TypeReading.{type_at}
+use Rattle.ir_text_names.specs.declared.bound.Bound.{Bound}
+use Rattle.ir_text_names.specs.States.{State, to_bytes, after_in, typed, with_typed, with_scopes, inside}
+use Rattle.ir_text_names.specs.NameReading.{name_at}
+use Rattle.ir_text_names.specs.Packs.{Counted, counts}
+
+-- ---- names
+
+-- a name that is not bound yet
+unfoldable pub bind : List ℕ → List Bound → Scopes (List Bound) → Outcome (Scopes (List Bound))
+bind name pack s = if is_some (find name s.here) then Wrong else Read (bound name pack s)
+
+-- the results from place k on, by their types
+unfoldable pub results_of : ℕ → ℕ → List ℕ → List Bound
+results_of id k [] = []
+results_of id k (y ∷ ys) = record { value = values.Result id k; ty = y } ∷ results_of id (k + 1) ys
+
+-- each name stands for as many of the results as it counts, from place k on
+unfoldable pub bind_results : ℕ → ℕ → List Counted → List ℕ → Scopes (List Bound) → Outcome (Scopes (List Bound))
+bind_results id k [] ys s = Read s
+bind_results id k (n ∷ ns) ys s = bind n.0 (results_of id k (take n.1 ys)) s >>= bind_results id (k + n.1) ns (drop n.1 ys)
+
+-- where names are written, their counts are as many as the results
+abbrev pub finish : ℕ → Option (List Counted) → List ℕ → Scopes (List Bound) → Outcome (Scopes (List Bound))
+finish id None outputs s = Read s
+finish id (Some names) outputs s = if counts names == length outputs then bind_results id 0 names outputs s else Wrong
+
+-- ---- blocks
+
+-- a colon and a type
+unfoldable pub colon_type_at : Parse Typed ℕ
+colon_type_at s = of_option (after_typed Colon s) >>= type_at 32
+
+abbrev pub arg_named : ℕ → ℕ → ℕ → State → List ℕ → Outcome (ℕ × State)
+arg_named id r k s name = do
+  c ← of_option (after_in Colon s)
+  y ← type_at 32 (typed c)
+  scopes ← bind name ((record { value = values.Arg id r k; ty = y.0 }) ∷ []) s.scopes
+  Read (y.0, with_scopes (with_typed s y.1) scopes)
+
+-- an argument, bound as it is read
+unfoldable pub arg_at : ℕ → ℕ → List ℕ → Parse State ℕ
+arg_at id r before s = name_at s.bytes >>= λ n. arg_named id r (length before) (to_bytes s n.1) n.0
+
+unfoldable pub args_at : ℕ → ℕ → Parse State (List ℕ)
+args_at id r = list_at after_in CloseRound (arg_at id r) 256
+
+abbrev pub label_args_from : ℕ → ℕ → State → Option State → Outcome (List ℕ × State)
+label_args_from id r s (Some c) = args_at id r c
+label_args_from id r s None = Read ([], s)
+
+-- the arguments in parentheses, or none
+abbrev pub some_args_at : ℕ → ℕ → Parse State (List ℕ)
+some_args_at id r s = label_args_from id r s (after_in OpenRound s)
+
+-- the arguments behind a label, and the colon
+unfoldable pub label_args_at : ℕ → ℕ → Parse State (List ℕ)
+label_args_at id r s = do
+  a ← some_args_at id r s
+  c ← of_option (after_in Colon a.1)
+  Read (a.0, c)
+
+abbrev pub head_from : ℕ → ℕ → State → Lexeme → List ℕ → Outcome (Option (List ℕ) × State)
+head_from id r s (label l) rest = label_args_at id r (to_bytes s rest) >>= λ a. Read (Some a.0, a.1)
+head_from id r s _ rest = Read (None, s)
+
+-- a label with the arguments, or none
+unfoldable pub head_at : ℕ → ℕ → Parse State (Option (List ℕ))
+head_at id r s = of_option (next s.bytes) >>= λ t. head_from id r s t.0 t.1
+
+-- ---- regions
+
+-- a region begins: the others' names are hidden in one of an isolated operation, and a label may follow
+unfoldable pub region_head_at : ℕ → ℕ → Bool → Parse State (Option (List ℕ))
+region_head_at id r isolated s = do
+  c ← of_option (after_in OpenCurly s)
+  head_at id r (inside isolated c)

@@ -1,0 +1,61 @@
+-- Reading the names of an operation's results. Language Reference, "Operations".
+use Rattle.std.specs.Prelude.{ℕ, ◌+◌, nat_le, if◌then◌else◌, List, [], Option, Some, None}
+use Rattle.ir_text_tokens.specs.declared.token.Mark.TheVariants.{Equal, Colon}
+use Rattle.ir_text_tokens.specs.Tokens.{Lexeme, integer, value, next}
+use Rattle.ir_text_tokens.specs.Numbers.{integer_of}
+use Rattle.ir_text_reading.specs.Marks.{after}
+use Rattle.ir_text_reading.specs.Outcomes.{Outcome, Read, Wrong, ◌>>=◌, of_option, Parse}
+use Rattle.ir_text_reading.specs.Lists.{more_at}
+use Rattle.ir_text_names.specs.Packs.{Counted, counts}
+
+abbrev pub Text : Type 0
+Text = List ℕ
+
+abbrev pub name_from : Lexeme → List ℕ → Outcome (List ℕ × Text)
+name_from (value n) rest = Read (n, rest)
+name_from _ rest = Wrong
+
+-- a name behind its sign
+unfoldable pub name_at : Parse Text (List ℕ)
+name_at bytes = of_option (next bytes) >>= λ t. name_from t.0 t.1
+
+abbrev pub number_from : Lexeme → List ℕ → Outcome (ℕ × Text)
+number_from (integer digits) rest = if nat_le 1 (integer_of digits) then Read (integer_of digits, rest) else Wrong
+number_from _ rest = Wrong
+
+-- a number that isn't 0
+unfoldable pub number_at : Parse Text ℕ
+number_at bytes = of_option (next bytes) >>= λ t. number_from t.0 t.1
+
+abbrev pub some_count : Text → Option Text → Outcome (ℕ × Text)
+some_count bytes (Some c) = number_at c
+some_count bytes None = Read (1, bytes)
+
+abbrev pub within : ℕ → ℕ × Text → Outcome (ℕ × Text)
+within before k = if nat_le (before + k.0) 256 then Read k else Wrong
+
+-- the count behind a colon, behind names of so many results
+abbrev pub written_at : ℕ → Parse Text ℕ
+written_at before bytes = number_at bytes >>= within before
+
+-- for how many results a name stands, behind names of so many: 1 where no count stands
+unfoldable pub count_at : ℕ → Parse Text ℕ
+count_at before bytes = some_count bytes (after Colon bytes) >>= within before
+
+unfoldable pub result_at : ℕ → Parse Text Counted
+result_at before bytes = do
+  n ← name_at bytes
+  k ← count_at before n.1
+  Read ((n.0, k.0), k.1)
+
+-- names up to an equal sign, of at most 256 results
+unfoldable pub names_at : Parse Text (List Counted)
+names_at = more_at after Equal (λ before. result_at (counts before)) 256 []
+
+abbrev pub results_from : Text → Lexeme → Outcome (Option (List Counted) × Text)
+results_from bytes (value n) = names_at bytes >>= λ x. Read (Some x.0, x.1)
+results_from bytes _ = Read (None, bytes)
+
+-- the names of the results, where a name comes first
+unfoldable pub results_at : Parse Text (Option (List Counted))
+results_at bytes = of_option (next bytes) >>= λ t. results_from bytes t.0

@@ -1,0 +1,173 @@
+//! The names of results, and for how many each stands. Language Reference, "Operations".
+ghost use Rattle.std.specs.Prelude.{◌≡◌, ◌+◌, ◌≤◌, [], map, option_map, SomeIff};
+ghost use Rattle.ir_text_tokens.specs.Numbers.{integer_of};
+ghost use Rattle.ir_text_reading.specs.Outcomes.{Gives};
+ghost use Rattle.ir_text_names.specs.Packs.{named_view};
+ghost use Rattle.ir_text_names.specs.NameReading.{name_at, written_at, count_at, result_at, names_at, results_at};
+
+use crate::lists::{Behind, behind_item};
+use ir_text_reading::error::{ReadError, wrong};
+use ir_text_reading::steps::{after, token};
+use ir_text_tokens::fault::Fault;
+use ir_text_tokens::lexer;
+use ir_text_tokens::numbers::integer_value;
+use ir_text_tokens::token::{Mark, Token};
+use ir_types::refusal::Refusal;
+use std::alloc::Global;
+
+/// A name, and for how many results it stands.
+#[derive(Clone, Copy)]
+pub struct Named<'a> {
+    pub name: &'a [u8],
+    pub count: u32,
+}
+
+/// A name behind its sign.
+#[tactic(auto, unfolding(crate::specs::NameReading::name_at))]
+pub fn name(bytes: &[u8]) -> Result<(&[u8], &[u8]), ReadError>
+    ensures { Gives (λ x. (x.0.now, x.1.now)) result (name_at bytes.now) }
+{
+    match token(bytes) {
+        Ok((Token::Value(name), rest)) => Ok((name, rest)),
+        Ok(_) => Err(ReadError::Refused(wrong(Refusal::Unexpected, bytes))),
+        Err(e) => Err(e),
+    }
+}
+
+/// The fault at a name that is one too many, or at what is no name.
+pub fn one_too_many(bytes: &[u8]) -> Fault {
+    match lexer::token(bytes) {
+        Ok((Token::Value(_), _)) => wrong(Refusal::TooMany, bytes),
+        _ => wrong(Refusal::Unexpected, bytes),
+    }
+}
+
+/// The count that digits write, where it isn't 0 and there are at most 256 with those before.
+pub fn counted(digits: &[u8], before: u32) -> Option<u32>
+    requires { before ≤ 256 }
+    ensures { SomeIff result ((1 ≤ integer_of digits.now) × (before + integer_of digits.now ≤ 256)) (integer_of digits.now) }
+{
+    let number = integer_value(digits)?;
+    if number >= 1 && number <= (256 - before) as u128 {
+        Some(number as u32)
+    } else {
+        None
+    }
+}
+
+/// Why a count is none.
+fn count_refusal(digits: &[u8]) -> Refusal {
+    match integer_value(digits) {
+        Some(0) => Refusal::BadValue,
+        _ => Refusal::TooMany,
+    }
+}
+
+/// The count behind a colon.
+///
+/// Refusals: `BadValue` at 0, `TooMany` where it passes 256 with those before, `Unexpected`.
+#[tactic(auto, unfolding(crate::specs::NameReading::number_at))]
+fn written_count(bytes: &[u8], before: u32) -> Result<(u32, &[u8]), ReadError>
+    requires { before ≤ 256 }
+    ensures { Gives (λ x. (x.0, x.1.now)) result (written_at before bytes.now) }
+{
+    match token(bytes) {
+        Ok((Token::Integer(digits), rest)) => match counted(digits, before) {
+            Some(count) => Ok((count, rest)),
+            None => Err(ReadError::Refused(wrong(count_refusal(digits), bytes))),
+        },
+        Ok(_) => Err(ReadError::Refused(wrong(Refusal::Unexpected, bytes))),
+        Err(e) => Err(e),
+    }
+}
+
+/// For how many results the name stands that begins at `start`, behind names of so many.
+#[tactic(auto, unfolding(crate::specs::NameReading::count_at))]
+fn count<'a>(start: &[u8], bytes: &'a [u8], before: u32) -> Result<(u32, &'a [u8]), ReadError>
+    requires { before ≤ 256 }
+    ensures { Gives (λ x. (x.0, x.1.now)) result (count_at before bytes.now) }
+{
+    if let Some(rest) = after(bytes, Mark::Colon) {
+        return written_count(rest, before);
+    }
+    if before == 256 {
+        return Err(ReadError::Refused(wrong(Refusal::TooMany, start)));
+    }
+    Ok((1, bytes))
+}
+
+/// A name with its count, behind names of so many results.
+#[tactic(auto, unfolding(crate::specs::NameReading::result_at))]
+fn counted_name(bytes: &[u8], before: u32) -> Result<(Named<'_>, &[u8]), ReadError>
+    requires { before ≤ 256 }
+    ensures { Gives (λ x. (named_view x.0, x.1.now)) result (result_at before bytes.now) }
+{
+    match name(bytes) {
+        Ok((name, rest)) => match count(bytes, rest, before) {
+            Ok((count, rest)) => Ok((Named { name, count }, rest)),
+            Err(e) => Err(e),
+        },
+        Err(e) => Err(e),
+    }
+}
+
+/// The fault of one more name behind 256, or of what is none: at its count, where it has one.
+fn past_names(bytes: &[u8]) -> Fault {
+    match counted_name(bytes, 256) {
+        Err(ReadError::Refused(fault)) => fault,
+        _ => one_too_many(bytes),
+    }
+}
+
+/// Puts names behind each other up to an equal sign, of at most 256 results.
+#[tactic(auto, unfolding(crate::specs::NameReading::names_at))]
+fn push_names<'a>(items: &mut Vec<Named<'a>>, bytes: &'a [u8]) -> Result<&'a [u8], ReadError>
+    requires { items.old.items ≡ [] }
+    ensures { Gives (λ r. (map named_view items.new.items, r.now)) result (names_at bytes.now) }
+{
+    let mut rest = bytes;
+    let mut total = 0u32;
+    'items: for _ in 0..256usize {
+        let (item, tail) = match counted_name(rest, total) {
+            Ok(found) => found,
+            Err(e) => return Err(e),
+        };
+        items.push(item)?;
+        total += item.count;
+        match behind_item(tail, Mark::Equal) {
+            Ok(Behind::More(more)) => rest = more,
+            Ok(Behind::End(end)) => return Ok(end),
+            Err(e) => return Err(e),
+        }
+    }
+    Err(ReadError::Refused(past_names(rest)))
+}
+
+/// Names up to an equal sign, of at most 256 results.
+fn names<'a>(alloc: Global, bytes: &'a [u8]) -> Result<(Vec<Named<'a>>, &'a [u8]), ReadError>
+    ensures { Gives (λ x. (map named_view x.0.items, x.1.now)) result (names_at bytes.now) }
+{
+    let mut items = Vec::new(alloc);
+    match push_names(&mut items, bytes) {
+        Ok(rest) => Ok((items, rest)),
+        Err(e) => Err(e),
+    }
+}
+
+/// The names of the results, where a name comes first.
+#[tactic(auto, unfolding(crate::specs::NameReading::results_at))]
+pub fn results<'a>(
+    alloc: Global,
+    bytes: &'a [u8],
+) -> Result<(Option<Vec<Named<'a>>>, &'a [u8]), ReadError>
+    ensures { Gives (λ x. (option_map (λ v. map named_view v.items) x.0, x.1.now)) result (results_at bytes.now) }
+{
+    match token(bytes) {
+        Ok((Token::Value(_), _)) => match names(alloc, bytes) {
+            Ok((names, rest)) => Ok((Some(names), rest)),
+            Err(e) => Err(e),
+        },
+        Ok(_) => Ok((None, bytes)),
+        Err(e) => Err(e),
+    }
+}

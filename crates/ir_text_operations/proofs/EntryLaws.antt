@@ -1,0 +1,151 @@
+-- Dictionaries that are read are spelled, and dictionaries that are spelled are read.
+use Rattle.std.specs.Prelude.{if◌then◌else◌, nat_eq, nat_le, not, ◌||◌}
+use Rattle.std.specs.List.{list_any, filter}
+use Rattle.std.specs.Str.{bytes_eq}
+use Rattle.std.proofs.Common.{◌≡◌, ◌+◌, ℕ, suc, Bool, true, false, true≢false, cond, List, [], ◌∷◌, length, Option, Some, None, refl, sym, ap, subst, ◌∙◌}
+use Rattle.std.proofs.lemmas.Bool.{eqb-true, eq-eqb}
+use Rattle.ir_text_tokens.specs.declared.token.Mark.TheVariants.{OpenCurly, CloseCurly, Less, Greater}
+use Rattle.ir_types.specs.Things.{Things, Grows}
+use Rattle.ir_types.specs.Terms.{name_term}
+use Rattle.ir_types.specs.Words.{is_inherent}
+use Rattle.ir_types.specs.Sound.{IsSound}
+use Rattle.ir_types.proofs.Growth.{grows_trans, name_is, name_refl}
+use Rattle.ir_types.proofs.Terms.{name_term_one}
+use Rattle.ir_text_reading.specs.Outcomes.{Outcome, Read, Wrong, ◌>>=◌}
+use Rattle.ir_text_reading.specs.Grammars.{Then, Done, After, IsMark}
+use Rattle.ir_text_reading.specs.Typed.{Typed, after_typed}
+use Rattle.ir_text_attributes.specs.AttrReading.{key_at, value_at, attr_at}
+use Rattle.ir_text_attributes.specs.AttrGrammar.{EntryTerm, IsKey, IsAttr}
+use Rattle.ir_text_reading.specs.Worlds.{From}
+use Rattle.ir_text_reading.specs.Standing.{NameStands, AttrStands}
+use Rattle.ir_text_reading.specs.Laws.{Each}
+use Rattle.ir_text_reading.proofs.Worlds.{Exact, exact_where, exact_spelled, nothing_exact, then_exact, done_exact, after_exact, either_exact}
+use Rattle.ir_text_reading.proofs.TextLaws.{things, Same, typed_marks}
+use Rattle.ir_text_attributes.proofs.PartLaws.{key_exact, value_exact}
+use Rattle.ir_text_attributes.proofs.AttrLaws.{attr_exact}
+use Rattle.ir_text_operations.specs.Entries.{moved, staying, is_refused}
+use Rattle.ir_text_operations.specs.EntryReading.{Entries, is_property_in, refused_in, entry_at, entries_at, some_properties, properties_from, properties_at, attributes_from, attributes_at}
+use Rattle.ir_text_operations.specs.Seen.{When}
+use Rattle.ir_text_operations.specs.OpGrammar.{is_property, IsEntryValue, IsEntry, IsEntries, IsProperties, IsAttributes}
+use Rattle.ir_text_operations.specs.Standing.{Both, EntryStands}
+use Rattle.ir_text_operations.proofs.FrontLaws.{items_exact}
+
+-- ---- lists whose items stand for each other
+
+module _ {A B : Type 0} (R : Things → A → B → Type 0) (z : Things) where
+  pub each_length : (xs : List A) (ys : List B) → Each R z xs ys → length xs ≡ length ys
+  each_length [] [] h = refl
+  each_length [] (y ∷ ys) h = absurd h
+  each_length (x ∷ xs) [] h = absurd h
+  each_length (x ∷ xs) (y ∷ ys) h = ap suc (each_length xs ys h.1)
+
+  module _ (f : A → Bool) (g : B → Bool) (same : (x : A) (y : B) → R z x y → f x ≡ g y) where
+    any_same : (xs : List A) (ys : List B) → Each R z xs ys → list_any f xs ≡ list_any g ys
+    any_same [] [] h = refl
+    any_same [] (y ∷ ys) h = absurd h
+    any_same (x ∷ xs) [] h = absurd h
+    any_same (x ∷ xs) (y ∷ ys) h = λ i. same x y h.0 i || any_same xs ys h.1 i
+
+    pub each_filter : (xs : List A) (ys : List B) → Each R z xs ys → Each R z (filter f xs) (filter g ys)
+    each_filter [] [] h = h
+    each_filter [] (y ∷ ys) h = absurd h
+    each_filter (x ∷ xs) [] h = absurd h
+    each_filter (x ∷ xs) (y ∷ ys) h = by_test (each_filter xs ys h.1) (f x) (g y) (same x y h.0)
+      where
+        by_test : Each R z (filter f xs) (filter g ys) → (b c : Bool) → b ≡ c → Each R z (cond b (x ∷ filter f xs) (filter f xs)) (cond c (y ∷ filter g ys) (filter g ys))
+        by_test rest true true e = (h.0, rest)
+        by_test rest true false e = absurd (true≢false e)
+        by_test rest false true e = absurd (true≢false (sym e))
+        by_test rest false false e = rest
+
+-- ---- keys
+
+tests_agree : (a b : Bool) → (a ≡ true → b ≡ true) → (b ≡ true → a ≡ true) → a ≡ b
+tests_agree true true f g = refl
+tests_agree true false f g = sym (f refl)
+tests_agree false true f g = g refl
+tests_agree false false f g = refl
+
+-- names of a sound context are equal exactly where their bytes are
+keys_agree : (z : Things) → IsSound z → (k l : ℕ) (x y : List ℕ) → NameStands z k x → NameStands z l y → nat_eq k l ≡ bytes_eq x y
+keys_agree z sound k l x y h j =
+    tests_agree (nat_eq k l) (bytes_eq x y)
+    (λ e. subst (λ w. bytes_eq x w ≡ true) (sym h.1 ∙ ap (name_term z) (eqb-true k l e) ∙ j.1) (name_refl x))
+    (λ e. eq-eqb k l (name_term_one z k l sound h.0 j.0 (h.1 ∙ name_is x y e ∙ sym j.1)))
+
+pub property_agrees : (z : Things) (op : Option ℕ) (name : Option (List ℕ)) (k : ℕ) (y : List ℕ) → Both NameStands z op name → name_term z k ≡ y → is_property_in z op k ≡ is_property name y
+property_agrees z None None k y h e = refl
+property_agrees z None (Some n) k y h e = absurd h
+property_agrees z (Some o) None k y h e = absurd h
+property_agrees z (Some o) (Some n) k y h e = λ i. is_inherent (h.1 i) (e i)
+
+refused_same : (z : Things) (op : Option ℕ) (name : Option (List ℕ)) (ps : Entries) (qs : List EntryTerm) (k : ℕ) (y : List ℕ) (es : Entries) (fs : List EntryTerm)
+    → IsSound z → Both NameStands z op name → Each EntryStands z ps qs → NameStands z k y → Each EntryStands z es fs → refused_in z op ps k es ≡ is_refused bytes_eq (is_property name) qs y fs
+refused_same z op name ps qs k y es fs sound o p h e =
+    let key : (x : ℕ × ℕ) (v : EntryTerm) → EntryStands z x v → nat_eq x.0 k ≡ bytes_eq v.0 y = λ x v r. keys_agree z sound x.0 k v.0 y r.0 h in
+    let property : (x : ℕ × ℕ) (v : EntryTerm) → EntryStands z x v → is_property_in z op x.0 ≡ is_property name v.0 = λ x v r. property_agrees z op name x.0 v.0 o r.0.1 in
+    let before = any_same EntryStands z (λ x. nat_eq x.0 k) (λ v. bytes_eq v.0 y) key ps qs p in
+    let here = any_same EntryStands z (λ x. nat_eq x.0 k) (λ v. bytes_eq v.0 y) key es fs e in
+    let test = property_agrees z op name k y o h.1 in
+    let all = each_length EntryStands z ps qs p in
+    let some = each_length EntryStands z (moved (is_property_in z op) es) (moved (is_property name) fs) (each_filter EntryStands z (λ x. is_property_in z op x.0) (λ v. is_property name v.0) property es fs e) in
+    let others = each_length EntryStands z (staying (is_property_in z op) es) (staying (is_property name) fs) (each_filter EntryStands z (λ x. not (is_property_in z op x.0)) (λ v. not (is_property name v.0)) (λ x v r. ap not (property x v r)) es fs e) in
+    λ i. (before i || here i) || (if test i then nat_le 256 (all i + some i) else nat_le 256 (others i))
+
+-- ---- entries
+
+value_read : (c : Things) → Exact things Same c AttrStands (value_at 32) IsEntryValue
+value_read c = value_exact 32 (attr_at 32) (IsAttr 32) (attr_exact 32) c
+
+abbrev with_value : ℕ → Outcome (ℕ × Typed) → Outcome ((ℕ × ℕ) × Typed)
+with_value k o = o >>= λ a. Read ((k, a.0), a.1)
+
+module _ (d : Things) (k : ℕ) (y : List ℕ) (stands : From (λ z. NameStands z k y) d) where
+  allowed_exact : (b : Bool) → Exact things Same d EntryStands (λ s. with_value k (if b then Wrong else value_at 32 s)) (When (b ≡ false) (Then IsEntryValue (λ a. Done (y, a))))
+  allowed_exact true =
+      exact_spelled things Same d EntryStands (λ s. Wrong) (λ v old new. ⊥) (When (true ≡ false) (Then IsEntryValue (λ a. Done (y, a)))) (λ v t t' e. absurd e) (λ v t t' e. absurd (true≢false e.0))
+      (nothing_exact things Same d EntryStands)
+  allowed_exact false =
+      exact_spelled things Same d EntryStands (λ s. with_value k (value_at 32 s)) (Then IsEntryValue (λ a. Done (y, a))) (When (false ≡ false) (Then IsEntryValue (λ a. Done (y, a)))) (λ v t t' e. (refl, e)) (λ v t t' e. e.1)
+      (then_exact things Same d AttrStands EntryStands (value_at 32) IsEntryValue (λ a s. Read ((k, a), s)) (λ a. Done (y, a)) (value_read d) (λ e a v g r.
+      done_exact things Same e EntryStands (k, a) (y, v) (λ z j w. (stands z (grows_trans d e z g j) w, r z j w))))
+
+module _ (base : Things) (op : Option ℕ) (name : Option (List ℕ)) (ps : Entries) (qs : List EntryTerm) (names : From (λ z. Both NameStands z op name) base) (before : From (λ z. Each EntryStands z ps qs) base) where
+  entry_exact : (c : Things) (es : Entries) (fs : List EntryTerm) → Grows base c → From (λ z. Each EntryStands z es fs) c → Exact things Same c EntryStands (entry_at op ps es) (IsEntry name qs fs)
+  unfolding entry_at
+  entry_exact c es fs b front =
+      then_exact things Same c NameStands EntryStands key_at IsKey (λ k s. with_value k (if refused_in s.1 op ps k es then Wrong else value_at 32 s)) (λ y. When (is_refused bytes_eq (is_property name) qs y fs ≡ false) (Then IsEntryValue (λ a. Done (y, a))))
+      (key_exact c) (λ d k y g r.
+      exact_where things Same d EntryStands (λ s. with_value k (if refused_in s.1 op ps k es then Wrong else value_at 32 s)) (λ s. with_value k (if is_refused bytes_eq (is_property name) qs y fs then Wrong else value_at 32 s)) (When (is_refused bytes_eq (is_property name) qs y fs ≡ false) (Then IsEntryValue (λ a. Done (y, a))))
+      (λ s h sound.
+      let up = grows_trans c d s.1 g h in
+      let all = grows_trans base c s.1 b up in
+      ap (λ t. with_value k (if t then Wrong else value_at 32 s)) (refused_same s.1 op name ps qs k y es fs sound (names s.1 all sound) (before s.1 all sound) (r s.1 h sound) (front s.1 up sound)))
+      (allowed_exact d k y r (is_refused bytes_eq (is_property name) qs y fs)))
+
+  entries_exact : Exact things Same base (Each EntryStands) (entries_at op ps) (IsEntries name qs)
+  unfolding entries_at
+  entries_exact = items_exact things Same base after_typed IsMark typed_marks EntryStands CloseCurly (entry_at op ps) (IsEntry name qs) entry_exact 513
+
+-- ---- both dictionaries
+
+no_entries_exact : (c : Things) → Exact things Same c (Each EntryStands) (λ s. Read ([], s)) (Done [])
+no_entries_exact c = done_exact things Same c (Each EntryStands) [] [] (λ z g w. tt)
+
+some_properties_exact : (c : Things) → Exact things Same c (Each EntryStands) some_properties (After IsMark OpenCurly (Then (IsEntries None []) (λ es. After IsMark Greater (Done es))))
+unfolding some_properties
+some_properties_exact c =
+    after_exact things Same after_typed IsMark typed_marks c (Each EntryStands) OpenCurly _ _
+    (then_exact things Same c (Each EntryStands) (Each EntryStands) _ _ _ _ (entries_exact c None None [] [] (λ z g w. tt) (λ z g w. tt)) (λ d es fs g r.
+    after_exact things Same after_typed IsMark typed_marks d (Each EntryStands) Greater (λ s. Read (es, s)) (Done fs) (done_exact things Same d (Each EntryStands) es fs r)))
+
+pub properties_exact : (c : Things) → Exact things Same c (Each EntryStands) properties_at IsProperties
+unfolding properties_at
+properties_exact c =
+    either_exact things Same after_typed IsMark typed_marks c (Each EntryStands) Less properties_from some_properties (λ s. Read ([], s)) _ _ (λ s mid. refl) (λ s. refl) (some_properties_exact c) (no_entries_exact c)
+
+pub attributes_exact : (c : Things) (op : ℕ) (name : List ℕ) (ps : Entries) (qs : List EntryTerm) → From (λ z. NameStands z op name) c → From (λ z. Each EntryStands z ps qs) c → Exact things Same c (Each EntryStands) (attributes_at op ps) (IsAttributes name qs)
+unfolding attributes_at
+attributes_exact c op name ps qs o p =
+    either_exact things Same after_typed IsMark typed_marks c (Each EntryStands) OpenCurly (attributes_from op ps) (entries_at (Some op) ps) (λ s. Read ([], s)) (IsEntries (Some name) qs) (Done []) (λ s mid. refl) (λ s. refl)
+    (entries_exact c (Some op) (Some name) ps qs o p) (no_entries_exact c)

@@ -1,0 +1,188 @@
+-- An operation that is made of numbers stands for the one that is made of what they stand for.
+use Rattle.std.specs.Prelude.{not}
+use Rattle.std.specs.List.{list_all, prefix_len}
+use Rattle.std.proofs.Common.{◌≡◌, ◌+◌, ℕ, zero, suc, Bool, true, cond, List, [], ◌∷◌, ◌++◌, length, map, take, drop, Some, refl, ap, subst}
+use Rattle.std.proofs.lemmas.Bool.{lt-ltb}
+use Rattle.ir_types.specs.Things.{Things}
+use Rattle.ir_types.specs.Terms.{TypeTerm, name_term, type_term, attr_term}
+use Rattle.ir_tree.specs.declared.value.Value.{Value}
+use Rattle.ir_tree.specs.Tree as tree
+use Rattle.ir_tree.specs.Tree.{Op, Region, regions_of}
+use Rattle.ir_tree.specs.Limits.{regions_every, all_arguments_pass, arguments_pass, region_every}
+use Rattle.ir_tree.specs.Maps.{map_entry, map_regions}
+use Rattle.ir_tree.specs.Passing.{entry_passes, op_passes}
+use Rattle.ir_tree.specs.Meaning.{is_name, is_type, is_attr, key_before, key_before_in}
+use Rattle.ir_tree.proofs.Meanings.{both_hold}
+use Rattle.ir_text_reading.specs.Standing.{NameStands, TypeStands}
+use Rattle.ir_text_reading.specs.Laws.{Each}
+use Rattle.ir_text_names.specs.declared.bound.Bound.{Bound}
+use Rattle.ir_text_operations.specs.Entries.{moved, staying, put_among, put_all, properties_of, attributes_of}
+use Rattle.ir_text_operations.specs.EntryReading.{Entries, is_property_in}
+use Rattle.ir_text_operations.specs.Made.{made}
+use Rattle.ir_text_operations.specs.OpReading.{values_of, op_of}
+use Rattle.ir_text_operations.specs.Seen.{BoundTerm}
+use Rattle.ir_text_attributes.specs.AttrGrammar.{EntryTerm}
+use Rattle.ir_text_operations.specs.OpGrammar.{RegionTerm, is_property}
+use Rattle.ir_text_operations.specs.Standing.{BoundStands, EntryStands, RegionStands, OpStands}
+use Rattle.ir_text_operations.proofs.EntryLaws.{each_filter, property_agrees}
+use Rattle.ir_text_operations.proofs.BlockLaws.{types_known, types_are}
+
+-- ---- sorted entries
+
+module _ {A B : Type 0} (R : Things → A → B → Type 0) (z : Things) where
+  each_take : (n : ℕ) (xs : List A) (ys : List B) → Each R z xs ys → Each R z (take n xs) (take n ys)
+  each_take zero xs ys h = tt
+  each_take (suc n) [] [] h = tt
+  each_take (suc n) [] (y ∷ ys) h = absurd h
+  each_take (suc n) (x ∷ xs) [] h = absurd h
+  each_take (suc n) (x ∷ xs) (y ∷ ys) h = (h.0, each_take n xs ys h.1)
+
+  each_drop : (n : ℕ) (xs : List A) (ys : List B) → Each R z xs ys → Each R z (drop n xs) (drop n ys)
+  each_drop zero xs ys h = h
+  each_drop (suc n) [] [] h = tt
+  each_drop (suc n) [] (y ∷ ys) h = absurd h
+  each_drop (suc n) (x ∷ xs) [] h = absurd h
+  each_drop (suc n) (x ∷ xs) (y ∷ ys) h = each_drop n xs ys h.1
+
+  each_append : (xs : List A) (ys : List B) (us : List A) (vs : List B) → Each R z xs ys → Each R z us vs → Each R z (xs ++ us) (ys ++ vs)
+  each_append [] [] us vs h k = k
+  each_append [] (y ∷ ys) us vs h k = absurd h
+  each_append (x ∷ xs) [] us vs h k = absurd h
+  each_append (x ∷ xs) (y ∷ ys) us vs h k = (h.0, each_append xs ys us vs h.1 k)
+
+  prefix_same : (f : A → Bool) (g : B → Bool) → ((x : A) (y : B) → R z x y → f x ≡ g y) → (xs : List A) (ys : List B) → Each R z xs ys → prefix_len f xs ≡ prefix_len g ys
+  prefix_same f g same [] [] h = refl
+  prefix_same f g same [] (y ∷ ys) h = absurd h
+  prefix_same f g same (x ∷ xs) [] h = absurd h
+  prefix_same f g same (x ∷ xs) (y ∷ ys) h = let rest = prefix_same f g same xs ys h.1 in λ i. cond (same x y h.0 i) (1 + rest i) 0
+
+module _ {K L A B : Type 0} (R : Things → K × A → L × B → Type 0) (z : Things) (before : K → K → Bool) (earlier : L → L → Bool)
+    (same : (x u : K × A) (y v : L × B) → R z x y → R z u v → before x.0 u.0 ≡ earlier y.0 v.0) where
+  each_among : (e : K × A) (f : L × B) (xs : List (K × A)) (ys : List (L × B)) → R z e f → Each R z xs ys → Each R z (put_among before e xs) (put_among earlier f ys)
+  each_among e f xs ys r h =
+      let n = prefix_len (λ x. before x.0 e.0) xs in
+      let place = prefix_same R z (λ x. before x.0 e.0) (λ y. earlier y.0 f.0) (λ x y k. same x e y f k r) xs ys h in
+      subst (λ k. Each R z (put_among before e xs) (take k ys ++ f ∷ drop k ys)) place (each_append R z (take n xs) (take n ys) (e ∷ drop n xs) (f ∷ drop n ys) (each_take R z n xs ys h) (r, each_drop R z n xs ys h))
+
+  each_all : (done : List (K × A)) (ends : List (L × B)) (xs : List (K × A)) (ys : List (L × B)) → Each R z done ends → Each R z xs ys → Each R z (put_all before done xs) (put_all earlier ends ys)
+  unfolding put_all
+  each_all done ends [] [] h k = h
+  each_all done ends [] (y ∷ ys) h k = absurd k
+  each_all done ends (x ∷ xs) [] h k = absurd k
+  each_all done ends (x ∷ xs) (y ∷ ys) h k = each_all (put_among before x done) (put_among earlier y ends) xs ys (each_among x y done ends k.0 h) k.1
+
+  module _ (test : K → Bool) (passes : L → Bool) (agrees : (x : K × A) (y : L × B) → R z x y → test x.0 ≡ passes y.0) where
+    pub each_properties : (ps : List (K × A)) (qs : List (L × B)) (es : List (K × A)) (fs : List (L × B)) → Each R z ps qs → Each R z es fs → Each R z (properties_of test before ps es) (properties_of passes earlier qs fs)
+    each_properties ps qs es fs h k =
+        each_all (put_all before [] ps) (put_all earlier [] qs) (moved test es) (moved passes fs) (each_all [] [] ps qs tt h) (each_filter R z (λ x. test x.0) (λ y. passes y.0) agrees es fs k)
+
+    pub each_attributes : (es : List (K × A)) (fs : List (L × B)) → Each R z es fs → Each R z (attributes_of test before es) (attributes_of passes earlier fs)
+    each_attributes es fs k = each_all [] [] (staying test es) (staying passes fs) tt (each_filter R z (λ x. not (test x.0)) (λ y. not (passes y.0)) (λ x y r. ap not (agrees x y r)) es fs k)
+
+-- in two contexts at once
+module _ {A B : Type 0} (R : Things → A → B → Type 0) (c : Things) where
+  abbrev Twice : Things → A → B → Type 0
+  Twice z x y = R c x y × R z x y
+
+  each_twice : (z : Things) (xs : List A) (ys : List B) → Each R c xs ys → Each R z xs ys → Each Twice z xs ys
+  each_twice z [] [] h k = tt
+  each_twice z [] (y ∷ ys) h k = absurd h
+  each_twice z (x ∷ xs) [] h k = absurd h
+  each_twice z (x ∷ xs) (y ∷ ys) h k = ((h.0, k.0), each_twice z xs ys h.1 k.1)
+
+  each_once : (z : Things) (xs : List A) (ys : List B) → Each Twice z xs ys → Each R z xs ys
+  each_once z [] [] h = tt
+  each_once z [] (y ∷ ys) h = absurd h
+  each_once z (x ∷ xs) [] h = absurd h
+  each_once z (x ∷ xs) (y ∷ ys) h = (h.0.1, each_once z xs ys h.1)
+
+-- ---- what the parts of an operation stand for
+
+entries_known : (z : Things) (es : Entries) (fs : List EntryTerm) → Each EntryStands z es fs → list_all (entry_passes (is_name z) (is_attr z)) es ≡ true
+entries_known z [] [] h = refl
+entries_known z [] (y ∷ ys) h = absurd h
+entries_known z (x ∷ xs) [] h = absurd h
+entries_known z (x ∷ xs) (y ∷ ys) h =
+    both_hold (entry_passes (is_name z) (is_attr z) x) (list_all (entry_passes (is_name z) (is_attr z)) xs) (both_hold (is_name z x.0) (is_attr z x.1) (lt-ltb x.0 (length z.names) h.0.0.0) (lt-ltb x.1 (length z.attrs) h.0.1.0)) (entries_known z xs ys h.1)
+
+entries_are : (z : Things) (es : Entries) (fs : List EntryTerm) → Each EntryStands z es fs → map (map_entry (name_term z) (attr_term z)) es ≡ fs
+entries_are z [] [] h = refl
+entries_are z [] (y ∷ ys) h = absurd h
+entries_are z (x ∷ xs) [] h = absurd h
+entries_are z (x ∷ xs) (y ∷ ys) h = λ i. (h.0.0.1 i, h.0.1.1 i) ∷ entries_are z xs ys h.1 i
+
+values_are : (z : Things) (os : List Bound) (us : List BoundTerm) → Each BoundStands z os us → values_of os ≡ map (λ b. b.value) us
+values_are z [] [] h = refl
+values_are z [] (y ∷ ys) h = absurd h
+values_are z (x ∷ xs) [] h = absurd h
+values_are z (x ∷ xs) (y ∷ ys) h = λ i. h.0.0 i ∷ values_are z xs ys h.1 i
+
+module _ (z : Things) where
+  arguments_known : (gs : List Region) (ys : List RegionTerm) → Each RegionStands z gs ys → all_arguments_pass (list_all (is_type z)) (regions_of gs) ≡ true
+  arguments_known [] [] h = refl
+  arguments_known [] (y ∷ ys) h = absurd h
+  arguments_known (x ∷ xs) [] h = absurd h
+  arguments_known (x ∷ xs) (y ∷ ys) h = both_hold (arguments_pass (list_all (is_type z)) x) (all_arguments_pass (list_all (is_type z)) (regions_of xs)) h.0.0 (arguments_known xs ys h.1)
+
+  regions_known : (gs : List Region) (ys : List RegionTerm) → Each RegionStands z gs ys → regions_every (op_passes (is_name z) (is_type z) (is_attr z)) (regions_of gs) ≡ true
+  regions_known [] [] h = refl
+  regions_known [] (y ∷ ys) h = absurd h
+  regions_known (x ∷ xs) [] h = absurd h
+  regions_known (x ∷ xs) (y ∷ ys) h =
+      both_hold (region_every (op_passes (is_name z) (is_type z) (is_attr z)) x) (regions_every (op_passes (is_name z) (is_type z) (is_attr z)) (regions_of xs)) h.0.1 (regions_known xs ys h.1)
+
+  regions_are : (gs : List Region) (ys : List RegionTerm) → Each RegionStands z gs ys → map_regions (name_term z) (type_term z) (attr_term z) (regions_of gs) ≡ regions_of ys
+  regions_are [] [] h = refl
+  regions_are [] (y ∷ ys) h = absurd h
+  regions_are (x ∷ xs) [] h = absurd h
+  regions_are (x ∷ xs) (y ∷ ys) h = λ i. tree.region (h.0.2 i) (regions_are xs ys h.1 i)
+
+-- ---- the operation
+
+module _ (c z : Things) (id name : ℕ) (word : List ℕ) (operands : List Bound) (uses : List BoundTerm) (ps : Entries) (qs : List EntryTerm) (es : Entries) (fs : List EntryTerm)
+    (outputs : List ℕ) (types : List TypeTerm) (gs : List Region) (ys : List RegionTerm)
+    (first : NameStands c name word) (now : NameStands z name word) (used : Each BoundStands z operands uses) (ps_first : Each EntryStands c ps qs) (ps_now : Each EntryStands z ps qs) (es_first : Each EntryStands c es fs) (es_now : Each EntryStands z es fs)
+    (typed : Each TypeStands z outputs types) (regions : Each RegionStands z gs ys) where
+  abbrev Entry : Things → ℕ × ℕ → EntryTerm → Type 0
+  Entry = Twice EntryStands c
+
+  order_agrees : (x u : ℕ × ℕ) (y v : EntryTerm) → Entry z x y → Entry z u v → key_before_in c x.0 u.0 ≡ key_before y.0 v.0
+  order_agrees x u y v h k = λ i. key_before (h.0.0.1 i) (k.0.0.1 i)
+
+  tests_agree : (x : ℕ × ℕ) (y : EntryTerm) → Entry z x y → is_property_in c (Some name) x.0 ≡ is_property (Some word) y.0
+  tests_agree x y h = property_agrees c (Some name) (Some word) x.0 y.0 first h.0.0.1
+
+  abbrev kept : Entries
+  kept = properties_of (is_property_in c (Some name)) (key_before_in c) ps es
+
+  abbrev kept_terms : List EntryTerm
+  kept_terms = properties_of (is_property (Some word)) key_before qs fs
+
+  abbrev others : Entries
+  others = attributes_of (is_property_in c (Some name)) (key_before_in c) es
+
+  abbrev other_terms : List EntryTerm
+  other_terms = attributes_of (is_property (Some word)) key_before fs
+
+  kept_stand : Each EntryStands z kept kept_terms
+  kept_stand =
+      each_once EntryStands c z kept kept_terms (each_properties Entry z (key_before_in c) key_before order_agrees (is_property_in c (Some name)) (is_property (Some word)) tests_agree ps qs es fs (each_twice EntryStands c z ps qs ps_first ps_now) (each_twice EntryStands c z es fs es_first es_now))
+
+  others_stand : Each EntryStands z others other_terms
+  others_stand =
+      each_once EntryStands c z others other_terms (each_attributes Entry z (key_before_in c) key_before order_agrees (is_property_in c (Some name)) (is_property (Some word)) tests_agree es fs (each_twice EntryStands c z es fs es_first es_now))
+
+  abbrev head_of : {N T A : Type 0} → N → List Value → List T → List (N × A) → List (N × A) → tree.HeadOf N T A
+  head_of n vs ts props attrs = record { id = id; name = n; operands = vs; results = ts; properties = props; attributes = attrs }
+
+  pub op_stands : OpStands z (op_of c id name operands ps es outputs gs) (made (is_property (Some word)) key_before id word (map (λ b. b.value) uses) qs fs types ys)
+  op_stands = (
+    both_hold _ _
+        (both_hold _ _
+        (both_hold (is_name z name) _ (lt-ltb name (length z.names) now.0)
+        (both_hold (list_all (is_type z) outputs) _ (types_known z outputs types typed)
+        (both_hold (list_all (entry_passes (is_name z) (is_attr z)) kept) _ (entries_known z kept kept_terms kept_stand) (entries_known z others other_terms others_stand))))
+        (arguments_known z gs ys regions))
+        (regions_known z gs ys regions),
+    λ i. tree.op (head_of (now.1 i) (values_are z operands uses used i) (types_are z outputs types typed i) (entries_are z kept kept_terms kept_stand i) (entries_are z others other_terms others_stand i)) (regions_are z gs ys regions i),
+  )

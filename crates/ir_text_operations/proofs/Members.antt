@@ -1,0 +1,62 @@
+-- Numbers of values in a pack.
+use Rattle.std.specs.Prelude.{◌&&◌, ◌==◌, slice_get}
+use Rattle.std.specs.List.{list_all}
+use Rattle.std.specs.Char.{is_ascii_digit}
+use Rattle.std.proofs.Common.{◌≡◌, ◌^◌, ◌<◌, ◌≤◌, ℕ, Bool, true, false, true≢false, List, [], ◌∷◌, length, Some, None, refl, sym, ap, subst, ◌∙◌, arith}
+use Rattle.std.proofs.lemmas.Bool.{eqb-true}
+use Rattle.std.proofs.lemmas.Bool.Decides.{nat_tests}
+use Rattle.std.proofs.lemmas.Option.{slice_get_past}
+use Rattle.ir_text_tokens.specs.Numbers.{place_value, begins_hex, integer_of, below_limit}
+use Rattle.ir_text_operations.specs.Free.{small}
+
+both_are : (x y : Bool) → (x && y) ≡ true → (x ≡ true) × (y ≡ true)
+both_are true true e = (refl, refl)
+both_are true false e = absurd (true≢false (sym e))
+both_are false y e = absurd (true≢false (sym e))
+
+second_is : (x y : Bool) → (y ≡ true → ⊥) → (x && y) ≡ false
+second_is false y h = refl
+second_is true false h = refl
+second_is true true h = absurd (h refl)
+
+no_digit : (b : ℕ) → is_ascii_digit b ≡ true → (b == 120) ≡ true → ⊥
+no_digit b h e =
+    let same = eqb-true b 120 e in
+    true≢false (sym h ∙ ap is_ascii_digit same)
+
+-- digits don't begin as a hexadecimal number does
+no_hex : (ds : List ℕ) → list_all is_ascii_digit ds ≡ true → begins_hex ds ≡ false
+no_hex [] h = refl
+no_hex (a ∷ []) h = refl
+no_hex (a ∷ b ∷ ds) h =
+    let rest = (both_are (is_ascii_digit a) (list_all is_ascii_digit (b ∷ ds)) h).1 in
+    second_is (a == 48) (b == 120) (no_digit b (both_are (is_ascii_digit b) (list_all is_ascii_digit ds) rest).0)
+
+-- digits write their number in decimal
+pub decimal : (ds : List ℕ) → list_all is_ascii_digit ds ≡ true → integer_of ds ≡ place_value 10 ds
+decimal ds h = rw (no_hex ds h) refl
+
+limit_passed : (n : ℕ) → below_limit n ≡ None → 2 ^ 128 ≤ n
+limit_passed n e = grind (arith, nat_tests)
+
+limit_is : (n w : ℕ) → below_limit n ≡ Some w → n ≡ w
+limit_is n w e = grind (arith, nat_tests)
+
+-- no pack has as many values as pass the limit of numbers
+pub past_limit : {A : Type 0} (xs : List A) (ds : List ℕ) → list_all is_ascii_digit ds ≡ true → length xs < 2 ^ 128 → below_limit (integer_of ds) ≡ None → slice_get xs (place_value 10 ds) ≡ None
+past_limit xs ds h few e = slice_get_past xs (place_value 10 ds) (omega (arith, few, limit_passed (integer_of ds) e, decimal ds h))
+
+pub past_all : {A : Type 0} (xs : List A) (ds : List ℕ) (k : ℕ) → list_all is_ascii_digit ds ≡ true → below_limit (integer_of ds) ≡ Some k → length xs ≤ k → slice_get xs (place_value 10 ds) ≡ None
+past_all xs ds k h e le = slice_get_past xs (place_value 10 ds) (omega (arith, le, limit_is (integer_of ds) k e, decimal ds h))
+
+pub place_is : (ds : List ℕ) (k : ℕ) → list_all is_ascii_digit ds ≡ true → below_limit (integer_of ds) ≡ Some k → k ≡ place_value 10 ds
+place_is ds k h e = sym (limit_is (integer_of ds) k e) ∙ decimal ds h
+
+-- a number within an id's limit, read or written
+pub small_is : (ds : List ℕ) (k : ℕ) → list_all is_ascii_digit ds ≡ true → below_limit (integer_of ds) ≡ Some k → small k ≡ small (place_value 10 ds)
+small_is ds k h e = ap small (place_is ds k h e)
+
+pub small_passed : (ds : List ℕ) → list_all is_ascii_digit ds ≡ true → below_limit (integer_of ds) ≡ None → small (place_value 10 ds) ≡ None
+small_passed ds h e =
+    let big : 2 ^ 128 ≤ place_value 10 ds = subst (λ n. 2 ^ 128 ≤ n) (decimal ds h) (limit_passed (integer_of ds) e) in
+    grind (arith, nat_tests)

@@ -1,0 +1,298 @@
+-- The tree of a text, by the laws of operations.
+use Rattle.std.proofs.Common.{◌≡◌, ℕ, true, false, ◌&&◌, List, [], ◌∷◌, map, length, Option, Some, None, is_some, refl, sym, ap, subst, ◌∙◌, inl, inr, ⊎_elim, arith, lt-ltb}
+use Rattle.std.specs.Prelude.{IsTrue, option_map, option_and_then}
+use Rattle.ir_text_tokens.specs.declared.token.Mark.TheVariants.{End}
+use Rattle.ir_text_tokens.specs.Limits.{text_reason}
+use Rattle.ir_types.specs.Things.{Things, IsName, Grows}
+use Rattle.ir_types.specs.Sound.{IsSound}
+use Rattle.ir_types.specs.Terms.{name_term, type_term, attr_term}
+use Rattle.ir_types.specs.Words.{is_isolated}
+use Rattle.ir_types.proofs.Growth.{grows_refl, front_length}
+use Rattle.ir_types.proofs.Terms.{name_stays}
+use Rattle.std.proofs.lemmas.Option.{slice_get_within}
+use Rattle.ir_types.proofs.CallNumbers.{name_stands, new_name}
+use Rattle.ir_types.specs.Interning.{with_name}
+use Rattle.ir_text_tokens.specs.declared.fault.Fault.{Fault}
+use Rattle.ir_text_reading.specs.declared.error.ReadError.{ReadError}
+use Rattle.ir_text_reading.specs.declared.error.ReadError.TheVariants as errors
+use Rattle.std.specs.Prelude.{Result, Err}
+use Rattle.ir_tree.specs.Tree.{op, Op, region, block, no_regions, ops_of, next}
+use Rattle.std.specs.List.{range_with_len}
+use Rattle.ir_types.specs.declared.refusal.Refusal.{Refusal}
+use Rattle.ir_types.specs.declared.refusal.Refusal.TheVariants.{TooMany}
+use Rattle.ir_types.specs.Reasons.{name_reason}
+use Rattle.ir_text_reading.specs.Typed.{name_step}
+use Rattle.ir_tree.specs.Ids.{IsNumberedFrom, ids}
+use Rattle.ir_tree.specs.Limits.{every, ops_every}
+use Rattle.ir_tree.specs.Maps.{map_entry, map_ops}
+use Rattle.ir_tree.specs.Passing.{op_passes}
+use Rattle.ir_tree.specs.Meaning.{Operation, meaning, is_known, is_name, is_type, is_attr, key_before, key_before_in, rises, rises_after, dictionaries_rise}
+use Rattle.ir_tree.proofs.Mapped.{map_ids, map_operands_visible, map_depth, map_counts, map_every}
+use Rattle.ir_tree.specs.WellFormed.{IsFormed}
+use Rattle.ir_text_reading.specs.Grammars.{Grammar, IsMark}
+use Rattle.ir_text_reading.specs.Worlds.{From}
+use Rattle.ir_text_reading.specs.Laws.{Each}
+use Rattle.ir_text_reading.specs.Marks.{after}
+use Rattle.ir_text_reading.specs.Outcomes.{Outcome, Read, Wrong, Full, Parse, Fails}
+use Rattle.ir_text_reading.proofs.TextLaws.{after_found, after_only}
+use Rattle.ir_text_reading.proofs.Worlds.{Step, Agree}
+use Rattle.ir_text_names.specs.States.{State, fresh}
+use Rattle.ir_text_operations.specs.Seen.{Seen, seen_fresh}
+use Rattle.ir_tree.specs.declared.value.Value.{Value}
+use Rattle.ir_text_operations.specs.Free.{value_named, free_bound, no_types, no_names}
+use Rattle.ir_text_operations.specs.FrontReading.{Frees}
+use Rattle.ir_text_operations.specs.OpReading.{op_at, ops_at}
+use Rattle.ir_text_operations.specs.OpGrammar.{IsOp}
+use Rattle.ir_text_operations.specs.Standing.{Both, BoundStands, FreeStands, StateStands, OpStands}
+use Rattle.ir_text_operations.specs.Spelling.{begins_module, is_root, module_word, module_of, IsExplicit, IsImplicit, Spells}
+use Rattle.ir_text_operations.specs.Claims.{IsOnly, IsNone, IsBody, IsSource, IsWhole, module_with}
+use Rattle.ir_text_operations.proofs.NameLaws.{held, bytes_now}
+use Rattle.ir_text_operations.proofs.OpLaws.{op_exact, source_exact}
+
+-- no module is around, and so no name is free
+abbrev pub no_free : Frees
+no_free = free_bound no_types
+
+nothing_free : (z : Things) (v : Option Value) → Both BoundStands z (option_and_then (λ x. option_map (λ ty. record { value = x; ty = ty }) (no_types x)) v) None
+nothing_free z None = tt
+nothing_free z (Some x) = tt
+
+no_frees : (c : Things) → From (λ z. FreeStands z no_free no_names) c
+unfolding free_bound
+no_frees c = λ z g w name. nothing_free z (value_named name)
+
+abbrev pub reading : ℕ → Parse State Op
+reading depth = op_at no_free 1048576 depth
+
+abbrev pub spelling : ℕ → Grammar Seen Operation
+spelling depth = IsOp no_names 1048576 depth
+
+pub fresh_agrees : (first : ℕ) (bytes : List ℕ) (c : Things) → Agree held StateStands (fresh first bytes c) (seen_fresh first bytes)
+fresh_agrees first bytes c z g w = (refl, (tt, tt), refl)
+
+-- what was read
+abbrev pair : {A S : Type 0} → A → S → Outcome (A × S)
+pair x s = Read (x, s)
+
+pub read_parts : {A S : Type 0} (x y : A) (s t : S) → pair x s ≡ pair y t → (x ≡ y) × (s ≡ t)
+read_parts {A} {S} x y s t e =
+    let p : (x, s) ≡ (y, t) = cc in
+    (ap (λ (q : A × S). q.0) p, ap (λ (q : A × S). q.1) p)
+
+-- ---- an explicit root
+
+pub not_begun : (bytes : List ℕ) → begins_module bytes ≡ false → IsNone (IsExplicit bytes)
+unfolding IsExplicit
+not_begun bytes e y h = let g = h.0 in absurd cc
+
+-- what is spelled was read
+explicit_is : (bytes : List ℕ) (c : Things) (x : Op) (s : State) → IsSound c → reading 129 (fresh 0 bytes c) ≡ Read (x, s) → (y : Operation) → IsExplicit bytes y
+    → (y ≡ meaning s.things x) × ((rest : List ℕ) × IsMark End s.bytes rest) × (is_root y ≡ true)
+unfolding IsExplicit
+explicit_is bytes c x s sound e y h = ⊎_elim
+    (λ (f : reading 129 (fresh 0 bytes c) ≡ Full). absurd cc)
+    (λ (f : (x' : Op) × (s' : State) × (reading 129 (fresh 0 bytes c) ≡ Read (x', s')) × Step held StateStands OpStands (fresh 0 bytes c) x' y s' h.1.0).
+    let q = read_parts f.0 x f.1 s (sym f.2 ∙ e) in
+    let r = f.3.stands f.1.things (grows_refl f.1.things) f.3.sound in (
+      sym r.1 ∙ ap (λ (u : Op × State). meaning u.1.things u.0) (λ i. (q.0 i, q.1 i)),
+      (h.1.1, subst (λ b. IsMark End b h.1.1) (sym (bytes_now f.1 h.1.0 f.3.sound f.3.agree) ∙ ap (λ (u : State). u.bytes) q.1) h.1.3),
+      h.2,
+    ))
+    ((op_exact no_free no_names 1048576 c (no_frees c) 129 c (grows_refl c)).only (fresh 0 bytes c) (seen_fresh 0 bytes) y h.1.0 (grows_refl c) sound (fresh_agrees 0 bytes c) h.1.2)
+
+pub explicit_read : (bytes : List ℕ) (c : Things) (x : Op) (s : State) (rest : List ℕ) → IsSound c → begins_module bytes ≡ true → reading 129 (fresh 0 bytes c) ≡ Read (x, s)
+    → after End s.bytes ≡ Some rest → is_root (meaning s.things x) ≡ true → IsOnly (IsExplicit bytes) s.things x
+unfolding IsExplicit
+explicit_read bytes c x s rest sound begins e ends root =
+    let f = (op_exact no_free no_names 1048576 c (no_frees c) 129 c (grows_refl c)).found (fresh 0 bytes c) (seen_fresh 0 bytes) x s (grows_refl c) sound (fresh_agrees 0 bytes c) e in
+    let r = f.3.stands s.things (grows_refl s.things) f.3.sound in
+    let mark : IsMark End f.1.bytes rest = subst (λ b. IsMark End b rest) (bytes_now s f.1 f.3.sound f.3.agree) (after_found End s.bytes rest ends) in
+    record {
+      known = r.0;
+      holds = (begins, (f.1, rest, subst (λ y. spelling 129 y (seen_fresh 0 bytes) f.1) (sym r.1) f.2, mark), root);
+      only = λ y h. (explicit_is bytes c x s sound e y h).0;
+    }
+
+pub explicit_whole : (bytes : List ℕ) (c : Things) (x : Op) (s : State) → IsSound c → begins_module bytes ≡ true → reading 129 (fresh 0 bytes c) ≡ Read (x, s)
+    → (is_some (after End s.bytes) && is_root (meaning s.things x)) ≡ true → IsOnly (IsExplicit bytes) s.things x
+explicit_whole bytes c x s sound begins e whole = by (after End s.bytes) refl whole
+  where
+    by : (o : Option (List ℕ)) → after End s.bytes ≡ o → (is_some o && is_root (meaning s.things x)) ≡ true → IsOnly (IsExplicit bytes) s.things x
+    by None k w = absurd cc
+    by (Some rest) k w = explicit_read bytes c x s rest sound begins e k w
+
+-- a refusal, where nothing is read
+pub fails_wrong : {X Y : Type 0} (e : ReadError) (o : Outcome Y) (f : Fault) → Fails e o → ◌≡◌ {A = Result X ReadError} (Err e) (Err (errors.Refused f)) → o ≡ Wrong
+fails_wrong errors.Memory o f h k = absurd cc
+fails_wrong (errors.Full left) o f h k = absurd cc
+fails_wrong (errors.Refused g) o f h k = h
+
+-- the context is full, where reading says so
+pub fails_full : {X Y : Type 0} (e : ReadError) (o : Outcome Y) (left : ℕ) → Fails e o → ◌≡◌ {A = Result X ReadError} (Err e) (Err (errors.Full left)) → o ≡ Full
+fails_full errors.Memory o left h k = absurd cc
+fails_full (errors.Full other) o left h k = h
+fails_full (errors.Refused g) o left h k = absurd cc
+
+-- and where there is no room for the name of a module
+pub name_fills : (c : Things) → name_reason module_word c ≡ Some TooMany → name_step module_word c ≡ Full
+unfolding name_step
+name_fills c e = rw e refl
+
+-- the same error of another function
+pub error_is : {X Y : Type 0} (e g : ReadError) → ◌≡◌ {A = Result X ReadError} (Err e) (Err g) → ◌≡◌ {A = Result Y ReadError} (Err e) (Err g)
+error_is {X} {Y} e g k = let same : e ≡ g = cc in λ i. Err (same i)
+
+-- the name of a module is there
+pub named_module : (c d : Things) (n : ℕ) → (n, d) ≡ with_name module_word c → IsName d n × (name_term d n ≡ module_word)
+named_module c d n e = subst (λ (p : ℕ × Things). IsName p.1 p.0 × (name_term p.1 p.0 ≡ module_word)) (sym e)
+    (slice_get_within _ _ _ (name_stands module_word c), new_name module_word c)
+
+pub explicit_other : (bytes : List ℕ) (c : Things) (x : Op) (s : State) → IsSound c → reading 129 (fresh 0 bytes c) ≡ Read (x, s)
+    → (is_some (after End s.bytes) && is_root (meaning s.things x)) ≡ false → IsNone (IsExplicit bytes)
+explicit_other bytes c x s sound e not_whole y h =
+    let k = explicit_is bytes c x s sound e y h in
+    let ends : after End s.bytes ≡ Some k.1.0 = after_only End s.bytes k.1.0 k.1.1 in
+    let root : is_root (meaning s.things x) ≡ true = ap is_root (sym k.0) ∙ k.2 in
+    let g = sym not_whole ∙ (λ i. is_some (ends i) && root i) in absurd cc
+
+pub explicit_wrong : (bytes : List ℕ) (c : Things) → IsSound c → reading 129 (fresh 0 bytes c) ≡ Wrong → IsNone (IsExplicit bytes)
+unfolding IsExplicit
+explicit_wrong bytes c sound e y h = ⊎_elim
+    (λ (f : reading 129 (fresh 0 bytes c) ≡ Full). absurd cc)
+    (λ (f : (x' : Op) × (s' : State) × (reading 129 (fresh 0 bytes c) ≡ Read (x', s')) × Step held StateStands OpStands (fresh 0 bytes c) x' y s' h.1.0). let g = f.2 in absurd cc)
+    ((op_exact no_free no_names 1048576 c (no_frees c) 129 c (grows_refl c)).only (fresh 0 bytes c) (seen_fresh 0 bytes) y h.1.0 (grows_refl c) sound (fresh_agrees 0 bytes c) h.1.2)
+
+-- ---- an implicit one
+
+ops_are : (z : Things) (xs : List Op) (ys : List Operation) → Each OpStands z xs ys → map_ops (name_term z) (type_term z) (attr_term z) (ops_of xs) ≡ ops_of ys
+ops_are z [] [] h = refl
+ops_are z [] (y ∷ ys) h = absurd h
+ops_are z (x ∷ xs) [] h = absurd h
+ops_are z (x ∷ xs) (y ∷ ys) h = λ i. next (h.0.1 i) (ops_are z xs ys h.1 i)
+
+ops_known : (z : Things) (xs : List Op) (ys : List Operation) → Each OpStands z xs ys → ops_every (op_passes (is_name z) (is_type z) (is_attr z)) (ops_of xs) ≡ true
+ops_known z [] [] h = refl
+ops_known z [] (y ∷ ys) h = absurd h
+ops_known z (x ∷ xs) [] h = absurd h
+ops_known z (x ∷ xs) (y ∷ ys) h = λ i. h.0.0 i && ops_known z xs ys h.1 i
+
+name_is_there : (c d : Things) (n : ℕ) → Grows c d → IsName c n → is_name d n ≡ true
+name_is_there c d n g h = lt-ltb n (length d.names) (omega (arith, h, front_length c.names d.names g.names))
+
+with_parts : (z : Things) (n : ℕ) (xs : List Op) (ys : List Operation) → name_term z n ≡ module_word → Each OpStands z xs ys → meaning z (module_with n xs) ≡ module_of ys
+with_parts z n xs ys name h = λ i. op (record { id = 0; name = name i; operands = []; results = []; properties = []; attributes = [] }) (region (block [] (ops_are z xs ys h i)) no_regions)
+
+known_parts : (z : Things) (n : ℕ) (xs : List Op) (ys : List Operation) → is_name z n ≡ true → Each OpStands z xs ys → is_known z (module_with n xs) ≡ true
+known_parts z n xs ys name h = rw (name, ops_known z xs ys h) refl
+
+-- the operations that are spelled were read
+body_is : (bytes : List ℕ) (c : Things) (xs : List Op) (s : State) → IsSound c → ops_at End (reading 128) 1048576 [] (fresh 1 bytes c) ≡ Read (xs, s) → (y : Operation) → IsBody bytes y
+    → (os : List Operation) × Each OpStands s.things xs os × (y ≡ module_of os)
+unfolding IsBody
+body_is bytes c xs s sound e y h = ⊎_elim
+    (λ (f : ops_at End (reading 128) 1048576 [] (fresh 1 bytes c) ≡ Full). absurd cc)
+    (λ (f : (xs' : List Op) × (s' : State) × (ops_at End (reading 128) 1048576 [] (fresh 1 bytes c) ≡ Read (xs', s')) × Step held StateStands (Each OpStands) (fresh 1 bytes c) xs' h.0 s' h.1).
+    let q = read_parts f.0 xs f.1 s (sym f.2 ∙ e) in
+    (h.0, subst (λ (u : List Op × State). Each OpStands u.1.things u.0 h.0) (λ i. (q.0 i, q.1 i)) (f.3.stands f.1.things (grows_refl f.1.things) f.3.sound), h.3))
+    ((source_exact no_free no_names 1048576 c (no_frees c) 128 c (grows_refl c)).only (fresh 1 bytes c) (seen_fresh 1 bytes) h.0 h.1 (grows_refl c) sound (fresh_agrees 1 bytes c) h.2)
+
+pub body_read : (bytes : List ℕ) (c : Things) (n : ℕ) (xs : List Op) (s : State) → IsSound c → IsName c n → name_term c n ≡ module_word → ops_at End (reading 128) 1048576 [] (fresh 1 bytes c) ≡ Read (xs, s)
+    → IsOnly (IsBody bytes) s.things (module_with n xs)
+unfolding IsBody
+body_read bytes c n xs s sound of_c name e =
+    let f = (source_exact no_free no_names 1048576 c (no_frees c) 128 c (grows_refl c)).found (fresh 1 bytes c) (seen_fresh 1 bytes) xs s (grows_refl c) sound (fresh_agrees 1 bytes c) e in
+    let r = f.3.stands s.things (grows_refl s.things) f.3.sound in
+    let named : name_term s.things n ≡ module_word = name_stays c s.things n f.3.grows of_c ∙ name in
+    record {
+      known = known_parts s.things n xs f.0 (name_is_there c s.things n f.3.grows of_c) r;
+      holds = (f.0, f.1, f.2, with_parts s.things n xs f.0 named r);
+      only = λ y h. let k = body_is bytes c xs s sound e y h in k.2 ∙ sym (with_parts s.things n xs k.0 named k.1);
+    }
+
+pub body_wrong : (bytes : List ℕ) (c : Things) → IsSound c → ops_at End (reading 128) 1048576 [] (fresh 1 bytes c) ≡ Wrong → IsNone (IsBody bytes)
+unfolding IsBody
+body_wrong bytes c sound e y h = ⊎_elim
+    (λ (f : ops_at End (reading 128) 1048576 [] (fresh 1 bytes c) ≡ Full). absurd cc)
+    (λ (f : (xs' : List Op) × (s' : State) × (ops_at End (reading 128) 1048576 [] (fresh 1 bytes c) ≡ Read (xs', s')) × Step held StateStands (Each OpStands) (fresh 1 bytes c) xs' h.0 s' h.1). let g = f.2 in absurd cc)
+    ((source_exact no_free no_names 1048576 c (no_frees c) 128 c (grows_refl c)).only (fresh 1 bytes c) (seen_fresh 1 bytes) h.0 h.1 (grows_refl c) sound (fresh_agrees 1 bytes c) h.2)
+
+-- ---- the one or the other
+
+pub root_is_source : (bytes : List ℕ) (c : Things) (t : Op) → IsOnly (IsExplicit bytes) c t → IsOnly (IsSource bytes) c t
+unfolding IsImplicit
+root_is_source bytes c t h = record {
+  known = h.known;
+  holds = inl h.holds;
+  only = λ y k. ⊎_elim (λ (e : IsExplicit bytes y). h.only y e) (λ (i : IsImplicit bytes y). absurd (i.0 (meaning c t) h.holds)) k;
+}
+
+pub body_is_source : (bytes : List ℕ) (c : Things) (t : Op) → IsNone (IsExplicit bytes) → IsOnly (IsBody bytes) c t → IsOnly (IsSource bytes) c t
+unfolding IsImplicit IsBody
+body_is_source bytes c t none h = record {
+  known = h.known;
+  holds = inr (none, h.holds);
+  only = λ y k. ⊎_elim (λ (e : IsExplicit bytes y). absurd (none y e)) (λ (i : IsImplicit bytes y). h.only y i.1) k;
+}
+
+pub no_source : (bytes : List ℕ) → IsNone (IsExplicit bytes) → IsNone (IsBody bytes) → IsNone (IsSource bytes)
+unfolding IsImplicit IsBody
+no_source bytes none other y k = ⊎_elim (λ (e : IsExplicit bytes y). none y e) (λ (i : IsImplicit bytes y). other y i.1) k
+
+-- ---- what is looked at afterwards
+
+module _ (c : Things) where
+  entries_rise_after : (k : ℕ) (es : List (ℕ × ℕ)) → rises_after key_before (name_term c k) (map (map_entry (name_term c) (attr_term c)) es) ≡ rises_after (key_before_in c) k es
+  entries_rise_after k [] = refl
+  entries_rise_after k (e ∷ es) = λ i. key_before_in c k e.0 && entries_rise_after e.0 es i
+
+  entries_rise : (es : List (ℕ × ℕ)) → rises key_before (map (map_entry (name_term c) (attr_term c)) es) ≡ rises (key_before_in c) es
+  entries_rise [] = refl
+  entries_rise (e ∷ es) = entries_rise_after e.0 es
+
+  op_rises : (t : Op) → dictionaries_rise key_before (meaning c t) ≡ dictionaries_rise (key_before_in c) t
+  op_rises (op h rs) = λ i. entries_rise h.properties i && entries_rise h.attributes i
+
+  pub all_rise : (t : Op) → every (dictionaries_rise key_before) (meaning c t) ≡ every (dictionaries_rise (key_before_in c)) t
+  all_rise t = map_every (name_term c) (type_term c) (attr_term c) (dictionaries_rise (key_before_in c)) (dictionaries_rise key_before) op_rises t
+
+  pub numbers_are : (t : Op) → ids (meaning c t) ≡ ids t
+  numbers_are t = map_ids (name_term c) (type_term c) (attr_term c) t
+
+  pub spelled_of : (bytes : List ℕ) (t : Op) → IsOnly (IsSource bytes) c t → text_reason bytes ≡ None → IsWhole c t → IsOnly (Spells bytes) c t
+  spelled_of bytes t h text w = record {
+    known = h.known;
+    holds = record {
+      text = text;
+      spelled = h.holds;
+      formed = record {
+        visible = subst IsTrue (sym (map_operands_visible (name_term c) (type_term c) (attr_term c) is_isolated t)) w.0.visible;
+        shallow = rw (map_depth (name_term c) (type_term c) (attr_term c) t) w.0.shallow;
+        counts = subst IsTrue (sym (map_counts (name_term c) (type_term c) (attr_term c) t)) w.0.counts;
+      };
+      numbered = subst (λ xs. xs ≡ range_with_len 0 (length xs)) (sym (numbers_are t)) w.1;
+      sorted = subst IsTrue (sym (all_rise t)) w.2.sorted;
+    };
+    only = λ y s. h.only y s.spelled;
+  }
+
+  pub none_of : (bytes : List ℕ) (t : Op) → IsOnly (IsSource bytes) c t → (IsWhole c t → ⊥) → IsNone (Spells bytes)
+  none_of bytes t h not_whole y s =
+      let same : y ≡ meaning c t = h.only y s.spelled in
+      let formed : IsFormed is_isolated (meaning c t) = subst (IsFormed is_isolated) same s.formed in
+      let numbered : IsNumberedFrom 0 (meaning c t) = subst (λ (u : Operation). ids u ≡ range_with_len 0 (length (ids u))) same s.numbered in
+      let sorted : IsTrue (every (dictionaries_rise key_before) (meaning c t)) = subst (λ (u : Operation). IsTrue (every (dictionaries_rise key_before) u)) same s.sorted in
+      not_whole (
+        record {
+          visible = subst IsTrue (map_operands_visible (name_term c) (type_term c) (attr_term c) is_isolated t) formed.visible;
+          shallow = rw (← map_depth (name_term c) (type_term c) (attr_term c) t) formed.shallow;
+          counts = subst IsTrue (map_counts (name_term c) (type_term c) (attr_term c) t) formed.counts;
+        },
+        subst (λ xs. xs ≡ range_with_len 0 (length xs)) (numbers_are t) numbered,
+        record { known = h.known; sorted = subst IsTrue (all_rise t) sorted },
+      )
+
+pub source_none : (bytes : List ℕ) → IsNone (IsSource bytes) → IsNone (Spells bytes)
+source_none bytes none y s = none y s.spelled
+
+pub text_none : (bytes : List ℕ) (r : Refusal × ℕ) → text_reason bytes ≡ Some r → IsNone (Spells bytes)
+text_none bytes r e y s = let t = s.text in absurd cc

@@ -1,0 +1,75 @@
+-- Reading what stands before an operation's dictionaries.
+use Rattle.std.specs.Prelude.{ℕ, ◌==◌, if◌then◌else◌, List, length, map, slice_get, Option, Some, None, option_map}
+use Rattle.std.specs.List.{list_all}
+use Rattle.std.specs.Char.{is_ascii_digit}
+use Rattle.ir_text_tokens.specs.declared.token.Mark.TheVariants.{OpenRound, CloseRound}
+use Rattle.ir_text_tokens.specs.Tokens.{Lexeme, value, string, hash, next}
+use Rattle.ir_text_tokens.specs.Strings.{string_bytes}
+use Rattle.ir_text_tokens.specs.Numbers.{place_value}
+use Rattle.ir_text_tokens.specs.Scopes.{Binding}
+use Rattle.ir_text_reading.specs.Marks.{after}
+use Rattle.ir_text_reading.specs.Outcomes.{Outcome, Read, Wrong, ◌>>=◌, of_option, Parse}
+use Rattle.ir_text_reading.specs.Lists.{list_at}
+use Rattle.ir_text_names.specs.declared.bound.Bound.{Bound}
+use Rattle.ir_text_names.specs.Packs.{Counted, named_view}
+use Rattle.ir_text_names.specs.NameReading.{Text, results_at}
+use Rattle.ir_text_operations.specs.declared.front.Front.{Front}
+use Rattle.ir_text_operations.specs.Free.{seen_as}
+
+abbrev pub op_name_from : Lexeme → List ℕ → Outcome (List ℕ × Text)
+op_name_from (string raw) rest = if length (string_bytes raw) == 0 then Wrong else Read (string_bytes raw, rest)
+op_name_from _ rest = Wrong
+
+-- the name of an operation, which has one byte or more
+unfoldable pub op_name_at : Parse Text (List ℕ)
+op_name_at bytes = of_option (next bytes) >>= λ t. op_name_from t.0 t.1
+
+abbrev pub place_of : Text → Lexeme → List ℕ → Outcome (ℕ × Text)
+place_of bytes (hash digits) rest = if list_all is_ascii_digit digits then Read (place_value 10 digits, rest) else Wrong
+place_of bytes _ rest = Read (0, bytes)
+
+abbrev pub place_from : Text → Option (Lexeme × Text) → Outcome (ℕ × Text)
+place_from bytes (Some t) = place_of bytes t.0 t.1
+place_from bytes None = Read (0, bytes)
+
+-- the number behind a hash sign, or 0 where none stands
+unfoldable pub place_at : Parse Text ℕ
+place_at bytes = place_from bytes (next bytes)
+
+-- one of the values of a pack
+unfoldable pub member_at : List Bound → Parse Text Bound
+member_at pack bytes = place_at bytes >>= λ k. of_option (slice_get pack k.0) >>= λ b. Read (b, k.1)
+
+abbrev pub member_of : Option (List Bound) → Parse Text Bound
+member_of pack bytes = of_option pack >>= λ values. member_at values bytes
+
+-- what free names stand for
+abbrev pub Frees : Type 0
+Frees = List ℕ → Option Bound
+
+abbrev pub use_from : Frees → List (Binding (List Bound)) → Lexeme → List ℕ → Outcome (Bound × Text)
+use_from free here (value n) rest = member_of (seen_as free here n) rest
+use_from free here _ rest = Wrong
+
+-- a name that can be seen, or is free
+unfoldable pub use_at : Frees → List (Binding (List Bound)) → Parse Text Bound
+use_at free here bytes = of_option (next bytes) >>= λ t. use_from free here t.0 t.1
+
+unfoldable pub uses_at : Frees → List (Binding (List Bound)) → Parse Text (List Bound)
+uses_at free here = list_at after CloseRound (λ before. use_at free here) 256
+
+pub record Start : Type 0 where
+  pub results : Option (List Counted)
+  pub name : List ℕ
+  pub operands : List Bound
+
+abbrev pub start_view : Front → Start
+start_view f = record { results = option_map (λ v. map named_view v.items) f.results; name = f.name.items; operands = f.operands.items }
+
+unfoldable pub start_at : Frees → List (Binding (List Bound)) → Parse Text Start
+start_at free here bytes = do
+  results ← results_at bytes
+  name ← op_name_at results.1
+  o ← of_option (after OpenRound name.1)
+  operands ← uses_at free here o
+  Read (record { results = results.0; name = name.0; operands = operands.0 }, operands.1)

@@ -1,0 +1,195 @@
+-- The grammar of operations, in terms of what is spelled. Language Reference, "Operations", "Regions",
+-- "Blocks"; Traits, "IsolatedFromAbove".
+use Rattle.std.specs.Prelude.{◌≡◌, ◌⊎◌, ℕ, zero, suc, ◌+◌, ◌<◌, ◌≤◌, ◌==◌, Bool, true, false, List, [], ◌∷◌, ◌++◌, length, map, take, drop, slice_get, Option, Some, None}
+use Rattle.std.specs.List.{list_all}
+use Rattle.std.specs.Char.{is_ascii_digit}
+use Rattle.std.specs.Str.{bytes_eq}
+use Rattle.ir_text_tokens.specs.declared.token.Mark.{Mark}
+use Rattle.ir_text_tokens.specs.declared.token.Mark.TheVariants.{OpenRound, CloseRound, OpenCurly, CloseCurly, Less, Greater, Equal, Colon}
+use Rattle.ir_text_tokens.specs.Tokens.{Lexeme, integer, value, string, label, hash}
+use Rattle.ir_text_tokens.specs.Strings.{string_bytes}
+use Rattle.ir_text_tokens.specs.Numbers.{integer_of, place_value}
+use Rattle.ir_text_tokens.specs.Scopes.{Binding, Scopes}
+use Rattle.ir_types.specs.Terms.{TypeTerm, AttrTerm}
+use Rattle.ir_types.specs.Words.{is_isolated, is_inherent}
+use Rattle.ir_tree.specs.declared.value.Value.TheVariants as values
+use Rattle.ir_tree.specs.Tree.{RegionOf}
+use Rattle.ir_tree.specs.Meaning.{Operation, key_before}
+use Rattle.ir_text_reading.specs.Grammars.{Grammar, Then, Done, After, Not, Either, IsMore, IsList, Token, IsMark}
+use Rattle.ir_text_types.specs.TypeGrammar.{Text, IsType, IsFunctionType}
+use Rattle.ir_text_attributes.specs.AttrGrammar.{EntryTerm, IsKey, IsValue, IsAttr}
+use Rattle.ir_text_operations.specs.Entries.{is_refused}
+use Rattle.ir_text_operations.specs.Made.{region_of, made}
+use Rattle.ir_text_operations.specs.Free.{seen_as}
+use Rattle.ir_text_names.specs.Packs.{Counted, counts}
+use Rattle.ir_text_operations.specs.Seen.{BoundTerm, PackTerm, Seen, seen_rest, seen_scopes, seen_inside, seen_outside, IsMarkSeen, InText, When, IsBound}
+
+-- ---- before the dictionaries
+
+-- a name behind its sign
+abbrev pub IsName : Grammar Text (List ℕ)
+IsName n old new = Token (value n) old new
+
+-- a number, decimal or hexadecimal, that isn't 0
+abbrev pub IsNumber : Grammar Text ℕ
+IsNumber k old new = (digits : List ℕ) × Token (integer digits) old new × (k ≡ integer_of digits) × (1 ≤ k)
+
+-- how many results a name stands for, behind names of so many: 1 where no count stands; all have at most 256
+abbrev pub IsCount : ℕ → Grammar Text ℕ
+IsCount before = Then (Either IsMark Colon IsNumber (Done 1)) (λ k. When (before + k ≤ 256) (Done k))
+
+abbrev pub IsResult : ℕ → Grammar Text Counted
+IsResult before = Then IsName (λ n. Then (IsCount before) (λ k. Done (n, k)))
+
+-- names up to an equal sign
+abbrev pub IsNames : Grammar Text (List Counted)
+IsNames = IsMore IsMark Equal (λ before. IsResult (counts before)) 256 []
+
+abbrev pub IsResultsFrom : Lexeme → Grammar Text (Option (List Counted))
+IsResultsFrom (value n) y old new = (ns : List Counted) × IsNames ns old new × (y ≡ Some ns)
+IsResultsFrom _ y old new = (y ≡ None) × (new ≡ old)
+
+-- the names of the results, where a name comes first
+abbrev pub IsResults : Grammar Text (Option (List Counted))
+IsResults y old new = (t : Lexeme) × (rest : Text) × Token t old rest × IsResultsFrom t y old new
+
+-- the name of an operation, which has one byte or more
+abbrev pub IsOpName : Grammar Text (List ℕ)
+IsOpName n old new = (raw : List ℕ) × Token (string raw) old new × ((length (string_bytes raw) == 0) ≡ false) × (n ≡ string_bytes raw)
+
+-- which of a pack is meant: the one whose decimal number stands behind a hash sign, or the first where no hash sign is next
+abbrev pub IsPlace : Grammar Text ℕ
+IsPlace k old new =
+    ((digits : List ℕ) × Token (hash digits) old new × (list_all is_ascii_digit digits ≡ true) × (k ≡ place_value 10 digits))
+    ⊎ (((word rest : List ℕ) → Token (hash word) old rest → ⊥) × (k ≡ 0) × (new ≡ old))
+
+-- what free names stand for
+abbrev pub FreeTerms : Type 0
+FreeTerms = List ℕ → Option BoundTerm
+
+-- a name that can be seen, or is free, and one of the values for which it stands
+abbrev pub IsUse : FreeTerms → List (Binding PackTerm) → Grammar Text BoundTerm
+IsUse free here b old new =
+    (n : List ℕ) × (mid : Text) × (pack : PackTerm) × (k : ℕ) × Token (value n) old mid × (seen_as free here n ≡ Some pack) × IsPlace k mid new × (slice_get pack k ≡ Some b)
+
+pub record StartTerm : Type 0 where
+  pub results : Option (List Counted)
+  pub name : List ℕ
+  pub operands : List BoundTerm
+
+abbrev pub IsStart : FreeTerms → List (Binding PackTerm) → Grammar Text StartTerm
+IsStart free here =
+    Then IsResults (λ results. Then IsOpName (λ name. After IsMark OpenRound (Then (IsList IsMark CloseRound (λ before. IsUse free here) 256) (λ operands.
+    Done (record { results = results; name = name; operands = operands })))))
+
+-- ---- dictionaries
+
+-- whether a key is a property of an operation wherever it stands; no key is where no operation is given
+abbrev pub is_property : Option (List ℕ) → List ℕ → Bool
+is_property None k = false
+is_property (Some op) k = is_inherent op k
+
+-- the attribute of an entry, which may be 32 deep
+abbrev pub IsEntryValue : Grammar Text AttrTerm
+IsEntryValue = IsValue 32 (IsAttr 32)
+
+-- an entry whose key does not stand before it, nor among the properties, and for which there is room
+abbrev pub IsEntry : Option (List ℕ) → List EntryTerm → List EntryTerm → Grammar Text EntryTerm
+IsEntry op properties before =
+    Then IsKey (λ k. When (is_refused bytes_eq (is_property op) properties k before ≡ false) (Then IsEntryValue (λ a. Done (k, a))))
+
+abbrev pub IsEntries : Option (List ℕ) → List EntryTerm → Grammar Text (List EntryTerm)
+IsEntries op properties = IsList IsMark CloseCurly (IsEntry op properties) 513
+
+-- the properties, where they are written
+abbrev pub IsProperties : Grammar Text (List EntryTerm)
+IsProperties = Either IsMark Less (After IsMark OpenCurly (Then (IsEntries None []) (λ es. After IsMark Greater (Done es)))) (Done [])
+
+-- the attribute dictionary, where it is written
+abbrev pub IsAttributes : List ℕ → List EntryTerm → Grammar Text (List EntryTerm)
+IsAttributes op properties = Either IsMark OpenCurly (IsEntries (Some op) properties) (Done [])
+
+-- ---- blocks
+
+-- an argument, whose name can be seen from then on
+abbrev pub IsArg : ℕ → ℕ → List TypeTerm → Grammar Seen TypeTerm
+IsArg id r before = Then (InText IsName) (λ n. After IsMarkSeen Colon (Then (InText (IsType 32)) (λ t. binds n t)))
+  where
+    binds : List ℕ → TypeTerm → Grammar Seen TypeTerm
+    binds n t y old new = (scopes : Scopes PackTerm) × IsBound n ((record { value = values.Arg id r (length before); type = t }) ∷ []) old.scopes scopes × (y ≡ t) × (new ≡ seen_scopes old scopes)
+
+-- arguments in parentheses or none, and a colon
+abbrev pub IsLabelArgs : ℕ → ℕ → Grammar Seen (List TypeTerm)
+IsLabelArgs id r = Then (Either IsMarkSeen OpenRound (IsList IsMarkSeen CloseRound (IsArg id r) 256) (Done [])) (λ args. After IsMarkSeen Colon (Done args))
+
+abbrev pub IsHeadFrom : ℕ → ℕ → Lexeme → Text → Grammar Seen (Option (List TypeTerm))
+IsHeadFrom id r (label l) rest y old new = (args : List TypeTerm) × IsLabelArgs id r args (seen_rest old rest) new × (y ≡ Some args)
+IsHeadFrom id r _ rest y old new = (y ≡ None) × (new ≡ old)
+
+-- a label with the arguments of the block, where a label comes first
+abbrev pub IsHead : ℕ → ℕ → Grammar Seen (Option (List TypeTerm))
+IsHead id r y old new = (t : Lexeme) × (rest : Text) × Token t old.bytes rest × IsHeadFrom id r t rest y old new
+
+-- ---- operations up to a closing mark, at most so many, behind those of `front`
+
+module _ (close : Mark) (P : Grammar Seen Operation) where
+  unfoldable pub IsOps : ℕ → List Operation → Grammar Seen (List Operation)
+  IsOps zero front ys old new = ⊥
+  IsOps (suc room) front ys old new =
+      (IsMarkSeen close old new × (ys ≡ front))
+      ⊎ (Not IsMarkSeen close old × (y : Operation) × (mid : Seen) × P y old mid × IsOps room (front ++ y ∷ []) ys mid new)
+
+abbrev pub RegionTerm : Type 0
+RegionTerm = RegionOf (List ℕ) TypeTerm AttrTerm
+
+-- the names of a region are hidden again at its end; in one of an isolated operation no other names are seen
+abbrev pub IsRegion : Grammar Seen (List Operation) → ℕ → Bool → List RegionTerm → Grammar Seen RegionTerm
+IsRegion P id isolated before = After IsMarkSeen OpenCurly inner
+  where
+    leaves : RegionTerm → Grammar Seen RegionTerm
+    leaves g y old new = (y ≡ g) × (new ≡ seen_outside old)
+
+    inner : Grammar Seen RegionTerm
+    inner y old new = Then (IsHead id (length before)) (λ h. Then P (λ os. leaves (region_of h os))) y (seen_inside isolated old) new
+
+-- regions in parentheses, or none
+abbrev pub IsRegions : Grammar Seen (List Operation) → ℕ → Bool → Grammar Seen (List RegionTerm)
+IsRegions P id isolated = Either IsMarkSeen OpenRound (IsMore IsMarkSeen CloseRound (IsRegion P id isolated) 16 []) (Done [])
+
+-- ---- operations
+
+-- the results from place k on, by their types
+abbrev pub result_terms : ℕ → ℕ → List TypeTerm → PackTerm
+result_terms id k [] = []
+result_terms id k (y ∷ ys) = record { value = values.Result id k; type = y } ∷ result_terms id (k + 1) ys
+
+-- each name stands for as many of the results as it counts, from place k on
+abbrev pub IsBoundResults : ℕ → ℕ → List Counted → List TypeTerm → (old new : Scopes PackTerm) → Type 0
+IsBoundResults id k [] ys old new = new ≡ old
+IsBoundResults id k (n ∷ ns) ys old new = (mid : Scopes PackTerm) × IsBound n.0 (result_terms id k (take n.1 ys)) old mid × IsBoundResults id (k + n.1) ns (drop n.1 ys) mid new
+
+-- where names are written, their counts are as many as the results
+abbrev pub IsFinished : ℕ → Option (List Counted) → List TypeTerm → (old new : Scopes PackTerm) → Type 0
+IsFinished id None outputs old new = new ≡ old
+IsFinished id (Some names) outputs old new = (counts names ≡ length outputs) × IsBoundResults id 0 names outputs old new
+
+-- behind the regions: the attributes, and the function type, whose inputs are the types of the operands
+abbrev pub IsTail : ℕ → StartTerm → List EntryTerm → List RegionTerm → Grammar Seen Operation
+IsTail id h properties regions =
+    Then (InText (IsAttributes h.name properties)) (λ es. After IsMarkSeen Colon (Then (InText IsFunctionType) (λ t. When (map (λ b. b.type) h.operands ≡ t.0) (ends es t.1))))
+  where
+    ends : List EntryTerm → List TypeTerm → Grammar Seen Operation
+    ends es outputs y old new =
+        (scopes : Scopes PackTerm) × IsFinished id h.results outputs old.scopes scopes × (new ≡ seen_scopes old scopes)
+        × (y ≡ made (is_property (Some h.name)) key_before id h.name (map (λ b. b.value) h.operands) properties es outputs regions)
+
+abbrev pub IsOpWith : FreeTerms → Grammar Seen (List Operation) → Grammar Seen Operation
+IsOpWith free P y old new =
+    (h : StartTerm) × (mid : Text) × (properties : List EntryTerm) × (rest : Text)
+    × IsStart free old.scopes.here h old.bytes mid × IsProperties properties mid rest
+    × Then (IsRegions P old.next (is_isolated h.name)) (λ regions. IsTail old.next h properties regions) y (record { bytes = rest; scopes = old.scopes; next = old.next + 1 }) new
+
+-- an operation with at most that many levels, of which it is one; ids are given in pre-order, each below `last`
+unfoldable pub IsOp : FreeTerms → ℕ → ℕ → Grammar Seen Operation
+IsOp free last zero y old new = ⊥
+IsOp free last (suc depth) y old new = (old.next < last) × IsOpWith free (IsOps CloseCurly (IsOp free last depth) 1048576 []) y old new

@@ -1,0 +1,13 @@
+-- Reading one operation and nothing after it.
+use Rattle.std.specs.Prelude.{ℕ}
+use Rattle.ir_text_tokens.specs.declared.token.Mark.TheVariants.{End}
+use Rattle.ir_types.specs.Things.{Things}
+use Rattle.ir_tree.specs.Tree.{Op}
+use Rattle.ir_text_reading.specs.Marks.{after}
+use Rattle.ir_text_reading.specs.Outcomes.{Outcome, Read, ◌>>=◌, of_option}
+use Rattle.ir_text_names.specs.States.{State}
+use Rattle.ir_text_operations.specs.FrontReading.{Frees}
+use Rattle.ir_text_operations.specs.OpReading.{op_at}
+
+unfoldable pub single_at : Frees → ℕ → State → Outcome (Op × Things)
+single_at free last s = op_at free last 129 s >>= λ x. of_option (after End x.1.bytes) >>= λ rest. Read (x.0, x.1.things)

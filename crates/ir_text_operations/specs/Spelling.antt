@@ -1,0 +1,81 @@
+-- Which tree a text spells. Language Reference, "High-Level Structure" and "Regions"; Builtin Dialect, "builtin.module".
+use Rattle.std.specs.Prelude.{◌≡◌, ◌≤◌, ◌+◌, min, ◌⊎◌, ℕ, ◌==◌, Bool, true, false, ◌&&◌, List, [], length, codes, Option, Some, None, IsTrue}
+use Rattle.std.specs.Str.{bytes_eq}
+use Rattle.ir_text_tokens.specs.declared.token.Mark.TheVariants.{End}
+use Rattle.ir_text_tokens.specs.Tokens.{Lexeme, string, next}
+use Rattle.ir_text_tokens.specs.Strings.{string_bytes}
+use Rattle.ir_text_tokens.specs.Limits.{text_reason}
+use Rattle.ir_types.specs.Words.{is_isolated, is_table}
+use Rattle.ir_tree.specs.Tree.{op, region, no_regions, block, ops_of, head}
+use Rattle.ir_tree.specs.Limits.{every, depth, counts_fit, most_around}
+use Rattle.ir_tree.specs.Meaning.{Operation, key_before, dictionaries_rise}
+use Rattle.ir_tree.specs.Ids.{IsNumberedFrom}
+use Rattle.ir_tree.specs.WellFormed.{IsFormed}
+use Rattle.ir_text_reading.specs.Grammars.{IsMark}
+use Rattle.ir_text_operations.specs.Seen.{Seen, seen_fresh}
+use Rattle.ir_text_operations.specs.Free.{no_names}
+use Rattle.ir_text_operations.specs.OpGrammar.{FreeTerms, IsOp, IsOps}
+
+abbrev pub module_word : List ℕ
+module_word = codes "builtin.module"
+
+abbrev pub names_module : Lexeme → Bool
+names_module (string raw) = bytes_eq (string_bytes raw) module_word
+names_module _ = false
+
+abbrev pub begins_from : Option (Lexeme × List ℕ) → Bool
+begins_from None = false
+begins_from (Some t) = names_module t.0
+
+-- whether the text begins with the name of a module
+abbrev pub begins_module : List ℕ → Bool
+begins_module bytes = begins_from (next bytes)
+
+-- whether an operation is a module without operands and results
+abbrev pub is_root : Operation → Bool
+is_root t = is_table (head t).name && (length (head t).operands == 0 && length (head t).results == 0)
+
+-- the text is one operation, and that is such a module: it is the root
+unfoldable pub IsExplicit : List ℕ → Operation → Type 0
+IsExplicit bytes t =
+    (begins_module bytes ≡ true) × ((end : Seen) × (rest : List ℕ) × IsOp no_names 1048576 129 t (seen_fresh 0 bytes) end × IsMark End end.bytes rest) × (is_root t ≡ true)
+
+-- a module of these operations
+abbrev pub module_of : List Operation → Operation
+module_of os = op (record { id = 0; name = module_word; operands = []; results = []; properties = []; attributes = [] }) (region (block [] (ops_of os)) no_regions)
+
+-- the text is any other list of operations: they are those of an implicit root
+unfoldable pub IsImplicit : List ℕ → Operation → Type 0
+IsImplicit bytes t =
+    ((o : Operation) → IsExplicit bytes o → ⊥)
+    × ((os : List Operation) × (end : Seen) × IsOps End (IsOp no_names 1048576 128) 1048576 [] os (seen_fresh 1 bytes) end × (t ≡ module_of os))
+
+-- a text spells a tree whose ids are 0, 1, .. in pre-order, whose operations see their operands, which passes
+-- no limit, and whose dictionaries are sorted, each key once
+pub record Spells (bytes : List ℕ) (t : Operation) : Type 0 where
+  pub text : text_reason bytes ≡ None
+  pub spelled : IsExplicit bytes t ⊎ IsImplicit bytes t
+  pub formed : IsFormed is_isolated t
+  pub numbered : IsNumberedFrom 0 t
+  pub sorted : IsTrue (every (dictionaries_rise key_before) t)
+
+-- ---- one operation alone
+
+-- the first id that none may have, where ids begin with the next one: so many are read, and all are below the limit of ids
+abbrev pub last_from : ℕ → ℕ
+last_from next = min (next + 1048576) 4294967295
+
+-- the text is one operation and nothing after it; the names that it leaves free stand for values of the module around
+unfoldable pub IsSingle : FreeTerms → ℕ → ℕ → List ℕ → Operation → Type 0
+IsSingle free last next bytes t = (end : Seen) × (rest : List ℕ) × IsOp free last 129 t (seen_fresh next bytes) end × IsMark End end.bytes rest
+
+-- a text spells an operation whose ids are next, next + 1, .. in pre-order, each below 4,294,967,295, which
+-- passes no limit, and whose dictionaries are sorted, each key once. Its operands are seen where they stand,
+-- as the grammar has it, or free
+pub record SpellsOp (free : FreeTerms) (next : ℕ) (bytes : List ℕ) (t : Operation) : Type 0 where
+  pub text : text_reason bytes ≡ None
+  pub spelled : IsSingle free (last_from next) next bytes t
+  pub shallow : depth t ≤ most_around
+  pub counts : IsTrue (counts_fit t)
+  pub numbered : IsNumberedFrom next t
+  pub sorted : IsTrue (every (dictionaries_rise key_before) t)

@@ -1,0 +1,174 @@
+//! Entries of dictionaries by their keys. Language Reference, "Attributes" and "Properties".
+ghost use Rattle.std.specs.Prelude.{◌≡◌, ◌≤◌, OnOk, IfOk, nat_eq, length, Some};
+ghost use Rattle.std.specs.List.{prefix_len};
+ghost use Rattle.ir_tree.specs.Meaning.{key_before_in};
+ghost use Rattle.ir_text_operations.specs.Entries.{has_key, moved, staying, no_room, put_among, put_all, properties_of, attributes_of};
+ghost use Rattle.ir_text_operations.specs.EntryReading.{is_property_in, refused_in};
+
+use ir_tree::sound::comes_before;
+use ir_types::context::Context;
+use ir_types::ids::{AttrId, NameId};
+use std::alloc::{AllocError, Global};
+
+/// A key and an attribute.
+pub type Entry = (NameId, AttrId);
+
+/// The most entries of a dictionary.
+const MOST_ENTRIES: usize = 256;
+
+/// Whether a key is a property of an operation wherever it is written.
+fn is_property(ctx: &Context, op: &Option<NameId>, key: NameId) -> bool
+    ensures { result ≡ is_property_in ctx.now op.now key }
+{
+    match op {
+        Some(name) => ctx.inherent(*name, key),
+        None => false,
+    }
+}
+
+/// Whether an entry has the key.
+pub fn has_key(key: NameId, entries: &[Entry]) -> bool
+    ensures { result ≡ has_key nat_eq key entries.now }
+{
+    entries.iter().any(|entry| entry.0 == key)
+}
+
+fn moved_count(ctx: &Context, op: &Option<NameId>, entries: &[Entry]) -> usize
+    ensures { result ≡ length (moved (is_property_in ctx.now op.now) entries.now) }
+{
+    entries
+        .iter()
+        .filter(|entry| is_property(ctx, op, entry.0))
+        .count()
+}
+
+fn staying_count(ctx: &Context, op: &Option<NameId>, entries: &[Entry]) -> usize
+    ensures { result ≡ length (staying (is_property_in ctx.now op.now) entries.now) }
+{
+    entries
+        .iter()
+        .filter(|entry| !is_property(ctx, op, entry.0))
+        .count()
+}
+
+/// Whether the dictionary to which a key belongs is full.
+pub fn no_room(
+    ctx: &Context,
+    op: &Option<NameId>,
+    properties: &[Entry],
+    key: NameId,
+    entries: &[Entry],
+) -> bool
+    ensures { result ≡ no_room (is_property_in ctx.now op.now) properties.now key entries.now }
+{
+    if is_property(ctx, op, key) {
+        properties
+            .len()
+            .saturating_add(moved_count(ctx, op, entries))
+            >= MOST_ENTRIES
+    } else {
+        staying_count(ctx, op, entries) >= MOST_ENTRIES
+    }
+}
+
+/// How many of the first entries have keys that come before a key.
+fn place_of(ctx: &Context, sorted: &[Entry], key: NameId) -> usize
+    ensures place { result ≡ prefix_len (λ f. key_before_in ctx.now f.0 key) sorted.now }
+    ensures within { result ≤ length sorted.now }
+{
+    sorted
+        .iter()
+        .take_while(|other| comes_before(ctx, other.0, key))
+        .count()
+}
+
+/// Puts an entry among sorted ones.
+fn put_among(ctx: &Context, sorted: &mut Vec<Entry>, entry: Entry) -> Result<(), AllocError>
+    ensures { OnOk result (sorted.new.items ≡ put_among (key_before_in ctx.now) entry sorted.old.items) }
+{
+    let place = place_of(ctx, sorted, entry.0);
+    sorted.insert(place, entry)?;
+    Ok(())
+}
+
+/// Puts entries among sorted ones, one after the other.
+#[tactic(auto, unfolding(crate::specs::Entries::put_all))]
+fn put_all(ctx: &Context, sorted: &mut Vec<Entry>, entries: &[Entry]) -> Result<(), AllocError>
+    ensures { OnOk result (sorted.new.items ≡ put_all (key_before_in ctx.now) sorted.old.items entries.now) }
+{
+    let mut rest = entries;
+    'entries: while let [entry, tail @ ..] = rest {
+        put_among(ctx, sorted, *entry)?;
+        rest = tail;
+    }
+    Ok(())
+}
+
+/// Puts those entries among sorted ones that are properties, or those that are not.
+#[tactic(auto, unfolding(crate::specs::Entries::put_all))]
+fn put_moved(
+    ctx: &Context,
+    op: &Option<NameId>,
+    sorted: &mut Vec<Entry>,
+    entries: &[Entry],
+) -> Result<(), AllocError>
+    ensures { OnOk result (sorted.new.items ≡ put_all (key_before_in ctx.now) sorted.old.items (moved (is_property_in ctx.now op.now) entries.now)) }
+{
+    let mut rest = entries;
+    'entries: while let [entry, tail @ ..] = rest {
+        if is_property(ctx, op, entry.0) {
+            put_among(ctx, sorted, *entry)?;
+        }
+        rest = tail;
+    }
+    Ok(())
+}
+
+#[tactic(auto, unfolding(crate::specs::Entries::put_all))]
+fn put_staying(
+    ctx: &Context,
+    op: &Option<NameId>,
+    sorted: &mut Vec<Entry>,
+    entries: &[Entry],
+) -> Result<(), AllocError>
+    ensures { OnOk result (sorted.new.items ≡ put_all (key_before_in ctx.now) sorted.old.items (staying (is_property_in ctx.now op.now) entries.now)) }
+{
+    let mut rest = entries;
+    'entries: while let [entry, tail @ ..] = rest {
+        if !is_property(ctx, op, entry.0) {
+            put_among(ctx, sorted, *entry)?;
+        }
+        rest = tail;
+    }
+    Ok(())
+}
+
+/// The properties of an operation, sorted, with those that were written among its attributes.
+pub fn properties_of(
+    alloc: Global,
+    ctx: &Context,
+    op: NameId,
+    properties: &[Entry],
+    attributes: &[Entry],
+) -> Result<Vec<Entry>, AllocError>
+    ensures { IfOk result (λ v. v.items ≡ properties_of (is_property_in ctx.now (Some op)) (key_before_in ctx.now) properties.now attributes.now) }
+{
+    let mut sorted = Vec::with_capacity(alloc, properties.len())?;
+    put_all(ctx, &mut sorted, properties)?;
+    put_moved(ctx, &Some(op), &mut sorted, attributes)?;
+    Ok(sorted)
+}
+
+/// The other attributes of an operation, sorted.
+pub fn attributes_of(
+    alloc: Global,
+    ctx: &Context,
+    op: NameId,
+    attributes: &[Entry],
+) -> Result<Vec<Entry>, AllocError>
+    ensures { IfOk result (λ v. v.items ≡ attributes_of (is_property_in ctx.now (Some op)) (key_before_in ctx.now) attributes.now) }
+{
+    let mut sorted = Vec::with_capacity(alloc, attributes.len())?;
+    put_staying(ctx, &Some(op), &mut sorted, attributes)?;
+    Ok(sorted)
+}

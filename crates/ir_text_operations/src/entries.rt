@@ -1,0 +1,152 @@
+//! Dictionaries as they are written. Language Reference, "Attributes" and "Properties".
+ghost use Rattle.std.specs.Prelude.{◌≡◌, is_some};
+ghost use Rattle.ir_types.specs.Things.{Grows};
+ghost use Rattle.ir_text_reading.specs.Outcomes.{Gives};
+ghost use Rattle.ir_text_operations.specs.EntryReading.{refused_in, entry_at, entries_at, some_properties, properties_at, attributes_at};
+
+use crate::dictionaries::{Entry, has_key, no_room};
+use ir_text_attributes::dictionaries::{key, value};
+use ir_text_names::lists::{Behind, behind_item};
+use ir_text_reading::error::{ReadError, wrong};
+use ir_text_reading::steps::{after, expect};
+use ir_text_tokens::token::Mark;
+use ir_text_types::types::MOST_DEPTH;
+use ir_types::context::Context;
+use ir_types::ids::NameId;
+use ir_types::refusal::Refusal;
+use std::alloc::Global;
+
+/// Why a key may not come behind these entries: it stands there, or there is no room.
+fn refusal(
+    ctx: &Context,
+    op: &Option<NameId>,
+    properties: &[Entry],
+    key: NameId,
+    before: &[Entry],
+) -> Option<Refusal>
+    ensures { is_some result ≡ refused_in ctx.now op.now properties.now key before.now }
+{
+    if has_key(key, properties) || has_key(key, before) {
+        return Some(Refusal::DuplicateKey);
+    }
+    if no_room(ctx, op, properties, key, before) {
+        return Some(Refusal::TooMany);
+    }
+    None
+}
+
+/// An entry whose key may come behind those before it.
+#[tactic(auto, using(ir_types::proofs::Growth::grows_refl, ir_types::proofs::Growth::grows_trans), unfolding(crate::specs::EntryReading::entry_at))]
+fn entry<'a>(
+    alloc: Global,
+    ctx: &mut Context,
+    op: &Option<NameId>,
+    properties: &[Entry],
+    before: &[Entry],
+    bytes: &'a [u8],
+) -> Result<(Entry, &'a [u8]), ReadError>
+    ensures reads { Gives (λ x. (x.0, (x.1.now, ctx.new))) result (entry_at op.now properties.now before.now (bytes.now, ctx.old)) }
+    ensures grows { Grows ctx.old ctx.new }
+{
+    let (key, rest) = match key(alloc, ctx, bytes) {
+        Ok(found) => found,
+        Err(e) => return Err(e),
+    };
+    if let Some(refusal) = refusal(ctx, op, properties, key, before) {
+        return Err(ReadError::Refused(wrong(refusal, bytes)));
+    }
+    let (attr, rest) = match value(alloc, ctx, bytes, rest, MOST_DEPTH) {
+        Ok(found) => found,
+        Err(e) => return Err(e),
+    };
+    Ok(((key, attr), rest))
+}
+
+/// Entries up to the closing brace.
+#[tactic(auto, using(ir_types::proofs::Growth::grows_refl, ir_types::proofs::Growth::grows_trans), unfolding(ir_text_reading::specs::Lists::list_at, crate::specs::EntryReading::entries_at))]
+fn entries<'a>(
+    alloc: Global,
+    ctx: &mut Context,
+    op: &Option<NameId>,
+    properties: &[Entry],
+    bytes: &'a [u8],
+) -> Result<(Vec<Entry>, &'a [u8]), ReadError>
+    ensures reads { Gives (λ x. (x.0.items, (x.1.now, ctx.new))) result (entries_at op.now properties.now (bytes.now, ctx.old)) }
+    ensures grows { Grows ctx.old ctx.new }
+{
+    let mut items = Vec::new(alloc);
+    if let Some(rest) = after(bytes, Mark::CloseCurly) {
+        return Ok((items, rest));
+    }
+    let mut rest = bytes;
+    'items: for _ in 0..513usize {
+        let (item, tail) = match entry(alloc, ctx, op, properties, &items, rest) {
+            Ok(found) => found,
+            Err(e) => return Err(e),
+        };
+        items.push(item)?;
+        match behind_item(tail, Mark::CloseCurly) {
+            Ok(Behind::More(more)) => rest = more,
+            Ok(Behind::End(end)) => return Ok((items, end)),
+            Err(e) => return Err(e),
+        }
+    }
+    Err(ReadError::Refused(wrong(Refusal::TooMany, rest)))
+}
+
+/// The properties behind their opening sign.
+#[tactic(auto, using(ir_types::proofs::Growth::grows_refl, ir_types::proofs::Growth::grows_trans), unfolding(crate::specs::EntryReading::some_properties))]
+fn some_properties<'a>(
+    alloc: Global,
+    ctx: &mut Context,
+    bytes: &'a [u8],
+) -> Result<(Vec<Entry>, &'a [u8]), ReadError>
+    ensures reads { Gives (λ x. (x.0.items, (x.1.now, ctx.new))) result (some_properties (bytes.now, ctx.old)) }
+    ensures grows { Grows ctx.old ctx.new }
+{
+    let rest = match expect(bytes, Mark::OpenCurly) {
+        Ok(rest) => rest,
+        Err(e) => return Err(e),
+    };
+    match entries(alloc, ctx, &None, &[], rest) {
+        Ok((items, rest)) => match expect(rest, Mark::Greater) {
+            Ok(rest) => Ok((items, rest)),
+            Err(e) => Err(e),
+        },
+        Err(e) => Err(e),
+    }
+}
+
+/// The properties, where they are written.
+#[tactic(auto, using(ir_types::proofs::Growth::grows_refl, ir_types::proofs::Growth::grows_trans), unfolding(crate::specs::EntryReading::properties_at))]
+pub fn properties<'a>(
+    alloc: Global,
+    ctx: &mut Context,
+    bytes: &'a [u8],
+) -> Result<(Vec<Entry>, &'a [u8]), ReadError>
+    ensures reads { Gives (λ x. (x.0.items, (x.1.now, ctx.new))) result (properties_at (bytes.now, ctx.old)) }
+    ensures grows { Grows ctx.old ctx.new }
+{
+    if let Some(rest) = after(bytes, Mark::Less) {
+        return some_properties(alloc, ctx, rest);
+    }
+    Ok((Vec::new(alloc), bytes))
+}
+
+/// The attribute dictionary of an operation with these properties, where it is written.
+#[tactic(auto, using(ir_types::proofs::Growth::grows_refl, ir_types::proofs::Growth::grows_trans), unfolding(crate::specs::EntryReading::attributes_at))]
+pub fn attributes<'a>(
+    alloc: Global,
+    ctx: &mut Context,
+    op: NameId,
+    properties: &[Entry],
+    bytes: &'a [u8],
+) -> Result<(Vec<Entry>, &'a [u8]), ReadError>
+    ensures reads { Gives (λ x. (x.0.items, (x.1.now, ctx.new))) result (attributes_at op properties.now (bytes.now, ctx.old)) }
+    ensures grows { Grows ctx.old ctx.new }
+{
+    if let Some(rest) = after(bytes, Mark::OpenCurly) {
+        return entries(alloc, ctx, &Some(op), properties, rest);
+    }
+    Ok((Vec::new(alloc), bytes))
+}

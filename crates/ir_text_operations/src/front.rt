@@ -1,0 +1,204 @@
+//! What stands before an operation's dictionaries: the names of its results, its name, its operands.
+ghost use Rattle.std.specs.Prelude.{◌≡◌, ◌∷◌, [], IsTrue, slice_get, option_map};
+ghost use Rattle.std.specs.List.{list_all};
+ghost use Rattle.std.specs.Char.{is_ascii_digit};
+ghost use Rattle.ir_text_tokens.specs.Numbers.{place_value};
+ghost use Rattle.ir_text_reading.specs.Outcomes.{Gives};
+ghost use Rattle.ir_text_operations.specs.Free.{free_bound};
+ghost use Rattle.ir_text_operations.specs.Openings.{called_at};
+ghost use Rattle.ir_text_operations.specs.FrontReading.{op_name_at, member_at, member_of, use_at, uses_at, start_at, start_view};
+
+use crate::free::{are_digits, free_bound};
+use ir_text_names::bound::Bound;
+use ir_text_names::lists::{Behind, behind_item};
+use ir_text_names::named::{Named, name, one_too_many, results};
+use ir_text_names::pack::Pack;
+use ir_text_reading::error::{ReadError, wrong};
+use ir_text_reading::steps::{after, expect, token};
+use ir_text_tokens::lexer;
+use ir_text_tokens::names::Names;
+use ir_text_tokens::numbers::integer_value;
+use ir_text_tokens::strings::string_value;
+use ir_text_tokens::token::{Mark, Token};
+use ir_tree::outer::Outer;
+use ir_types::refusal::Refusal;
+use std::alloc::Global;
+
+/// The names of the results, where they are written, the name of the operation, and its operands.
+#[derive(Drop)]
+pub struct Front<'a> {
+    pub results: Option<Vec<Named<'a>>>,
+    pub name: Vec<u8>,
+    pub operands: Vec<Bound>,
+}
+
+/// Why no name of an operation begins with a token, which may stand behind the names of results.
+pub(crate) fn begin_refusal(found: &Token<'_>, named: bool) -> Refusal {
+    match found {
+        Token::Bare(_) => Refusal::LeftOut,
+        Token::Hash(_) if !named => Refusal::LeftOut,
+        Token::Bang(_) if !named => Refusal::LeftOut,
+        Token::Label(_) if !named => Refusal::MultipleBlocks,
+        _ => Refusal::Unexpected,
+    }
+}
+
+/// The name of an operation, which has one byte or more.
+#[tactic(auto, unfolding(crate::specs::FrontReading::op_name_at))]
+fn op_name(alloc: Global, bytes: &[u8], named: bool) -> Result<(Vec<u8>, &[u8]), ReadError>
+    ensures { Gives (λ x. (x.0.items, x.1.now)) result (op_name_at bytes.now) }
+{
+    match token(bytes) {
+        Ok((Token::String(raw), rest)) => {
+            let name = string_value(alloc, raw)?;
+            if name.is_empty() {
+                return Err(ReadError::Refused(wrong(Refusal::Unexpected, bytes)));
+            }
+            Ok((name, rest))
+        }
+        Ok((found, _)) => Err(ReadError::Refused(wrong(begin_refusal(&found, named), bytes))),
+        Err(e) => Err(e),
+    }
+}
+
+/// The name of an operation, and the parenthesis behind it.
+#[tactic(auto, unfolding(crate::specs::Openings::called_at))]
+fn called(alloc: Global, bytes: &[u8], named: bool) -> Result<(Vec<u8>, &[u8]), ReadError>
+    ensures { Gives (λ x. (x.0.items, x.1.now)) result (called_at bytes.now) }
+{
+    match op_name(alloc, bytes, named) {
+        Ok((name, rest)) => match expect(rest, Mark::OpenRound) {
+            Ok(rest) => Ok((name, rest)),
+            Err(e) => Err(e),
+        },
+        Err(e) => Err(e),
+    }
+}
+
+/// The value of a pack whose number the digits write.
+#[tactic(auto, using(crate::proofs::Members::place_is))]
+fn numbered(pack: &Pack, digits: &[u8]) -> Option<Bound>
+    requires { IsTrue (list_all is_ascii_digit digits.now) }
+    ensures { result ≡ slice_get pack.now (place_value 10 digits.now) }
+{
+    let count = pack.len() as u128;
+    let place = integer_value(digits)?;
+    if place >= count {
+        return None;
+    }
+    pack.get(place as usize).copied()
+}
+
+/// One of the values of a pack: the one whose number stands behind a hash sign, or else the first.
+#[tactic(auto, unfolding(crate::specs::FrontReading::member_at, crate::specs::FrontReading::place_at))]
+fn member<'a>(pack: &Pack, bytes: &'a [u8]) -> Result<(Bound, &'a [u8]), ReadError>
+    ensures { Gives (λ x. (x.0, x.1.now)) result (member_at pack.now bytes.now) }
+{
+    let (found, rest) = match lexer::token(bytes) {
+        Ok((Token::Hash(digits), rest)) => {
+            if !are_digits(digits) {
+                return Err(ReadError::Refused(wrong(Refusal::Unexpected, bytes)));
+            }
+            (numbered(pack, digits), rest)
+        }
+        _ => (pack.get(0).copied(), bytes),
+    };
+    match found {
+        Some(value) => Ok((value, rest)),
+        None => Err(ReadError::Refused(wrong(Refusal::UnknownValue, bytes))),
+    }
+}
+
+/// A name that isn't bound and begins at `start`: the value that it writes, where it is free.
+fn free_member<'a, O: Outer>(
+    outer: &O,
+    name: &[u8],
+    start: &[u8],
+    bytes: &'a [u8],
+) -> Result<(Bound, &'a [u8]), ReadError>
+    ensures { Gives (λ x. (x.0, x.1.now)) result (member_of (option_map (λ b. b ∷ []) (free_bound (O.types outer.now) name.now)) bytes.now) }
+{
+    match free_bound(outer, name) {
+        Some(value) => member(&Pack::one(value), bytes),
+        None => Err(ReadError::Refused(wrong(Refusal::UnknownValue, start))),
+    }
+}
+
+/// A name that can be seen, or is free, and one of its values.
+fn operand<'a, O: Outer>(
+    outer: &O,
+    names: &Names<'a, Pack>,
+    bytes: &'a [u8],
+) -> Result<(Bound, &'a [u8]), ReadError>
+    ensures { Gives (λ x. (x.0, x.1.now)) result (use_at (free_bound (O.types outer.now)) names.now.here bytes.now) }
+{
+    let (name, rest) = match name(bytes) {
+        Ok(found) => found,
+        Err(e) => return Err(e),
+    };
+    match names.find(name) {
+        Some(pack) => member(pack, rest),
+        None => free_member(outer, name, bytes, rest),
+    }
+}
+
+/// Operands up to the closing parenthesis, at most 256.
+#[tactic(auto, unfolding(ir_text_reading::specs::Lists::list_at, crate::specs::FrontReading::uses_at))]
+fn operands<'a, O: Outer>(
+    alloc: Global,
+    outer: &O,
+    names: &Names<'a, Pack>,
+    bytes: &'a [u8],
+) -> Result<(Vec<Bound>, &'a [u8]), ReadError>
+    ensures { Gives (λ x. (x.0.items, x.1.now)) result (uses_at (free_bound (O.types outer.now)) names.now.here bytes.now) }
+{
+    let mut items = Vec::new(alloc);
+    if let Some(rest) = after(bytes, Mark::CloseRound) {
+        return Ok((items, rest));
+    }
+    let mut rest = bytes;
+    'items: for _ in 0..256usize {
+        let (item, tail) = match operand(outer, names, rest) {
+            Ok(found) => found,
+            Err(e) => return Err(e),
+        };
+        items.push(item)?;
+        match behind_item(tail, Mark::CloseRound) {
+            Ok(Behind::More(more)) => rest = more,
+            Ok(Behind::End(end)) => return Ok((items, end)),
+            Err(e) => return Err(e),
+        }
+    }
+    Err(ReadError::Refused(one_too_many(rest)))
+}
+
+/// What stands before an operation's dictionaries.
+pub fn start<'a, O: Outer>(
+    alloc: Global,
+    outer: &O,
+    names: &Names<'a, Pack>,
+    bytes: &'a [u8],
+) -> Result<(Front<'a>, &'a [u8]), ReadError>
+    ensures { Gives (λ x. (start_view x.0, x.1.now)) result (start_at (free_bound (O.types outer.now)) names.now.here bytes.now) }
+{
+    let (results, rest) = match results(alloc, bytes) {
+        Ok(found) => found,
+        Err(e) => return Err(e),
+    };
+    let (name, rest) = match called(alloc, rest, results.is_some()) {
+        Ok(found) => found,
+        Err(e) => return Err(e),
+    };
+    let (operands, rest) = match operands(alloc, outer, names, rest) {
+        Ok(found) => found,
+        Err(e) => return Err(e),
+    };
+    Ok((
+        Front {
+            results,
+            name,
+            operands,
+        },
+        rest,
+    ))
+}

@@ -1,0 +1,325 @@
+//! Modules. Language Reference, "High-Level Structure"; Builtin Dialect, "builtin.module".
+ghost use Rattle.std.specs.Prelude.{◌≡◌, ◌&&◌, ℕ, IfOk, IfErr, Err, Some, is_some};
+ghost use Rattle.ir_types.specs.Interning.{with_name};
+ghost use Rattle.ir_types.specs.Reasons.{name_reason};
+ghost use Rattle.ir_types.specs.Things.{Grows};
+ghost use Rattle.ir_text_tokens.specs.declared.token.Mark.TheVariants.{End};
+ghost use Rattle.ir_text_reading.specs.Marks.{after};
+ghost use Rattle.ir_types.specs.Terms.{name_term};
+ghost use Rattle.ir_types.specs.Words.{is_table};
+ghost use Rattle.ir_tree.specs.Meaning.{meaning, IsSoundIn, Operation};
+ghost use Rattle.ir_tree.specs.Tree.{head};
+ghost use Rattle.ir_text_tokens.specs.declared.fault.Fault.{Fault as TextFault};
+ghost use Rattle.ir_text_operations.specs.Spelling.{begins_module, is_root, module_word, Spells};
+ghost use Rattle.ir_text_reading.specs.Laws.{IsFull};
+ghost use Rattle.ir_text_operations.specs.Filling.{RootFills, BodyFills, OpsFill};
+ghost use Rattle.ir_text_operations.specs.Claims.{IsOnly, IsNone, IsRootOrNone, IsBody, IsSource, IsWhole, module_with};
+
+use crate::free::{Around, NoOuter};
+use crate::ops::{MOST_OPS, op, ops};
+use crate::places::is_outside;
+use ir_text_names::scope::Scope;
+use ir_text_reading::error::{ReadError, wrong};
+use ir_text_reading::steps::after;
+use ir_text_tokens::fault::Fault;
+use ir_text_tokens::lexer::token;
+use ir_text_tokens::limits::check_text;
+use ir_text_tokens::names::Names;
+use ir_text_tokens::strings::string_value;
+use ir_text_tokens::token::{Mark, Token};
+use ir_text_types::full::told;
+use ir_tree::check::check;
+use ir_tree::numbered::numbered;
+use ir_tree::sound::sound;
+use ir_tree::tree::{TreeOp, TreeRegion};
+use ir_types::context::Context;
+use ir_types::ids::{NameId, OpId};
+use ir_types::refusal::Refusal;
+use std::alloc::{AllocError, Global};
+
+/// A text's root, where it is written; else what stood in the way, if anything was wrong.
+#[derive(Drop)]
+pub enum Root {
+    Is(TreeOp),
+    Other(Option<Fault>),
+}
+
+/// Whether a text begins with the name of a module.
+fn begins_module(alloc: Global, bytes: &[u8]) -> Result<bool, ReadError>
+    ensures ok { IfOk result (λ b. b ≡ begins_module bytes.now) }
+    ensures err { IfErr result (λ e. e ≡ ReadError.Memory) }
+{
+    let found = match token(bytes) {
+        Ok((found, _)) => found,
+        Err(_) => return Ok(false),
+    };
+    match found {
+        Token::String(raw) => {
+            let name = string_value(alloc, raw)?;
+            Ok(name.as_slice() == b"builtin.module".as_slice())
+        }
+        _ => Ok(false),
+    }
+}
+
+/// Whether an operation is a module without operands and results.
+fn is_root(ctx: &Context, op: &TreeOp) -> bool
+    ensures { result ≡ is_root (meaning ctx.now op.now) }
+{
+    ctx.table(op.name) && op.operands.is_empty() && op.results.is_empty()
+}
+
+/// Whether an operation is a module without operands and results, and nothing stands behind it.
+fn is_whole(ctx: &Context, op: &TreeOp, rest: &[u8]) -> bool
+    ensures { result ≡ (is_some (after End rest.now) && is_root (meaning ctx.now op.now)) }
+{
+    after(rest, Mark::End).is_some() && is_root(ctx, op)
+}
+
+/// The number of the name of a module.
+#[tactic(auto, using(ir_types::proofs::Growth::grows_refl, ir_types::proofs::Growth::grows_trans))]
+fn module_name(ctx: &mut Context, rest: &[u8]) -> Result<NameId, ReadError>
+    ensures ok { IfOk result (λ n. (n, ctx.new) ≡ with_name module_word ctx.old) }
+    ensures err { (f : TextFault) → result ≡ Err (ReadError.Refused f) → ⊥ }
+    ensures grows { Grows ctx.old ctx.new }
+    ensures full { (left : ℕ) → result ≡ Err (ReadError.Full left) → name_reason module_word ctx.old ≡ Some Refusal.TooMany }
+{
+    match ctx.name(b"builtin.module") {
+        Ok(id) => Ok(id),
+        Err(Refusal::TooMany) => Err(ReadError::Full(rest.len())),
+        Err(_) => Err(ReadError::Memory),
+    }
+}
+
+/// The root, where the text is one module without operands and results.
+#[tactic(auto, using(ir_types::proofs::Growth::grows_refl, ir_types::proofs::Growth::grows_trans))]
+pub fn explicit(alloc: Global, ctx: &mut Context, bytes: &[u8]) -> Result<Root, ReadError>
+    ensures ok { IfOk result (λ r. IsRootOrNone bytes.now ctx.new r) }
+    ensures err { (f : TextFault) → result ≡ Err (ReadError.Refused f) → ⊥ }
+    ensures grows { Grows ctx.old ctx.new }
+    ensures full { (left : ℕ) → result ≡ Err (ReadError.Full left) → RootFills bytes.now ctx.old }
+{
+    ctx.sound();
+    match begins_module(alloc, bytes) {
+        Ok(true) => {}
+        Ok(false) => return Ok(Root::Other(None)),
+        Err(_) => return Err(ReadError::Memory),
+    }
+    let mut scope = Scope {
+        names: Names::new(alloc, ctx.hasher()),
+        next: 0,
+    };
+    let around = Around {
+        outer: &NoOuter,
+        last: MOST_OPS,
+    };
+    match op(alloc, &mut scope, ctx, &around, bytes, 129) {
+        Ok((tree, rest)) => {
+            if is_whole(ctx, &tree, rest) {
+                Ok(Root::Is(tree))
+            } else {
+                Ok(Root::Other(None))
+            }
+        }
+        Err(ReadError::Refused(fault)) => Ok(Root::Other(Some(fault))),
+        Err(e) => Err(e),
+    }
+}
+
+/// A module of these operations.
+fn root_of(alloc: Global, name: NameId, body: Vec<TreeOp>) -> Result<TreeOp, AllocError>
+    ensures { IfOk result (λ t. t ≡ module_with name body.items) }
+{
+    let args = Vec::new(alloc);
+    let mut regions = Vec::new(alloc);
+    regions.push(TreeRegion::Block { args, ops: body })?;
+    Ok(TreeOp {
+        id: OpId::new(0),
+        name,
+        operands: Vec::new(alloc),
+        results: Vec::new(alloc),
+        props: Vec::new(alloc),
+        attrs: Vec::new(alloc),
+        regions,
+    })
+}
+
+/// An implicit root of the operations of a text.
+#[tactic(auto, using(ir_types::proofs::Growth::grows_refl, ir_types::proofs::Growth::grows_trans))]
+pub fn implicit(alloc: Global, ctx: &mut Context, bytes: &[u8]) -> Result<TreeOp, ReadError>
+    ensures read { IfOk result (λ t. IsOnly (IsBody bytes.now) ctx.new t) }
+    ensures refused { (f : TextFault) → result ≡ Err (ReadError.Refused f) → IsNone (IsBody bytes.now) }
+    ensures grows { Grows ctx.old ctx.new }
+    ensures full { (left : ℕ) → result ≡ Err (ReadError.Full left) → BodyFills bytes.now ctx.old }
+{
+    let name = match module_name(ctx, bytes) {
+        Ok(name) => name,
+        Err(e) => return Err(e),
+    };
+    ctx.sound();
+    let mut scope = Scope {
+        names: Names::new(alloc, ctx.hasher()),
+        next: 1,
+    };
+    let around = Around {
+        outer: &NoOuter,
+        last: MOST_OPS,
+    };
+    let (body, _) = match ops(alloc, &mut scope, ctx, &around, Mark::End, bytes, 128) {
+        Ok(found) => found,
+        Err(e) => return Err(e),
+    };
+    match root_of(alloc, name, body) {
+        Ok(tree) => Ok(tree),
+        Err(_) => Err(ReadError::Memory),
+    }
+}
+
+/// The fault with a label outside any region as one that does not fit.
+pub(crate) fn fault_of_label(bytes: &[u8], fault: Fault) -> Fault {
+    match fault.refusal {
+        Refusal::MultipleBlocks if is_outside(bytes, fault.left) => Fault {
+            refusal: Refusal::Unexpected,
+            left: fault.left,
+        },
+        _ => fault,
+    }
+}
+
+/// The fault of the operations of a text without a root around them, or at the end of the text.
+#[tactic(auto, using(ir_types::proofs::Growth::grows_refl, ir_types::proofs::Growth::grows_trans))]
+fn without_root(
+    alloc: Global,
+    ctx: &mut Context,
+    bytes: &[u8],
+    fault: Fault,
+) -> Result<Fault, ReadError>
+    ensures grows { Grows ctx.old ctx.new }
+    ensures full { (left : ℕ) → result ≡ Err (ReadError.Full left) → OpsFill 129 0 bytes.now ctx.old }
+{
+    let mut scope = Scope {
+        names: Names::new(alloc, ctx.hasher()),
+        next: 0,
+    };
+    let around = Around {
+        outer: &NoOuter,
+        last: MOST_OPS,
+    };
+    match ops(alloc, &mut scope, ctx, &around, Mark::End, bytes, 129) {
+        Ok(_) => Ok(Fault {
+            refusal: fault.refusal,
+            left: 0,
+        }),
+        Err(ReadError::Refused(fault)) => Ok(fault_of_label(bytes, fault)),
+        Err(e) => Err(e),
+    }
+}
+
+/// The fault of a text as it is written. What only the implicit root makes too deep or too many is told
+/// at the end, and a label outside any region does not fit.
+pub fn as_written(
+    alloc: Global,
+    ctx: &mut Context,
+    bytes: &[u8],
+    fault: Fault,
+) -> Result<Fault, ReadError>
+    ensures grows { Grows ctx.old ctx.new }
+    ensures full { (left : ℕ) → result ≡ Err (ReadError.Full left) → OpsFill 129 0 bytes.now ctx.old }
+{
+    match fault.refusal {
+        Refusal::TooDeep | Refusal::TooMany => without_root(alloc, ctx, bytes, fault),
+        _ => Ok(fault_of_label(bytes, fault)),
+    }
+}
+
+/// The tree of a text, before its limits are looked at.
+#[tactic(auto, using(ir_types::proofs::Growth::grows_refl, ir_types::proofs::Growth::grows_trans))]
+fn source(alloc: Global, ctx: &mut Context, bytes: &[u8]) -> Result<TreeOp, ReadError>
+    ensures read { IfOk result (λ t. IsOnly (IsSource bytes.now) ctx.new t) }
+    ensures refused { (f : TextFault) → result ≡ Err (ReadError.Refused f) → IsNone (IsSource bytes.now) }
+    ensures grows { Grows ctx.old ctx.new }
+{
+    let other = match explicit(alloc, ctx, bytes) {
+        Ok(Root::Is(tree)) => return Ok(tree),
+        Ok(Root::Other(other)) => other,
+        Err(e) => return Err(e),
+    };
+    match implicit(alloc, ctx, bytes) {
+        Ok(tree) => Ok(tree),
+        Err(ReadError::Refused(fault)) => match other {
+            Some(other) => Err(ReadError::Refused(other)),
+            None => match as_written(alloc, ctx, bytes, fault) {
+                Ok(fault) => Err(ReadError::Refused(fault)),
+                Err(e) => Err(e),
+            },
+        },
+        Err(e) => Err(e),
+    }
+}
+
+/// Looks at a tree that was read: every operand must be seen, and no limit passed; its ids must be 0, 1, ..
+/// and its dictionaries sorted.
+pub fn looked_at(alloc: Global, ctx: &Context, tree: &TreeOp) -> Result<(), ReadError>
+    ensures ok { IfOk result (λ _. IsWhole ctx.now tree.now) }
+    ensures refused { (f : TextFault) → result ≡ Err (ReadError.Refused f) → IsWhole ctx.now tree.now → ⊥ }
+    ensures room { (left : ℕ) → result ≡ Err (ReadError.Full left) → ⊥ }
+{
+    match check(alloc, ctx, tree) {
+        Ok(()) => {}
+        Err(Refusal::Memory) => return Err(ReadError::Memory),
+        Err(refusal) => return Err(ReadError::Refused(Fault { refusal, left: 0 })),
+    }
+    if !numbered(tree, 0) || !sound(ctx, tree) {
+        return Err(ReadError::Refused(Fault {
+            refusal: Refusal::Unexpected,
+            left: 0,
+        }));
+    }
+    Ok(())
+}
+
+/// The tree that a text spells, as far as its error is one of reading.
+#[tactic(auto, using(ir_types::proofs::Growth::grows_refl, ir_types::proofs::Growth::grows_trans))]
+fn tree_of_text(alloc: Global, ctx: &mut Context, bytes: &[u8]) -> Result<TreeOp, ReadError>
+    ensures read { IfOk result (λ t. IsOnly (Spells bytes.now) ctx.new t) }
+    ensures sound { IfOk result (λ t. IsSoundIn ctx.new t) }
+    ensures refused { (f : TextFault) → result ≡ Err (ReadError.Refused f) → IsNone (Spells bytes.now) }
+    ensures grows { Grows ctx.old ctx.new }
+{
+    match check_text(bytes) {
+        Ok(()) => {}
+        Err((refusal, offset)) => {
+            let left = bytes.len().saturating_sub(offset);
+            return Err(ReadError::Refused(Fault { refusal, left }));
+        }
+    }
+    let tree = match source(alloc, ctx, bytes) {
+        Ok(tree) => tree,
+        Err(e) => return Err(e),
+    };
+    match looked_at(alloc, ctx, &tree) {
+        Ok(()) => Ok(tree),
+        Err(e) => Err(e),
+    }
+}
+
+/// The tree that a text spells. It is numbered from 0 in pre-order, and what it names is interned: the
+/// context only grows, whatever is answered. A text that is one `builtin.module` without operands and
+/// results has it as its root; any other is the body of an implicit root (Language Reference, "High-Level
+/// Structure").
+///
+/// Refusals: those of texts and tokens; `Unexpected`, `UnknownValue`, `Redefined`, `TypeMismatch`, `BadWidth`,
+/// `BadValue`, `MultipleBlocks`, `Successors`, `TooDeep`, `TooMany`, `DuplicateKey`, `LeftOut`, with how many
+/// bytes are left where the fault stands; `Full` where the context grew full; `Memory`.
+pub fn read(alloc: Global, ctx: &mut Context, bytes: &[u8]) -> Result<TreeOp, ReadError>
+    ensures read { IfOk result (λ t. IsOnly (Spells bytes.now) ctx.new t) }
+    ensures sound { IfOk result (λ t. IsSoundIn ctx.new t) }
+    ensures refused { (f : TextFault) → result ≡ Err (ReadError.Refused f) → IsNone (Spells bytes.now) }
+    ensures grows { Grows ctx.old ctx.new }
+    ensures full { (left : ℕ) → result ≡ Err (ReadError.Full left) → IsFull ctx.new }
+{
+    match tree_of_text(alloc, ctx, bytes) {
+        Ok(tree) => Ok(tree),
+        Err(e) => Err(told(ctx, e)),
+    }
+}

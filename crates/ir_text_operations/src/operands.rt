@@ -1,0 +1,40 @@
+//! The types and values of operands.
+ghost use Rattle.std.specs.Prelude.{◌≡◌, IfOk};
+ghost use Rattle.std.specs.Str.{bytes_eq};
+ghost use Rattle.ir_text_operations.specs.OpReading.{types_of, values_of};
+
+use ir_text_names::bound::Bound;
+use ir_tree::value::Value;
+use ir_types::ids::TypeId;
+use std::alloc::{AllocError, Global};
+
+/// The types of operands agree with the inputs of a function type.
+pub fn agrees(operands: &[Bound], inputs: &[TypeId]) -> bool
+    ensures { result ≡ bytes_eq (types_of operands.now) inputs.now }
+{
+    let mut left = operands;
+    let mut right = inputs;
+    'items: while let [operand, more @ ..] = left {
+        if let [input, others @ ..] = right {
+            if operand.ty != *input {
+                return false;
+            }
+            left = more;
+            right = others;
+        } else {
+            return false;
+        }
+    }
+    right.is_empty()
+}
+
+/// The values of operands.
+pub fn values_of(alloc: Global, operands: &[Bound]) -> Result<Vec<Value>, AllocError>
+    ensures { IfOk result (λ v. v.items ≡ values_of operands.now) }
+{
+    let mut values = Vec::with_capacity(alloc, operands.len())?;
+    'items: for operand in operands {
+        values.push(operand.value)?;
+    }
+    Ok(values)
+}

@@ -1,0 +1,184 @@
+//! What stands behind an operation's regions. Language Reference, "Operations".
+ghost use Rattle.std.specs.Prelude.{◌≡◌, map, IfOk};
+ghost use Rattle.ir_tree.specs.View.{region_view};
+ghost use Rattle.ir_types.specs.Things.{Grows};
+ghost use Rattle.ir_text_reading.specs.Outcomes.{Gives};
+ghost use Rattle.ir_text_names.specs.States.{state_of};
+ghost use Rattle.ir_text_operations.specs.FrontReading.{start_view};
+ghost use Rattle.ir_text_operations.specs.Openings.{AreDictionaries, outputs_at, finished_at};
+ghost use Rattle.ir_text_operations.specs.OpReading.{types_of, op_of, tail_at};
+
+use crate::dictionaries::{Entry, attributes_of, properties_of};
+use crate::entries::attributes;
+use crate::front::Front;
+use crate::opening::Opening;
+use crate::operands::{agrees, values_of};
+use crate::places::placed;
+use ir_text_names::bound::Bound;
+use ir_text_names::results::finish;
+use ir_text_names::scope::Scope;
+use ir_text_reading::error::{ReadError, wrong};
+use ir_text_reading::steps::expect;
+use ir_text_tokens::lexer::skip;
+use ir_text_tokens::token::Mark;
+use ir_text_types::types::function_type;
+use ir_tree::tree::{TreeOp, TreeRegion};
+use ir_types::context::Context;
+use ir_types::ids::{NameId, OpId, TypeId};
+use ir_types::refusal::Refusal;
+use std::alloc::{AllocError, Global};
+
+/// The types of the results, in a function type behind a colon. `TypeMismatch` at the colon where the
+/// operands don't have its inputs.
+#[tactic(auto, using(ir_types::proofs::Growth::grows_refl, ir_types::proofs::Growth::grows_trans), unfolding(crate::specs::Openings::outputs_at))]
+fn outputs<'a>(
+    alloc: Global,
+    ctx: &mut Context,
+    operands: &[Bound],
+    bytes: &'a [u8],
+) -> Result<(Vec<TypeId>, &'a [u8]), ReadError>
+    ensures reads { Gives (λ x. (x.0.items, (x.1.now, ctx.new))) result (outputs_at (types_of operands.now) (bytes.now, ctx.old)) }
+    ensures grows { Grows ctx.old ctx.new }
+{
+    let rest = match expect(bytes, Mark::Colon) {
+        Ok(rest) => rest,
+        Err(e) => return Err(e),
+    };
+    let ((inputs, results), rest) = match function_type(alloc, ctx, rest) {
+        Ok(found) => found,
+        Err(e) => return Err(e),
+    };
+    if !agrees(operands, &inputs) {
+        return Err(ReadError::Refused(wrong(Refusal::TypeMismatch, bytes)));
+    }
+    Ok((results, rest))
+}
+
+/// The types of the results. Their names are bound.
+#[tactic(auto, using(ir_types::proofs::Growth::grows_refl, ir_types::proofs::Growth::grows_trans))]
+fn finished<'a>(
+    alloc: Global,
+    scope: &mut Scope<'a>,
+    ctx: &mut Context,
+    id: u32,
+    front: &Front<'a>,
+    bytes: &'a [u8],
+) -> Result<(Vec<TypeId>, &'a [u8]), ReadError>
+    ensures reads { Gives (λ x. (x.0.items, state_of x.1.now scope.new ctx.new)) result (finished_at id (start_view front.now) (state_of bytes.now scope.old ctx.old)) }
+    ensures grows { Grows ctx.old ctx.new }
+{
+    let (results, rest) = match outputs(alloc, ctx, &front.operands, bytes) {
+        Ok(found) => found,
+        Err(e) => return Err(e),
+    };
+    let left = skip(bytes).len();
+    match finish(alloc, &mut scope.names, id, &front.results, &results, left) {
+        Ok(()) => Ok((results, rest)),
+        Err(e) => Err(e),
+    }
+}
+
+/// The properties and the other attributes of an operation, each sorted.
+fn dictionaries(
+    alloc: Global,
+    ctx: &Context,
+    name: NameId,
+    written: &[Entry],
+    others: &[Entry],
+) -> Result<(Vec<Entry>, Vec<Entry>), AllocError>
+    ensures { IfOk result (λ d. AreDictionaries ctx.now name written.now others.now d.0.items d.1.items) }
+{
+    let props = match properties_of(alloc, ctx, name, written, others) {
+        Ok(props) => props,
+        Err(e) => return Err(e),
+    };
+    match attributes_of(alloc, ctx, name, others) {
+        Ok(attrs) => Ok((props, attrs)),
+        Err(e) => Err(e),
+    }
+}
+
+/// An operation of its parts.
+fn made(
+    alloc: Global,
+    ctx: &Context,
+    id: u32,
+    opening: &Opening<'_>,
+    others: &[Entry],
+    results: Vec<TypeId>,
+    regions: Vec<TreeRegion>,
+) -> Result<TreeOp, AllocError>
+    ensures { IfOk result (λ o. o ≡ op_of ctx.now id opening.now.name opening.now.front.operands.items opening.now.written.items others.now results.items (map region_view regions.items)) }
+{
+    let (props, attrs) = match dictionaries(alloc, ctx, opening.name, &opening.written, others) {
+        Ok(found) => found,
+        Err(e) => return Err(e),
+    };
+    let operands = match values_of(alloc, &opening.front.operands) {
+        Ok(operands) => operands,
+        Err(e) => return Err(e),
+    };
+    Ok(TreeOp {
+        id: OpId::new(id),
+        name: opening.name,
+        operands,
+        results,
+        props,
+        attrs,
+        regions,
+    })
+}
+
+/// An operation's attributes and its function type. Then the names of its results are bound.
+#[tactic(auto, using(ir_types::proofs::Growth::grows_refl, ir_types::proofs::Growth::grows_trans))]
+fn tail<'a>(
+    alloc: Global,
+    scope: &mut Scope<'a>,
+    ctx: &mut Context,
+    id: u32,
+    opening: &Opening<'a>,
+    regions: Vec<TreeRegion>,
+    bytes: &'a [u8],
+) -> Result<(TreeOp, &'a [u8]), ReadError>
+    ensures reads { Gives (λ x. (x.0, state_of x.1.now scope.new ctx.new)) result (tail_at id opening.now.name (start_view opening.now.front) opening.now.written.items (map region_view regions.items) (state_of bytes.now scope.old ctx.old)) }
+    ensures grows { Grows ctx.old ctx.new }
+{
+    let (others, rest) = match attributes(alloc, ctx, opening.name, &opening.written, bytes) {
+        Ok(found) => found,
+        Err(e) => return Err(e),
+    };
+    let (results, rest) = match finished(alloc, scope, ctx, id, &opening.front, rest) {
+        Ok(found) => found,
+        Err(e) => return Err(e),
+    };
+    match made(alloc, ctx, id, opening, &others, results, regions) {
+        Ok(op) => Ok((op, rest)),
+        Err(_) => Err(ReadError::Memory),
+    }
+}
+
+/// The same for the operation that begins at `start`. A fault is told where it stands: `Successors` where
+/// they stand behind its operands, and a name that is bound already at the name.
+#[tactic(auto, using(ir_types::proofs::Growth::grows_refl, ir_types::proofs::Growth::grows_trans))]
+pub(crate) fn closing<'a>(
+    alloc: Global,
+    scope: &mut Scope<'a>,
+    ctx: &mut Context,
+    id: u32,
+    opening: Opening<'a>,
+    regions: Vec<TreeRegion>,
+    start: &'a [u8],
+    bytes: &'a [u8],
+) -> Result<(TreeOp, &'a [u8]), ReadError>
+    ensures reads { Gives (λ x. (x.0, state_of x.1.now scope.new ctx.new)) result (tail_at id opening.entry.name (start_view opening.entry.front) opening.entry.written.items (map region_view regions.items) (state_of bytes.now scope.old ctx.old)) }
+    ensures grows { Grows ctx.old ctx.new }
+{
+    match tail(alloc, scope, ctx, id, &opening, regions, bytes) {
+        Ok(found) => Ok(found),
+        Err(ReadError::Refused(fault)) => {
+            let fault = placed(&scope.names, id, start, opening.behind, fault);
+            Err(ReadError::Refused(fault))
+        }
+        Err(e) => Err(e),
+    }
+}

@@ -1,6 +1,0 @@
-use Rattle.std.proofs.Common.{◌≡◌, take}
-use Rattle.ir_text_read_base.specs.OpReading.{values_of}
-use Rattle.ir_text_read_base.proofs.operands.values_of.Given as goal
-
-abbrev pub invariant-items : goal.invariant-items
-invariant-items l = l.values.items ≡ values_of (take l.operand-index l.operands)

@@ -1,0 +1,85 @@
+//! The printed forms of tokens.
+ghost use Rattle.std.specs.Prelude.{◌≡◌, ◌++◌, ◌<◌, ℕ, List, OnOk};
+ghost use Rattle.ir_text_tokens.specs.Printing.{byte_text, hex_digit, is_bare_id, key_text, number_text, string_text, symbol_text};
+
+use crate::runs::{Class, is_letter, run_len};
+use itoa::Buffer;
+use std::alloc::AllocError;
+
+/// A capital hexadecimal digit.
+fn hex_digit(n: u8) -> u8
+    requires { n < 16 }
+    ensures { result ≡ hex_digit n }
+{
+    if n < 10 { b'0' + n } else { b'A' + (n - 10) }
+}
+
+/// A byte as it stands in a string.
+fn put_byte(out: &mut Vec<u8>, byte: u8) -> Result<(), AllocError>
+    ensures { OnOk result (out.new.items ≡ out.old.items ++ byte_text byte) }
+{
+    if byte == b'\\' {
+        out.extend_from_slice(b"\\\\")?;
+    } else if b' ' <= byte && byte <= b'~' && byte != b'"' {
+        out.push(byte)?;
+    } else {
+        out.push(b'\\')?;
+        out.push(hex_digit(byte / 16))?;
+        out.push(hex_digit(byte % 16))?;
+    }
+    Ok(())
+}
+
+/// Appends a string between its quotes. MLIR Language Reference, "Common syntax".
+pub fn put_string(out: &mut Vec<u8>, text: &[u8]) -> Result<(), AllocError>
+    ensures { OnOk result (out.new.items ≡ out.old.items ++ string_text text.now) }
+{
+    out.push(b'"')?;
+    'bytes: for byte in text {
+        put_byte(out, *byte)?;
+    }
+    out.push(b'"')?;
+    Ok(())
+}
+
+/// Appends a decimal number with its sign. MLIR Language Reference, "Common syntax".
+pub fn put_number(out: &mut Vec<u8>, is_negative: bool, magnitude: u128) -> Result<(), AllocError>
+    ensures { OnOk result (out.new.items ≡ out.old.items ++ number_text is_negative magnitude) }
+{
+    if is_negative {
+        out.push(b'-')?;
+    }
+    let mut buffer = Buffer::new();
+    out.extend_from_slice(buffer.format(magnitude).as_bytes())?;
+    Ok(())
+}
+
+/// Whether the text is a bare identifier. MLIR Language Reference, "Identifiers and keywords".
+pub fn is_bare_id(text: &[u8]) -> bool
+    ensures { result ≡ is_bare_id text.now }
+{
+    match text {
+        [] => false,
+        [byte, tail @ ..] => is_letter(*byte) && run_len(tail, Class::Word) == tail.len(),
+    }
+}
+
+/// Appends a key, or the name of a symbol: bare where it is a bare identifier, else as a string. MLIR
+/// Language Reference, "Identifiers and keywords".
+pub fn put_key(out: &mut Vec<u8>, key: &[u8]) -> Result<(), AllocError>
+    ensures { OnOk result (out.new.items ≡ out.old.items ++ key_text key.now) }
+{
+    if is_bare_id(key) {
+        out.extend_from_slice(key)?;
+        return Ok(());
+    }
+    put_string(out, key)
+}
+
+/// Appends a symbol with its sign. MLIR Language Reference, "Identifiers and keywords".
+pub fn put_symbol(out: &mut Vec<u8>, name: &[u8]) -> Result<(), AllocError>
+    ensures { OnOk result (out.new.items ≡ out.old.items ++ symbol_text name.now) }
+{
+    out.push(b'@')?;
+    put_key(out, name)
+}

@@ -1,0 +1,62 @@
+//! Runs of bytes.
+ghost use Rattle.std.specs.Prelude.{◌≡◌, ◌≤◌, length};
+ghost use Rattle.std.specs.List.{prefix_len};
+ghost use Rattle.ir_text_tokens.specs.Bytes.{class_test, is_blank, is_hex, is_letter, is_line_end};
+
+/// The bytes of which a run is made.
+#[derive(Clone, Copy)]
+pub(crate) enum Class {
+    Digit,
+    Hexadecimal,
+    Word,
+    Suffix,
+}
+
+pub(crate) fn is_blank(byte: u8) -> bool
+    ensures { result ≡ is_blank byte }
+{
+    matches!(byte, b' ' | b'\t' | b'\n' | b'\r')
+}
+
+pub(crate) fn is_line_end(byte: u8) -> bool
+    ensures { result ≡ is_line_end byte }
+{
+    10 <= byte && byte <= 13
+}
+
+pub(crate) fn is_hex(byte: u8) -> bool
+    ensures { result ≡ is_hex byte }
+{
+    byte.is_ascii_digit() || (b'a' <= byte && byte <= b'f') || (b'A' <= byte && byte <= b'F')
+}
+
+pub(crate) fn is_letter(byte: u8) -> bool
+    ensures { result ≡ is_letter byte }
+{
+    byte.is_ascii_alphabetic() || byte == b'_'
+}
+
+fn is_in(class: Class, byte: u8) -> bool
+    ensures { result ≡ class_test class byte }
+{
+    match class {
+        Class::Digit => byte.is_ascii_digit(),
+        Class::Hexadecimal => is_hex(byte),
+        Class::Word => byte.is_ascii_alphanumeric() || byte == b'_' || byte == b'$' || byte == b'.',
+        Class::Suffix => {
+            byte.is_ascii_alphanumeric()
+                || byte == b'_'
+                || byte == b'$'
+                || byte == b'.'
+                || byte == b'-'
+        }
+    }
+}
+
+/// How many bytes at the front are of the class.
+pub(crate) fn run_len(bytes: &[u8], class: Class) -> usize
+    ensures len { result ≡ prefix_len (class_test class) bytes.now }
+    ensures within { result ≤ length bytes.now }
+{
+    bytes.iter().take_while(|b| is_in(class, **b)).count()
+}

@@ -1,0 +1,135 @@
+//! String literals.
+ghost use Rattle.std.specs.Prelude.{◌≡◌, ◌≢◌, ◌∷◌, ◌<◌, ◌≤◌, ◌+◌, suc, false, None, length, drop, option_map, IfOk, IfSome};
+ghost use Rattle.ir_text_tokens.specs.Reading.{Gives};
+ghost use Rattle.ir_text_tokens.specs.Strings.{closing, closing_escape, escape_bytes, hex_value, is_short, option_list, short_value, string_bytes};
+ghost use Rattle.ir_text_tokens.specs.Bytes.{is_line_end};
+
+use crate::runs::{is_hex, is_line_end};
+use std::alloc::{AllocError, Global};
+
+/// Whether the byte is an escape with the backslash before it.
+fn is_short(byte: u8) -> bool
+    ensures { result ≡ is_short byte }
+{
+    matches!(byte, b'\\' | b'"' | b'n' | b't')
+}
+
+/// The byte that such an escape stands for.
+fn short_value(byte: u8) -> u8
+    ensures { result ≡ short_value byte }
+{
+    match byte {
+        b'n' => b'\n',
+        b't' => b'\t',
+        _ => byte,
+    }
+}
+
+/// The number that a hexadecimal digit stands for.
+pub(crate) fn hex_value(byte: u8) -> u8
+    ensures value { result ≡ hex_value byte }
+    ensures below { result < 16 }
+{
+    match byte {
+        b'0'..=b'9' => byte - b'0',
+        b'a'..=b'f' => byte - b'a' + 10,
+        b'A'..=b'F' => byte - b'A' + 10,
+        _ => 0,
+    }
+}
+
+/// How many bytes an escape has behind its backslash, where one stands.
+#[tactic(auto, unfolding(crate::specs::Strings::closing))]
+fn escape_len(bytes: &[u8]) -> Option<usize>
+    ensures found { IfSome result (λ n. closing_escape bytes.now ≡ option_map (λ k. n + k) (closing (drop n bytes.now))) }
+    ensures none { result ≡ None → closing_escape bytes.now ≡ None }
+    ensures within { IfSome result (λ n. n ≤ length bytes.now) }
+{
+    match bytes {
+        [byte, ..] if is_short(*byte) => Some(1),
+        [high, low, ..] if is_hex(*high) && is_hex(*low) => Some(2),
+        _ => None,
+    }
+}
+
+/// How many further bytes belong to a byte that ends no string: those of an escape behind a backslash.
+#[tactic(auto, unfolding(crate::specs::Strings::closing))]
+fn part_len(byte: u8, bytes: &[u8]) -> Option<usize>
+    requires quote { byte ≢ 34 }
+    requires line { is_line_end byte ≡ false }
+    ensures found { IfSome result (λ n. closing (byte ∷ bytes.now) ≡ option_map (λ k. suc (n + k)) (closing (drop n bytes.now))) }
+    ensures none { result ≡ None → closing (byte ∷ bytes.now) ≡ None }
+    ensures within { IfSome result (λ n. n ≤ length bytes.now) }
+{
+    if byte == b'\\' {
+        escape_len(bytes)
+    } else {
+        Some(0)
+    }
+}
+
+/// How many bytes stand before the quote that ends a string. Else how many are left where it is
+/// refused: at the backslash of a bad escape, or `None` where the string is open.
+#[tactic(auto, unfolding(crate::specs::Strings::closing))]
+pub(crate) fn closing(bytes: &[u8]) -> Result<usize, Option<usize>>
+    ensures found { Gives (λ n. n) result (closing bytes.now) }
+    ensures within { IfOk result (λ n. n < length bytes.now) }
+{
+    let mut rest = bytes;
+    let mut len = 0;
+    'parts: while let [byte, tail @ ..] = rest {
+        if *byte == b'"' {
+            return Ok(len);
+        }
+        if is_line_end(*byte) {
+            return Err(None);
+        }
+        let Some(more) = part_len(*byte, tail) else {
+            return Err(Some(rest.len()));
+        };
+        rest = &tail[more..];
+        len += 1 + more;
+    }
+    Err(None)
+}
+
+/// The byte that an escape stands for, behind its backslash, and what follows it.
+#[tactic(auto, unfolding(crate::specs::Strings::string_bytes))]
+fn escape(bytes: &[u8]) -> Option<(u8, &[u8])>
+    ensures value { escape_bytes bytes.now ≡ option_list (λ x. x.0 ∷ string_bytes x.1.now) result }
+    ensures shorter { IfSome result (λ x. length x.1.now < length bytes.now) }
+{
+    match bytes {
+        [] => None,
+        [byte, tail @ ..] => {
+            if is_short(*byte) {
+                return Some((short_value(*byte), tail));
+            }
+            match tail {
+                [] => None,
+                [low, rest @ ..] => Some((hex_value(*byte) * 16 + hex_value(*low), rest)),
+            }
+        }
+    }
+}
+
+/// The bytes that the text between two quotes stands for. MLIR Language Reference, "Common syntax".
+#[tactic(auto, unfolding(crate::specs::Strings::string_bytes))]
+pub fn string_value(alloc: Global, raw: &[u8]) -> Result<Vec<u8>, AllocError>
+    ensures { IfOk result (λ v. v.items ≡ string_bytes raw.now) }
+{
+    let mut out = Vec::with_capacity(alloc, raw.len())?;
+    let mut rest = raw;
+    'parts: while let [byte, tail @ ..] = rest {
+        if *byte != b'\\' {
+            out.push(*byte)?;
+            rest = tail;
+        } else if let Some((byte, tail)) = escape(tail) {
+            out.push(byte)?;
+            rest = tail;
+        } else {
+            return Ok(out);
+        }
+    }
+    Ok(out)
+}

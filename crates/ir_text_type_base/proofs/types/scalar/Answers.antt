@@ -1,4 +1,0 @@
-use Rattle.ir_text_type_base.proofs.types.scalar.Goals as goal
-
-pub kept-requires : goal.kept-requires
-kept-requires c = c.in-Some.ensures.parts c.args.ctx.now

@@ -1,0 +1,7 @@
+pub mod Widths
+pub mod Known
+pub mod ShapeSteps
+pub mod ShapeLaws
+pub mod TypeLaws
+pub mod Unique
+pub mod Numbered

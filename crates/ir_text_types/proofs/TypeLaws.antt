@@ -1,0 +1,434 @@
+-- Types that are read are spelled, and types that are spelled are read.
+use Rattle.std.proofs.Common.{◌≡◌, ◌<◌, ◌≤◌, ℕ, zero, suc, Bool, true, false, List, [], ◌∷◌, length, map, Option, Some, None, slice_get, refl, sym, ap, subst, ◌∙◌, ◌⊎◌, inl, inr, ⊎_elim, leb-true}
+use Rattle.std.specs.Prelude.{option_map, if◌then◌else◌, ◌&&◌, ◌==◌, not, nat_le}
+use Rattle.std.specs.List.{All, AllByRecursion, list_any, list_all}
+use Rattle.std.specs.Str.{bytes_eq}
+use Rattle.std.specs.Char.{is_ascii_digit}
+use Rattle.std.proofs.lemmas.Option.{slice_get_within}
+use Rattle.std.proofs.lemmas.List.Elements.{All-from_recursion}
+use Rattle.ir_text_tokens.specs.declared.token.Mark.TheVariants.{OpenRound, CloseRound, Less, Greater, Arrow}
+use Rattle.ir_text_tokens.specs.Numbers.{integer_of}
+use Rattle.ir_text_tokens.specs.Tokens.{Lexeme, bare, next}
+use Rattle.ir_types.specs.declared.node.Sign.{Sign}
+use Rattle.ir_types.specs.declared.node.Sign.TheVariants.{Signless, Signed, Unsigned}
+use Rattle.ir_types.specs.declared.node.TypeNode.{TypeNode}
+use Rattle.ir_types.specs.declared.node.TypeNode.TheVariants as node
+use Rattle.ir_types.specs.declared.refusal.Refusal.{Refusal}
+use Rattle.ir_types.specs.declared.refusal.Refusal.TheVariants.{BadWidth, BadValue, TooDeep, TooMany}
+use Rattle.ir_types.specs.Things.{Things, TypeIsOf, Grows}
+use Rattle.ir_types.specs.Things as of
+use Rattle.ir_types.specs.Terms.{TypeTerm, TypeTerms, Function, type_from, type_terms, type_term, type_node_term}
+use Rattle.ir_types.specs.Terms as terms
+use Rattle.ir_types.specs.Same.{same_type}
+use Rattle.ir_types.specs.Interning.{with_type}
+use Rattle.ir_types.specs.Reasons.{is_width, is_dimension, first_reason, full_reason, depth_reason, type_fault, type_reason}
+use Rattle.ir_types.specs.Depths.{type_depth}
+use Rattle.ir_types.specs.Sound.{IsSound}
+use Rattle.ir_types.proofs.Growth.{grows_refl, grows_trans, grows_type}
+use Rattle.ir_types.proofs.Terms.{type_term_is}
+use Rattle.ir_types.proofs.CallNumbers.{type_stands, place_in}
+use Rattle.ir_types.proofs.Calls.{no_first}
+use Rattle.ir_types.proofs.AcceptedCalls.{accepted_type, neither_back}
+use Rattle.ir_text_reading.specs.Outcomes.{Outcome, Read, Wrong, Full, ◌>>=◌, of_option, interned, Parse}
+use Rattle.ir_text_reading.specs.Typed.{Typed, after_typed, type_step}
+use Rattle.ir_text_types.specs.Scalars.{within, width_of, begins_zero, signed_of_word, integer_type_of, scalar_of, index_word, memref_word}
+use Rattle.ir_text_types.specs.ShapeGrammar.{IsShape}
+use Rattle.ir_text_types.specs.ShapeReading.{dimensions_at}
+use Rattle.ir_text_types.specs.TypeReading.{many, type_done, scalar_from, scalar_at, shape_at, memref_at, word_from, word_type_from, word_type_at, types_at, outputs_from, outputs_at, signature_at, function_at, type_from as type_read_from, type_at, function_type_at}
+use Rattle.ir_text_reading.specs.Grammars.{Grammar, Then, Done, DoneIf, After, IsMark, Token}
+use Rattle.ir_text_types.specs.TypeGrammar.{terms_of, IsScalar, IsMemref, IsWordFrom, IsWordType, IsTypes, IsOutputs, IsSignature, IsFunction, IsType, IsFunctionType}
+use Rattle.ir_text_reading.specs.Worlds.{From}
+use Rattle.ir_text_reading.specs.Standing.{TypeStands}
+use Rattle.ir_text_reading.specs.Laws.{FillsUp, TypesStand, SignatureStands}
+use Rattle.ir_text_reading.proofs.Worlds.{bind_read, option_read, bind_full, option_full, Exact, Step, Comes, Reads, step_on, reads_on, exact_spelled, nothing_exact, then_exact, done_exact, after_exact, either_exact, list_exact}
+use Rattle.ir_text_reading.proofs.TextLaws.{things, Same, text_now, typed_marks}
+use Rattle.ir_text_reading.proofs.TokenLaws.{text_exact, behind_exact, token_exact}
+use Rattle.ir_text_types.proofs.ShapeLaws.{dimensions_only, dimensions_found}
+
+-- ---- a node that is interned
+
+pub read_interned : {A : Type 0} (reason : Option Refusal) (x y : A) → interned reason x ≡ Read y → (reason ≡ None) × (x ≡ y)
+read_interned None x y e = (refl, cc)
+read_interned (Some TooMany) x y e = absurd cc
+read_interned (Some _) x y e = absurd cc
+
+-- a list that is full refuses for that alone
+pub full_cases : {A : Type 0} (is : A → Bool) (xs : List A) → (full_reason is xs ≡ None) ⊎ (full_reason is xs ≡ Some TooMany)
+full_cases is xs = by_case (not (list_any is xs) && nat_le 16777216 (length xs))
+  where
+    by_case : (b : Bool) → ((if b then Some TooMany else None) ≡ None) ⊎ ((if b then Some TooMany else None) ≡ Some TooMany)
+    by_case true = inr refl
+    by_case false = inl refl
+
+pub full_interned : {A : Type 0} (reason : Option Refusal) (x : A) → interned reason x ≡ Full → reason ≡ Some TooMany
+full_interned None x e = absurd cc
+full_interned (Some TooMany) x e = refl
+full_interned (Some _) x e = absurd cc
+
+-- and then so many things are there
+pub full_count : {A : Type 0} (is : A → Bool) (xs : List A) → full_reason is xs ≡ Some TooMany → 16777216 ≤ length xs
+full_count is xs e = by_case (not (list_any is xs)) (nat_le 16777216 (length xs)) refl e
+  where
+    by_case : (a b : Bool) → nat_le 16777216 (length xs) ≡ b → (if a && b then Some TooMany else None) ≡ Some TooMany → 16777216 ≤ length xs
+    by_case true true h e = leb-true 16777216 (length xs) h
+    by_case true false h e = absurd cc
+    by_case false b h e = absurd cc
+
+-- a fault of a type is not that
+no_fault_full : (y : TypeTerm) (next : Option Refusal) → first_reason (type_fault y) next ≡ Some TooMany → next ≡ Some TooMany
+no_fault_full y next e = by_size y e
+  where
+    by_depth : (d : ℕ) → first_reason (depth_reason d) next ≡ Some TooMany → next ≡ Some TooMany
+    by_depth d e = by_case (nat_le d 32) e
+      where
+        by_case : (b : Bool) → first_reason (if b then None else Some TooDeep) next ≡ Some TooMany → next ≡ Some TooMany
+        by_case true e = e
+        by_case false e = absurd cc
+
+    by_size : (y : TypeTerm) → first_reason (type_fault y) next ≡ Some TooMany → next ≡ Some TooMany
+    by_size (terms.Integer sign width) e = by_case (is_width width) e
+      where
+        by_case : (b : Bool) → first_reason (first_reason (if b then None else Some BadWidth) (depth_reason 1)) next ≡ Some TooMany → next ≡ Some TooMany
+        by_case true e = by_depth 1 e
+        by_case false e = absurd cc
+    by_size (terms.Memref dims elem) e = by_case (list_all is_dimension dims) e
+      where
+        by_case : (b : Bool) → first_reason (first_reason (if b then None else Some BadValue) (depth_reason (type_depth (terms.Memref dims elem)))) next ≡ Some TooMany → next ≡ Some TooMany
+        by_case true e = by_depth (type_depth (terms.Memref dims elem)) e
+        by_case false e = absurd cc
+    by_size terms.Index e = by_depth 1 e
+    by_size (terms.Function inputs outputs) e = by_depth (type_depth (terms.Function inputs outputs)) e
+
+-- in z the node's parts are there, and it is y
+abbrev pub IsNodeOf : TypeNode → TypeTerm → Things → Type 0
+IsNodeOf node y z = TypeIsOf z node × (type_node_term z node ≡ y)
+
+abbrev moved : Typed → ℕ × Things → ℕ × Typed
+moved s n = (n.0, (s.0, n.1))
+
+abbrev done : ℕ × Typed → Outcome (ℕ × Typed)
+done x = Read x
+
+done_step : (node : TypeNode) (y : TypeTerm) (s : Typed) (t : List ℕ) → IsSound s.1 → s.0 ≡ t → From (IsNodeOf node y) s.1 → type_reason node s.1 ≡ None → Step things Same TypeStands s (with_type node s.1).0 y (s.0, (with_type node s.1).1) t
+done_step node y s t sound same r fine = record {
+  grows = grows_type node s.1;
+  sound = accepted_type node s.1 sound (r s.1 (grows_refl s.1) sound).0 fine;
+  stands = λ z g w.
+      let n = (with_type node s.1).0 in
+      let at : slice_get z.types n ≡ Some node = place_in ((with_type node s.1).1).types z.types n node g.types (type_stands node s.1) in
+      (slice_get_within z.types n node at, type_term_is z n node w.holds at ∙ (r z (grows_trans s.1 (with_type node s.1).1 z (grows_type node s.1) g) w).1);
+  agree = λ z g w. same;
+}
+
+pub type_done_exact : (c : Things) (node : TypeNode) (y : TypeTerm) → From (IsNodeOf node y) c → Exact things Same c TypeStands (type_done node) (DoneIf (type_fault y ≡ None) y)
+unfolding type_done type_step
+type_done_exact c node y r = record {
+  found = λ s t x s' g sound h e.
+      let b = bind_read (type_step node s.1) (λ n. Read (moved s n)) (x, s') e in
+      let a = read_interned (type_reason node s.1) (with_type node s.1) b.0 b.1 in
+      let same : moved s (with_type node s.1) ≡ (x, s') = ap (moved s) a.1 ∙ cc (b.2) in
+      let no_fault = (no_first (type_fault (type_node_term s.1 node)) (full_reason (same_type node) s.1.types) a.0).0 in
+      let r' : From (IsNodeOf node y) s.1 = λ z k w. r z (grows_trans c s.1 z g k) w in
+      subst (λ (q : ℕ × Typed). Comes things Same TypeStands (DoneIf (type_fault y ≡ None) y) s t q.0 q.1) same
+      (y, t, (subst (λ y'. type_fault y' ≡ None) (r s.1 g sound).1 no_fault, refl, refl), done_step node y s t sound (text_now s t sound h) r' a.0);
+  only = λ s t y' t' g sound h k.
+      let r' : From (IsNodeOf node y) s.1 = λ z k w. r z (grows_trans c s.1 z g k) w in
+      let no_fault : type_fault (type_node_term s.1 node) ≡ None = subst (λ y'. type_fault y' ≡ None) (sym (r s.1 g sound).1) k.0 in
+      rw (k.1, k.2) (⊎_elim
+      (λ (f : full_reason (same_type node) s.1.types ≡ None).
+      let fine : type_reason node s.1 ≡ None = neither_back (type_fault (type_node_term s.1 node)) (full_reason (same_type node) s.1.types) no_fault f in
+      subst (λ o. Reads things Same TypeStands s (interned o (with_type node s.1) >>= λ n. Read (moved s n)) y t) (sym fine)
+      (inr ((with_type node s.1).0, (s.0, (with_type node s.1).1), refl, done_step node y s t sound (text_now s t sound h) r' fine)))
+      (λ (f : full_reason (same_type node) s.1.types ≡ Some TooMany). inl (rw (no_fault, f) refl))
+      (full_cases (same_type node) s.1.types));
+  full = λ s t g sound h e. ⊎_elim
+      (λ (k : type_step node s.1 ≡ Full).
+      let reason = full_interned (type_reason node s.1) (with_type node s.1) k in
+      (s.1, grows_refl s.1, sound, inr (inl (full_count (same_type node) s.1.types (no_fault_full (type_node_term s.1 node) (full_reason (same_type node) s.1.types) reason)))))
+      (λ (k : (n : ℕ × Things) × (type_step node s.1 ≡ Read n) × (done (moved s n) ≡ Full)). absurd cc)
+      (bind_full (type_step node s.1) (λ n. done (moved s n)) e);
+}
+
+-- ---- types that are one word
+
+abbrev IsWord : TypeNode → Type 0
+IsWord (node.Int sign width) = is_width width ≡ true
+IsWord node.Index = Unit {0}
+IsWord _ = ⊥
+
+choose : (b : Bool) (x y : Option TypeNode) (z : TypeNode) → (x ≡ Some z → IsWord z) → (y ≡ Some z → IsWord z) → (if b then x else y) ≡ Some z → IsWord z
+choose true x y z f g e = f e
+choose false x y z f g e = g e
+
+no_word : (z : TypeNode) → None ≡ Some z → IsWord z
+no_word z e = absurd cc
+
+width_word : (sign : Sign) (b : Bool) (w : ℕ) (z : TypeNode) → option_map (node.Int sign) (if b then within w else None) ≡ Some z → IsWord z
+width_word sign false w z e = absurd cc
+width_word sign true w z e = by_case (is_width w) refl e
+  where
+    by_case : (t : Bool) → is_width w ≡ t → option_map (node.Int sign) (if t then Some w else None) ≡ Some z → IsWord z
+    by_case true h e = let same : node.Int sign w ≡ z = cc in subst IsWord same h
+    by_case false h e = absurd cc
+
+abbrev sized : Sign → List ℕ → Option TypeNode
+sized sign ds = option_map (node.Int sign) (width_of ds)
+
+sized_word : (sign : Sign) (ds : List ℕ) (z : TypeNode) → sized sign ds ≡ Some z → IsWord z
+sized_word sign ds z e = width_word sign (not (begins_zero ds) && list_all is_ascii_digit ds) (integer_of ds) z e
+
+abbrev unsigned_of : ℕ → List ℕ → Option TypeNode
+unsigned_of c ds = if c == 117 then sized Unsigned ds else None
+
+signed_word : (c : ℕ) (ds : List ℕ) (z : TypeNode) → signed_of_word c ds ≡ Some z → IsWord z
+signed_word c [] z e = absurd cc
+signed_word c (d ∷ ds) z e =
+    choose (d == 105) (if c == 115 then sized Signed ds else unsigned_of c ds) None z
+    (choose (c == 115) (sized Signed ds) (unsigned_of c ds) z (sized_word Signed ds z) (choose (c == 117) (sized Unsigned ds) None z (sized_word Unsigned ds z) (no_word z)))
+    (no_word z) e
+
+integer_word : (word : List ℕ) (z : TypeNode) → integer_type_of word ≡ Some z → IsWord z
+integer_word [] z e = absurd cc
+integer_word (c ∷ ds) z e = choose (c == 105) (sized Signless ds) (signed_of_word c ds) z (sized_word Signless ds z) (signed_word c ds z) e
+
+pub scalar_word : (word : List ℕ) (z : TypeNode) → scalar_of word ≡ Some z → IsWord z
+unfolding scalar_of
+scalar_word word z e = choose (bytes_eq word index_word) (Some node.Index) (integer_type_of word) z (λ h. let same : node.Index ≡ z = cc in subst IsWord same tt) (integer_word word z) e
+
+word_stands : (z : TypeNode) (c : Things) → IsWord z → IsNodeOf z (type_from [] z) c
+word_stands (node.Int sign width) c h = (tt, refl)
+word_stands node.Index c h = (tt, refl)
+word_stands (node.Func inputs outputs) c h = absurd h
+word_stands (node.Memref dims elem) c h = absurd h
+
+word_fine : (z : TypeNode) → IsWord z → type_fault (type_from [] z) ≡ None
+word_fine (node.Int sign width) h = rw h refl
+word_fine node.Index h = refl
+word_fine (node.Func inputs outputs) h = absurd h
+word_fine (node.Memref dims elem) h = absurd h
+
+scalar_found : (s : Typed) (t : List ℕ) (x : ℕ) (s' : Typed) (l : Lexeme) (rest : List ℕ) → next s.0 ≡ Some (l, rest) → IsSound s.1 → s.0 ≡ t → scalar_from s.1 l rest ≡ Read (x, s') → Comes things Same TypeStands IsScalar s t x s'
+scalar_found s t x s' (bare word) rest token sound same e =
+    let o = option_read (scalar_of word) (λ node. type_done node (rest, s.1)) (x, s') e in
+    let w = scalar_word word o.0 o.1 in
+    let n = (type_done_exact s.1 o.0 (type_from [] o.0) (λ z g k. word_stands o.0 z w)).found (rest, s.1) rest x s' (grows_refl s.1) sound (λ z g k. refl) o.2 in
+    let read : Token (bare word) t n.1 = subst (λ b. Token (bare word) b n.1) same (rw n.2.2 token) in
+    (n.0, n.1, (word, o.0, read, o.1, n.2.1), step_on things Same TypeStands s (rest, s.1) x n.0 s' n.1 (grows_refl s.1) n.3)
+scalar_found s t x s' _ rest token sound same e = absurd cc
+
+scalar_full : (s : Typed) (l : Lexeme) (rest : List ℕ) → IsSound s.1 → scalar_from s.1 l rest ≡ Full → FillsUp s.1
+scalar_full s (bare word) rest sound e =
+    let o = option_full (scalar_of word) (λ node. type_done node (rest, s.1)) e in
+    let w = scalar_word word o.0 o.1 in
+    (type_done_exact s.1 o.0 (type_from [] o.0) (λ z g k. word_stands o.0 z w)).full (rest, s.1) rest (grows_refl s.1) sound (λ z g k. refl) o.2
+scalar_full s _ rest sound e = absurd cc
+
+pub scalar_exact : (c : Things) → Exact things Same c TypeStands scalar_at IsScalar
+unfolding scalar_at
+scalar_exact c = record {
+  found = λ s t x s' g sound h e.
+      let b = option_read (next s.0) (λ l. scalar_from s.1 l.0 l.1) (x, s') e in
+      scalar_found s t x s' b.0.0 b.0.1 b.1 sound (text_now s t sound h) b.2;
+  only = λ s t y t' g sound h k.
+      let token : next s.0 ≡ Some (bare k.0, t') = subst (λ b. Token (bare k.0) b t') (sym (text_now s t sound h)) k.2 in
+      let w = scalar_word k.0 k.1 k.3 in
+      rw (token, k.3) (reads_on things Same TypeStands s (t', s.1) (type_done k.1 (t', s.1)) y t' (grows_refl s.1)
+      ((type_done_exact s.1 k.1 (type_from [] k.1) (λ z g k'. word_stands k.1 z w)).only (t', s.1) t' y t' (grows_refl s.1) sound (λ z g k'. refl) (word_fine k.1 w, k.4, refl)));
+  full = λ s t g sound h e.
+      let b = option_full (next s.0) (λ l. scalar_from s.1 l.0 l.1) e in
+      scalar_full s b.0.0 b.0.1 sound b.2;
+}
+
+-- ---- memrefs
+
+-- no dimension is too great
+abbrev IsGoodShape : Grammar (List ℕ) (List (Option ℕ))
+IsGoodShape dims old new = (list_all is_dimension dims ≡ true) × IsShape many dims old new
+
+shape_exact : (c : Things) → Exact things Same c (λ z x y. x ≡ y) shape_at IsGoodShape
+shape_exact c = text_exact c (dimensions_at many []) IsGoodShape found (λ t t' x k. dimensions_only many [] x t t' k.0 k.1.0 k.1.1)
+  where
+    found : (t t' : List ℕ) (x : List (Option ℕ)) → dimensions_at many [] t ≡ Some (x, t') → IsGoodShape x t t'
+    found t t' x e =
+        let f = dimensions_found many [] x t t' e in
+        subst (λ ds. IsGoodShape ds t t') (sym f.1) (f.2, f.3)
+
+dims_fine : (dims : List (Option ℕ)) (elem : TypeTerm) → type_fault (terms.Memref dims elem) ≡ None → list_all is_dimension dims ≡ true
+dims_fine dims elem e = by_case (list_all is_dimension dims) refl e
+  where
+    by_case : (b : Bool) → list_all is_dimension dims ≡ b → first_reason (if b then None else Some BadValue) (depth_reason (type_depth (terms.Memref dims elem))) ≡ None → list_all is_dimension dims ≡ true
+    by_case true h e = h
+    by_case false h e = absurd cc
+
+memref_stands : (z : Things) (dims ds : List (Option ℕ)) (n : ℕ) (y : TypeTerm) → dims ≡ ds → TypeStands z n y → IsNodeOf (node.Memref dims n) (terms.Memref ds y) z
+memref_stands z dims ds n y e h = (h.0, λ i. terms.Memref (e i) (h.1 i))
+
+-- what stands behind the dimensions
+abbrev IsElement : List (Option ℕ) → Grammar (List ℕ) TypeTerm
+IsElement dims = Then IsScalar (λ elem. After IsMark Greater (DoneIf (type_fault (terms.Memref dims elem) ≡ None) (terms.Memref dims elem)))
+
+pub memref_exact : (c : Things) → Exact things Same c TypeStands memref_at IsMemref
+unfolding memref_at IsMemref
+memref_exact c =
+    exact_spelled things Same c TypeStands memref_at (After IsMark Less (Then IsGoodShape IsElement)) IsMemref
+    (λ y t t' k. (k.0, k.1, (k.2.0, k.2.1, k.2.2.1, k.2.3)))
+    (λ y t t' k. (k.0, k.1, (k.2.0, k.2.1, (dims_fine k.2.0 k.2.3.0 k.2.3.3.2.0, k.2.2), k.2.3)))
+    (after_exact things Same after_typed IsMark typed_marks c TypeStands Less _ _
+    (then_exact things Same c (λ z x y. x ≡ y) TypeStands shape_at IsGoodShape _ IsElement (shape_exact c) (λ d dims ds g r.
+    then_exact things Same d TypeStands TypeStands scalar_at IsScalar _ _ (scalar_exact d) (λ e n y h k.
+    after_exact things Same after_typed IsMark typed_marks e TypeStands Greater _ _
+    (type_done_exact e (node.Memref dims n) (terms.Memref ds y) (λ z l w. memref_stands z dims ds n y (r z (grows_trans d e z h l) w) (k z l w)))))))
+
+-- ---- types that begin with a word
+
+-- what the type of a word is, where it has one
+node_exact : (word : List ℕ) (c : Things) (o : Option TypeNode) → scalar_of word ≡ o
+    → Exact things Same c TypeStands (λ s. of_option o >>= λ n. type_done n s) (λ y old new. (n : TypeNode) × (o ≡ Some n) × (y ≡ type_from [] n) × (new ≡ old))
+node_exact word c None e =
+    exact_spelled things Same c TypeStands (λ s. Wrong) (λ y old new. ⊥) (λ y old new. (n : TypeNode) × (None ≡ Some n) × (y ≡ type_from [] n) × (new ≡ old))
+    (λ y t t' k. absurd k) (λ y t t' k. let no : None ≡ Some k.0 = k.1 in absurd cc) (nothing_exact things Same c TypeStands)
+node_exact word c (Some v) e =
+    let w = scalar_word word v e in
+    exact_spelled things Same c TypeStands (type_done v) (DoneIf (type_fault (type_from [] v) ≡ None) (type_from [] v)) (λ y old new. (n : TypeNode) × (Some v ≡ Some n) × (y ≡ type_from [] n) × (new ≡ old))
+    (λ y t t' k. (v, refl, k.1, k.2)) (λ y t t' k. let same : v ≡ k.0 = cc (k.1) in (word_fine v w, k.2 ∙ ap (type_from []) (sym same), k.3))
+    (type_done_exact c v (type_from [] v) (λ z g k. word_stands v z w))
+
+word_exact : (b : Bool) (word : List ℕ) (c : Things) → Exact things Same c TypeStands (word_from b word) (IsWordFrom b word)
+word_exact true word c = memref_exact c
+word_exact false word c = node_exact word c (scalar_of word) refl
+
+-- a word and what stands behind it
+abbrev IsBehind : Lexeme → List ℕ → Grammar (List ℕ) TypeTerm
+IsBehind (bare word) rest y old new = IsWordFrom (bytes_eq word memref_word) word y rest new
+IsBehind _ rest y old new = ⊥
+
+behind_word : (c : Things) (l : Lexeme) (rest : List ℕ) → Exact things Same c TypeStands (λ s. word_type_from s.1 l rest) (IsBehind l rest)
+behind_word c (bare word) rest = behind_exact c TypeStands rest (word_from (bytes_eq word memref_word) word) (IsWordFrom (bytes_eq word memref_word) word) (word_exact (bytes_eq word memref_word) word c)
+behind_word c _ rest = nothing_exact things Same c TypeStands
+
+pub word_type_exact : (c : Things) → Exact things Same c TypeStands word_type_at IsWordType
+unfolding word_type_at
+word_type_exact c =
+    exact_spelled things Same c TypeStands word_type_at (λ y old new. (l : Lexeme) × (rest : List ℕ) × Token l old rest × IsBehind l rest y old new) IsWordType
+    (λ y t t' k. into k.0 k.1 y t t' k.2 k.3) (λ y t t' k. (bare k.0, k.1, k.2, k.3))
+    (token_exact c TypeStands (λ s l rest. word_type_from s.1 l rest) IsBehind (behind_word c))
+  where
+    into : (l : Lexeme) (rest : List ℕ) (y : TypeTerm) (t t' : List ℕ) → Token l t rest → IsBehind l rest y t t' → IsWordType y t t'
+    into (bare word) rest y t t' token k = (word, rest, token, k)
+    into _ rest y t t' token k = absurd k
+
+-- ---- types in parentheses
+
+each_below : (z : Things) (xs : List ℕ) (ys : List TypeTerm) → TypesStand z xs ys → AllByRecursion (λ t. t < length z.types) xs
+each_below z [] [] h = tt
+each_below z [] (y ∷ ys) h = absurd h
+each_below z (x ∷ xs) [] h = absurd h
+each_below z (x ∷ xs) (y ∷ ys) h = (h.0.0, each_below z xs ys h.1)
+
+each_term : (z : Things) (xs : List ℕ) (ys : List TypeTerm) → TypesStand z xs ys → terms.types_at (type_terms z) xs ≡ terms_of ys
+each_term z [] [] h = refl
+each_term z [] (y ∷ ys) h = absurd h
+each_term z (x ∷ xs) [] h = absurd h
+each_term z (x ∷ xs) (y ∷ ys) h = λ i. terms.next_type (h.0.1 i) (each_term z xs ys h.1 i)
+
+pub func_stands : (z : Things) (x : List ℕ × List ℕ) (y : List TypeTerm × List TypeTerm) → SignatureStands z x y → IsNodeOf (node.Func x.0 x.1) (Function (terms_of y.0) (terms_of y.1)) z
+func_stands z x y h = (
+  (All-from_recursion (λ t. t < length z.types) x.0 (each_below z x.0 y.0 h.0), All-from_recursion (λ t. t < length z.types) x.1 (each_below z x.1 y.1 h.1)),
+  λ i. Function (each_term z x.0 y.0 h.0 i) (each_term z x.1 y.1 h.1 i),
+)
+
+module _ (p : Parse Typed ℕ) (P : Grammar (List ℕ) TypeTerm) (item : (c : Things) → Exact things Same c TypeStands p P) where
+  pub types_exact : (room : ℕ) (c : Things) → Exact things Same c TypesStand (types_at p room) (IsTypes P room)
+  unfolding types_at IsTypes
+  types_exact room c = list_exact things Same after_typed IsMark typed_marks TypeStands CloseRound (λ before. p) (λ before. P) (λ d xs ys r. item d) room c
+
+  pub outputs_exact : (room : ℕ) (c : Things) → Exact things Same c TypesStand (outputs_at p room) (IsOutputs P room)
+  unfolding outputs_at IsOutputs
+  outputs_exact room c =
+      either_exact things Same after_typed IsMark typed_marks c TypesStand OpenRound (outputs_from p room) (types_at p room) (λ s. p s >>= λ x. Read (x.0 ∷ [], x.1)) (IsTypes P room) (Then P (λ y. Done (y ∷ [])))
+      (λ s mid. refl) (λ s. refl) (types_exact room c)
+      (then_exact things Same c TypeStands TypesStand p P (λ x s. Read (x ∷ [], s)) (λ y. Done (y ∷ [])) (item c) (λ d x y g r.
+      done_exact things Same d TypesStand (x ∷ []) (y ∷ []) (λ z k w. (r z k w, tt))))
+
+  pub signature_exact : (room : ℕ) (c : Things) → Exact things Same c SignatureStands (signature_at p room) (IsSignature P room)
+  unfolding signature_at IsSignature
+  signature_exact room c =
+      then_exact things Same c TypesStand SignatureStands _ _ _ _ (types_exact many c) (λ d inputs ins g r.
+      after_exact things Same after_typed IsMark typed_marks d SignatureStands Arrow _ _ (then_exact things Same d TypesStand SignatureStands _ _ _ _ (outputs_exact room d) (λ e outputs outs h k.
+      done_exact things Same e SignatureStands (inputs, outputs) (ins, outs) (λ z l w. (r z (grows_trans d e z h l) w, k z l w)))))
+
+  pub function_exact : (c : Things) → Exact things Same c TypeStands (function_at p) (IsFunction P)
+  unfolding function_at IsFunction
+  function_exact c =
+      then_exact things Same c SignatureStands TypeStands (signature_at p many) (IsSignature P many) (λ x. type_done (node.Func x.0 x.1)) (λ y. DoneIf (type_fault (Function (terms_of y.0) (terms_of y.1)) ≡ None) (Function (terms_of y.0) (terms_of y.1)))
+      (signature_exact many c) (λ d x y g r. type_done_exact d (node.Func x.0 x.1) (Function (terms_of y.0) (terms_of y.1)) (λ z k w. func_stands z x y (r z k w)))
+
+-- ---- types, and the function types of operations
+
+pub type_exact : (depth : ℕ) (c : Things) → Exact things Same c TypeStands (type_at depth) (IsType depth)
+unfolding type_at IsType
+type_exact zero c = record { found = λ s t x s' g sound h e. absurd cc; only = λ s t y t' g sound h k. absurd k; full = λ s t g sound h e. absurd cc }
+type_exact (suc depth) c =
+    either_exact things Same after_typed IsMark typed_marks c TypeStands OpenRound (type_read_from (type_at depth)) (function_at (type_at depth)) word_type_at (IsFunction (IsType depth)) IsWordType
+    (λ s mid. refl) (λ s. refl) (function_exact (type_at depth) (IsType depth) (type_exact depth) c) (word_type_exact c)
+
+pub function_type_exact : (c : Things) → Exact things Same c SignatureStands function_type_at IsFunctionType
+unfolding function_type_at IsFunctionType
+function_type_exact c =
+    after_exact things Same after_typed IsMark typed_marks c SignatureStands OpenRound (signature_at (type_at 32) 256) (IsSignature (IsType 32) 256) (signature_exact (type_at 32) (IsType 32) (type_exact 32) 256 c)
+
+-- ---- from a text
+
+pub type_read : (depth : ℕ) (c d : Things) (bytes rest : List ℕ) (n : ℕ) → IsSound c → type_at depth (bytes, c) ≡ Read (n, (rest, d)) → Grows c d × IsSound d × of.IsType d n × IsType depth (type_term d n) bytes rest
+type_read depth c d bytes rest n sound e =
+    let f = (type_exact depth c).found (bytes, c) bytes n (rest, d) (grows_refl c) sound (λ z g w. refl) e in
+    let r = f.3.stands d (grows_refl d) f.3.sound in
+    let spelled : IsType depth (type_term d n) bytes f.1 = subst (λ y. IsType depth y bytes f.1) (sym r.1) f.2 in
+    (f.3.grows, f.3.sound, r.0, subst (λ b. IsType depth (type_term d n) bytes b) (sym (text_now (rest, d) f.1 f.3.sound f.3.agree)) spelled)
+
+abbrev pair : {A : Type 0} → A → Things → List ℕ → Outcome (A × Typed)
+pair x d b = Read (x, (b, d))
+
+pub type_spelled : (depth : ℕ) (c : Things) (bytes rest : List ℕ) (y : TypeTerm) → IsSound c → IsType depth y bytes rest → (type_at depth (bytes, c) ≡ Full) ⊎ ((n : ℕ) × (d : Things) × (type_at depth (bytes, c) ≡ Read (n, (rest, d))) × Grows c d × IsSound d × TypeStands d n y)
+type_spelled depth c bytes rest y sound k = ⊎_elim
+    (λ (e : type_at depth (bytes, c) ≡ Full). inl e)
+    (λ (f : (n : ℕ) × (s : Typed) × (type_at depth (bytes, c) ≡ Read (n, s)) × Step things Same TypeStands (bytes, c) n y s rest).
+    inr (f.0, f.1.1, f.2 ∙ ap (pair f.0 f.1.1) (text_now f.1 rest f.3.sound f.3.agree), f.3.grows, f.3.sound, f.3.stands f.1.1 (grows_refl f.1.1) f.3.sound))
+    ((type_exact depth c).only (bytes, c) bytes y rest (grows_refl c) sound (λ z g w. refl) k)
+
+pub type_full : (depth : ℕ) (c : Things) (bytes : List ℕ) → IsSound c → type_at depth (bytes, c) ≡ Full → FillsUp c
+type_full depth c bytes sound e = (type_exact depth c).full (bytes, c) bytes (grows_refl c) sound (λ z g w. refl) e
+
+-- ---- and function types
+
+stand_map : (z : Things) (xs : List ℕ) (ys : List TypeTerm) → TypesStand z xs ys → All (of.IsType z) xs × (map (type_term z) xs ≡ ys)
+stand_map z xs ys h = (All-from_recursion (of.IsType z) xs (each_below z xs ys h), terms_are z xs ys h)
+  where
+    terms_are : (z : Things) (xs : List ℕ) (ys : List TypeTerm) → TypesStand z xs ys → map (type_term z) xs ≡ ys
+    terms_are z [] [] h = refl
+    terms_are z [] (y ∷ ys) h = absurd h
+    terms_are z (x ∷ xs) [] h = absurd h
+    terms_are z (x ∷ xs) (y ∷ ys) h = λ i. h.0.1 i ∷ terms_are z xs ys h.1 i
+
+pub function_type_read : (c d : Things) (bytes rest : List ℕ) (x : List ℕ × List ℕ) → IsSound c → function_type_at (bytes, c) ≡ Read (x, (rest, d))
+    → Grows c d × IsSound d × All (of.IsType d) x.0 × All (of.IsType d) x.1 × IsFunctionType (map (type_term d) x.0, map (type_term d) x.1) bytes rest
+function_type_read c d bytes rest x sound e =
+    let f = (function_type_exact c).found (bytes, c) bytes x (rest, d) (grows_refl c) sound (λ z g w. refl) e in
+    let r = f.3.stands d (grows_refl d) f.3.sound in
+    let ins = stand_map d x.0 f.0.0 r.0 in
+    let outs = stand_map d x.1 f.0.1 r.1 in
+    let y : List TypeTerm × List TypeTerm = (map (type_term d) x.0, map (type_term d) x.1) in
+    let same : f.0 ≡ y = λ i. (sym ins.1 i, sym outs.1 i) in
+    let spelled : IsFunctionType y bytes f.1 = subst (λ y'. IsFunctionType y' bytes f.1) same f.2 in
+    (f.3.grows, f.3.sound, ins.0, outs.0, subst (λ b. IsFunctionType y bytes b) (sym (text_now (rest, d) f.1 f.3.sound f.3.agree)) spelled)
+
+pub function_type_spelled : (c : Things) (bytes rest : List ℕ) (y : List TypeTerm × List TypeTerm) → IsSound c → IsFunctionType y bytes rest
+    → (function_type_at (bytes, c) ≡ Full) ⊎ ((x : List ℕ × List ℕ) × (d : Things) × (function_type_at (bytes, c) ≡ Read (x, (rest, d))) × Grows c d × IsSound d × SignatureStands d x y)
+function_type_spelled c bytes rest y sound k = ⊎_elim
+    (λ (e : function_type_at (bytes, c) ≡ Full). inl e)
+    (λ (f : (x : List ℕ × List ℕ) × (s : Typed) × (function_type_at (bytes, c) ≡ Read (x, s)) × Step things Same SignatureStands (bytes, c) x y s rest).
+    inr (f.0, f.1.1, f.2 ∙ ap (pair f.0 f.1.1) (text_now f.1 rest f.3.sound f.3.agree), f.3.grows, f.3.sound, f.3.stands f.1.1 (grows_refl f.1.1) f.3.sound))
+    ((function_type_exact c).only (bytes, c) bytes y rest (grows_refl c) sound (λ z g w. refl) k)
+
+pub function_type_full : (c : Things) (bytes : List ℕ) → IsSound c → function_type_at (bytes, c) ≡ Full → FillsUp c
+function_type_full c bytes sound e = (function_type_exact c).full (bytes, c) bytes (grows_refl c) sound (λ z g w. refl) e

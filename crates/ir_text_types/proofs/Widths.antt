@@ -1,0 +1,41 @@
+-- Widths and the limit of numbers.
+use Rattle.std.proofs.Common.{◌≡◌, ℕ, ◌+◌, ◌-◌, ◌*◌, ◌<◌, ◌≤◌, Bool, true, false, List, [], ◌∷◌, length, get_or, Some, None, refl, arith}
+use Rattle.std.specs.Prelude.{◌&&◌, ◌==◌}
+use Rattle.std.specs.List.{list_all}
+use Rattle.std.specs.Char.{is_ascii_digit}
+use Rattle.std.proofs.lemmas.Bool.Decides.{nat_tests}
+use Rattle.ir_text_tokens.specs.Numbers.{below_limit, integer_of, place_value}
+use Rattle.ir_text_tokens.proofs.Places.{is_below}
+use Rattle.ir_text_types.specs.Scalars.{begins_zero, within}
+
+-- a number within the limit is the number
+pub limit_is : (n w : ℕ) → below_limit n ≡ Some w → n ≡ w
+limit_is n w e = grind (arith, nat_tests)
+
+-- a number past it is no width
+pub limit_passed : (n : ℕ) → below_limit n ≡ None → within n ≡ None
+limit_passed n e = grind (arith, nat_tests)
+
+-- ---- two digits
+
+both_hold : (p q : Bool) → (p && q) ≡ true → (p ≡ true) × (q ≡ true)
+both_hold true q e = (refl, e)
+both_hold false q e = absurd (cc)
+
+digit_most : (c : ℕ) → is_ascii_digit c ≡ true → c ≤ 57
+digit_most c e = grind (arith, nat_tests)
+
+two_digits : (a b : ℕ) → is_ascii_digit a ≡ true → is_ascii_digit b ≡ true → (a == 48) ≡ false → below_limit (integer_of (a ∷ b ∷ [])) ≡ Some ((a - 48) * 10 + (b - 48))
+unfolding place_value
+two_digits a b d e z =
+    let n : integer_of (a ∷ b ∷ []) ≡ (a - 48) * 10 + (b - 48) = rw (z, d, e) (omega arith) in
+    rw n (is_below ((a - 48) * 10 + (b - 48)) (omega (arith, digit_most a d, digit_most b e)))
+
+-- the number that two digits write without a zero in front
+pub two_value : (ds : List ℕ) → 2 ≤ length ds → length ds < 3 → list_all is_ascii_digit ds ≡ true → begins_zero ds ≡ false → below_limit (integer_of ds) ≡ Some ((get_or ds 0 0 - 48) * 10 + (get_or ds 1 0 - 48))
+two_value [] l m all plain = absurd (omega (arith, l))
+two_value (a ∷ []) l m all plain = absurd (omega (arith, l))
+two_value (a ∷ b ∷ []) l m all plain =
+    let p = both_hold (is_ascii_digit a) (is_ascii_digit b && true) all in
+    two_digits a b p.0 (both_hold (is_ascii_digit b) true p.1).0 plain
+two_value (a ∷ b ∷ c ∷ ds) l m all plain = absurd (omega (arith, m))

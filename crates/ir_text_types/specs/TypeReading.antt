@@ -1,0 +1,101 @@
+-- Reading types into numbers of a context.
+use Rattle.std.specs.Prelude.{ℕ, zero, suc, Bool, true, false, List, [], ◌∷◌, Option, Some, None}
+use Rattle.std.specs.Str.{bytes_eq}
+use Rattle.ir_text_tokens.specs.declared.token.Mark.TheVariants.{OpenRound, CloseRound, Less, Greater, Arrow}
+use Rattle.ir_text_tokens.specs.Tokens.{Lexeme, bare, next}
+use Rattle.ir_types.specs.declared.node.TypeNode.{TypeNode}
+use Rattle.ir_types.specs.declared.node.TypeNode.TheVariants.{Func, Memref}
+use Rattle.ir_types.specs.Things.{Things}
+use Rattle.ir_text_reading.specs.Outcomes.{Outcome, Read, Wrong, ◌>>=◌, of_option, Parse}
+use Rattle.ir_text_reading.specs.Lists.{list_at}
+use Rattle.ir_text_reading.specs.Typed.{Typed, after_typed, type_step}
+use Rattle.ir_text_types.specs.Scalars.{scalar_of, memref_word}
+use Rattle.ir_text_types.specs.ShapeReading.{dimensions_at}
+
+-- the most items of a list that has no limit of its own: no text has more
+abbrev pub many : ℕ
+many = 16777216
+
+-- a node is interned, and the text stays where it is
+unfoldable pub type_done : TypeNode → Parse Typed ℕ
+type_done node s = do
+  n ← type_step node s.1
+  Read (n.0, (s.0, n.1))
+
+-- the integer type or index that a word is, behind the word
+abbrev pub scalar_done : List ℕ → Parse Typed ℕ
+scalar_done word s = of_option (scalar_of word) >>= λ node. type_done node s
+
+abbrev pub scalar_from : Things → Lexeme → List ℕ → Outcome (ℕ × Typed)
+scalar_from c (bare word) rest = scalar_done word (rest, c)
+scalar_from c _ rest = Wrong
+
+unfoldable pub scalar_at : Parse Typed ℕ
+scalar_at s = of_option (next s.0) >>= λ t. scalar_from s.1 t.0 t.1
+
+-- dimensions
+abbrev pub shape_at : Parse Typed (List (Option ℕ))
+shape_at s = of_option (dimensions_at many [] s.0) >>= λ x. Read (x.0, (x.1, s.1))
+
+-- a memref behind its word
+unfoldable pub memref_at : Parse Typed ℕ
+memref_at s = do
+  a ← of_option (after_typed Less s)
+  dims ← shape_at a
+  elem ← scalar_at dims.1
+  c ← of_option (after_typed Greater elem.1)
+  type_done (Memref dims.0 elem.0) c
+
+-- a memref, an integer type or index, behind its word
+abbrev pub word_from : Bool → List ℕ → Parse Typed ℕ
+word_from true word s = memref_at s
+word_from false word s = scalar_done word s
+
+abbrev pub word_type_from : Things → Lexeme → List ℕ → Outcome (ℕ × Typed)
+word_type_from c (bare word) rest = word_from (bytes_eq word memref_word) word (rest, c)
+word_type_from c _ rest = Wrong
+
+-- a type that begins with a word
+unfoldable pub word_type_at : Parse Typed ℕ
+word_type_at s = of_option (next s.0) >>= λ t. word_type_from s.1 t.0 t.1
+
+module _ (p : Parse Typed ℕ) where
+  -- types up to a closing parenthesis, at most so many
+  unfoldable pub types_at : ℕ → Parse Typed (List ℕ)
+  types_at room = list_at after_typed CloseRound (λ before. p) room
+
+  abbrev pub outputs_from : ℕ → Typed → Option Typed → Outcome (List ℕ × Typed)
+  outputs_from room s (Some c) = types_at room c
+  outputs_from room s None = p s >>= λ x. Read (x.0 ∷ [], x.1)
+
+  -- one type, or types in parentheses
+  unfoldable pub outputs_at : ℕ → Parse Typed (List ℕ)
+  outputs_at room s = outputs_from room s (after_typed OpenRound s)
+
+  -- the types of a function type, behind its opening parenthesis
+  unfoldable pub signature_at : ℕ → Parse Typed (List ℕ × List ℕ)
+  signature_at room s = do
+    inputs ← types_at many s
+    a ← of_option (after_typed Arrow inputs.1)
+    outputs ← outputs_at room a
+    Read ((inputs.0, outputs.0), outputs.1)
+
+  unfoldable pub function_at : Parse Typed ℕ
+  function_at s = do
+    x ← signature_at many s
+    type_done (Func x.0.0 x.0.1) x.1
+
+abbrev pub type_from : Parse Typed ℕ → Typed → Option Typed → Outcome (ℕ × Typed)
+type_from p s (Some c) = function_at p c
+type_from p s None = word_type_at s
+
+-- a type of at most that depth
+unfoldable pub type_at : ℕ → Parse Typed ℕ
+type_at zero s = Wrong
+type_at (suc depth) s = type_from (type_at depth) s (after_typed OpenRound s)
+
+-- the function type of an operation, with at most 256 outputs
+unfoldable pub function_type_at : Parse Typed (List ℕ × List ℕ)
+function_type_at s = do
+  c ← of_option (after_typed OpenRound s)
+  signature_at (type_at 32) 256 c

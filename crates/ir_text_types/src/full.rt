@@ -1,0 +1,37 @@
+//! Whether a context is full.
+ghost use Rattle.std.specs.Prelude.{◌≡◌, ◌⊎◌, ℕ, IsTrue};
+ghost use Rattle.ir_text_reading.specs.Laws.{IsFull};
+
+use ir_text_reading::error::ReadError;
+use ir_types::context::Context;
+use ir_types::ids::{AttrId, NameId, TypeId};
+
+/// The last number that a name, a type or an attribute can have.
+const LAST: u32 = 16_777_215;
+
+/// Whether there are as many names, types or attributes as there may be.
+pub fn is_full(ctx: &Context) -> bool
+    ensures { IsTrue result → IsFull ctx.now }
+{
+    ctx.has_name(NameId::new(LAST))
+        || ctx.has_type(TypeId::new(LAST))
+        || ctx.has_attr(AttrId::new(LAST))
+}
+
+/// An error of a reading that came as far as this context. That it is full is said only where it is.
+pub fn told(ctx: &Context, error: ReadError) -> ReadError
+    ensures kept { (result ≡ error) ⊎ (result ≡ ReadError.Memory) }
+    ensures full { (left : ℕ) → result ≡ ReadError.Full left → IsFull ctx.now }
+{
+    match error {
+        ReadError::Full(left) => {
+            if is_full(ctx) {
+                ReadError::Full(left)
+            } else {
+                ReadError::Memory
+            }
+        }
+        ReadError::Memory => ReadError::Memory,
+        ReadError::Refused(fault) => ReadError::Refused(fault),
+    }
+}

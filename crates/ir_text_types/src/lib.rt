@@ -1,0 +1,9 @@
+//! Types are read from a text, and interned as they are read. What reading is: grammars and readers over
+//! any state, and the laws that join them.
+#![tactic(auto)]
+
+pub mod full;
+pub mod laws;
+mod scalars;
+mod shapes;
+pub mod types;

@@ -1,0 +1,138 @@
+//! The types that are one word, and the word of memrefs.
+ghost use Rattle.std.specs.Prelude.{◌≡◌, ◌∷◌, ℕ, List, ◌+◌, ◌-◌, ◌*◌, true, false, IfSome, option_and_then, option_map};
+ghost use Rattle.std.specs.List.{list_all};
+ghost use Rattle.std.specs.Char.{is_ascii_digit};
+ghost use Rattle.std.specs.Str.{bytes_eq};
+ghost use Rattle.ir_types.specs.Things.{Things, TypeIsOf};
+ghost use Rattle.ir_text_tokens.specs.Numbers.{below_limit, integer_of};
+ghost use Rattle.ir_text_types.specs.Scalars.{width_of, signed_of_word, integer_type_of, scalar_of, within, begins_zero, memref_word};
+
+use ir_text_tokens::numbers::integer_value;
+use ir_types::limits::MOST_WIDTH;
+use ir_types::node::{Sign, TypeNode};
+
+fn begins_zero(digits: &[u8]) -> bool
+    ensures { result ≡ begins_zero digits.now }
+{
+    match digits {
+        [] => true,
+        [digit, ..] => *digit == b'0',
+    }
+}
+
+fn are_digits(bytes: &[u8]) -> bool
+    ensures { result ≡ list_all is_ascii_digit bytes.now }
+{
+    bytes.iter().all(|byte| byte.is_ascii_digit())
+}
+
+/// The number as a width, from 1 to 128.
+fn within(number: u128) -> Option<u32>
+    ensures { result ≡ within number }
+{
+    if number >= 1 && number <= MOST_WIDTH as u128 {
+        Some(number as u32)
+    } else {
+        None
+    }
+}
+
+/// The number that two decimal digits write.
+fn two_digits(tens: u8, ones: u8) -> u128
+    requires tens { is_ascii_digit tens ≡ true }
+    requires ones { is_ascii_digit ones ≡ true }
+    ensures { result ≡ (tens - 48) * 10 + (ones - 48) }
+{
+    let number = (tens - b'0') * 10 + (ones - b'0');
+    number as u128
+}
+
+/// The number that decimal digits write without a zero in front; most widths have two.
+fn decimal_value(digits: &[u8]) -> Option<u128>
+    requires decimal { list_all is_ascii_digit digits.now ≡ true }
+    requires plain { begins_zero digits.now ≡ false }
+    ensures { result ≡ below_limit (integer_of digits.now) }
+{
+    match digits {
+        [tens, ones] => Some(two_digits(*tens, *ones)),
+        _ => integer_value(digits),
+    }
+}
+
+/// The width that digits write, from 1 to 128, in decimal and without a zero in front.
+#[tactic(auto, using(crate::proofs::Widths::limit_is, crate::proofs::Widths::limit_passed))]
+fn width_of(digits: &[u8]) -> Option<u32>
+    ensures { result ≡ width_of digits.now }
+{
+    if begins_zero(digits) || !are_digits(digits) {
+        return None;
+    }
+    within(decimal_value(digits)?)
+}
+
+/// The signedness that a byte in front of an `i` names.
+fn named_sign(byte: u8) -> Option<Sign>
+    ensures { (ds : List ℕ) → signed_of_word byte (105 ∷ ds) ≡ option_and_then (λ s. option_map (TypeNode.Int s) (width_of ds)) result }
+{
+    match byte {
+        b's' => Some(Sign::Signed),
+        b'u' => Some(Sign::Unsigned),
+        _ => None,
+    }
+}
+
+/// The signedness behind the first byte, and the digits.
+fn signed_parts(first: u8, tail: &[u8]) -> Option<(Sign, &[u8])>
+    ensures { signed_of_word first tail.now ≡ option_and_then (λ x. option_map (TypeNode.Int x.0) (width_of x.1.now)) result }
+{
+    let [second, digits @ ..] = tail else {
+        return None;
+    };
+    if *second != b'i' {
+        return None;
+    }
+    let sign = named_sign(first)?;
+    Some((sign, digits))
+}
+
+/// The signedness that a word begins with, and the digits behind it.
+fn integer_parts(word: &[u8]) -> Option<(Sign, &[u8])>
+    ensures { integer_type_of word.now ≡ option_and_then (λ x. option_map (TypeNode.Int x.0) (width_of x.1.now)) result }
+{
+    let [first, tail @ ..] = word else {
+        return None;
+    };
+    if *first == b'i' {
+        return Some((Sign::Signless, tail));
+    }
+    signed_parts(*first, tail)
+}
+
+/// The integer type that a word is.
+fn integer_type_of(word: &[u8]) -> Option<TypeNode>
+    ensures integer { result ≡ integer_type_of word.now }
+    ensures parts { IfSome result (λ node. (c : Things) → TypeIsOf c node) }
+{
+    let (sign, digits) = integer_parts(word)?;
+    let width = width_of(digits)?;
+    Some(TypeNode::Int { sign, width })
+}
+
+/// The type that a word is: `iN`, `siN`, `uiN` or `index` (Builtin Dialect, "Types").
+#[tactic(auto, unfolding(crate::specs::Scalars::scalar_of))]
+pub fn scalar_of(word: &[u8]) -> Option<TypeNode>
+    ensures scalar { result ≡ scalar_of word.now }
+    ensures parts { IfSome result (λ node. (c : Things) → TypeIsOf c node) }
+{
+    if word == b"index".as_slice() {
+        return Some(TypeNode::Index);
+    }
+    integer_type_of(word)
+}
+
+/// Whether a word is `memref`.
+pub fn is_memref(word: &[u8]) -> bool
+    ensures { result ≡ bytes_eq word.now memref_word }
+{
+    word == b"memref".as_slice()
+}

@@ -1,0 +1,344 @@
+//! Types. Language Reference, "Type System"; Builtin Dialect, "Types".
+ghost use Rattle.std.specs.Prelude.{◌≡◌, ◌∷◌, [], IfOk, option_map};
+ghost use Rattle.std.specs.List.{All};
+ghost use Rattle.ir_types.specs.Things.{Things, IsType, TypeIsOf, Grows};
+ghost use Rattle.ir_text_tokens.specs.declared.token.Mark.TheVariants.{Greater};
+ghost use Rattle.ir_text_tokens.specs.Tokens.{lexeme_of};
+ghost use Rattle.ir_text_reading.specs.Outcomes.{Gives, of_option};
+ghost use Rattle.ir_text_reading.specs.Marks.{after};
+ghost use Rattle.ir_text_types.specs.TypeReading.{type_done, scalar_done, scalar_at, memref_at, word_type_at, types_at, outputs_at, signature_at, function_at, type_at, function_type_at, many};
+
+use crate::scalars::{is_memref, scalar_of};
+use crate::shapes::dimensions;
+use ir_items::lists::Items;
+use ir_text_reading::error::{ReadError, wrong};
+use ir_text_reading::steps::{self, after, expect, token};
+use ir_text_tokens::token::{Mark, Token};
+use ir_types::context::Context;
+use ir_types::ids::TypeId;
+use ir_types::node::TypeNode;
+use ir_types::refusal::Refusal;
+use std::alloc::{AllocError, Global};
+
+/// The most items of a list that has no limit of its own: a text has no more bytes.
+pub const MANY: usize = 16_777_216;
+
+/// How deep a type or an attribute may be.
+pub const MOST_DEPTH: u32 = 32;
+
+/// The number of a type that stands in front of these bytes.
+#[tactic(auto, using(ir_types::proofs::Growth::grows_refl, ir_types::proofs::Growth::grows_trans), unfolding(crate::specs::TypeReading::type_done))]
+pub fn kept<'a>(
+    ctx: &mut Context,
+    node: TypeNode,
+    rest: &'a [u8],
+) -> Result<(TypeId, &'a [u8]), ReadError>
+    requires { TypeIsOf ctx.old node }
+    ensures reads { Gives (λ x. (x.0, (x.1.now, ctx.new))) result (type_done node (rest.now, ctx.old)) }
+    ensures grows { Grows ctx.old ctx.new }
+{
+    let id = steps::ty(ctx, node, rest)?;
+    Ok((id, rest))
+}
+
+/// The integer type or index that a word is, which stands at `start`.
+#[tactic(auto, using(ir_types::proofs::Growth::grows_refl, ir_types::proofs::Growth::grows_trans))]
+fn scalar<'a>(
+    ctx: &mut Context,
+    word: &[u8],
+    start: &[u8],
+    rest: &'a [u8],
+) -> Result<(TypeId, &'a [u8]), ReadError>
+    ensures reads { Gives (λ x. (x.0, (x.1.now, ctx.new))) result (scalar_done word.now (rest.now, ctx.old)) }
+    ensures grows { Grows ctx.old ctx.new }
+{
+    match scalar_of(word) {
+        Some(node) => kept(ctx, node, rest),
+        None => Err(ReadError::Refused(wrong(word_refusal(word), start))),
+    }
+}
+
+/// The element of a memref: a type that is one word.
+///
+/// Refusals: `BadWidth`; `LeftOut` where another type begins, or a `*`; else `Unexpected`.
+#[tactic(auto, using(ir_types::proofs::Growth::grows_refl, ir_types::proofs::Growth::grows_trans), unfolding(crate::specs::TypeReading::scalar_at))]
+fn element<'a>(ctx: &mut Context, bytes: &'a [u8]) -> Result<(TypeId, &'a [u8]), ReadError>
+    ensures reads { Gives (λ x. (x.0, (x.1.now, ctx.new))) result (scalar_at (bytes.now, ctx.old)) }
+    ensures grows { Grows ctx.old ctx.new }
+{
+    let (found, rest) = token(bytes)?;
+    match found {
+        Token::Bare(word) => scalar(ctx, word, bytes, rest),
+        _ => Err(ReadError::Refused(wrong(element_refusal(&found), bytes))),
+    }
+}
+
+/// What follows the closing mark of a memref, or `LeftOut` where a layout or memory space stands.
+fn closed(bytes: &[u8]) -> Result<&[u8], ReadError>
+    ensures { Gives (λ r. r.now) result (of_option (after Greater bytes.now)) }
+{
+    match after(bytes, Mark::Greater) {
+        Some(rest) => Ok(rest),
+        None => Err(ReadError::Refused(wrong(closing_refusal(bytes), bytes))),
+    }
+}
+
+/// A memref behind its word: dimensions and an element in angle brackets (Builtin Dialect,
+/// "MemRefType").
+///
+/// Refusals: `Unexpected`; `BadValue` at a dimension that is too great; those of the element;
+/// `LeftOut` at a comma behind it.
+#[tactic(auto, using(ir_types::proofs::Growth::grows_refl, ir_types::proofs::Growth::grows_trans), unfolding(crate::specs::TypeReading::memref_at))]
+fn memref<'a>(
+    alloc: Global,
+    ctx: &mut Context,
+    bytes: &'a [u8],
+) -> Result<(TypeId, &'a [u8]), ReadError>
+    ensures reads { Gives (λ x. (x.0, (x.1.now, ctx.new))) result (memref_at (bytes.now, ctx.old)) }
+    ensures grows { Grows ctx.old ctx.new }
+{
+    ctx.sound();
+    let rest = expect(bytes, Mark::Less)?;
+    let (dims, rest) = match dimensions(alloc, rest) {
+        Ok(found) => found,
+        Err(e) => return Err(e),
+    };
+    let (elem, rest) = match element(ctx, rest) {
+        Ok(found) => found,
+        Err(e) => return Err(e),
+    };
+    let rest = closed(rest)?;
+    let node = TypeNode::Memref {
+        dims: Items::new(dims),
+        elem,
+    };
+    kept(ctx, node, rest)
+}
+
+/// A type that begins with a word: a memref, an integer type or index.
+#[tactic(auto, using(ir_types::proofs::Growth::grows_refl, ir_types::proofs::Growth::grows_trans), unfolding(crate::specs::TypeReading::word_type_at))]
+fn word_type<'a>(
+    alloc: Global,
+    ctx: &mut Context,
+    bytes: &'a [u8],
+) -> Result<(TypeId, &'a [u8]), ReadError>
+    ensures reads { Gives (λ x. (x.0, (x.1.now, ctx.new))) result (word_type_at (bytes.now, ctx.old)) }
+    ensures grows { Grows ctx.old ctx.new }
+{
+    let (found, rest) = token(bytes)?;
+    match found {
+        Token::Bare(word) => {
+            if is_memref(word) {
+                memref(alloc, ctx, rest)
+            } else {
+                scalar(ctx, word, bytes, rest)
+            }
+        }
+        _ => Err(ReadError::Refused(wrong(token_refusal(&found), bytes))),
+    }
+}
+
+/// Why a word is no type: an integer type with a bad width, or a type that is left out.
+fn word_refusal(word: &[u8]) -> Refusal {
+    let digits = match word {
+        [b'i', digits @ ..] => digits,
+        [b's', b'i', digits @ ..] => digits,
+        [b'u', b'i', digits @ ..] => digits,
+        _ => return Refusal::LeftOut,
+    };
+    if !digits.is_empty() && digits.iter().all(|digit| digit.is_ascii_digit()) {
+        Refusal::BadWidth
+    } else {
+        Refusal::LeftOut
+    }
+}
+
+/// Why a token begins no type: a type or attribute that is left out, or nothing that fits.
+pub fn token_refusal(found: &Token<'_>) -> Refusal {
+    match found {
+        Token::Bare(_) => Refusal::LeftOut,
+        Token::Bang(_) => Refusal::LeftOut,
+        Token::Hash(_) => Refusal::LeftOut,
+        Token::Float(_) => Refusal::LeftOut,
+        _ => Refusal::Unexpected,
+    }
+}
+
+/// Why a token is no memref's element.
+fn element_refusal(found: &Token<'_>) -> Refusal {
+    match found {
+        Token::Mark(Mark::OpenRound) => Refusal::LeftOut,
+        Token::Mark(Mark::Star) => Refusal::LeftOut,
+        _ => token_refusal(found),
+    }
+}
+
+/// Why a memref isn't closed behind its element.
+fn closing_refusal(bytes: &[u8]) -> Refusal {
+    match after(bytes, Mark::Comma) {
+        Some(_) => Refusal::LeftOut,
+        None => Refusal::Unexpected,
+    }
+}
+
+/// Types up to a closing parenthesis, at most so many.
+#[cycle(types)]
+#[tactic(auto, using(ir_types::proofs::Growth::grows_refl, ir_types::proofs::Growth::grows_trans), unfolding(ir_text_reading::specs::Lists::list_at, crate::specs::TypeReading::types_at))]
+fn types<'a>(
+    alloc: Global,
+    ctx: &mut Context,
+    bytes: &'a [u8],
+    depth: u32,
+    room: usize,
+) -> Result<(Vec<TypeId>, &'a [u8]), ReadError>
+    ensures reads { Gives (λ x. (x.0.items, (x.1.now, ctx.new))) result (types_at (type_at depth) room (bytes.now, ctx.old)) }
+    ensures grows { Grows ctx.old ctx.new }
+{
+    let mut items = Vec::new(alloc);
+    if let Some(rest) = after(bytes, Mark::CloseRound) {
+        return Ok((items, rest));
+    }
+    let mut rest = bytes;
+    'items: for _ in 0..room {
+        let (item, tail) = match ty(alloc, ctx, rest, depth) {
+            Ok(found) => found,
+            Err(e) => return Err(e),
+        };
+        items.push(item)?;
+        if let Some(end) = after(tail, Mark::CloseRound) {
+            return Ok((items, end));
+        }
+        rest = expect(tail, Mark::Comma)?;
+    }
+    Err(ReadError::Refused(wrong(past_refusal(rest, Refusal::TooMany), rest)))
+}
+
+fn one(alloc: Global, item: TypeId) -> Result<Vec<TypeId>, AllocError>
+    ensures { IfOk result (λ v. v.items ≡ item ∷ []) }
+{
+    let mut items = Vec::new(alloc);
+    items.push(item)?;
+    Ok(items)
+}
+
+/// One type, or types in parentheses, at most so many.
+#[cycle(types)]
+#[tactic(auto, using(ir_types::proofs::Growth::grows_refl, ir_types::proofs::Growth::grows_trans), unfolding(crate::specs::TypeReading::outputs_at))]
+fn outputs<'a>(
+    alloc: Global,
+    ctx: &mut Context,
+    bytes: &'a [u8],
+    depth: u32,
+    room: usize,
+) -> Result<(Vec<TypeId>, &'a [u8]), ReadError>
+    ensures reads { Gives (λ x. (x.0.items, (x.1.now, ctx.new))) result (outputs_at (type_at depth) room (bytes.now, ctx.old)) }
+    ensures grows { Grows ctx.old ctx.new }
+{
+    if let Some(rest) = after(bytes, Mark::OpenRound) {
+        return types(alloc, ctx, rest, depth, room);
+    }
+    let (item, rest) = match ty(alloc, ctx, bytes, depth) {
+        Ok(found) => found,
+        Err(e) => return Err(e),
+    };
+    let items = one(alloc, item)?;
+    Ok((items, rest))
+}
+
+/// The inputs and outputs of a function type, behind its opening parenthesis.
+#[cycle(types)]
+#[tactic(auto, using(ir_types::proofs::Growth::grows_refl, ir_types::proofs::Growth::grows_trans), unfolding(crate::specs::TypeReading::signature_at))]
+fn signature<'a>(
+    alloc: Global,
+    ctx: &mut Context,
+    bytes: &'a [u8],
+    depth: u32,
+    room: usize,
+) -> Result<((Vec<TypeId>, Vec<TypeId>), &'a [u8]), ReadError>
+    ensures reads { Gives (λ x. ((x.0.0.items, x.0.1.items), (x.1.now, ctx.new))) result (signature_at (type_at depth) room (bytes.now, ctx.old)) }
+    ensures grows { Grows ctx.old ctx.new }
+{
+    let (inputs, rest) = match types(alloc, ctx, bytes, depth, MANY) {
+        Ok(found) => found,
+        Err(e) => return Err(e),
+    };
+    let rest = expect(rest, Mark::Arrow)?;
+    let (outputs, rest) = match outputs(alloc, ctx, rest, depth, room) {
+        Ok(found) => found,
+        Err(e) => return Err(e),
+    };
+    Ok(((inputs, outputs), rest))
+}
+
+/// A function type, behind its opening parenthesis.
+#[cycle(types)]
+#[tactic(auto, using(ir_types::proofs::Growth::grows_refl, ir_types::proofs::Growth::grows_trans), unfolding(crate::specs::TypeReading::function_at))]
+fn function<'a>(
+    alloc: Global,
+    ctx: &mut Context,
+    bytes: &'a [u8],
+    depth: u32,
+) -> Result<(TypeId, &'a [u8]), ReadError>
+    ensures reads { Gives (λ x. (x.0, (x.1.now, ctx.new))) result (function_at (type_at depth) (bytes.now, ctx.old)) }
+    ensures grows { Grows ctx.old ctx.new }
+{
+    ctx.sound();
+    let ((inputs, outputs), rest) = match signature(alloc, ctx, bytes, depth, MANY) {
+        Ok(found) => found,
+        Err(e) => return Err(e),
+    };
+    let node = TypeNode::Func {
+        inputs: Items::new(inputs),
+        outputs: Items::new(outputs),
+    };
+    kept(ctx, node, rest)
+}
+
+/// A type of at most that depth. It is interned, and so are its parts.
+///
+/// Refusals, each at the first byte of its token: what the lexer refuses; `Unexpected`; `LeftOut` for
+/// a type that is left out; `BadWidth`; `BadValue` at a dimension above 9,223,372,036,854,775,807;
+/// `TooDeep` at the part that is too deep.
+#[cycle(types)]
+#[tactic(auto, using(ir_types::proofs::Growth::grows_refl, ir_types::proofs::Growth::grows_trans), unfolding(crate::specs::TypeReading::type_at))]
+pub fn ty<'a>(
+    alloc: Global,
+    ctx: &mut Context,
+    bytes: &'a [u8],
+    depth: u32,
+) -> Result<(TypeId, &'a [u8]), ReadError>
+    ensures reads { Gives (λ x. (x.0, (x.1.now, ctx.new))) result (type_at depth (bytes.now, ctx.old)) }
+    ensures grows { Grows ctx.old ctx.new }
+{
+    if depth == 0 {
+        return Err(ReadError::Refused(wrong(past_refusal(bytes, Refusal::TooDeep), bytes)));
+    }
+    match after(bytes, Mark::OpenRound) {
+        Some(rest) => function(alloc, ctx, rest, depth - 1),
+        None => word_type(alloc, ctx, bytes),
+    }
+}
+
+/// Why no type may begin here: it is past a limit, where one begins.
+fn past_refusal(bytes: &[u8], limit: Refusal) -> Refusal {
+    match token(bytes) {
+        Ok((Token::Bare(_), _)) => limit,
+        Ok((Token::Mark(Mark::OpenRound), _)) => limit,
+        Ok((found, _)) => token_refusal(&found),
+        Err(_) => Refusal::Unexpected,
+    }
+}
+
+/// The function type of an operation: its inputs, and at most 256 outputs.
+#[tactic(auto, using(ir_types::proofs::Growth::grows_refl, ir_types::proofs::Growth::grows_trans), unfolding(crate::specs::TypeReading::function_type_at))]
+pub fn function_type<'a>(
+    alloc: Global,
+    ctx: &mut Context,
+    bytes: &'a [u8],
+) -> Result<((Vec<TypeId>, Vec<TypeId>), &'a [u8]), ReadError>
+    ensures reads { Gives (λ x. ((x.0.0.items, x.0.1.items), (x.1.now, ctx.new))) result (function_type_at (bytes.now, ctx.old)) }
+    ensures grows { Grows ctx.old ctx.new }
+{
+    let rest = expect(bytes, Mark::OpenRound)?;
+    signature(alloc, ctx, rest, MOST_DEPTH, 256)
+}

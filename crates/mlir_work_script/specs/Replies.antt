@@ -1,0 +1,43 @@
+-- The lines of a run's output. Each ends in a line feed.
+use Rattle.std.specs.Prelude.{ℕ, List, ◌++◌, Option, Some, None, codes}
+use Rattle.std.specs.Fmt.{decimal}
+use Rattle.ir_types.specs.Refusals.{text_of}
+use Rattle.ir_types.specs.declared.refusal.Refusal.{Refusal}
+use Rattle.mlir_work_script.specs.Kinds.{kind_word}
+
+-- `1 ok`
+abbrev pub ok_line : ℕ → List ℕ
+ok_line n = decimal n ++ codes " ok\n"
+
+-- `1 refused 22 HasUses`
+abbrev pub refused_line : ℕ → Refusal → List ℕ
+refused_line n refusal = decimal n ++ (codes " refused " ++ (text_of refusal ++ codes "\n"))
+
+-- where a text is refused, counted in bytes from its first
+abbrev pub at_offset : Option ℕ → List ℕ
+at_offset (Some offset) = codes " at " ++ (decimal offset ++ codes "\n")
+at_offset None = codes "\n"
+
+-- `module refused 7 BadValue at 16`, or without an offset
+abbrev pub module_refused_line : Refusal → Option ℕ → List ℕ
+module_refused_line refusal offset = codes "module refused " ++ (text_of refusal ++ at_offset offset)
+
+-- `attach uses refused 36 Memory`
+abbrev pub attach_refused_line : ℕ → Refusal → List ℕ
+attach_refused_line kind refusal = codes "attach " ++ (kind_word kind ++ (codes " refused " ++ (text_of refusal ++ codes "\n")))
+
+-- `-- uses`, over the rows of a kind
+abbrev pub kind_line : ℕ → List ℕ
+kind_line kind = codes "-- " ++ (kind_word kind ++ codes "\n")
+
+-- `-- uses stale`, in place of them
+abbrev pub stale_line : ℕ → List ℕ
+stale_line kind = codes "-- " ++ (kind_word kind ++ codes " stale\n")
+
+-- `-- uses memory`, in place of rows that found no memory
+abbrev pub kind_memory_line : ℕ → List ℕ
+kind_memory_line kind = codes "-- " ++ (kind_word kind ++ codes " memory\n")
+
+-- in place of a module's text that found no memory
+abbrev pub module_memory_line : List ℕ
+module_memory_line = codes "-- module memory\n"

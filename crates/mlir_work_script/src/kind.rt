@@ -1,0 +1,94 @@
+//! The kinds of analysis, and their words.
+ghost use Rattle.std.specs.Prelude.{◌≡◌, ℕ};
+ghost use Rattle.std.specs.Option.{option_map};
+ghost use Rattle.mlir_work_script.specs.Kinds.{kind_name, kind_of, numbered_kind};
+
+use crate::numbers::number;
+use itoa::Buffer;
+use std::marker::Model;
+
+/// The kind of an analysis: 1 uses, 2 symbols, 3 diagnostics, 4 effects, 5 dead, 6 constants; any other
+/// number may be another analysis.
+#[derive(Clone, Copy, Debug, PartialEq, Eq)]
+pub struct Kind(u8);
+
+impl Model for Kind {
+    ghost Value = { ℕ };
+
+    ghost view = { λ kind. kind.0 };
+
+    ghost inverse = { λ n. record { 0 = n } };
+}
+
+impl Kind {
+    /// The kind with a number.
+    pub fn new(number: u8) -> Kind
+        ensures { result ≡ number }
+    {
+        Kind(number)
+    }
+
+    /// The number of the kind.
+    pub fn number(self) -> u8
+        ensures { result ≡ self }
+    {
+        self.0
+    }
+}
+
+/// The name of a kind that has one. Another kind's word is `kind` with its number.
+pub fn name_of(kind: Kind) -> Option<&'static [u8]>
+    ensures { option_map (λ name. name.now) result ≡ kind_name kind }
+{
+    match kind.number() {
+        1 => Some(b"uses"),
+        2 => Some(b"symbols"),
+        3 => Some(b"diagnostics"),
+        4 => Some(b"effects"),
+        5 => Some(b"dead"),
+        6 => Some(b"constants"),
+        _ => None,
+    }
+}
+
+/// The kind that `kind9` is, where 9 has no name and is written as it is printed.
+fn numbered_kind(word: &[u8]) -> Option<Kind>
+    ensures { result ≡ numbered_kind word.now }
+{
+    if !word.starts_with(b"kind") {
+        return None;
+    }
+    let digits = &word[4..];
+    let number = number(digits)?;
+    let number = u8::try_from(number).ok()?;
+    let mut buffer = Buffer::new();
+    if name_of(Kind::new(number)).is_some() || digits != buffer.format(number).as_bytes() {
+        return None;
+    }
+    Some(Kind::new(number))
+}
+
+/// The kind of which this is the word.
+pub fn kind_named(word: &[u8]) -> Option<Kind>
+    ensures { result ≡ kind_of word.now }
+{
+    if word == b"uses".as_slice() {
+        return Some(Kind::new(1));
+    }
+    if word == b"symbols".as_slice() {
+        return Some(Kind::new(2));
+    }
+    if word == b"diagnostics".as_slice() {
+        return Some(Kind::new(3));
+    }
+    if word == b"effects".as_slice() {
+        return Some(Kind::new(4));
+    }
+    if word == b"dead".as_slice() {
+        return Some(Kind::new(5));
+    }
+    if word == b"constants".as_slice() {
+        return Some(Kind::new(6));
+    }
+    numbered_kind(word)
+}

@@ -1,0 +1,188 @@
+//! The lines of a run's output.
+ghost use Rattle.std.specs.Prelude.{◌++◌, Some, None, codes};
+ghost use Rattle.ir_types.specs.Refusals.{text_of};
+ghost use Rattle.mlir_work_script.specs.Kinds.{kind_word};
+ghost use Rattle.mlir_work_script.specs.Replies.{ok_line, refused_line, module_refused_line, attach_refused_line, kind_line, stale_line, kind_memory_line, module_memory_line};
+ghost use Rattle.mlir_work_script.specs.Writes.{Puts};
+
+use crate::kind::{Kind, name_of};
+use crate::writing::{WriteFault, put, put_all};
+use ir_types::refusal::Refusal;
+use itoa::Buffer;
+use std::io::Write;
+
+/// Writes that a command is accepted: `1 ok`.
+pub fn put_ok<W: Write>(writer: &mut W, n: u64) -> Result<(), WriteFault>
+    ensures { Puts (W.contents writer.old) (W.contents writer.new) (ok_line n) result }
+{
+    let mut number = Buffer::new();
+    put_all(writer, &[number.format(n).as_bytes(), b" ok\n"])
+}
+
+/// Writes that a command is refused: `1 refused 22 HasUses`.
+pub fn put_refused<W: Write>(writer: &mut W, n: u64, refusal: Refusal) -> Result<(), WriteFault>
+    ensures { Puts (W.contents writer.old) (W.contents writer.new) (refused_line n refusal) result }
+{
+    let mut command = Buffer::new();
+    let mut number = Buffer::new();
+    put_all(
+        writer,
+        &[
+            command.format(n).as_bytes(),
+            b" refused ",
+            number.format(refusal.number()).as_bytes(),
+            b" ",
+            refusal.word().as_bytes(),
+            b"\n",
+        ],
+    )
+}
+
+fn put_module_refused_at<W: Write>(
+    writer: &mut W,
+    refusal: Refusal,
+    offset: usize,
+) -> Result<(), WriteFault>
+    ensures { Puts (W.contents writer.old) (W.contents writer.new) (module_refused_line refusal (Some offset)) result }
+{
+    let mut number = Buffer::new();
+    let mut place = Buffer::new();
+    put_all(
+        writer,
+        &[
+            b"module refused ",
+            number.format(refusal.number()).as_bytes(),
+            b" ",
+            refusal.word().as_bytes(),
+            b" at ",
+            place.format(offset).as_bytes(),
+            b"\n",
+        ],
+    )
+}
+
+fn put_module_refused_anywhere<W: Write>(writer: &mut W, refusal: Refusal) -> Result<(), WriteFault>
+    ensures { Puts (W.contents writer.old) (W.contents writer.new) (module_refused_line refusal None) result }
+{
+    let mut number = Buffer::new();
+    put_all(
+        writer,
+        &[
+            b"module refused ",
+            number.format(refusal.number()).as_bytes(),
+            b" ",
+            refusal.word().as_bytes(),
+            b"\n",
+        ],
+    )
+}
+
+/// Writes that the module is refused: `module refused 7 BadValue at 16`, or without an offset. The offset
+/// counts in bytes from the first.
+pub fn put_module_refused<W: Write>(
+    writer: &mut W,
+    refusal: Refusal,
+    offset: Option<usize>,
+) -> Result<(), WriteFault>
+    ensures { Puts (W.contents writer.old) (W.contents writer.new) (module_refused_line refusal offset) result }
+{
+    match offset {
+        Some(offset) => put_module_refused_at(writer, refusal, offset),
+        None => put_module_refused_anywhere(writer, refusal),
+    }
+}
+
+/// Writes a word in two parts between two texts.
+fn put_between<'a, W: Write>(
+    writer: &mut W,
+    front: &'a [u8],
+    stem: &'a [u8],
+    digits: &'a [u8],
+    back: &'a [u8],
+) -> Result<(), WriteFault>
+    ensures { Puts (W.contents writer.old) (W.contents writer.new) (front.now ++ (stem.now ++ (digits.now ++ back.now))) result }
+{
+    put_all(writer, &[front, stem, digits, back])
+}
+
+/// Writes the word of a kind between two texts.
+fn put_with_kind<W: Write>(
+    writer: &mut W,
+    front: &[u8],
+    kind: Kind,
+    back: &[u8],
+) -> Result<(), WriteFault>
+    ensures { Puts (W.contents writer.old) (W.contents writer.new) (front.now ++ (kind_word kind ++ back.now)) result }
+{
+    match name_of(kind) {
+        Some(name) => put_between(writer, front, name, b"", back),
+        None => {
+            let mut number = Buffer::new();
+            put_between(
+                writer,
+                front,
+                b"kind",
+                number.format(kind.number()).as_bytes(),
+                back,
+            )
+        }
+    }
+}
+
+/// Writes a refusal at the end of a line: `36 Memory`.
+fn put_refusal<W: Write>(writer: &mut W, refusal: Refusal) -> Result<(), WriteFault>
+    ensures { Puts (W.contents writer.old) (W.contents writer.new) (text_of refusal ++ codes "\n") result }
+{
+    let mut number = Buffer::new();
+    put_all(
+        writer,
+        &[
+            number.format(refusal.number()).as_bytes(),
+            b" ",
+            refusal.word().as_bytes(),
+            b"\n",
+        ],
+    )
+}
+
+/// Writes that a box is refused: `attach uses refused 36 Memory`.
+pub fn put_attach_refused<W: Write>(
+    writer: &mut W,
+    kind: Kind,
+    refusal: Refusal,
+) -> Result<(), WriteFault>
+    ensures { Puts (W.contents writer.old) (W.contents writer.new) (attach_refused_line kind refusal) result }
+{
+    match put_with_kind(writer, b"attach ", kind, b" refused ") {
+        Ok(()) => put_refusal(writer, refusal),
+        Err(fault) => Err(fault),
+    }
+}
+
+/// Writes the line over the rows of a kind: `-- uses`.
+pub fn put_kind<W: Write>(writer: &mut W, kind: Kind) -> Result<(), WriteFault>
+    ensures { Puts (W.contents writer.old) (W.contents writer.new) (kind_line kind) result }
+{
+    put_with_kind(writer, b"-- ", kind, b"\n")
+}
+
+/// Writes that a kind no longer follows the module: `-- uses stale`.
+pub fn put_stale<W: Write>(writer: &mut W, kind: Kind) -> Result<(), WriteFault>
+    ensures { Puts (W.contents writer.old) (W.contents writer.new) (stale_line kind) result }
+{
+    put_with_kind(writer, b"-- ", kind, b" stale\n")
+}
+
+/// Writes that the rows of a kind found no memory: `-- uses memory`.
+pub fn put_kind_memory<W: Write>(writer: &mut W, kind: Kind) -> Result<(), WriteFault>
+    ensures { Puts (W.contents writer.old) (W.contents writer.new) (kind_memory_line kind) result }
+{
+    put_with_kind(writer, b"-- ", kind, b" memory\n")
+}
+
+/// Writes that the text of the module found no memory: `-- module memory`.
+pub fn put_module_memory<W: Write>(writer: &mut W) -> Result<(), WriteFault>
+    ensures { Puts (W.contents writer.old) (W.contents writer.new) module_memory_line result }
+{
+    put(writer, b"-- module memory\n")
+}

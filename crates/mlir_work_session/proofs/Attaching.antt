@@ -1,0 +1,70 @@
+-- Boxes that are attached.
+use Rattle.std.proofs.Common.{◌≡◌, ◌∙◌, ap, refl, ℕ, ◌+◌, List, [], ◌∷◌, ◌++◌, length, arith, Bool, true, false, ◌&&◌, Option, Some, None, is_none}
+use Rattle.std.specs.List.{position_or_len}
+use Rattle.std.proofs.lemmas.List.{length-map}
+use Rattle.ir_types.specs.Things.{Things}
+use Rattle.ir_types.specs.declared.refusal.Refusal.{Refusal}
+use Rattle.ir_types.specs.declared.refusal.Refusal.TheVariants.{KindTaken, Memory}
+use Rattle.ir_event.specs.Modules.{Module}
+use Rattle.ir_event.specs.Listener.{Listener}
+use Rattle.ir_event.specs.Panels.{AttachedLast, HandedBack, is_kind as has_this_kind, has_kind as panel_has}
+use Rattle.mlir_work_session.specs.Machine.{Shown, shown, all_shown, has_kind, is_kind}
+use Rattle.mlir_work_session.specs.Output.{BoxTried, Attaches, box_line}
+
+module _ {B : Type 0} (meaning : B → Listener) where
+  found_shown : (kind : ℕ) (bs : List B) → position_or_len (is_kind kind) (all_shown meaning bs) ≡ position_or_len (has_this_kind meaning kind) bs
+  found_shown kind [] = refl
+  found_shown kind (b ∷ bs) = rw (found_shown kind bs) refl
+
+  place_shown : (kind : ℕ) (bs : List B) → has_kind kind (all_shown meaning bs) ≡ panel_has meaning kind bs
+  place_shown kind bs = rw (found_shown kind bs, length-map) refl
+
+  shown_last : (xs : List B) (b : B) → all_shown meaning (xs ++ b ∷ []) ≡ all_shown meaning xs ++ shown (meaning b) ∷ []
+  shown_last [] b = refl
+  shown_last (x ∷ xs) b = ap (λ ys. shown (meaning x) ∷ ys) (shown_last xs b)
+
+  pub tried_added : (c : Things) (m : Module) (b : B) (xs ys : List B) → AttachedLast meaning c m b xs ys → BoxTried (shown (meaning b)) (all_shown meaning xs) (all_shown meaning ys) None
+  tried_added c m b xs ys h = (place_shown (meaning b).kind xs ∙ h.free, (shown (meaning h.begun), record { kind = h.same.kind; analysis = h.same.analysis; fresh = (meaning h.begun).fresh c m h.agrees }, ap (all_shown meaning) h.last ∙ shown_last xs h.begun))
+
+  pub tried_back : (b back : B) (xs ys : List B) (refusal : Refusal) → HandedBack meaning xs b refusal back → ys ≡ xs → BoxTried (shown (meaning b)) (all_shown meaning xs) (all_shown meaning ys) (Some refusal)
+  tried_back b back xs ys KindTaken h e = (place_shown (meaning b).kind xs ∙ h.1, ap (all_shown meaning) e)
+  tried_back b back xs ys Memory h e = (place_shown (meaning b).kind xs ∙ h.1, ap (all_shown meaning) e)
+  tried_back b back xs ys _ h e = absurd h
+
+  -- a box is tried, and then what the boxes that are left may give is what all may give
+  pub box_step : (left more : List B) (b : B) (old mid new : List Shown) (tried : Option Refusal) (there : Bool) (rest : List ℕ) →
+      left ≡ b ∷ more → BoxTried (shown (meaning b)) old mid tried → Attaches (all_shown meaning more) mid new there rest → Attaches (all_shown meaning left) old new (is_none tried && there) (box_line (meaning b).kind tried ++ rest)
+  box_step left more b old mid new tried there rest e t h = rw e (mid, tried, there, rest, t, h, refl, refl)
+
+  pub no_box_left : (left : List B) (old : List Shown) → left ≡ [] → Attaches (all_shown meaning left) old old true []
+  no_box_left left old e = rw e (refl, refl, refl)
+
+-- boxes may always be refused
+some_tried : (b : Shown) (old : List Shown) → (tried : Option Refusal) × BoxTried b old old tried
+some_tried b old = go (has_kind b.kind old) refl
+  where
+    go : (t : Bool) → has_kind b.kind old ≡ t → (tried : Option Refusal) × BoxTried b old old tried
+    go true e = (Some KindTaken, (e, refl))
+    go false e = (Some Memory, (e, refl))
+
+pub some_attaches : (bs old : List Shown) → (new : List Shown) × (accepted : Bool) × (out : List ℕ) × Attaches bs old new accepted out
+some_attaches [] old = (old, true, [], (refl, refl, refl))
+some_attaches (b ∷ bs) old =
+    let tried = some_tried b old in
+    let more = some_attaches bs old in
+    (more.0, is_none tried.0 && more.1, box_line b.kind tried.0 ++ more.2, (old, tried.0, more.1, more.2, tried.1, more.3, refl, refl))
+
+pub both_there : (a b c : Bool) → (a && (b && c)) ≡ ((a && b) && c)
+both_there true b c = refl
+both_there false b c = refl
+
+pub all_there : (a : Bool) → (a && true) ≡ a
+all_there true = refl
+all_there false = refl
+
+pub one_less : {X : Type 0} (xs ys : List X) (x : X) (n m : ℕ) → xs ≡ x ∷ ys → m + 1 ≡ n → length xs ≡ n → length ys ≡ m
+one_less xs ys x n m e f h = let g : length (x ∷ ys) ≡ n = rw e at h in omega arith
+
+pub none_of_none : {X : Type 0} (xs : List X) (n : ℕ) → length xs ≡ n → n ≡ 0 → xs ≡ []
+none_of_none [] n h e = refl
+none_of_none (x ∷ xs) n h e = absurd (omega arith)

@@ -1,0 +1,14 @@
+use Rattle.std.proofs.Common.{◌++◌, List, ℕ, drop}
+use Rattle.std.specs.Io.KnownBytes.{Appends}
+use Rattle.ir_event.specs.Modules.{module_in}
+use Rattle.mlir_work_session.specs.Machine.{all_shown}
+use Rattle.mlir_work_session.specs.Output.{AreKinds}
+use Rattle.mlir_work_session.proofs.listing.put_listeners.Given as goal
+
+-- what was written, and whatever the listeners that are left may give, is what all may give
+abbrev pub invariant-loop-listener : goal.invariant-loop-listener
+invariant-loop-listener g l = let meaning = g.L.Analysis.meaning in record {
+  front : List ℕ;
+  wrote : Appends (g.W.Write.contents l.initial.writer) (g.W.Write.contents l.writer) front;
+  whole : (rest : List ℕ) → AreKinds (module_in l.world).tree (all_shown meaning (drop l.listener-index l.listeners)) rest → AreKinds (module_in l.world).tree (all_shown meaning l.listeners) (front ++ rest);
+}

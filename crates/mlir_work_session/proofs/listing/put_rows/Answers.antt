@@ -1,0 +1,9 @@
+use Rattle.mlir_work_script.proofs.Joins.{puts_join, front_more}
+use Rattle.mlir_work_script.specs.Replies.{kind_line}
+use Rattle.mlir_work_session.proofs.listing.put_rows.Goals as goal
+
+pub returns-in-Ok : goal.returns-in-Ok
+returns-in-Ok g c = puts_join _ _ _ (kind_line c.args.kind) c.args.text.now c.put.result c.in-Ok.ensures c.put.ensures
+
+pub returns-in-Err : goal.returns-in-Err
+returns-in-Err g c = front_more _ _ (kind_line c.args.kind) c.args.text.now c.in-Err.ensures

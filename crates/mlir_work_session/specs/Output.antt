@@ -1,0 +1,154 @@
+-- The output of a script, as a relation: memory may be refused at any command, and a listener may turn stale
+-- where it is told of an edit. All else is determined.
+use Rattle.std.specs.Prelude.{◌≡◌, ℕ, ◌+◌, ◌<◌, ◌≤◌, List, [], ◌∷◌, ◌++◌, length, Bool, true, false, not, ◌&&◌, ◌⊎◌, Option, Some, None, is_none, if◌then◌else◌}
+use Rattle.ir_types.specs.declared.refusal.Refusal.{Refusal}
+use Rattle.ir_types.specs.declared.refusal.Refusal.TheVariants.{BadCommand, KindTaken, Memory}
+use Rattle.ir_event.specs.Modules.{Module}
+use Rattle.ir_event.specs.Rows.{RowTerm}
+use Rattle.ir_tree.specs.Meaning.{Operation}
+use Rattle.ir_text.specs.Printing.{text_of}
+use Rattle.mlir_work_script.specs.Commands.{Report, Print, SetOperand, Spoken, Nothing, Bad, Obey, line_says}
+use Rattle.mlir_work_script.specs.Lines.{lines_of}
+use Rattle.mlir_work_script.specs.declared.input.TheConstants.{MAX_SCRIPT_BYTES}
+use Rattle.mlir_work_script.specs.Replies.{ok_line, refused_line, attach_refused_line, kind_line, stale_line, kind_memory_line, module_memory_line}
+use Rattle.mlir_work_session.specs.RowText.{rows_text}
+use Rattle.mlir_work_session.specs.Machine.{Shown, State, Goes, Begins, has_kind}
+use Rattle.mlir_work_session.specs.declared.desk.Reply.{Reply}
+use Rattle.mlir_work_session.specs.declared.desk.Reply.TheVariants.{Done, Refused}
+
+-- ---- replies
+
+-- the line of the reply to command n
+abbrev pub reply_line : ℕ → Reply → List ℕ
+reply_line n Done = ok_line n
+reply_line n (Refused refusal) = refused_line n refusal
+
+-- whether the command was accepted
+abbrev pub is_accepted : Reply → Bool
+is_accepted Done = true
+is_accepted (Refused refusal) = false
+
+-- the status is 1 where something was refused
+abbrev pub worse : Bool → ℕ → ℕ
+worse accepted status = if accepted then status else 1
+
+-- ---- listings
+
+-- the text of a module, or that there was no memory for it
+abbrev pub IsModule : Operation → List ℕ → Type 0
+IsModule t out = (out ≡ text_of t) ⊎ (out ≡ module_memory_line)
+
+-- rows under the line of their kind, or no memory for them
+abbrev pub AreRows : ℕ → List RowTerm → List ℕ → Type 0
+AreRows kind rows out = (out ≡ kind_memory_line kind) ⊎ (out ≡ kind_line kind ++ rows_text rows)
+
+-- of one that is stale, that it is; else its rows, or no memory for them
+abbrev pub IsKind : Operation → Shown → List ℕ → Type 0
+IsKind t k out = ((k.stale ≡ true) × (out ≡ stale_line k.kind)) ⊎ ((k.stale ≡ false) × AreRows k.kind (k.analysis t) out)
+
+-- and of each attached one, in order
+abbrev pub AreKinds : Operation → List Shown → List ℕ → Type 0
+AreKinds t [] out = out ≡ []
+AreKinds t (k ∷ ks) out = (first : List ℕ) × (rest : List ℕ) × IsKind t k first × AreKinds t ks rest × (out ≡ first ++ rest)
+
+-- the module and the analyses
+abbrev pub IsListing : State → List ℕ → Type 0
+IsListing s out = (first : List ℕ) × (rest : List ℕ) × IsModule s.held.tree first × AreKinds s.held.tree s.panel rest × (out ≡ first ++ rest)
+
+-- a listing, where one is due
+abbrev pub IsListingIf : Bool → State → List ℕ → Type 0
+IsListingIf true s out = IsListing s out
+IsListingIf false s out = out ≡ []
+
+-- ---- lines of a script
+
+abbrev pub says_nothing : Spoken → Bool
+says_nothing Nothing = true
+says_nothing Bad = false
+says_nothing (Obey said) = false
+
+-- whether a line asks to be shown something, and so gets no listing
+abbrev pub asks : Spoken → Bool
+asks Nothing = false
+asks Bad = false
+asks (Obey (Report kind)) = true
+asks (Obey Print) = true
+asks (Obey (SetOperand x k v)) = false
+
+-- the reply to a line that isn't nothing
+abbrev pub Replies : State → Spoken → Reply → List ℕ → State → Type 0
+Replies s Nothing reply shows t = ⊥
+Replies s Bad reply shows t = (reply ≡ Refused BadCommand) × (shows ≡ []) × (t ≡ s)
+Replies s (Obey said) reply shows t = Goes s said reply shows t
+
+-- a reply, what it shows, and a listing where one is due
+abbrev pub IsReplied : Bool → State → ℕ → Reply → List ℕ → List ℕ → Type 0
+IsReplied listed t n reply shows out = (more : List ℕ) × IsListingIf listed t more × (out ≡ reply_line n reply ++ (shows ++ more))
+
+-- a line is replied to, and the rest follows
+pub record Replied (Rest : ℕ → State → ℕ → List ℕ → Type 0) (brief : Bool) (n : ℕ) (s : State) (spoken : Spoken) (status : ℕ) (out : List ℕ) : Type 0 where
+  pub reply : Reply
+  pub shows : List ℕ
+  pub after : State
+  pub text : List ℕ
+  pub later : ℕ
+  pub rest : List ℕ
+  pub replies : Replies s spoken reply shows after
+  pub replied : IsReplied (not brief && not (asks spoken)) after n reply shows text
+  pub goes_on : Rest (n + 1) after later rest
+  pub status_is : status ≡ worse (is_accepted reply) later
+  pub out_is : out ≡ text ++ rest
+
+abbrev pub Line : (ℕ → State → ℕ → List ℕ → Type 0) → Bool → ℕ → State → Spoken → ℕ → List ℕ → Type 0
+Line Rest brief n s Nothing status out = Rest n s status out
+Line Rest brief n s Bad status out = Replied Rest brief n s Bad status out
+Line Rest brief n s (Obey said) status out = Replied Rest brief n s (Obey said) status out
+
+-- from s, with n the next number, these lines may give this status and this output
+abbrev pub Runs : Bool → ℕ → State → List (List ℕ) → ℕ → List ℕ → Type 0
+Runs brief n s [] status out = (status ≡ 0) × (out ≡ [])
+Runs brief n s (line ∷ lines) status out = Line (λ m t st o. Runs brief m t lines st o) brief n s (line_says line) status out
+
+-- ---- boxes that are attached
+
+-- a box is added last, begun; or refused, since one of its kind is attached, or for want of memory
+abbrev pub BoxTried : Shown → List Shown → List Shown → Option Refusal → Type 0
+BoxTried b old new None = (has_kind b.kind old ≡ false) × ((begun : Shown) × Begins b begun × (new ≡ old ++ begun ∷ []))
+BoxTried b old new (Some KindTaken) = (has_kind b.kind old ≡ true) × (new ≡ old)
+BoxTried b old new (Some Memory) = (has_kind b.kind old ≡ false) × (new ≡ old)
+BoxTried b old new (Some _) = ⊥
+
+-- the line of a box: only one that is refused has one
+abbrev pub box_line : ℕ → Option Refusal → List ℕ
+box_line kind None = []
+box_line kind (Some refusal) = attach_refused_line kind refusal
+
+-- boxes are attached in order: what the panel then is, whether all were accepted, and the lines
+abbrev pub Attaches : List Shown → List Shown → List Shown → Bool → List ℕ → Type 0
+Attaches [] old new accepted out = (new ≡ old) × (accepted ≡ true) × (out ≡ [])
+Attaches (b ∷ bs) old new accepted out =
+    (mid : List Shown) × (tried : Option Refusal) × (there : Bool) × (rest : List ℕ)
+    × BoxTried b old mid tried × Attaches bs mid new there rest × (accepted ≡ (is_none tried && there)) × (out ≡ box_line b.kind tried ++ rest)
+
+-- ---- a module that was read
+
+-- boxes are attached to a panel that has none, and then the lines of a script are run
+pub record Session (brief : Bool) (boxes : List Shown) (m : Module) (script : List ℕ) (status : ℕ) (out : List ℕ) : Type 0 where
+  pub panel : List Shown
+  pub accepted : Bool
+  pub front : List ℕ
+  pub later : ℕ
+  pub rest : List ℕ
+  pub attached : Attaches boxes [] panel accepted front
+  pub runs : Runs brief 1 (record { held = m; panel = panel }) (lines_of script) later rest
+  pub status_is : status ≡ worse accepted later
+  pub out_is : out ≡ front ++ rest
+
+-- a script that is too long is one command that is none
+abbrev pub IsBadScript : ℕ → List ℕ → Type 0
+IsBadScript status out = (status ≡ 1) × (out ≡ refused_line 1 BadCommand)
+
+-- this status and these bytes are an output of a script over a module, with these boxes
+abbrev pub IsSession : Bool → List Shown → Module → List ℕ → ℕ → List ℕ → Type 0
+IsSession brief boxes m script status out =
+    ((MAX_SCRIPT_BYTES < length script) × IsBadScript status out) ⊎ ((length script ≤ MAX_SCRIPT_BYTES) × Session brief boxes m script status out)

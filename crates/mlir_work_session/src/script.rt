@@ -1,0 +1,151 @@
+//! Scripts, over a module and its listeners.
+ghost use Rattle.std.specs.Prelude.{◌≡◌, false, ◌&&◌, not};
+ghost use Rattle.ir_event.specs.Modules.{things_in, module_in};
+ghost use Rattle.ir_event.specs.Panels.{AllKept};
+ghost use Rattle.mlir_work_script.specs.Commands.{spoken_of};
+ghost use Rattle.mlir_work_script.specs.Lines.{lines_of};
+ghost use Rattle.mlir_work_script.specs.Writes.{Puts, PutsSome};
+ghost use Rattle.mlir_work_session.specs.Machine.{state_of};
+ghost use Rattle.mlir_work_session.specs.Output.{Runs, Replies, IsReplied, asks as asks_to, says_nothing, reply_line};
+ghost use Rattle.mlir_work_session.specs.Ran.{RanOut};
+
+use crate::desk::{Answered, Reply, obey};
+use crate::listing::put_listing;
+use ir_event::analysis::Analysis;
+use ir_event::panel::Panel;
+use ir_event::world::World;
+use ir_types::refusal::Refusal;
+use mlir_work_script::command::{Command, Line, read_line};
+use mlir_work_script::lines::split_line;
+use mlir_work_script::replies::{put_ok, put_refused};
+use mlir_work_script::writing::{WriteFault, put};
+use std::alloc::Global;
+use std::io::Write;
+
+/// Whether a line asks to be shown something, and so gets no listing.
+fn asks(line: Line) -> bool
+    ensures { result ≡ asks_to (spoken_of line) }
+{
+    match line {
+        Line::Nothing => false,
+        Line::Bad => false,
+        Line::Obey(Command::Report(_)) => true,
+        Line::Obey(Command::Print) => true,
+        Line::Obey(Command::SetOperand { .. }) => false,
+    }
+}
+
+fn is_nothing(line: Line) -> bool
+    ensures { result ≡ says_nothing (spoken_of line) }
+{
+    match line {
+        Line::Nothing => true,
+        Line::Bad => false,
+        Line::Obey(_) => false,
+    }
+}
+
+fn is_listed(brief: bool, line: Line) -> bool
+    ensures { result ≡ (not brief && not (asks_to (spoken_of line))) }
+{
+    !brief && !asks(line)
+}
+
+fn both(a: bool, b: bool) -> bool
+    ensures { result ≡ (a && b) }
+{
+    a && b
+}
+
+/// What a line that isn't nothing is answered.
+fn answer<L: Analysis>(
+    alloc: Global,
+    world: &mut World,
+    panel: &mut Panel<L>,
+    line: Line,
+) -> Answered
+    requires kept { AllKept L.meaning (things_in world.old) (module_in world.old) panel.old }
+    requires something { says_nothing (spoken_of line) ≡ false }
+    ensures replies { Replies (state_of L.meaning world.old panel.old) (spoken_of line) result.reply result.shows.items (state_of L.meaning world.new panel.new) }
+    ensures kept { AllKept L.meaning (things_in world.new) (module_in world.new) panel.new }
+{
+    match line {
+        Line::Obey(command) => obey(alloc, world, panel, command),
+        Line::Nothing | Line::Bad => Answered {
+            reply: Reply::Refused(Refusal::BadCommand),
+            shows: Vec::new(alloc),
+        },
+    }
+}
+
+/// Writes the line of a reply.
+fn put_reply<W: Write>(writer: &mut W, n: u64, reply: Reply) -> Result<(), WriteFault>
+    ensures { Puts (W.contents writer.old) (W.contents writer.new) (reply_line n reply) result }
+{
+    match reply {
+        Reply::Done => put_ok(writer, n),
+        Reply::Refused(refusal) => put_refused(writer, n, refusal),
+    }
+}
+
+/// Writes a reply, what it shows, and a listing where one is due.
+fn put_answer<L: Analysis, W: Write>(
+    alloc: Global,
+    listed: bool,
+    world: &World,
+    panel: &Panel<L>,
+    n: u64,
+    answered: &Answered,
+    writer: &mut W,
+) -> Result<(), WriteFault>
+    requires { AllKept L.meaning (things_in world.now) (module_in world.now) panel.now }
+    ensures { PutsSome (IsReplied listed (state_of L.meaning world.now panel.now) n answered.now.reply answered.now.shows.items) (W.contents writer.old) (W.contents writer.new) result }
+{
+    match put_reply(writer, n, answered.reply) {
+        Ok(()) => {}
+        Err(fault) => return Err(fault),
+    }
+    match put(writer, &answered.shows) {
+        Ok(()) => {}
+        Err(fault) => return Err(fault),
+    }
+    if listed {
+        return put_listing(alloc, world, panel, writer);
+    }
+    Ok(())
+}
+
+/// Runs a script over a module and listeners that each agree with it or are stale, and writes as it goes.
+/// The status is 1 where a command was refused.
+pub fn run_script<L: Analysis, W: Write>(
+    alloc: Global,
+    brief: bool,
+    world: &mut World,
+    panel: &mut Panel<L>,
+    script: &[u8],
+    writer: &mut W,
+) -> Result<u8, WriteFault>
+    requires { AllKept L.meaning (things_in world.old) (module_in world.old) panel.old }
+    ensures { RanOut (Runs brief 1 (state_of L.meaning world.old panel.old) (lines_of script.now)) (W.contents writer.old) (W.contents writer.new) result }
+{
+    let mut text = script;
+    let mut n = 1u64;
+    let mut accepted = true;
+    while !text.is_empty() {
+        let (first, rest) = split_line(text);
+        text = rest;
+        let line = read_line(first);
+        if is_nothing(line) {
+            continue;
+        }
+        let answered = answer(alloc, world, panel, line);
+        let listed = is_listed(brief, line);
+        match put_answer(alloc, listed, world, panel, n, &answered, writer) {
+            Ok(()) => {}
+            Err(fault) => return Err(fault),
+        }
+        accepted = both(accepted, answered.reply.is_accepted());
+        n += 1;
+    }
+    Ok(if accepted { 0 } else { 1 })
+}
