@@ -4,3 +4,4 @@ pub mod AttrText
 pub mod Naming
 pub mod Printing
 pub mod View
+pub mod Public

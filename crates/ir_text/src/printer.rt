@@ -6,6 +6,7 @@ ghost use Rattle.ir_text.specs.Printing.{text_of};
 use crate::naming::Printer;
 use crate::operations::put_op;
 use indexmap::IndexMap;
+pub use ir_text_tokens::print::put_symbol;
 use ir_tree::tree::TreeOp;
 use ir_types::context::Context;
 use ir_types::refusal::Refusal;

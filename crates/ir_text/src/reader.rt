@@ -11,7 +11,7 @@ ghost use Rattle.ir_text_operations.specs.Claims.{IsOnly, IsNone};
 pub use ir_text_attributes::single::parse_attr;
 use ir_text_operations::module;
 pub use ir_text_operations::single::read_op;
-use ir_text_reading::error::ReadError;
+pub use ir_text_reading::error::ReadError;
 pub use ir_text_room::alone::read_new;
 use ir_tree::tree::TreeOp;
 use ir_types::context::Context;

@@ -1,5 +1,5 @@
 //! What a line of the output has.
-use ir_text_reading::error::ReadError;
+use ir_text::reader::ReadError;
 use ir_tree::numbered::numbered;
 use ir_tree::tree::{TreeOp, TreeRegion};
 use ir_tree::value::Value;

@@ -1,6 +1,6 @@
 //! The token at the front of a text.
 use crate::shown::{put_bytes, refused};
-use ir_text_reading::error::ReadError;
+use ir_text::reader::ReadError;
 use ir_text_tokens::lexer::token;
 use ir_text_tokens::token::Token;
 use ir_types::refusal::Refusal;

@@ -4,7 +4,7 @@ use Rattle.std.specs.Fmt.{decimal}
 use Rattle.ir_types.specs.Bits.{type_of, width_of}
 use Rattle.ir_types.specs.Readings.{signed_of}
 use Rattle.ir_event.specs.Rows.{CellTerm, Op, Val, Num, Name, Path, Bits, Rule, Tag, RowTerm}
-use Rattle.ir_text_tokens.specs.Printing.{symbol_text}
+use Rattle.ir_text.specs.Public.{symbol_text}
 use Rattle.ir_text.specs.Rows.{parted}
 use Rattle.ir_text.specs.AttrText.{attr_text, integer_text}
 use Rattle.mlir_work_script.specs.Values.{op_text, value_text}

@@ -8,7 +8,7 @@ ghost use Rattle.ir_types.specs.Terms.{name_term};
 ghost use Rattle.ir_types.specs.Things.{IsName};
 ghost use Rattle.ir_tree.specs.declared.value.Value.{Value as TreeValue};
 ghost use Rattle.ir_event.specs.Rows.{CellIsOf, RowIsOf, cell_meaning, row_meaning, rows_meaning};
-ghost use Rattle.ir_text_tokens.specs.Printing.{symbol_text};
+ghost use Rattle.ir_text.specs.Public.{symbol_text};
 ghost use Rattle.ir_text.specs.Rows.{parted};
 ghost use Rattle.ir_text.specs.AttrText.{integer_text, number_text};
 ghost use Rattle.mlir_work_script.specs.Values.{op_text, value_text};
@@ -16,7 +16,7 @@ ghost use Rattle.mlir_work_session.specs.RowText.{tag_text, cell_text, row_text,
 
 use ir_event::row::{Cell, Row};
 use ir_text::attributes::put_attr;
-use ir_text_tokens::print::put_symbol;
+use ir_text::printer::put_symbol;
 use ir_tree::value::Value;
 use ir_types::bits::{Bits, BitsKind};
 use ir_types::context::Context;
