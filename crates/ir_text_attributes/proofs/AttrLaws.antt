@@ -19,7 +19,6 @@ use Rattle.ir_text_attributes.specs.AttrReading.{attr_done, truth_at, string_at,
 use Rattle.ir_text_reading.specs.Grammars.{Grammar}
 use Rattle.ir_text_attributes.specs.AttrGrammar.{IsFine, IsLiteral, IsNegative, IsOverflow, IsWordAttr, IsMarkAttr, IsAttrFrom, IsAttr, IsDense, IsArray, IsDictionary}
 use Rattle.ir_text_reading.specs.Standing.{AttrStands}
-use Rattle.ir_text_reading.specs.Laws.{FillsUp}
 use Rattle.ir_text_reading.proofs.Worlds.{Exact, Step, nothing_exact, guard_exact}
 use Rattle.ir_text_reading.proofs.TextLaws.{things, Same, text_now}
 use Rattle.ir_text_reading.proofs.TokenLaws.{behind_exact, token_exact}
@@ -78,6 +77,3 @@ attr_spelled depth c bytes rest y sound k = ⊎_elim
     (λ (f : (n : ℕ) × (s : Typed) × (attr_at depth (bytes, c) ≡ Read (n, s)) × Step things Same AttrStands (bytes, c) n y s rest).
     inr (f.0, f.1.1, f.2 ∙ ap (pair f.0 f.1.1) (text_now f.1 rest f.3.sound f.3.agree), f.3.grows, f.3.sound, f.3.stands f.1.1 (grows_refl f.1.1) f.3.sound))
     ((attr_exact depth c).only (bytes, c) bytes y rest (grows_refl c) sound (λ z g w. refl) k)
-
-pub attr_full : (depth : ℕ) (c : Things) (bytes : List ℕ) → IsSound c → attr_at depth (bytes, c) ≡ Full → FillsUp c
-attr_full depth c bytes sound e = (attr_exact depth c).full (bytes, c) bytes (grows_refl c) sound (λ z g w. refl) e

@@ -1,22 +1,16 @@
 -- Names and nodes that are interned, and what more is said of readers.
-use Rattle.std.specs.Prelude.{if◌then◌else◌, nat_le}
-use Rattle.std.specs.List.{list_all}
 use Rattle.std.specs.Str.{bytes_eq}
-use Rattle.std.proofs.Common.{◌≡◌, ℕ, Bool, true, false, List, [], Option, Some, None, slice_get, refl, sym, ap, subst, ◌∙◌, inl, inr, ⊎_elim}
+use Rattle.std.proofs.Common.{◌≡◌, ℕ, List, [], Option, Some, None, slice_get, refl, sym, ap, subst, ◌∙◌, inl, inr, ⊎_elim}
 use Rattle.std.proofs.lemmas.Option.{slice_get_within, get_or_from_slice_get}
 use Rattle.ir_types.specs.declared.node.AttrNode.{AttrNode}
 use Rattle.ir_types.specs.declared.refusal.Refusal.{Refusal}
-use Rattle.ir_types.specs.declared.refusal.Refusal.TheVariants.{BadValue, TooDeep, TooMany}
+use Rattle.ir_types.specs.declared.refusal.Refusal.TheVariants.{TooMany}
 use Rattle.ir_types.specs.Things.{Things, AttrIsOf, Grows}
-use Rattle.ir_types.specs.Terms.{TypeTerm, Integer, AttrTerm, IntegerOf, String, TypeOf, Flag, Overflow, type_term, attr_term, attr_node_term}
-use Rattle.ir_types.specs.Terms as terms
-use Rattle.ir_types.specs.Depths.{attr_depth}
+use Rattle.ir_types.specs.Terms.{AttrTerm, attr_node_term}
 use Rattle.ir_types.specs.Dictionaries.{kept}
-use Rattle.ir_types.specs.Ranges.{is_value_number}
-use Rattle.ir_types.specs.Readings.{is_bits_of}
 use Rattle.ir_types.specs.Same.{same_attr}
 use Rattle.ir_types.specs.Interning.{with_name, with_attr}
-use Rattle.ir_types.specs.Reasons.{first_reason, full_reason, depth_reason, count_reason, key_reason, name_reason, attr_fault, attr_reason}
+use Rattle.ir_types.specs.Reasons.{first_reason, full_reason, count_reason, key_reason, name_reason, attr_fault, attr_reason}
 use Rattle.ir_types.specs.Sound.{IsSound}
 use Rattle.ir_types.proofs.Growth.{grows_refl, grows_trans, grows_name, grows_attr}
 use Rattle.ir_types.proofs.Terms.{attr_term_is, attr_node_stays}
@@ -24,14 +18,14 @@ use Rattle.ir_types.proofs.KeptOrder.{kept_of, kept_fault}
 use Rattle.ir_types.proofs.CallNumbers.{name_stands, attr_stands, place_in}
 use Rattle.ir_types.proofs.Calls.{no_first}
 use Rattle.ir_types.proofs.AcceptedCalls.{accepted_name, accepted_attr, neither_back}
-use Rattle.ir_text_reading.specs.Outcomes.{Outcome, Read, Wrong, Full, ◌>>=◌, interned, Parse}
+use Rattle.ir_text_reading.specs.Outcomes.{Outcome, Read, Wrong, ◌>>=◌, interned, Parse}
 use Rattle.ir_text_reading.specs.Typed.{Typed, name_step, attr_step}
 use Rattle.ir_text_reading.specs.Grammars.{Grammar, Then, Done, DoneIf}
 use Rattle.ir_text_reading.specs.Worlds.{From}
 use Rattle.ir_text_reading.specs.Standing.{NameStands, AttrStands}
-use Rattle.ir_text_reading.proofs.Worlds.{bind_read, bind_full, Exact, Step, Comes, Reads, exact_spelled, nothing_exact}
+use Rattle.ir_text_reading.proofs.Worlds.{bind_read, Exact, Step, Comes, Reads, exact_spelled, nothing_exact}
 use Rattle.ir_text_reading.proofs.TextLaws.{things, Same, text_now}
-use Rattle.ir_text_types.proofs.TypeLaws.{read_interned, full_cases, full_interned, full_count}
+use Rattle.ir_text_types.proofs.TypeLaws.{read_interned, full_cases}
 use Rattle.ir_text_attributes.specs.AttrReading.{name_done, attr_done}
 
 abbrev pub moved : Typed → ℕ × Things → ℕ × Typed
@@ -70,10 +64,6 @@ name_exact c bytes = record {
       (inr ((with_name bytes s.1).0, (s.0, (with_name bytes s.1).1), refl, name_step_on bytes s t sound (text_now s t sound h) f)))
       (λ (f : name_reason bytes s.1 ≡ Some TooMany). inl (rw f refl))
       (full_cases (bytes_eq bytes) s.1.names));
-  full = λ s t g sound h e. ⊎_elim
-      (λ (k : name_step bytes s.1 ≡ Full). (s.1, grows_refl s.1, sound, inl (full_count (bytes_eq bytes) s.1.names (full_interned (name_reason bytes s.1) (with_name bytes s.1) k))))
-      (λ (k : (n : ℕ × Things) × (name_step bytes s.1 ≡ Read n) × (done (moved s n) ≡ Full)). absurd cc)
-      (bind_full (name_step bytes s.1) (λ n. done (moved s n)) e);
 }
 
 pub name_done_exact : (c : Things) (bytes : List ℕ) → Exact things Same c NameStands (name_done bytes) (Done bytes)
@@ -81,29 +71,6 @@ unfolding name_done
 name_done_exact c bytes = name_exact c bytes
 
 -- ---- a node that is interned
-
--- a fault of an attribute is not that the context is full
-fault_not_full : (y : AttrTerm) (next : Option Refusal) → first_reason (attr_fault y) next ≡ Some TooMany → next ≡ Some TooMany
-fault_not_full y next e = by_value y e
-  where
-    by_depth : (b : Bool) → first_reason (if b then None else Some TooDeep) next ≡ Some TooMany → next ≡ Some TooMany
-    by_depth true e = e
-    by_depth false e = absurd cc
-
-    by_test : (d : ℕ) (b : Bool) → first_reason (first_reason (if b then None else Some BadValue) (depth_reason d)) next ≡ Some TooMany → next ≡ Some TooMany
-    by_test d true e = by_depth (nat_le d 32) e
-    by_test d false e = absurd cc
-
-    by_value : (y : AttrTerm) → first_reason (attr_fault y) next ≡ Some TooMany → next ≡ Some TooMany
-    by_value (terms.IntegerOf ty bits) e = by_test 1 (is_bits_of ty bits) e
-    by_value (terms.DenseArray elem vs) e = by_test 1 (list_all (is_value_number elem) vs) e
-    by_value (terms.String bytes) e = by_depth (nat_le 1 32) e
-    by_value (terms.TypeOf ty) e = by_depth (nat_le (attr_depth (terms.TypeOf ty)) 32) e
-    by_value terms.Flag e = by_depth (nat_le 1 32) e
-    by_value (terms.Array items) e = by_depth (nat_le (attr_depth (terms.Array items)) 32) e
-    by_value (terms.Dictionary entries) e = by_depth (nat_le (attr_depth (terms.Dictionary entries)) 32) e
-    by_value (terms.Symbol parts) e = by_depth (nat_le 1 32) e
-    by_value (terms.Overflow nsw nuw) e = by_depth (nat_le 1 32) e
 
 -- in z the node's parts are there, and, with a dictionary's entries sorted, it is y
 abbrev pub IsNodeOf : AttrNode → AttrTerm → Things → Type 0
@@ -160,12 +127,6 @@ attr_done_exact c node y allowed r = record {
       let none : attr_reason node s.1 ≡ Some TooMany = reason_parts node s.1 allowed ∙ ap (λ o. first_reason o (room_of node s.1)) no_fault ∙ f in
       inl (ap (λ o. interned o (with_attr node s.1) >>= λ n. done (moved s n)) none))
       (full_cases (same_attr (kept s.1.names node)) s.1.attrs));
-  full = λ s t g sound h e. ⊎_elim
-      (λ (k : attr_step node s.1 ≡ Full).
-      let reason = full_interned (attr_reason node s.1) (with_attr node s.1) k in
-      (s.1, grows_refl s.1, sound, inr (inr (full_count (same_attr (kept s.1.names node)) s.1.attrs (fault_not_full (attr_node_term s.1 node) (room_of node s.1) (sym (reason_parts node s.1 allowed) ∙ reason))))))
-      (λ (k : (n : ℕ × Things) × (attr_step node s.1 ≡ Read n) × (done (moved s n) ≡ Full)). absurd cc)
-      (bind_full (attr_step node s.1) (λ n. done (moved s n)) e);
 }
   where
     fault_of : (z : Things) → IsNodeOf node y z → attr_fault (attr_node_term z node) ≡ attr_fault y
@@ -197,7 +158,6 @@ pub exact_given : {A B : Type 0} (c : Things) (R : Things → A → B → Type 0
 exact_given c R p P each = record {
   found = λ s t x s' g sound h e. (each s.1 g sound).found s t x s' (grows_refl s.1) sound h e;
   only = λ s t y t' g sound h k. (each s.1 g sound).only s t y t' (grows_refl s.1) sound h k;
-  full = λ s t g sound h e. (each s.1 g sound).full s t (grows_refl s.1) sound h e;
 }
 
 -- what is so of all that is read may be used
@@ -216,5 +176,4 @@ module _ {A B : Type 0} (c : Things) (R : Things → A → B → Type 0) (p : Pa
   exact_read k = record {
     found = λ s t x s' g sound h e. let f = k.found s t x s' g sound h e in (f.0, f.1, f.2, step_with s x f.0 s' f.1 (fact s x s' e) f.3);
     only = λ s t y t' g sound h j. reads_with s y t' (p s) refl (k.only s t y t' g sound h j);
-    full = k.full;
   }

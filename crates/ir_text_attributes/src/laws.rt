@@ -6,7 +6,6 @@ ghost use Rattle.ir_types.specs.Terms.{AttrTerm, attr_term};
 ghost use Rattle.ir_types.specs.Things.{Things, Grows, IsAttr as IsAttrOf};
 ghost use Rattle.ir_text_attributes.specs.AttrGrammar.{IsAttr};
 ghost use Rattle.ir_text_attributes.specs.AttrReading.{attr_at};
-ghost use Rattle.ir_text_reading.specs.Laws.{FillsUp};
 ghost use Rattle.ir_text_reading.specs.Outcomes.{Read, Full};
 ghost use Rattle.ir_text_reading.specs.Standing.{AttrStands};
 
@@ -15,7 +14,6 @@ ghost use Rattle.ir_text_reading.specs.Standing.{AttrStands};
 pub fn attributes_are_read_as_spelled()
     ensures found { (depth : ℕ) (c d : Things) (bytes rest : List ℕ) (n : ℕ) → IsSound c → attr_at depth (bytes, c) ≡ Read (n, (rest, d)) → Grows c d × IsSound d × IsAttrOf d n × IsAttr depth (attr_term d n) bytes rest }
     ensures only { (depth : ℕ) (c : Things) (bytes rest : List ℕ) (y : AttrTerm) → IsSound c → IsAttr depth y bytes rest → (attr_at depth (bytes, c) ≡ Full) ⊎ ((n : ℕ) × (d : Things) × (attr_at depth (bytes, c) ≡ Read (n, (rest, d))) × Grows c d × IsSound d × AttrStands d n y) }
-    ensures full { (depth : ℕ) (c : Things) (bytes : List ℕ) → IsSound c → attr_at depth (bytes, c) ≡ Full → FillsUp c }
 {}
 
 /// A text spells at most one attribute at its front, and leaves one rest.

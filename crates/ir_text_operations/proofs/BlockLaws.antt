@@ -147,7 +147,7 @@ module _ (close : Mark) (p : Parse State Op) (P : Grammar Seen Operation) (base 
 
   pub ops_exact : (room : ℕ) (c : Things) → Grows base c → (xs : List Op) (ys : List Operation) → From (λ z. Each OpStands z xs ys) c → Exact held StateStands c (Each OpStands) (ops_at close p room xs) (IsOps close P room ys)
   unfolding ops_at IsOps
-  ops_exact zero c b xs ys r = record { found = λ s t x s' g sound h e. absurd cc; only = λ s t y t' g sound h k. absurd k; full = λ s t g sound h e. absurd cc }
+  ops_exact zero c b xs ys r = record { found = λ s t x s' g sound h e. absurd cc; only = λ s t y t' g sound h k. absurd k }
   ops_exact (suc room) c b xs ys r =
       exact_spelled held StateStands c (Each OpStands) (λ s. ops_from close p (ops_at close p room) xs s (after_in close s)) (Goes room ys) (Ends room ys) (goes_into room ys) (goes_back room ys)
       (either_exact held StateStands after_in IsMarkSeen state_marks c (Each OpStands) close (ops_from close p (ops_at close p room) xs) (λ s. Read (xs, s)) (λ s. p s >>= λ x. ops_at close p room (xs ++ x.0 ∷ []) x.1) (Done ys) (Then P (λ y. IsOps close P room (ys ++ y ∷ [])))

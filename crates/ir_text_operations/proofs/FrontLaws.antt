@@ -15,12 +15,12 @@ use Rattle.ir_types.specs.Things.{Things, Grows}
 use Rattle.ir_types.specs.Sound.{IsSound}
 use Rattle.ir_types.proofs.Growth.{grows_refl, grows_trans}
 use Rattle.ir_text_reading.specs.Marks.{after}
-use Rattle.ir_text_reading.specs.Outcomes.{Outcome, Read, Wrong, Full, ◌>>=◌, of_option, Parse}
+use Rattle.ir_text_reading.specs.Outcomes.{Outcome, Read, Wrong, ◌>>=◌, of_option, Parse}
 use Rattle.ir_text_reading.specs.Lists.{more_at, list_at}
 use Rattle.ir_text_reading.specs.Grammars.{Grammar, Then, Done, Not, Either, IsMore, IsList, Token, IsMark}
 use Rattle.ir_text_reading.specs.Worlds.{From}
 use Rattle.ir_text_reading.specs.Laws.{Each}
-use Rattle.ir_text_reading.proofs.Worlds.{bind_assoc, option_read, option_full, fills_on, later, Agree, Exact, Step, Reads, Marks, step_on, reads_on, exact_where, exact_spelled, exact_for, nothing_exact, choice_exact, guard_exact, then_exact, done_exact, after_exact, either_exact, more_exact, list_exact}
+use Rattle.ir_text_reading.proofs.Worlds.{bind_assoc, option_read, later, Agree, Exact, Step, Reads, Marks, step_on, reads_on, exact_where, exact_spelled, exact_for, nothing_exact, choice_exact, guard_exact, then_exact, done_exact, after_exact, either_exact, more_exact, list_exact}
 use Rattle.ir_text_reading.proofs.TextLaws.{after_found, after_only, after_none, none_after}
 use Rattle.ir_text_names.specs.declared.bound.Bound.{Bound}
 use Rattle.ir_text_names.specs.NameReading.{Text, name_from, name_at, number_from, number_at, some_count, count_at, result_at, names_at, results_from, results_at}
@@ -46,9 +46,6 @@ module _ {S T : Type 0} (things : S → Things) (Same : Things → S → T → T
     only = λ s t y t' h sound a j.
         let m = moves s t sound a in
         reads_on things Same R s (f s) (p (f s)) y t' m.0 (k.only (f s) (g t) y t' (grows_trans c (things s) (things (f s)) h m.0) m.1 m.2 j);
-    full = λ s t h sound a e.
-        let m = moves s t sound a in
-        fills_on (things s) (things (f s)) m.0 (k.full (f s) (g t) (grows_trans c (things s) (things (f s)) h m.0) m.1 m.2 e);
   }
 
   -- p and P may look at the state in which they begin
@@ -57,14 +54,13 @@ module _ {S T : Type 0} (things : S → Things) (Same : Things → S → T → T
   begin_exact c R p P each = record {
     found = λ s t x s' g sound h e. (each s t g sound h).found s t x s' (grows_refl (things s)) sound h e;
     only = λ s t y t' g sound h k. (each s t g sound h).only s t y t' (grows_refl (things s)) sound h k;
-    full = λ s t g sound h e. (each s t g sound h).full s t (grows_refl (things s)) sound h e;
   }
 
   -- what is there for both
   pub both_exact : {A B : Type 0} (c : Things) (R : Things → A → B → Type 0) (o : Option A) (u : Option B) → From (λ z. Both R z o u) c → Exact things Same c R (λ s. of_option o >>= λ x. Read (x, s)) (λ y old new. (u ≡ Some y) × (new ≡ old))
-  both_exact c R None None r = record { found = λ s t x s' g sound h e. absurd cc; only = λ s t y t' g sound h k. let e : None ≡ Some y = k.0 in absurd cc; full = λ s t g sound h e. absurd cc }
-  both_exact c R None (Some b) r = record { found = λ s t x s' g sound h e. absurd cc; only = λ s t y t' g sound h k. absurd (r (things s) g sound); full = λ s t g sound h e. absurd cc }
-  both_exact c R (Some a) None r = record { found = λ s t x s' g sound h e. absurd (r (things s) g sound); only = λ s t y t' g sound h k. absurd (r (things s) g sound); full = λ s t g sound h e. absurd cc }
+  both_exact c R None None r = record { found = λ s t x s' g sound h e. absurd cc; only = λ s t y t' g sound h k. let e : None ≡ Some y = k.0 in absurd cc }
+  both_exact c R None (Some b) r = record { found = λ s t x s' g sound h e. absurd cc; only = λ s t y t' g sound h k. absurd (r (things s) g sound) }
+  both_exact c R (Some a) None r = record { found = λ s t x s' g sound h e. absurd (r (things s) g sound); only = λ s t y t' g sound h k. absurd (r (things s) g sound) }
   both_exact {B = B} c R (Some a) (Some b) r =
       exact_spelled things Same c R (λ s. Read (a, s)) (Done b) (λ y old new. (Some b ≡ Some y) × (new ≡ old)) (λ y t t' k. (ap Some (sym k.0), k.1)) back (done_exact things Same c R a b r)
     where
@@ -88,9 +84,6 @@ module _ {S T : Type 0} (things : S → Things) (Same : Things → S → T → T
       only = λ s t y t' g sound h j.
           let token : next (text s) ≡ Some (j.0, j.1) = subst (λ r. Token j.0 r j.1) (sym (texts_now s t sound h)) j.2 in
           rw token ((each j.0 j.1).only s t y t' g sound h j.3);
-      full = λ s t g sound h e.
-          let b = option_full (next (text s)) (λ l. f s l.0 l.1) e in
-          (each b.0.0 b.0.1).full s t g sound h b.2;
     }
 
 -- ---- lists whose items are known of in contexts that grow from one alone
@@ -132,14 +125,12 @@ module _ {S T : Type 0} (things : S → Things) (Same : Things → S → T → T
       only = λ s t y t' g sound h k.
           let b = base_of s t sound h in
           reads_since s (p s) y t' b ((each (things s) b g).only s t y t' (grows_refl (things s)) sound (since_back s t h) k);
-      full = λ s t g sound h e. let b = base_of s t sound h in (each (things s) b g).full s t (grows_refl (things s)) sound (since_back s t h) e;
     }
 
     exact_back : (p : Parse S A) (P : Grammar T B) → Exact things Since base R p P → Exact things Same base R p P
     exact_back p P k = record {
       found = λ s t x s' g sound h e. let f = k.found s t x s' g sound (since s t g h) e in (f.0, f.1, f.2, step_back s x f.0 s' f.1 f.3);
       only = λ s t y t' g sound h j. reads_back s (p s) y t' (k.only s t y t' g sound (since s t g h) j);
-      full = λ s t g sound h e. k.full s t g sound (since s t g h) e;
     }
 
   module _ (after : Mark → S → Option S) (Tok : Mark → T → T → Type 0) (marks : Marks things Same after Tok) where
@@ -199,7 +190,6 @@ plain_from : {A B : Type 0} (c : Things) (R : Things → A → B → Type 0) (p 
 plain_from c R p P k d = record {
   found = λ s t x s' g sound h e. k.found s t x s' (grows_refl c) sound h e;
   only = λ s t y t' g sound h j. k.only s t y t' (grows_refl c) sound h j;
-  full = λ s t g sound h e. k.full s t (grows_refl c) sound h e;
 }
 
 plain_done : {A : Type 0} (c : Things) (x : A) → Plain c Equals (λ s. Read (x, s)) (Done x)
@@ -237,21 +227,16 @@ each_equal z (x ∷ xs) (y ∷ ys) h = λ i. h.0 i ∷ each_equal z xs ys h.1 i
 -- ---- counts
 
 -- a reader of what is spelled itself
-module _ {A : Type 0} (p : Parse Text A) (P : Grammar Text A) (found : (s : Text) (x : A) (s' : Text) → p s ≡ Read (x, s') → P x s s') (only : (s : Text) (x : A) (s' : Text) → P x s s' → p s ≡ Read (x, s')) (full : (s : Text) → p s ≡ Full → ⊥) where
+module _ {A : Type 0} (p : Parse Text A) (P : Grammar Text A) (found : (s : Text) (x : A) (s' : Text) → p s ≡ Read (x, s') → P x s s') (only : (s : Text) (x : A) (s' : Text) → P x s s' → p s ≡ Read (x, s')) where
   plain_equal : (c : Things) → Plain c Equals p P
   plain_equal c = record {
     found = λ s t x s' g sound h e. (x, s', subst (λ b. P x b s') (h c (grows_refl c) sound) (found s x s' e), record { grows = grows_refl c; sound = sound; stands = λ z j w. refl; agree = λ z j w. refl });
     only = λ s t y t' g sound h k. inr (y, t', only s y t' (subst (λ b. P y b t') (sym (h c (grows_refl c) sound)) k), record { grows = grows_refl c; sound = sound; stands = λ z j w. refl; agree = λ z j w. refl });
-    full = λ s t g sound h e. absurd (full s e);
   }
 
 pub if_read : {A : Type 0} (b : Bool) (x y : A) → (if b then Read x else Wrong) ≡ Read y → (b ≡ true) × (x ≡ y)
 if_read true x y e = (refl, cc)
 if_read false x y e = absurd cc
-
-if_full : {A : Type 0} (b : Bool) (x : A) → (if b then Read x else Wrong) ≡ Full → ⊥
-if_full true x e = absurd cc
-if_full false x e = absurd cc
 
 abbrev pair : ℕ → Text → ℕ × Text
 pair k s = (k, s)
@@ -279,18 +264,8 @@ number_only s k s' h =
     let low : nat_le 1 (integer_of h.0) ≡ true = le-leb 1 (integer_of h.0) (subst (λ n. 1 ≤ n) h.2 h.3) in
     rw (h.1, low, h.2) refl
 
-number_full : (s : Text) → number_at s ≡ Full → ⊥
-unfolding number_at
-number_full s e =
-    let b = option_full (next s) (λ t. number_from t.0 t.1) e in
-    by_token b.0.0 b.0.1 b.2
-  where
-    by_token : (l : Lexeme) (rest : Text) → number_from l rest ≡ Full → ⊥
-    by_token (integer digits) rest e = if_full (nat_le 1 (integer_of digits)) (integer_of digits, rest) e
-    by_token _ rest e = absurd cc
-
 number_exact : (c : Things) → Plain c Equals number_at IsNumber
-number_exact c = plain_equal number_at IsNumber number_found number_only number_full c
+number_exact c = plain_equal number_at IsNumber number_found number_only c
 
 within_exact : (before k : ℕ) (c : Things) → Plain c Equals (λ s. if nat_le (before + k) 256 then Read (k, s) else Wrong) (When (before + k ≤ 256) (Done k))
 within_exact before k c =
@@ -430,20 +405,8 @@ place_only s k s' (inr h) = by_next (next s) refl ∙ λ i. Read (sym h.1 i, sym
     by_next None none = refl
     by_next (Some t) token = by_token t.0 t.1 token
 
-place_full : (s : Text) → place_at s ≡ Full → ⊥
-unfolding place_at
-place_full s e = by_next (next s) e
-  where
-    by_token : (l : Lexeme) (rest : Text) → place_of s l rest ≡ Full → ⊥
-    by_token (hash digits) rest e = if_full (list_all is_ascii_digit digits) (place_value 10 digits, rest) e
-    by_token _ rest e = absurd cc
-
-    by_next : (o : Option (Lexeme × Text)) → place_from s o ≡ Full → ⊥
-    by_next None e = absurd cc
-    by_next (Some t) e = by_token t.0 t.1 e
-
 place_exact : (c : Things) → Plain c Equals place_at IsPlace
-place_exact c = plain_equal place_at IsPlace place_found place_only place_full c
+place_exact c = plain_equal place_at IsPlace place_found place_only c
 
 -- the values at one place
 place_stands : (z : Things) (k : ℕ) (xs : List Bound) (ys : PackTerm) → PackStands z xs ys → Both BoundStands z (slice_get xs k) (slice_get ys k)

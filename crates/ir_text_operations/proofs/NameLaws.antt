@@ -1,7 +1,7 @@
 -- Names and the state of a reader: what they stand for, step by step.
 use Rattle.std.specs.Prelude.{if◌then◌else◌, ◌==◌, option_map, is_some, take, drop}
 use Rattle.std.proofs.lemmas.Bool.{eqb-true, eq-eqb}
-use Rattle.std.proofs.Common.{◌≡◌, ◌+◌, ℕ, zero, suc, length, Bool, true, false, List, [], ◌∷◌, ◌++◌, Option, Some, None, refl, sym, ap, subst, ◌∙◌, inl, inr, ⊎_elim}
+use Rattle.std.proofs.Common.{◌≡◌, ◌+◌, ℕ, zero, suc, length, Bool, true, false, List, [], ◌∷◌, ◌++◌, Option, Some, None, refl, sym, ap, subst, ◌∙◌, inl, inr}
 use Rattle.ir_text_tokens.specs.declared.token.Mark.{Mark}
 use Rattle.ir_text_tokens.specs.Tokens.{Lexeme, next}
 use Rattle.ir_text_tokens.specs.Scopes.{Binding, Scopes, find, bound, entered, left, left_to}
@@ -10,13 +10,13 @@ use Rattle.ir_types.specs.Sound.{IsSound}
 use Rattle.ir_types.proofs.Growth.{grows_refl, grows_trans}
 use Rattle.ir_types.specs.Terms.{TypeTerm}
 use Rattle.ir_text_reading.specs.Marks.{after}
-use Rattle.ir_text_reading.specs.Outcomes.{Outcome, Read, Wrong, Full, ◌>>=◌, of_option, Parse}
+use Rattle.ir_text_reading.specs.Outcomes.{Outcome, Read, Wrong, ◌>>=◌, of_option, Parse}
 use Rattle.ir_text_reading.specs.Grammars.{Grammar, Done, IsMark, Token}
 use Rattle.ir_text_reading.specs.Typed.{Typed}
 use Rattle.ir_text_reading.specs.Worlds.{From}
 use Rattle.ir_text_reading.specs.Standing.{TypeStands}
 use Rattle.ir_text_reading.specs.Laws.{Each}
-use Rattle.ir_text_reading.proofs.Worlds.{bind_read, bind_full, later, Agree, Exact, Step, Comes, Reads, Marks, done_exact}
+use Rattle.ir_text_reading.proofs.Worlds.{bind_read, later, Agree, Exact, Step, Comes, Reads, Marks, done_exact}
 use Rattle.ir_text_reading.proofs.TextLaws.{after_found, after_only, after_none, none_after}
 use Rattle.ir_text_reading.proofs.TextLaws as typed
 use Rattle.ir_text_names.specs.declared.bound.Bound.{Bound}
@@ -103,10 +103,6 @@ module _ {A B : Type 0} (c : Things) (R : Things → A → B → Type 0) where
           subst (λ (q : A × State). Comes held StateStands R (InText P) s t q.0 q.1) same (f.0, seen_rest t f.1, (f.1, f.2, refl), typed_step s t b.0.0 f.0 b.0.1 f.1 h f.3);
       only = λ s t y t' g sound h j.
           subst (λ u. Reads held StateStands R s (p (states.typed s) >>= put s) y u) (sym j.2) (typed_reads s t (p (states.typed s)) y j.0 h (k.only (states.typed s) t.bytes y j.0 g sound (λ z i w. (h z i w).0) j.1));
-      full = λ s t g sound h e. ⊎_elim
-          (λ (e : p (states.typed s) ≡ Full). k.full (states.typed s) t.bytes g sound (λ z i w. (h z i w).0) e)
-          (λ (a : (x : A × Typed) × (p (states.typed s) ≡ Read x) × (put s x ≡ Full)). let e : put s a.0 ≡ Full = a.2 in absurd cc)
-          (bind_full (p (states.typed s)) (put s) e);
     }
 
   module _ (p : Parse Text A) (P : Grammar Text B) (k : (d : Things) → Grows c d → Plain d R p P) where
@@ -129,10 +125,6 @@ module _ {A B : Type 0} (c : Things) (R : Things → A → B → Type 0) where
           subst (λ (q : A × State). Comes held StateStands R (InText P) s t q.0 q.1) same (f.0, seen_rest t f.1, (f.1, f.2, refl), text_step s t b.0.0 f.0 b.0.1 f.1 h f.3);
       only = λ s t y t' g sound h j.
           subst (λ u. Reads held StateStands R s (p s.bytes >>= put_text s) y u) (sym j.2) (text_reads s t (p s.bytes) y j.0 h ((k s.things g).only s.bytes t.bytes y j.0 (grows_refl s.things) sound (λ z i w. (h z i w).0) j.1));
-      full = λ s t g sound h e. ⊎_elim
-          (λ (e : p s.bytes ≡ Full). (k s.things g).full s.bytes t.bytes (grows_refl s.things) sound (λ z i w. (h z i w).0) e)
-          (λ (a : (x : A × Text) × (p s.bytes ≡ Read x) × (put_text s x ≡ Full)). let e : put_text s a.0 ≡ Full = a.2 in absurd cc)
-          (bind_full (p s.bytes) (put_text s) e);
     }
 
 -- ---- scopes
@@ -174,7 +166,6 @@ module _ {A B : Type 0} (c : Things) (R : Things → A → B → Type 0) where
 pub record Scoped (c : Things) (f : Scopes (List Bound) → Outcome (Scopes (List Bound))) (F : Scopes PackTerm → Scopes PackTerm → Type 0) : Type 0 where
   pub found : (d : Things) (s : Scopes (List Bound)) (t : Scopes PackTerm) (s' : Scopes (List Bound)) → Grows c d → IsSound d → From (λ z. ScopesStand z s t) d → f s ≡ Read s' → (t' : Scopes PackTerm) × F t t' × From (λ z. ScopesStand z s' t') d
   pub only : (d : Things) (s : Scopes (List Bound)) (t t' : Scopes PackTerm) → Grows c d → IsSound d → From (λ z. ScopesStand z s t) d → F t t' → (s' : Scopes (List Bound)) × (f s ≡ Read s') × From (λ z. ScopesStand z s' t') d
-  pub full : (d : Things) (s : Scopes (List Bound)) (t : Scopes PackTerm) → Grows c d → IsSound d → From (λ z. ScopesStand z s t) d → f s ≡ Full → ⊥
 
 none_there : {A B : Type 0} (R : Things → A → B → Type 0) (z : Things) (o : Option A) (u : Option B) → Both R z o u → o ≡ None → u ≡ None
 none_there R z o None h e = refl
@@ -190,10 +181,6 @@ free_read : {A : Type 0} (o : Option A) (s s' : Scopes (List Bound)) → (if is_
 free_read None s s' e = (refl, cc)
 free_read (Some x) s s' e = absurd cc
 
-never_full : {A : Type 0} (o : Option A) (s : Scopes (List Bound)) → (if is_some o then Wrong else Read s) ≡ Full → ⊥
-never_full None s e = absurd cc
-never_full (Some x) s e = absurd cc
-
 pub bind_scoped : (c : Things) (name : List ℕ) (b : List Bound) (y : PackTerm) → From (λ z. PackStands z b y) c → Scoped c (bind name b) (IsBound name y)
 unfolding bind
 bind_scoped c name b y r = record {
@@ -206,14 +193,12 @@ bind_scoped c name b y r = record {
   only = λ d s t t' g sound h k.
       let free : find name s.here ≡ None = none_here PackStands d (find name s.here) (find name t.here) (find_stands d name s.here t.here (h d (grows_refl d) sound).0) k.0 in
       (bound name b s, rw free refl, subst (λ u. From (λ z. ScopesStand z (bound name b s) u) d) (sym k.1) (λ z j w. bound_stand z name b y s t (r z (grows_trans c d z g j) w) (h z j w)));
-  full = λ d s t g sound h e. never_full (find name s.here) (bound name b s) e;
 }
 
 same_scoped : (c : Things) → Scoped c (λ s. Read s) (λ old new. new ≡ old)
 same_scoped c = record {
   found = λ d s t s' g sound h e. let same : s ≡ s' = cc in (t, refl, subst (λ u. From (λ z. ScopesStand z u t) d) same h);
   only = λ d s t t' g sound h k. (s, refl, subst (λ u. From (λ z. ScopesStand z s u) d) (sym k) h);
-  full = λ d s t g sound h e. absurd cc;
 }
 
 then_scoped : (c : Things) (f g : Scopes (List Bound) → Outcome (Scopes (List Bound))) (F G : Scopes PackTerm → Scopes PackTerm → Type 0) → Scoped c f F → Scoped c g G → Scoped c (λ s. f s >>= g) (λ old new. (mid : Scopes PackTerm) × F old mid × G mid new)
@@ -227,10 +212,6 @@ then_scoped c f g F G first second = record {
       let k = first.only d s t j.0 up sound h j.1 in
       let n = second.only d k.0 j.0 t' up sound k.2 j.2 in
       (n.0, ap (λ o. o >>= g) k.1 ∙ n.1, n.2);
-  full = λ d s t up sound h e. ⊎_elim
-      (λ (k : f s ≡ Full). first.full d s t up sound h k)
-      (λ (a : (x : Scopes (List Bound)) × (f s ≡ Read x) × (g x ≡ Full)). let k = first.found d s t a.0 up sound h a.1 in second.full d a.0 k.0 up sound k.2 a.2)
-      (bind_full (f s) g e);
 }
 
 results_stand : (z : Things) (id k : ℕ) (xs : List ℕ) (ys : List TypeTerm) → Each TypeStands z xs ys → PackStands z (results_of id k xs) (result_terms id k ys)
@@ -275,16 +256,11 @@ counted_scoped c n xs ys f F r k = record {
       let m = k.only d s t t' g sound h j.1 in
       let test : (n == length xs) ≡ true = eq-eqb n (length xs) (j.0 ∙ sym (each_length TypeStands d xs ys (r d g sound))) in
       (m.0, rw test m.1, m.2);
-  full = λ d s t g sound h e. k.full d s t g sound h (test_full (n == length xs) (f s) e);
 }
   where
     test_read : (b : Bool) (o : Outcome (Scopes (List Bound))) (s' : Scopes (List Bound)) → (if b then o else Wrong) ≡ Read s' → (b ≡ true) × (o ≡ Read s')
     test_read true o s' e = (refl, e)
     test_read false o s' e = absurd cc
-
-    test_full : (b : Bool) (o : Outcome (Scopes (List Bound))) → (if b then o else Wrong) ≡ Full → o ≡ Full
-    test_full true o e = e
-    test_full false o e = absurd cc
 
 pub finish_scoped : (id : ℕ) (c : Things) (names : Option (List Counted)) (xs : List ℕ) (ys : List TypeTerm) → From (λ z. Each TypeStands z xs ys) c → Scoped c (finish id names xs) (IsFinished id names ys)
 finish_scoped id c None xs ys r = same_scoped c
@@ -311,8 +287,4 @@ module _ {A B : Type 0} (c : Things) (R : Things → A → B → Type 0) (x : A)
     only = λ s t y' t' g sound h j.
         let n = k.only s.things s.scopes t.scopes j.0 g sound (λ z i w. (h z i w).1) j.1 in
         rw (j.2, j.3) (inr (x, with_scopes s n.0, ap (λ o. o >>= put_scopes s) n.1, scoped_step s t n.0 j.0 g sound h n.2));
-    full = λ s t g sound h e. ⊎_elim
-        (λ (e : f s.scopes ≡ Full). absurd (k.full s.things s.scopes t.scopes g sound (λ z i w. (h z i w).1) e))
-        (λ (a : (u : Scopes (List Bound)) × (f s.scopes ≡ Read u) × (put_scopes s u ≡ Full)). let e : put_scopes s a.0 ≡ Full = a.2 in absurd cc)
-        (bind_full (f s.scopes) (put_scopes s) e);
   }

@@ -23,7 +23,7 @@ use Rattle.ir_text_types.specs.TypeReading.{function_type_at}
 use Rattle.ir_text_types.specs.TypeGrammar.{IsFunctionType}
 use Rattle.ir_text_reading.specs.Worlds.{From}
 use Rattle.ir_text_reading.specs.Standing.{NameStands, TypeStands}
-use Rattle.ir_text_reading.specs.Laws.{Each, SignatureStands, FillsUp}
+use Rattle.ir_text_reading.specs.Laws.{Each, SignatureStands}
 use Rattle.ir_text_reading.proofs.Worlds.{bind_assoc, later, Exact, Step, Reads, exact_where, exact_spelled, nothing_exact, then_exact, after_exact}
 use Rattle.ir_text_types.proofs.TypeLaws.{function_type_exact}
 use Rattle.ir_text_attributes.proofs.NodeLaws as attrs
@@ -62,7 +62,6 @@ module _ {A B : Type 0} (c : Things) (R : Things → A → B → Type 0) where
         let step : Step held StateStands R s x y s' f.1 = subst (λ v. Step held StateStands R s x v s' f.1) f.2.0 f.3 in
         (tt, f.1, (refl, f.2.1), record { grows = step.grows; sound = step.sound; stands = step.stands; agree = step.agree });
     only = λ s t u t' g sound h j. again s (p s) t' u (k.only s t y t' g sound h (refl, j.1));
-    full = k.full;
   }
     where
       again : (s : State) (o : Outcome (A × State)) (t' : Seen) (u : Unit {0}) → Reads held StateStands R s o y t' → Reads held StateStands (λ z x (u : Unit {0}). R z x y) s o u t'
@@ -311,7 +310,7 @@ module _ (free : Frees) (outer : FreeTerms) (base : Things) (frees : From (λ z.
 module _ (free : Frees) (outer : FreeTerms) (last : ℕ) (base : Things) (frees : From (λ z. FreeStands z free outer) base) where
   pub op_exact : (depth : ℕ) (c : Things) → Grows base c → Exact held StateStands c OpStands (op_at free last depth) (IsOp outer last depth)
   unfolding op_at IsOp
-  op_exact zero c b = record { found = λ s t x s' g sound h e. absurd cc; only = λ s t y t' g sound h k. absurd k; full = λ s t g sound h e. absurd cc }
+  op_exact zero c b = record { found = λ s t x s' g sound h e. absurd cc; only = λ s t y t' g sound h k. absurd k }
   op_exact (suc depth) c b =
       let p = ops_at CloseCurly (op_at free last depth) 1048576 [] in
       let P = IsOps CloseCurly (IsOp outer last depth) 1048576 [] in
@@ -361,9 +360,6 @@ module _ (free : Frees) (outer : FreeTerms) (last : ℕ) where
       inr (f.0, f.1, f.2, f.3.grows, f.3.sound, f.3.stands f.1.things (grows_refl f.1.things) f.3.sound, f.3.agree f.1.things (grows_refl f.1.things) f.3.sound))
       ((op_exact free outer last c frees depth c (grows_refl c)).only (fresh next bytes c) (seen_fresh next bytes) y t (grows_refl c) sound (fresh_agrees next bytes c) k)
 
-  pub op_full : (depth next : ℕ) (c : Things) (bytes : Text) → IsSound c → From (λ z. FreeStands z free outer) c → op_at free last depth (fresh next bytes c) ≡ Full → FillsUp c
-  op_full depth next c bytes sound frees e = (op_exact free outer last c frees depth c (grows_refl c)).full (fresh next bytes c) (seen_fresh next bytes) (grows_refl c) sound (fresh_agrees next bytes c) e
-
   pub ops_read : (depth next : ℕ) (c : Things) (bytes : Text) (os : List Op) (s : State) → IsSound c → From (λ z. FreeStands z free outer) c → ops_at End (op_at free last depth) 1048576 [] (fresh next bytes c) ≡ Read (os, s)
       → Grows c s.things × IsSound s.things × IsTrue (list_all (is_known s.things) os) × (t : Seen) × IsOps End (IsOp outer last depth) 1048576 [] (map (meaning s.things) os) (seen_fresh next bytes) t × StateStands s.things s t
   ops_read depth next c bytes os s sound frees e =
@@ -379,6 +375,3 @@ module _ (free : Frees) (outer : FreeTerms) (last : ℕ) where
       (λ (f : (os : List Op) × (s : State) × (ops_at End (op_at free last depth) 1048576 [] (fresh next bytes c) ≡ Read (os, s)) × Step held StateStands (Each OpStands) (fresh next bytes c) os ys s t).
       inr (f.0, f.1, f.2, f.3.grows, f.3.sound, f.3.stands f.1.things (grows_refl f.1.things) f.3.sound, f.3.agree f.1.things (grows_refl f.1.things) f.3.sound))
       ((source_exact free outer last c frees depth c (grows_refl c)).only (fresh next bytes c) (seen_fresh next bytes) ys t (grows_refl c) sound (fresh_agrees next bytes c) k)
-
-  pub ops_full : (depth next : ℕ) (c : Things) (bytes : Text) → IsSound c → From (λ z. FreeStands z free outer) c → ops_at End (op_at free last depth) 1048576 [] (fresh next bytes c) ≡ Full → FillsUp c
-  ops_full depth next c bytes sound frees e = (source_exact free outer last c frees depth c (grows_refl c)).full (fresh next bytes c) (seen_fresh next bytes) (grows_refl c) sound (fresh_agrees next bytes c) e

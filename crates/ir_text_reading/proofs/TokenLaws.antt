@@ -3,10 +3,10 @@ use Rattle.std.proofs.Common.{◌≡◌, ℕ, List, Option, Some, refl, sym, ap,
 use Rattle.ir_text_tokens.specs.Tokens.{Lexeme, next}
 use Rattle.ir_types.specs.Things.{Things}
 use Rattle.ir_types.proofs.Growth.{grows_refl}
-use Rattle.ir_text_reading.specs.Outcomes.{Outcome, Read, Full, ◌>>=◌, of_option, Parse}
+use Rattle.ir_text_reading.specs.Outcomes.{Outcome, Read, ◌>>=◌, of_option, Parse}
 use Rattle.ir_text_reading.specs.Typed.{Typed}
 use Rattle.ir_text_reading.specs.Grammars.{Grammar, Token}
-use Rattle.ir_text_reading.proofs.Worlds.{option_read, option_full, Exact, Comes, step_on, reads_on}
+use Rattle.ir_text_reading.proofs.Worlds.{option_read, Exact, Comes, step_on, reads_on}
 use Rattle.ir_text_reading.proofs.TextLaws.{things, Same, text_now}
 
 abbrev kept : {A : Type 0} → Things → A × List ℕ → Outcome (A × Typed)
@@ -26,10 +26,6 @@ text_exact {A = A} c p P into from = record {
   only = λ s t y t' g sound h k.
       let read : p s.0 ≡ Some (y, t') = ap p (text_now s t sound h) ∙ from t t' y k in
       rw read (inr (y, (t', s.1), refl, record { grows = grows_refl s.1; sound = sound; stands = λ z j w. refl; agree = λ z j w. refl }));
-  full = λ s t g sound h e.
-      let b = option_full (p s.0) (kept s.1) e in
-      let no : kept s.1 b.0 ≡ Full = b.2 in
-      absurd cc;
 }
 
 module _ {A B : Type 0} (c : Things) (R : Things → A → B → Type 0) where
@@ -40,7 +36,6 @@ module _ {A B : Type 0} (c : Things) (R : Things → A → B → Type 0) where
         let f = k.found (rest, s.1) rest x s' g sound (λ z j w. refl) e in
         (f.0, f.1, f.2, step_on things Same R s (rest, s.1) x f.0 s' f.1 (grows_refl s.1) f.3);
     only = λ s t y t' g sound h j. reads_on things Same R s (rest, s.1) (p (rest, s.1)) y t' (grows_refl s.1) (k.only (rest, s.1) rest y t' g sound (λ z i w. refl) j);
-    full = λ s t g sound h e. k.full (rest, s.1) rest g sound (λ z j w. refl) e;
   }
 
   pub token_exact : (f : Typed → Lexeme → List ℕ → Outcome (A × Typed)) (F : Lexeme → List ℕ → Grammar (List ℕ) B) → ((l : Lexeme) (rest : List ℕ) → Exact things Same c R (λ s. f s l rest) (F l rest))
@@ -53,7 +48,4 @@ module _ {A B : Type 0} (c : Things) (R : Things → A → B → Type 0) where
     only = λ s t y t' g sound h j.
         let token : next s.0 ≡ Some (j.0, j.1) = subst (λ r. Token j.0 r j.1) (sym (text_now s t sound h)) j.2 in
         rw token ((each j.0 j.1).only s t y t' g sound h j.3);
-    full = λ s t g sound h e.
-        let b = option_full (next s.0) (λ l. f s l.0 l.1) e in
-        (each b.0.0 b.0.1).full s t g sound h b.2;
   }

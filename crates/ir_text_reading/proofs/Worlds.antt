@@ -10,7 +10,7 @@ use Rattle.ir_text_reading.specs.Outcomes.{Outcome, Read, Wrong, Full, ◌>>=◌
 use Rattle.ir_text_reading.specs.Lists.{more_at, more_from, list_at, list_from}
 use Rattle.ir_text_reading.specs.Grammars.{Grammar, Then, Done, After, Not, Either, IsMore, IsList}
 use Rattle.ir_text_reading.specs.Worlds.{From}
-use Rattle.ir_text_reading.specs.Laws.{Each, FillsUp}
+use Rattle.ir_text_reading.specs.Laws.{Each}
 
 -- what is read on was read
 pub bind_read : {A B : Type 0} (o : Outcome A) (f : A → Outcome B) (y : B) → (o >>= f) ≡ Read y → (x : A) × (o ≡ Read x) × (f x ≡ Read y)
@@ -27,19 +27,6 @@ pub bind_assoc : {A B C : Type 0} (o : Outcome A) (f : A → Outcome B) (g : B �
 bind_assoc (Read x) f g = refl
 bind_assoc Wrong f g = refl
 bind_assoc Full f g = refl
-
--- where an outcome is full
-pub bind_full : {A B : Type 0} (o : Outcome A) (f : A → Outcome B) → (o >>= f) ≡ Full → (o ≡ Full) ⊎ ((x : A) × (o ≡ Read x) × (f x ≡ Full))
-bind_full (Read x) f e = inr (x, refl, e)
-bind_full Wrong f e = absurd cc
-bind_full Full f e = inl refl
-
-pub option_full : {A B : Type 0} (o : Option A) (f : A → Outcome B) → (of_option o >>= f) ≡ Full → (x : A) × (o ≡ Some x) × (f x ≡ Full)
-option_full None f e = absurd cc
-option_full (Some x) f e = (x, refl, e)
-
-pub fills_on : (c d : Things) → Grows c d → FillsUp d → FillsUp c
-fills_on c d g f = (f.0, grows_trans c d f.0 g f.1, f.2, f.3)
 
 -- what holds from a context on holds from a later one on
 pub later : (F : Things → Type 0) (c d : Things) → Grows c d → From F c → From F d
@@ -68,7 +55,6 @@ module _ {S T : Type 0} (things : S → Things) (Same : Things → S → T → T
   pub record Exact {A B : Type 0} (c : Things) (R : Things → A → B → Type 0) (p : Parse S A) (P : Grammar T B) : Type 0 where
     pub found : (s : S) (t : T) (x : A) (s' : S) → Grows c (things s) → IsSound (things s) → Agree s t → p s ≡ Read (x, s') → Comes R P s t x s'
     pub only : (s : S) (t : T) (y : B) (t' : T) → Grows c (things s) → IsSound (things s) → Agree s t → P y t t' → Reads R s (p s) y t'
-    pub full : (s : S) (t : T) → Grows c (things s) → IsSound (things s) → Agree s t → p s ≡ Full → FillsUp (things s)
 
   -- ---- steps in a row
 
@@ -89,7 +75,6 @@ module _ {S T : Type 0} (things : S → Things) (Same : Things → S → T → T
   exact_where c R p q P same k = record {
     found = λ s t x s' g sound h e. k.found s t x s' g sound h (sym (same s g sound) ∙ e);
     only = λ s t y t' g sound h j. subst (λ o. Reads R s o y t') (sym (same s g sound)) (k.only s t y t' g sound h j);
-    full = λ s t g sound h e. k.full s t g sound h (sym (same s g sound) ∙ e);
   }
 
   -- a grammar that says the same
@@ -97,7 +82,6 @@ module _ {S T : Type 0} (things : S → Things) (Same : Things → S → T → T
   exact_spelled c R p P Q into from k = record {
     found = λ s t x s' g sound h e. let f = k.found s t x s' g sound h e in (f.0, f.1, into f.0 t f.1 f.2, f.3);
     only = λ s t y t' g sound h j. k.only s t y t' g sound h (from y t t' j);
-    full = k.full;
   }
 
   -- a relation that follows
@@ -105,7 +89,6 @@ module _ {S T : Type 0} (things : S → Things) (Same : Things → S → T → T
   exact_for {A = A} {B = B} c R R' p P follows k = record {
     found = λ s t x s' g sound h e. let f = k.found s t x s' g sound h e in (f.0, f.1, f.2, step_for s x f.0 s' f.1 f.3);
     only = λ s t y t' g sound h j. reads_for s (p s) y t' (k.only s t y t' g sound h j);
-    full = k.full;
   }
     where
       step_for : (s : S) (x : A) (y : B) (s' : S) (t' : T) → Step R s x y s' t' → Step R' s x y s' t'
@@ -117,7 +100,7 @@ module _ {S T : Type 0} (things : S → Things) (Same : Things → S → T → T
 
   -- nothing is read and nothing is spelled
   pub nothing_exact : {A B : Type 0} (c : Things) (R : Things → A → B → Type 0) → Exact {A = A} {B = B} c R (λ s. Wrong) (λ y old new. ⊥)
-  nothing_exact c R = record { found = λ s t x s' g sound h e. absurd cc; only = λ s t y t' g sound h k. absurd k; full = λ s t g sound h e. absurd cc }
+  nothing_exact c R = record { found = λ s t x s' g sound h e. absurd cc; only = λ s t y t' g sound h k. absurd k }
 
   -- one of two, by a test
   pub choice_exact : {A B : Type 0} (c : Things) (R : Things → A → B → Type 0) (b : Bool) (p q : Parse S A) (P Q : Grammar T B) → Exact c R p P → Exact c R q Q
@@ -166,12 +149,6 @@ module _ {S T : Type 0} (things : S → Things) (Same : Things → S → T → T
     only = λ s t y t' g sound h k.
         reads_then R R' s (p s) (λ x. q x.0 x.1) k.0 k.1 y t' (first.only s t k.0 k.1 g sound h k.2) (λ x s' f.
         (second (things s') x k.0 (grows_trans c (things s) (things s') g f.grows) f.stands).only s' k.1 y t' (grows_refl (things s')) f.sound f.agree k.3);
-    full = λ s t g sound h e. ⊎_elim
-        (λ (k : p s ≡ Full). first.full s t g sound h k)
-        (λ (a : (x : A × S) × (p s ≡ Read x) × (q x.0 x.1 ≡ Full)).
-        let f = first.found s t a.0.0 a.0.1 g sound h a.1 in
-        fills_on (things s) (things a.0.1) f.3.grows ((second (things a.0.1) a.0.0 f.0 (grows_trans c (things s) (things a.0.1) g f.3.grows) f.3.stands).full a.0.1 f.1 (grows_refl (things a.0.1)) f.3.sound f.3.agree a.2))
-        (bind_full (p s) (λ x. q x.0 x.1) e);
   }
 
   abbrev at : {A : Type 0} → A → S → Outcome (A × S)
@@ -192,7 +169,6 @@ module _ {S T : Type 0} (things : S → Things) (Same : Things → S → T → T
         let q = parts x x' s s' e in
         rw (← q.0, ← q.1) (y, t, (refl, refl), stay R c s t x y g sound h r);
     only = λ s t y' t' g sound h k. rw (k.0, k.1) (inr (x, s, refl, stay R c s t x y g sound h r));
-    full = λ s t g sound h e. absurd cc;
   }
 
   -- ---- marks
@@ -214,10 +190,6 @@ module _ {S T : Type 0} (things : S → Things) (Same : Things → S → T → T
       only = λ s t y t' g sound h k.
           let f = marks.only m s t k.0 sound h k.1 in
           rw f.1 (reads_on R s f.0 (q f.0) y t' f.2 (second.only f.0 k.0 y t' (grows_trans c (things s) (things f.0) g f.2) f.3 f.4 k.2));
-      full = λ s t g sound h e.
-          let a = option_full (after m s) q e in
-          let f = marks.found m s t a.0 sound h a.1 in
-          fills_on (things s) (things a.0) f.2 (second.full a.0 f.0 (grows_trans c (things s) (things a.0) g f.2) f.3 f.4 a.2);
     }
 
     -- p behind the mark where it is next, and q where it is not
@@ -238,14 +210,8 @@ module _ {S T : Type 0} (things : S → Things) (Same : Things → S → T → T
           rw (a.1, at_some s a.0) (reads_on R s a.0 (p a.0) y t' a.2 (first.only a.0 k.0 y t' (grows_trans c (things s) (things a.0) g a.2) a.3 a.4 k.2))
       either_only s t y t' g sound h (inr k) = rw (marks.lacks m s t sound h k.0, at_none s) (second.only s t y t' g sound h k.1)
 
-      either_full : (s : S) (t : T) (o : Option S) → after m s ≡ o → Grows c (things s) → IsSound (things s) → Agree s t → f s o ≡ Full → FillsUp (things s)
-      either_full s t (Some mid) o g sound h e =
-          let a = marks.found m s t mid sound h o in
-          fills_on (things s) (things mid) a.2 (first.full mid a.0 (grows_trans c (things s) (things mid) g a.2) a.3 a.4 (sym (at_some s mid) ∙ e))
-      either_full s t None o g sound h e = second.full s t g sound h (sym (at_none s) ∙ e)
-
       pub either_exact : Exact c R (λ s. f s (after m s)) (Either Tok m P Q)
-      either_exact = record { found = λ s t x s' g sound h e. either_found s t x s' (after m s) refl g sound h e; only = either_only; full = λ s t g sound h e. either_full s t (after m s) refl g sound h e }
+      either_exact = record { found = λ s t x s' g sound h e. either_found s t x s' (after m s) refl g sound h e; only = either_only }
 
     -- ---- lists
 
@@ -286,16 +252,9 @@ module _ {S T : Type 0} (things : S → Things) (Same : Things → S → T → T
               let n = (more (things m.0) xs ys (later (λ z. Each R z xs ys) (things mid) (things m.0) m.2 front)).only m.0 k.1 all' t' (grows_refl (things m.0)) m.3 m.4 k.3 in
               rw (marks.lacks close mid mid' sound h k.0, m.1) (reads_on (Each R) mid m.0 (more_at after close p room xs m.0) all' t' m.2 n)
 
-          ends_full : (xs : List A) (ys : List B) (mid : S) (mid' : T) (o : Option S) → after close mid ≡ o → From (λ z. Each R z xs ys) (things mid) → IsSound (things mid) → Agree mid mid' → ends xs mid o ≡ Full → FillsUp (things mid)
-          ends_full xs ys mid mid' (Some end) e front sound h f = absurd cc
-          ends_full xs ys mid mid' None e front sound h f =
-              let b = option_full (after Comma mid) (more_at after close p room xs) f in
-              let m = marks.found Comma mid mid' b.0 sound h b.1 in
-              fills_on (things mid) (things b.0) m.2 ((more (things b.0) xs ys (later (λ z. Each R z xs ys) (things mid) (things b.0) m.2 front)).full b.0 m.0 (grows_refl (things b.0)) m.3 m.4 b.2)
-
         pub more_exact : (room : ℕ) (c : Things) (xs : List A) (ys : List B) → From (λ z. Each R z xs ys) c → Exact c (Each R) (more_at after close p room xs) (IsMore Tok close P room ys)
         unfolding more_at IsMore
-        more_exact zero c xs ys r = record { found = λ s t x s' g sound h e. absurd cc; only = λ s t y t' g sound h k. absurd k; full = λ s t g sound h e. absurd cc }
+        more_exact zero c xs ys r = record { found = λ s t x s' g sound h e. absurd cc; only = λ s t y t' g sound h k. absurd k }
         more_exact (suc room) c xs ys r = record {
           found = λ s t all s' g sound h e.
               let a = bind_read (p xs s) (λ x. more_from after close p (more_at after close p room) (xs ++ x.0 ∷ []) x.1 (after close x.1)) (all, s') e in
@@ -307,13 +266,6 @@ module _ {S T : Type 0} (things : S → Things) (Same : Things → S → T → T
               reads_then R (Each R) s (p xs s) (λ x. more_from after close p (more_at after close p room) (xs ++ x.0 ∷ []) x.1 (after close x.1)) k.0 k.1 all t' ((item c xs ys r).only s t k.0 k.1 g sound h k.2) (λ x s' f.
               let front : From (λ z. Each R z (xs ++ x ∷ []) (ys ++ k.0 ∷ [])) (things s') = λ z j w. each_push z xs ys x k.0 (r z (grows_trans c (things s) z g (grows_trans (things s) (things s') z f.grows j)) w) (f.stands z j w) in
               ends_only room (more_exact room) (xs ++ x ∷ []) (ys ++ k.0 ∷ []) s' k.1 front f.sound f.agree all t' k.3);
-          full = λ s t g sound h e. ⊎_elim
-              (λ (k : p xs s ≡ Full). (item c xs ys r).full s t g sound h k)
-              (λ (a : (x : A × S) × (p xs s ≡ Read x) × (more_from after close p (more_at after close p room) (xs ++ x.0 ∷ []) x.1 (after close x.1) ≡ Full)).
-              let f = (item c xs ys r).found s t a.0.0 a.0.1 g sound h a.1 in
-              let front : From (λ z. Each R z (xs ++ a.0.0 ∷ []) (ys ++ f.0 ∷ [])) (things a.0.1) = λ z k w. each_push z xs ys a.0.0 f.0 (r z (grows_trans c (things s) z g (grows_trans (things s) (things a.0.1) z f.3.grows k)) w) (f.3.stands z k w) in
-              fills_on (things s) (things a.0.1) f.3.grows (ends_full room (more_exact room) (xs ++ a.0.0 ∷ []) (ys ++ f.0 ∷ []) a.0.1 f.1 (after close a.0.1) refl front f.3.sound f.3.agree a.2))
-              (bind_full (p xs s) (λ x. more_from after close p (more_at after close p room) (xs ++ x.0 ∷ []) x.1 (after close x.1)) e);
         }
 
         pub list_exact : (room : ℕ) (c : Things) → Exact c (Each R) (list_at after close p room) (IsList Tok close P room)
@@ -324,13 +276,8 @@ module _ {S T : Type 0} (things : S → Things) (Same : Things → S → T → T
               (λ (k : Tok close t t' × (all ≡ [])). let m = marks.only close s t t' sound h k.0 in rw (k.1, m.1) (inr ([], m.0, refl, record { grows = m.2; sound = m.3; stands = λ z j w. tt; agree = m.4 })))
               (λ (k : Not Tok close t × IsMore Tok close P room [] all t t'). rw (marks.lacks close s t sound h k.0) ((more_exact room (things s) [] [] (λ z j w. tt)).only s t all t' (grows_refl (things s)) sound h k.1))
               k;
-          full = λ s t g sound h e. fills s t (after close s) refl sound h e;
         }
           where
-            fills : (s : S) (t : T) (o : Option S) → after close s ≡ o → IsSound (things s) → Agree s t → list_from after close p room s o ≡ Full → FillsUp (things s)
-            fills s t (Some end) e sound h f = absurd cc
-            fills s t None e sound h f = (more_exact room (things s) [] [] (λ z j w. tt)).full s t (grows_refl (things s)) sound h f
-
             from : (s : S) (t : T) (all : List A) (s' : S) (o : Option S) → after close s ≡ o → IsSound (things s) → Agree s t → list_from after close p room s o ≡ Read (all, s') → Comes (Each R) (IsList Tok close P room) s t all s'
             from s t all s' (Some end) e sound h f =
                 let q = parts [] all end s' f in

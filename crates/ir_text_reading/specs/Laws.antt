@@ -1,7 +1,6 @@
 -- Words of the laws of reading.
 use Rattle.std.specs.Prelude.{ℕ, ◌≤◌, ◌⊎◌, List, [], ◌∷◌, length}
-use Rattle.ir_types.specs.Things.{Things, Grows}
-use Rattle.ir_types.specs.Sound.{IsSound}
+use Rattle.ir_types.specs.Things.{Things}
 use Rattle.ir_types.specs.Terms.{TypeTerm}
 use Rattle.ir_text_reading.specs.Standing.{TypeStands}
 
@@ -24,7 +23,3 @@ SignatureStands c x y = TypesStand c x.0 y.0 × TypesStand c x.1 y.1
 -- no more names, types or attributes can be added
 abbrev pub IsFull : Things → Type 0
 IsFull c = (16777216 ≤ length c.names) ⊎ ((16777216 ≤ length c.types) ⊎ (16777216 ≤ length c.attrs))
-
--- a context grows until it is full
-abbrev pub FillsUp : Things → Type 0
-FillsUp c = (d : Things) × Grows c d × IsSound d × IsFull d

@@ -29,7 +29,6 @@ use Rattle.ir_types.proofs.Placing.{length-with_last}
 use Rattle.ir_text_reading.specs.Outcomes.{Outcome, Read, Wrong, Full, ◌>>=◌, of_option, interned, Parse}
 use Rattle.ir_text_reading.specs.Typed.{Typed, after_typed, name_step, attr_step}
 use Rattle.ir_text_types.specs.TypeReading.{many, type_done, type_at}
-use Rattle.ir_text_types.proofs.TypeLaws.{full_count}
 use Rattle.ir_text_reading.specs.Lists.{more_at, more_from, list_at, list_from}
 use Rattle.ir_text_reading.proofs.Worlds.{bind_read, option_read}
 use Rattle.ir_text_attributes.specs.declared.flag.Flag.{Flag}
@@ -39,7 +38,7 @@ use Rattle.ir_text_attributes.specs.AttrReading.{attr_done, name_done, truth_at,
 use Rattle.ir_text_room.specs.Room.{Fits}
 use Rattle.ir_text_room.proofs.Lengths.{gain}
 use Rattle.ir_text_room.proofs.Fits.{fits_to, Has, Good, wrong, reads, good_then, good_some, unless_good, more_good, list_good, text, things}
-use Rattle.ir_text_room.proofs.Steps.{token_fits, mark_fits, call_good, with_name_fits, name_not_full, type_done_good}
+use Rattle.ir_text_room.proofs.Steps.{token_fits, mark_fits, call_good, with_name_fits, name_not_full, type_done_good, full_count}
 use Rattle.ir_text_room.proofs.Types.{type_good}
 
 -- ---- what is interned

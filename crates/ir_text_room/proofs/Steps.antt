@@ -1,7 +1,7 @@
 -- What is interned fits.
-use Rattle.std.proofs.Common.{◌≡◌, ◌+◌, ℕ, Bool, true, false, List, length, Option, Some, None, refl, ap, arith}
-use Rattle.std.specs.Prelude.{if◌then◌else◌, nat_le, option_map}
-use Rattle.std.specs.List.{list_all}
+use Rattle.std.proofs.Common.{◌≡◌, ◌≤◌, ◌+◌, ℕ, Bool, true, false, ◌&&◌, List, length, Option, Some, None, refl, ap, arith, leb-true}
+use Rattle.std.specs.Prelude.{if◌then◌else◌, nat_le, not, option_map}
+use Rattle.std.specs.List.{list_all, list_any}
 use Rattle.std.specs.Str.{bytes_eq}
 use Rattle.ir_text_tokens.specs.declared.token.Mark.{Mark}
 use Rattle.ir_text_tokens.specs.Tokens.{Lexeme, mark, next}
@@ -17,11 +17,10 @@ use Rattle.ir_types.specs.Terms as terms
 use Rattle.ir_types.specs.Things.{Things}
 use Rattle.ir_types.proofs.Growth.{name_names, name_types, name_attrs, type_names, type_types, type_attrs}
 use Rattle.ir_types.proofs.Placing.{length-with_last}
-use Rattle.ir_text_reading.specs.Outcomes.{Read, ◌>>=◌, interned}
+use Rattle.ir_text_reading.specs.Outcomes.{Read, Full, ◌>>=◌, interned}
 use Rattle.ir_text_reading.specs.Typed.{Typed, after_typed, type_step}
 use Rattle.ir_text_types.specs.TypeReading.{type_done}
 use Rattle.ir_text_reading.specs.Marks.{after}
-use Rattle.ir_text_types.proofs.TypeLaws.{full_count}
 use Rattle.ir_text_room.specs.Room.{Fits}
 use Rattle.ir_text_room.proofs.Lengths.{gain, next_length}
 use Rattle.ir_text_room.proofs.Fits.{fits_to, after_length, Has, Good, wrong, reads, text, things}
@@ -43,6 +42,21 @@ pub mark_fits : (m : Mark) → gain (mark m) ≡ 1 → (i j k : ℕ) (s s' : Typ
 mark_fits m one i j k s s' e h = behind m s s' (after m s.0) refl e i j k one h
 
 -- ---- names, types and attributes
+
+-- a call that finds the context full was refused for that
+pub full_interned : {A : Type 0} (reason : Option Refusal) (x : A) → interned reason x ≡ Full → reason ≡ Some TooMany
+full_interned None x e = absurd cc
+full_interned (Some TooMany) x e = refl
+full_interned (Some _) x e = absurd cc
+
+-- and then so many things are there
+pub full_count : {A : Type 0} (is : A → Bool) (xs : List A) → full_reason is xs ≡ Some TooMany → 16777216 ≤ length xs
+full_count is xs e = by_case (not (list_any is xs)) (nat_le 16777216 (length xs)) refl e
+  where
+    by_case : (a b : Bool) → nat_le 16777216 (length xs) ≡ b → (if a && b then Some TooMany else None) ≡ Some TooMany → 16777216 ≤ length xs
+    by_case true true h e = leb-true 16777216 (length xs) h
+    by_case true false h e = absurd cc
+    by_case false b h e = absurd cc
 
 -- so it is with each call of a context
 pub call_good : (i j k : ℕ) (o : Option Refusal) (x : ℕ × Things) (b : List ℕ) → (o ≡ None → Fits i j k b x.1) → (o ≡ Some TooMany → ⊥) → Good text things i j k (interned o x >>= λ n. Read (n.0, (b, n.1)))

@@ -12,7 +12,6 @@ use Rattle.ir_tree.specs.Tree.{Op}
 use Rattle.ir_text_reading.specs.Outcomes.{Outcome, Read, Full}
 use Rattle.ir_text_reading.specs.Typed.{name_step}
 use Rattle.ir_text_types.specs.TypeReading.{type_at, function_type_at}
-use Rattle.ir_text_types.proofs.TypeLaws.{full_count, full_interned}
 use Rattle.ir_text_attributes.specs.AttrReading.{attr_at}
 use Rattle.ir_text_names.specs.States.{State, fresh}
 use Rattle.ir_text_operations.specs.Filling.{new_things, RootFills, OpsFill, Fills}
@@ -22,7 +21,7 @@ use Rattle.ir_text_operations.specs.OpReading.{op_at, ops_at}
 use Rattle.ir_text_operations.specs.Spelling.{module_word}
 use Rattle.ir_text_room.specs.Room.{Fits, HasRoom}
 use Rattle.ir_text_room.proofs.Fits.{fits_to, Good, never, text, things}
-use Rattle.ir_text_room.proofs.Steps.{with_name_fits}
+use Rattle.ir_text_room.proofs.Steps.{with_name_fits, full_count, full_interned}
 use Rattle.ir_text_room.proofs.Types.{type_good, function_type_good}
 use Rattle.ir_text_room.proofs.Attrs.{attr_good}
 use Rattle.ir_text_room.proofs.Ops.{left, known, op_good, ops_good}

@@ -1,5 +1,5 @@
 -- Types that are read are spelled, and types that are spelled are read.
-use Rattle.std.proofs.Common.{◌≡◌, ◌<◌, ◌≤◌, ℕ, zero, suc, Bool, true, false, List, [], ◌∷◌, length, map, Option, Some, None, slice_get, refl, sym, ap, subst, ◌∙◌, ◌⊎◌, inl, inr, ⊎_elim, leb-true}
+use Rattle.std.proofs.Common.{◌≡◌, ◌<◌, ℕ, zero, suc, Bool, true, false, List, [], ◌∷◌, length, map, Option, Some, None, slice_get, refl, sym, ap, subst, ◌∙◌, ◌⊎◌, inl, inr, ⊎_elim}
 use Rattle.std.specs.Prelude.{option_map, if◌then◌else◌, ◌&&◌, ◌==◌, not, nat_le}
 use Rattle.std.specs.List.{All, AllByRecursion, list_any, list_all}
 use Rattle.std.specs.Str.{bytes_eq}
@@ -14,7 +14,7 @@ use Rattle.ir_types.specs.declared.node.Sign.TheVariants.{Signless, Signed, Unsi
 use Rattle.ir_types.specs.declared.node.TypeNode.{TypeNode}
 use Rattle.ir_types.specs.declared.node.TypeNode.TheVariants as node
 use Rattle.ir_types.specs.declared.refusal.Refusal.{Refusal}
-use Rattle.ir_types.specs.declared.refusal.Refusal.TheVariants.{BadWidth, BadValue, TooDeep, TooMany}
+use Rattle.ir_types.specs.declared.refusal.Refusal.TheVariants.{BadValue, TooMany}
 use Rattle.ir_types.specs.Things.{Things, TypeIsOf, Grows}
 use Rattle.ir_types.specs.Things as of
 use Rattle.ir_types.specs.Terms.{TypeTerm, TypeTerms, Function, type_from, type_terms, type_term, type_node_term}
@@ -39,8 +39,8 @@ use Rattle.ir_text_reading.specs.Grammars.{Grammar, Then, Done, DoneIf, After, I
 use Rattle.ir_text_types.specs.TypeGrammar.{terms_of, IsScalar, IsMemref, IsWordFrom, IsWordType, IsTypes, IsOutputs, IsSignature, IsFunction, IsType, IsFunctionType}
 use Rattle.ir_text_reading.specs.Worlds.{From}
 use Rattle.ir_text_reading.specs.Standing.{TypeStands}
-use Rattle.ir_text_reading.specs.Laws.{FillsUp, TypesStand, SignatureStands}
-use Rattle.ir_text_reading.proofs.Worlds.{bind_read, option_read, bind_full, option_full, Exact, Step, Comes, Reads, step_on, reads_on, exact_spelled, nothing_exact, then_exact, done_exact, after_exact, either_exact, list_exact}
+use Rattle.ir_text_reading.specs.Laws.{TypesStand, SignatureStands}
+use Rattle.ir_text_reading.proofs.Worlds.{bind_read, option_read, Exact, Step, Comes, Reads, step_on, reads_on, exact_spelled, nothing_exact, then_exact, done_exact, after_exact, either_exact, list_exact}
 use Rattle.ir_text_reading.proofs.TextLaws.{things, Same, text_now, typed_marks}
 use Rattle.ir_text_reading.proofs.TokenLaws.{text_exact, behind_exact, token_exact}
 use Rattle.ir_text_types.proofs.ShapeLaws.{dimensions_only, dimensions_found}
@@ -59,45 +59,6 @@ full_cases is xs = by_case (not (list_any is xs) && nat_le 16777216 (length xs))
     by_case : (b : Bool) → ((if b then Some TooMany else None) ≡ None) ⊎ ((if b then Some TooMany else None) ≡ Some TooMany)
     by_case true = inr refl
     by_case false = inl refl
-
-pub full_interned : {A : Type 0} (reason : Option Refusal) (x : A) → interned reason x ≡ Full → reason ≡ Some TooMany
-full_interned None x e = absurd cc
-full_interned (Some TooMany) x e = refl
-full_interned (Some _) x e = absurd cc
-
--- and then so many things are there
-pub full_count : {A : Type 0} (is : A → Bool) (xs : List A) → full_reason is xs ≡ Some TooMany → 16777216 ≤ length xs
-full_count is xs e = by_case (not (list_any is xs)) (nat_le 16777216 (length xs)) refl e
-  where
-    by_case : (a b : Bool) → nat_le 16777216 (length xs) ≡ b → (if a && b then Some TooMany else None) ≡ Some TooMany → 16777216 ≤ length xs
-    by_case true true h e = leb-true 16777216 (length xs) h
-    by_case true false h e = absurd cc
-    by_case false b h e = absurd cc
-
--- a fault of a type is not that
-no_fault_full : (y : TypeTerm) (next : Option Refusal) → first_reason (type_fault y) next ≡ Some TooMany → next ≡ Some TooMany
-no_fault_full y next e = by_size y e
-  where
-    by_depth : (d : ℕ) → first_reason (depth_reason d) next ≡ Some TooMany → next ≡ Some TooMany
-    by_depth d e = by_case (nat_le d 32) e
-      where
-        by_case : (b : Bool) → first_reason (if b then None else Some TooDeep) next ≡ Some TooMany → next ≡ Some TooMany
-        by_case true e = e
-        by_case false e = absurd cc
-
-    by_size : (y : TypeTerm) → first_reason (type_fault y) next ≡ Some TooMany → next ≡ Some TooMany
-    by_size (terms.Integer sign width) e = by_case (is_width width) e
-      where
-        by_case : (b : Bool) → first_reason (first_reason (if b then None else Some BadWidth) (depth_reason 1)) next ≡ Some TooMany → next ≡ Some TooMany
-        by_case true e = by_depth 1 e
-        by_case false e = absurd cc
-    by_size (terms.Memref dims elem) e = by_case (list_all is_dimension dims) e
-      where
-        by_case : (b : Bool) → first_reason (first_reason (if b then None else Some BadValue) (depth_reason (type_depth (terms.Memref dims elem)))) next ≡ Some TooMany → next ≡ Some TooMany
-        by_case true e = by_depth (type_depth (terms.Memref dims elem)) e
-        by_case false e = absurd cc
-    by_size terms.Index e = by_depth 1 e
-    by_size (terms.Function inputs outputs) e = by_depth (type_depth (terms.Function inputs outputs)) e
 
 -- in z the node's parts are there, and it is y
 abbrev pub IsNodeOf : TypeNode → TypeTerm → Things → Type 0
@@ -141,12 +102,6 @@ type_done_exact c node y r = record {
       (inr ((with_type node s.1).0, (s.0, (with_type node s.1).1), refl, done_step node y s t sound (text_now s t sound h) r' fine)))
       (λ (f : full_reason (same_type node) s.1.types ≡ Some TooMany). inl (rw (no_fault, f) refl))
       (full_cases (same_type node) s.1.types));
-  full = λ s t g sound h e. ⊎_elim
-      (λ (k : type_step node s.1 ≡ Full).
-      let reason = full_interned (type_reason node s.1) (with_type node s.1) k in
-      (s.1, grows_refl s.1, sound, inr (inl (full_count (same_type node) s.1.types (no_fault_full (type_node_term s.1 node) (full_reason (same_type node) s.1.types) reason)))))
-      (λ (k : (n : ℕ × Things) × (type_step node s.1 ≡ Read n) × (done (moved s n) ≡ Full)). absurd cc)
-      (bind_full (type_step node s.1) (λ n. done (moved s n)) e);
 }
 
 -- ---- types that are one word
@@ -216,13 +171,6 @@ scalar_found s t x s' (bare word) rest token sound same e =
     (n.0, n.1, (word, o.0, read, o.1, n.2.1), step_on things Same TypeStands s (rest, s.1) x n.0 s' n.1 (grows_refl s.1) n.3)
 scalar_found s t x s' _ rest token sound same e = absurd cc
 
-scalar_full : (s : Typed) (l : Lexeme) (rest : List ℕ) → IsSound s.1 → scalar_from s.1 l rest ≡ Full → FillsUp s.1
-scalar_full s (bare word) rest sound e =
-    let o = option_full (scalar_of word) (λ node. type_done node (rest, s.1)) e in
-    let w = scalar_word word o.0 o.1 in
-    (type_done_exact s.1 o.0 (type_from [] o.0) (λ z g k. word_stands o.0 z w)).full (rest, s.1) rest (grows_refl s.1) sound (λ z g k. refl) o.2
-scalar_full s _ rest sound e = absurd cc
-
 pub scalar_exact : (c : Things) → Exact things Same c TypeStands scalar_at IsScalar
 unfolding scalar_at
 scalar_exact c = record {
@@ -234,9 +182,6 @@ scalar_exact c = record {
       let w = scalar_word k.0 k.1 k.3 in
       rw (token, k.3) (reads_on things Same TypeStands s (t', s.1) (type_done k.1 (t', s.1)) y t' (grows_refl s.1)
       ((type_done_exact s.1 k.1 (type_from [] k.1) (λ z g k'. word_stands k.1 z w)).only (t', s.1) t' y t' (grows_refl s.1) sound (λ z g k'. refl) (word_fine k.1 w, k.4, refl)));
-  full = λ s t g sound h e.
-      let b = option_full (next s.0) (λ l. scalar_from s.1 l.0 l.1) e in
-      scalar_full s b.0.0 b.0.1 sound b.2;
 }
 
 -- ---- memrefs
@@ -367,7 +312,7 @@ module _ (p : Parse Typed ℕ) (P : Grammar (List ℕ) TypeTerm) (item : (c : Th
 
 pub type_exact : (depth : ℕ) (c : Things) → Exact things Same c TypeStands (type_at depth) (IsType depth)
 unfolding type_at IsType
-type_exact zero c = record { found = λ s t x s' g sound h e. absurd cc; only = λ s t y t' g sound h k. absurd k; full = λ s t g sound h e. absurd cc }
+type_exact zero c = record { found = λ s t x s' g sound h e. absurd cc; only = λ s t y t' g sound h k. absurd k }
 type_exact (suc depth) c =
     either_exact things Same after_typed IsMark typed_marks c TypeStands OpenRound (type_read_from (type_at depth)) (function_at (type_at depth)) word_type_at (IsFunction (IsType depth)) IsWordType
     (λ s mid. refl) (λ s. refl) (function_exact (type_at depth) (IsType depth) (type_exact depth) c) (word_type_exact c)
@@ -395,9 +340,6 @@ type_spelled depth c bytes rest y sound k = ⊎_elim
     (λ (f : (n : ℕ) × (s : Typed) × (type_at depth (bytes, c) ≡ Read (n, s)) × Step things Same TypeStands (bytes, c) n y s rest).
     inr (f.0, f.1.1, f.2 ∙ ap (pair f.0 f.1.1) (text_now f.1 rest f.3.sound f.3.agree), f.3.grows, f.3.sound, f.3.stands f.1.1 (grows_refl f.1.1) f.3.sound))
     ((type_exact depth c).only (bytes, c) bytes y rest (grows_refl c) sound (λ z g w. refl) k)
-
-pub type_full : (depth : ℕ) (c : Things) (bytes : List ℕ) → IsSound c → type_at depth (bytes, c) ≡ Full → FillsUp c
-type_full depth c bytes sound e = (type_exact depth c).full (bytes, c) bytes (grows_refl c) sound (λ z g w. refl) e
 
 -- ---- and function types
 
@@ -429,6 +371,3 @@ function_type_spelled c bytes rest y sound k = ⊎_elim
     (λ (f : (x : List ℕ × List ℕ) × (s : Typed) × (function_type_at (bytes, c) ≡ Read (x, s)) × Step things Same SignatureStands (bytes, c) x y s rest).
     inr (f.0, f.1.1, f.2 ∙ ap (pair f.0 f.1.1) (text_now f.1 rest f.3.sound f.3.agree), f.3.grows, f.3.sound, f.3.stands f.1.1 (grows_refl f.1.1) f.3.sound))
     ((function_type_exact c).only (bytes, c) bytes y rest (grows_refl c) sound (λ z g w. refl) k)
-
-pub function_type_full : (c : Things) (bytes : List ℕ) → IsSound c → function_type_at (bytes, c) ≡ Full → FillsUp c
-function_type_full c bytes sound e = (function_type_exact c).full (bytes, c) bytes (grows_refl c) sound (λ z g w. refl) e

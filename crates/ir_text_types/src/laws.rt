@@ -5,19 +5,17 @@ ghost use Rattle.std.specs.List.{All};
 ghost use Rattle.ir_types.specs.Sound.{IsSound};
 ghost use Rattle.ir_types.specs.Terms.{TypeTerm, type_term};
 ghost use Rattle.ir_types.specs.Things.{Things, Grows, IsType as IsTypeOf};
-ghost use Rattle.ir_text_reading.specs.Laws.{FillsUp, SignatureStands};
+ghost use Rattle.ir_text_reading.specs.Laws.{SignatureStands};
 ghost use Rattle.ir_text_reading.specs.Outcomes.{Read, Full};
 ghost use Rattle.ir_text_reading.specs.Standing.{TypeStands};
 ghost use Rattle.ir_text_types.specs.TypeGrammar.{IsType, IsFunctionType};
 ghost use Rattle.ir_text_types.specs.TypeReading.{type_at, function_type_at};
 
 /// A type that is read is spelled by the grammar, as the grown context has it; and each type that is
-/// spelled is read, unless the context grows full on the way: then 16,777,216 names, types or
-/// attributes are there.
+/// spelled is read, unless the context grows full on the way.
 pub fn types_are_read_as_spelled()
     ensures found { (depth : ℕ) (c d : Things) (bytes rest : List ℕ) (n : ℕ) → IsSound c → type_at depth (bytes, c) ≡ Read (n, (rest, d)) → Grows c d × IsSound d × IsTypeOf d n × IsType depth (type_term d n) bytes rest }
     ensures only { (depth : ℕ) (c : Things) (bytes rest : List ℕ) (y : TypeTerm) → IsSound c → IsType depth y bytes rest → (type_at depth (bytes, c) ≡ Full) ⊎ ((n : ℕ) × (d : Things) × (type_at depth (bytes, c) ≡ Read (n, (rest, d))) × Grows c d × IsSound d × TypeStands d n y) }
-    ensures full { (depth : ℕ) (c : Things) (bytes : List ℕ) → IsSound c → type_at depth (bytes, c) ≡ Full → FillsUp c }
 {}
 
 /// A function type that is read is spelled by the grammar, as the grown context has it; and each
@@ -25,7 +23,6 @@ pub fn types_are_read_as_spelled()
 pub fn function_types_are_read_as_spelled()
     ensures found { (c d : Things) (bytes rest : List ℕ) (x : List ℕ × List ℕ) → IsSound c → function_type_at (bytes, c) ≡ Read (x, (rest, d)) → Grows c d × IsSound d × All (IsTypeOf d) x.0 × All (IsTypeOf d) x.1 × IsFunctionType (map (type_term d) x.0, map (type_term d) x.1) bytes rest }
     ensures only { (c : Things) (bytes rest : List ℕ) (y : List TypeTerm × List TypeTerm) → IsSound c → IsFunctionType y bytes rest → (function_type_at (bytes, c) ≡ Full) ⊎ ((x : List ℕ × List ℕ) × (d : Things) × (function_type_at (bytes, c) ≡ Read (x, (rest, d))) × Grows c d × IsSound d × SignatureStands d x y) }
-    ensures full { (c : Things) (bytes : List ℕ) → IsSound c → function_type_at (bytes, c) ≡ Full → FillsUp c }
 {}
 
 /// A text spells at most one type at its front, and leaves one rest; so it is with function types.

@@ -1,4 +1,4 @@
-use Rattle.ir_text_operations.proofs.OpLaws.{ops_read, ops_spelled, ops_full}
+use Rattle.ir_text_operations.proofs.OpLaws.{ops_read, ops_spelled}
 use Rattle.ir_text_operations.proofs.laws.texts_are_read_as_spelled.Goals as goal
 
 pub returns-clause-found : goal.returns-clause-found
@@ -6,6 +6,3 @@ returns-clause-found _ = ops_read
 
 pub returns-clause-only : goal.returns-clause-only
 returns-clause-only _ = ops_spelled
-
-pub returns-clause-full : goal.returns-clause-full
-returns-clause-full _ = ops_full
