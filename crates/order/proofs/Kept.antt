@@ -1,5 +1,5 @@
 -- Labels go on rising with each edit of the lists.
-use Rattle.std.proofs.Common.{◌≡◌, ℕ, ◌+◌, ◌*◌, ◌<◌, ◌≤◌, List, [], ◌∷◌, ◌++◌, map, set, refl, sym, ap, ◌∙◌, subst, length, Bool, true, false, eqb, ◌||◌, ⊎_elim, arith, Option, Some, None, MatchOption, take, drop}
+use Rattle.std.proofs.Common.{◌≡◌, ℕ, ◌+◌, ◌<◌, ◌≤◌, List, [], ◌∷◌, ◌++◌, map, set, refl, sym, ap, ◌∙◌, subst, length, Bool, true, false, eqb, ◌||◌, ⊎_elim, arith, Option, Some, None, MatchOption, take, drop}
 use Rattle.std.proofs.Math.ListN.{drop_of_length-le}
 use Rattle.std.specs.List.{IsDistinct, AllByRecursion, list_any}
 use Rattle.std.proofs.lemmas.Bool.{cases_eq, cases_lt, cases_Bool, eqb-true, eq-eqb, ne_eqb, cond-true, cond-false, false≢true, or_cases, or_left, or_right}
@@ -8,9 +8,9 @@ use Rattle.std.proofs.lemmas.Map.Steps.{length-le_from_distinct_below}
 use Rattle.chains.specs.Lists.{Lists, Laws, Once, free, list_at, home_at, has, without, put_before, before, last_of, let_go, IsItem, IsFree, IsHead}
 use Rattle.chains.proofs.Cuts.{list_at-map}
 use Rattle.chains.proofs.Around.{home_inside}
-use Rattle.order.specs.Labels.{label_at, RisesFrom, label_before, last_label, step, spread, Rising, HasRoom}
+use Rattle.order.specs.Labels.{label_at, RisesFrom, label_before, last_label, step, spread, spread_end, Rising, HasRoom}
 use Rattle.order.proofs.Laws.{rises_without, rises_put, rises_still, rises_end, rises_same}
-use Rattle.order.proofs.Spreads.{Labelled, length-spread, spread_else, spread_rises, spread_gap, spread_last}
+use Rattle.order.proofs.Spreads.{Labelled, length-spread, spread_else, spread_rises, spread_gap, last_spread, end_times}
 
 -- what stands in a list is an item
 pub member_item : (c : Lists) (h y : ℕ) → Laws c.lists c.homes → has y (list_at c.lists h) ≡ true → IsItem c.homes y
@@ -146,16 +146,16 @@ rising_grown c d labels more k el eh em few r = record {
 }
 
 -- a list that is labelled anew rises, and the others as before
-pub rising_spread : (c : Lists) (labels : List ℕ) (k : ℕ) → Laws c.lists c.homes → Rising c labels → Rising c (spread 0 (list_at c.lists k) labels)
+pub rising_spread : (c : Lists) (labels : List ℕ) (k : ℕ) → Laws c.lists c.homes → Rising c labels → Rising c (spread step 0 (list_at c.lists k) labels)
 rising_spread c labels k laws r = record {
   rises = λ h. ⊎_elim
-      (λ z. subst (λ w. RisesFrom (spread 0 (list_at c.lists k) labels) 0 (list_at c.lists w)) (sym z) (spread_rises 0 (list_at c.lists k) labels (laws.once k) (list_labelled c k labels laws r)))
-      (λ z. rises_same labels (spread 0 (list_at c.lists k) labels) 0 (list_at c.lists h)
-      (λ y e. spread_else 0 (list_at c.lists k) labels y
+      (λ z. subst (λ w. RisesFrom (spread step 0 (list_at c.lists k) labels) 0 (list_at c.lists w)) (sym z) (spread_rises step 0 (list_at c.lists k) labels (omega arith) (laws.once k) (list_labelled c k labels laws r)))
+      (λ z. rises_same labels (spread step 0 (list_at c.lists k) labels) 0 (list_at c.lists h)
+      (λ y e. spread_else step 0 (list_at c.lists k) labels y
       (⊎_elim (λ w. absurd (z (sym (laws.members h y e).0 ∙ (laws.members k y w).0))) (λ w. w) (cases_Bool (has y (list_at c.lists k)))))
       (r.rises h))
       (cases_eq h k);
-  long = length-spread 0 (list_at c.lists k) labels ∙ r.long;
+  long = length-spread step 0 (list_at c.lists k) labels ∙ r.long;
   few = r.few;
 }
 
@@ -164,13 +164,13 @@ pub record Widened (c : Lists) (new : List ℕ) (t : ℕ) : Type 0 where
   pub rising : Rising c new
   pub gap : label_before new 0 t (list_at c.lists (home_at c.homes t)) + step ≡ label_at new t
 
-pub widened : (c : Lists) (labels new : List ℕ) (t h : ℕ) → Laws c.lists c.homes → IsItem c.homes t → h ≡ home_at c.homes t → new ≡ spread 0 (list_at c.lists h) labels → Rising c labels → Widened c new t
+pub widened : (c : Lists) (labels new : List ℕ) (t h : ℕ) → Laws c.lists c.homes → IsItem c.homes t → h ≡ home_at c.homes t → new ≡ spread step 0 (list_at c.lists h) labels → Rising c labels → Widened c new t
 widened c labels new t h laws item e s r =
     let k = home_at c.homes t in
-    let s' : new ≡ spread 0 (list_at c.lists k) labels = s ∙ ap (λ z. spread 0 (list_at c.lists z) labels) e in
-    let here : Widened c (spread 0 (list_at c.lists k) labels) t = record {
+    let s' : new ≡ spread step 0 (list_at c.lists k) labels = s ∙ ap (λ z. spread step 0 (list_at c.lists z) labels) e in
+    let here : Widened c (spread step 0 (list_at c.lists k) labels) t = record {
       rising = rising_spread c labels k laws r;
-      gap = spread_gap 0 t (list_at c.lists k) labels (laws.covers t item) (laws.once k) (list_labelled c k labels laws r);
+      gap = spread_gap step 0 t (list_at c.lists k) labels (laws.covers t item) (laws.once k) (list_labelled c k labels laws r);
     } in
     subst (λ z. Widened c z t) (sym s') here
 
@@ -179,11 +179,15 @@ pub record Ended (c : Lists) (new : List ℕ) (h last : ℕ) : Type 0 where
   pub above : last_label new 0 (list_at c.lists h) ≡ last
   pub fits : last + step < 18446744073709551616
 
-pub ended : (c : Lists) (labels new : List ℕ) (h last : ℕ) → Laws c.lists c.homes → new ≡ spread 0 (list_at c.lists h) labels → last ≡ step * length (list_at c.lists h) → Rising c labels → Ended c new h last
+-- labels a step apart fit
+pub all_fit : (c : Lists) (h : ℕ) → Laws c.lists c.homes → length c.homes < 4294967295 → spread_end step 0 (list_at c.lists h) + step < 18446744073709551616
+all_fit c h laws few = omega (arith, end_times step 0 (list_at c.lists h), list_short c h laws, few)
+
+pub ended : (c : Lists) (labels new : List ℕ) (h last : ℕ) → Laws c.lists c.homes → new ≡ spread step 0 (list_at c.lists h) labels → last ≡ spread_end step 0 (list_at c.lists h) → Rising c labels → Ended c new h last
 ended c labels new h last laws s e r = record {
   rising = subst (Rising c) (sym s) (rising_spread c labels h laws r);
-  above = ap (λ z. last_label z 0 (list_at c.lists h)) s ∙ spread_last 0 (list_at c.lists h) labels (laws.once h) (list_labelled c h labels laws r) ∙ omega (arith, e);
-  fits = omega (arith, e, list_short c h laws, r.few);
+  above = ap (λ z. last_label z 0 (list_at c.lists h)) s ∙ last_spread step 0 (list_at c.lists h) labels (laws.once h) (list_labelled c h labels laws r) ∙ sym e;
+  fits = omega (arith, e, all_fit c h laws r.few);
 }
 
 -- what a slice of a whole vector wrote stands in the vector

@@ -1,5 +1,5 @@
 -- Labels that rise along lists, by which the order of two nodes is told.
-use Rattle.std.specs.Prelude.{ℕ, ◌≡◌, ◌+◌, ◌<◌, ◌≤◌, List, [], ◌∷◌, eqb, Bool, false, if◌then◌else◌, get_or, length, slice_set}
+use Rattle.std.specs.Prelude.{ℕ, ◌≡◌, ◌+◌, ◌<◌, ◌≤◌, List, [], ◌∷◌, eqb, Bool, false, if◌then◌else◌, get_or, length, slice_set, slice_get, take, Some}
 use Rattle.chains.specs.Lists.{Lists, has, list_at}
 
 -- the label of a node
@@ -26,14 +26,31 @@ abbrev pub last_label : List ℕ → ℕ → List ℕ → ℕ
 last_label labels low [] = low
 last_label labels low (k ∷ ks) = last_label labels (label_at labels k) ks
 
--- how far the labels of a list are apart that was labelled anew
+-- a list from node t on
+abbrev pub from : ℕ → List ℕ → List ℕ
+from t [] = []
+from t (k ∷ ks) = if eqb k t then k ∷ ks else from t ks
+
+-- the labels, where those of some nodes are given anew, each a gap above the one before
+abbrev pub spread : ℕ → ℕ → List ℕ → List ℕ → List ℕ
+spread gap low [] labels = labels
+spread gap low (k ∷ ks) labels = spread gap (low + gap) ks (slice_set labels k (low + gap))
+
+-- the last of the labels that are so given
+abbrev pub spread_end : ℕ → ℕ → List ℕ → ℕ
+spread_end gap low [] = low
+spread_end gap low (k ∷ ks) = spread_end gap (low + gap) ks
+
+-- how far the labels of a list are apart when all of it is labelled anew
 abbrev pub step : ℕ
 step = 4294967296
 
--- the labels, where those of a list are given anew
-abbrev pub spread : ℕ → List ℕ → List ℕ → List ℕ
-spread low [] labels = labels
-spread low (k ∷ ks) labels = spread (low + step) ks (slice_set labels k (low + step))
+-- before the nodes of `rest`, above `low`, there is room for a label and new labels of the first `count` nodes, all of
+-- them a gap apart: they stay below that of the next node
+pub record IsRoom (labels : List ℕ) (low count gap : ℕ) (rest : List ℕ) : Type 0 where
+  pub some : 0 < gap
+  pub fits : spread_end gap (low + gap) (take count rest) < 18446744073709551616
+  pub below : (b : ℕ) → slice_get rest count ≡ Some b → spread_end gap (low + gap) (take count rest) < label_at labels b
 
 -- labels rise along each list, each node has one, and there are few enough nodes to label all of them a step apart
 pub record Rising (c : Lists) (labels : List ℕ) : Type 0 where

@@ -1,20 +1,18 @@
-ghost use Rattle.std.specs.Prelude.{◌≡◌, ◌<◌, ◌≤◌, ◌+◌, ◌*◌, ◌∷◌, ◌++◌, [], length, MatchOption};
+ghost use Rattle.std.specs.Prelude.{◌≡◌, ◌<◌, ◌≤◌, ◌+◌, ◌*◌, ◌∷◌, ◌++◌, [], length, take, IfSome};
 ghost use Rattle.std.specs.Vec.{vec_capacity, vec_len};
 ghost use Rattle.chains.specs.Lists.{IsHead, IsItem, home_at, list_at};
-ghost use Rattle.order.specs.Labels.{Rising, label_at, label_before, last_label, spread, step};
+ghost use Rattle.order.specs.Labels.{IsRoom, Rising, from, label_at, label_before, last_label, spread, spread_end, step};
 
 use chains::Chains;
 
 /// How far labels are apart when a list is labelled anew, or grows at its end.
 const STEP: u64 = 1 << 32;
 
-/// A label between two, or none where there is no room.
-fn middle(low: u64, high: u64) -> Option<u64>
-    requires { low < high }
-    ensures { MatchOption result (high ≡ low + 1) (λ m. (low < m) × (m < high)) }
-{
-    let gap = high - low;
-    if gap < 2 { None } else { Some(low + gap / 2) }
+/// How many nodes to label anew, and how far apart.
+#[derive(Clone, Copy, Drop)]
+struct Room {
+    count: u64,
+    gap: u64,
 }
 
 /// The label of the node before `node`, or 0 where it is the first of its list.
@@ -43,43 +41,98 @@ fn high_label(chains: &Chains, labels: &[u64], head: usize) -> u64
     }
 }
 
-/// Labels the list of `head` anew, a step apart, and gives the last label.
-fn relabel(chains: &Chains, labels: &mut [u64], head: usize) -> u64
-    requires head { IsHead chains.now.homes head }
-    requires rising { Rising chains.now labels.old }
-    ensures labels { labels.new ≡ spread 0 (list_at chains.now.lists head) labels.old }
-    ensures last { result ≡ step * length (list_at chains.now.lists head) }
+/// Room for a label before `node`, whose neighbour has the label `low`: where there is none between the two, so many
+/// nodes from `node` on are to be labelled anew, as few as leave gaps that are wider than they are many. None where not
+/// even the whole list leaves such gaps.
+fn find_room(chains: &Chains, labels: &[u64], node: usize, low: u64) -> Option<Room>
+    requires node { IsItem chains.now.homes node }
+    requires rising { Rising chains.now labels.now }
+    requires low { low ≡ label_before labels.now 0 node (list_at chains.now.lists (home_at chains.now.homes node)) }
+    ensures { IfSome result (λ room. IsRoom labels.now low room.count room.gap (from node (list_at chains.now.lists (home_at chains.now.homes node)))) }
 {
     chains.laws();
-    let mut label = 0;
-    let mut node = chains.first(head);
-    'nodes: while let Some(at) = node {
-        label += STEP;
+    let mut count = 0;
+    let mut next = Some(node);
+    'nodes: while let Some(at) = next {
+        let gap = (labels[at] - low) / (count + 2);
+        if gap > count {
+            return Some(Room { count, gap });
+        }
+        count += 1;
+        next = chains.next(at);
+    }
+    let gap = ((u64::MAX - low) / (count + 2)).min(STEP);
+    if gap <= count {
+        return None;
+    }
+    Some(Room { count, gap })
+}
+
+/// Labels so many nodes from `node` on anew, or as many as there are, each a gap above the one before and the first one
+/// above `low`. Gives the last label.
+fn relabel(chains: &Chains, labels: &mut [u64], node: usize, low: u64, room: &Room) -> u64
+    requires node { IsItem chains.now.homes node }
+    requires rising { Rising chains.now labels.old }
+    requires fits { spread_end room.now.gap low (take room.now.count (from node (list_at chains.now.lists (home_at chains.now.homes node)))) < 18446744073709551616 }
+    ensures labels { labels.new ≡ spread room.now.gap low (take room.now.count (from node (list_at chains.now.lists (home_at chains.now.homes node)))) labels.old }
+    ensures last { result ≡ spread_end room.now.gap low (take room.now.count (from node (list_at chains.now.lists (home_at chains.now.homes node)))) }
+{
+    chains.laws();
+    let gap = room.gap;
+    let mut left = room.count;
+    let mut label = low;
+    let mut next = Some(node);
+    'nodes: while let Some(at) = next {
+        if left == 0 {
+            return label;
+        }
+        left -= 1;
+        label += gap;
         labels[at] = label;
-        node = chains.next(at);
+        next = chains.next(at);
     }
     label
 }
 
-/// A label for a node that comes before `at`. Where there is none between its neighbours, their list is labelled
-/// anew.
-pub(crate) fn label_for(chains: &Chains, labels: &mut [u64], at: usize) -> u64
-    requires at { IsItem chains.now.homes at }
+/// Labels the list of `head` anew, a step apart, and gives the last label.
+fn relabel_all(chains: &Chains, labels: &mut [u64], head: usize) -> u64
+    requires head { IsHead chains.now.homes head }
     requires rising { Rising chains.now labels.old }
-    ensures rising { Rising chains.now labels.new }
-    ensures low { label_before labels.new 0 at (list_at chains.now.lists (home_at chains.now.homes at)) < result }
-    ensures high { result < label_at labels.new at }
+    ensures labels { labels.new ≡ spread step 0 (list_at chains.now.lists head) labels.old }
+    ensures last { result ≡ spread_end step 0 (list_at chains.now.lists head) }
 {
     chains.laws();
-    let low = low_label(chains, labels, at);
-    if let Some(label) = middle(low, labels[at]) {
+    let Some(first) = chains.first(head) else {
+        return 0;
+    };
+    let room = Room {
+        count: u64::MAX,
+        gap: STEP,
+    };
+    relabel(chains, labels, first, 0, &room)
+}
+
+/// A label for a node that comes before `node`. Where there is none between its neighbours, some nodes are labelled
+/// anew.
+pub(crate) fn label_for(chains: &Chains, labels: &mut [u64], node: usize) -> u64
+    requires node { IsItem chains.now.homes node }
+    requires rising { Rising chains.now labels.old }
+    ensures rising { Rising chains.now labels.new }
+    ensures low { label_before labels.new 0 node (list_at chains.now.lists (home_at chains.now.homes node)) < result }
+    ensures high { result < label_at labels.new node }
+{
+    chains.laws();
+    let low = low_label(chains, labels, node);
+    if let Some(room) = find_room(chains, labels, node, low) {
+        let label = low + room.gap;
+        let _last = relabel(chains, labels, node, label, &room);
         return label;
     }
-    let Some(head) = chains.home(at) else {
+    let Some(head) = chains.home(node) else {
         unreachable!()
     };
-    let _last = relabel(chains, labels, head);
-    labels[at] - STEP / 2
+    let _last = relabel_all(chains, labels, head);
+    labels[node] - STEP / 2
 }
 
 /// A label for a node that comes last in the list of `head`. Where the labels end, the list is labelled anew.
@@ -94,7 +147,7 @@ pub(crate) fn end_label(chains: &Chains, labels: &mut [u64], head: usize) -> u64
     if last <= u64::MAX - STEP {
         return last + STEP;
     }
-    relabel(chains, labels, head) + STEP
+    relabel_all(chains, labels, head) + STEP
 }
 
 /// A further label, of a node in no list. There is room for it.

@@ -1,36 +1,43 @@
-use Rattle.std.proofs.Common.{arith}
-use Rattle.order.proofs.Walks.{walk_step, walk_end}
+use Rattle.std.proofs.Common.{arith, take}
+use Rattle.chains.specs.Lists.{home_at, list_at}
+use Rattle.order.specs.Labels.{from}
+use Rattle.order.proofs.Walks.{walk_start, walk_step}
 use Rattle.order.proofs.label.relabel.Goals as goal
+
+pub nodes-init : goal.nodes-init
+nodes-init c = walk_start c.args.chains.now c.args.node c.args.room.now.gap c.args.room.now.count c.args.low c.args.labels.now c.laws.ensures c.requires.node
 
 pub overflow_add-label : goal.overflow_add-label
 overflow_add-label c =
-    let s = walk_step c.args.chains.now c.args.head c.in-Some.at c.nodes.label c.args.labels.now c.nodes.labels _ c.in-Some.is c.laws.ensures c.requires.rising c.nodes.invariant in
-    omega (arith, s.fits)
+    let s = walk_step c.args.chains.now (home_at c.args.chains.now.homes c.args.node) c.args.room.now.gap
+    (take c.args.room.now.count (from c.args.node (list_at c.args.chains.now.lists (home_at c.args.chains.now.homes c.args.node)))) c.args.low c.args.labels.now
+    c.nodes.next c.in-Some.at c.nodes.left c.nodes.label c.nodes.labels c.in-Some.is c.if-left-eq0.false c.laws.ensures c.requires.rising c.nodes.invariant in
+    omega (arith, s.fits, c.requires.fits)
 
 pub offset_bounds-labels-at : goal.offset_bounds-labels-at
 offset_bounds-labels-at c =
-    let s = walk_step c.args.chains.now c.args.head c.in-Some.at c.nodes.label c.args.labels.now c.nodes.labels _ c.in-Some.is c.laws.ensures c.requires.rising c.nodes.invariant in
+    let s = walk_step c.args.chains.now (home_at c.args.chains.now.homes c.args.node) c.args.room.now.gap
+    (take c.args.room.now.count (from c.args.node (list_at c.args.chains.now.lists (home_at c.args.chains.now.homes c.args.node)))) c.args.low c.args.labels.now
+    c.nodes.next c.in-Some.at c.nodes.left c.nodes.label c.nodes.labels c.in-Some.is c.if-left-eq0.false c.laws.ensures c.requires.rising c.nodes.invariant in
     omega (arith, s.item.inside, c.requires.rising.few)
 
 pub bounds-labels-at : goal.bounds-labels-at
 bounds-labels-at c =
-    let s = walk_step c.args.chains.now c.args.head c.in-Some.at c.nodes.label c.args.labels.now c.nodes.labels _ c.in-Some.is c.laws.ensures c.requires.rising c.nodes.invariant in
+    let s = walk_step c.args.chains.now (home_at c.args.chains.now.homes c.args.node) c.args.room.now.gap
+    (take c.args.room.now.count (from c.args.node (list_at c.args.chains.now.lists (home_at c.args.chains.now.homes c.args.node)))) c.args.low c.args.labels.now
+    c.nodes.next c.in-Some.at c.nodes.left c.nodes.label c.nodes.labels c.in-Some.is c.if-left-eq0.false c.laws.ensures c.requires.rising c.nodes.invariant in
     s.inside
 
-pub next-node-requires : goal.next-node-requires
-next-node-requires c =
-    let s = walk_step c.args.chains.now c.args.head c.in-Some.at c.nodes.label c.args.labels.now c.nodes.labels _ c.in-Some.is c.laws.ensures c.requires.rising c.nodes.invariant in
+pub next-next-requires : goal.next-next-requires
+next-next-requires c =
+    let s = walk_step c.args.chains.now (home_at c.args.chains.now.homes c.args.node) c.args.room.now.gap
+    (take c.args.room.now.count (from c.args.node (list_at c.args.chains.now.lists (home_at c.args.chains.now.homes c.args.node)))) c.args.low c.args.labels.now
+    c.nodes.next c.in-Some.at c.nodes.left c.nodes.label c.nodes.labels c.in-Some.is c.if-left-eq0.false c.laws.ensures c.requires.rising c.nodes.invariant in
     s.item
 
 pub nodes-preserved : goal.nodes-preserved
 nodes-preserved c =
-    let s = walk_step c.args.chains.now c.args.head c.in-Some.at c.nodes.label c.args.labels.now c.nodes.labels _ c.in-Some.is c.laws.ensures c.requires.rising c.nodes.invariant in
-    s.next c.next-node.result c.next-node.ensures
-
-pub returns-clause-labels : goal.returns-clause-labels
-returns-clause-labels c =
-    let e = walk_end c.args.chains.now c.args.head c.nodes.label c.args.labels.now c.nodes.labels _ c.in_default.is c.nodes.invariant in e.0
-
-pub returns-clause-last : goal.returns-clause-last
-returns-clause-last c =
-    let e = walk_end c.args.chains.now c.args.head c.nodes.label c.args.labels.now c.nodes.labels _ c.in_default.is c.nodes.invariant in e.1
+    let s = walk_step c.args.chains.now (home_at c.args.chains.now.homes c.args.node) c.args.room.now.gap
+    (take c.args.room.now.count (from c.args.node (list_at c.args.chains.now.lists (home_at c.args.chains.now.homes c.args.node)))) c.args.low c.args.labels.now
+    c.nodes.next c.in-Some.at c.nodes.left c.nodes.label c.nodes.labels c.in-Some.is c.if-left-eq0.false c.laws.ensures c.requires.rising c.nodes.invariant in
+    s.next c.next-next.result c.next-next.ensures

@@ -1,9 +1,11 @@
-use Rattle.std.proofs.Common.{◌-◌}
+use Rattle.std.proofs.Common.{take}
+use Rattle.chains.specs.Lists.{home_at, list_at}
+use Rattle.order.specs.Labels.{from}
 use Rattle.order.proofs.Walks.{Walk}
 use Rattle.order.proofs.label.relabel.Given as goal
 
 abbrev pub invariant-nodes : goal.invariant-nodes
-invariant-nodes l = Walk l.chains l.head l.node l.label l.fn.labels l.labels
+invariant-nodes l = Walk l.chains (home_at l.chains.homes l.node) l.gap (take l.room.count (from l.node (list_at l.chains.lists (home_at l.chains.homes l.node)))) l.low l.fn.labels l.next l.left l.label l.labels
 
 abbrev pub decreases-nodes : goal.decreases-nodes
-decreases-nodes l = 18446744073709551616 - l.label
+decreases-nodes l = l.left
