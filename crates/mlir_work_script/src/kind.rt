@@ -1,40 +1,11 @@
 //! The kinds of analysis, and their words.
-ghost use Rattle.std.specs.Prelude.{◌≡◌, ℕ};
+ghost use Rattle.std.specs.Prelude.{◌≡◌};
 ghost use Rattle.std.specs.Option.{option_map};
 ghost use Rattle.mlir_work_script.specs.Kinds.{kind_name, kind_of, numbered_kind};
 
 use crate::numbers::number;
+pub use ir_event::row::Kind;
 use itoa::Buffer;
-use std::marker::Model;
-
-/// The kind of an analysis: 1 uses, 2 symbols, 3 diagnostics, 4 effects, 5 dead, 6 constants; any other
-/// number may be another analysis.
-#[derive(Clone, Copy, Debug, PartialEq, Eq)]
-pub struct Kind(u8);
-
-impl Model for Kind {
-    ghost Value = { ℕ };
-
-    ghost view = { λ kind. kind.0 };
-
-    ghost inverse = { λ n. record { 0 = n } };
-}
-
-impl Kind {
-    /// The kind with a number.
-    pub fn new(number: u8) -> Kind
-        ensures { result ≡ number }
-    {
-        Kind(number)
-    }
-
-    /// The number of the kind.
-    pub fn number(self) -> u8
-        ensures { result ≡ self }
-    {
-        self.0
-    }
-}
 
 /// The name of a kind that has one. Another kind's word is `kind` with its number.
 pub fn name_of(kind: Kind) -> Option<&'static [u8]>

@@ -42,7 +42,7 @@ fn put_rows<W: Write>(writer: &mut W, kind: Kind, text: &[u8]) -> Result<(), Wri
 pub(crate) fn kind_of<L: Analysis>(listener: &L) -> Kind
     ensures { result ≡ (L.meaning listener.now).kind }
 {
-    Kind::new(listener.kind().number())
+    listener.kind()
 }
 
 /// Writes the rows of a listener, or why there are none.
