@@ -7,4 +7,5 @@ pub mod Heads
 pub mod Near
 pub mod Tables
 pub mod SortedFacts
+pub mod Reading
 pub mod Meanings

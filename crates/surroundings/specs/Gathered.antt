@@ -1,11 +1,15 @@
 -- What an operation is and has around it, as it is gathered.
-use Rattle.std.specs.Prelude.{ℕ, map, Some, option_map, option_and_then, IfSome}
+use Rattle.std.specs.Prelude.{ℕ, zero, suc, ◌+◌, ◌*◌, List, [], ◌∷◌, length, map, Option, Some, None, option_map, option_and_then, IfSome}
 use Rattle.std.specs.List.{All}
 use Rattle.ir_types.specs.Things.{Things, IsType}
+use Rattle.ir_tree.specs.Tree.{OpOf, Op, head, regions, region_count}
+use Rattle.ir_tree_laws.specs.Reads.{ops_at}
+use Rattle.ir_tree_laws.specs.Stands.{stand_of}
 use Rattle.ir_event.specs.Modules.{NodeIsOf}
+use Rattle.ir_event.specs.declared.world.World.{World}
 use Rattle.surroundings.specs.declared.around.Around.{Around}
 use Rattle.surroundings.specs.declared.around.Outer.{Outer}
-use Rattle.surroundings.specs.Surroundings.{SurroundingsOf, OuterOf}
+use Rattle.surroundings.specs.Surroundings.{SurroundingsOf, OuterOf, last_name, outer_of}
 
 -- what is gathered of the one that it stands in
 abbrev pub outer_in : Outer → OuterOf ℕ ℕ ℕ
@@ -25,3 +29,26 @@ pub record AroundIsOf (c : Things) (a : Around) : Type 0 where
   pub node : NodeIsOf c a.node
   pub types : All (λ t. IsType c t) a.types.items
   pub ended : IfSome (option_and_then (λ (o : Outer). o.ended) a.outer) (NodeIsOf c)
+
+-- the tree of a world's module, in numbers
+abbrev pub tree_in : World → Op
+tree_in w = w.store.module_of.tree
+
+-- the name of the last operation of the block of region r of operation x
+abbrev pub last_name_at : {N T A : Type 0} → ℕ → OpOf N T A → ℕ → Option N
+last_name_at x t r = option_and_then last_name (ops_at x r t)
+
+-- what a function gives for so many numbers from one on
+abbrev pub from_on : {X : Type 0} → (ℕ → X) → ℕ → ℕ → List X
+from_on f r zero = []
+from_on f r (suc k) = f r ∷ from_on f (r + 1) k
+
+-- what operation x of a tree sees of the one that it stands in
+abbrev pub outer_at : {N T A : Type 0} → ℕ → OpOf N T A → Option (OuterOf N T A)
+outer_at x t = option_and_then (λ s. outer_of s.path) (stand_of x t)
+
+-- how often is looked for what is gathered of an operation that there may be: once, or five times, once for each
+-- operand, and twice for each region
+abbrev pub gather_looks : {N T A : Type 0} → Option (OpOf N T A) → ℕ
+gather_looks None = 1
+gather_looks (Some o) = 5 + length (head o).operands + 2 * region_count (regions o)

@@ -2,4 +2,5 @@
 #![tactic(auto)]
 
 pub mod around;
+pub mod gather;
 pub mod laws;
