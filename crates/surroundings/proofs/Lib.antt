@@ -9,3 +9,4 @@ pub mod Tables
 pub mod SortedFacts
 pub mod Reading
 pub mod Meanings
+pub mod Following

@@ -26,7 +26,7 @@ use Rattle.ir_event.specs.Modules.{NodeIsOf}
 use Rattle.ir_event.proofs.Sounds.{found_sound}
 use Rattle.ir_event.proofs.Nodes.{node_known}
 use Rattle.surroundings.specs.Surroundings.{OuterOf, last_name, last_names, ended_by, outer_of, surround, surroundings}
-use Rattle.surroundings.specs.Gathered.{last_name_at, from_on, outer_at, gather_looks}
+use Rattle.surroundings.specs.Gathered.{last_name_at, from_on, outer_at, gather_looks, regions_found}
 use Rattle.surroundings.proofs.Typed.{types_of, typed, typed_value}
 use Rattle.surroundings.proofs.Spots.{stands_in}
 
@@ -237,6 +237,9 @@ module _ (s : Stored) (d : HasDistinctIds s.module_of.tree) where
       ap gather_looks p.found
       ∙ (λ i. 5 + length (sym (head_shown p.here.here) i).operands + 2 * sym (regions_counted p.here.here) i)
       ∙ ap (λ (m : Node). 5 + length m.head.operands + 2 * length m.arguments) p.node
+
+  pub count_found : (x : ℕ) (n : Node) (p : Present x n) → length n.arguments ≡ regions_found (find x s.module_of.tree)
+  count_found x n p = ap (λ (m : Node). length m.arguments) (sym p.node) ∙ regions_counted p.here.here ∙ sym (ap regions_found p.found)
 
 -- the types of values are of the context
 got_of : (c : Things) (xs : List ℕ) (k n : ℕ) → All (IsType c) xs → slice_get xs k ≡ Some n → IsType c n

@@ -32,3 +32,8 @@ near (Take x place fresh) t = x ∷ place.parent ∷ if_any (last_at place.paren
 near (SetOperand x k old new) t = x ∷ lasts_in x t
 near (SetEntry x part key old new) t = x ∷ lasts_in x t
 near (Shift x old new) t = x ∷ old.parent ∷ new.parent ∷ if_any (last_at old.parent old.region t) (if_any (prev_of x t) [])
+
+-- those that there are of a list
+abbrev pub somes : {X : Type 0} → List (Option X) → List X
+somes [] = []
+somes (o ∷ os) = if_any o (somes os)

@@ -2,5 +2,6 @@
 #![tactic(auto)]
 
 pub mod around;
+pub mod fact;
 pub mod gather;
 pub mod laws;
