@@ -11,7 +11,8 @@ use Rattle.ir_tree_laws.specs.Members.{In}
 use Rattle.ir_tree_laws.proofs.Listed.{neither}
 use Rattle.ir_tree_laws.proofs.Readings.{stands_ids}
 use Rattle.ir_event.specs.declared.event.Event.{Event}
-use Rattle.ir_event.specs.Modules.{Module}
+use Rattle.ir_event.specs.Modules.{Module, module_in}
+use Rattle.ir_event.specs.declared.world.World.{World}
 use Rattle.ir_event.specs.Step.{Step}
 use Rattle.surroundings.specs.Surroundings.{SurroundingsOf, surround, surroundings}
 use Rattle.surroundings.specs.Near.{near, if_any}
@@ -103,3 +104,7 @@ drop_end [] zero l = refl
 drop_end [] (suc i) l = refl
 drop_end (y ∷ xs) zero l = absurd (omega arith)
 drop_end (y ∷ xs) (suc i) l = let m : length xs ≤ i = omega arith in drop_end xs i m
+
+-- the same in a world that is equal
+pub renewed_in : {F : Type 0} (fact : SurroundingsOf (List ℕ) TypeTerm AttrTerm → F) (u w : World) → u ≡ w → (xs : List ℕ) (f g : ℕ → Option F) → Renewed (fact_of fact (module_in u).tree) xs f g → Renewed (fact_of fact (module_in w).tree) xs f g
+renewed_in fact u w e xs f g r = subst (λ z. Renewed (fact_of fact (module_in z).tree) xs f g) e r

@@ -4,4 +4,5 @@
 pub mod around;
 pub mod fact;
 pub mod gather;
+pub mod kept;
 pub mod laws;

@@ -1,0 +1,123 @@
+//! Facts about all operations that follow a module.
+ghost use Rattle.std.specs.Prelude.{◌≡◌, ◌≤◌, ◌+◌, ◌⊎◌, true, false, Option, OnOk, OnErr, IfOk};
+ghost use Rattle.std.specs.Ordering.{nat_cmp};
+ghost use Rattle.std.specs.BTreeMap.{get};
+ghost use Rattle.ir_event.specs.Modules.{Module, things_in, module_in};
+ghost use Rattle.ir_event.specs.Step.{Step};
+ghost use Rattle.ir_tree.specs.Ids.{ids};
+ghost use Rattle.surroundings.specs.Facts.{Keeps, Renewed, fact_of, most_looks};
+ghost use Rattle.surroundings.specs.Gathered.{tree_in};
+
+use crate::fact::{Fact, follow, renew};
+use ir_event::event::Event;
+use ir_event::row::Memory;
+use ir_event::view::View;
+use ir_event::world::World;
+use ir_tree::find::list_ids;
+use ir_types::ids::OpId;
+use std::alloc::{AllocError, Global};
+use std::collections::BTreeMap;
+
+/// A fact about each operation of a module, that follows it; stale from the first refused growth on until it
+/// begins again.
+#[derive(Drop)]
+pub struct Kept<F> {
+    alloc: Global,
+    table: BTreeMap<u32, F>,
+    stale: bool,
+}
+
+/// Makes the facts about operations what they are in the module that the view shows.
+fn renew_all<F: Fact>(
+    alloc: Global,
+    table: &mut BTreeMap<u32, F>,
+    view: &mut View<'_>,
+    ops: &[OpId],
+) -> Result<(), AllocError>
+    ensures renewed { OnOk result (Renewed (fact_of F.fact (module_in view.old.world.now).tree) ops.now (get nat_cmp table.old) (get nat_cmp table.new)) }
+    ensures world { view.new.world.now ≡ view.old.world.now }
+{
+    for op in ops {
+        renew(alloc, table, view, *op)?;
+    }
+    Ok(())
+}
+
+/// The ids of the operations of a module.
+fn ids_of(alloc: Global, world: &World) -> Result<Vec<OpId>, AllocError>
+    ensures { IfOk result (λ v. v.items ≡ ids (tree_in world.now)) }
+{
+    let tree = world.store.tree()?;
+    list_ids(alloc, &tree)
+}
+
+/// The facts about all operations of a module.
+fn tabulate<F: Fact>(alloc: Global, world: &World) -> Result<BTreeMap<u32, F>, AllocError>
+    ensures { IfOk result (λ t. Keeps F.fact (module_in world.now).tree (get nat_cmp t)) }
+{
+    let ops = ids_of(alloc, world)?;
+    let mut table = BTreeMap::new(alloc);
+    let mut view = View::new(world);
+    renew_all(alloc, &mut table, &mut view, &ops)?;
+    Ok(table)
+}
+
+impl<F: Fact> Kept<F> {
+    /// Facts of no module yet, which are stale.
+    pub fn new(alloc: Global) -> Kept<F>
+        ensures { result.stale ≡ true }
+    {
+        Kept {
+            alloc,
+            table: BTreeMap::new(alloc),
+            stale: true,
+        }
+    }
+
+    /// Begins anew with a module. Refused for want of memory, it is stale.
+    pub fn begin(&mut self, world: &World) -> Result<(), Memory>
+        ensures ok { OnOk result ((self.new.stale ≡ false) × Keeps F.fact (module_in world.now).tree (get nat_cmp self.new.table)) }
+        ensures err { OnErr result (self.new.stale ≡ true) }
+    {
+        match tabulate(self.alloc, world) {
+            Ok(table) => {
+                self.table = table;
+                self.stale = false;
+                Ok(())
+            }
+            Err(_) => {
+                self.stale = true;
+                Err(Memory)
+            }
+        }
+    }
+
+    /// Hears of an event that was just made. The view shows the module after it, and is given back.
+    pub fn told<'a>(&mut self, view: View<'a>, event: Event) -> View<'a>
+        ensures agrees { (m : Module) → Step (things_in view.entry.world.now) event m (module_in view.entry.world.now)
+            → (self.old.stale ≡ false) × Keeps F.fact m.tree (get nat_cmp self.old.table)
+            → ((self.new.stale ≡ false) × Keeps F.fact (module_in view.entry.world.now).tree (get nat_cmp self.new.table)) ⊎ (self.new.stale ≡ true) }
+        ensures stale { self.old.stale ≡ true → self.new.stale ≡ true }
+        ensures looks { result.looks ≤ view.entry.looks + most_looks event (module_in view.entry.world.now).tree }
+        ensures world { result.world.now ≡ view.entry.world.now }
+    {
+        if self.stale {
+            return view;
+        }
+        let mut view = view;
+        match follow(self.alloc, &mut self.table, &mut view, &event) {
+            Ok(()) => view,
+            Err(_) => {
+                self.stale = true;
+                view
+            }
+        }
+    }
+
+    /// Whether it has given up until it begins again.
+    pub fn stale(&self) -> bool
+        ensures { result ≡ self.now.stale }
+    {
+        self.stale
+    }
+}
