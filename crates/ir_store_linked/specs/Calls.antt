@@ -1,0 +1,140 @@
+-- What each call makes of a store.
+use Rattle.std.specs.Prelude.{◌≡◌, ℕ, ◌+◌, ◌<◌, List, [], ◌∷◌, ◌++◌, eqb, nat_lt, Bool, true, false, if◌then◌else◌, Option, Some, None, is_some}
+use Rattle.std.specs.List.{list_all}
+use Rattle.std.specs.Ordering.{nat_cmp}
+use Rattle.std.specs.FinMap as map
+use Rattle.ir_tree.specs.declared.value.Value.{Value}
+use Rattle.ir_tree.specs.declared.place.Place.{Place}
+use Rattle.ir_tree.specs.declared.place.Part.{Part}
+use Rattle.ir_tree.specs.Tree.{Op, head}
+use Rattle.ir_tree.specs.Ids.{find, has_id}
+use Rattle.ir_tree.specs.Edits.{with_operand, with_entry}
+use Rattle.ir_tree.specs.Places.{put, without, shifted}
+use Rattle.ir_tree.specs.Limits.{most_next}
+use Rattle.ir_tree_laws.specs.Values.{has_value}
+use Rattle.ir_tree_laws.specs.Reasons.{with_id, has_place, holds_none, unused}
+use Rattle.ir_store_linked.specs.Stored.{Stored, Gone, none_gone, change_gone, has_entry, has_slot}
+
+-- a store as it is loaded: the module, with no operation held, and no key of its operations gone
+pub record Loaded (t : Op) (free : ℕ) (s : Stored) : Type 0 where
+  pub module_of : s.module_of ≡ record { tree = t; next = free }
+  pub held : s.held ≡ map.empty
+  pub gone : (x : ℕ) → map.get s.gone x ≡ (if has_id x t then Some none_gone else None)
+
+-- a store with another tree
+abbrev pub with_tree : Op → Stored → Stored
+with_tree t s = record s { module_of = record s.module_of { tree = t } }
+
+-- an operation that is held, if there is one
+abbrev pub hold : ℕ → Option Op → map.FinMap nat_cmp Op → map.FinMap nat_cmp Op
+hold x None m = m
+hold x (Some o) m = map.insert m x o
+
+-- header o put at a place, under the next free id
+abbrev pub after_put : Place → Op → Stored → Stored
+after_put place o s =
+    record s {
+      module_of = record { tree = put place (with_id s.module_of.next o) s.module_of.tree; next = s.module_of.next + 1 };
+      gone = map.insert s.gone s.module_of.next none_gone;
+    }
+
+-- operation x taken, and held
+abbrev pub after_take : ℕ → Stored → Stored
+after_take x s =
+    record s {
+      module_of = record s.module_of { tree = without x s.module_of.tree };
+      held = hold x (find x s.module_of.tree) s.held;
+    }
+
+-- the next free id, where the newest, x, is free again
+abbrev pub lowered : Bool → ℕ → ℕ → ℕ
+lowered true x n = x
+lowered false x n = n
+
+-- the same where undoing takes it: its id, where it is the newest, is free again
+abbrev pub after_retract : ℕ → Bool → Stored → Stored
+after_retract x fresh s =
+    record (after_take x s) { module_of = record { tree = without x s.module_of.tree; next = lowered fresh x s.module_of.next } }
+
+-- the next free id, where that of x is given out
+abbrev pub raised : Bool → ℕ → ℕ → ℕ
+raised true x n = x + 1
+raised false x n = n
+
+-- what is held as x, put at a place
+abbrev pub put_held : Place → Option Op → Op → Op
+put_held place None t = t
+put_held place (Some o) t = put place o t
+
+-- the held operation x put back at a place
+abbrev pub after_restore : ℕ → Place → Bool → Stored → Stored
+after_restore x place fresh s =
+    record s {
+      module_of = record { tree = put_held place (map.get s.held x) s.module_of.tree; next = raised fresh x s.module_of.next };
+      held = map.remove s.held x;
+    }
+
+-- v as operand k of operation x
+abbrev pub after_operand : ℕ → ℕ → Value → Stored → Stored
+after_operand x k v s = with_tree (with_operand x k v s.module_of.tree) s
+
+-- operation x, with what is inside it, shifted to a place
+abbrev pub after_shift : ℕ → Place → Stored → Stored
+after_shift x place s = with_tree (shifted x place s.module_of.tree) s
+
+-- the keys that are gone, without the first that is k
+abbrev pub keep_gone : ℕ → List ℕ → List ℕ
+keep_gone k [] = []
+keep_gone k (l ∷ ls) = if eqb l k then ls else l ∷ keep_gone k ls
+
+-- the keys that are gone, where key k is taken out or has an attribute again
+abbrev pub gone_after : {A : Type 0} → ℕ → Option A → List ℕ → List ℕ
+gone_after k None ls = ls ++ k ∷ []
+gone_after k (Some a) ls = keep_gone k ls
+
+-- the gone keys of all operations, with those of operation x changed
+abbrev pub change_gone_of : ℕ → (Gone → Gone) → Option Gone → map.FinMap nat_cmp Gone → map.FinMap nat_cmp Gone
+change_gone_of x f None m = m
+change_gone_of x f (Some g) m = map.insert m x (f g)
+
+-- attribute a at key k of one dictionary of operation x, or nothing there: the slot of a key that is taken out stands
+abbrev pub after_entry : (ℕ → ℕ → Bool) → ℕ → Part → ℕ → Option ℕ → Stored → Stored
+after_entry before x part k a s =
+    record s {
+      module_of = record s.module_of { tree = with_entry before x part k a s.module_of.tree };
+      gone = change_gone_of x (change_gone part (gone_after k a)) (map.get s.gone x) s.gone;
+    }
+
+-- the gone keys of an operation of the module, where what is held from an id on is given up: from 0 on they go too
+abbrev pub gone_left : ℕ → Option Gone → Option Gone
+gone_left from None = None
+gone_left from (Some g) = Some (if eqb from 0 then none_gone else g)
+
+-- the module stays, and what is held from an id on is given up
+pub record Releases (from : ℕ) (s u : Stored) : Type 0 where
+  pub module_of : u.module_of ≡ s.module_of
+  pub held : u.held ≡ map.retain_keys s.held (λ x. nat_lt x from)
+  pub gone : (x : ℕ) → map.get u.gone x ≡ (if has_id x s.module_of.tree then gone_left from (map.get s.gone x) else (if nat_lt x from then map.get s.gone x else None))
+
+-- operation x is held, the place is there, and so are the values that it uses: putting it back is a step
+pub record CanRestore (x : ℕ) (place : Place) (fresh : Bool) (s : Stored) : Type 0 where
+  pub held : is_some (map.get s.held x) ≡ true
+  pub spot : has_place place s.module_of.tree ≡ true
+  pub values : (o : Op) → map.get s.held x ≡ Some o → list_all (λ v. has_value v s.module_of.tree) (head o).operands ≡ true
+  pub newest : fresh ≡ true → s.module_of.next ≡ x
+  pub room : fresh ≡ true → x < most_next
+  pub below : fresh ≡ false → x < s.module_of.next
+
+-- operation x is there and not the root, no operation is in it, and no value of it is used: taking it is a step
+pub record CanRetract (x : ℕ) (fresh : Bool) (s : Stored) : Type 0 where
+  pub there : has_id x s.module_of.tree ≡ true
+  pub inner : eqb (head s.module_of.tree).id x ≡ false
+  pub empty : holds_none (find x s.module_of.tree) ≡ true
+  pub unused : unused x s.module_of.tree ≡ true
+  pub newest : fresh ≡ true → s.module_of.next ≡ x + 1
+
+-- operation x is there and has a slot for key k; what is taken out is there
+pub record CanRevert (x : ℕ) (part : Part) (k : ℕ) (a : Option ℕ) (s : Stored) : Type 0 where
+  pub there : has_id x s.module_of.tree ≡ true
+  pub slot : has_slot x part k s ≡ true
+  pub entry : a ≡ None → has_entry x part k s ≡ true

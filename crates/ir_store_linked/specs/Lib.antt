@@ -1,0 +1,15 @@
+pub mod Nodes
+pub mod Stored
+pub mod Emptied
+pub mod Calls
+pub mod Rows
+pub mod Spells
+pub mod Right
+pub mod Holds
+pub mod Plans
+pub mod Spots
+pub mod Index
+pub mod Reasoned
+pub mod Using
+pub mod Grows
+pub mod Loads

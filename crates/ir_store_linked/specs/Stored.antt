@@ -1,0 +1,81 @@
+-- What a store holds: the module, the operations that were taken from it and are held, and the slots of keys
+-- that were taken out of dictionaries.
+use Rattle.std.specs.Prelude.{ℕ, List, [], eqb, Bool, false, ◌||◌, Option, Some, None, refl}
+use Rattle.std.specs.Coded.{Coded, code_by, coded×, coded_list, coded_ℕ}
+use Rattle.std.specs.List.{list_any}
+use Rattle.std.specs.Ordering.{nat_cmp}
+use Rattle.std.specs.FinMap as map
+use Rattle.ir_tree.specs.declared.place.Part.{Part}
+use Rattle.ir_tree.specs.declared.place.Part.TheVariants.{Props, Attrs}
+use Rattle.ir_tree.specs.Tree.{Op, head}
+use Rattle.ir_tree.specs.Code.{op_code}
+use Rattle.ir_tree.specs.Ids.{find, first_of}
+use Rattle.ir_tree.specs.Edits.{part_of}
+use Rattle.ir_tree.specs.WellFormed.{Module, module_code}
+
+-- the keys that were taken out of an operation's dictionaries and whose slots stand, in the order in which they went
+pub record Gone : Type 0 where
+  pub properties : List ℕ
+  pub attributes : List ℕ
+
+-- none
+abbrev pub none_gone : Gone
+none_gone = record { properties = []; attributes = [] }
+
+abbrev pub gone_code : Coded Gone
+gone_code = code_by (List ℕ × List ℕ) (coded× (coded_list coded_ℕ) (coded_list coded_ℕ)) (λ g. (g.properties, g.attributes)) (λ p. record { properties = p.0; attributes = p.1 }) (λ _. refl)
+
+-- those of one dictionary
+abbrev pub gone_in : Part → Gone → List ℕ
+gone_in Props g = g.properties
+gone_in Attrs g = g.attributes
+
+-- the keys that are gone, with those of one dictionary changed
+abbrev pub change_gone : Part → (List ℕ → List ℕ) → Gone → Gone
+change_gone Props f g = record g { properties = f g.properties }
+change_gone Attrs f g = record g { attributes = f g.attributes }
+
+-- what a store holds
+pub record Stored : Type 0 where
+  -- the module
+  pub module_of : Module
+  -- each held operation, by its id, as it was when it was taken
+  pub held : map.FinMap nat_cmp Op
+  -- of each operation of the module, and of each held one, the keys that are gone
+  pub gone : map.FinMap nat_cmp Gone
+
+abbrev pub stored_code : Coded Stored
+stored_code =
+    code_by (Module × (map.FinMap nat_cmp Op × map.FinMap nat_cmp Gone))
+    (coded× module_code (coded× (map.code coded_ℕ op_code) (map.code coded_ℕ gone_code)))
+    (λ s. (s.module_of, (s.held, s.gone))) (λ p. record { module_of = p.0; held = p.1.0; gone = p.1.1 }) (λ _. refl)
+
+-- an operation of the module, or a held one
+abbrev pub known : ℕ → Stored → Option Op
+known x s = first_of (find x s.module_of.tree) (map.get s.held x)
+
+-- the keys that are gone of operation x
+abbrev pub gone_of : ℕ → Stored → Option Gone
+gone_of x s = map.get s.gone x
+
+-- whether a key is one of a dictionary
+abbrev pub has_key : ℕ → List (ℕ × ℕ) → Bool
+has_key k es = list_any (λ e. eqb e.0 k) es
+
+-- whether there is something, and it passes a test
+abbrev pub is_some_with : {X : Type 0} → (X → Bool) → Option X → Bool
+is_some_with p None = false
+is_some_with p (Some a) = p a
+
+-- whether one dictionary of operation x has key k
+abbrev pub has_entry : ℕ → Part → ℕ → Stored → Bool
+has_entry x part k s = is_some_with (λ o. has_key k (part_of part (head o))) (known x s)
+
+-- whether key k is gone from it, and its slot stands
+abbrev pub stands : Part → ℕ → Option Gone → Bool
+stands part k None = false
+stands part k (Some g) = list_any (λ l. eqb l k) (gone_in part g)
+
+-- whether there is a slot for key k: the key is there, or its slot still stands
+abbrev pub has_slot : ℕ → Part → ℕ → Stored → Bool
+has_slot x part k s = has_entry x part k s || stands part k (gone_of x s)

@@ -1,0 +1,284 @@
+//! The module under edits.
+ghost use Rattle.std.specs.Prelude.{◌≡◌, ℕ, eqb, Some, None, MatchResult, MatchBool, option_map, IfOk, false, true, ◌<◌, OnOk, OnErr, []};
+ghost use Rattle.std.specs.BTreeMap as sorted;
+ghost use Rattle.std.specs.Ordering.{nat_cmp};
+ghost use Rattle.ir_tree.specs.Ids.{has_id};
+ghost use Rattle.ir_tree.specs.Tree.{head};
+ghost use Rattle.ir_store_linked.specs.Rows.{rows_of, row_of};
+ghost use Rattle.ir_store_linked.specs.Spells.{Spelled, Spelled-prop};
+ghost use Rattle.ir_tree_laws.specs.Values.{type_of_value};
+ghost use Rattle.ir_store_linked.specs.Using.{AreUses};
+ghost use Rattle.ir_store_linked.specs.Reasoned.{rewire_reason};
+ghost use Rattle.ir_tree.specs.Limits.{most_next};
+ghost use Rattle.ir_tree_laws.specs.Reasons.{take_reason};
+ghost use Rattle.ir_store_linked.specs.Nodes.{node_of};
+ghost use Rattle.ir_store_linked.specs.Stored.{known};
+ghost use Rattle.ir_store_linked.specs.Calls.{after_take, after_restore, after_retract, after_operand, CanRestore, CanRetract, raised};
+ghost use Rattle.ir_store_linked.specs.Emptied.{after_grow, seeded};
+ghost use Rattle.ir_store_linked.specs.Holds.{HoldsOf, HoldsOf-prop, GoneOf, GoneOf-prop};
+
+use crate::find::{Keys, find, slot};
+use crate::grow::grow_slot;
+use crate::node::Node;
+use crate::row::{Cell, Row, put_operand, put_row};
+use crate::spot::{find_joint, link};
+use crate::uses::{
+    find_idle, find_rewire, free_uses, lead_row, list_uses, live_type, use_node, use_run,
+    value_head,
+};
+use chains::Chains;
+use ir_tree::place::Place;
+use ir_tree::tree::TreeOp;
+use ir_tree::value::Value;
+use ir_types::ids::{OpId, TypeId};
+use ir_types::refusal::Refusal;
+use order::Ordered;
+use std::alloc::{AllocError, Global};
+use std::collections::BTreeMap;
+use std::marker::Model;
+
+/// A module under edits: its operations in slots, linked in lists.
+#[derive(Drop)]
+pub struct Store {
+    pub(crate) alloc: Global,
+    pub(crate) rows: Vec<Row>,
+    pub(crate) keys: Keys,
+    pub(crate) sibs: Ordered,
+    /// The uses of values: a list for each value.
+    pub(crate) uses: Chains,
+    pub(crate) cells: Vec<Cell>,
+    pub(crate) root: usize,
+    pub(crate) next: u32,
+    ghost spelled: { Spelled (rows_of rows.items) sibs.lists root } by { Spelled-prop (rows_of rows.items) sibs.lists root },
+    ghost holds: { HoldsOf (rows_of rows.items) (sorted.get nat_cmp keys) } by { HoldsOf-prop (rows_of rows.items) (sorted.get nat_cmp keys) },
+    ghost lacks: { GoneOf (rows_of rows.items) (sorted.get nat_cmp keys) } by { GoneOf-prop (rows_of rows.items) (sorted.get nat_cmp keys) },
+}
+
+impl Model for Store {
+    ghost use Rattle.std.specs.Prelude.{eqb};
+    ghost use Rattle.std.specs.BTreeMap as sorted;
+    ghost use Rattle.std.specs.Ordering.{nat_cmp};
+    ghost use Rattle.ir_store_linked.specs.Stored.{Stored, stored_code};
+    ghost use Rattle.ir_store_linked.specs.Rows.{rows_of};
+    ghost use Rattle.ir_store_linked.specs.Index.{Fits, cells_of};
+
+    ghost Value = { Stored };
+
+    ghost coded = { stored_code };
+
+    ghost view = { λ s. record { module_of = record { tree = s.spelled.0; next = s.next }; held = s.holds.0; gone = s.lacks.0 } };
+
+    ghost invariant = { λ s. Fits (rows_of s.rows.items) (sorted.get nat_cmp s.keys) s.sibs s.root s.spelled.0 s.uses.homes (cells_of s.cells.items) };
+}
+
+impl Store {
+    /// The next free id.
+    pub fn next_id(&self) -> u32
+        ensures { result ≡ self.now.module_of.next }
+    {
+        self.next
+    }
+
+    /// Whether an operation is in the module.
+    pub fn in_tree(&self, op: OpId) -> bool
+        ensures { result ≡ has_id op self.now.module_of.tree }
+    {
+        find(&self.rows, &self.keys, op).is_some()
+    }
+}
+
+impl Store {
+    /// Takes an operation out of the module. It is held then.
+    ///
+    /// Refusals, in order: `NoSuchOp`; `IsRoot`; `NotEmpty`; `HasUses`.
+    pub fn take(&mut self, op: OpId) -> Result<(), Refusal>
+        ensures { MatchResult result (λ _. (take_reason op self.old.module_of.tree ≡ None) × (self.new ≡ after_take op self.old))
+            (λ e. (take_reason op self.old.module_of.tree ≡ Some e) × (self.new ≡ self.old)) }
+    {
+        self.uses.laws();
+        let key = match find_idle(
+            &self.rows, &self.keys, &self.sibs, &self.uses, self.root, op,
+        ) {
+            Ok(key) => key,
+            Err(e) => return Err(e),
+        };
+        let (base, count) = use_run(&self.rows, key);
+        free_uses(&mut self.uses, base, count);
+        self.sibs.remove(key);
+        let row = &mut self.rows[key];
+        row.live = false;
+        Ok(())
+    }
+}
+
+impl Store {
+    /// Puts a held operation back at a place of the module. Where `fresh`, its id isn't free any more.
+    pub fn restore(&mut self, op: OpId, place: Place, fresh: bool)
+        requires { CanRestore op place fresh self.old }
+        ensures { self.new ≡ after_restore op place fresh self.old }
+    {
+        self.sibs.laws();
+        let Some((key, head, before)) = find_joint(&self.rows, &self.keys, &self.sibs, op, place)
+        else {
+            return;
+        };
+        lead_row(&mut self.uses, &self.rows, &self.keys, key);
+        link(&mut self.sibs, key, head, before);
+        let row = &mut self.rows[key];
+        row.live = true;
+        self.next = raised(fresh, op, self.next);
+    }
+
+    /// Takes a leaf whose values aren't used out of the module. Where `fresh`, its id is free again.
+    pub fn retract(&mut self, op: OpId, fresh: bool)
+        requires { CanRetract op fresh self.old }
+        ensures { self.new ≡ after_retract op fresh self.old }
+    {
+        match self.take(op) {
+            Ok(()) => {
+                if fresh {
+                    self.next = op.number();
+                }
+            }
+            Err(_) => {}
+        }
+    }
+}
+
+/// The next free id, where that of an operation is given out.
+fn raised(fresh: bool, op: OpId, next: u32) -> u32
+    requires { fresh ≡ true → op < most_next }
+    ensures { result ≡ raised fresh op next }
+{
+    if fresh { op.number() + 1 } else { next }
+}
+
+impl Store {
+    /// What an operation of the module, or a held one, has beside the operations in its blocks.
+    pub fn node(&self, op: OpId) -> Option<Node<'_>>
+        ensures { result ≡ option_map node_of (known op self.now) }
+    {
+        let Some(key) = slot(&self.keys, op) else {
+            return None;
+        };
+        let row = &self.rows[key];
+        Some(Node::new(row))
+    }
+}
+
+impl Store {
+    /// Makes a value of the module an operand, where whether the operation sees it isn't looked at.
+    pub(crate) fn rewire(&mut self, op: OpId, place: usize, value: Value) -> Result<(), Refusal>
+        ensures { MatchResult result (λ _. (rewire_reason op place value self.old.module_of.tree ≡ None) × (self.new ≡ after_operand op place value self.old))
+            (λ e. (rewire_reason op place value self.old.module_of.tree ≡ Some e) × (self.new ≡ self.old)) }
+    {
+        let (key, head) = match find_rewire(&self.rows, &self.keys, &self.uses, op, place, &value) {
+            Ok(found) => found,
+            Err(e) => return Err(e),
+        };
+        let node = use_node(&self.rows, key, place);
+        self.uses.remove(node);
+        let row = &mut self.rows[key];
+        put_operand(row, place, value);
+        self.uses.push_back(node, head);
+        Ok(())
+    }
+}
+
+impl Store {
+    /// The type of a value of the module.
+    pub fn value_type(&self, value: &Value) -> Option<TypeId>
+        ensures { result ≡ type_of_value value.now self.now.module_of.tree }
+    {
+        live_type(&self.rows, &self.keys, value)
+    }
+}
+
+impl Store {
+    /// The uses of a value of the module, each once: the operations, and which operands.
+    pub fn uses(&self, value: &Value) -> Result<Vec<(OpId, usize)>, AllocError>
+        ensures { IfOk result (λ us. AreUses value.now self.now.module_of.tree us.items) }
+    {
+        self.uses.laws();
+        let head = value_head(&self.rows, &self.keys, &self.uses, value);
+        list_uses(self.alloc, &self.rows, &self.cells, &self.uses, head)
+    }
+}
+
+impl Store {
+    /// A new operation, which is held: one like a header, without the operations in its blocks.
+    pub(crate) fn grow(&mut self, op: OpId, header: &TreeOp) -> Result<(), AllocError>
+        requires { known op self.old ≡ None }
+        ensures ok { OnOk result (self.new ≡ after_grow op header.now self.old) }
+        ensures err { OnErr result (self.new ≡ self.old) }
+    {
+        self.sibs.laws();
+        let grown = grow_slot(
+            self.alloc,
+            &mut self.rows,
+            &mut self.sibs,
+            &mut self.uses,
+            &mut self.cells,
+            op,
+            header,
+        );
+        self.sibs.laws();
+        self.uses.laws();
+        let (key, row) = match grown {
+            Ok(grown) => grown,
+            Err(e) => return Err(e),
+        };
+        match self.keys.insert(op.number(), key) {
+            Ok(_) => {}
+            Err(e) => return Err(AllocError::from(e)),
+        }
+        put_row(&mut self.rows, key, row);
+        Ok(())
+    }
+}
+
+impl Store {
+    /// A module of one operation without operands: one like a header, without the operations in its blocks.
+    pub(crate) fn seed(alloc: Global, header: &TreeOp, next: u32) -> Result<Store, AllocError>
+        requires { (head header.now).operands ≡ [] }
+        ensures { IfOk result (λ s. s ≡ seeded header.now next) }
+    {
+        let mut rows = Vec::new(alloc);
+        let mut sibs = Ordered::new(alloc);
+        let mut uses = Chains::new(alloc);
+        let mut cells = Vec::new(alloc);
+        let (root, row) = match grow_slot(
+            alloc, &mut rows, &mut sibs, &mut uses, &mut cells, header.id, header,
+        ) {
+            Ok(grown) => grown,
+            Err(e) => return Err(e),
+        };
+        let mut keys = BTreeMap::new(alloc);
+        match keys.insert(header.id.number(), root) {
+            Ok(_) => {}
+            Err(e) => return Err(AllocError::from(e)),
+        }
+        put_row(&mut rows, root, live_row(row));
+        sibs.laws();
+        uses.laws();
+        Ok(Store {
+            alloc,
+            rows,
+            keys,
+            sibs,
+            uses,
+            cells,
+            root,
+            next,
+        })
+    }
+}
+
+/// The row of an operation of the module.
+fn live_row(row: Row) -> Row
+    ensures { row_of result ≡ record (row_of row) { live = true } }
+{
+    let mut row = row;
+    row.live = true;
+    row
+}
