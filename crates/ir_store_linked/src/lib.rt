@@ -1,4 +1,6 @@
-//! The module under edits.
+//! The module under edits: each call makes of its tree what the function on trees of its name does, or refuses with
+//! the first reason against it. Operations stand in slots, linked in their blocks, and operands are linked by the value
+//! that they use, so that a call takes a few steps however large the module is.
 #![tactic(auto)]
 
 mod copy;

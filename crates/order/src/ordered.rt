@@ -235,3 +235,13 @@ impl Ordered {
         }
     }
 }
+
+impl Ordered {
+    /// Adds the nodes of a head's list to `out`.
+    pub fn nodes(&self, head: usize, out: &mut Vec<usize>) -> Result<(), AllocError>
+        requires { IsHead self.now.homes head }
+        ensures { OnOk result (out.new.items ≡ out.old.items ++ list_at self.now.lists head) }
+    {
+        self.chains.nodes(head, out)
+    }
+}
