@@ -77,6 +77,9 @@ def main():
         with open(words[1]) as it:
             print("\n".join(table(json.load(it))))
         return 0
+    if words and words[0].startswith("-"):
+        print(__doc__)
+        return 2
     log = words[0] if words else f"{tempfile.mkdtemp(prefix='gate-')}/gate.log"
     seen, began = {}, time.time()
     with open(log, "w") as out:
