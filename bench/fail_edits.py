@@ -17,26 +17,8 @@ sys.dont_write_bytecode = True
 
 from reference import refused, script  # noqa: E402
 
-# Stands before the C library: the allocation of a number is refused, and a byte tells so.
-REFUSE = r"""
-#include <stdlib.h>
-#include <unistd.h>
-extern void *__libc_malloc(size_t);
-extern void *__libc_realloc(void *, size_t);
-static unsigned long count, refused;
-static int teller = -1;
-static int refuse(void) {
-    if (count == 0) {
-        const char *number = getenv("REFUSED_ALLOCATION"), *told = getenv("REFUSED_TELL");
-        refused = number ? strtoul(number, 0, 10) : 0;
-        teller = told ? atoi(told) : -1;
-    }
-    if (++count != refused) return 0;
-    return write(teller, "!", 1) | 1;
-}
-void *malloc(size_t size) { return refuse() ? 0 : __libc_malloc(size); }
-void *realloc(void *old, size_t size) { return refuse() ? 0 : __libc_realloc(old, size); }
-"""
+# Refuses the allocation of a number, and stands before the C library.
+REFUSE = pathlib.Path(__file__).with_name("refuse.c")
 
 MODULE = b"""\"func.func\"() <{function_type = (i32) -> i32, sym_name = \"f\"}> ({
 ^bb0(%a: i32):
@@ -111,9 +93,8 @@ def main(argv):
         sys.exit(__doc__)
     kinds = argv[1].split(",") if len(argv) > 1 else script.BOXES
     with tempfile.TemporaryDirectory() as work:
-        source, library = pathlib.Path(work) / "refuse.c", f"{work}/refuse.so"
-        source.write_text(REFUSE)
-        subprocess.run([os.environ.get("CC", "cc"), "-shared", "-fPIC", "-O1", "-o", library, str(source)], check=True)
+        library = f"{work}/refuse.so"
+        subprocess.run([os.environ.get("CC", "cc"), "-shared", "-fPIC", "-O1", "-o", library, str(REFUSE)], check=True)
         return 1 if sum(look(argv[0], library, brief, kinds) for brief in (True, False)) else 0
 
 

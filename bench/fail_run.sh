@@ -9,7 +9,8 @@
 #
 # Without LAST it goes on to the last allocation. Any other output is printed and makes the script fail.
 set -eu
-cd "$(dirname "$0")/../crates/mlir_work"
+bench=$(cd "$(dirname "$0")" && pwd)
+cd "$bench/../crates/mlir_work"
 work=$(mktemp -d)
 trap 'rm -rf "$work"' EXIT
 rt run --backend rattle -- --brief <stdin >/dev/null
@@ -17,27 +18,7 @@ cp out/mlir_work "$work/rattle"
 rt run -- --brief <stdin >/dev/null
 cp out/mlir_work "$work/llvm"
 
-# Stands before the C library: the allocation of a number is refused, and a byte tells so.
-cat >"$work/refuse.c" <<'CODE'
-#include <stdlib.h>
-#include <unistd.h>
-extern void *__libc_malloc(size_t);
-extern void *__libc_realloc(void *, size_t);
-static unsigned long count, refused;
-static int teller = -1;
-static int refuse(void) {
-    if (count == 0) {
-        const char *number = getenv("REFUSED_ALLOCATION"), *told = getenv("REFUSED_TELL");
-        refused = number ? strtoul(number, 0, 10) : 0;
-        teller = told ? atoi(told) : -1;
-    }
-    if (++count != refused) return 0;
-    return write(teller, "!", 1) | 1;
-}
-void *malloc(size_t size) { return refuse() ? 0 : __libc_malloc(size); }
-void *realloc(void *old, size_t size) { return refuse() ? 0 : __libc_realloc(old, size); }
-CODE
-"${CC:-cc}" -shared -fPIC -O1 -o "$work/refuse.so" "$work/refuse.c"
+"${CC:-cc}" -shared -fPIC -O1 -o "$work/refuse.so" "$bench/refuse.c"
 
 cat >"$work/runs.py" <<'CODE'
 import collections, os, subprocess, sys
