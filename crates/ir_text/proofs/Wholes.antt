@@ -8,14 +8,14 @@ use Rattle.ir_tree.specs.View.{op_view, head_view}
 use Rattle.ir_tree.specs.declared.tree.TreeRegion.{TreeRegion}
 use Rattle.ir_tree.specs.declared.tree.TreeOp.TheInside.{Inside}
 use Rattle.ir_tree.specs.Meaning.{meaning}
-use Rattle.ir_text.specs.Printing.{Printed, put, put_head, put_tail, put_bare_label, put_label, opening, closing, deeper, put_op, put_regions, put_region, put_ops}
+use Rattle.ir_text.specs.Printing.{Printed, put, put_head, put_tail, put_bare_label, put_label, opening, closing_text, deeper, put_op, put_regions, put_region, put_ops}
 use Rattle.ir_text.specs.View.{head_in, region_in, regions_in, ops_in, types_in}
 
 pub opened : (d : Things) (rs : List TreeRegion) → 1 ≤ length rs → opening (regions_in d rs) ≡ codes " ("
 opened d [] h = absurd (omega arith)
 opened d (r ∷ rs) h = refl
 
-pub closed : (d : Things) (rs : List TreeRegion) → 1 ≤ length rs → closing (regions_in d rs) ≡ codes ")"
+pub closed : (d : Things) (rs : List TreeRegion) → 1 ≤ length rs → closing_text (regions_in d rs) ≡ codes ")"
 closed d [] h = absurd (omega arith)
 closed d (r ∷ rs) h = refl
 
@@ -28,11 +28,11 @@ no_arguments d margin x k [] os o h = refl
 no_arguments d margin x k (n ∷ ns) os o h = absurd (omega arith)
 
 -- an operation: its head, its regions to the last, its tail
-pub whole_op : (d : Things) (margin : List ℕ) (a : Inside) (t : Op) (place : ℕ) (o p q r s u : Printed) → op_view a ≡ t → length a.regions.items ≤ place → p ≡ put_head margin (head_in d (head t)) o → q ≡ put (opening (regions_in d a.regions.items)) p → put_regions margin a.id place (regions_in d (drop place a.regions.items)) r ≡ put_regions margin a.id 0 (regions_in d a.regions.items) q → s ≡ put (closing (regions_in d a.regions.items)) r → u ≡ put_tail (head_in d (head t)) s → u ≡ put_op margin (meaning d t) o
+pub whole_op : (d : Things) (margin : List ℕ) (a : Inside) (t : Op) (place : ℕ) (o p q r s u : Printed) → op_view a ≡ t → length a.regions.items ≤ place → p ≡ put_head margin (head_in d (head t)) o → q ≡ put (opening (regions_in d a.regions.items)) p → put_regions margin a.id place (regions_in d (drop place a.regions.items)) r ≡ put_regions margin a.id 0 (regions_in d a.regions.items) q → s ≡ put (closing_text (regions_in d a.regions.items)) r → u ≡ put_tail (head_in d (head t)) s → u ≡ put_op margin (meaning d t) o
 whole_op d margin a t place o p q r s u v past front opens regions closes back =
     let all : r ≡ put_regions margin a.id 0 (regions_in d a.regions.items) q = rw (drop_of_length-le a.regions.items past) at regions in
     subst (λ (t : Op). p ≡ put_head margin (head_in d (head t)) o → u ≡ put_tail (head_in d (head t)) s → u ≡ put_op margin (meaning d t) o) v
-    (λ f b. b ∙ ap (put_tail (head_in d (head_view a))) (closes ∙ ap (put (closing (regions_in d a.regions.items))) (all ∙ ap (put_regions margin a.id 0 (regions_in d a.regions.items)) (opens ∙ ap (put (opening (regions_in d a.regions.items))) f))))
+    (λ f b. b ∙ ap (put_tail (head_in d (head_view a))) (closes ∙ ap (put (closing_text (regions_in d a.regions.items))) (all ∙ ap (put_regions margin a.id 0 (regions_in d a.regions.items)) (opens ∙ ap (put (opening (regions_in d a.regions.items))) f))))
     front back
 
 -- a region with a block: its label, its operations to the last

@@ -1,10 +1,12 @@
 -- How a module is written: one thing after the other, in pre-order.
 use Rattle.std.specs.Prelude.{ℕ, ◌+◌, ◌==◌, if◌then◌else◌, List, [], ◌∷◌, ◌++◌, length, map, codes}
 use Rattle.std.specs.Fmt.{decimal}
-use Rattle.ir_types.specs.Terms.{TypeTerm, Function, TypeTerms, no_types, next_type, AttrTerm, EntryTerms, no_entries, next_entry}
+use Rattle.ir_types.specs.Terms.{TypeTerm, Function, AttrTerm}
 use Rattle.ir_tree.specs.declared.value.Value.{Value}
 use Rattle.ir_tree.specs.Tree.{HeadOf, op, RegionsOf, no_regions, region, RegionOf, empty, block, OpsOf, no_ops, next}
 use Rattle.ir_text_tokens.specs.Printing.{string_text}
+use Rattle.ir_text_types.specs.TypeGrammar.{types_of}
+use Rattle.ir_text_attributes.specs.AttrGrammar.{entries_of}
 use Rattle.ir_text.specs.TypeText.{in_round, type_text}
 use Rattle.ir_text.specs.AttrText.{in_curly, entry_texts}
 use Rattle.ir_tree.specs.Meaning.{Operation}
@@ -43,16 +45,6 @@ put_results x (t ∷ ts) o = count_results x (t ∷ ts) (put (results_text o.res
 -- the operands by their names
 abbrev pub put_operands : List Value → Printed → Printed
 put_operands vs o = put (in_round (map (value_text o.named) vs)) o
-
--- lists as they are in types and attributes
-abbrev pub types_of : List TypeTerm → TypeTerms
-types_of [] = no_types
-types_of (t ∷ ts) = next_type t (types_of ts)
-
--- and dictionaries
-abbrev pub entries_of : List (List ℕ × AttrTerm) → EntryTerms
-entries_of [] = no_entries
-entries_of (e ∷ es) = next_entry e.0 e.1 (entries_of es)
 
 -- a dictionary between its braces
 abbrev pub dictionary_text : List (List ℕ × AttrTerm) → List ℕ
@@ -119,14 +111,14 @@ abbrev pub opening : {N T A : Type 0} → RegionsOf N T A → List ℕ
 opening no_regions = []
 opening (region g rs) = codes " ("
 
-abbrev pub closing : {N T A : Type 0} → RegionsOf N T A → List ℕ
-closing no_regions = []
-closing (region g rs) = codes ")"
+abbrev pub closing_text : {N T A : Type 0} → RegionsOf N T A → List ℕ
+closing_text no_regions = []
+closing_text (region g rs) = codes ")"
 
 -- an operation and its regions, where `margin` are the blanks in front of it
 abbrev mutual
   pub put_op : List ℕ → Operation → Printed → Printed
-  put_op margin (op h rs) o = put_tail h (put (closing rs) (put_regions margin h.id 0 rs (put (opening rs) (put_head margin h o))))
+  put_op margin (op h rs) o = put_tail h (put (closing_text rs) (put_regions margin h.id 0 rs (put (opening rs) (put_head margin h o))))
 
   -- from region r on
   pub put_regions : List ℕ → ℕ → ℕ → RegionsOf (List ℕ) TypeTerm AttrTerm → Printed → Printed

@@ -9,12 +9,12 @@ ghost use Rattle.ir_text.specs.AttrText.{is_truth, truth_text, number_text, inte
 
 use crate::between::put_between;
 use crate::numbers::{put_reading, put_signed};
-use crate::things::{attr_of, name_of, type_of};
 use crate::types::put_type;
 use ir_text_tokens::print::{put_key, put_string};
 use ir_types::context::Context;
 use ir_types::ids::{AttrId, NameId, TypeId};
 use ir_types::node::{AttrNode, Sign, TypeNode};
+use ir_types::things::{attr_of, name_of, type_of};
 use std::alloc::AllocError;
 
 /// Whether a type is `i1`.

@@ -8,6 +8,5 @@ mod numbers;
 mod operations;
 pub mod printer;
 pub mod reader;
-mod things;
 pub mod types;
 mod values;

@@ -12,13 +12,13 @@ ghost use Rattle.ir_tree.specs.Limits.{arguments_pass};
 ghost use Rattle.ir_tree.specs.Passing.{entry_passes, head_passes, op_passes};
 ghost use Rattle.ir_tree.specs.Meaning.{meaning, is_name, is_type, is_attr, is_known};
 ghost use Rattle.ir_text.specs.Naming.{value_type};
-ghost use Rattle.ir_text.specs.Printing.{put, put_results, results_text, put_operands, dictionary_text, properties_text, attributes_text, put_name, put_head, put_type_of, types_of, put_tail, comma_at, argument_text, put_argument, put_arguments, deeper, put_bare_label, put_label, opening, closing, put_op, put_region};
+ghost use Rattle.ir_text_types.specs.TypeGrammar.{types_of};
+ghost use Rattle.ir_text.specs.Printing.{put, put_results, results_text, put_operands, dictionary_text, properties_text, attributes_text, put_name, put_head, put_type_of, put_tail, comma_at, argument_text, put_argument, put_arguments, deeper, put_bare_label, put_label, opening, closing_text, put_op, put_region};
 ghost use Rattle.ir_text.specs.View.{named_in, printed_in, head_in, region_in, regions_in, ops_in, types_in, entries_in};
 
 use crate::attributes::put_entries;
 use crate::naming::{NamedValue, Printer, Source};
 use crate::numbers::put_number;
-use crate::things::name_of;
 use crate::types::{put_outputs, put_type};
 use crate::values::{name_argument, name_results, put_operand_types, put_operands};
 use indexmap::IndexMap;
@@ -27,6 +27,7 @@ use ir_tree::tree::{TreeOp, TreeRegion};
 use ir_tree::value::Value;
 use ir_types::context::Context;
 use ir_types::ids::{AttrId, NameId, OpId, TypeId};
+use ir_types::things::name_of;
 use std::alloc::{AllocError, Global};
 
 /// Appends bytes.
@@ -294,7 +295,7 @@ fn put_opening(out: &mut Printer, regions: &[TreeRegion]) -> Result<(), AllocErr
 
 /// Appends what stands behind the regions of an operation.
 fn put_closing(out: &mut Printer, regions: &[TreeRegion]) -> Result<(), AllocError>
-    ensures { (c : Things) → OnOk result (printed_in c out.new ≡ put (closing (regions_in c regions.now)) (printed_in c out.old)) }
+    ensures { (c : Things) → OnOk result (printed_in c out.new ≡ put (closing_text (regions_in c regions.now)) (printed_in c out.old)) }
 {
     match regions {
         [] => Ok(()),

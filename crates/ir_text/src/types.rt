@@ -9,10 +9,10 @@ ghost use Rattle.ir_text.specs.TypeText.{sign_text, dimension_text, is_function,
 
 use crate::between::put_between;
 use crate::numbers::put_number;
-use crate::things::type_of;
 use ir_types::context::Context;
 use ir_types::ids::TypeId;
 use ir_types::node::{Sign, TypeNode};
+use ir_types::things::type_of;
 use std::alloc::AllocError;
 
 fn sign_text(sign: Sign) -> &'static [u8]

@@ -6,7 +6,7 @@ ghost use Rattle.ir_types.specs.Terms.{type_term};
 ghost use Rattle.ir_text.specs.Rows.{parted};
 ghost use Rattle.ir_text.specs.TypeText.{in_round, type_text, type_texts};
 ghost use Rattle.ir_text.specs.Naming.{name_text, source_of, naming_of, value_text, value_type, name_result, name_results, name_argument};
-ghost use Rattle.ir_text.specs.Printing.{types_of};
+ghost use Rattle.ir_text_types.specs.TypeGrammar.{types_of};
 ghost use Rattle.ir_text.specs.View.{naming_in, named_in};
 
 use crate::between::put_between;

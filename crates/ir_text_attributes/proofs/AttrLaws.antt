@@ -13,16 +13,16 @@ use Rattle.ir_types.specs.Terms.{Integer, AttrTerm, IntegerOf, String, Flag, att
 use Rattle.ir_types.specs.Sound.{IsSound}
 use Rattle.ir_types.proofs.Growth.{grows_refl}
 use Rattle.ir_text_reading.specs.Outcomes.{Outcome, Read, Full, Parse}
-use Rattle.ir_text_reading.specs.Typed.{Typed}
+use Rattle.ir_text_reading.specs.Typed.{Text, Typed}
 use Rattle.ir_text_attributes.specs.Literals.{Word, Truth, UnitWord, ArrayWord, TypeWord, word_of, truth_bits, overflow_word}
-use Rattle.ir_text_attributes.specs.AttrReading.{attr_done, truth_at, string_at, literal_at, negative_at, overflow_at, word_attr, dense_at, array_by, dictionary_by, mark_attr, attr_from, attr_at}
+use Rattle.ir_text_attributes.specs.AttrReading.{attr_done, truth_at, string_attr_at, literal_at, negative_at, overflow_at, word_attr, dense_at, array_by, dictionary_by, mark_attr, attr_from, attr_at}
 use Rattle.ir_text_reading.specs.Grammars.{Grammar}
 use Rattle.ir_text_attributes.specs.AttrGrammar.{IsFine, IsLiteral, IsNegative, IsOverflow, IsWordAttr, IsMarkAttr, IsAttrFrom, IsAttr, IsDense, IsArray, IsDictionary}
 use Rattle.ir_text_reading.specs.Standing.{AttrStands}
 use Rattle.ir_text_reading.proofs.Worlds.{Exact, Step, nothing_exact, guard_exact}
 use Rattle.ir_text_reading.proofs.TextLaws.{things, Same, text_now}
 use Rattle.ir_text_reading.proofs.TokenLaws.{behind_exact, token_exact}
-use Rattle.ir_text_attributes.proofs.NodeLaws.{Text, zero_exact, attr_done_exact}
+use Rattle.ir_text_attributes.proofs.NodeLaws.{zero_exact, attr_done_exact}
 use Rattle.ir_text_attributes.proofs.LeafLaws.{unit_node, string_exact, truth_exact, type_attr_exact, literal_exact, negative_exact, overflow_exact}
 use Rattle.ir_text_attributes.proofs.SymbolLaws.{symbol_exact}
 use Rattle.ir_text_attributes.proofs.DenseLaws.{dense_exact}
@@ -48,7 +48,7 @@ module _ (depth : ℕ) (p : Parse Typed ℕ) (P : Grammar Text AttrTerm) (item :
   attr_from_exact c (bare w) rest = word_exact (word_of w) rest c
   attr_from_exact c (mark m) rest = mark_exact m rest c
   attr_from_exact c (integer digits) rest = behind_exact c AttrStands rest (literal_at false digits) (IsLiteral false digits) (literal_exact false digits c)
-  attr_from_exact c (string raw) rest = behind_exact c AttrStands rest (string_at raw) (IsFine (String (string_bytes raw))) (string_exact raw c)
+  attr_from_exact c (string raw) rest = behind_exact c AttrStands rest (string_attr_at raw) (IsFine (String (string_bytes raw))) (string_exact raw c)
   attr_from_exact c (symbol n) rest = symbol_exact c
   attr_from_exact c (quoted raw) rest = symbol_exact c
   attr_from_exact c (hash w) rest = guard_exact things Same c AttrStands (bytes_eq w overflow_word) (λ s. overflow_at (rest, s.1)) (λ y old new. IsOverflow y rest new) (behind_exact c AttrStands rest overflow_at IsOverflow (overflow_exact c))

@@ -15,7 +15,7 @@ use Rattle.ir_types.specs.Dictionaries.{kept}
 use Rattle.ir_types.specs.Reasons.{type_fault}
 use Rattle.ir_types.proofs.Growth.{grows_trans}
 use Rattle.ir_text_reading.specs.Outcomes.{Read, ◌>>=◌, of_option}
-use Rattle.ir_text_reading.specs.Typed.{after_typed}
+use Rattle.ir_text_reading.specs.Typed.{Text, after_typed}
 use Rattle.ir_text_types.specs.TypeReading.{many, type_done}
 use Rattle.ir_text_reading.specs.Grammars.{Grammar, Then, Done, After, IsMore, IsMark, Token}
 use Rattle.ir_text_reading.specs.Standing.{TypeStands, AttrStands}
@@ -29,7 +29,7 @@ use Rattle.ir_text_attributes.specs.Literals.{Word, Truth, word_of, truth_bits}
 use Rattle.ir_text_attributes.specs.Elements.{bits_of, type_of, element_named, is_bit, item_value}
 use Rattle.ir_text_attributes.specs.AttrReading.{attr_done, element_from, element_at, truth_item, number_item, minus_from, minus_item, mark_item, item_from, item_at, some_items_at, no_items_at, items_from, items_at, dense_done, dense_at}
 use Rattle.ir_text_attributes.specs.AttrGrammar.{IsFine, IsElement, IsItemNumber, IsItem, IsItems, IsDense}
-use Rattle.ir_text_attributes.proofs.NodeLaws.{IsNodeOf, Text, attr_done_exact, done_then, then_done, exact_given}
+use Rattle.ir_text_attributes.proofs.NodeLaws.{IsNodeOf, attr_done_exact, done_then, then_done, exact_given}
 use Rattle.ir_text_attributes.proofs.LeafLaws.{signless_exact}
 
 -- ---- the element type

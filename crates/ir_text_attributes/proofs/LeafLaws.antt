@@ -16,10 +16,10 @@ use Rattle.ir_types.specs.Readings.{literal_bits}
 use Rattle.ir_types.specs.Reasons.{type_fault}
 use Rattle.ir_text_attributes.specs.declared.flag.Flag as code
 use Rattle.ir_text_reading.specs.Outcomes.{Read, ◌>>=◌, of_option, Parse}
-use Rattle.ir_text_reading.specs.Typed.{Typed, after_typed, name_step}
+use Rattle.ir_text_reading.specs.Typed.{Text, Typed, after_typed, name_step}
 use Rattle.ir_text_attributes.specs.Literals.{truth_bits, none_word, flag_of, has_nsw, has_nuw}
 use Rattle.ir_text_types.specs.TypeReading.{many, type_done, type_at}
-use Rattle.ir_text_attributes.specs.AttrReading.{attr_done, truth_at, string_at, type_attr_at, suffix_from, suffix_at, literal_done, literal_at, negative_from, negative_at, flag_from, flag_at, some_flags_at, no_flags_at, flags_from, flags_at, overflow_at}
+use Rattle.ir_text_attributes.specs.AttrReading.{attr_done, truth_at, string_attr_at, type_attr_at, suffix_from, suffix_at, literal_done, literal_at, negative_from, negative_at, flag_from, flag_at, some_flags_at, no_flags_at, flags_from, flags_at, overflow_at}
 use Rattle.ir_text_reading.specs.Grammars.{Grammar, Then, Done, After, IsMore, IsMark, Token}
 use Rattle.ir_text_types.specs.TypeGrammar.{IsType}
 use Rattle.ir_text_attributes.specs.AttrGrammar.{IsFine, IsTypeAttr, IsSuffix, IsLiteralOf, IsLiteral, IsNegative, IsFlag, IsFlags, IsOverflow}
@@ -30,7 +30,7 @@ use Rattle.ir_text_reading.proofs.Worlds.{bind_assoc, Exact, exact_where, exact_
 use Rattle.ir_text_reading.proofs.TextLaws.{things, Same, typed_marks}
 use Rattle.ir_text_reading.proofs.TokenLaws.{behind_exact, token_exact}
 use Rattle.ir_text_types.proofs.TypeLaws.{type_done_exact, type_exact}
-use Rattle.ir_text_attributes.proofs.NodeLaws.{IsNodeOf, Text, moved, done, name_at, name_exact, attr_done_exact, done_then, then_done, done_if_exact}
+use Rattle.ir_text_attributes.proofs.NodeLaws.{IsNodeOf, moved, done, name_at, name_exact, attr_done_exact, done_then, then_done, done_if_exact}
 
 -- ---- attributes of one token
 
@@ -54,10 +54,10 @@ overflow_node : (nsw nuw : Bool) (z : Things) → IsNodeOf (attr.Overflow nsw nu
 unfolding kept
 overflow_node nsw nuw z = (tt, refl)
 
-pub string_exact : (raw : List ℕ) (c : Things) → Exact things Same c AttrStands (string_at raw) (IsFine (String (string_bytes raw)))
-unfolding string_at
+pub string_exact : (raw : List ℕ) (c : Things) → Exact things Same c AttrStands (string_attr_at raw) (IsFine (String (string_bytes raw)))
+unfolding string_attr_at
 string_exact raw c =
-    exact_where things Same c AttrStands (string_at raw) (λ s. name_at (string_bytes raw) s >>= λ n. attr_done (attr.Str n.0) n.1) (IsFine (String (string_bytes raw)))
+    exact_where things Same c AttrStands (string_attr_at raw) (λ s. name_at (string_bytes raw) s >>= λ n. attr_done (attr.Str n.0) n.1) (IsFine (String (string_bytes raw)))
     (λ s g sound. sym (bind_assoc (name_step (string_bytes raw) s.1) (λ n. done (moved s n)) (λ n. attr_done (attr.Str n.0) n.1)))
     (exact_spelled things Same c AttrStands (λ s. name_at (string_bytes raw) s >>= λ n. attr_done (attr.Str n.0) n.1) (Then (Done (string_bytes raw)) (λ y. IsFine (String y))) (IsFine (String (string_bytes raw)))
     (done_then (string_bytes raw) (λ y. IsFine (String y))) (then_done (string_bytes raw) (λ y. IsFine (String y)))

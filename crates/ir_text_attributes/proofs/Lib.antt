@@ -9,3 +9,4 @@ pub mod DenseLaws
 pub mod PartLaws
 pub mod AttrLaws
 pub mod Singles
+pub mod Ordering

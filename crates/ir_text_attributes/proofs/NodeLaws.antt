@@ -19,7 +19,7 @@ use Rattle.ir_types.proofs.CallNumbers.{name_stands, attr_stands, place_in}
 use Rattle.ir_types.proofs.Calls.{no_first}
 use Rattle.ir_types.proofs.AcceptedCalls.{accepted_name, accepted_attr, neither_back}
 use Rattle.ir_text_reading.specs.Outcomes.{Outcome, Read, Wrong, ◌>>=◌, interned, Parse}
-use Rattle.ir_text_reading.specs.Typed.{Typed, name_step, attr_step}
+use Rattle.ir_text_reading.specs.Typed.{Text, Typed, name_step, attr_step}
 use Rattle.ir_text_reading.specs.Grammars.{Grammar, Then, Done, DoneIf}
 use Rattle.ir_text_reading.specs.Worlds.{From}
 use Rattle.ir_text_reading.specs.Standing.{NameStands, AttrStands}
@@ -133,9 +133,6 @@ attr_done_exact c node y allowed r = record {
     fault_of z n = sym (kept_fault z node) ∙ ap attr_fault n.1
 
 -- ---- a value before which something is interned
-
-abbrev pub Text : Type 0
-Text = List ℕ
 
 module _ {B C : Type 0} (z : B) (Q : B → Grammar Text C) where
   pub done_then : (y : C) (t t' : Text) → Then (Done z) Q y t t' → Q z y t t'

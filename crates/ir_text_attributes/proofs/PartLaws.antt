@@ -2,8 +2,6 @@
 use Rattle.std.specs.Prelude.{if◌then◌else◌, nat_eq, ◌||◌, ◌==◌}
 use Rattle.std.specs.List.{AllByRecursion, list_any}
 use Rattle.std.specs.Str.{bytes_eq}
-use Rattle.std.specs.Ordering.{is_lt, nat_cmp}
-use Rattle.std.specs.Cmp.Lexicographic.{slice_cmp}
 use Rattle.std.proofs.Common.{◌≡◌, ◌<◌, ◌≤◌, ◌-◌, ℕ, zero, suc, Bool, true, false, true≢false, List, [], ◌∷◌, ◌++◌, length, map, Option, Some, None, refl, sym, ap, subst, ◌∙◌, inl, inr, le-leb, arith}
 use Rattle.std.proofs.lemmas.Bool.{eqb-true, eq-eqb}
 use Rattle.std.proofs.lemmas.List.{length-append}
@@ -22,18 +20,20 @@ use Rattle.ir_types.proofs.Growth.{grows_refl, grows_trans, name_is, name_refl}
 use Rattle.ir_types.proofs.Terms.{name_term_one}
 use Rattle.ir_text_reading.specs.Outcomes.{Outcome, Read, Wrong, ◌>>=◌, Parse}
 use Rattle.ir_text_reading.specs.Lists.{more_at, more_from, list_at, list_from}
-use Rattle.ir_text_reading.specs.Typed.{Typed, after_typed}
+use Rattle.ir_text_reading.specs.Typed.{Text, Typed, after_typed}
 use Rattle.ir_text_types.specs.TypeReading.{many}
-use Rattle.ir_text_reading.specs.Grammars.{Grammar, Then, Done, IsList, IsMark, Token}
+use Rattle.ir_text_reading.specs.Grammars.{When, Grammar, Then, Done, IsList, IsMark, Token}
 use Rattle.ir_text_reading.specs.Worlds.{From}
 use Rattle.ir_text_reading.specs.Standing.{NameStands, AttrStands}
 use Rattle.ir_text_reading.specs.Laws.{Each}
 use Rattle.ir_text_reading.proofs.Worlds.{bind_read, option_read, Exact, exact_where, exact_spelled, nothing_exact, then_exact, done_exact, either_exact, list_exact}
 use Rattle.ir_text_reading.proofs.TextLaws.{things, Same, typed_marks}
 use Rattle.ir_text_reading.proofs.TokenLaws.{behind_exact, token_exact}
-use Rattle.ir_text_attributes.specs.AttrReading.{Entries, name_done, attr_done, knows_key, key_from, key_at, unit_value_at, value_from, value_by, entry_by, entries_by, dictionary_by, attrs_by, array_by}
-use Rattle.ir_text_attributes.specs.AttrGrammar.{EntryTerm, When, IsFine, IsKey, IsUnitValue, IsValue, IsEntry, IsArray, IsDictionary, attrs_of, entries_of, placed, in_order, has_key}
-use Rattle.ir_text_attributes.proofs.NodeLaws.{IsNodeOf, IsAllowed, Text, name_done_exact, attr_done_exact, zero_exact, exact_given, exact_read}
+use Rattle.ir_text_attributes.specs.AttrReading.{Entries, name_done, attr_done, key_from, key_at, unit_value_at, value_from, value_by, entry_by, entries_by, dictionary_by, attrs_by, array_by}
+use Rattle.ir_text_attributes.specs.AttrGrammar.{EntryTerm, IsFine, IsKey, IsUnitValue, IsValue, IsEntry, IsArray, IsDictionary, attrs_of, entries_of}
+use Rattle.ir_tree.specs.Meaning.{key_before}
+use Rattle.ir_text_attributes.specs.Keyed.{has_key, put_among, in_order}
+use Rattle.ir_text_attributes.proofs.NodeLaws.{IsNodeOf, IsAllowed, name_done_exact, attr_done_exact, zero_exact, exact_given, exact_read}
 use Rattle.ir_text_attributes.proofs.LeafLaws.{unit_node}
 
 -- a key and an attribute
@@ -77,40 +77,40 @@ tests_agree false true f g = g refl
 tests_agree false false f g = refl
 
 -- names of a sound context are equal exactly where their bytes are
-keys_agree : (z : Things) → IsSound z → (k l : ℕ) (x y : List ℕ) → NameStands z k x → NameStands z l y → nat_eq l k ≡ bytes_eq x y
+pub keys_agree : (z : Things) → IsSound z → (k l : ℕ) (x y : List ℕ) → NameStands z k x → NameStands z l y → nat_eq k l ≡ bytes_eq x y
 keys_agree z sound k l x y h j =
-    tests_agree (nat_eq l k) (bytes_eq x y)
-    (λ e. subst (λ w. bytes_eq x w ≡ true) (sym h.1 ∙ ap (name_term z) (sym (eqb-true l k e)) ∙ j.1) (name_refl x))
-    (λ e. eq-eqb l k (sym (name_term_one z k l sound h.0 j.0 (h.1 ∙ name_is x y e ∙ sym j.1))))
+    tests_agree (nat_eq k l) (bytes_eq x y)
+    (λ e. subst (λ w. bytes_eq x w ≡ true) (sym h.1 ∙ ap (name_term z) (eqb-true k l e) ∙ j.1) (name_refl x))
+    (λ e. eq-eqb k l (name_term_one z k l sound h.0 j.0 (h.1 ∙ name_is x y e ∙ sym j.1)))
 
-known_same : (z : Things) → IsSound z → (k : ℕ) (y : List ℕ) (es : Entries) (fs : List EntryTerm) → NameStands z k y → Each EntryStands z es fs → knows_key k es ≡ has_key y fs
+known_same : (z : Things) → IsSound z → (k : ℕ) (y : List ℕ) (es : Entries) (fs : List EntryTerm) → NameStands z k y → Each EntryStands z es fs → has_key nat_eq k es ≡ has_key bytes_eq y fs
 known_same z sound k y [] [] h all = refl
 known_same z sound k y [] (f ∷ fs) h all = absurd all
 known_same z sound k y (e ∷ es) [] h all = absurd all
-known_same z sound k y (e ∷ es) (f ∷ fs) h all = λ i. keys_agree z sound k e.0 y f.0 h all.0.0 i || known_same z sound k y es fs h all.1 i
+known_same z sound k y (e ∷ es) (f ∷ fs) h all = λ i. keys_agree z sound e.0 k f.0 y all.0.0 h i || known_same z sound k y es fs h all.1 i
 
 -- ---- the order of entries
 
-same_order : (z : Things) (a b : ℕ × ℕ) (x y : EntryTerm) → EntryStands z a x → EntryStands z b y → comes_before z.names a b ≡ is_lt (slice_cmp nat_cmp x.0 y.0)
-same_order z a b x y h j = λ i. is_lt (slice_cmp nat_cmp (h.0.1 i) (j.0.1 i))
+same_order : (z : Things) (a b : ℕ × ℕ) (x y : EntryTerm) → EntryStands z a x → EntryStands z b y → comes_before z.names a b ≡ key_before x.0 y.0
+same_order z a b x y h j = λ i. key_before (h.0.1 i) (j.0.1 i)
 
-placed_stands : (z : Things) (e : ℕ × ℕ) (x : EntryTerm) (fs : Entries) (ys : List EntryTerm) → EntryStands z e x → Each EntryStands z fs ys → Each EntryStands z (placed_among z.names e fs) (placed x ys)
+placed_stands : (z : Things) (e : ℕ × ℕ) (x : EntryTerm) (fs : Entries) (ys : List EntryTerm) → EntryStands z e x → Each EntryStands z fs ys → Each EntryStands z (placed_among z.names e fs) (put_among key_before x ys)
 placed_stands z e x [] [] h all = (h, tt)
 placed_stands z e x [] (y ∷ ys) h all = absurd all
 placed_stands z e x (f ∷ fs) [] h all = absurd all
-placed_stands z e x (f ∷ fs) (y ∷ ys) h all = by_test (placed_stands z e x fs ys h all.1) (comes_before z.names e f) (is_lt (slice_cmp nat_cmp x.0 y.0)) (same_order z e f x y h all.0)
+placed_stands z e x (f ∷ fs) (y ∷ ys) h all = by_test (placed_stands z e x fs ys h all.1) (comes_before z.names e f) (key_before x.0 y.0) (same_order z e f x y h all.0)
   where
-    by_test : Each EntryStands z (placed_among z.names e fs) (placed x ys) → (b c : Bool) → b ≡ c → Each EntryStands z (if b then e ∷ f ∷ fs else f ∷ placed_among z.names e fs) (if c then x ∷ y ∷ ys else y ∷ placed x ys)
+    by_test : Each EntryStands z (placed_among z.names e fs) (put_among key_before x ys) → (b c : Bool) → b ≡ c → Each EntryStands z (if b then e ∷ f ∷ fs else f ∷ placed_among z.names e fs) (if c then x ∷ y ∷ ys else y ∷ put_among key_before x ys)
     by_test rest true true same = (h, all)
     by_test rest true false same = absurd (true≢false same)
     by_test rest false true same = absurd (true≢false (sym same))
     by_test rest false false same = (all.0, rest)
 
-sorted_stands : (z : Things) (es : Entries) (ys : List EntryTerm) → Each EntryStands z es ys → Each EntryStands z (sorted z.names es) (in_order ys)
+sorted_stands : (z : Things) (es : Entries) (ys : List EntryTerm) → Each EntryStands z es ys → Each EntryStands z (sorted z.names es) (in_order key_before ys)
 sorted_stands z [] [] all = tt
 sorted_stands z [] (y ∷ ys) all = absurd all
 sorted_stands z (e ∷ es) [] all = absurd all
-sorted_stands z (e ∷ es) (y ∷ ys) all = placed_stands z e y (sorted z.names es) (in_order ys) all.0 (sorted_stands z es ys all.1)
+sorted_stands z (e ∷ es) (y ∷ ys) all = placed_stands z e y (sorted z.names es) (in_order key_before ys) all.0 (sorted_stands z es ys all.1)
 
 -- ---- nodes
 
@@ -132,11 +132,11 @@ values_below z [] (y ∷ ys) all = absurd all
 values_below z (e ∷ es) [] all = absurd all
 values_below z (e ∷ es) (y ∷ ys) all = (all.0.1.0, values_below z es ys all.1)
 
-dictionary_node : (z : Things) (es : Entries) (ys : List EntryTerm) → Each EntryStands z es ys → IsNodeOf (attr.Dict es) (Dictionary (entries_of (in_order ys))) z
+dictionary_node : (z : Things) (es : Entries) (ys : List EntryTerm) → Each EntryStands z es ys → IsNodeOf (attr.Dict es) (Dictionary (entries_of (in_order key_before ys))) z
 unfolding kept
 dictionary_node z es ys all = (
   (All-from_recursion (λ (e : ℕ × ℕ). e.0 < length z.names) es (keys_below z es ys all), All-from_recursion (λ (e : ℕ × ℕ). e.1 < length z.attrs) es (values_below z es ys all)),
-  ap Dictionary (entries_term z (sorted z.names es) (in_order ys) (sorted_stands z es ys all)),
+  ap Dictionary (entries_term z (sorted z.names es) (in_order key_before ys) (sorted_stands z es ys all)),
 )
 
 attrs_below : (z : Things) (xs : List ℕ) (ys : List AttrTerm) → Each AttrStands z xs ys → AllByRecursion (λ a. a < length z.attrs) xs
@@ -170,11 +170,11 @@ any_push k (f ∷ fs) e h j =
     let b = neither (k == f.0) (list_any (λ l. k == l) (keys fs)) h in
     rw b.0 (any_push k fs e b.1 j)
 
-twin_push : (es : Entries) (e : ℕ × ℕ) → has_twin (keys es) ≡ false → knows_key e.0 es ≡ false → has_twin (keys (es ++ e ∷ [])) ≡ false
+twin_push : (es : Entries) (e : ℕ × ℕ) → has_twin (keys es) ≡ false → has_key nat_eq e.0 es ≡ false → has_twin (keys (es ++ e ∷ [])) ≡ false
 twin_push [] e once new = refl
 twin_push (f ∷ fs) e once new =
     let b = neither (list_any (λ l. f.0 == l) (keys fs)) (has_twin (keys fs)) once in
-    let n = neither (nat_eq f.0 e.0) (knows_key e.0 fs) new in
+    let n = neither (nat_eq f.0 e.0) (has_key nat_eq e.0 fs) new in
     rw (any_push f.0 fs e b.0 n.0) (twin_push fs e b.1 n.1)
 
 abbrev with_value : ℕ → Outcome (ℕ × Typed) → Outcome ((ℕ × ℕ) × Typed)
@@ -183,20 +183,20 @@ with_value k o = o >>= λ a. Read ((k, a.0), a.1)
 module _ (depth : ℕ) (p : Parse Typed ℕ) where
   -- the value of an entry whose key is free
   abbrev valued : Entries → ℕ × Typed → Outcome ((ℕ × ℕ) × Typed)
-  valued before k = with_value k.0 (if knows_key k.0 before then Wrong else value_by depth p k.1)
+  valued before k = with_value k.0 (if has_key nat_eq k.0 before then Wrong else value_by depth p k.1)
 
-  entry_new : (before : Entries) (s : Typed) (x : ℕ × ℕ) (s' : Typed) → entry_by depth p before s ≡ Read (x, s') → knows_key x.0 before ≡ false
+  entry_new : (before : Entries) (s : Typed) (x : ℕ × ℕ) (s' : Typed) → entry_by depth p before s ≡ Read (x, s') → has_key nat_eq x.0 before ≡ false
   unfolding entry_by
   entry_new before s x s' e =
       let k = bind_read (key_at s) (valued before) (x, s') e in
-      by_test k.0.0 k.0.1 (knows_key k.0.0 before) refl k.2
+      by_test k.0.0 k.0.1 (has_key nat_eq k.0.0 before) refl k.2
     where
-      by_test : (k : ℕ) (mid : Typed) (b : Bool) → knows_key k before ≡ b → with_value k (if b then Wrong else value_by depth p mid) ≡ Read (x, s') → knows_key x.0 before ≡ false
+      by_test : (k : ℕ) (mid : Typed) (b : Bool) → has_key nat_eq k before ≡ b → with_value k (if b then Wrong else value_by depth p mid) ≡ Read (x, s') → has_key nat_eq x.0 before ≡ false
       by_test k mid true h e = absurd cc
       by_test k mid false h e =
           let v = bind_read (value_by depth p mid) (λ a. entry_read k a) (x, s') e in
           let same : ((k, v.0.0), v.0.1) ≡ (x, s') = cc (v.2) in
-          subst (λ l. knows_key l before ≡ false) (ap (λ (q : (ℕ × ℕ) × Typed). q.0.0) same) h
+          subst (λ l. has_key nat_eq l before ≡ false) (ap (λ (q : (ℕ × ℕ) × Typed). q.0.0) same) h
         where
           entry_read : ℕ → ℕ × Typed → Outcome ((ℕ × ℕ) × Typed)
           entry_read k a = Read ((k, a.0), a.1)
@@ -265,11 +265,11 @@ module _ (depth : ℕ) (p : Parse Typed ℕ) (P : Grammar Text AttrTerm) (item :
   entry_exact : (c : Things) (es : Entries) (fs : List EntryTerm) → From (λ z. Each EntryStands z es fs) c → Exact things Same c EntryStands (entry_by depth p es) (IsEntry depth P fs)
   unfolding entry_by
   entry_exact c es fs front =
-      then_exact things Same c NameStands EntryStands key_at IsKey (λ k s. with_value k (if knows_key k es then Wrong else value_by depth p s)) (λ y. When (has_key y fs ≡ false) (Then (IsValue depth P) (λ a. Done (y, a))))
+      then_exact things Same c NameStands EntryStands key_at IsKey (λ k s. with_value k (if has_key nat_eq k es then Wrong else value_by depth p s)) (λ y. When (has_key bytes_eq y fs ≡ false) (Then (IsValue depth P) (λ a. Done (y, a))))
       (key_exact c) (λ d k y g r.
-      exact_where things Same d EntryStands (λ s. with_value k (if knows_key k es then Wrong else value_by depth p s)) (λ s. with_value k (if has_key y fs then Wrong else value_by depth p s)) (When (has_key y fs ≡ false) (Then (IsValue depth P) (λ a. Done (y, a))))
+      exact_where things Same d EntryStands (λ s. with_value k (if has_key nat_eq k es then Wrong else value_by depth p s)) (λ s. with_value k (if has_key bytes_eq y fs then Wrong else value_by depth p s)) (When (has_key bytes_eq y fs ≡ false) (Then (IsValue depth P) (λ a. Done (y, a))))
       (λ s h sound. ap (λ t. with_value k (if t then Wrong else value_by depth p s)) (known_same s.1 sound k y es fs (r s.1 h sound) (front s.1 (grows_trans c d s.1 g h) sound)))
-      (free_exact d k y r (has_key y fs)))
+      (free_exact d k y r (has_key bytes_eq y fs)))
 
   entries_exact : (c : Things) → Exact things Same c (Each EntryStands) (entries_by depth p) (IsList IsMark CloseCurly (IsEntry depth P) 256)
   unfolding entries_by
@@ -278,10 +278,10 @@ module _ (depth : ℕ) (p : Parse Typed ℕ) (P : Grammar Text AttrTerm) (item :
   pub dictionary_exact : (c : Things) → Exact things Same c AttrStands (dictionary_by depth p) (IsDictionary depth P)
   unfolding dictionary_by IsDictionary
   dictionary_exact c =
-      then_exact things Same c (λ z x y. Each EntryStands z x y × IsAllowed (attr.Dict x)) AttrStands (entries_by depth p) (IsList IsMark CloseCurly (IsEntry depth P) 256) (λ es. attr_done (attr.Dict es)) (λ ys. IsFine (Dictionary (entries_of (in_order ys))))
+      then_exact things Same c (λ z x y. Each EntryStands z x y × IsAllowed (attr.Dict x)) AttrStands (entries_by depth p) (IsList IsMark CloseCurly (IsEntry depth P) 256) (λ es. attr_done (attr.Dict es)) (λ ys. IsFine (Dictionary (entries_of (in_order key_before ys))))
       (exact_read c (Each EntryStands) (entries_by depth p) (IsList IsMark CloseCurly (IsEntry depth P) 256) (λ es. IsAllowed (attr.Dict es)) (entries_allowed depth p) (entries_exact c)) (λ d es ys g r.
-      exact_given d AttrStands (attr_done (attr.Dict es)) (IsFine (Dictionary (entries_of (in_order ys)))) (λ z k sound.
-      attr_done_exact z (attr.Dict es) (Dictionary (entries_of (in_order ys))) (r z k sound).1 (λ z' k' w. dictionary_node z' es ys (r z' (grows_trans d z z' k k') w).0)))
+      exact_given d AttrStands (attr_done (attr.Dict es)) (IsFine (Dictionary (entries_of (in_order key_before ys)))) (λ z k sound.
+      attr_done_exact z (attr.Dict es) (Dictionary (entries_of (in_order key_before ys))) (r z k sound).1 (λ z' k' w. dictionary_node z' es ys (r z' (grows_trans d z z' k k') w).0)))
 
   attrs_exact : (c : Things) → Exact things Same c (Each AttrStands) (attrs_by depth p) (IsList IsMark CloseSquare (λ before. P) many)
   unfolding attrs_by

@@ -19,8 +19,8 @@ use Rattle.ir_text_reading.proofs.TextLaws.{after_found, after_only}
 use Rattle.ir_text_reading.proofs.Worlds.{bind_read, option_read}
 use Rattle.ir_text_attributes.specs.AttrReading.{attr_at}
 use Rattle.ir_text_attributes.specs.AttrGrammar.{IsAttr}
-use Rattle.ir_text_attributes.specs.SingleReading.{single_at}
-use Rattle.ir_text_attributes.specs.Spelling.{IsSingle, SpellsAttr}
+use Rattle.ir_text_attributes.specs.SingleReading.{single_attr_at}
+use Rattle.ir_text_attributes.specs.Spelling.{IsSingleAttr, SpellsAttr}
 use Rattle.ir_text_attributes.specs.Claims.{IsOnlyAttr, IsNoAttr}
 use Rattle.ir_text_attributes.proofs.AttrLaws.{attr_read, attr_spelled}
 use Rattle.ir_text_attributes.proofs.UniqueAttributes.{attr_one}
@@ -32,8 +32,8 @@ module _ (bytes : List ℕ) (c : Things) (sound : IsSound c) where
       let r = attr_read 32 c s.1 bytes s.0 n sound e in
       (attr_one 32 bytes y (attr_term s.1 n) rest s.0 k r.3).1
 
-  alone_read : (n : ℕ) (s : Typed) (end : List ℕ) → attr_at 32 (bytes, c) ≡ Read (n, s) → after End s.0 ≡ Some end → IsOnlyAttr (IsSingle bytes) s.1 n × Grows c s.1
-  unfolding IsSingle
+  alone_read : (n : ℕ) (s : Typed) (end : List ℕ) → attr_at 32 (bytes, c) ≡ Read (n, s) → after End s.0 ≡ Some end → IsOnlyAttr (IsSingleAttr bytes) s.1 n × Grows c s.1
+  unfolding IsSingleAttr
   alone_read n s end e ends =
       let r = attr_read 32 c s.1 bytes s.0 n sound e in (
         record {
@@ -44,15 +44,15 @@ module _ (bytes : List ℕ) (c : Things) (sound : IsSound c) where
         r.0,
       )
 
-  more_wrong : (n : ℕ) (s : Typed) → attr_at 32 (bytes, c) ≡ Read (n, s) → after End s.0 ≡ None → IsNoAttr (IsSingle bytes)
-  unfolding IsSingle
+  more_wrong : (n : ℕ) (s : Typed) → attr_at 32 (bytes, c) ≡ Read (n, s) → after End s.0 ≡ None → IsNoAttr (IsSingleAttr bytes)
+  unfolding IsSingleAttr
   more_wrong n s e more y h =
       let left = rest_is n s e y h.0 h.2 in
       let ends = after_only End s.0 h.1 (subst (λ b. IsMark End b h.1) left h.3) in
       let clash : None ≡ Some h.1 = sym more ∙ ends in absurd cc
 
-  none_wrong : attr_at 32 (bytes, c) ≡ Wrong → IsNoAttr (IsSingle bytes)
-  unfolding IsSingle
+  none_wrong : attr_at 32 (bytes, c) ≡ Wrong → IsNoAttr (IsSingleAttr bytes)
+  unfolding IsSingleAttr
   none_wrong e y h = ⊎_elim
       (λ (f : attr_at 32 (bytes, c) ≡ Full). absurd cc)
       (λ (f : (n : ℕ) × (d : Things) × (attr_at 32 (bytes, c) ≡ Read (n, (h.0, d))) × Grows c d × IsSound d × AttrStands d n y). let g = f.2 in absurd cc)
@@ -71,23 +71,23 @@ module _ (bytes : List ℕ) (c : Things) (sound : IsSound c) where
       (ap (λ (q : ℕ × Things). q.0) p, ap (λ (q : ℕ × Things). q.1) p)
 
   -- the same, by the reader of one attribute
-  pub single_read : (n : ℕ) (d : Things) → single_at bytes c ≡ Read (n, d) → IsOnlyAttr (IsSingle bytes) d n × Grows c d
-  unfolding single_at
+  pub single_read : (n : ℕ) (d : Things) → single_attr_at bytes c ≡ Read (n, d) → IsOnlyAttr (IsSingleAttr bytes) d n × Grows c d
+  unfolding single_attr_at
   single_read n d e =
       let a = bind_read (attr_at 32 (bytes, c)) whole (n, d) e in
       let b = option_read (after End a.0.1.0) (told a.0.0 a.0.1.1) (n, d) a.2 in
       let q = parts_are a.0.0 n a.0.1.1 d b.2 in
-      subst (λ (u : ℕ × Things). IsOnlyAttr (IsSingle bytes) u.1 u.0 × Grows c u.1) (λ i. (q.0 i, q.1 i)) (alone_read a.0.0 a.0.1 b.0 a.1 b.1)
+      subst (λ (u : ℕ × Things). IsOnlyAttr (IsSingleAttr bytes) u.1 u.0 × Grows c u.1) (λ i. (q.0 i, q.1 i)) (alone_read a.0.0 a.0.1 b.0 a.1 b.1)
 
-  pub single_wrong : single_at bytes c ≡ Wrong → IsNoAttr (IsSingle bytes)
-  unfolding single_at
+  pub single_wrong : single_attr_at bytes c ≡ Wrong → IsNoAttr (IsSingleAttr bytes)
+  unfolding single_attr_at
   single_wrong e = by_attr (attr_at 32 (bytes, c)) refl e
     where
-      by_end : (n : ℕ) (s : Typed) → attr_at 32 (bytes, c) ≡ Read (n, s) → (o : Option (List ℕ)) → after End s.0 ≡ o → (of_option o >>= told n s.1) ≡ Wrong → IsNoAttr (IsSingle bytes)
+      by_end : (n : ℕ) (s : Typed) → attr_at 32 (bytes, c) ≡ Read (n, s) → (o : Option (List ℕ)) → after End s.0 ≡ o → (of_option o >>= told n s.1) ≡ Wrong → IsNoAttr (IsSingleAttr bytes)
       by_end n s read None none w = more_wrong n s read none
       by_end n s read (Some end) ends w = absurd cc
 
-      by_attr : (o : Outcome (ℕ × Typed)) → attr_at 32 (bytes, c) ≡ o → (o >>= whole) ≡ Wrong → IsNoAttr (IsSingle bytes)
+      by_attr : (o : Outcome (ℕ × Typed)) → attr_at 32 (bytes, c) ≡ o → (o >>= whole) ≡ Wrong → IsNoAttr (IsSingleAttr bytes)
       by_attr (Read x) read w = by_end x.0 x.1 read (after End x.1.0) refl w
       by_attr Wrong wrong w = none_wrong wrong
       by_attr Full full w = absurd cc
@@ -95,14 +95,14 @@ module _ (bytes : List ℕ) (c : Things) (sound : IsSound c) where
 -- ---- and the limits of a text
 
 module _ (bytes : List ℕ) where
-  pub attr_spells : (c : Things) (n : ℕ) → text_reason bytes ≡ None → IsOnlyAttr (IsSingle bytes) c n → IsOnlyAttr (SpellsAttr bytes) c n
+  pub attr_spells : (c : Things) (n : ℕ) → text_reason bytes ≡ None → IsOnlyAttr (IsSingleAttr bytes) c n → IsOnlyAttr (SpellsAttr bytes) c n
   attr_spells c n text h = record {
     known = h.known;
     holds = record { text = text; spelled = h.holds };
     only = λ y s. h.only y s.spelled;
   }
 
-  pub none_spelled : IsNoAttr (IsSingle bytes) → IsNoAttr (SpellsAttr bytes)
+  pub none_spelled : IsNoAttr (IsSingleAttr bytes) → IsNoAttr (SpellsAttr bytes)
   none_spelled none y s = none y s.spelled
 
   pub no_text : (r : Refusal × ℕ) → text_reason bytes ≡ Some r → IsNoAttr (SpellsAttr bytes)

@@ -12,7 +12,7 @@ use Rattle.ir_types.specs.Dictionaries.{kept}
 use Rattle.ir_types.specs.Sound.{IsSound}
 use Rattle.ir_types.proofs.Growth.{grows_refl, grows_trans}
 use Rattle.ir_text_reading.specs.Outcomes.{Read, ◌>>=◌}
-use Rattle.ir_text_reading.specs.Typed.{after_typed}
+use Rattle.ir_text_reading.specs.Typed.{Text, after_typed}
 use Rattle.ir_text_types.specs.TypeReading.{many}
 use Rattle.ir_text_reading.specs.Grammars.{Grammar, Then, Done, Either, Not, IsMark, Token}
 use Rattle.ir_text_reading.specs.Worlds.{From}
@@ -21,9 +21,9 @@ use Rattle.ir_text_reading.specs.Laws.{Each}
 use Rattle.ir_text_reading.proofs.Worlds.{Exact, exact_spelled, nothing_exact, then_exact, done_exact, either_exact, each_push}
 use Rattle.ir_text_reading.proofs.TextLaws.{things, Same, typed_marks}
 use Rattle.ir_text_reading.proofs.TokenLaws.{behind_exact, token_exact}
-use Rattle.ir_text_attributes.specs.AttrReading.{name_done, attr_done, part_from, part_at, parts_from, parts_at, symbol_at}
+use Rattle.ir_text_attributes.specs.AttrReading.{name_done, attr_done, part_from, part_at, parts_from, parts_at, symbol_attr_at}
 use Rattle.ir_text_attributes.specs.AttrGrammar.{IsFine, IsPart, IsParts, IsSymbol}
-use Rattle.ir_text_attributes.proofs.NodeLaws.{IsNodeOf, Text, name_done_exact, attr_done_exact}
+use Rattle.ir_text_attributes.proofs.NodeLaws.{IsNodeOf, name_done_exact, attr_done_exact}
 
 abbrev PartFrom : Lexeme → Text → Grammar Text (List ℕ)
 PartFrom (symbol n) rest y old new = Done n y rest new
@@ -104,8 +104,8 @@ symbol_node : (z : Things) (ns : List ℕ) (ys : List (List ℕ)) → Each NameS
 unfolding kept
 symbol_node z ns ys h = (All-from_recursion (λ n. n < length z.names) ns (names_below z ns ys h), ap Symbol (names_term z ns ys h))
 
-pub symbol_exact : (c : Things) → Exact things Same c AttrStands symbol_at IsSymbol
-unfolding symbol_at
+pub symbol_exact : (c : Things) → Exact things Same c AttrStands symbol_attr_at IsSymbol
+unfolding symbol_attr_at
 symbol_exact c =
     then_exact things Same c (Each NameStands) AttrStands (parts_at many []) (IsParts many []) (λ ns. attr_done (attr.Sym ns)) (λ ys. IsFine (Symbol ys)) (parts_exact many c [] [] (λ z g w. tt)) (λ d ns ys g r.
     attr_done_exact d (attr.Sym ns) (Symbol ys) (refl, refl) (λ z k w. symbol_node z ns ys (r z k w)))

@@ -13,14 +13,14 @@ use Rattle.ir_text_attributes.specs.declared.flag.Flag as code
 use Rattle.ir_text_attributes.specs.Literals.{Word, Truth, UnitWord, ArrayWord, TypeWord, word_of, truth_bits, none_word, flag_of, has_nsw, has_nuw}
 use Rattle.ir_types.specs.Readings.{literal_bits, reading_of}
 use Rattle.ir_text_attributes.specs.Elements.{element_of}
-use Rattle.ir_text_attributes.specs.AttrGrammar.{When, EntryTerm, IsPart, IsParts, IsSymbol, IsElement, IsItemNumber, IsItem, IsItems, IsDense, IsKey, IsUnitValue, IsValue, IsEntry, IsDictionary, IsArray, attrs_of, entries_of, in_order, has_key, IsFine, IsTypeAttr, IsSuffix, IsLiteralOf, IsLiteral, IsNegative, IsFlag, IsFlags, IsOverflow, IsWordAttr, IsMarkAttr, IsAttrFrom, IsAttr}
+use Rattle.ir_text_attributes.specs.AttrGrammar.{EntryTerm, IsPart, IsParts, IsSymbol, IsElement, IsItemNumber, IsItem, IsItems, IsDense, IsKey, IsUnitValue, IsValue, IsEntry, IsDictionary, IsArray, attrs_of, entries_of, IsFine, IsTypeAttr, IsSuffix, IsLiteralOf, IsLiteral, IsNegative, IsFlag, IsFlags, IsOverflow, IsWordAttr, IsMarkAttr, IsAttrFrom, IsAttr}
+use Rattle.ir_text_attributes.specs.Keyed.{has_key, in_order}
+use Rattle.ir_tree.specs.Meaning.{key_before}
 use Rattle.ir_text_types.specs.TypeReading.{many}
-use Rattle.ir_text_reading.specs.Grammars.{Grammar, Then, Done, After, Not, IsMore, IsList, Token, IsMark}
+use Rattle.ir_text_reading.specs.Grammars.{When, Grammar, Then, Done, After, Not, IsMore, IsList, Token, IsMark}
+use Rattle.ir_text_reading.specs.Typed.{Text}
 use Rattle.ir_text_types.specs.TypeGrammar.{IsType}
 use Rattle.ir_text_types.proofs.Unique.{IsOne, then_one, done_one, done_if_one, after_one, either_one, more_one, list_one, token_one, mark_one, type_one}
-
-abbrev Text : Type 0
-Text = List ℕ
 
 behind_one : {B : Type 0} (rest : Text) (P : Grammar Text B) → IsOne P → IsOne {T = Text} (λ y old new. P y rest new)
 behind_one rest P one t y y' n n' k l = one rest y y' n n' k l
@@ -215,14 +215,14 @@ module _ (depth : ℕ) (P : Grammar Text AttrTerm) (item : IsOne P) where
 
   entry_one : (before : List EntryTerm) → IsOne (IsEntry depth P before)
   entry_one before =
-      then_one IsKey (λ k. When (has_key k before ≡ false) (Then (IsValue depth P) (λ a. Done (k, a)))) key_one (λ k.
-      when_one (has_key k before ≡ false) (Then (IsValue depth P) (λ a. Done (k, a))) (then_one (IsValue depth P) (λ a. Done (k, a)) value_one (λ a. done_one (k, a))))
+      then_one IsKey (λ k. When (has_key bytes_eq k before ≡ false) (Then (IsValue depth P) (λ a. Done (k, a)))) key_one (λ k.
+      when_one (has_key bytes_eq k before ≡ false) (Then (IsValue depth P) (λ a. Done (k, a))) (then_one (IsValue depth P) (λ a. Done (k, a)) value_one (λ a. done_one (k, a))))
 
   dictionary_one : IsOne (IsDictionary depth P)
   unfolding IsDictionary
   dictionary_one =
-      then_one (IsList IsMark CloseCurly (IsEntry depth P) 256) (λ es. IsFine (Dictionary (entries_of (in_order es)))) (list_one IsMark mark_one CloseCurly (IsEntry depth P) entry_one 256) (λ es.
-      fine_one (Dictionary (entries_of (in_order es))))
+      then_one (IsList IsMark CloseCurly (IsEntry depth P) 256) (λ es. IsFine (Dictionary (entries_of (in_order key_before es)))) (list_one IsMark mark_one CloseCurly (IsEntry depth P) entry_one 256) (λ es.
+      fine_one (Dictionary (entries_of (in_order key_before es))))
 
   array_one : IsOne (IsArray depth P)
   unfolding IsArray

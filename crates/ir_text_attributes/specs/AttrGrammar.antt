@@ -1,10 +1,7 @@
 -- The grammar of attributes, in terms of what is spelled. Language Reference, "Attributes"; Builtin
 -- Dialect, "Attributes".
-use Rattle.std.specs.Prelude.{◌≡◌, ◌⊎◌, ℕ, zero, suc, Bool, true, false, if◌then◌else◌, List, [], ◌∷◌, ◌++◌, Some, None, ℤ}
-use Rattle.std.specs.List.{list_any}
+use Rattle.std.specs.Prelude.{◌≡◌, ◌⊎◌, ℕ, zero, suc, Bool, true, false, List, [], ◌∷◌, ◌++◌, Some, None, ℤ}
 use Rattle.std.specs.Str.{bytes_eq}
-use Rattle.std.specs.Ordering.{is_lt, nat_cmp}
-use Rattle.std.specs.Cmp.Lexicographic.{slice_cmp}
 use Rattle.ir_text_tokens.specs.declared.token.Mark.{Mark}
 use Rattle.ir_text_tokens.specs.declared.token.Mark.TheVariants.{OpenRound, OpenCurly, CloseCurly, OpenSquare, CloseSquare, Less, Greater, Equal, Colon, DoubleColon, Minus}
 use Rattle.ir_text_tokens.specs.Tokens.{Lexeme, mark, integer, string, bare, hash, symbol, quoted}
@@ -14,20 +11,19 @@ use Rattle.ir_types.specs.declared.node.Sign.TheVariants.{Signless}
 use Rattle.ir_types.specs.Terms.{TypeTerm, Integer, AttrTerm, IntegerOf, String, TypeOf, Flag, Array, Dictionary, Symbol, DenseArray, Overflow, AttrTerms, no_attrs, next_attr, EntryTerms, no_entries, next_entry}
 use Rattle.ir_types.specs.Readings.{literal_bits, reading_of}
 use Rattle.ir_types.specs.Reasons.{attr_fault}
+use Rattle.ir_tree.specs.Meaning.{key_before}
 use Rattle.ir_text_attributes.specs.declared.flag.Flag as code
-use Rattle.ir_text_reading.specs.Grammars.{Grammar, Then, Done, DoneIf, After, Not, Either, IsMore, IsList, Token, IsMark}
+use Rattle.ir_text_reading.specs.Grammars.{Grammar, Then, Done, DoneIf, When, After, Not, Either, IsMore, IsList, Token, IsMark}
 use Rattle.ir_text_types.specs.TypeReading.{many}
-use Rattle.ir_text_types.specs.TypeGrammar.{Text, IsType}
+use Rattle.ir_text_reading.specs.Typed.{Text}
+use Rattle.ir_text_types.specs.TypeGrammar.{IsType}
 use Rattle.ir_text_attributes.specs.Literals.{Word, Truth, UnitWord, ArrayWord, TypeWord, word_of, truth_bits, overflow_word, none_word, flag_of, has_nsw, has_nuw}
+use Rattle.ir_text_attributes.specs.Keyed.{has_key, in_order}
 pub use Rattle.ir_text_attributes.specs.Elements.{is_bit, element_of}
 
 -- nothing more, where the attribute is one: its number is a value of its type, and it is not too deep
 abbrev pub IsFine : AttrTerm → Grammar Text AttrTerm
 IsFine y = DoneIf (attr_fault y ≡ None) y
-
--- P, where the condition holds
-abbrev pub When : {T B : Type 0} → Type 0 → Grammar T B → Grammar T B
-When F P y old new = F × P y old new
 
 -- a type as an attribute
 abbrev pub IsTypeAttr : ℕ → Grammar Text AttrTerm
@@ -124,20 +120,6 @@ abbrev pub entries_of : List EntryTerm → EntryTerms
 entries_of [] = no_entries
 entries_of (e ∷ es) = next_entry e.0 e.1 (entries_of es)
 
--- an entry among sorted ones, by the bytes of the keys
-abbrev pub placed : EntryTerm → List EntryTerm → List EntryTerm
-placed e [] = e ∷ []
-placed e (f ∷ fs) = if is_lt (slice_cmp nat_cmp e.0 f.0) then e ∷ f ∷ fs else f ∷ placed e fs
-
--- entries in the order of their keys' bytes
-abbrev pub in_order : List EntryTerm → List EntryTerm
-in_order [] = []
-in_order (e ∷ es) = placed e (in_order es)
-
--- whether an entry has the key
-abbrev pub has_key : List ℕ → List EntryTerm → Bool
-has_key k es = list_any (λ e. bytes_eq k e.0) es
-
 abbrev pub IsKey : Grammar Text (List ℕ)
 IsKey k old new = Token (bare k) old new ⊎ ((raw : List ℕ) × Token (string raw) old new × (k ≡ string_bytes raw))
 
@@ -154,11 +136,11 @@ module _ (depth : ℕ) (P : Grammar Text AttrTerm) where
 
   -- an entry whose key does not stand before it
   abbrev pub IsEntry : List EntryTerm → Grammar Text EntryTerm
-  IsEntry before = Then IsKey (λ k. When (has_key k before ≡ false) (Then IsValue (λ a. Done (k, a))))
+  IsEntry before = Then IsKey (λ k. When (has_key bytes_eq k before ≡ false) (Then IsValue (λ a. Done (k, a))))
 
   -- behind the opening brace: at most 256 entries
   unfoldable pub IsDictionary : Grammar Text AttrTerm
-  IsDictionary = Then (IsList IsMark CloseCurly IsEntry 256) (λ es. IsFine (Dictionary (entries_of (in_order es))))
+  IsDictionary = Then (IsList IsMark CloseCurly IsEntry 256) (λ es. IsFine (Dictionary (entries_of (in_order key_before es))))
 
   -- behind the opening bracket
   unfoldable pub IsArray : Grammar Text AttrTerm

@@ -1,6 +1,5 @@
 -- Reading attributes into numbers of a context.
 use Rattle.std.specs.Prelude.{ℕ, zero, suc, nat_eq, Bool, true, false, if◌then◌else◌, List, [], ◌∷◌, ◌++◌, Option, Some, None, ℤ}
-use Rattle.std.specs.List.{list_any}
 use Rattle.std.specs.Str.{bytes_eq}
 use Rattle.ir_text_tokens.specs.declared.token.Mark.{Mark}
 use Rattle.ir_text_tokens.specs.declared.token.Mark.TheVariants.{OpenRound, OpenCurly, CloseCurly, OpenSquare, CloseSquare, Less, Greater, Equal, Colon, DoubleColon, Minus}
@@ -22,6 +21,7 @@ use Rattle.ir_text_reading.specs.Typed.{Typed, after_typed, name_step, attr_step
 use Rattle.ir_text_types.specs.TypeReading.{many, type_done, type_at}
 use Rattle.ir_text_attributes.specs.Literals.{Word, Truth, UnitWord, ArrayWord, TypeWord, word_of, truth_bits, overflow_word, none_word, flag_of, has_nsw, has_nuw}
 use Rattle.ir_text_attributes.specs.Elements.{bits_of, type_of, element_named, is_bit, item_value}
+use Rattle.ir_text_attributes.specs.Keyed.{has_key}
 
 -- a node is interned, and the text stays where it is
 unfoldable pub attr_done : AttrNode → Parse Typed ℕ
@@ -40,8 +40,8 @@ truth_at b s = do
   t ← type_done (type.Int Signless 1) s
   attr_done (attr.Int t.0 (truth_bits b)) t.1
 
-unfoldable pub string_at : List ℕ → Parse Typed ℕ
-string_at raw s = do
+unfoldable pub string_attr_at : List ℕ → Parse Typed ℕ
+string_attr_at raw s = do
   n ← name_step (string_bytes raw) s.1
   attr_done (attr.Str n.0) (s.0, n.1)
 
@@ -127,8 +127,8 @@ unfoldable pub parts_at : ℕ → List ℕ → Parse Typed (List ℕ)
 parts_at zero items s = Wrong
 parts_at (suc room) items s = part_at s >>= λ x. parts_from (parts_at room (items ++ x.0 ∷ [])) (items ++ x.0 ∷ []) x.1 (after_typed DoubleColon x.1)
 
-unfoldable pub symbol_at : Parse Typed ℕ
-symbol_at s = do
+unfoldable pub symbol_attr_at : Parse Typed ℕ
+symbol_attr_at s = do
   ns ← parts_at many [] s
   attr_done (attr.Sym ns.0) ns.1
 
@@ -201,10 +201,6 @@ dense_at s = do
 abbrev pub Entries : Type 0
 Entries = List (ℕ × ℕ)
 
--- whether an entry has the key
-abbrev pub knows_key : ℕ → Entries → Bool
-knows_key k es = list_any (λ e. nat_eq e.0 k) es
-
 abbrev pub key_from : Things → Lexeme → List ℕ → Outcome (ℕ × Typed)
 key_from c (bare w) rest = name_done w (rest, c)
 key_from c (string raw) rest = name_done (string_bytes raw) (rest, c)
@@ -231,7 +227,7 @@ module _ (depth : ℕ) (p : Parse Typed ℕ) where
   unfoldable pub entry_by : Entries → Parse Typed (ℕ × ℕ)
   entry_by before s = do
     k ← key_at s
-    a ← (if knows_key k.0 before then Wrong else value_by k.1)
+    a ← (if has_key nat_eq k.0 before then Wrong else value_by k.1)
     Read ((k.0, a.0), a.1)
 
   -- entries up to the closing brace
@@ -274,9 +270,9 @@ module _ (types depth : ℕ) (p : Parse Typed ℕ) where
   attr_from s (bare w) rest = word_attr types (word_of w) s rest
   attr_from s (mark m) rest = mark_attr m s rest
   attr_from s (integer digits) rest = literal_at false digits (rest, s.1)
-  attr_from s (string raw) rest = string_at raw (rest, s.1)
-  attr_from s (symbol n) rest = symbol_at s
-  attr_from s (quoted raw) rest = symbol_at s
+  attr_from s (string raw) rest = string_attr_at raw (rest, s.1)
+  attr_from s (symbol n) rest = symbol_attr_at s
+  attr_from s (quoted raw) rest = symbol_attr_at s
   attr_from s (hash w) rest = if bytes_eq w overflow_word then overflow_at (rest, s.1) else Wrong
   attr_from s _ rest = Wrong
 

@@ -1,5 +1,6 @@
 pub mod Literals
 pub mod Elements
+pub mod Keyed
 pub mod AttrReading
 pub mod AttrGrammar
 pub mod SingleReading

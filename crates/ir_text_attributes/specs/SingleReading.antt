@@ -6,5 +6,5 @@ use Rattle.ir_text_reading.specs.Marks.{after}
 use Rattle.ir_text_reading.specs.Outcomes.{Outcome, Read, ◌>>=◌, of_option}
 use Rattle.ir_text_attributes.specs.AttrReading.{attr_at}
 
-unfoldable pub single_at : List ℕ → Things → Outcome (ℕ × Things)
-single_at bytes c = attr_at 32 (bytes, c) >>= λ x. of_option (after End x.1.0) >>= λ end. Read (x.0, x.1.1)
+unfoldable pub single_attr_at : List ℕ → Things → Outcome (ℕ × Things)
+single_attr_at bytes c = attr_at 32 (bytes, c) >>= λ x. of_option (after End x.1.0) >>= λ end. Read (x.0, x.1.1)

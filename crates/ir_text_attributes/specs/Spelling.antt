@@ -7,10 +7,10 @@ use Rattle.ir_text_reading.specs.Grammars.{IsMark}
 use Rattle.ir_text_attributes.specs.AttrGrammar.{IsAttr}
 
 -- the text is one attribute of a depth of at most 32 and nothing after it
-unfoldable pub IsSingle : List ℕ → AttrTerm → Type 0
-IsSingle bytes y = (rest end : List ℕ) × IsAttr 32 y bytes rest × IsMark End rest end
+unfoldable pub IsSingleAttr : List ℕ → AttrTerm → Type 0
+IsSingleAttr bytes y = (rest end : List ℕ) × IsAttr 32 y bytes rest × IsMark End rest end
 
 -- a text spells an attribute that stands alone, and passes no limit of a text
 pub record SpellsAttr (bytes : List ℕ) (y : AttrTerm) : Type 0 where
   pub text : text_reason bytes ≡ None
-  pub spelled : IsSingle bytes y
+  pub spelled : IsSingleAttr bytes y

@@ -4,7 +4,7 @@ ghost use Rattle.std.specs.Str.{bytes_eq};
 ghost use Rattle.ir_types.specs.Things.{AttrIsOf, Grows};
 ghost use Rattle.ir_text_reading.specs.Outcomes.{Gives, Wrong};
 ghost use Rattle.ir_text_attributes.specs.Literals.{word_of, overflow_word};
-ghost use Rattle.ir_text_attributes.specs.AttrReading.{attr_done, truth_at, string_at, type_attr_at, overflow_at, word_attr, mark_attr, attr_at};
+ghost use Rattle.ir_text_attributes.specs.AttrReading.{attr_done, truth_at, string_attr_at, type_attr_at, overflow_at, word_attr, mark_attr, attr_at};
 
 use crate::arrays::array;
 use crate::dense::dense;
@@ -70,14 +70,14 @@ fn truth<'a>(
 }
 
 /// A string, by what stands between its quotes (Builtin Dialect, "StringAttr").
-#[tactic(auto, using(ir_types::proofs::Growth::grows_refl, ir_types::proofs::Growth::grows_trans), unfolding(crate::specs::AttrReading::string_at))]
+#[tactic(auto, using(ir_types::proofs::Growth::grows_refl, ir_types::proofs::Growth::grows_trans), unfolding(crate::specs::AttrReading::string_attr_at))]
 fn string<'a>(
     alloc: Global,
     ctx: &mut Context,
     raw: &[u8],
     rest: &'a [u8],
 ) -> Result<(AttrId, &'a [u8]), ReadError>
-    ensures reads { Gives (λ x. (x.0, (x.1.now, ctx.new))) result (string_at raw.now (rest.now, ctx.old)) }
+    ensures reads { Gives (λ x. (x.0, (x.1.now, ctx.new))) result (string_attr_at raw.now (rest.now, ctx.old)) }
     ensures grows { Grows ctx.old ctx.new }
 {
     let text = string_value(alloc, raw)?;

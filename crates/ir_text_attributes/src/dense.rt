@@ -16,10 +16,10 @@ use ir_text_reading::error::{ReadError, wrong};
 use ir_text_reading::steps::{after, expect, token};
 use ir_text_tokens::numbers::integer_value;
 use ir_text_tokens::token::{Mark, Token};
+use ir_text_types::scalars::word_refusal;
 use ir_text_types::types::{self, MANY, token_refusal};
 use ir_types::context::Context;
 use ir_types::ids::AttrId;
-use ir_types::limits::MOST_WIDTH;
 use ir_types::node::{AttrNode, Sign, TypeNode};
 use ir_types::readings::{literal_bits, signed_number};
 use ir_types::refusal::Refusal;
@@ -59,33 +59,6 @@ fn bits_of(element: &Element) -> u32
         Element::I16 => 16,
         Element::I32 => 32,
         Element::I64 => 64,
-    }
-}
-
-/// Whether digits write a width, from 1 to 128.
-fn writes_width(digits: &[u8]) -> bool {
-    match digits {
-        [b'0', ..] => false,
-        _ => match integer_value(digits) {
-            Some(width) => 1 <= width && width <= MOST_WIDTH as u128,
-            None => false,
-        },
-    }
-}
-
-/// Why a word names no element type: an integer type with a bad width, or what is left out.
-fn word_refusal(word: &[u8]) -> Refusal {
-    let digits = match word {
-        [b'i', digits @ ..] => digits,
-        [b's', b'i', digits @ ..] => digits,
-        [b'u', b'i', digits @ ..] => digits,
-        _ => return Refusal::LeftOut,
-    };
-    let all_digits = !digits.is_empty() && digits.iter().all(|digit| digit.is_ascii_digit());
-    if all_digits && !writes_width(digits) {
-        Refusal::BadWidth
-    } else {
-        Refusal::LeftOut
     }
 }
 

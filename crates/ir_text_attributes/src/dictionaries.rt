@@ -1,8 +1,9 @@
 //! Dictionaries. Builtin Dialect, "DictionaryAttr"; Language Reference, "Attributes".
-ghost use Rattle.std.specs.Prelude.{◌≡◌};
+ghost use Rattle.std.specs.Prelude.{◌≡◌, nat_eq};
 ghost use Rattle.ir_types.specs.Things.{Grows};
 ghost use Rattle.ir_text_reading.specs.Outcomes.{Gives};
-ghost use Rattle.ir_text_attributes.specs.AttrReading.{knows_key, key_at, unit_value_at, value_at, entry_by, entries_by, dictionary_by, attr_at};
+ghost use Rattle.ir_text_attributes.specs.Keyed.{has_key};
+ghost use Rattle.ir_text_attributes.specs.AttrReading.{key_at, unit_value_at, value_at, entry_by, entries_by, dictionary_by, attr_at};
 
 use crate::attributes::{attr, kept};
 use crate::symbols::named;
@@ -22,7 +23,7 @@ use std::alloc::Global;
 pub type Entry = (NameId, AttrId);
 
 /// The most entries of a dictionary.
-const MOST_ENTRIES: usize = 256;
+pub const MOST_ENTRIES: usize = 256;
 
 /// The number of a key: a bare identifier or a string.
 ///
@@ -48,8 +49,8 @@ pub fn key<'a>(
 }
 
 /// Whether an entry has the key.
-fn knows_key(key: NameId, entries: &[Entry]) -> bool
-    ensures { result ≡ knows_key key entries.now }
+pub fn has_key(key: NameId, entries: &[Entry]) -> bool
+    ensures { result ≡ has_key nat_eq key entries.now }
 {
     entries.iter().any(|entry| entry.0 == key)
 }
@@ -110,7 +111,7 @@ fn entry<'a>(
         Ok(found) => found,
         Err(e) => return Err(e),
     };
-    if knows_key(key, before) {
+    if has_key(key, before) {
         return Err(ReadError::Refused(wrong(Refusal::DuplicateKey, bytes)));
     }
     let (attr, rest) = match value(alloc, ctx, bytes, rest, depth) {
@@ -130,7 +131,7 @@ fn past_fault(alloc: Global, ctx: &mut Context, before: &[Entry], bytes: &[u8]) 
         Err(ReadError::Refused(fault)) => return fault,
         Err(_) => return wrong(Refusal::TooMany, bytes),
     };
-    let is_known = knows_key(key, before);
+    let is_known = has_key(key, before);
     if is_known {
         return wrong(Refusal::DuplicateKey, bytes);
     }

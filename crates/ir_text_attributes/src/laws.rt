@@ -4,8 +4,10 @@ ghost use Rattle.std.specs.Prelude.{◌≡◌, ◌⊎◌, ℕ, List};
 ghost use Rattle.ir_types.specs.Sound.{IsSound};
 ghost use Rattle.ir_types.specs.Terms.{AttrTerm, attr_term};
 ghost use Rattle.ir_types.specs.Things.{Things, Grows, IsAttr as IsAttrOf};
-ghost use Rattle.ir_text_attributes.specs.AttrGrammar.{IsAttr};
+ghost use Rattle.ir_tree.specs.Meaning.{key_before};
+ghost use Rattle.ir_text_attributes.specs.AttrGrammar.{EntryTerm, IsAttr};
 ghost use Rattle.ir_text_attributes.specs.AttrReading.{attr_at};
+ghost use Rattle.ir_text_attributes.specs.Keyed.{IsInOrder, in_order};
 ghost use Rattle.ir_text_reading.specs.Outcomes.{Read, Full};
 ghost use Rattle.ir_text_reading.specs.Standing.{AttrStands};
 
@@ -19,4 +21,10 @@ pub fn attributes_are_read_as_spelled()
 /// A text spells at most one attribute at its front, and leaves one rest.
 pub fn attributes_have_one_reading()
     ensures { (depth : ℕ) (bytes rest other : List ℕ) (y z : AttrTerm) → IsAttr depth y bytes rest → IsAttr depth z bytes other → (y ≡ z) × (rest ≡ other) }
+{}
+
+/// Entries in order are those that were given, and where no two of these have one key, each key comes before
+/// the next one, byte by byte.
+pub fn entries_are_put_in_order()
+    ensures { (es : List EntryTerm) → IsInOrder es (in_order key_before es) }
 {}

@@ -4,15 +4,13 @@ ghost use Rattle.ir_types.specs.Things.{Grows};
 ghost use Rattle.ir_text_tokens.specs.declared.fault.Fault.{Fault as TextFault};
 ghost use Rattle.ir_text_reading.specs.Laws.{IsFull};
 ghost use Rattle.ir_text_reading.specs.Outcomes.{Gives};
-ghost use Rattle.ir_text_attributes.specs.SingleReading.{single_at};
+ghost use Rattle.ir_text_attributes.specs.SingleReading.{single_attr_at};
 ghost use Rattle.ir_text_attributes.specs.Spelling.{SpellsAttr};
 ghost use Rattle.ir_text_attributes.specs.Claims.{IsOnlyAttr, IsNoAttr};
 
 use crate::attributes::attr;
-use ir_text_reading::error::ReadError;
+use ir_text_reading::error::{ReadError, within_limits};
 use ir_text_reading::steps::expect;
-use ir_text_tokens::fault::Fault;
-use ir_text_tokens::limits::check_text;
 use ir_text_tokens::token::Mark;
 use ir_text_types::full::told;
 use ir_text_types::types::MOST_DEPTH;
@@ -21,9 +19,9 @@ use ir_types::ids::AttrId;
 use std::alloc::Global;
 
 /// The attribute of a text in which nothing stands after it.
-#[tactic(auto, using(ir_types::proofs::Growth::grows_refl, ir_types::proofs::Growth::grows_trans), unfolding(crate::specs::SingleReading::single_at))]
+#[tactic(auto, using(ir_types::proofs::Growth::grows_refl, ir_types::proofs::Growth::grows_trans), unfolding(crate::specs::SingleReading::single_attr_at))]
 fn single(alloc: Global, ctx: &mut Context, bytes: &[u8]) -> Result<AttrId, ReadError>
-    ensures reads { Gives (λ n. (n, ctx.new)) result (single_at bytes.now ctx.old) }
+    ensures reads { Gives (λ n. (n, ctx.new)) result (single_attr_at bytes.now ctx.old) }
     ensures grows { Grows ctx.old ctx.new }
 {
     let (id, rest) = match attr(alloc, ctx, bytes, MOST_DEPTH) {
@@ -43,12 +41,9 @@ fn attr_of_text(alloc: Global, ctx: &mut Context, bytes: &[u8]) -> Result<AttrId
     ensures grows { Grows ctx.old ctx.new }
     ensures refused { (f : TextFault) → result ≡ Err (ReadError.Refused f) → IsNoAttr (SpellsAttr bytes.now) }
 {
-    match check_text(bytes) {
+    match within_limits(bytes) {
         Ok(()) => {}
-        Err((refusal, offset)) => {
-            let left = bytes.len().saturating_sub(offset);
-            return Err(ReadError::Refused(Fault { refusal, left }));
-        }
+        Err(error) => return Err(error),
     }
     ctx.sound();
     match single(alloc, ctx, bytes) {

@@ -3,7 +3,7 @@ ghost use Rattle.std.specs.Prelude.{◌≡◌, []};
 ghost use Rattle.ir_types.specs.Things.{Grows};
 ghost use Rattle.ir_text_reading.specs.Outcomes.{Gives};
 ghost use Rattle.ir_text_types.specs.TypeReading.{many};
-ghost use Rattle.ir_text_attributes.specs.AttrReading.{name_done, part_at, parts_at, symbol_at};
+ghost use Rattle.ir_text_attributes.specs.AttrReading.{name_done, part_at, parts_at, symbol_attr_at};
 
 use crate::attributes::kept;
 use ir_items::lists::Items;
@@ -80,13 +80,13 @@ fn parts<'a>(
 }
 
 /// A symbol reference: `@a`, `@a::@b` and so on.
-#[tactic(auto, using(ir_types::proofs::Growth::grows_refl, ir_types::proofs::Growth::grows_trans), unfolding(crate::specs::AttrReading::symbol_at))]
+#[tactic(auto, using(ir_types::proofs::Growth::grows_refl, ir_types::proofs::Growth::grows_trans), unfolding(crate::specs::AttrReading::symbol_attr_at))]
 pub(crate) fn symbol<'a>(
     alloc: Global,
     ctx: &mut Context,
     bytes: &'a [u8],
 ) -> Result<(AttrId, &'a [u8]), ReadError>
-    ensures reads { Gives (λ x. (x.0, (x.1.now, ctx.new))) result (symbol_at (bytes.now, ctx.old)) }
+    ensures reads { Gives (λ x. (x.0, (x.1.now, ctx.new))) result (symbol_attr_at (bytes.now, ctx.old)) }
     ensures grows { Grows ctx.old ctx.new }
 {
     ctx.sound();

@@ -18,8 +18,8 @@ use Rattle.ir_text_names.specs.declared.lists.Behind.TheVariants.{End, More}
 use Rattle.ir_text_names.specs.Alike.{IsAlike}
 use Rattle.ir_text_names.specs.ListSteps.{IsBehind}
 use Rattle.ir_text_names.specs.States.{State, to_bytes, after_in, typed, with_typed, with_scopes}
-use Rattle.ir_text_names.specs.NameReading.{name_at}
-use Rattle.ir_text_names.specs.BlockReading.{bind, arg_named, arg_at, colon_type_at}
+use Rattle.ir_text_names.specs.NameReading.{value_name_at}
+use Rattle.ir_text_names.specs.BlockReading.{bind, arg_behind_name, arg_at, colon_type_at}
 use Rattle.ir_text_names.proofs.ItemSteps.{BehindIn}
 
 -- an error alike fails where the other does
@@ -45,15 +45,15 @@ module _ (id r : ℕ) (before : List ℕ) (s : State) where
   colon_same n (Some rest) = refl
   colon_same n None = refl
 
-  named_same : (n : List ℕ × List ℕ) → arg_named id r (length before) (to_bytes s n.1) n.0 ≡ from_type n
+  named_same : (n : List ℕ × List ℕ) → arg_behind_name id r (length before) (to_bytes s n.1) n.0 ≡ from_type n
   unfolding colon_type_at
   named_same n = colon_same n (after Colon n.1)
 
-  pub no_name : (e : ReadError) → Fails e (name_at s.bytes) → Fails e (arg_at id r before s)
+  pub no_name : (e : ReadError) → Fails e (value_name_at s.bytes) → Fails e (arg_at id r before s)
   unfolding arg_at
-  no_name e f = fails_with e (name_at s.bytes) (arg_at id r before s) (λ none. rw none refl) (λ none. rw none refl) f
+  no_name e f = fails_with e (value_name_at s.bytes) (arg_at id r before s) (λ none. rw none refl) (λ none. rw none refl) f
 
-  module _ (n : List ℕ × List ℕ) (name : name_at s.bytes ≡ Read n) where
+  module _ (n : List ℕ × List ℕ) (name : value_name_at s.bytes ≡ Read n) where
     named : arg_at id r before s ≡ from_type n
     unfolding arg_at
     named = rw name (named_same n)

@@ -7,7 +7,8 @@ use Rattle.ir_text_reading.specs.Marks.{after}
 use Rattle.ir_text_reading.specs.Outcomes.{Outcome, Read, Wrong, Full, ◌>>=◌}
 use Rattle.ir_text_reading.proofs.Worlds.{bind_read}
 use Rattle.ir_text_names.specs.Packs.{Counted, counts}
-use Rattle.ir_text_names.specs.NameReading.{Text, name_at, some_count, within, count_at, result_at}
+use Rattle.ir_text_reading.specs.Typed.{Text}
+use Rattle.ir_text_names.specs.NameReading.{value_name_at, some_count, count_within, count_at, result_at}
 
 -- one name more
 pub counts_push : (ns : List Counted) (n : Counted) → counts (ns ++ n ∷ []) ≡ counts ns + n.1
@@ -27,9 +28,9 @@ count_read Full = 0
 pub result_fits : (before : ℕ) (s : Text) (n : Counted) (s' : Text) → result_at before s ≡ Read (n, s') → before + n.1 ≤ 256
 unfolding result_at count_at
 result_fits before s n s' e =
-    let a = bind_read (name_at s) (λ m. count_at before m.1 >>= λ k. Read ((m.0, k.0), k.1)) (n, s') e in
+    let a = bind_read (value_name_at s) (λ m. count_at before m.1 >>= λ k. Read ((m.0, k.0), k.1)) (n, s') e in
     let b = bind_read (count_at before a.0.1) (λ k. Read ((a.0.0, k.0), k.1)) (n, s') a.2 in
-    let w = bind_read (some_count a.0.1 (after Colon a.0.1)) (within before) b.0 b.1 in
+    let w = bind_read (some_count a.0.1 (after Colon a.0.1)) (count_within before) b.0 b.1 in
     let r = if_read (nat_le (before + w.0.0) 256) w.0 b.0 w.2 in
     let low : before + w.0.0 ≤ 256 = leb-true (before + w.0.0) 256 r.0 in
     let first : w.0.0 ≡ b.0.0 = ap (λ (q : ℕ × Text). q.0) r.1 in

@@ -10,7 +10,7 @@ use Rattle.ir_text_reading.specs.Typed.{Typed, after_typed}
 use Rattle.ir_text_types.specs.TypeReading.{type_at}
 use Rattle.ir_text_names.specs.declared.bound.Bound.{Bound}
 use Rattle.ir_text_names.specs.States.{State, to_bytes, after_in, typed, with_typed, with_scopes, inside}
-use Rattle.ir_text_names.specs.NameReading.{name_at}
+use Rattle.ir_text_names.specs.NameReading.{value_name_at}
 use Rattle.ir_text_names.specs.Packs.{Counted, counts}
 
 -- ---- names
@@ -40,8 +40,8 @@ finish id (Some names) outputs s = if counts names == length outputs then bind_r
 unfoldable pub colon_type_at : Parse Typed ℕ
 colon_type_at s = of_option (after_typed Colon s) >>= type_at 32
 
-abbrev pub arg_named : ℕ → ℕ → ℕ → State → List ℕ → Outcome (ℕ × State)
-arg_named id r k s name = do
+abbrev pub arg_behind_name : ℕ → ℕ → ℕ → State → List ℕ → Outcome (ℕ × State)
+arg_behind_name id r k s name = do
   c ← of_option (after_in Colon s)
   y ← type_at 32 (typed c)
   scopes ← bind name ((record { value = values.Arg id r k; ty = y.0 }) ∷ []) s.scopes
@@ -49,7 +49,7 @@ arg_named id r k s name = do
 
 -- an argument, bound as it is read
 unfoldable pub arg_at : ℕ → ℕ → List ℕ → Parse State ℕ
-arg_at id r before s = name_at s.bytes >>= λ n. arg_named id r (length before) (to_bytes s n.1) n.0
+arg_at id r before s = value_name_at s.bytes >>= λ n. arg_behind_name id r (length before) (to_bytes s n.1) n.0
 
 unfoldable pub args_at : ℕ → ℕ → Parse State (List ℕ)
 args_at id r = list_at after_in CloseRound (arg_at id r) 256

@@ -6,45 +6,43 @@ use Rattle.ir_text_tokens.specs.Numbers.{integer_of}
 use Rattle.ir_text_reading.specs.Marks.{after}
 use Rattle.ir_text_reading.specs.Outcomes.{Outcome, Read, Wrong, ◌>>=◌, of_option, Parse}
 use Rattle.ir_text_reading.specs.Lists.{more_at}
+use Rattle.ir_text_reading.specs.Typed.{Text}
 use Rattle.ir_text_names.specs.Packs.{Counted, counts}
-
-abbrev pub Text : Type 0
-Text = List ℕ
 
 abbrev pub name_from : Lexeme → List ℕ → Outcome (List ℕ × Text)
 name_from (value n) rest = Read (n, rest)
 name_from _ rest = Wrong
 
 -- a name behind its sign
-unfoldable pub name_at : Parse Text (List ℕ)
-name_at bytes = of_option (next bytes) >>= λ t. name_from t.0 t.1
+unfoldable pub value_name_at : Parse Text (List ℕ)
+value_name_at bytes = of_option (next bytes) >>= λ t. name_from t.0 t.1
 
 abbrev pub number_from : Lexeme → List ℕ → Outcome (ℕ × Text)
 number_from (integer digits) rest = if nat_le 1 (integer_of digits) then Read (integer_of digits, rest) else Wrong
 number_from _ rest = Wrong
 
 -- a number that isn't 0
-unfoldable pub number_at : Parse Text ℕ
-number_at bytes = of_option (next bytes) >>= λ t. number_from t.0 t.1
+unfoldable pub nonzero_at : Parse Text ℕ
+nonzero_at bytes = of_option (next bytes) >>= λ t. number_from t.0 t.1
 
 abbrev pub some_count : Text → Option Text → Outcome (ℕ × Text)
-some_count bytes (Some c) = number_at c
+some_count bytes (Some c) = nonzero_at c
 some_count bytes None = Read (1, bytes)
 
-abbrev pub within : ℕ → ℕ × Text → Outcome (ℕ × Text)
-within before k = if nat_le (before + k.0) 256 then Read k else Wrong
+abbrev pub count_within : ℕ → ℕ × Text → Outcome (ℕ × Text)
+count_within before k = if nat_le (before + k.0) 256 then Read k else Wrong
 
 -- the count behind a colon, behind names of so many results
 abbrev pub written_at : ℕ → Parse Text ℕ
-written_at before bytes = number_at bytes >>= within before
+written_at before bytes = nonzero_at bytes >>= count_within before
 
 -- for how many results a name stands, behind names of so many: 1 where no count stands
 unfoldable pub count_at : ℕ → Parse Text ℕ
-count_at before bytes = some_count bytes (after Colon bytes) >>= within before
+count_at before bytes = some_count bytes (after Colon bytes) >>= count_within before
 
 unfoldable pub result_at : ℕ → Parse Text Counted
 result_at before bytes = do
-  n ← name_at bytes
+  n ← value_name_at bytes
   k ← count_at before n.1
   Read ((n.0, k.0), k.1)
 

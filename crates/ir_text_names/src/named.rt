@@ -3,7 +3,7 @@ ghost use Rattle.std.specs.Prelude.{◌≡◌, ◌+◌, ◌≤◌, [], map, opti
 ghost use Rattle.ir_text_tokens.specs.Numbers.{integer_of};
 ghost use Rattle.ir_text_reading.specs.Outcomes.{Gives};
 ghost use Rattle.ir_text_names.specs.Packs.{named_view};
-ghost use Rattle.ir_text_names.specs.NameReading.{name_at, written_at, count_at, result_at, names_at, results_at};
+ghost use Rattle.ir_text_names.specs.NameReading.{value_name_at, written_at, count_at, result_at, names_at, results_at};
 
 use crate::lists::{Behind, behind_item};
 use ir_text_reading::error::{ReadError, wrong};
@@ -23,9 +23,9 @@ pub struct Named<'a> {
 }
 
 /// A name behind its sign.
-#[tactic(auto, unfolding(crate::specs::NameReading::name_at))]
+#[tactic(auto, unfolding(crate::specs::NameReading::value_name_at))]
 pub fn name(bytes: &[u8]) -> Result<(&[u8], &[u8]), ReadError>
-    ensures { Gives (λ x. (x.0.now, x.1.now)) result (name_at bytes.now) }
+    ensures { Gives (λ x. (x.0.now, x.1.now)) result (value_name_at bytes.now) }
 {
     match token(bytes) {
         Ok((Token::Value(name), rest)) => Ok((name, rest)),
@@ -66,7 +66,7 @@ fn count_refusal(digits: &[u8]) -> Refusal {
 /// The count behind a colon.
 ///
 /// Refusals: `BadValue` at 0, `TooMany` where it passes 256 with those before, `Unexpected`.
-#[tactic(auto, unfolding(crate::specs::NameReading::number_at))]
+#[tactic(auto, unfolding(crate::specs::NameReading::nonzero_at))]
 fn written_count(bytes: &[u8], before: u32) -> Result<(u32, &[u8]), ReadError>
     requires { before ≤ 256 }
     ensures { Gives (λ x. (x.0, x.1.now)) result (written_at before bytes.now) }

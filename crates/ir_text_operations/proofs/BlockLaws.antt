@@ -24,16 +24,16 @@ use Rattle.ir_text_reading.specs.Grammars.{Grammar, Then, Done, After, Not, Eith
 use Rattle.ir_text_reading.specs.Lists.{more_at}
 use Rattle.ir_text_types.specs.TypeReading.{type_at}
 use Rattle.ir_text_types.specs.TypeGrammar.{IsType}
-use Rattle.ir_text_reading.specs.Typed.{Typed}
+use Rattle.ir_text_reading.specs.Typed.{Text, Typed}
 use Rattle.ir_text_reading.specs.Worlds.{From}
 use Rattle.ir_text_reading.specs.Standing.{TypeStands}
 use Rattle.ir_text_reading.specs.Laws.{Each}
 use Rattle.ir_text_reading.proofs.Worlds.{bind_assoc, later, Exact, exact_where, exact_spelled, then_exact, done_exact, after_exact, either_exact, list_exact}
 use Rattle.ir_text_types.proofs.TypeLaws.{type_exact}
 use Rattle.ir_text_names.specs.States.{State, to_bytes, after_in, typed, with_typed, with_scopes, inside, outside}
-use Rattle.ir_text_names.specs.NameReading.{Text, name_at}
+use Rattle.ir_text_names.specs.NameReading.{value_name_at}
 use Rattle.ir_text_operations.specs.Made.{region_of}
-use Rattle.ir_text_names.specs.BlockReading.{bind, arg_named, arg_at, args_at, label_args_from, label_args_at, head_from, head_at}
+use Rattle.ir_text_names.specs.BlockReading.{bind, arg_behind_name, arg_at, args_at, label_args_from, label_args_at, head_from, head_at}
 use Rattle.ir_text_operations.specs.OpReading.{ops_from, ops_at, region_at, regions_from, regions_at}
 use Rattle.ir_text_operations.specs.Seen.{PackTerm, Seen, seen_scopes, seen_inside, seen_outside, IsMarkSeen, InText, IsBound}
 use Rattle.ir_text_operations.specs.OpGrammar.{IsName, IsArg, IsLabelArgs, IsHeadFrom, IsHead, IsOps, RegionTerm, IsRegion, IsRegions}
@@ -53,7 +53,7 @@ arg_type id r k n s = in_typed (type_at 32) s >>= λ y. binding id r k n y.0 y.1
 abbrev arg_rest : ℕ → ℕ → ℕ → List ℕ → State → Outcome (ℕ × State)
 arg_rest id r k n s = of_option (after_in Colon s) >>= arg_type id r k n
 
-named_same : (id r k : ℕ) (n : List ℕ) (s : State) → arg_named id r k s n ≡ arg_rest id r k n s
+named_same : (id r k : ℕ) (n : List ℕ) (s : State) → arg_behind_name id r k s n ≡ arg_rest id r k n s
 named_same id r k n s = by_rest (after Colon s.bytes)
   where
     put : Text → ℕ × Typed → Outcome (ℕ × State)
@@ -66,13 +66,13 @@ named_same id r k n s = by_rest (after Colon s.bytes)
     by_rest (Some rest) = sym (bind_assoc (type_at 32 (rest, s.things)) (λ x. Read (x.0, with_typed (to_bytes s rest) x.1)) (λ y. binding id r k n y.0 y.1))
 
 abbrev arg_in : ℕ → ℕ → ℕ → State → Outcome (ℕ × State)
-arg_in id r k s = in_text name_at s >>= λ n. arg_rest id r k n.0 n.1
+arg_in id r k s = in_text value_name_at s >>= λ n. arg_rest id r k n.0 n.1
 
 arg_same : (id r : ℕ) (before : List ℕ) (s : State) → arg_at id r before s ≡ arg_in id r (length before) s
 unfolding arg_at
 arg_same id r before s =
-    (λ i. name_at s.bytes >>= λ n. named_same id r (length before) n.0 (to_bytes s n.1) i)
-    ∙ sym (bind_assoc (name_at s.bytes) (λ n. Read (n.0, to_bytes s n.1)) (λ n. arg_rest id r (length before) n.0 n.1))
+    (λ i. value_name_at s.bytes >>= λ n. named_same id r (length before) n.0 (to_bytes s n.1) i)
+    ∙ sym (bind_assoc (value_name_at s.bytes) (λ n. Read (n.0, to_bytes s n.1)) (λ n. arg_rest id r (length before) n.0 n.1))
 
 abbrev Binds : ℕ → ℕ → ℕ → List ℕ → TypeTerm → Grammar Seen TypeTerm
 Binds id r k n t y old new = (scopes : Scopes PackTerm) × IsBound n ((record { value = values.Arg id r k; type = t }) ∷ []) old.scopes scopes × (y ≡ t) × (new ≡ seen_scopes old scopes)
@@ -86,8 +86,8 @@ bound_exact id r k j n m y t c place same stands =
 arg_exact : (id r : ℕ) (c : Things) (xs : List ℕ) (ys : List TypeTerm) → length xs ≡ length ys → Exact held StateStands c TypeStands (arg_at id r xs) (IsArg id r ys)
 arg_exact id r c xs ys len =
     exact_where held StateStands c TypeStands (arg_at id r xs) (arg_in id r (length xs)) (IsArg id r ys) (λ s g sound. arg_same id r xs s)
-    (then_exact held StateStands c Equals TypeStands (in_text name_at) (InText IsName) (λ n. arg_rest id r (length xs) n) (λ n. After IsMarkSeen Colon (Then (InText (IsType 32)) (λ t. Binds id r (length ys) n t)))
-    (text_exact c Equals name_at IsName (λ d g. name_exact d)) (λ d n n' g same.
+    (then_exact held StateStands c Equals TypeStands (in_text value_name_at) (InText IsName) (λ n. arg_rest id r (length xs) n) (λ n. After IsMarkSeen Colon (Then (InText (IsType 32)) (λ t. Binds id r (length ys) n t)))
+    (text_exact c Equals value_name_at IsName (λ d g. name_exact d)) (λ d n n' g same.
     after_exact held StateStands after_in IsMarkSeen state_marks d TypeStands Colon (arg_type id r (length xs) n) (Then (InText (IsType 32)) (λ t. Binds id r (length ys) n' t))
     (then_exact held StateStands d TypeStands TypeStands (in_typed (type_at 32)) (InText (IsType 32)) (λ y. binding id r (length xs) n y) (λ t. Binds id r (length ys) n' t) (typed_exact d TypeStands (type_at 32) (IsType 32) (type_exact 32 d)) (λ e y t h stands.
     begin_exact held StateStands e TypeStands (λ s. binding id r (length xs) n y) (λ u. Binds id r (length ys) n' t) (λ s u up sound now. bound_exact id r (length xs) (length ys) n n' y t s.things len (same s.things (grows_trans d e s.things h up) sound) (later (λ z. TypeStands z y t) e s.things up stands))))))

@@ -3,30 +3,27 @@ use Rattle.std.specs.Prelude.{if◌then◌else◌, nat_eq, nat_le, not, ◌||◌
 use Rattle.std.specs.List.{list_any, filter}
 use Rattle.std.specs.Str.{bytes_eq}
 use Rattle.std.proofs.Common.{◌≡◌, ◌+◌, ℕ, suc, Bool, true, false, true≢false, cond, List, [], ◌∷◌, length, Option, Some, None, refl, sym, ap, subst, ◌∙◌}
-use Rattle.std.proofs.lemmas.Bool.{eqb-true, eq-eqb}
 use Rattle.ir_text_tokens.specs.declared.token.Mark.TheVariants.{OpenCurly, CloseCurly, Less, Greater}
 use Rattle.ir_types.specs.Things.{Things, Grows}
 use Rattle.ir_types.specs.Terms.{name_term}
 use Rattle.ir_types.specs.Words.{is_inherent}
 use Rattle.ir_types.specs.Sound.{IsSound}
-use Rattle.ir_types.proofs.Growth.{grows_trans, name_is, name_refl}
-use Rattle.ir_types.proofs.Terms.{name_term_one}
+use Rattle.ir_types.proofs.Growth.{grows_trans}
 use Rattle.ir_text_reading.specs.Outcomes.{Outcome, Read, Wrong, ◌>>=◌}
-use Rattle.ir_text_reading.specs.Grammars.{Then, Done, After, IsMark}
+use Rattle.ir_text_reading.specs.Grammars.{When, Then, Done, After, IsMark}
 use Rattle.ir_text_reading.specs.Typed.{Typed, after_typed}
-use Rattle.ir_text_attributes.specs.AttrReading.{key_at, value_at, attr_at}
+use Rattle.ir_text_attributes.specs.AttrReading.{Entries, key_at, value_at, attr_at}
 use Rattle.ir_text_attributes.specs.AttrGrammar.{EntryTerm, IsKey, IsAttr}
 use Rattle.ir_text_reading.specs.Worlds.{From}
 use Rattle.ir_text_reading.specs.Standing.{NameStands, AttrStands}
 use Rattle.ir_text_reading.specs.Laws.{Each}
 use Rattle.ir_text_reading.proofs.Worlds.{Exact, exact_where, exact_spelled, nothing_exact, then_exact, done_exact, after_exact, either_exact}
 use Rattle.ir_text_reading.proofs.TextLaws.{things, Same, typed_marks}
-use Rattle.ir_text_attributes.proofs.PartLaws.{key_exact, value_exact}
+use Rattle.ir_text_attributes.proofs.PartLaws.{keys_agree, key_exact, value_exact}
 use Rattle.ir_text_attributes.proofs.AttrLaws.{attr_exact}
 use Rattle.ir_text_operations.specs.Entries.{moved, staying, is_refused}
-use Rattle.ir_text_operations.specs.EntryReading.{Entries, is_property_in, refused_in, entry_at, entries_at, some_properties, properties_from, properties_at, attributes_from, attributes_at}
-use Rattle.ir_text_operations.specs.Seen.{When}
-use Rattle.ir_text_operations.specs.OpGrammar.{is_property, IsEntryValue, IsEntry, IsEntries, IsProperties, IsAttributes}
+use Rattle.ir_text_operations.specs.EntryReading.{is_property_in, refused_in, entry_at, entries_at, some_properties, properties_from, properties_at, attributes_from, attributes_at}
+use Rattle.ir_text_operations.specs.OpGrammar.{is_property, IsEntryValue, IsOpEntry, IsEntries, IsProperties, IsAttributes}
 use Rattle.ir_text_operations.specs.Standing.{Both, EntryStands}
 use Rattle.ir_text_operations.proofs.FrontLaws.{items_exact}
 
@@ -59,19 +56,6 @@ module _ {A B : Type 0} (R : Things → A → B → Type 0) (z : Things) where
         by_test rest false false e = rest
 
 -- ---- keys
-
-tests_agree : (a b : Bool) → (a ≡ true → b ≡ true) → (b ≡ true → a ≡ true) → a ≡ b
-tests_agree true true f g = refl
-tests_agree true false f g = sym (f refl)
-tests_agree false true f g = g refl
-tests_agree false false f g = refl
-
--- names of a sound context are equal exactly where their bytes are
-keys_agree : (z : Things) → IsSound z → (k l : ℕ) (x y : List ℕ) → NameStands z k x → NameStands z l y → nat_eq k l ≡ bytes_eq x y
-keys_agree z sound k l x y h j =
-    tests_agree (nat_eq k l) (bytes_eq x y)
-    (λ e. subst (λ w. bytes_eq x w ≡ true) (sym h.1 ∙ ap (name_term z) (eqb-true k l e) ∙ j.1) (name_refl x))
-    (λ e. eq-eqb k l (name_term_one z k l sound h.0 j.0 (h.1 ∙ name_is x y e ∙ sym j.1)))
 
 pub property_agrees : (z : Things) (op : Option ℕ) (name : Option (List ℕ)) (k : ℕ) (y : List ℕ) → Both NameStands z op name → name_term z k ≡ y → is_property_in z op k ≡ is_property name y
 property_agrees z None None k y h e = refl
@@ -111,7 +95,7 @@ module _ (d : Things) (k : ℕ) (y : List ℕ) (stands : From (λ z. NameStands 
       done_exact things Same e EntryStands (k, a) (y, v) (λ z j w. (stands z (grows_trans d e z g j) w, r z j w))))
 
 module _ (base : Things) (op : Option ℕ) (name : Option (List ℕ)) (ps : Entries) (qs : List EntryTerm) (names : From (λ z. Both NameStands z op name) base) (before : From (λ z. Each EntryStands z ps qs) base) where
-  entry_exact : (c : Things) (es : Entries) (fs : List EntryTerm) → Grows base c → From (λ z. Each EntryStands z es fs) c → Exact things Same c EntryStands (entry_at op ps es) (IsEntry name qs fs)
+  entry_exact : (c : Things) (es : Entries) (fs : List EntryTerm) → Grows base c → From (λ z. Each EntryStands z es fs) c → Exact things Same c EntryStands (entry_at op ps es) (IsOpEntry name qs fs)
   unfolding entry_at
   entry_exact c es fs b front =
       then_exact things Same c NameStands EntryStands key_at IsKey (λ k s. with_value k (if refused_in s.1 op ps k es then Wrong else value_at 32 s)) (λ y. When (is_refused bytes_eq (is_property name) qs y fs ≡ false) (Then IsEntryValue (λ a. Done (y, a))))
@@ -125,7 +109,7 @@ module _ (base : Things) (op : Option ℕ) (name : Option (List ℕ)) (ps : Entr
 
   entries_exact : Exact things Same base (Each EntryStands) (entries_at op ps) (IsEntries name qs)
   unfolding entries_at
-  entries_exact = items_exact things Same base after_typed IsMark typed_marks EntryStands CloseCurly (entry_at op ps) (IsEntry name qs) entry_exact 513
+  entries_exact = items_exact things Same base after_typed IsMark typed_marks EntryStands CloseCurly (entry_at op ps) (IsOpEntry name qs) entry_exact 513
 
 -- ---- both dictionaries
 

@@ -17,17 +17,18 @@ use Rattle.ir_types.proofs.Growth.{grows_refl, grows_trans}
 use Rattle.ir_text_reading.specs.Marks.{after}
 use Rattle.ir_text_reading.specs.Outcomes.{Outcome, Read, Wrong, ◌>>=◌, of_option, Parse}
 use Rattle.ir_text_reading.specs.Lists.{more_at, list_at}
-use Rattle.ir_text_reading.specs.Grammars.{Grammar, Then, Done, Not, Either, IsMore, IsList, Token, IsMark}
+use Rattle.ir_text_reading.specs.Grammars.{When, Grammar, Then, Done, Not, Either, IsMore, IsList, Token, IsMark}
 use Rattle.ir_text_reading.specs.Worlds.{From}
 use Rattle.ir_text_reading.specs.Laws.{Each}
 use Rattle.ir_text_reading.proofs.Worlds.{bind_assoc, option_read, later, Agree, Exact, Step, Reads, Marks, step_on, reads_on, exact_where, exact_spelled, exact_for, nothing_exact, choice_exact, guard_exact, then_exact, done_exact, after_exact, either_exact, more_exact, list_exact}
 use Rattle.ir_text_reading.proofs.TextLaws.{after_found, after_only, after_none, none_after}
 use Rattle.ir_text_names.specs.declared.bound.Bound.{Bound}
-use Rattle.ir_text_names.specs.NameReading.{Text, name_from, name_at, number_from, number_at, some_count, count_at, result_at, names_at, results_from, results_at}
+use Rattle.ir_text_reading.specs.Typed.{Text}
+use Rattle.ir_text_names.specs.NameReading.{name_from, value_name_at, number_from, nonzero_at, some_count, count_at, result_at, names_at, results_from, results_at}
 use Rattle.ir_text_operations.specs.FrontReading.{Frees, member_of, op_name_from, op_name_at, place_of, place_from, place_at, member_at, use_from, use_at, uses_at, start_at}
 use Rattle.ir_text_operations.specs.Free.{seen_as}
 use Rattle.ir_text_names.specs.Packs.{counts}
-use Rattle.ir_text_operations.specs.Seen.{BoundTerm, PackTerm, When}
+use Rattle.ir_text_operations.specs.Seen.{BoundTerm, PackTerm}
 use Rattle.ir_text_operations.specs.OpGrammar.{FreeTerms, IsName, IsNumber, IsCount, IsResult, IsNames, IsResultsFrom, IsResults, IsOpName, IsPlace, IsUse, IsStart}
 use Rattle.ir_text_operations.specs.Standing.{Equals, Both, BoundStands, PackStands, HereStands, FreeStands, StartStands}
 
@@ -212,10 +213,10 @@ name_into y t t' k = by_token k.0 k.1 k.2 k.3
     by_token (value n) rest token k = rw (k.0, k.1) token
     by_token _ rest token k = absurd k
 
-pub name_exact : (c : Things) → Plain c Equals name_at IsName
-unfolding name_at
+pub name_exact : (c : Things) → Plain c Equals value_name_at IsName
+unfolding value_name_at
 name_exact c =
-    exact_spelled (known c) SameText c Equals name_at (λ y old new. (l : Lexeme) × (rest : Text) × Token l old rest × NameFrom l rest y old new) IsName name_into (λ y t t' k. (value y, t', k, (refl, refl)))
+    exact_spelled (known c) SameText c Equals value_name_at (λ y old new. (l : Lexeme) × (rest : Text) × Token l old rest × NameFrom l rest y old new) IsName name_into (λ y t t' k. (value y, t', k, (refl, refl)))
     (plain_token c Equals (λ s. name_from) NameFrom (name_from_exact c))
 
 pub each_equal : {A : Type 0} (z : Things) (xs ys : List A) → Each Equals z xs ys → xs ≡ ys
@@ -244,8 +245,8 @@ pair k s = (k, s)
 pair_parts : (k n : ℕ) (s t : Text) → pair k s ≡ pair n t → (k ≡ n) × (s ≡ t)
 pair_parts k n s t e = (ap (λ (q : ℕ × Text). q.0) e, ap (λ (q : ℕ × Text). q.1) e)
 
-number_found : (s : Text) (k : ℕ) (s' : Text) → number_at s ≡ Read (k, s') → IsNumber k s s'
-unfolding number_at
+number_found : (s : Text) (k : ℕ) (s' : Text) → nonzero_at s ≡ Read (k, s') → IsNumber k s s'
+unfolding nonzero_at
 number_found s k s' e =
     let b = option_read (next s) (λ t. number_from t.0 t.1) (k, s') e in
     by_token b.0.0 b.0.1 b.1 b.2
@@ -258,14 +259,14 @@ number_found s k s' e =
         (digits, subst (λ r. Token (integer digits) s r) same.1 token, sym same.0, subst (λ n. 1 ≤ n) same.0 low)
     by_token _ rest token e = absurd cc
 
-number_only : (s : Text) (k : ℕ) (s' : Text) → IsNumber k s s' → number_at s ≡ Read (k, s')
-unfolding number_at
+number_only : (s : Text) (k : ℕ) (s' : Text) → IsNumber k s s' → nonzero_at s ≡ Read (k, s')
+unfolding nonzero_at
 number_only s k s' h =
     let low : nat_le 1 (integer_of h.0) ≡ true = le-leb 1 (integer_of h.0) (subst (λ n. 1 ≤ n) h.2 h.3) in
     rw (h.1, low, h.2) refl
 
-number_exact : (c : Things) → Plain c Equals number_at IsNumber
-number_exact c = plain_equal number_at IsNumber number_found number_only c
+number_exact : (c : Things) → Plain c Equals nonzero_at IsNumber
+number_exact c = plain_equal nonzero_at IsNumber number_found number_only c
 
 within_exact : (before k : ℕ) (c : Things) → Plain c Equals (λ s. if nat_le (before + k) 256 then Read (k, s) else Wrong) (When (before + k ≤ 256) (Done k))
 within_exact before k c =
@@ -276,14 +277,14 @@ count_exact : (before : ℕ) (c : Things) → Plain c Equals (count_at before) (
 unfolding count_at
 count_exact before c =
     then_exact (known c) SameText c Equals Equals (λ s. some_count s (after Colon s)) (Either IsMark Colon IsNumber (Done 1)) (λ k s. if nat_le (before + k) 256 then Read (k, s) else Wrong) (λ k. When (before + k ≤ 256) (Done k))
-    (either_exact (known c) SameText after IsMark (text_marks c) c Equals Colon some_count number_at (λ s. Read (1, s)) IsNumber (Done 1) (λ s mid. refl) (λ s. refl) (number_exact c) (plain_done c 1)) (λ d k n g same.
+    (either_exact (known c) SameText after IsMark (text_marks c) c Equals Colon some_count nonzero_at (λ s. Read (1, s)) IsNumber (Done 1) (λ s mid. refl) (λ s. refl) (number_exact c) (plain_done c 1)) (λ d k n g same.
     begin_exact (known c) SameText d Equals (λ u s. if nat_le (before + k) 256 then Read (k, s) else Wrong) (λ t. When (before + n ≤ 256) (Done n)) (λ s t up sound h.
     subst (λ m. Plain c Equals (λ s. if nat_le (before + k) 256 then Read (k, s) else Wrong) (When (before + m ≤ 256) (Done m))) (same c up sound) (within_exact before k c)))
 
 result_exact : (before : ℕ) (c : Things) → Plain c Equals (result_at before) (IsResult before)
 unfolding result_at
 result_exact before c =
-    then_exact (known c) SameText c Equals Equals name_at IsName (λ n s. count_at before s >>= λ k. Read ((n, k.0), k.1)) (λ n. Then (IsCount before) (λ k. Done (n, k))) (name_exact c) (λ d n n' g names.
+    then_exact (known c) SameText c Equals Equals value_name_at IsName (λ n s. count_at before s >>= λ k. Read ((n, k.0), k.1)) (λ n. Then (IsCount before) (λ k. Done (n, k))) (name_exact c) (λ d n n' g names.
     then_exact (known c) SameText d Equals Equals (count_at before) (IsCount before) (λ k s. Read ((n, k), s)) (λ k. Done (n', k)) (plain_from c Equals (count_at before) (IsCount before) (count_exact before c) d) (λ e k k' up same.
     done_exact (known c) SameText e Equals (n, k) (n', k') (λ z j w. λ i. (names z (grows_trans d e z up j) w i, same z j w i))))
 

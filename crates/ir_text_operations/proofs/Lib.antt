@@ -9,5 +9,6 @@ pub mod OpLaws
 pub mod OpParts
 pub mod OpSteps
 pub mod Outputs
+pub mod Placing
 pub mod Singles
 pub mod Uses

@@ -1,7 +1,7 @@
 -- An operation that is made of numbers stands for the one that is made of what they stand for.
-use Rattle.std.specs.Prelude.{not}
-use Rattle.std.specs.List.{list_all, prefix_len}
-use Rattle.std.proofs.Common.{◌≡◌, ◌+◌, ℕ, zero, suc, Bool, true, cond, List, [], ◌∷◌, ◌++◌, length, map, take, drop, Some, refl, ap, subst}
+use Rattle.std.specs.Prelude.{not, if◌then◌else◌}
+use Rattle.std.specs.List.{list_all}
+use Rattle.std.proofs.Common.{◌≡◌, ℕ, Bool, true, false, true≢false, List, [], ◌∷◌, ◌++◌, length, map, Some, refl, sym, ap}
 use Rattle.std.proofs.lemmas.Bool.{lt-ltb}
 use Rattle.ir_types.specs.Things.{Things}
 use Rattle.ir_types.specs.Terms.{TypeTerm, name_term, type_term, attr_term}
@@ -16,8 +16,10 @@ use Rattle.ir_tree.proofs.Meanings.{both_hold}
 use Rattle.ir_text_reading.specs.Standing.{NameStands, TypeStands}
 use Rattle.ir_text_reading.specs.Laws.{Each}
 use Rattle.ir_text_names.specs.declared.bound.Bound.{Bound}
-use Rattle.ir_text_operations.specs.Entries.{moved, staying, put_among, put_all, properties_of, attributes_of}
-use Rattle.ir_text_operations.specs.EntryReading.{Entries, is_property_in}
+use Rattle.ir_text_operations.specs.Entries.{moved, staying, properties_of, attributes_of}
+use Rattle.ir_text_attributes.specs.Keyed.{put_among, in_order}
+use Rattle.ir_text_attributes.specs.AttrReading.{Entries}
+use Rattle.ir_text_operations.specs.EntryReading.{is_property_in}
 use Rattle.ir_text_operations.specs.Made.{made}
 use Rattle.ir_text_operations.specs.OpReading.{values_of, op_of}
 use Rattle.ir_text_operations.specs.Seen.{BoundTerm}
@@ -30,54 +32,39 @@ use Rattle.ir_text_operations.proofs.BlockLaws.{types_known, types_are}
 -- ---- sorted entries
 
 module _ {A B : Type 0} (R : Things → A → B → Type 0) (z : Things) where
-  each_take : (n : ℕ) (xs : List A) (ys : List B) → Each R z xs ys → Each R z (take n xs) (take n ys)
-  each_take zero xs ys h = tt
-  each_take (suc n) [] [] h = tt
-  each_take (suc n) [] (y ∷ ys) h = absurd h
-  each_take (suc n) (x ∷ xs) [] h = absurd h
-  each_take (suc n) (x ∷ xs) (y ∷ ys) h = (h.0, each_take n xs ys h.1)
-
-  each_drop : (n : ℕ) (xs : List A) (ys : List B) → Each R z xs ys → Each R z (drop n xs) (drop n ys)
-  each_drop zero xs ys h = h
-  each_drop (suc n) [] [] h = tt
-  each_drop (suc n) [] (y ∷ ys) h = absurd h
-  each_drop (suc n) (x ∷ xs) [] h = absurd h
-  each_drop (suc n) (x ∷ xs) (y ∷ ys) h = each_drop n xs ys h.1
-
   each_append : (xs : List A) (ys : List B) (us : List A) (vs : List B) → Each R z xs ys → Each R z us vs → Each R z (xs ++ us) (ys ++ vs)
   each_append [] [] us vs h k = k
   each_append [] (y ∷ ys) us vs h k = absurd h
   each_append (x ∷ xs) [] us vs h k = absurd h
   each_append (x ∷ xs) (y ∷ ys) us vs h k = (h.0, each_append xs ys us vs h.1 k)
 
-  prefix_same : (f : A → Bool) (g : B → Bool) → ((x : A) (y : B) → R z x y → f x ≡ g y) → (xs : List A) (ys : List B) → Each R z xs ys → prefix_len f xs ≡ prefix_len g ys
-  prefix_same f g same [] [] h = refl
-  prefix_same f g same [] (y ∷ ys) h = absurd h
-  prefix_same f g same (x ∷ xs) [] h = absurd h
-  prefix_same f g same (x ∷ xs) (y ∷ ys) h = let rest = prefix_same f g same xs ys h.1 in λ i. cond (same x y h.0 i) (1 + rest i) 0
-
 module _ {K L A B : Type 0} (R : Things → K × A → L × B → Type 0) (z : Things) (before : K → K → Bool) (earlier : L → L → Bool)
     (same : (x u : K × A) (y v : L × B) → R z x y → R z u v → before x.0 u.0 ≡ earlier y.0 v.0) where
   each_among : (e : K × A) (f : L × B) (xs : List (K × A)) (ys : List (L × B)) → R z e f → Each R z xs ys → Each R z (put_among before e xs) (put_among earlier f ys)
-  each_among e f xs ys r h =
-      let n = prefix_len (λ x. before x.0 e.0) xs in
-      let place = prefix_same R z (λ x. before x.0 e.0) (λ y. earlier y.0 f.0) (λ x y k. same x e y f k r) xs ys h in
-      subst (λ k. Each R z (put_among before e xs) (take k ys ++ f ∷ drop k ys)) place (each_append R z (take n xs) (take n ys) (e ∷ drop n xs) (f ∷ drop n ys) (each_take R z n xs ys h) (r, each_drop R z n xs ys h))
+  each_among e f [] [] r h = (r, tt)
+  each_among e f [] (y ∷ ys) r h = absurd h
+  each_among e f (x ∷ xs) [] r h = absurd h
+  each_among e f (x ∷ xs) (y ∷ ys) r h = by_test (each_among e f xs ys r h.1) (before e.0 x.0) (earlier f.0 y.0) (same e x f y r h.0)
+    where
+      by_test : Each R z (put_among before e xs) (put_among earlier f ys) → (b c : Bool) → b ≡ c → Each R z (if b then e ∷ x ∷ xs else x ∷ put_among before e xs) (if c then f ∷ y ∷ ys else y ∷ put_among earlier f ys)
+      by_test rest true true agree = (r, h)
+      by_test rest true false agree = absurd (true≢false agree)
+      by_test rest false true agree = absurd (true≢false (sym agree))
+      by_test rest false false agree = (h.0, rest)
 
-  each_all : (done : List (K × A)) (ends : List (L × B)) (xs : List (K × A)) (ys : List (L × B)) → Each R z done ends → Each R z xs ys → Each R z (put_all before done xs) (put_all earlier ends ys)
-  unfolding put_all
-  each_all done ends [] [] h k = h
-  each_all done ends [] (y ∷ ys) h k = absurd k
-  each_all done ends (x ∷ xs) [] h k = absurd k
-  each_all done ends (x ∷ xs) (y ∷ ys) h k = each_all (put_among before x done) (put_among earlier y ends) xs ys (each_among x y done ends k.0 h) k.1
+  each_order : (xs : List (K × A)) (ys : List (L × B)) → Each R z xs ys → Each R z (in_order before xs) (in_order earlier ys)
+  each_order [] [] h = h
+  each_order [] (y ∷ ys) h = absurd h
+  each_order (x ∷ xs) [] h = absurd h
+  each_order (x ∷ xs) (y ∷ ys) h = each_among x y (in_order before xs) (in_order earlier ys) h.0 (each_order xs ys h.1)
 
   module _ (test : K → Bool) (passes : L → Bool) (agrees : (x : K × A) (y : L × B) → R z x y → test x.0 ≡ passes y.0) where
     pub each_properties : (ps : List (K × A)) (qs : List (L × B)) (es : List (K × A)) (fs : List (L × B)) → Each R z ps qs → Each R z es fs → Each R z (properties_of test before ps es) (properties_of passes earlier qs fs)
     each_properties ps qs es fs h k =
-        each_all (put_all before [] ps) (put_all earlier [] qs) (moved test es) (moved passes fs) (each_all [] [] ps qs tt h) (each_filter R z (λ x. test x.0) (λ y. passes y.0) agrees es fs k)
+        each_order (ps ++ moved test es) (qs ++ moved passes fs) (each_append R z ps qs (moved test es) (moved passes fs) h (each_filter R z (λ x. test x.0) (λ y. passes y.0) agrees es fs k))
 
     pub each_attributes : (es : List (K × A)) (fs : List (L × B)) → Each R z es fs → Each R z (attributes_of test before es) (attributes_of passes earlier fs)
-    each_attributes es fs k = each_all [] [] (staying test es) (staying passes fs) tt (each_filter R z (λ x. not (test x.0)) (λ y. not (passes y.0)) (λ x y r. ap not (agrees x y r)) es fs k)
+    each_attributes es fs k = each_order (staying test es) (staying passes fs) (each_filter R z (λ x. not (test x.0)) (λ y. not (passes y.0)) (λ x y r. ap not (agrees x y r)) es fs k)
 
 -- in two contexts at once
 module _ {A B : Type 0} (R : Things → A → B → Type 0) (c : Things) where

@@ -45,7 +45,7 @@ use Rattle.ir_text_operations.specs.OpReading.{op_at, ops_at}
 use Rattle.ir_text_operations.specs.OpGrammar.{IsOp}
 use Rattle.ir_text_operations.specs.Standing.{Both, BoundStands, FreeStands, StateStands, OpStands}
 use Rattle.ir_text_operations.specs.Spelling.{begins_module, is_root, module_word, module_of, IsExplicit, IsImplicit, Spells}
-use Rattle.ir_text_operations.specs.Claims.{IsOnly, IsNone, IsBody, IsSource, IsWhole, module_with}
+use Rattle.ir_text_operations.specs.Claims.{IsOnly, IsNone, IsBody, IsSource, IsModuleTree, module_with}
 use Rattle.ir_text_operations.proofs.NameLaws.{held, bytes_now}
 use Rattle.ir_text_operations.proofs.OpLaws.{op_exact, source_exact}
 
@@ -258,7 +258,7 @@ module _ (c : Things) where
   pub numbers_are : (t : Op) → ids (meaning c t) ≡ ids t
   numbers_are t = map_ids (name_term c) (type_term c) (attr_term c) t
 
-  pub spelled_of : (bytes : List ℕ) (t : Op) → IsOnly (IsSource bytes) c t → text_reason bytes ≡ None → IsWhole c t → IsOnly (Spells bytes) c t
+  pub spelled_of : (bytes : List ℕ) (t : Op) → IsOnly (IsSource bytes) c t → text_reason bytes ≡ None → IsModuleTree c t → IsOnly (Spells bytes) c t
   spelled_of bytes t h text w = record {
     known = h.known;
     holds = record {
@@ -275,7 +275,7 @@ module _ (c : Things) where
     only = λ y s. h.only y s.spelled;
   }
 
-  pub none_of : (bytes : List ℕ) (t : Op) → IsOnly (IsSource bytes) c t → (IsWhole c t → ⊥) → IsNone (Spells bytes)
+  pub none_of : (bytes : List ℕ) (t : Op) → IsOnly (IsSource bytes) c t → (IsModuleTree c t → ⊥) → IsNone (Spells bytes)
   none_of bytes t h not_whole y s =
       let same : y ≡ meaning c t = h.only y s.spelled in
       let formed : IsFormed is_isolated (meaning c t) = subst (IsFormed is_isolated) same s.formed in

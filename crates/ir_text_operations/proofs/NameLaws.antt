@@ -12,7 +12,7 @@ use Rattle.ir_types.specs.Terms.{TypeTerm}
 use Rattle.ir_text_reading.specs.Marks.{after}
 use Rattle.ir_text_reading.specs.Outcomes.{Outcome, Read, Wrong, ◌>>=◌, of_option, Parse}
 use Rattle.ir_text_reading.specs.Grammars.{Grammar, Done, IsMark, Token}
-use Rattle.ir_text_reading.specs.Typed.{Typed}
+use Rattle.ir_text_reading.specs.Typed.{Text, Typed}
 use Rattle.ir_text_reading.specs.Worlds.{From}
 use Rattle.ir_text_reading.specs.Standing.{TypeStands}
 use Rattle.ir_text_reading.specs.Laws.{Each}
@@ -24,7 +24,6 @@ use Rattle.ir_text_names.specs.States as states
 use Rattle.ir_text_names.specs.States.{State, to_bytes, after_in, with_typed, with_scopes, inside, outside}
 use Rattle.ir_text_names.specs.BlockReading.{bind, results_of, bind_results, finish}
 use Rattle.ir_text_operations.specs.Seen.{PackTerm, Seen, seen_rest, seen_scopes, seen_inside, seen_outside, IsMarkSeen, InText, IsBound}
-use Rattle.ir_text_names.specs.NameReading.{Text}
 use Rattle.ir_text_operations.specs.OpGrammar.{result_terms, IsBoundResults, IsFinished}
 use Rattle.ir_text_names.specs.Packs.{Counted, counts}
 use Rattle.ir_text_operations.specs.Standing.{Both, PackStands, BindingStands, HereStands, ScopesStand, StateStands}

@@ -17,8 +17,8 @@ use Rattle.ir_tree.specs.Meaning.{Operation, meaning, is_known, isolated_in, key
 use Rattle.ir_tree.proofs.Meanings.{both_hold}
 use Rattle.ir_text_reading.specs.Marks.{after}
 use Rattle.ir_text_reading.specs.Outcomes.{Outcome, Read, Wrong, Full, ◌>>=◌, of_option, Parse}
-use Rattle.ir_text_reading.specs.Grammars.{Grammar, Then, Done, After}
-use Rattle.ir_text_reading.specs.Typed.{Typed, after_typed, name_step}
+use Rattle.ir_text_reading.specs.Grammars.{When, Grammar, Then, Done, After}
+use Rattle.ir_text_reading.specs.Typed.{Text, Typed, after_typed, name_step}
 use Rattle.ir_text_types.specs.TypeReading.{function_type_at}
 use Rattle.ir_text_types.specs.TypeGrammar.{IsFunctionType}
 use Rattle.ir_text_reading.specs.Worlds.{From}
@@ -29,13 +29,13 @@ use Rattle.ir_text_types.proofs.TypeLaws.{function_type_exact}
 use Rattle.ir_text_attributes.proofs.NodeLaws as attrs
 use Rattle.ir_text_names.specs.declared.bound.Bound.{Bound}
 use Rattle.ir_text_names.specs.States.{State, to_bytes, after_in, typed, with_typed, with_scopes, fresh}
-use Rattle.ir_text_names.specs.NameReading.{Text}
 use Rattle.ir_text_operations.specs.FrontReading.{Frees, Start, start_at}
-use Rattle.ir_text_operations.specs.EntryReading.{Entries, properties_at, attributes_at}
+use Rattle.ir_text_attributes.specs.AttrReading.{Entries}
+use Rattle.ir_text_operations.specs.EntryReading.{properties_at, attributes_at}
 use Rattle.ir_text_operations.specs.Made.{made}
 use Rattle.ir_text_names.specs.BlockReading.{finish}
-use Rattle.ir_text_operations.specs.OpReading.{types_of, op_of, regions_at, ops_at, tail_at, begun, op_with, op_at}
-use Rattle.ir_text_operations.specs.Seen.{BoundTerm, PackTerm, Seen, seen_rest, seen_scopes, seen_fresh, IsMarkSeen, InText, When}
+use Rattle.ir_text_operations.specs.OpReading.{bound_types, op_of, regions_at, ops_at, tail_at, begun, op_with, op_at}
+use Rattle.ir_text_operations.specs.Seen.{BoundTerm, PackTerm, Seen, seen_rest, seen_scopes, seen_fresh, IsMarkSeen, InText}
 use Rattle.ir_text_attributes.specs.AttrGrammar.{EntryTerm}
 use Rattle.ir_text_operations.specs.OpGrammar.{FreeTerms, StartTerm, RegionTerm, is_property, IsStart, IsProperties, IsAttributes, IsRegions, IsFinished, IsOps, IsTail, IsOpWith, IsOp}
 use Rattle.ir_text_operations.specs.Standing.{BoundStands, FreeStands, HereStands, StateStands, StartStands, EntryStands, RegionStands, OpStands}
@@ -70,7 +70,7 @@ module _ {A B : Type 0} (c : Things) (R : Things → A → B → Type 0) where
 
 -- ---- the types of operands
 
-operand_types : (z : Things) (os : List Bound) (us : List BoundTerm) → Each BoundStands z os us → Each TypeStands z (types_of os) (map (λ b. b.type) us)
+operand_types : (z : Things) (os : List Bound) (us : List BoundTerm) → Each BoundStands z os us → Each TypeStands z (bound_types os) (map (λ b. b.type) us)
 operand_types z [] [] h = tt
 operand_types z [] (y ∷ ys) h = absurd h
 operand_types z (x ∷ xs) [] h = absurd h
@@ -102,7 +102,7 @@ SignatureTerm = List TypeTerm × List TypeTerm
 
 module _ (id name : ℕ) (h : Start) (ps : Entries) (gs : List Region) where
   abbrev ended : Things → Entries → Signature → State → Outcome (Op × State)
-  ended c es sig s = (if bytes_eq (types_of h.operands) sig.0 then finish id h.results sig.1 s.scopes else Wrong) >>= λ u. Read (op_of c id name h.operands ps es sig.1 gs, with_scopes s u)
+  ended c es sig s = (if bytes_eq (bound_types h.operands) sig.0 then finish id h.results sig.1 s.scopes else Wrong) >>= λ u. Read (op_of c id name h.operands ps es sig.1 gs, with_scopes s u)
 
   abbrev ends : Entries → Signature → State → Outcome (Op × State)
   ends es sig s = ended s.things es sig s
@@ -162,15 +162,15 @@ module _ (id name : ℕ) (h : Start) (ps : Entries) (gs : List Region) where
           (λ y t t' k. (k.0, subst (λ r. IsFinished id r terms.1 t.scopes k.0) results k.1, k.3, k.2)) (λ y t t' k. (k.0, subst (λ r. IsFinished id r terms.1 t.scopes k.0) (sym results) k.1, k.3, k.2))
           (scoped_exact c OpStands op_now term_now op_now_stands (finish id h.results sig.1) (IsFinished id h.results terms.1) (finish_scoped id c h.results sig.1 terms.1 (λ z g w. (types z g w).1)))
 
-      fits : bytes_eq (types_of h.operands) sig.0 ≡ true → map (λ b. b.type) begin.operands ≡ terms.0
+      fits : bytes_eq (bound_types h.operands) sig.0 ≡ true → map (λ b. b.type) begin.operands ≡ terms.0
       fits e =
-          let same = name_is (types_of h.operands) sig.0 e in
-          terms_one c (types_of h.operands) (map (λ b. b.type) begin.operands) terms.0 (operand_types c h.operands begin.operands (starts c (grows_refl c) sound).2) (subst (λ l. Each TypeStands c l terms.0) (sym same) (types c (grows_refl c) sound).0)
+          let same = name_is (bound_types h.operands) sig.0 e in
+          terms_one c (bound_types h.operands) (map (λ b. b.type) begin.operands) terms.0 (operand_types c h.operands begin.operands (starts c (grows_refl c) sound).2) (subst (λ l. Each TypeStands c l terms.0) (sym same) (types c (grows_refl c) sound).0)
 
-      fits_back : map (λ b. b.type) begin.operands ≡ terms.0 → bytes_eq (types_of h.operands) sig.0 ≡ true
+      fits_back : map (λ b. b.type) begin.operands ≡ terms.0 → bytes_eq (bound_types h.operands) sig.0 ≡ true
       fits_back e =
-          let stand = subst (λ l. Each TypeStands c (types_of h.operands) l) e (operand_types c h.operands begin.operands (starts c (grows_refl c) sound).2) in
-          subst (λ l. bytes_eq (types_of h.operands) l ≡ true) (types_one c sound (types_of h.operands) sig.0 terms.0 stand (types c (grows_refl c) sound).0) (name_refl (types_of h.operands))
+          let stand = subst (λ l. Each TypeStands c (bound_types h.operands) l) e (operand_types c h.operands begin.operands (starts c (grows_refl c) sound).2) in
+          subst (λ l. bytes_eq (bound_types h.operands) l ≡ true) (types_one c sound (bound_types h.operands) sig.0 terms.0 stand (types c (grows_refl c) sound).0) (name_refl (bound_types h.operands))
 
       test_out : (b : Bool) (s : State) → ((if b then finish id h.results sig.1 s.scopes else Wrong) >>= λ u. Read (op_now, with_scopes s u)) ≡ (if b then finishing s else Wrong)
       test_out true s = refl
@@ -178,9 +178,9 @@ module _ (id name : ℕ) (h : Start) (ps : Entries) (gs : List Region) where
 
       checked_exact : Exact held StateStands c OpStands (ended c es sig) (Checked fs terms)
       checked_exact =
-          exact_where held StateStands c OpStands (ended c es sig) (λ s. if bytes_eq (types_of h.operands) sig.0 then finishing s else Wrong) (Checked fs terms)
-          (λ s g w. test_out (bytes_eq (types_of h.operands) sig.0) s)
-          (when_exact c OpStands (bytes_eq (types_of h.operands) sig.0) (map (λ b. b.type) begin.operands ≡ terms.0) finishing (Ends fs terms.1) fits fits_back finished_exact)
+          exact_where held StateStands c OpStands (ended c es sig) (λ s. if bytes_eq (bound_types h.operands) sig.0 then finishing s else Wrong) (Checked fs terms)
+          (λ s g w. test_out (bytes_eq (bound_types h.operands) sig.0) s)
+          (when_exact c OpStands (bytes_eq (bound_types h.operands) sig.0) (map (λ b. b.type) begin.operands ≡ terms.0) finishing (Ends fs terms.1) fits fits_back finished_exact)
 
     pub tail_exact : (c : Things) → From (λ z. StartStands z h begin) c → From (λ z. NameStands z name begin.name) c → From (λ z. Each EntryStands z ps qs) c → From (λ z. Each RegionStands z gs ys) c
         → Exact held StateStands c OpStands (tail_at id name h ps gs) (IsTail id begin qs ys)

@@ -12,20 +12,21 @@ use Rattle.ir_text_reading.specs.declared.error.ReadError.{ReadError}
 use Rattle.ir_text_reading.specs.declared.error.ReadError.TheVariants as errors
 use Rattle.ir_text_reading.specs.Marks.{after}
 use Rattle.ir_text_reading.specs.Outcomes.{Outcome, Read, Wrong, Full, ◌>>=◌, of_option, Parse, Fails}
-use Rattle.ir_text_reading.specs.Typed.{Typed, after_typed, name_step}
+use Rattle.ir_text_reading.specs.Typed.{Text, Typed, after_typed, name_step}
 use Rattle.ir_text_types.specs.TypeReading.{function_type_at}
 use Rattle.ir_text_reading.proofs.ListSteps.{fails_with}
 use Rattle.ir_text_reading.proofs.Worlds.{bind_assoc}
 use Rattle.ir_text_names.specs.declared.bound.Bound.{Bound}
 use Rattle.ir_text_names.specs.BlockReading.{finish, head_at, region_head_at}
-use Rattle.ir_text_names.specs.NameReading.{Text, results_at}
+use Rattle.ir_text_names.specs.NameReading.{results_at}
 use Rattle.ir_text_names.specs.Packs.{Counted}
 use Rattle.ir_text_names.specs.States.{State, after_in, typed, with_typed, with_scopes, inside, outside}
-use Rattle.ir_text_operations.specs.EntryReading.{Entries, properties_at, attributes_at}
+use Rattle.ir_text_attributes.specs.AttrReading.{Entries}
+use Rattle.ir_text_operations.specs.EntryReading.{properties_at, attributes_at}
 use Rattle.ir_text_operations.specs.FrontReading.{Frees, Start, start_at, op_name_at, uses_at}
 use Rattle.ir_text_operations.specs.Made.{region_of}
-use Rattle.ir_text_operations.specs.OpReading.{types_of, op_of, tail_at, begun, region_at, regions_at, ops_at, op_with, op_at}
-use Rattle.ir_text_operations.specs.Openings.{IsOfText, Opened, called_at, opening_at, outputs_at, finished_at}
+use Rattle.ir_text_operations.specs.OpReading.{bound_types, op_of, tail_at, begun, region_at, regions_at, ops_at, op_with, op_at}
+use Rattle.ir_text_operations.specs.Openings.{IsOfText, Opened, called_at, opening_at, result_types_at, finished_at}
 
 -- what is read on where the same is read on
 same_then : {A B : Type 0} (o : Outcome A) (f g : A → Outcome B) → ((x : A) → f x ≡ g x) → (o >>= f) ≡ (o >>= g)
@@ -115,16 +116,16 @@ module _ (id : ℕ) (h : Start) (s : State) where
   abbrev bound_to : List ℕ × Typed → Outcome (List ℕ × State)
   bound_to o = finish id h.results o.0 s.scopes >>= λ scopes. Read (o.0, with_scopes (with_typed s o.1) scopes)
 
-  finished_is : finished_at id h s ≡ (outputs_at (types_of h.operands) (typed s) >>= bound_to)
+  finished_is : finished_at id h s ≡ (result_types_at (bound_types h.operands) (typed s) >>= bound_to)
   unfolding finished_at
   finished_is = refl
 
-  pub no_outputs : (e : ReadError) → Fails e (outputs_at (types_of h.operands) (typed s)) → Fails e (finished_at id h s)
-  no_outputs e = fails_then e (outputs_at (types_of h.operands) (typed s)) bound_to (finished_at id h s) finished_is
+  pub no_outputs : (e : ReadError) → Fails e (result_types_at (bound_types h.operands) (typed s)) → Fails e (finished_at id h s)
+  no_outputs e = fails_then e (result_types_at (bound_types h.operands) (typed s)) bound_to (finished_at id h s) finished_is
 
-  module _ (o : List ℕ × Typed) (outputs : outputs_at (types_of h.operands) (typed s) ≡ Read o) where
+  module _ (o : List ℕ × Typed) (outputs : result_types_at (bound_types h.operands) (typed s) ≡ Read o) where
     bound_is : finished_at id h s ≡ bound_to o
-    bound_is = reads_then (outputs_at (types_of h.operands) (typed s)) bound_to (finished_at id h s) o finished_is outputs
+    bound_is = reads_then (result_types_at (bound_types h.operands) (typed s)) bound_to (finished_at id h s) o finished_is outputs
 
     pub not_bound : (e : ReadError) → Fails e (finish id h.results o.0 s.scopes) → Fails e (finished_at id h s)
     not_bound e = fails_then e (finish id h.results o.0 s.scopes) (λ scopes. Read (o.0, with_scopes (with_typed s o.1) scopes)) (finished_at id h s) bound_is
@@ -156,22 +157,22 @@ module _ (id name : ℕ) (h : Start) (properties : Entries) (regions : List Regi
   by_test e t false = refl
 
   abbrev with_test : (List ℕ × List ℕ) × Typed → Outcome (List ℕ × Typed)
-  with_test t = tested t (bytes_eq (types_of h.operands) t.0.0)
+  with_test t = tested t (bytes_eq (bound_types h.operands) t.0.0)
 
-  by_type : (e : Entries × Typed) (o : Outcome ((List ℕ × List ℕ) × Typed)) → (o >>= λ t. (if bytes_eq (types_of h.operands) t.0.0 then finish id h.results t.0.1 s.scopes else Wrong) >>= with_scoped e t)
+  by_type : (e : Entries × Typed) (o : Outcome ((List ℕ × List ℕ) × Typed)) → (o >>= λ t. (if bytes_eq (bound_types h.operands) t.0.0 then finish id h.results t.0.1 s.scopes else Wrong) >>= with_scoped e t)
       ≡ (((o >>= with_test) >>= bound_behind e) >>= op_behind e.0)
-  by_type e (Read t) = by_test e t (bytes_eq (types_of h.operands) t.0.0)
+  by_type e (Read t) = by_test e t (bytes_eq (bound_types h.operands) t.0.0)
   by_type e Wrong = refl
   by_type e Full = refl
 
-  by_colon : (e : Entries × Typed) (o : Option Typed) → (of_option o >>= λ c. function_type_at c >>= λ t. (if bytes_eq (types_of h.operands) t.0.0 then finish id h.results t.0.1 s.scopes else Wrong) >>= with_scoped e t)
+  by_colon : (e : Entries × Typed) (o : Option Typed) → (of_option o >>= λ c. function_type_at c >>= λ t. (if bytes_eq (bound_types h.operands) t.0.0 then finish id h.results t.0.1 s.scopes else Wrong) >>= with_scoped e t)
       ≡ (((of_option o >>= λ c. function_type_at c >>= with_test) >>= bound_behind e) >>= op_behind e.0)
   by_colon e (Some c) = by_type e (function_type_at c)
   by_colon e None = refl
 
-  by_entries : (e : Entries × Typed) → (of_option (after_typed Colon e.1) >>= λ c. function_type_at c >>= λ t. (if bytes_eq (types_of h.operands) t.0.0 then finish id h.results t.0.1 s.scopes else Wrong) >>= with_scoped e t)
+  by_entries : (e : Entries × Typed) → (of_option (after_typed Colon e.1) >>= λ c. function_type_at c >>= λ t. (if bytes_eq (bound_types h.operands) t.0.0 then finish id h.results t.0.1 s.scopes else Wrong) >>= with_scoped e t)
       ≡ with_entries e
-  unfolding finished_at outputs_at
+  unfolding finished_at result_types_at
   by_entries e = by_colon e (after_typed Colon e.1)
 
   tail_is : tail_at id name h properties regions s ≡ (attributes_at name properties (typed s) >>= with_entries)

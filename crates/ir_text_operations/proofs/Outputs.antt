@@ -10,7 +10,7 @@ use Rattle.ir_text_reading.specs.Lists.{more_from, more_at, list_from, list_at}
 use Rattle.ir_text_reading.specs.Typed.{Typed, after_typed}
 use Rattle.ir_text_types.specs.TypeReading.{types_at, outputs_from, outputs_at, signature_at, many, type_at, function_type_at}
 use Rattle.ir_text_reading.proofs.Worlds.{bind_read, option_read}
-use Rattle.ir_text_operations.specs.Openings.{outputs_at as outputs_in}
+use Rattle.ir_text_operations.specs.Openings.{result_types_at}
 
 abbrev pair : {A S : Type 0} → A → S → Outcome (A × S)
 pair x s = Read (x, s)
@@ -80,8 +80,8 @@ test_read : (b : Bool) (xs : List ℕ) (t : Typed) (ys : List ℕ) (u : Typed) �
 test_read true xs t ys u e = (read_parts xs ys t u e).0
 test_read false xs t ys u e = absurd cc
 
-pub outputs_few : (inputs : List ℕ) (s : Typed) (xs : List ℕ) (s' : Typed) → outputs_in inputs s ≡ Read (xs, s') → length xs ≤ 256
-unfolding outputs_in
+pub outputs_few : (inputs : List ℕ) (s : Typed) (xs : List ℕ) (s' : Typed) → result_types_at inputs s ≡ Read (xs, s') → length xs ≤ 256
+unfolding result_types_at
 outputs_few inputs s xs s' e =
     let c = option_read (after_typed Colon s) (λ c. function_type_at c >>= λ t. tested (bytes_eq inputs t.0.0) (t.0.1, t.1)) (xs, s') e in
     let t = bind_read (function_type_at c.0) (λ t. tested (bytes_eq inputs t.0.0) (t.0.1, t.1)) (xs, s') c.2 in

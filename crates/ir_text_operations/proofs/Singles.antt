@@ -29,9 +29,9 @@ use Rattle.ir_text_operations.specs.OpReading.{op_at}
 use Rattle.ir_text_operations.specs.Seen.{seen_fresh}
 use Rattle.ir_text_operations.specs.OpGrammar.{FreeTerms, IsOp}
 use Rattle.ir_text_operations.specs.Standing.{Both, BoundStands, FreeStands, StateStands, OpStands}
-use Rattle.ir_text_operations.specs.SingleReading.{single_at}
-use Rattle.ir_text_operations.specs.Spelling.{last_from, IsSingle, SpellsOp}
-use Rattle.ir_text_operations.specs.Claims.{IsOnly, IsNone, IsPart}
+use Rattle.ir_text_operations.specs.SingleReading.{single_op_at}
+use Rattle.ir_text_operations.specs.Spelling.{last_from, IsSingleOp, SpellsOp}
+use Rattle.ir_text_operations.specs.Claims.{IsOnly, IsNone, IsLoneTree}
 use Rattle.ir_text_operations.proofs.NameLaws.{held, bytes_now}
 use Rattle.ir_text_operations.proofs.OpLaws.{op_exact}
 use Rattle.ir_text_operations.proofs.Modules.{fresh_agrees, read_parts, all_rise, numbers_are}
@@ -57,8 +57,8 @@ module _ (types : Value → Option ℕ) (c : Things) (known : (v : Value) → If
 
 module _ (free : Frees) (outer : FreeTerms) (last first : ℕ) (bytes : List ℕ) (c : Things) (sound : IsSound c) (frees : From (λ z. FreeStands z free outer) c) where
   -- what is spelled was read
-  single_is : (x : Op) (s : State) → op_at free last 129 (fresh first bytes c) ≡ Read (x, s) → (y : Operation) → IsSingle outer last first bytes y → (y ≡ meaning s.things x) × ((rest : List ℕ) × IsMark End s.bytes rest)
-  unfolding IsSingle
+  single_is : (x : Op) (s : State) → op_at free last 129 (fresh first bytes c) ≡ Read (x, s) → (y : Operation) → IsSingleOp outer last first bytes y → (y ≡ meaning s.things x) × ((rest : List ℕ) × IsMark End s.bytes rest)
+  unfolding IsSingleOp
   single_is x s e y h = ⊎_elim
       (λ (f : op_at free last 129 (fresh first bytes c) ≡ Full). absurd cc)
       (λ (f : (x' : Op) × (s' : State) × (op_at free last 129 (fresh first bytes c) ≡ Read (x', s')) × Step held StateStands OpStands (fresh first bytes c) x' y s' h.0).
@@ -69,8 +69,8 @@ module _ (free : Frees) (outer : FreeTerms) (last first : ℕ) (bytes : List ℕ
       ))
       ((op_exact free outer last c frees 129 c (grows_refl c)).only (fresh first bytes c) (seen_fresh first bytes) y h.0 (grows_refl c) sound (fresh_agrees first bytes c) h.2)
 
-  pub single_read : (x : Op) (s : State) (rest : List ℕ) → op_at free last 129 (fresh first bytes c) ≡ Read (x, s) → after End s.bytes ≡ Some rest → IsOnly (IsSingle outer last first bytes) s.things x
-  unfolding IsSingle
+  pub single_read : (x : Op) (s : State) (rest : List ℕ) → op_at free last 129 (fresh first bytes c) ≡ Read (x, s) → after End s.bytes ≡ Some rest → IsOnly (IsSingleOp outer last first bytes) s.things x
+  unfolding IsSingleOp
   single_read x s rest e ends =
       let f = (op_exact free outer last c frees 129 c (grows_refl c)).found (fresh first bytes c) (seen_fresh first bytes) x s (grows_refl c) sound (fresh_agrees first bytes c) e in
       let r = f.3.stands s.things (grows_refl s.things) f.3.sound in
@@ -81,14 +81,14 @@ module _ (free : Frees) (outer : FreeTerms) (last first : ℕ) (bytes : List ℕ
         only = λ y h. (single_is x s e y h).0;
       }
 
-  pub single_more : (x : Op) (s : State) → op_at free last 129 (fresh first bytes c) ≡ Read (x, s) → after End s.bytes ≡ None → IsNone (IsSingle outer last first bytes)
+  pub single_more : (x : Op) (s : State) → op_at free last 129 (fresh first bytes c) ≡ Read (x, s) → after End s.bytes ≡ None → IsNone (IsSingleOp outer last first bytes)
   single_more x s e more y h =
       let k = single_is x s e y h in
       let ends = after_only End s.bytes k.1.0 k.1.1 in
       let clash : None ≡ Some k.1.0 = sym more ∙ ends in absurd cc
 
-  pub single_wrong : op_at free last 129 (fresh first bytes c) ≡ Wrong → IsNone (IsSingle outer last first bytes)
-  unfolding IsSingle
+  pub single_wrong : op_at free last 129 (fresh first bytes c) ≡ Wrong → IsNone (IsSingleOp outer last first bytes)
+  unfolding IsSingleOp
   single_wrong e y h = ⊎_elim
       (λ (f : op_at free last 129 (fresh first bytes c) ≡ Full). absurd cc)
       (λ (f : (x' : Op) × (s' : State) × (op_at free last 129 (fresh first bytes c) ≡ Read (x', s')) × Step held StateStands OpStands (fresh first bytes c) x' y s' h.0). let g = f.2 in absurd cc)
@@ -101,23 +101,23 @@ module _ (free : Frees) (outer : FreeTerms) (last first : ℕ) (bytes : List ℕ
   whole x = of_option (after End x.1.bytes) >>= told x.0 x.1.things
 
   -- the same, by the reader of one operation
-  pub alone_read : (x : Op) (d : Things) → single_at free last (fresh first bytes c) ≡ Read (x, d) → IsOnly (IsSingle outer last first bytes) d x
-  unfolding single_at
+  pub alone_read : (x : Op) (d : Things) → single_op_at free last (fresh first bytes c) ≡ Read (x, d) → IsOnly (IsSingleOp outer last first bytes) d x
+  unfolding single_op_at
   alone_read x d e =
       let a = bind_read (op_at free last 129 (fresh first bytes c)) whole (x, d) e in
       let b = option_read (after End a.0.1.bytes) (told a.0.0 a.0.1.things) (x, d) a.2 in
       let q = read_parts a.0.0 x a.0.1.things d b.2 in
-      subst (λ (u : Op × Things). IsOnly (IsSingle outer last first bytes) u.1 u.0) (λ i. (q.0 i, q.1 i)) (single_read a.0.0 a.0.1 b.0 a.1 b.1)
+      subst (λ (u : Op × Things). IsOnly (IsSingleOp outer last first bytes) u.1 u.0) (λ i. (q.0 i, q.1 i)) (single_read a.0.0 a.0.1 b.0 a.1 b.1)
 
-  pub alone_wrong : single_at free last (fresh first bytes c) ≡ Wrong → IsNone (IsSingle outer last first bytes)
-  unfolding single_at
+  pub alone_wrong : single_op_at free last (fresh first bytes c) ≡ Wrong → IsNone (IsSingleOp outer last first bytes)
+  unfolding single_op_at
   alone_wrong e = by_op (op_at free last 129 (fresh first bytes c)) refl e
     where
-      by_end : (x : Op) (s : State) → op_at free last 129 (fresh first bytes c) ≡ Read (x, s) → (o : Option (List ℕ)) → after End s.bytes ≡ o → (of_option o >>= told x s.things) ≡ Wrong → IsNone (IsSingle outer last first bytes)
+      by_end : (x : Op) (s : State) → op_at free last 129 (fresh first bytes c) ≡ Read (x, s) → (o : Option (List ℕ)) → after End s.bytes ≡ o → (of_option o >>= told x s.things) ≡ Wrong → IsNone (IsSingleOp outer last first bytes)
       by_end x s read None none w = single_more x s read none
       by_end x s read (Some rest) ends w = absurd cc
 
-      by_op : (o : Outcome (Op × State)) → op_at free last 129 (fresh first bytes c) ≡ o → (o >>= whole) ≡ Wrong → IsNone (IsSingle outer last first bytes)
+      by_op : (o : Outcome (Op × State)) → op_at free last 129 (fresh first bytes c) ≡ o → (o >>= whole) ≡ Wrong → IsNone (IsSingleOp outer last first bytes)
       by_op (Read x) read w = by_end x.0 x.1 read (after End x.1.bytes) refl w
       by_op Wrong wrong w = single_wrong wrong
       by_op Full full w = absurd cc
@@ -125,7 +125,7 @@ module _ (free : Frees) (outer : FreeTerms) (last first : ℕ) (bytes : List ℕ
 -- ---- what is looked at afterwards
 
 module _ (outer : FreeTerms) (first : ℕ) (bytes : List ℕ) where
-  pub part_spelled : (c : Things) (t : Op) → text_reason bytes ≡ None → IsOnly (IsSingle outer (last_from first) first bytes) c t → IsPart first c t → IsOnly (SpellsOp outer first bytes) c t
+  pub part_spelled : (c : Things) (t : Op) → text_reason bytes ≡ None → IsOnly (IsSingleOp outer (last_from first) first bytes) c t → IsLoneTree first c t → IsOnly (SpellsOp outer first bytes) c t
   part_spelled c t text h w = record {
     known = h.known;
     holds = record {
@@ -139,7 +139,7 @@ module _ (outer : FreeTerms) (first : ℕ) (bytes : List ℕ) where
     only = λ y s. h.only y s.spelled;
   }
 
-  pub no_part : (c : Things) (t : Op) → IsOnly (IsSingle outer (last_from first) first bytes) c t → (IsPart first c t → ⊥) → IsNone (SpellsOp outer first bytes)
+  pub no_part : (c : Things) (t : Op) → IsOnly (IsSingleOp outer (last_from first) first bytes) c t → (IsLoneTree first c t → ⊥) → IsNone (SpellsOp outer first bytes)
   no_part c t h not_part y s =
       let same : y ≡ meaning c t = h.only y s.spelled in
       let shallow : depth (meaning c t) ≤ most_around = subst (λ (u : Operation). depth u ≤ most_around) same s.shallow in
@@ -153,7 +153,7 @@ module _ (outer : FreeTerms) (first : ℕ) (bytes : List ℕ) where
         record { known = h.known; sorted = subst IsTrue (all_rise c t) sorted },
       )
 
-  pub single_none : IsNone (IsSingle outer (last_from first) first bytes) → IsNone (SpellsOp outer first bytes)
+  pub single_none : IsNone (IsSingleOp outer (last_from first) first bytes) → IsNone (SpellsOp outer first bytes)
   single_none none y s = none y s.spelled
 
   pub no_text : (r : Refusal × ℕ) → text_reason bytes ≡ Some r → IsNone (SpellsOp outer first bytes)

@@ -6,7 +6,8 @@ use Rattle.ir_text_reading.specs.declared.error.ReadError.{ReadError}
 use Rattle.ir_text_reading.specs.Outcomes.{Outcome, Read, ◌>>=◌, of_option, Fails}
 use Rattle.ir_text_reading.proofs.ListSteps.{fails_with}
 use Rattle.ir_text_names.specs.declared.bound.Bound.{Bound}
-use Rattle.ir_text_names.specs.NameReading.{Text, name_from, name_at}
+use Rattle.ir_text_reading.specs.Typed.{Text}
+use Rattle.ir_text_names.specs.NameReading.{name_from, value_name_at}
 use Rattle.ir_text_operations.specs.Free.{seen_as}
 use Rattle.ir_text_operations.specs.FrontReading.{Frees, member_of, use_from, use_at}
 
@@ -22,12 +23,12 @@ module _ (free : Frees) (here : List (Binding (List Bound))) where
   by_next (Some t) = by_token t.0 t.1
   by_next None = refl
 
-  use_is : (bytes : Text) → use_at free here bytes ≡ (name_at bytes >>= seen)
-  unfolding use_at name_at
+  use_is : (bytes : Text) → use_at free here bytes ≡ (value_name_at bytes >>= seen)
+  unfolding use_at value_name_at
   use_is bytes = by_next (next bytes)
 
-  pub no_name : (bytes : Text) (e : ReadError) → Fails e (name_at bytes) → Fails e (use_at free here bytes)
-  no_name bytes e f = fails_with e (name_at bytes) (use_at free here bytes) (λ none. use_is bytes ∙ rw none refl) (λ none. use_is bytes ∙ rw none refl) f
+  pub no_name : (bytes : Text) (e : ReadError) → Fails e (value_name_at bytes) → Fails e (use_at free here bytes)
+  no_name bytes e f = fails_with e (value_name_at bytes) (use_at free here bytes) (λ none. use_is bytes ∙ rw none refl) (λ none. use_is bytes ∙ rw none refl) f
 
-  pub named : (bytes : Text) (n : List ℕ × Text) → name_at bytes ≡ Read n → use_at free here bytes ≡ seen n
+  pub named : (bytes : Text) (n : List ℕ × Text) → value_name_at bytes ≡ Read n → use_at free here bytes ≡ seen n
   named bytes n e = use_is bytes ∙ rw e refl

@@ -38,12 +38,12 @@ abbrev pub IsSource : List ℕ → Operation → Type 0
 IsSource bytes t = IsExplicit bytes t ⊎ IsImplicit bytes t
 
 -- a tree of numbers that may be a module's
-abbrev pub IsWhole : Things → Op → Type 0
-IsWhole c t = IsFormed (isolated_in c) t × IsNumberedFrom 0 t × IsSoundIn c t
+abbrev pub IsModuleTree : Things → Op → Type 0
+IsModuleTree c t = IsFormed (isolated_in c) t × IsNumberedFrom 0 t × IsSoundIn c t
 
 -- a tree of numbers that may be that of an operation alone, whose ids begin with the next one
-abbrev pub IsPart : ℕ → Things → Op → Type 0
-IsPart next c t = (depth t ≤ most_around) × IsTrue (counts_fit t) × IsNumberedFrom next t × IsSoundIn c t
+abbrev pub IsLoneTree : ℕ → Things → Op → Type 0
+IsLoneTree next c t = (depth t ≤ most_around) × IsTrue (counts_fit t) × IsNumberedFrom next t × IsSoundIn c t
 
 -- a module of these operations, whose name has that number
 abbrev pub module_with : ℕ → List Op → Op

@@ -1,11 +1,7 @@
--- Entries of dictionaries, by their keys: numbers while they are read, bytes where they are spelled.
-use Rattle.std.specs.Prelude.{◌+◌, nat_le, Bool, not, ◌||◌, if◌then◌else◌, List, [], ◌∷◌, ◌++◌, take, drop, length}
-use Rattle.std.specs.List.{list_any, filter, prefix_len}
-
-module _ {K A : Type 0} (same : K → K → Bool) where
-  -- whether an entry has the key
-  abbrev pub has_key : K → List (K × A) → Bool
-  has_key k es = list_any (λ e. same e.0 k) es
+-- Entries of an operation's dictionaries, by their keys: numbers while they are read, bytes where they are spelled.
+use Rattle.std.specs.Prelude.{◌+◌, nat_le, Bool, not, ◌||◌, if◌then◌else◌, List, ◌++◌, length}
+use Rattle.std.specs.List.{filter}
+use Rattle.ir_text_attributes.specs.Keyed.{has_key, in_order}
 
 module _ {K A : Type 0} (is_property : K → Bool) where
   -- those that are properties wherever they stand, and the others
@@ -23,19 +19,10 @@ module _ {K A : Type 0} (is_property : K → Bool) where
 abbrev pub is_refused : {K A : Type 0} → (K → K → Bool) → (K → Bool) → List (K × A) → K → List (K × A) → Bool
 is_refused same is_property properties k es = (has_key same k properties || has_key same k es) || no_room is_property properties k es
 
-module _ {K A : Type 0} (before : K → K → Bool) where
-  -- an entry among sorted ones: behind those whose keys come before its own
-  abbrev pub put_among : K × A → List (K × A) → List (K × A)
-  put_among e es = take (prefix_len (λ f. before f.0 e.0) es) es ++ e ∷ drop (prefix_len (λ f. before f.0 e.0) es) es
-
-  -- entries put among sorted ones, one after the other
-  unfoldable pub put_all : List (K × A) → List (K × A) → List (K × A)
-  put_all done [] = done
-  put_all done (e ∷ es) = put_all (put_among e done) es
-
--- both dictionaries of an operation from what was written, sorted by their keys: what moved stands among the properties
+-- both dictionaries of an operation from what was written, in the order of their keys: what moved stands among the
+-- properties
 abbrev pub properties_of : {K A : Type 0} → (K → Bool) → (K → K → Bool) → List (K × A) → List (K × A) → List (K × A)
-properties_of is_property before properties attributes = put_all before (put_all before [] properties) (moved is_property attributes)
+properties_of is_property before properties attributes = in_order before (properties ++ moved is_property attributes)
 
 abbrev pub attributes_of : {K A : Type 0} → (K → Bool) → (K → K → Bool) → List (K × A) → List (K × A)
-attributes_of is_property before attributes = put_all before [] (staying is_property attributes)
+attributes_of is_property before attributes = in_order before (staying is_property attributes)

@@ -7,11 +7,8 @@ use Rattle.ir_types.specs.Words.{is_inherent}
 use Rattle.ir_text_reading.specs.Outcomes.{Outcome, Read, Wrong, ◌>>=◌, of_option, Parse}
 use Rattle.ir_text_reading.specs.Lists.{list_at}
 use Rattle.ir_text_reading.specs.Typed.{Typed, after_typed}
-use Rattle.ir_text_attributes.specs.AttrReading.{key_at, value_at}
+use Rattle.ir_text_attributes.specs.AttrReading.{Entries, key_at, value_at}
 use Rattle.ir_text_operations.specs.Entries as keyed
-
-abbrev pub Entries : Type 0
-Entries = List (ℕ × ℕ)
 
 -- whether a key is a property of an operation wherever it stands; no key is where no operation is given
 abbrev pub is_property_in : Things → Option ℕ → ℕ → Bool

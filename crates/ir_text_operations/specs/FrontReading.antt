@@ -12,7 +12,8 @@ use Rattle.ir_text_reading.specs.Outcomes.{Outcome, Read, Wrong, ◌>>=◌, of_o
 use Rattle.ir_text_reading.specs.Lists.{list_at}
 use Rattle.ir_text_names.specs.declared.bound.Bound.{Bound}
 use Rattle.ir_text_names.specs.Packs.{Counted, named_view}
-use Rattle.ir_text_names.specs.NameReading.{Text, results_at}
+use Rattle.ir_text_reading.specs.Typed.{Text}
+use Rattle.ir_text_names.specs.NameReading.{results_at}
 use Rattle.ir_text_operations.specs.declared.front.Front.{Front}
 use Rattle.ir_text_operations.specs.Free.{seen_as}
 

@@ -15,14 +15,15 @@ use Rattle.ir_types.specs.Words.{is_isolated, is_inherent}
 use Rattle.ir_tree.specs.declared.value.Value.TheVariants as values
 use Rattle.ir_tree.specs.Tree.{RegionOf}
 use Rattle.ir_tree.specs.Meaning.{Operation, key_before}
-use Rattle.ir_text_reading.specs.Grammars.{Grammar, Then, Done, After, Not, Either, IsMore, IsList, Token, IsMark}
-use Rattle.ir_text_types.specs.TypeGrammar.{Text, IsType, IsFunctionType}
+use Rattle.ir_text_reading.specs.Grammars.{When, Grammar, Then, Done, After, Not, Either, IsMore, IsList, Token, IsMark}
+use Rattle.ir_text_reading.specs.Typed.{Text}
+use Rattle.ir_text_types.specs.TypeGrammar.{IsType, IsFunctionType}
 use Rattle.ir_text_attributes.specs.AttrGrammar.{EntryTerm, IsKey, IsValue, IsAttr}
 use Rattle.ir_text_operations.specs.Entries.{is_refused}
 use Rattle.ir_text_operations.specs.Made.{region_of, made}
 use Rattle.ir_text_operations.specs.Free.{seen_as}
 use Rattle.ir_text_names.specs.Packs.{Counted, counts}
-use Rattle.ir_text_operations.specs.Seen.{BoundTerm, PackTerm, Seen, seen_rest, seen_scopes, seen_inside, seen_outside, IsMarkSeen, InText, When, IsBound}
+use Rattle.ir_text_operations.specs.Seen.{BoundTerm, PackTerm, Seen, seen_rest, seen_scopes, seen_inside, seen_outside, IsMarkSeen, InText, IsBound}
 
 -- ---- before the dictionaries
 
@@ -94,12 +95,12 @@ abbrev pub IsEntryValue : Grammar Text AttrTerm
 IsEntryValue = IsValue 32 (IsAttr 32)
 
 -- an entry whose key does not stand before it, nor among the properties, and for which there is room
-abbrev pub IsEntry : Option (List ℕ) → List EntryTerm → List EntryTerm → Grammar Text EntryTerm
-IsEntry op properties before =
+abbrev pub IsOpEntry : Option (List ℕ) → List EntryTerm → List EntryTerm → Grammar Text EntryTerm
+IsOpEntry op properties before =
     Then IsKey (λ k. When (is_refused bytes_eq (is_property op) properties k before ≡ false) (Then IsEntryValue (λ a. Done (k, a))))
 
 abbrev pub IsEntries : Option (List ℕ) → List EntryTerm → Grammar Text (List EntryTerm)
-IsEntries op properties = IsList IsMark CloseCurly (IsEntry op properties) 513
+IsEntries op properties = IsList IsMark CloseCurly (IsOpEntry op properties) 513
 
 -- the properties, where they are written
 abbrev pub IsProperties : Grammar Text (List EntryTerm)

@@ -16,7 +16,8 @@ use Rattle.ir_text_names.specs.BlockReading.{finish, head_at}
 use Rattle.ir_text_names.specs.States.{State, after_in, typed, with_typed, with_scopes, inside, outside}
 use Rattle.ir_text_operations.specs.FrontReading.{Frees, Start, start_at}
 use Rattle.ir_text_operations.specs.Made.{region_of, made}
-use Rattle.ir_text_operations.specs.EntryReading.{Entries, is_property_in, properties_at, attributes_at}
+use Rattle.ir_text_attributes.specs.AttrReading.{Entries}
+use Rattle.ir_text_operations.specs.EntryReading.{is_property_in, properties_at, attributes_at}
 
 -- ---- operations up to a closing mark
 
@@ -47,8 +48,8 @@ regions_at p id isolated s = regions_from p id isolated s (after_in OpenRound s)
 -- ---- operations
 
 -- the types and values of operands
-abbrev pub types_of : List Bound → List ℕ
-types_of = map (λ b. b.ty)
+abbrev pub bound_types : List Bound → List ℕ
+bound_types = map (λ b. b.ty)
 
 abbrev pub values_of : List Bound → List Value
 values_of = map (λ b. b.value)
@@ -63,7 +64,7 @@ tail_at id name h properties regions s = do
   e ← attributes_at name properties (typed s)
   c ← of_option (after_typed Colon e.1)
   t ← function_type_at c
-  scopes ← (if bytes_eq (types_of h.operands) t.0.0 then finish id h.results t.0.1 s.scopes else Wrong)
+  scopes ← (if bytes_eq (bound_types h.operands) t.0.0 then finish id h.results t.0.1 s.scopes else Wrong)
   Read (op_of t.1.1 id name h.operands properties e.0 t.0.1 regions, with_scopes (with_typed s t.1) scopes)
 
 -- with its properties read, and the next id

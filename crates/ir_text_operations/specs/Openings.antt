@@ -9,17 +9,17 @@ use Rattle.ir_text_reading.specs.declared.error.ReadError.{ReadError}
 use Rattle.ir_text_reading.specs.declared.error.ReadError.TheVariants as errors
 use Rattle.ir_text_reading.specs.Marks.{after}
 use Rattle.ir_text_reading.specs.Outcomes.{Read, Wrong, ◌>>=◌, of_option, Parse}
-use Rattle.ir_text_reading.specs.Typed.{Typed, after_typed, name_step}
+use Rattle.ir_text_reading.specs.Typed.{Text, Typed, after_typed, name_step}
 use Rattle.ir_text_types.specs.TypeReading.{function_type_at}
 use Rattle.ir_text_names.specs.declared.bound.Bound.{Bound}
 use Rattle.ir_text_names.specs.BlockReading.{finish}
-use Rattle.ir_text_names.specs.NameReading.{Text}
 use Rattle.ir_text_names.specs.States.{State, typed, with_typed, with_scopes}
 use Rattle.ir_text_operations.specs.declared.opening.Opening.{Opening}
 use Rattle.ir_text_operations.specs.Entries.{properties_of, attributes_of}
-use Rattle.ir_text_operations.specs.EntryReading.{Entries, is_property_in, properties_at}
+use Rattle.ir_text_attributes.specs.AttrReading.{Entries}
+use Rattle.ir_text_operations.specs.EntryReading.{is_property_in, properties_at}
 use Rattle.ir_text_operations.specs.FrontReading.{Frees, Start, start_view, start_at, op_name_at}
-use Rattle.ir_text_operations.specs.OpReading.{types_of}
+use Rattle.ir_text_operations.specs.OpReading.{bound_types}
 
 -- the text is wrong, or there is no memory; the context isn't full
 abbrev pub IsOfText : ReadError → Type 0
@@ -52,8 +52,8 @@ opening_at free here s = do
   Read (record { start = h.0; name = n.0; isolated = isolated_in n.1 n.0; written = e.0 }, e.1)
 
 -- the types of the results behind a colon, where the operands have these types
-unfoldable pub outputs_at : List ℕ → Parse Typed (List ℕ)
-outputs_at inputs s = do
+unfoldable pub result_types_at : List ℕ → Parse Typed (List ℕ)
+result_types_at inputs s = do
   c ← of_option (after_typed Colon s)
   t ← function_type_at c
   if bytes_eq inputs t.0.0 then Read (t.0.1, t.1) else Wrong
@@ -61,7 +61,7 @@ outputs_at inputs s = do
 -- the same, with the names of the results bound
 unfoldable pub finished_at : ℕ → Start → Parse State (List ℕ)
 finished_at id h s = do
-  o ← outputs_at (types_of h.operands) (typed s)
+  o ← result_types_at (bound_types h.operands) (typed s)
   scopes ← finish id h.results o.0 s.scopes
   Read (o.0, with_scopes (with_typed s o.1) scopes)
 

@@ -43,10 +43,6 @@ IsMarkSeen m old new = (rest : List ℕ) × IsMark m old.bytes rest × (new ≡ 
 abbrev pub InText : {B : Type 0} → Grammar (List ℕ) B → Grammar Seen B
 InText P y old new = (rest : List ℕ) × P y old.bytes rest × (new ≡ seen_rest old rest)
 
--- P, where the condition holds
-abbrev pub When : {T B : Type 0} → Type 0 → Grammar T B → Grammar T B
-When F P y old new = F × P y old new
-
 -- a name that is not bound yet, and stands for the pack from here on
 abbrev pub IsBound : List ℕ → PackTerm → (old new : Scopes PackTerm) → Type 0
 IsBound name b old new = (find name old.here ≡ None) × (new ≡ bound name b old)

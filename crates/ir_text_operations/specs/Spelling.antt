@@ -66,15 +66,15 @@ abbrev pub last_from : ℕ → ℕ
 last_from next = min (next + 1048576) 4294967295
 
 -- the text is one operation and nothing after it; the names that it leaves free stand for values of the module around
-unfoldable pub IsSingle : FreeTerms → ℕ → ℕ → List ℕ → Operation → Type 0
-IsSingle free last next bytes t = (end : Seen) × (rest : List ℕ) × IsOp free last 129 t (seen_fresh next bytes) end × IsMark End end.bytes rest
+unfoldable pub IsSingleOp : FreeTerms → ℕ → ℕ → List ℕ → Operation → Type 0
+IsSingleOp free last next bytes t = (end : Seen) × (rest : List ℕ) × IsOp free last 129 t (seen_fresh next bytes) end × IsMark End end.bytes rest
 
 -- a text spells an operation whose ids are next, next + 1, .. in pre-order, each below 4,294,967,295, which
 -- passes no limit, and whose dictionaries are sorted, each key once. Its operands are seen where they stand,
 -- as the grammar has it, or free
 pub record SpellsOp (free : FreeTerms) (next : ℕ) (bytes : List ℕ) (t : Operation) : Type 0 where
   pub text : text_reason bytes ≡ None
-  pub spelled : IsSingle free (last_from next) next bytes t
+  pub spelled : IsSingleOp free (last_from next) next bytes t
   pub shallow : depth t ≤ most_around
   pub counts : IsTrue (counts_fit t)
   pub numbered : IsNumberedFrom next t

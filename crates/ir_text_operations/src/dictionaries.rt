@@ -1,20 +1,16 @@
 //! Entries of dictionaries by their keys. Language Reference, "Attributes" and "Properties".
-ghost use Rattle.std.specs.Prelude.{◌≡◌, ◌≤◌, OnOk, IfOk, nat_eq, length, Some};
+ghost use Rattle.std.specs.Prelude.{◌≡◌, ◌≤◌, OnOk, IfOk, not, length, Some};
 ghost use Rattle.std.specs.List.{prefix_len};
 ghost use Rattle.ir_tree.specs.Meaning.{key_before_in};
-ghost use Rattle.ir_text_operations.specs.Entries.{has_key, moved, staying, no_room, put_among, put_all, properties_of, attributes_of};
+ghost use Rattle.ir_text_attributes.specs.Keyed.{put_among, put_all};
+ghost use Rattle.ir_text_operations.specs.Entries.{moved, staying, no_room, properties_of, attributes_of};
 ghost use Rattle.ir_text_operations.specs.EntryReading.{is_property_in, refused_in};
 
+use ir_text_attributes::dictionaries::{Entry, MOST_ENTRIES};
 use ir_tree::sound::comes_before;
 use ir_types::context::Context;
-use ir_types::ids::{AttrId, NameId};
+use ir_types::ids::NameId;
 use std::alloc::{AllocError, Global};
-
-/// A key and an attribute.
-pub type Entry = (NameId, AttrId);
-
-/// The most entries of a dictionary.
-const MOST_ENTRIES: usize = 256;
 
 /// Whether a key is a property of an operation wherever it is written.
 fn is_property(ctx: &Context, op: &Option<NameId>, key: NameId) -> bool
@@ -24,13 +20,6 @@ fn is_property(ctx: &Context, op: &Option<NameId>, key: NameId) -> bool
         Some(name) => ctx.inherent(*name, key),
         None => false,
     }
-}
-
-/// Whether an entry has the key.
-pub fn has_key(key: NameId, entries: &[Entry]) -> bool
-    ensures { result ≡ has_key nat_eq key entries.now }
-{
-    entries.iter().any(|entry| entry.0 == key)
 }
 
 fn moved_count(ctx: &Context, op: &Option<NameId>, entries: &[Entry]) -> usize
@@ -71,14 +60,14 @@ pub fn no_room(
     }
 }
 
-/// How many of the first entries have keys that come before a key.
+/// How many of the first entries have keys before which a key does not come.
 fn place_of(ctx: &Context, sorted: &[Entry], key: NameId) -> usize
-    ensures place { result ≡ prefix_len (λ f. key_before_in ctx.now f.0 key) sorted.now }
+    ensures place { result ≡ prefix_len (λ f. not (key_before_in ctx.now key f.0)) sorted.now }
     ensures within { result ≤ length sorted.now }
 {
     sorted
         .iter()
-        .take_while(|other| comes_before(ctx, other.0, key))
+        .take_while(|other| !comes_before(ctx, key, other.0))
         .count()
 }
 
@@ -91,21 +80,18 @@ fn put_among(ctx: &Context, sorted: &mut Vec<Entry>, entry: Entry) -> Result<(),
     Ok(())
 }
 
-/// Puts entries among sorted ones, one after the other.
-#[tactic(auto, unfolding(crate::specs::Entries::put_all))]
+/// Puts entries among sorted ones, the last one first.
 fn put_all(ctx: &Context, sorted: &mut Vec<Entry>, entries: &[Entry]) -> Result<(), AllocError>
     ensures { OnOk result (sorted.new.items ≡ put_all (key_before_in ctx.now) sorted.old.items entries.now) }
 {
-    let mut rest = entries;
-    'entries: while let [entry, tail @ ..] = rest {
-        put_among(ctx, sorted, *entry)?;
-        rest = tail;
-    }
-    Ok(())
+    let [entry, behind @ ..] = entries else {
+        return Ok(());
+    };
+    put_all(ctx, sorted, behind)?;
+    put_among(ctx, sorted, *entry)
 }
 
-/// Puts those entries among sorted ones that are properties, or those that are not.
-#[tactic(auto, unfolding(crate::specs::Entries::put_all))]
+/// Puts those entries among sorted ones that are properties, the last one first.
 fn put_moved(
     ctx: &Context,
     op: &Option<NameId>,
@@ -114,17 +100,17 @@ fn put_moved(
 ) -> Result<(), AllocError>
     ensures { OnOk result (sorted.new.items ≡ put_all (key_before_in ctx.now) sorted.old.items (moved (is_property_in ctx.now op.now) entries.now)) }
 {
-    let mut rest = entries;
-    'entries: while let [entry, tail @ ..] = rest {
-        if is_property(ctx, op, entry.0) {
-            put_among(ctx, sorted, *entry)?;
-        }
-        rest = tail;
+    let [entry, behind @ ..] = entries else {
+        return Ok(());
+    };
+    put_moved(ctx, op, sorted, behind)?;
+    if is_property(ctx, op, entry.0) {
+        put_among(ctx, sorted, *entry)?;
     }
     Ok(())
 }
 
-#[tactic(auto, unfolding(crate::specs::Entries::put_all))]
+/// Puts those entries among sorted ones that are no properties, the last one first.
 fn put_staying(
     ctx: &Context,
     op: &Option<NameId>,
@@ -133,17 +119,18 @@ fn put_staying(
 ) -> Result<(), AllocError>
     ensures { OnOk result (sorted.new.items ≡ put_all (key_before_in ctx.now) sorted.old.items (staying (is_property_in ctx.now op.now) entries.now)) }
 {
-    let mut rest = entries;
-    'entries: while let [entry, tail @ ..] = rest {
-        if !is_property(ctx, op, entry.0) {
-            put_among(ctx, sorted, *entry)?;
-        }
-        rest = tail;
+    let [entry, behind @ ..] = entries else {
+        return Ok(());
+    };
+    put_staying(ctx, op, sorted, behind)?;
+    if !is_property(ctx, op, entry.0) {
+        put_among(ctx, sorted, *entry)?;
     }
     Ok(())
 }
 
 /// The properties of an operation, sorted, with those that were written among its attributes.
+#[tactic(auto, using(crate::proofs::Placing::put_both))]
 pub fn properties_of(
     alloc: Global,
     ctx: &Context,
@@ -154,8 +141,8 @@ pub fn properties_of(
     ensures { IfOk result (λ v. v.items ≡ properties_of (is_property_in ctx.now (Some op)) (key_before_in ctx.now) properties.now attributes.now) }
 {
     let mut sorted = Vec::with_capacity(alloc, properties.len())?;
-    put_all(ctx, &mut sorted, properties)?;
     put_moved(ctx, &Some(op), &mut sorted, attributes)?;
+    put_all(ctx, &mut sorted, properties)?;
     Ok(sorted)
 }
 

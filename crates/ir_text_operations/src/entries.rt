@@ -4,8 +4,8 @@ ghost use Rattle.ir_types.specs.Things.{Grows};
 ghost use Rattle.ir_text_reading.specs.Outcomes.{Gives};
 ghost use Rattle.ir_text_operations.specs.EntryReading.{refused_in, entry_at, entries_at, some_properties, properties_at, attributes_at};
 
-use crate::dictionaries::{Entry, has_key, no_room};
-use ir_text_attributes::dictionaries::{key, value};
+use crate::dictionaries::no_room;
+use ir_text_attributes::dictionaries::{Entry, has_key, key, value};
 use ir_text_names::lists::{Behind, behind_item};
 use ir_text_reading::error::{ReadError, wrong};
 use ir_text_reading::steps::{after, expect};

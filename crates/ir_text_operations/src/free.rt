@@ -5,7 +5,7 @@ ghost use Rattle.std.specs.Char.{is_ascii_digit};
 ghost use Rattle.ir_text_operations.specs.Free.{small, number_of, before_dot, at_dot, two_numbers, result_named, arg_named, value_named, free_bound};
 
 use ir_text_names::bound::Bound;
-use ir_text_tokens::numbers::integer_value;
+use ir_text_tokens::numbers::{are_digits, integer_value};
 use ir_tree::outer::Outer;
 use ir_tree::value::Value;
 use ir_types::ids::{OpId, TypeId};
@@ -33,13 +33,6 @@ impl Outer for NoOuter {
 pub struct Around<'o, O> {
     pub outer: &'o O,
     pub last: u32,
-}
-
-/// Whether all bytes are digits.
-pub(crate) fn are_digits(bytes: &[u8]) -> bool
-    ensures { result ≡ list_all is_ascii_digit bytes.now }
-{
-    bytes.iter().all(|byte| byte.is_ascii_digit())
 }
 
 /// A number that an id, a region or a place may be.

@@ -8,7 +8,7 @@ ghost use Rattle.ir_text_operations.specs.Free.{free_bound};
 ghost use Rattle.ir_text_operations.specs.Openings.{called_at};
 ghost use Rattle.ir_text_operations.specs.FrontReading.{op_name_at, member_at, member_of, use_at, uses_at, start_at, start_view};
 
-use crate::free::{are_digits, free_bound};
+use crate::free::free_bound;
 use ir_text_names::bound::Bound;
 use ir_text_names::lists::{Behind, behind_item};
 use ir_text_names::named::{Named, name, one_too_many, results};
@@ -17,7 +17,7 @@ use ir_text_reading::error::{ReadError, wrong};
 use ir_text_reading::steps::{after, expect, token};
 use ir_text_tokens::lexer;
 use ir_text_tokens::names::Names;
-use ir_text_tokens::numbers::integer_value;
+use ir_text_tokens::numbers::{are_digits, integer_value};
 use ir_text_tokens::strings::string_value;
 use ir_text_tokens::token::{Mark, Token};
 use ir_tree::outer::Outer;

@@ -13,17 +13,16 @@ ghost use Rattle.ir_text_tokens.specs.declared.fault.Fault.{Fault as TextFault};
 ghost use Rattle.ir_text_operations.specs.Spelling.{begins_module, is_root, module_word, Spells};
 ghost use Rattle.ir_text_reading.specs.Laws.{IsFull};
 ghost use Rattle.ir_text_operations.specs.Filling.{RootFills, BodyFills, OpsFill};
-ghost use Rattle.ir_text_operations.specs.Claims.{IsOnly, IsNone, IsRootOrNone, IsBody, IsSource, IsWhole, module_with};
+ghost use Rattle.ir_text_operations.specs.Claims.{IsOnly, IsNone, IsRootOrNone, IsBody, IsSource, IsModuleTree, module_with};
 
 use crate::free::{Around, NoOuter};
 use crate::ops::{MOST_OPS, op, ops};
 use crate::places::is_outside;
 use ir_text_names::scope::Scope;
-use ir_text_reading::error::{ReadError, wrong};
+use ir_text_reading::error::{ReadError, within_limits, wrong};
 use ir_text_reading::steps::after;
 use ir_text_tokens::fault::Fault;
 use ir_text_tokens::lexer::token;
-use ir_text_tokens::limits::check_text;
 use ir_text_tokens::names::Names;
 use ir_text_tokens::strings::string_value;
 use ir_text_tokens::token::{Mark, Token};
@@ -260,8 +259,8 @@ fn source(alloc: Global, ctx: &mut Context, bytes: &[u8]) -> Result<TreeOp, Read
 /// Looks at a tree that was read: every operand must be seen, and no limit passed; its ids must be 0, 1, ..
 /// and its dictionaries sorted.
 pub fn looked_at(alloc: Global, ctx: &Context, tree: &TreeOp) -> Result<(), ReadError>
-    ensures ok { IfOk result (λ _. IsWhole ctx.now tree.now) }
-    ensures refused { (f : TextFault) → result ≡ Err (ReadError.Refused f) → IsWhole ctx.now tree.now → ⊥ }
+    ensures ok { IfOk result (λ _. IsModuleTree ctx.now tree.now) }
+    ensures refused { (f : TextFault) → result ≡ Err (ReadError.Refused f) → IsModuleTree ctx.now tree.now → ⊥ }
     ensures room { (left : ℕ) → result ≡ Err (ReadError.Full left) → ⊥ }
 {
     match check(alloc, ctx, tree) {
@@ -286,12 +285,9 @@ fn tree_of_text(alloc: Global, ctx: &mut Context, bytes: &[u8]) -> Result<TreeOp
     ensures refused { (f : TextFault) → result ≡ Err (ReadError.Refused f) → IsNone (Spells bytes.now) }
     ensures grows { Grows ctx.old ctx.new }
 {
-    match check_text(bytes) {
+    match within_limits(bytes) {
         Ok(()) => {}
-        Err((refusal, offset)) => {
-            let left = bytes.len().saturating_sub(offset);
-            return Err(ReadError::Refused(Fault { refusal, left }));
-        }
+        Err(error) => return Err(error),
     }
     let tree = match source(alloc, ctx, bytes) {
         Ok(tree) => tree,

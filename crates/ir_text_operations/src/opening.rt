@@ -4,9 +4,9 @@ ghost use Rattle.ir_text_reading.specs.Outcomes.{Gives};
 ghost use Rattle.ir_text_operations.specs.Free.{free_bound};
 ghost use Rattle.ir_text_operations.specs.Openings.{opening_view, opening_at};
 
-use crate::dictionaries::Entry;
 use crate::entries::properties;
 use crate::front::{Front, start};
+use ir_text_attributes::dictionaries::Entry;
 use ir_text_names::pack::Pack;
 use ir_text_reading::error::ReadError;
 use ir_text_reading::steps;

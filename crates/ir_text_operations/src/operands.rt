@@ -1,7 +1,7 @@
 //! The types and values of operands.
 ghost use Rattle.std.specs.Prelude.{◌≡◌, IfOk};
 ghost use Rattle.std.specs.Str.{bytes_eq};
-ghost use Rattle.ir_text_operations.specs.OpReading.{types_of, values_of};
+ghost use Rattle.ir_text_operations.specs.OpReading.{bound_types, values_of};
 
 use ir_text_names::bound::Bound;
 use ir_tree::value::Value;
@@ -10,7 +10,7 @@ use std::alloc::{AllocError, Global};
 
 /// The types of operands agree with the inputs of a function type.
 pub fn agrees(operands: &[Bound], inputs: &[TypeId]) -> bool
-    ensures { result ≡ bytes_eq (types_of operands.now) inputs.now }
+    ensures { result ≡ bytes_eq (bound_types operands.now) inputs.now }
 {
     let mut left = operands;
     let mut right = inputs;

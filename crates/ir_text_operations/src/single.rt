@@ -8,19 +8,18 @@ ghost use Rattle.ir_text_operations.specs.Free.{free_bound, free_term};
 ghost use Rattle.ir_text_reading.specs.Laws.{IsFull};
 ghost use Rattle.ir_text_reading.specs.Outcomes.{Gives};
 ghost use Rattle.ir_text_names.specs.States.{fresh};
-ghost use Rattle.ir_text_operations.specs.SingleReading.{single_at};
+ghost use Rattle.ir_text_operations.specs.SingleReading.{single_op_at};
 ghost use Rattle.ir_text_operations.specs.Spelling.{last_from, SpellsOp};
-ghost use Rattle.ir_text_operations.specs.Claims.{IsOnly, IsNone, IsPart};
+ghost use Rattle.ir_text_operations.specs.Claims.{IsOnly, IsNone, IsLoneTree};
 
 use crate::free::Around;
 use crate::module::fault_of_label;
 use crate::ops::{MOST_OPS, op};
 use ir_text_names::blocks::location_refusal;
 use ir_text_names::scope::Scope;
-use ir_text_reading::error::{ReadError, wrong};
+use ir_text_reading::error::{ReadError, within_limits, wrong};
 use ir_text_reading::steps::after;
 use ir_text_tokens::fault::Fault;
-use ir_text_tokens::limits::check_text;
 use ir_text_tokens::names::Names;
 use ir_text_tokens::token::Mark;
 use ir_text_types::full::told;
@@ -50,7 +49,7 @@ fn last_from(next: u32) -> u32
 
 /// The operation of a text in which nothing stands after it: its ids are `next`, `next + 1`, .., each
 /// below `last`.
-#[tactic(auto, using(ir_types::proofs::Growth::grows_refl, ir_types::proofs::Growth::grows_trans), unfolding(crate::specs::SingleReading::single_at))]
+#[tactic(auto, using(ir_types::proofs::Growth::grows_refl, ir_types::proofs::Growth::grows_trans), unfolding(crate::specs::SingleReading::single_op_at))]
 fn single<O: Outer>(
     alloc: Global,
     ctx: &mut Context,
@@ -59,7 +58,7 @@ fn single<O: Outer>(
     next: u32,
     last: u32,
 ) -> Result<TreeOp, ReadError>
-    ensures reads { Gives (λ t. (t, ctx.new)) result (single_at (free_bound (O.types outer.now)) last (fresh next bytes.now ctx.old)) }
+    ensures reads { Gives (λ t. (t, ctx.new)) result (single_op_at (free_bound (O.types outer.now)) last (fresh next bytes.now ctx.old)) }
     ensures grows { Grows ctx.old ctx.new }
 {
     let mut scope = Scope {
@@ -105,8 +104,8 @@ fn before_ids<O: Outer>(
 /// Looks at an operation that was read: no limit may be passed, its ids must be `next`, `next + 1`, .. and
 /// its dictionaries sorted.
 fn looked_at(ctx: &Context, tree: &TreeOp, next: u32) -> Result<(), ReadError>
-    ensures ok { IfOk result (λ _. IsPart next ctx.now tree.now) }
-    ensures refused { (f : TextFault) → result ≡ Err (ReadError.Refused f) → IsPart next ctx.now tree.now → ⊥ }
+    ensures ok { IfOk result (λ _. IsLoneTree next ctx.now tree.now) }
+    ensures refused { (f : TextFault) → result ≡ Err (ReadError.Refused f) → IsLoneTree next ctx.now tree.now → ⊥ }
 {
     if depth(tree) > MOST_AROUND {
         return Err(ReadError::Refused(Fault {
@@ -143,12 +142,9 @@ fn op_of_text<O: Outer>(
     ensures refused { (f : TextFault) → result ≡ Err (ReadError.Refused f) → IsNone (SpellsOp (free_term (O.types outer.now) ctx.old) (O.next outer.now) bytes.now) }
     ensures grows { Grows ctx.old ctx.new }
 {
-    match check_text(bytes) {
+    match within_limits(bytes) {
         Ok(()) => {}
-        Err((refusal, offset)) => {
-            let left = bytes.len().saturating_sub(offset);
-            return Err(ReadError::Refused(Fault { refusal, left }));
-        }
+        Err(error) => return Err(error),
     }
     ctx.sound();
     let next = outer.next_id();

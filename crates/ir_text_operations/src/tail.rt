@@ -5,15 +5,16 @@ ghost use Rattle.ir_types.specs.Things.{Grows};
 ghost use Rattle.ir_text_reading.specs.Outcomes.{Gives};
 ghost use Rattle.ir_text_names.specs.States.{state_of};
 ghost use Rattle.ir_text_operations.specs.FrontReading.{start_view};
-ghost use Rattle.ir_text_operations.specs.Openings.{AreDictionaries, outputs_at, finished_at};
-ghost use Rattle.ir_text_operations.specs.OpReading.{types_of, op_of, tail_at};
+ghost use Rattle.ir_text_operations.specs.Openings.{AreDictionaries, result_types_at, finished_at};
+ghost use Rattle.ir_text_operations.specs.OpReading.{bound_types, op_of, tail_at};
 
-use crate::dictionaries::{Entry, attributes_of, properties_of};
+use crate::dictionaries::{attributes_of, properties_of};
 use crate::entries::attributes;
 use crate::front::Front;
 use crate::opening::Opening;
 use crate::operands::{agrees, values_of};
 use crate::places::placed;
+use ir_text_attributes::dictionaries::Entry;
 use ir_text_names::bound::Bound;
 use ir_text_names::results::finish;
 use ir_text_names::scope::Scope;
@@ -30,14 +31,14 @@ use std::alloc::{AllocError, Global};
 
 /// The types of the results, in a function type behind a colon. `TypeMismatch` at the colon where the
 /// operands don't have its inputs.
-#[tactic(auto, using(ir_types::proofs::Growth::grows_refl, ir_types::proofs::Growth::grows_trans), unfolding(crate::specs::Openings::outputs_at))]
+#[tactic(auto, using(ir_types::proofs::Growth::grows_refl, ir_types::proofs::Growth::grows_trans), unfolding(crate::specs::Openings::result_types_at))]
 fn outputs<'a>(
     alloc: Global,
     ctx: &mut Context,
     operands: &[Bound],
     bytes: &'a [u8],
 ) -> Result<(Vec<TypeId>, &'a [u8]), ReadError>
-    ensures reads { Gives (λ x. (x.0.items, (x.1.now, ctx.new))) result (outputs_at (types_of operands.now) (bytes.now, ctx.old)) }
+    ensures reads { Gives (λ x. (x.0.items, (x.1.now, ctx.new))) result (result_types_at (bound_types operands.now) (bytes.now, ctx.old)) }
     ensures grows { Grows ctx.old ctx.new }
 {
     let rest = match expect(bytes, Mark::Colon) {

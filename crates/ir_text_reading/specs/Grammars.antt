@@ -19,6 +19,10 @@ Done y z old new = (z ≡ y) × (new ≡ old)
 abbrev pub DoneIf : {T B : Type 0} → Type 0 → B → Grammar T B
 DoneIf F y z old new = F × (z ≡ y) × (new ≡ old)
 
+-- P, where the condition holds
+abbrev pub When : {T B : Type 0} → Type 0 → Grammar T B → Grammar T B
+When F P y old new = F × P y old new
+
 module _ {T : Type 0} (Tok : Mark → T → T → Type 0) where
   -- the mark is not next
   abbrev pub Not : Mark → T → Type 0

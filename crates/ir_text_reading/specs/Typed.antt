@@ -9,8 +9,12 @@ use Rattle.ir_types.specs.Reasons.{name_reason, type_reason, attr_reason}
 use Rattle.ir_text_reading.specs.Outcomes.{Outcome, interned}
 use Rattle.ir_text_reading.specs.Marks.{after}
 
+-- what is left of a text: its bytes
+abbrev pub Text : Type 0
+Text = List ℕ
+
 abbrev pub Typed : Type 0
-Typed = List ℕ × Things
+Typed = Text × Things
 
 abbrev pub after_typed : Mark → Typed → Option Typed
 after_typed m s = option_map (λ r. (r, s.1)) (after m s.0)

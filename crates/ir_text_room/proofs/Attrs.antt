@@ -1,6 +1,6 @@
 -- Attributes that are read fit.
 use Rattle.std.proofs.Common.{◌≡◌, ◌≤◌, ◌+◌, ℕ, zero, suc, Bool, true, false, List, [], ◌∷◌, ◌++◌, length, Option, Some, None, ℤ, refl, ap, arith, length-append, le-leb}
-use Rattle.std.specs.Prelude.{if◌then◌else◌, nat_le, map}
+use Rattle.std.specs.Prelude.{nat_eq, if◌then◌else◌, nat_le, map}
 use Rattle.std.specs.List.{list_all}
 use Rattle.std.specs.Str.{bytes_eq}
 use Rattle.ir_text_tokens.specs.declared.token.Mark.{Mark}
@@ -34,7 +34,8 @@ use Rattle.ir_text_reading.proofs.Worlds.{bind_read, option_read}
 use Rattle.ir_text_attributes.specs.declared.flag.Flag.{Flag}
 use Rattle.ir_text_attributes.specs.Literals.{Word, Truth, UnitWord, ArrayWord, TypeWord, word_of, truth_bits, overflow_word, none_word, flag_of, has_nsw, has_nuw}
 use Rattle.ir_text_attributes.specs.Elements.{bits_of, type_of, element_named, is_bit, item_value}
-use Rattle.ir_text_attributes.specs.AttrReading.{attr_done, name_done, truth_at, string_at, type_attr_at, suffix_from, suffix_at, literal_done, literal_at, negative_from, negative_at, flag_from, flag_at, some_flags_at, no_flags_at, flags_from, flags_at, overflow_at, part_from, part_at, parts_from, parts_at, symbol_at, element_from, element_at, truth_item, number_item, minus_from, minus_item, mark_item, item_from, item_at, some_items_at, no_items_at, items_from, items_at, dense_done, dense_at, knows_key, Entries, key_from, key_at, unit_value_at, value_from, value_by, entry_by, entries_by, dictionary_by, attrs_by, array_by, word_attr, mark_attr, attr_from, attr_at}
+use Rattle.ir_text_attributes.specs.Keyed.{has_key}
+use Rattle.ir_text_attributes.specs.AttrReading.{attr_done, name_done, truth_at, string_attr_at, type_attr_at, suffix_from, suffix_at, literal_done, literal_at, negative_from, negative_at, flag_from, flag_at, some_flags_at, no_flags_at, flags_from, flags_at, overflow_at, part_from, part_at, parts_from, parts_at, symbol_attr_at, element_from, element_at, truth_item, number_item, minus_from, minus_item, mark_item, item_from, item_at, some_items_at, no_items_at, items_from, items_at, dense_done, dense_at, Entries, key_from, key_at, unit_value_at, value_from, value_by, entry_by, entries_by, dictionary_by, attrs_by, array_by, word_attr, mark_attr, attr_from, attr_at}
 use Rattle.ir_text_room.specs.Room.{Fits}
 use Rattle.ir_text_room.proofs.Lengths.{gain}
 use Rattle.ir_text_room.proofs.Fits.{fits_to, Has, Good, wrong, reads, good_then, good_some, unless_good, more_good, list_good, text, things}
@@ -116,8 +117,8 @@ truth_good : (i j k : ℕ) (b : Bool) (s : Typed) → Has text things i (j + 1) 
 unfolding truth_at
 truth_good i j k b s h = good_then text things (type_done (type.Int Signless 1) s) _ (type_done_good i j (k + 1) (type.Int Signless 1) s h) (λ t f. done_good i j k (attr.Int t.0 (truth_bits b)) t.1 refl f)
 
-string_good : (i j k : ℕ) (raw : List ℕ) (s : Typed) → Has text things (i + 2) j (k + 1) s → Good text things i j k (string_at raw s)
-unfolding string_at name_step
+string_good : (i j k : ℕ) (raw : List ℕ) (s : Typed) → Has text things (i + 2) j (k + 1) s → Good text things i j k (string_attr_at raw s)
+unfolding string_attr_at name_step
 string_good i j k raw s h = by (name_reason (string_bytes raw) s.1) refl
   where
     go : ℕ × Things → Outcome (ℕ × Typed)
@@ -219,8 +220,8 @@ parts_good (suc room) i j k items s h = good_then text things (part_at s) _ (par
     by front s f (Some c) e go = go i j k front c (fits_to (mark_fits DoubleColon refl i j (k + 1) s c e f) (omega arith) (omega arith) (omega arith))
     by front s f None e go = reads text things (front, s) f
 
-symbol_good : (i j k : ℕ) (s : Typed) → Has text things i j k s → Good text things i j k (symbol_at s)
-unfolding symbol_at
+symbol_good : (i j k : ℕ) (s : Typed) → Has text things i j k s → Good text things i j k (symbol_attr_at s)
+unfolding symbol_attr_at
 symbol_good i j k s h = good_then text things (parts_at many [] s) _ (parts_good many i j k [] s h) (λ ns f. done_good i j k (attr.Sym ns.0) ns.1 refl f)
 
 -- ---- dense arrays
@@ -348,7 +349,7 @@ module _ (depth : ℕ) (p : Parse Typed ℕ) (one : (i j k : ℕ) (s : Typed) �
   unfolding entry_by
   entry_good i j k before s h =
       good_then text things (key_at s) _ (key_good i j k s h) (λ key f.
-      good_then text things (if knows_key key.0 before then Wrong else value_by depth p key.1) _ (unless_good text things (knows_key key.0 before) (value_by depth p key.1) (value_good i j k key.1 (fits_to f (omega arith) (omega arith) (omega arith)))) (λ a g.
+      good_then text things (if has_key nat_eq key.0 before then Wrong else value_by depth p key.1) _ (unless_good text things (has_key nat_eq key.0 before) (value_by depth p key.1) (value_good i j k key.1 (fits_to f (omega arith) (omega arith) (omega arith)))) (λ a g.
       reads text things ((key.0, a.0), a.1) g))
 
   dictionary_good : (i j k : ℕ) (s : Typed) → Has text things (i + 1) j (k + 1) s → Good text things i j k (dictionary_by depth p s)

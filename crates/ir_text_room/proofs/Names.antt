@@ -14,7 +14,8 @@ use Rattle.ir_text_reading.specs.Marks.{after}
 use Rattle.ir_text_reading.specs.Outcomes.{Outcome, Read, Wrong}
 use Rattle.ir_text_names.specs.declared.bound.Bound.{Bound}
 use Rattle.ir_text_names.specs.Packs.{Counted, counts}
-use Rattle.ir_text_names.specs.NameReading.{Text, name_from, name_at, number_from, number_at, some_count, within, count_at, result_at, names_at, results_from, results_at}
+use Rattle.ir_text_reading.specs.Typed.{Text}
+use Rattle.ir_text_names.specs.NameReading.{name_from, value_name_at, number_from, nonzero_at, some_count, count_within, count_at, result_at, names_at, results_from, results_at}
 use Rattle.ir_text_operations.specs.Free.{seen_as}
 use Rattle.ir_text_operations.specs.FrontReading.{op_name_from, op_name_at, place_of, place_from, place_at, member_at, Frees, use_from, use_at, uses_at, start_at}
 use Rattle.ir_text_room.specs.Room.{Fits}
@@ -33,16 +34,16 @@ module _ (c : Things) where
   pub mark_passes : (m : Mark) → gain (mark m) ≡ 1 → (i j k : ℕ) (b r : Text) → after m b ≡ Some r → Fits i j k b c → Fits (i + 1) (j + 1) (k + 1) r c
   mark_passes m one i j k b r e h = let l = after_length m b r e in fits_to h (omega (arith, l, one)) (omega (arith, l, one)) (omega (arith, l, one))
 
-  pub name_at_good : (i j k : ℕ) (b : Text) → Fits i j k b c → Good same held i j k (name_at b)
-  unfolding name_at
+  pub name_at_good : (i j k : ℕ) (b : Text) → Fits i j k b c → Good same held i j k (value_name_at b)
+  unfolding value_name_at
   name_at_good i j k b h = good_some same held (next b) (λ t. name_from t.0 t.1) (λ t e. by t.0 t.1 e)
     where
       by : (l : Lexeme) (rest : List ℕ) → next b ≡ Some (l, rest) → Good same held i j k (name_from l rest)
       by (value n) rest e = reads same held (n, rest) (fits_to (token_fits i j k b rest c (value n) e h) (omega arith) (omega arith) (omega arith))
       by _ rest e = wrong same held
 
-  number_good : (i j k : ℕ) (b : Text) → Fits i j k b c → Good same held i j k (number_at b)
-  unfolding number_at
+  number_good : (i j k : ℕ) (b : Text) → Fits i j k b c → Good same held i j k (nonzero_at b)
+  unfolding nonzero_at
   number_good i j k b h = good_some same held (next b) (λ t. number_from t.0 t.1) (λ t e. by t.0 t.1 e)
     where
       by_test : (p : Bool) (n : ℕ) (rest : Text) → Fits i j k rest c → Good same held i j k (if p then Read (n, rest) else Wrong)
@@ -55,7 +56,7 @@ module _ (c : Things) where
 
   count_good : (i j k before : ℕ) (b : Text) → Fits i j k b c → Good same held i j k (count_at before b)
   unfolding count_at
-  count_good i j k before b h = good_then same held (some_count b (after Colon b)) (within before) (by (after Colon b) refl) (λ x f. by_test (nat_le (before + x.0) 256) x f)
+  count_good i j k before b h = good_then same held (some_count b (after Colon b)) (count_within before) (by (after Colon b) refl) (λ x f. by_test (nat_le (before + x.0) 256) x f)
     where
       by : (o : Option Text) → after Colon b ≡ o → Good same held i j k (some_count b o)
       by (Some r) e = number_good i j k r (fits_to (mark_passes Colon refl i j k b r e h) (omega arith) (omega arith) (omega arith))
@@ -68,7 +69,7 @@ module _ (c : Things) where
   result_good : (i j k before : ℕ) (b : Text) → Fits i j k b c → Good same held i j k (result_at before b)
   unfolding result_at
   result_good i j k before b h =
-      good_then same held (name_at b) _ (name_at_good i j k b h) (λ n f.
+      good_then same held (value_name_at b) _ (name_at_good i j k b h) (λ n f.
       good_then same held (count_at before n.1) _ (count_good i j k before n.1 f) (λ m g.
       reads same held ((n.0, m.0), m.1) g))
 

@@ -7,9 +7,8 @@ ghost use Rattle.ir_text_operations.specs.Filling.{new_things, RootFills, BodyFi
 ghost use Rattle.ir_text_operations.specs.Spelling.{Spells};
 
 use ir_text_operations::module::{Root, as_written, explicit, implicit, looked_at};
-use ir_text_reading::error::ReadError;
+use ir_text_reading::error::{ReadError, within_limits};
 use ir_text_tokens::fault::Fault;
-use ir_text_tokens::limits::check_text;
 use ir_tree::tree::TreeOp;
 use ir_types::context::Context;
 use std::alloc::Global;
@@ -125,12 +124,9 @@ pub fn read_new(alloc: Global, key: u64, bytes: &[u8]) -> Result<(Context, TreeO
     ensures refused { (f : TextFault) → result ≡ Err (ReadError.Refused f) → IsNone (Spells bytes.now) }
     ensures room { (left : ℕ) → result ≡ Err (ReadError.Full left) → ⊥ }
 {
-    match check_text(bytes) {
+    match within_limits(bytes) {
         Ok(()) => {}
-        Err((refusal, offset)) => {
-            let left = bytes.len().saturating_sub(offset);
-            return Err(ReadError::Refused(Fault { refusal, left }));
-        }
+        Err(error) => return Err(error),
     }
     let (ctx, tree) = match source_alone(alloc, key, bytes) {
         Ok(found) => found,

@@ -26,12 +26,14 @@ use Rattle.ir_text.specs.declared.naming.ValueName.{ValueName}
 use Rattle.ir_text.specs.declared.naming.ValueName.TheVariants as name
 use Rattle.ir_text.specs.AttrText.{is_truth, truth_text, number_text, integer_text, items_text, dense_text, part_text, flags_text, is_flag, entry_text, in_curly, attr_text, attr_texts, entry_texts}
 use Rattle.ir_text.specs.Naming.{Naming, Named, name_text, naming_of, naming_text, value_text, value_type}
-use Rattle.ir_text.specs.Printing.{Printed, put, deeper, results_text, put_results, put_operands, types_of, entries_of, dictionary_text, properties_text, attributes_text, put_name, put_head, put_type_of, put_tail, comma_at, argument_text, put_argument, put_arguments, put_bare_label, put_label, opening, closing, put_op, put_regions, put_region, put_ops, blank, text_of}
+use Rattle.ir_text_types.specs.TypeGrammar.{types_of}
+use Rattle.ir_text_attributes.specs.AttrGrammar.{entries_of}
+use Rattle.ir_text.specs.Printing.{Printed, put, deeper, results_text, put_results, put_operands, dictionary_text, properties_text, attributes_text, put_head, put_tail, comma_at, argument_text, put_argument, put_arguments, put_bare_label, put_label, opening, closing_text, put_op, put_regions, put_region, put_ops, blank, text_of}
 use Rattle.ir_text.specs.Rows.{parted}
 use Rattle.ir_text.specs.TypeText.{sign_text, dimension_text, is_lone, in_round, outputs_text, type_text, type_texts}
 use Rattle.ir_text_round.proofs.Small.{both}
-use Rattle.ir_text_round.specs.WrittenAttributes.{are_bytes, are_parts, is_written, are_written, are_written_entries, FitsAttr}
-use Rattle.ir_text_round.specs.WrittenTrees.{IsWritableDictionary, IsWritableHead, IsWritable, AreWritableRegions, IsWritableRegion, AreWritableOps}
+use Rattle.ir_text_round.specs.WrittenAttributes.{IsWritableDictionary, are_bytes, is_written, are_written, are_written_entries, FitsAttr}
+use Rattle.ir_text_round.specs.WrittenTrees.{IsWritableHead, IsWritable, AreWritableRegions, IsWritableRegion, AreWritableOps}
 use Rattle.ir_text_round.proofs.Texts.{Head, Regions, Region, Ops}
 
 -- ---- bytes
@@ -334,7 +336,7 @@ opened : (rs : Regions) → IsAscii (opening rs)
 opened no_regions = IsAscii-nil
 opened (region g rs) = word (codes " (") refl
 
-closed : (rs : Regions) → IsAscii (closing rs)
+closed : (rs : Regions) → IsAscii (closing_text rs)
 closed no_regions = IsAscii-nil
 closed (region g rs) = word (codes ")") refl
 
@@ -344,7 +346,7 @@ mutual
       let first = put_head margin h o in
       let second = put (opening rs) first in
       let third = put_regions margin h.id 0 rs second in
-      ending h (put (closing rs) third) w.0 (more (closing rs) third (regions_low margin h.id 0 rs second m w.1 (more (opening rs) first (heading margin h o m w.0 k) (opened rs))) (closed rs))
+      ending h (put (closing_text rs) third) w.0 (more (closing_text rs) third (regions_low margin h.id 0 rs second m w.1 (more (opening rs) first (heading margin h o m w.0 k) (opened rs))) (closed rs))
 
   regions_low : (margin : List ℕ) (x r : ℕ) (rs : Regions) (o : Printed) → IsAscii margin → AreWritableRegions rs → IsAscii o.text → IsAscii (put_regions margin x r rs o).text
   regions_low margin x r no_regions o m w k = k

@@ -1,6 +1,7 @@
 -- An attribute that is printed is read again.
 use Rattle.std.proofs.Common.{◌≡◌, ℕ, zero, suc, ◌≤◌, true, false, List, [], ◌∷◌, ◌++◌, map, length, None, refl, sym, ap, subst, ◌∙◌, append_assoc, arith, inl, inr}
 use Rattle.std.specs.Prelude.{◌&&◌, nat_le, codes}
+use Rattle.std.specs.Str.{bytes_eq}
 use Rattle.std.specs.List.{list_all}
 use Rattle.std.proofs.lemmas.Bool.Decides.{nat_tests}
 use Rattle.std.proofs.lemmas.Option.{some_pair_parts}
@@ -19,7 +20,8 @@ use Rattle.ir_text.specs.Rows.{parted}
 use Rattle.ir_text.specs.AttrText.{attr_text, attr_texts, entry_texts}
 use Rattle.ir_text_types.specs.TypeReading.{many}
 use Rattle.ir_text_attributes.specs.Literals.{Word, Truth, UnitWord, ArrayWord, TypeWord, word_of}
-use Rattle.ir_text_attributes.specs.AttrGrammar.{IsTypeAttr, IsPart, IsParts, IsSymbol, EntryTerm, attrs_of, entries_of, in_order, has_key, IsKey, IsUnitValue, IsEntry, IsDictionary, IsArray, IsWordAttr, IsMarkAttr, IsAttrFrom, IsAttr}
+use Rattle.ir_text_attributes.specs.AttrGrammar.{IsTypeAttr, IsPart, IsParts, IsSymbol, EntryTerm, attrs_of, entries_of, IsKey, IsUnitValue, IsEntry, IsDictionary, IsArray, IsWordAttr, IsMarkAttr, IsAttrFrom, IsAttr}
+use Rattle.ir_text_attributes.specs.Keyed.{has_key, in_order}
 use Rattle.ir_text_round.specs.Written.{is_written_type}
 use Rattle.ir_text_round.specs.WrittenAttributes.{attrs_list, entries_list, are_bytes as are_bytes_test, is_element, is_written, are_written, are_written_entries, FitsAttr, EndsAttr}
 use Rattle.ir_text_round.proofs.Small.{both, in_range, lacks_token, ends_word, are_bytes}
@@ -109,7 +111,7 @@ dictionary_fine es le = let e : nat_le (attr_depth (Dictionary es)) 32 ≡ true 
 
 -- an entry fits where its key does not stand before it
 abbrev pub FitsEntry : ℕ → List EntryTerm → EntryTerm → Type 0
-FitsEntry depth before e = (has_key e.0 before ≡ false) × AreBytes e.0 × FitsAttr depth e.1
+FitsEntry depth before e = (has_key bytes_eq e.0 before ≡ false) × AreBytes e.0 × FitsAttr depth e.1
 
 some_attr_depth : (a : AttrTerm) → is_written a ≡ true → 1 ≤ attr_depth a
 some_attr_depth (IntegerOf ty bits) e = omega arith
@@ -179,7 +181,7 @@ module _ (depth : ℕ) (item : IsReadAgain depth) where
       let row = parted (codes ", ") true (entry_texts es) in
       let inside = list_again CloseCurly (IsEntry depth (IsAttr depth)) text_of_entry (FitsEntry depth) EndsEntry entry_items 256 (entries_list es) rest (entries_fit depth [] es (none_before es) q.1 (omega arith) p.1) (in_range (length (entries_list es)) 256 q.0) in
       let apart : attr_text (Dictionary es) ++ rest ≡ 123 ∷ (row ++ 125 ∷ rest) = ap (λ (l : List ℕ). 123 ∷ l) (append_assoc row (125 ∷ []) rest) in
-      let same : entries_of (in_order (entries_list es)) ≡ es = ap entries_of (in_order_again (entries_list es) q.1) ∙ entries_again es in
+      let same : entries_of (in_order key_before (entries_list es)) ≡ es = ap entries_of (in_order_again (entries_list es) q.1) ∙ entries_again es in
       rw apart (mark OpenCurly, row ++ 125 ∷ rest, mark_token OpenCurly (row ++ 125 ∷ rest) tt, (entries_list es, rest, rw (texts_of_entries es) inside, (rw same (dictionary_fine es (omega arith)), rw same refl, refl)))
     where
       none_before : (es : EntryTerms) → AreBeforeFirst [] (entries_list es)

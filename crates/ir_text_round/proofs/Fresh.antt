@@ -21,7 +21,7 @@ use Rattle.ir_text.specs.Naming.{Named, naming_of, naming_type, value_type, sour
 use Rattle.ir_text_round.specs.Written.{FitsType}
 use Rattle.ir_text_round.proofs.Small.{are_bytes}
 use Rattle.ir_text_round.specs.Runs.{Runs}
-use Rattle.ir_text_round.specs.WrittenTrees.{FitsHead}
+use Rattle.ir_text_round.proofs.Fitting.{FitsHead}
 use Rattle.ir_text_round.proofs.Texts.{Head, Names, results_names, results_then, name_then}
 use Rattle.ir_text_round.proofs.ModuleValues.{Away, all_front}
 use Rattle.ir_text_round.proofs.Grown.{Grown}
@@ -127,7 +127,7 @@ joined_end f scope n m s x (t ∷ ts) j keep few fit own small more more_argumen
 
 -- an operation begins with a string or the name of a value
 pub plain_head : (m : ℕ) (ts : List TypeTerm) (h : Head) (named : Named) (rest : List ℕ) → FitsHead h → m < 2 ^ 128 → length ts ≤ 256 → Plain (results_then m ts (name_then h named rest))
-plain_head m [] h named rest fit lt few = record { lexeme = string (raw_text h.name); behind = _; token = string_token h.name _ (are_bytes h.name fit.bytes); no_label = λ id r s. (refl, refl); no_mark = λ k e. absurd cc }
+plain_head m [] h named rest fit lt few = record { lexeme = string (raw_text h.name); behind = _; token = string_token h.name _ (are_bytes h.name fit.written.bytes); no_label = λ id r s. (refl, refl); no_mark = λ k e. absurd cc }
 plain_head m (t ∷ ts) h named rest fit lt few =
     let r = result_read m (length (t ∷ ts)) (name_then h named rest) lt (omega arith) few in
     record { lexeme = value (decimal m); behind = r.mid; token = r.name; no_label = λ id q s. (refl, refl); no_mark = λ k e. absurd cc }

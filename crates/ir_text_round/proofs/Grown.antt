@@ -5,7 +5,7 @@ use Rattle.ir_types.specs.Terms.{TypeTerm}
 use Rattle.ir_tree.specs.Tree.{op, no_regions, region, region_count, empty, block, no_ops, next}
 use Rattle.ir_tree.specs.Ids.{ids, regions_ids, region_ids, ops_ids}
 use Rattle.ir_tree.specs.Meaning.{Operation}
-use Rattle.ir_text_round.specs.WrittenTrees.{FitsOp, FitsRegions, FitsRegion, FitsOps}
+use Rattle.ir_text_round.proofs.Fitting.{FitsOp, FitsRegions, FitsRegion, FitsOps}
 use Rattle.ir_text_round.proofs.Texts.{Names, Regions, Region, Ops, results_names, argument_names, arguments_names, op_names, regions_names, region_names, ops_names}
 
 -- from n to m at most so many names are given

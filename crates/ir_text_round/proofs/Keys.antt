@@ -1,5 +1,5 @@
 -- Dictionaries whose keys rise stand in order, each key once.
-use Rattle.std.proofs.Common.{◌≡◌, ℕ, Bool, true, false, List, [], ◌∷◌, ◌++◌, refl, sym, ap, subst, ◌∙◌, inl, inr}
+use Rattle.std.proofs.Common.{◌≡◌, ℕ, true, false, List, [], ◌∷◌, ◌++◌, refl, sym, ap, ◌∙◌}
 use Rattle.std.specs.List.{AllByRecursion}
 use Rattle.std.specs.Str.{bytes_eq}
 use Rattle.std.proofs.Common.{Ordering}
@@ -8,11 +8,10 @@ use Rattle.std.specs.declared.cmp.Ordering.TheVariants.{Less, Equal, Greater}
 use Rattle.std.specs.Cmp.Lexicographic.{slice_cmp}
 use Rattle.std.proofs.lemmas.Cmp.{nat_list_cmp_total}
 use Rattle.std.proofs.lemmas.Map.Text.{is_eq-slice_cmp}
-use Rattle.ir_types.proofs.Growth.{name_is, name_refl}
 use Rattle.ir_types.specs.Terms.{AttrTerm, EntryTerms, no_entries, next_entry}
 use Rattle.ir_tree.specs.Meaning.{key_before, rises, rises_after}
-use Rattle.ir_text_tokens.proofs.Escapes.{either}
-use Rattle.ir_text_attributes.specs.AttrGrammar.{EntryTerm, entries_of, placed, in_order, has_key}
+use Rattle.ir_text_attributes.specs.AttrGrammar.{EntryTerm, entries_of}
+use Rattle.ir_text_attributes.specs.Keyed.{has_key, put_among, in_order}
 use Rattle.ir_text_round.specs.WrittenAttributes.{entries_list}
 use Rattle.ir_text_round.proofs.Small.{both}
 
@@ -29,17 +28,8 @@ less_apart Greater e = absurd cc
 before_trans : (k l m : List ℕ) → key_before k l ≡ true → key_before l m ≡ true → key_before k m ≡ true
 before_trans k l m p q = ap is_lt (nat_list_cmp_total.trans k l m (is_less (slice_cmp nat_cmp k l) p) (is_less (slice_cmp nat_cmp l m) q))
 
-pub apart : (k l : List ℕ) → key_before k l ≡ true → bytes_eq k l ≡ false
+apart : (k l : List ℕ) → key_before k l ≡ true → bytes_eq k l ≡ false
 apart k l p = sym (is_eq-slice_cmp k l) ∙ less_apart (slice_cmp nat_cmp k l) p
-
-pub apart_back : (k l : List ℕ) → key_before k l ≡ true → bytes_eq l k ≡ false
-apart_back k l p = elim (either (bytes_eq l k)) [
-  | inl t ↦ let e : bytes_eq k l ≡ true = subst (λ m. bytes_eq m l ≡ true) (name_is l k t) (name_refl l) in absurd (clash (bytes_eq k l) e (apart k l p))
-  | inr f ↦ f
-]
-  where
-    clash : (b : Bool) → b ≡ true → b ≡ false → ⊥
-    clash b e f = absurd cc
 
 module _ {A : Type 0} where
   -- every key of these comes before the key
@@ -62,16 +52,16 @@ pub next_before : (front : List (List ℕ × AttrTerm)) (e : List ℕ × AttrTer
 next_before front e [] b r = (tt, refl)
 next_before front e (f ∷ es) b r = let p = rises_next e f es r in (still_before front e.0 f.0 e.1 b p.0, p.1)
 
-pub no_key : (es : List EntryTerm) (k : List ℕ) → AreBefore es k → has_key k es ≡ false
+pub no_key : (es : List EntryTerm) (k : List ℕ) → AreBefore es k → has_key bytes_eq k es ≡ false
 no_key [] k h = refl
-no_key (e ∷ es) k h = rw (apart_back e.0 k h.0) (no_key es k h.1)
+no_key (e ∷ es) k h = rw (apart e.0 k h.0) (no_key es k h.1)
 
-pub in_order_again : (es : List EntryTerm) → rises key_before es ≡ true → in_order es ≡ es
+pub in_order_again : (es : List EntryTerm) → rises key_before es ≡ true → in_order key_before es ≡ es
 in_order_again [] h = refl
 in_order_again (e ∷ []) h = refl
 in_order_again (e ∷ f ∷ es) h =
     let p = rises_next e f es h in
-    ap (placed e) (in_order_again (f ∷ es) p.1) ∙ rw p.0 refl
+    ap (put_among key_before e) (in_order_again (f ∷ es) p.1) ∙ rw p.0 refl
 
 pub entries_again : (es : EntryTerms) → entries_of (entries_list es) ≡ es
 entries_again no_entries = refl

@@ -19,6 +19,7 @@ pub mod ModuleValues
 pub mod Joined
 pub mod Front
 pub mod Blocks
+pub mod Fitting
 pub mod Grown
 pub mod Labels
 pub mod Tails

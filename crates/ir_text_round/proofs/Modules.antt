@@ -14,10 +14,10 @@ use Rattle.ir_text_tokens.specs.Limits.{most_bytes}
 use Rattle.ir_text_tokens.specs.Printing.{AreBytes}
 use Rattle.ir_text_tokens.proofs.Escapes.{value_again}
 use Rattle.ir_text_tokens.proofs.Printed.{string_token}
-use Rattle.ir_text_operations.specs.Spelling.{module_word, begins_from, begins_module, is_root, IsExplicit, IsSingle, Spells}
+use Rattle.ir_text_operations.specs.Spelling.{module_word, begins_from, begins_module, is_root, IsExplicit, IsSingleOp, Spells}
 use Rattle.ir_text_operations.specs.Free.{no_names}
 use Rattle.ir_text.specs.Naming.{Named, value_text}
-use Rattle.ir_text.specs.Printing.{text_of, blank, opening, closing, properties_text}
+use Rattle.ir_text.specs.Printing.{text_of, blank, opening, closing_text, properties_text}
 use Rattle.ir_text.specs.TypeText.{in_round}
 use Rattle.ir_text_round.proofs.Small.{both, are_bytes}
 use Rattle.ir_tree_renumber.specs.Renumbered.{value_with_id, with_ids, place_in, renumbered}
@@ -47,7 +47,7 @@ begins_so (op h rs) root w =
     let a = both (is_table h.name) (length h.operands == 0 && length h.results == 0) root in
     let b = both (length h.operands == 0) (length h.results == 0) a.1 in
     let n = results_names h.id h.results (names_of blank) in
-    let behind = opening rs ++ regions_then [] h.id 0 rs n (closing rs ++ tail_then h (op_names (op h rs) (names_of blank)).named []) in
+    let behind = opening rs ++ regions_then [] h.id 0 rs n (closing_text rs ++ tail_then h (op_names (op h rs) (names_of blank)).named []) in
     ap begins_module (whole_text (op h rs)) ∙ begins_head 0 h.results h n.named behind b.1 a.0 (are_bytes h.name w.0.bytes)
 
 -- a root is one whatever its ids
@@ -56,8 +56,8 @@ root_with f (op h rs) = ap (λ (n : ℕ). is_table h.name && (n == 0 && length h
 
 -- ---- modules
 
-explicit : (f : ℕ → ℕ) (t : Operation) → is_root t ≡ true → IsWritable t → IsSingle no_names 1048576 0 (text_of t) (with_ids f t) → IsExplicit (text_of t) (with_ids f t)
-unfolding IsExplicit IsSingle
+explicit : (f : ℕ → ℕ) (t : Operation) → is_root t ≡ true → IsWritable t → IsSingleOp no_names 1048576 0 (text_of t) (with_ids f t) → IsExplicit (text_of t) (with_ids f t)
+unfolding IsExplicit IsSingleOp
 explicit f t root w single = (begins_so t root w, single, root_with f t ∙ root)
 
 pub module_again : (t : Operation) → IsFormed is_isolated t → HasDistinctIds t → is_root t ≡ true → IsWritable t → length (text_of t) ≤ most_bytes → Spells (text_of t) (renumbered t)

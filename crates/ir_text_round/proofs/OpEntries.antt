@@ -14,16 +14,17 @@ use Rattle.ir_text_tokens.proofs.Escapes.{either}
 use Rattle.ir_text_tokens.proofs.Printed.{mark_token}
 use Rattle.ir_text.specs.Rows.{parted}
 use Rattle.ir_text.specs.AttrText.{entry_texts}
-use Rattle.ir_text.specs.Printing.{entries_of, properties_text, attributes_text}
+use Rattle.ir_text.specs.Printing.{properties_text, attributes_text}
 use Rattle.ir_text_reading.specs.Grammars.{Not, IsMark}
-use Rattle.ir_text_attributes.specs.AttrGrammar.{EntryTerm, IsAttr, IsFine, IsKey}
-use Rattle.ir_text_operations.specs.Entries.{has_key, staying, is_refused}
-use Rattle.ir_text_operations.specs.OpGrammar.{is_property, IsEntry, IsEntries, IsProperties, IsAttributes}
-use Rattle.ir_text_round.specs.WrittenAttributes.{entries_list, are_bytes as are_bytes_test, FitsAttr, FitsDictionary, AreOthers}
+use Rattle.ir_text_attributes.specs.AttrGrammar.{entries_of, EntryTerm, IsAttr, IsFine, IsKey}
+use Rattle.ir_text_attributes.specs.Keyed.{has_key}
+use Rattle.ir_text_operations.specs.Entries.{staying, is_refused}
+use Rattle.ir_text_operations.specs.OpGrammar.{is_property, IsOpEntry, IsEntries, IsProperties, IsAttributes}
+use Rattle.ir_text_round.specs.WrittenAttributes.{entries_list, are_bytes as are_bytes_test, FitsAttr, IsWritableDictionary, AreOthers}
 use Rattle.ir_text_round.proofs.Small.{lacks_token, are_bytes}
 use Rattle.ir_text_round.proofs.Ahead.{then_ahead, space_token}
 use Rattle.ir_text_round.proofs.Rows.{AllFit, Items, list_again}
-use Rattle.ir_text_round.proofs.Keys.{AreBefore, AreBeforeFirst, next_before, apart}
+use Rattle.ir_text_round.proofs.Keys.{AreBefore, AreBeforeFirst, next_before, no_key}
 use Rattle.ir_text_round.proofs.Entries.{key_ahead, key_lacks, comma_entry, close_entry, EndsEntry, text_of_entry, texts_of_entries, entry_parts}
 use Rattle.ir_text_round.proofs.Attributes.{attr_ahead, attr_again}
 
@@ -31,12 +32,12 @@ use Rattle.ir_text_round.proofs.Attributes.{attr_ahead, attr_again}
 abbrev FitsEntry : Option (List ℕ) → List EntryTerm → List EntryTerm → EntryTerm → Type 0
 FitsEntry op properties before e = (is_refused bytes_eq (is_property op) properties e.0 before ≡ false) × AreBytes e.0 × FitsAttr 32 e.1
 
-entry_read : (op : Option (List ℕ)) (properties front : List EntryTerm) (e : EntryTerm) (rest : List ℕ) → FitsEntry op properties front e → EndsEntry rest → IsEntry op properties front e (text_of_entry e ++ rest) rest
+entry_read : (op : Option (List ℕ)) (properties front : List EntryTerm) (e : EntryTerm) (rest : List ℕ) → FitsEntry op properties front e → EndsEntry rest → IsOpEntry op properties front e (text_of_entry e ++ rest) rest
 entry_read op properties front e rest fit s =
     let k = entry_parts (IsAttr 32) (IsFine Flag) (attr_ahead 32) e.0 e.1 rest fit.1 s (attr_again 32 (omega arith) e.1 rest fit.2 s.2) (λ f. (refl, refl, refl)) in
     (e.0, k.0, k.1, (fit.0, (e.1, rest, k.2, (refl, refl))))
 
-entry_items : (op : Option (List ℕ)) (properties : List EntryTerm) → Items CloseCurly (IsEntry op properties) text_of_entry (FitsEntry op properties) EndsEntry
+entry_items : (op : Option (List ℕ)) (properties : List EntryTerm) → Items CloseCurly (IsOpEntry op properties) text_of_entry (FitsEntry op properties) EndsEntry
 entry_items op properties = record {
   reads = entry_read op properties;
   ahead = λ front. then_ahead IsKey _ key_ahead;
@@ -56,13 +57,9 @@ texts_of es = texts_of_entries (entries_of es) ∙ ap (map text_of_entry) (list_
 
 -- a dictionary behind its opening brace
 entries_read : (op : Option (List ℕ)) (properties es : List EntryTerm) (rest : List ℕ) → AllFit (FitsEntry op properties) [] es → length es ≤ 513 → IsEntries op properties es (parted (codes ", ") true (entry_texts (entries_of es)) ++ 125 ∷ rest) rest
-entries_read op properties es rest fit le = rw (texts_of es) (list_again CloseCurly (IsEntry op properties) text_of_entry (FitsEntry op properties) EndsEntry (entry_items op properties) 513 es rest fit le)
+entries_read op properties es rest fit le = rw (texts_of es) (list_again CloseCurly (IsOpEntry op properties) text_of_entry (FitsEntry op properties) EndsEntry (entry_items op properties) 513 es rest fit le)
 
 -- ---- which keys may come
-
-no_key : (es : List EntryTerm) (k : List ℕ) → AreBefore es k → has_key bytes_eq k es ≡ false
-no_key [] k h = refl
-no_key (e ∷ es) k h = rw (apart e.0 k h.0) (no_key es k h.1)
 
 few_stay : (f : EntryTerm → Bool) (es : List EntryTerm) → length (filter f es) ≤ length es
 few_stay f [] = omega arith
@@ -94,20 +91,20 @@ first_before : (es : List EntryTerm) → AreBeforeFirst [] es
 first_before [] = tt
 first_before (e ∷ es) = tt
 
-pub properties_again : (es : List EntryTerm) (rest : List ℕ) → FitsDictionary es → Not IsMark Less rest → IsProperties es (properties_text es ++ rest) rest
-properties_again [] rest fit lacks = inr (lacks, (refl, refl))
-properties_again (e ∷ es) rest fit lacks =
+pub properties_again : (es : List EntryTerm) (rest : List ℕ) → length es ≤ 256 → IsWritableDictionary es → Not IsMark Less rest → IsProperties es (properties_text es ++ rest) rest
+properties_again [] rest few w lacks = inr (lacks, (refl, refl))
+properties_again (e ∷ es) rest few w lacks =
     let row = parted (codes ", ") true (entry_texts (entries_of (e ∷ es))) in
     let back = row ++ 125 ∷ 62 ∷ rest in
-    let inside = entries_read None [] (e ∷ es) (62 ∷ rest) (all_fit None [] [] (e ∷ es) tt fit.sorted (omega (arith, fit.few)) fit.keys fit.values (no_others (e ∷ es))) (omega (arith, fit.few)) in
+    let inside = entries_read None [] (e ∷ es) (62 ∷ rest) (all_fit None [] [] (e ∷ es) tt w.sorted (omega (arith, few)) w.keys w.values (no_others (e ∷ es))) (omega (arith, few)) in
     let apart : properties_text (e ∷ es) ++ rest ≡ 32 ∷ 60 ∷ 123 ∷ back = ap (λ (l : List ℕ). 32 ∷ 60 ∷ 123 ∷ l) (append_assoc (row ++ 125 ∷ []) (62 ∷ []) rest ∙ append_assoc row (125 ∷ []) (62 ∷ rest)) in
     rw apart (inl (123 ∷ back, space_token (mark Less) (60 ∷ 123 ∷ back) (123 ∷ back) (mark_token Less (123 ∷ back) tt), (back, mark_token OpenCurly back tt, (e ∷ es, 62 ∷ rest, inside, (rest, mark_token Greater rest tt, (refl, refl))))))
 
-pub attributes_again : (op : List ℕ) (properties es : List EntryTerm) (rest : List ℕ) → FitsDictionary es → AreOthers op properties es → Not IsMark OpenCurly rest → IsAttributes op properties es (attributes_text es ++ rest) rest
-attributes_again op properties [] rest fit others lacks = inr (lacks, (refl, refl))
-attributes_again op properties (e ∷ es) rest fit others lacks =
+pub attributes_again : (op : List ℕ) (properties es : List EntryTerm) (rest : List ℕ) → length es ≤ 256 → IsWritableDictionary es → AreOthers op properties es → Not IsMark OpenCurly rest → IsAttributes op properties es (attributes_text es ++ rest) rest
+attributes_again op properties [] rest few w others lacks = inr (lacks, (refl, refl))
+attributes_again op properties (e ∷ es) rest few w others lacks =
     let row = parted (codes ", ") true (entry_texts (entries_of (e ∷ es))) in
     let back = row ++ 125 ∷ rest in
-    let inside = entries_read (Some op) properties (e ∷ es) rest (all_fit (Some op) properties [] (e ∷ es) tt fit.sorted (omega (arith, fit.few)) fit.keys fit.values others) (omega (arith, fit.few)) in
+    let inside = entries_read (Some op) properties (e ∷ es) rest (all_fit (Some op) properties [] (e ∷ es) tt w.sorted (omega (arith, few)) w.keys w.values others) (omega (arith, few)) in
     let apart : attributes_text (e ∷ es) ++ rest ≡ 32 ∷ 123 ∷ back = ap (λ (l : List ℕ). 32 ∷ 123 ∷ l) (append_assoc row (125 ∷ []) rest) in
     rw apart (inl (back, space_token (mark OpenCurly) (123 ∷ back) back (mark_token OpenCurly back tt), inside))

@@ -23,12 +23,12 @@ use Rattle.ir_text_operations.specs.Free.{no_names}
 use Rattle.ir_text_operations.specs.Seen.{PackTerm, Seen, seen_rest, seen_inside, seen_outside, IsMarkSeen}
 use Rattle.ir_text_operations.specs.OpGrammar.{IsHead, IsOps, IsRegion, IsRegions, IsOp, IsTail, RegionTerm}
 use Rattle.ir_text.specs.Naming.{Named, naming_of, value_type, source_of}
-use Rattle.ir_text.specs.Printing.{deeper, opening, closing, properties_text}
+use Rattle.ir_text.specs.Printing.{deeper, opening, closing_text, properties_text}
 use Rattle.ir_text_round.proofs.Ahead.{space_token}
 use Rattle.ir_text_round.proofs.OpEntries.{properties_again}
 use Rattle.ir_text_round.proofs.Small.{both, lacks_token, are_bytes}
 use Rattle.ir_tree_renumber.specs.Renumbered.{with_ids, regions_with_ids, region_with_ids, ops_with_ids}
-use Rattle.ir_text_round.specs.WrittenTrees.{FitsOp, FitsRegions, FitsRegion, FitsOps}
+use Rattle.ir_text_round.proofs.Fitting.{FitsOp, FitsRegions, FitsRegion, FitsOps}
 use Rattle.ir_text_round.proofs.Texts.{Head, Names, Regions, Region, Ops, results_names, arguments_names, op_names, regions_names, region_names, tail_then, label_then, op_then, regions_then, region_then, ops_then}
 use Rattle.ir_text_round.proofs.ModuleValues.{source_id, Away, all_front, all_back, argument_away, results_names_keep, regions_keep, region_keeps, own_results}
 use Rattle.ir_text_round.proofs.Joined.{IsSeen, Joined, joined_later, in_last, result_shown}
@@ -256,7 +256,7 @@ module _ (f : ℕ → ℕ) (last : ℕ) where
 
   -- what stands between the properties and the attributes
   abbrev pub middle : List ℕ → Head → Regions → Names → List ℕ → List ℕ
-  middle margin h rs m tail = opening rs ++ regions_then margin h.id 0 rs m (closing rs ++ tail)
+  middle margin h rs m tail = opening rs ++ regions_then margin h.id 0 rs m (closing_text rs ++ tail)
 
   pub record MiddleRead (d : ℕ) (margin : List ℕ) (h : Head) (rs : Regions) (m : Names) (s : Seen) (tail : List ℕ) : Type 0 where
     pub no_less : Not IsMark Less (middle margin h rs m tail)
@@ -320,8 +320,8 @@ module _ (f : ℕ → ℕ) (last : ℕ) where
       let back = middle margin h rs m tail in
       let begun : Seen = record { bytes = back; scopes = s.scopes; next = s.next + 1 } in
       let mid = regions margin sight h m begun p.named rest blank fit.2 sees.1 (omega (arith, deep)) (omega (arith, fresh.below, small)) fit.1 fresh_rs own.0 (λ v i. apart v (in_inside isolated scope v i)) (joined_inside f isolated scope m s.scopes.here jm) refl in
-      let start = start_again f m.named s.scopes.here n.results h s.bytes back lt (are_bytes h.name fit.0.bytes) fit.0.named fit.0.operands fit.0.results seen_m e in
-      let properties = properties_again h.properties back fit.0.properties mid.no_less in
+      let start = start_again f m.named s.scopes.here n.results h s.bytes back lt (are_bytes h.name fit.0.written.bytes) fit.0.written.named fit.0.operands fit.0.results seen_m e in
+      let properties = properties_again h.properties back fit.0.properties fit.0.written.properties mid.no_less in
       let after : Seen = behind begun tail (length (regions_ids rs)) in
       let few_types : length (map (value_type p.named) h.operands) ≤ 256 = omega (arith, types_count p.named h.operands, fit.0.operands) in
       let ended = tail_again f n.results m.named p.named h rs s.next after rest fit.0 (types_fit f p.named s.scopes.here h.operands seen_p) few_types alike fresh.runs.0 (j.fresh n.results (omega arith) lt) refl in
@@ -334,7 +334,7 @@ module _ (f : ℕ → ℕ) (last : ℕ) where
       let regions_read = subst (λ (i : ℕ). IsRegions (Row d) i isolated kids begun after) fresh.runs.0 mid.reads in
       let keep_all : (v : Value) → in_scope scope v ≡ true → naming_of p.named v ≡ naming_of n.named v = λ v i. keep_p v i ∙ keep_m v i in
       let more_arguments : n.arguments ≤ p.arguments = omega (arith, named.arguments, inner.arguments) in
-      let end = joined_end f scope n p s.scopes h.id h.results j keep_all fit.0.results fit.0.types (λ i t k. own_results h.id 0 rs h.results n i t own.0 k) lt inner.results more_arguments in
+      let end = joined_end f scope n p s.scopes h.id h.results j keep_all fit.0.results fit.0.written.types (λ i t k. own_results h.id 0 rs h.results n i t own.0 k) lt inner.results more_arguments in
       record {
         scopes = scopes;
         reads = op_from last d y s (record { bytes = 10 ∷ rest; scopes = scopes; next = s.next + length (ids (op h rs)) }) (omega (arith, fresh.below)) (first, properties_text h.properties ++ back, h.properties, back, start, properties, (kids, after, regions_read, tail_read));

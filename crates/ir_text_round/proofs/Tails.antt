@@ -13,14 +13,14 @@ use Rattle.ir_text_tokens.specs.Tokens.{mark}
 use Rattle.ir_text_tokens.specs.Scopes.{Scopes, find, bound}
 use Rattle.ir_text_tokens.proofs.Printed.{mark_token}
 use Rattle.ir_text_reading.specs.Grammars.{Not, IsMark, Token}
-use Rattle.ir_text_types.specs.TypeGrammar.{IsFunctionType}
-use Rattle.ir_text_attributes.specs.AttrGrammar.{EntryTerm}
+use Rattle.ir_text_types.specs.TypeGrammar.{types_of, IsFunctionType}
+use Rattle.ir_text_attributes.specs.AttrGrammar.{entries_of, EntryTerm}
 use Rattle.ir_text_operations.specs.Made.{made}
 use Rattle.ir_text_operations.specs.Seen.{BoundTerm, PackTerm, Seen, seen_rest}
 use Rattle.ir_text_operations.specs.OpGrammar.{is_property, result_terms, IsFinished, IsTail}
 use Rattle.ir_text.specs.AttrText.{entry_texts}
 use Rattle.ir_text.specs.Naming.{Named, value_type}
-use Rattle.ir_text.specs.Printing.{attributes_text, types_of, entries_of}
+use Rattle.ir_text.specs.Printing.{attributes_text}
 use Rattle.ir_text.specs.Rows.{parted}
 use Rattle.ir_text.specs.TypeText.{type_text}
 use Rattle.ir_text_round.specs.Written.{FitsType}
@@ -30,7 +30,7 @@ use Rattle.ir_text_round.proofs.Small.{lacks_token}
 use Rattle.ir_text_round.proofs.Sorted.{properties_stay, attributes_stay}
 use Rattle.ir_text_round.proofs.Types.{function_type_again}
 use Rattle.ir_tree_renumber.specs.Renumbered.{regions_with_ids, with_ids}
-use Rattle.ir_text_round.specs.WrittenTrees.{FitsHead}
+use Rattle.ir_text_round.proofs.Fitting.{FitsHead}
 use Rattle.ir_text_round.proofs.Texts.{Head, Regions, tail_then}
 use Rattle.ir_text_round.proofs.Front.{start_of, bound_of, bound_types, bound_values, result_words}
 
@@ -75,8 +75,8 @@ regions_back (region g rs) = ap (region g) (regions_back rs)
 made_again : (f : ℕ → ℕ) (id : ℕ) (named : Named) (h : Head) (rs : Regions) → FitsHead h → f h.id ≡ id
     → with_ids f (op h rs) ≡ made (is_property (Some h.name)) key_before id h.name (map (λ (b : BoundTerm). b.value) (map (bound_of f named []) h.operands)) h.properties h.attributes h.results (region_list (regions_with_ids f rs))
 made_again f id named h rs fit e =
-    let p = properties_stay h.name h.properties h.attributes fit.properties.sorted fit.others in
-    let a = attributes_stay h.name h.properties h.attributes fit.attributes.sorted fit.others in
+    let p = properties_stay h.name h.properties h.attributes fit.written.properties.sorted fit.written.others in
+    let a = attributes_stay h.name h.properties h.attributes fit.written.attributes.sorted fit.written.others in
     rw (bound_values f named [] h.operands, p, a, regions_back (regions_with_ids f rs), sym e) refl
 
 type_spaced : (ins outs : List TypeTerm) (back rest : List ℕ) → IsFunctionType (ins, outs) back rest → IsFunctionType (ins, outs) (32 ∷ back) rest
@@ -90,7 +90,7 @@ tail_again f m first named h rs id s rest fit types few same e fresh bytes =
     let back = types_then h named rest in
     let colon : Token (mark Colon) (colon_then h named rest) (32 ∷ back) = space_token (mark Colon) (58 ∷ 32 ∷ back) (32 ∷ back) (mark_token Colon (32 ∷ back) refl) in
     let lacks = lacks_token (mark Colon) OpenCurly (colon_then h named rest) (32 ∷ back) colon (λ k. absurd cc) in
-    let attributes = attributes_again h.name h.properties h.attributes (colon_then h named rest) fit.attributes fit.others lacks in
-    let type = type_spaced ins h.results back (10 ∷ rest) (function_type_again ins h.results (10 ∷ rest) (omega (arith, few)) fit.results types fit.types refl) in
+    let attributes = attributes_again h.name h.properties h.attributes (colon_then h named rest) fit.attributes fit.written.attributes fit.written.others lacks in
+    let type = type_spaced ins h.results back (10 ∷ rest) (function_type_again ins h.results (10 ∷ rest) (omega (arith, few)) fit.results types fit.written.types refl) in
     let inputs : map (λ (b : BoundTerm). b.type) (map (bound_of f first []) h.operands) ≡ ins = bound_types f first [] h.operands ∙ same in
     (h.attributes, seen_rest s (colon_then h named rest), (colon_then h named rest, rw bytes attributes, refl), (seen_rest s (32 ∷ back), (32 ∷ back, colon, refl), ((ins, h.results), seen_rest s (10 ∷ rest), (10 ∷ rest, type, refl), (inputs, (finished m id h.results s.scopes, finish_read m id h.results s.scopes fresh, refl, made_again f id first h rs fit e)))))

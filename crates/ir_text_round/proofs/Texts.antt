@@ -7,7 +7,8 @@ use Rattle.ir_tree.specs.Meaning.{Operation}
 use Rattle.ir_text_tokens.specs.Printing.{string_text}
 use Rattle.ir_text.specs.TypeText.{in_round, type_text}
 use Rattle.ir_text.specs.Naming.{Named, value_text, value_type, name_results, name_argument}
-use Rattle.ir_text.specs.Printing.{Printed, put, deeper, results_text, put_results, types_of, properties_text, attributes_text, put_name, put_head, put_tail, comma_at, argument_text, put_argument, put_arguments, put_label, opening, closing, put_op, put_regions, put_region, put_ops}
+use Rattle.ir_text_types.specs.TypeGrammar.{types_of}
+use Rattle.ir_text.specs.Printing.{Printed, put, deeper, results_text, put_results, properties_text, attributes_text, put_name, put_head, put_tail, comma_at, argument_text, put_argument, put_arguments, put_label, opening, closing_text, put_op, put_regions, put_region, put_ops}
 use Rattle.ir_text_round.specs.Standing.{unwritten}
 
 abbrev pub Head : Type 0
@@ -93,7 +94,7 @@ abbrev mutual
   -- an operation without the margin in front of it
   pub op_then : List ℕ → Operation → Names → List ℕ → List ℕ
   op_then margin (op h rs) n rest =
-      head_then h n (opening rs ++ regions_then margin h.id 0 rs (results_names h.id h.results n) (closing rs ++ tail_then h (op_names (op h rs) n).named rest))
+      head_then h n (opening rs ++ regions_then margin h.id 0 rs (results_names h.id h.results n) (closing_text rs ++ tail_then h (op_names (op h rs) n).named rest))
 
   pub regions_then : List ℕ → ℕ → ℕ → Regions → Names → List ℕ → List ℕ
   regions_then margin x r no_regions n rest = rest
@@ -187,8 +188,8 @@ mutual
       let begun = puts_then (put margin) (λ o. put_name h (put_results h.id h.results o)) (λ n. n) named (λ n rest. margin ++ rest) (head_then h) (puts_text margin) (puts_head h) in
       let opened = puts_then (put_head margin h) (put (opening rs)) named (λ n. n) (λ n rest. margin ++ head_then h n rest) (λ n rest. opening rs ++ rest) begun (puts_text (opening rs)) in
       let regions = puts_then (λ o. put (opening rs) (put_head margin h o)) (put_regions margin h.id 0 rs) named inner (λ n rest. margin ++ head_then h n (opening rs ++ rest)) (regions_then margin h.id 0 rs) opened (puts_regions margin h.id 0 rs) in
-      let closed = puts_then (λ o. put_regions margin h.id 0 rs (put (opening rs) (put_head margin h o))) (put (closing rs)) (λ n. inner (named n)) (λ n. n) (λ n rest. margin ++ head_then h n (opening rs ++ regions_then margin h.id 0 rs (named n) rest)) (λ n rest. closing rs ++ rest) regions (puts_text (closing rs)) in
-      puts_then (λ o. put (closing rs) (put_regions margin h.id 0 rs (put (opening rs) (put_head margin h o)))) (put_tail h) (λ n. inner (named n)) (λ n. n) (λ n rest. margin ++ head_then h n (opening rs ++ regions_then margin h.id 0 rs (named n) (closing rs ++ rest))) (λ n rest. tail_then h n.named rest) closed (puts_tail h)
+      let closed = puts_then (λ o. put_regions margin h.id 0 rs (put (opening rs) (put_head margin h o))) (put (closing_text rs)) (λ n. inner (named n)) (λ n. n) (λ n rest. margin ++ head_then h n (opening rs ++ regions_then margin h.id 0 rs (named n) rest)) (λ n rest. closing_text rs ++ rest) regions (puts_text (closing_text rs)) in
+      puts_then (λ o. put (closing_text rs) (put_regions margin h.id 0 rs (put (opening rs) (put_head margin h o)))) (put_tail h) (λ n. inner (named n)) (λ n. n) (λ n rest. margin ++ head_then h n (opening rs ++ regions_then margin h.id 0 rs (named n) (closing_text rs ++ rest))) (λ n rest. tail_then h n.named rest) closed (puts_tail h)
 
   puts_regions : (margin : List ℕ) (x r : ℕ) (rs : Regions) → Puts (put_regions margin x r rs) (regions_names x r rs) (regions_then margin x r rs)
   puts_regions margin x r no_regions = puts_nothing

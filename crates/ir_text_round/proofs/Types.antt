@@ -15,13 +15,12 @@ use Rattle.ir_text_tokens.specs.Bytes.{is_word}
 use Rattle.ir_text_tokens.specs.Tokens.{mark, bare}
 use Rattle.ir_text_tokens.specs.Printing.{Stops}
 use Rattle.ir_text_tokens.proofs.Printed.{bare_token, mark_token}
-use Rattle.ir_text.specs.Printing.{types_of}
 use Rattle.ir_text.specs.Rows.{parted}
 use Rattle.ir_text.specs.TypeText.{sign_text, dimension_text, is_function, is_lone, in_round, outputs_text, type_text, type_texts}
 use Rattle.ir_text_types.specs.Scalars.{index_word, memref_word, scalar_of}
 use Rattle.ir_text_types.specs.TypeReading.{many}
 use Rattle.ir_text_reading.specs.Grammars.{Then, Done, After, Not, IsMark}
-use Rattle.ir_text_types.specs.TypeGrammar.{terms_of, IsScalar, IsMemref, IsWordFrom, IsWordType, IsTypes, IsOutputs, IsSignature, IsFunction, IsType, IsFunctionType}
+use Rattle.ir_text_types.specs.TypeGrammar.{types_of, IsScalar, IsMemref, IsWordFrom, IsWordType, IsTypes, IsOutputs, IsSignature, IsFunction, IsType, IsFunctionType}
 use Rattle.std.specs.Str.{bytes_eq}
 use Rattle.ir_text_round.specs.Written.{types_list, is_written_type, are_written_types, FitsType}
 use Rattle.ir_text_round.proofs.Ahead.{Ahead, Lacks, either_ahead, then_ahead, space, space_token}
@@ -38,7 +37,7 @@ some_depth (Memref dims elem) e = let k : is_scalar elem ≡ true = (both (is_sc
 
 -- ---- lists of types as terms
 
-pub terms_again : (ts : TypeTerms) → terms_of (types_list ts) ≡ ts
+pub terms_again : (ts : TypeTerms) → types_of (types_list ts) ≡ ts
 terms_again no_types = refl
 terms_again (next_type t ts) = ap (next_type t) (terms_again ts)
 

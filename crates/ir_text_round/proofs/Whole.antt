@@ -11,11 +11,11 @@ use Rattle.ir_text_tokens.proofs.Printed.{mark_token, blank_passed}
 use Rattle.ir_text_tokens.specs.Tokens.{next as next_token}
 use Rattle.ir_text_operations.specs.Free.{no_names}
 use Rattle.ir_text_operations.specs.Seen.{seen_fresh}
-use Rattle.ir_text_operations.specs.Spelling.{IsSingle}
+use Rattle.ir_text_operations.specs.Spelling.{IsSingleOp}
 use Rattle.ir_text.specs.Printing.{text_of, blank}
 use Rattle.ir_tree_renumber.specs.Renumbered.{with_ids}
 use Rattle.ir_text_round.specs.Runs.{Runs}
-use Rattle.ir_text_round.specs.WrittenTrees.{FitsOp}
+use Rattle.ir_text_round.proofs.Fitting.{FitsOp}
 use Rattle.ir_text_round.proofs.Texts.{names_of, op_then, puts_op, nothing_behind}
 use Rattle.ir_text_round.proofs.Joined.{joined_nothing}
 use Rattle.ir_text_round.proofs.Fresh.{Fresh}
@@ -26,8 +26,8 @@ pub whole_text : (t : Operation) → text_of t ≡ op_then [] t (names_of blank)
 whole_text t = sym (nothing_behind (text_of t)) ∙ (puts_op [] t).text blank []
 
 -- where f gives the ids 0, 1, .. in pre-order
-pub single_again : (f : ℕ → ℕ) (t : Operation) → FitsOp t → list_all sees_operands (sites is_isolated [] t) ≡ true → Runs f 0 (ids t) → IsDistinct eqb (ids t) → depth t ≤ 128 → length (ids t) ≤ 1048576 → IsSingle no_names 1048576 0 (text_of t) (with_ids f t)
-unfolding IsSingle
+pub single_again : (f : ℕ → ℕ) (t : Operation) → FitsOp t → list_all sees_operands (sites is_isolated [] t) ≡ true → Runs f 0 (ids t) → IsDistinct eqb (ids t) → depth t ≤ 128 → length (ids t) ≤ 1048576 → IsSingleOp no_names 1048576 0 (text_of t) (with_ids f t)
+unfolding IsSingleOp
 single_again f t fit sees runs distinct deep few =
     let n = names_of blank in
     let s = seen_fresh 0 (text_of t) in

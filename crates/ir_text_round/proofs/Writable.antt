@@ -1,14 +1,13 @@
 -- What follows where a tree is writable: with the limits of a formed one it fits, and its dictionaries are sorted.
-use Rattle.std.proofs.Common.{◌≡◌, ◌≤◌, refl, ℕ, Bool, true, ◌&&◌, List, length}
+use Rattle.std.proofs.Common.{◌≡◌, ◌≤◌, refl, Bool, true, ◌&&◌, List, length}
 use Rattle.std.specs.Prelude.{nat_le}
-use Rattle.ir_types.specs.Terms.{AttrTerm}
 use Rattle.ir_tree.specs.Limits.{every, regions_every, region_every, ops_every, most_ops, items_fit, head_fits, arguments_pass, all_arguments_pass, op_fits, counts_fit}
 use Rattle.ir_tree.specs.Ids.{op_count}
 use Rattle.ir_tree.specs.Meaning.{Operation, key_before, dictionaries_rise}
 use Rattle.ir_tree.specs.Tree.{op, no_regions, region, region_count, empty, block, no_ops, next}
 use Rattle.ir_text_round.proofs.Small.{both, in_range}
-use Rattle.ir_text_round.specs.WrittenAttributes.{FitsDictionary}
-use Rattle.ir_text_round.specs.WrittenTrees.{IsWritableDictionary, IsWritableHead, IsWritable, AreWritableRegions, IsWritableRegion, AreWritableOps, FitsHead, FitsOp, FitsRegions, FitsRegion, FitsOps}
+use Rattle.ir_text_round.specs.WrittenTrees.{IsWritableHead, IsWritable, AreWritableRegions, IsWritableRegion, AreWritableOps}
+use Rattle.ir_text_round.proofs.Fitting.{FitsHead, FitsOp, FitsRegions, FitsRegion, FitsOps}
 use Rattle.ir_text_round.proofs.Texts.{Head, Regions, Region, Ops}
 
 -- ---- the limits
@@ -16,23 +15,17 @@ use Rattle.ir_text_round.proofs.Texts.{Head, Regions, Region, Ops}
 few_items : {X : Type 0} (xs : List X) → items_fit xs ≡ true → length xs ≤ 256
 few_items xs e = in_range (length xs) 256 e
 
-fits_dictionary : (es : List (List ℕ × AttrTerm)) → items_fit es ≡ true → IsWritableDictionary es → FitsDictionary es
-fits_dictionary es e w = record { few = few_items es e; sorted = w.sorted; keys = w.keys; values = w.values }
-
 fits_head : (h : Head) → head_fits h ≡ true → IsWritableHead h → FitsHead h
 fits_head h e w =
     let a = both (items_fit h.operands) (items_fit h.results && (items_fit h.properties && items_fit h.attributes)) e in
     let b = both (items_fit h.results) (items_fit h.properties && items_fit h.attributes) a.1 in
     let c = both (items_fit h.properties) (items_fit h.attributes) b.1 in
     record {
-      named = w.named;
-      bytes = w.bytes;
       operands = few_items h.operands a.0;
       results = few_items h.results b.0;
-      types = w.types;
-      properties = fits_dictionary h.properties c.0 w.properties;
-      attributes = fits_dictionary h.attributes c.1 w.attributes;
-      others = w.others;
+      properties = few_items h.properties c.0;
+      attributes = few_items h.attributes c.1;
+      written = w;
     }
 
 mutual

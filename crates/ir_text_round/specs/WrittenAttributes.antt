@@ -14,7 +14,7 @@ use Rattle.ir_text_tokens.specs.Bytes.{is_suffix}
 use Rattle.ir_text_tokens.specs.Printing.{Stops}
 use Rattle.ir_text_reading.specs.Grammars.{Not, IsMark}
 use Rattle.ir_text_types.specs.TypeReading.{many}
-use Rattle.ir_text_operations.specs.Entries.{has_key}
+use Rattle.ir_text_attributes.specs.Keyed.{has_key}
 use Rattle.ir_text_round.specs.Written.{is_written_type}
 
 -- the attributes of an array, and the entries of a dictionary
@@ -70,9 +70,9 @@ FitsAttr depth a = (attr_depth a ≤ depth) × (is_written a ≡ true)
 abbrev pub EndsAttr : List ℕ → Type 0
 EndsAttr rest = Stops is_suffix rest × Not IsMark DoubleColon rest
 
--- a dictionary of an operation that a text can spell
-pub record FitsDictionary (es : List (List ℕ × AttrTerm)) : Type 0 where
-  pub few : length es ≤ 256
+-- a dictionary of an operation that a text can spell, where it has no more entries than a dictionary may have: it is
+-- sorted by its keys, each key once; keys are of bytes, and the grammar writes each value
+pub record IsWritableDictionary (es : List (List ℕ × AttrTerm)) : Type 0 where
   pub sorted : rises key_before es ≡ true
   pub keys : AllByRecursion (λ e. are_bytes e.0 ≡ true) es
   pub values : AllByRecursion (λ e. FitsAttr 32 e.1) es

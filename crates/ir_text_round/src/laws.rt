@@ -8,16 +8,16 @@ ghost use Rattle.ir_text_tokens.specs.declared.token.Mark.TheVariants.{Less, Ope
 ghost use Rattle.ir_text_tokens.specs.Bytes.{is_word};
 ghost use Rattle.ir_text_tokens.specs.Printing.{Stops};
 ghost use Rattle.ir_text_reading.specs.Grammars.{IsMark, Not};
-ghost use Rattle.ir_text_types.specs.TypeGrammar.{IsFunctionType, IsType};
+ghost use Rattle.ir_text_types.specs.TypeGrammar.{types_of, IsFunctionType, IsType};
 ghost use Rattle.ir_text_types.specs.TypeReading.{many};
 ghost use Rattle.ir_text_attributes.specs.AttrGrammar.{EntryTerm, IsAttr};
 ghost use Rattle.ir_text_operations.specs.Entries.{attributes_of, properties_of};
 ghost use Rattle.ir_text_operations.specs.OpGrammar.{IsAttributes, IsProperties, is_property};
 ghost use Rattle.ir_text.specs.AttrText.{attr_text};
-ghost use Rattle.ir_text.specs.Printing.{attributes_text, properties_text, types_of};
+ghost use Rattle.ir_text.specs.Printing.{attributes_text, properties_text};
 ghost use Rattle.ir_text.specs.TypeText.{type_text};
 ghost use Rattle.ir_text_round.specs.Written.{FitsType};
-ghost use Rattle.ir_text_round.specs.WrittenAttributes.{AreOthers, EndsAttr, FitsAttr, FitsDictionary};
+ghost use Rattle.ir_text_round.specs.WrittenAttributes.{AreOthers, EndsAttr, FitsAttr, IsWritableDictionary};
 
 /// A type that is printed is spelled by its text, and all of that is read.
 pub fn types_are_read_back()
@@ -44,11 +44,11 @@ pub fn attributes_end_before_marks()
     ensures nothing { EndsAttr [] }
 {}
 
-/// The dictionaries of an operation that are printed are spelled by their texts: the properties, where
-/// no `<` stands behind them, and the attributes, where no `{` does.
+/// The dictionaries of an operation that are printed are spelled by their texts, where they have at most 256
+/// entries: the properties, where no `<` stands behind them, and the attributes, where no `{` does.
 pub fn dictionaries_are_read_back()
-    ensures properties { (es : List EntryTerm) (rest : List ℕ) → FitsDictionary es → Not IsMark Less rest → IsProperties es (properties_text es ++ rest) rest }
-    ensures attributes { (op : List ℕ) (properties es : List EntryTerm) (rest : List ℕ) → FitsDictionary es → AreOthers op properties es → Not IsMark OpenCurly rest → IsAttributes op properties es (attributes_text es ++ rest) rest }
+    ensures properties { (es : List EntryTerm) (rest : List ℕ) → length es ≤ 256 → IsWritableDictionary es → Not IsMark Less rest → IsProperties es (properties_text es ++ rest) rest }
+    ensures attributes { (op : List ℕ) (properties es : List EntryTerm) (rest : List ℕ) → length es ≤ 256 → IsWritableDictionary es → AreOthers op properties es → Not IsMark OpenCurly rest → IsAttributes op properties es (attributes_text es ++ rest) rest }
 {}
 
 /// Where the attributes of an operation are no properties, sorted dictionaries are read as they are.

@@ -11,7 +11,7 @@ use Rattle.ir_text_tokens.specs.declared.token.Mark.{Mark}
 use Rattle.ir_text_tokens.specs.declared.token.Mark.TheVariants.{OpenRound, CloseRound, OpenCurly, CloseCurly, OpenSquare, CloseSquare, Less, Greater, Comma, Equal, Colon, DoubleColon, Minus, Arrow, Question, Star, End}
 use Rattle.ir_text_tokens.specs.Bytes.{is_blank, is_letter, is_word, is_suffix}
 use Rattle.ir_text_tokens.specs.Tokens.{Lexeme, mark, integer, string, bare, value, label, hash, symbol, quoted, longer, cut, skip, next, first_token, token_at, symbol_at, name_at, number_at, suffix_len, digits_len}
-use Rattle.ir_text_tokens.specs.Printing.{AreBytes, Stops, ClosesMark, extends_integer, raw_text, string_text, is_bare_id, is_suffix_id, key_text, number_text, symbol_text, mark_text}
+use Rattle.ir_text_tokens.specs.Printing.{AreBytes, Stops, ClosesMark, extends_integer, raw_text, string_text, is_bare_id, is_suffix_id, key_text, signed_text, symbol_text, mark_text}
 use Rattle.ir_text_tokens.proofs.Escapes.{either, parts_again}
 use Rattle.ir_text_tokens.proofs.Decimals.{run_ends, first_passes, rest_passes, number_again, decimal_number, eqb_self}
 
@@ -224,7 +224,7 @@ mark_token Star rest h = begins 42 rest refl refl
 mark_token End rest h = rw h nothing_left
 
 -- a negative number begins with the minus
-pub minus_token : (n : ℕ) (rest : List ℕ) → n < 2 ^ 128 → next (number_text true n ++ rest) ≡ Some (mark Minus, number_text false n ++ rest)
+pub minus_token : (n : ℕ) (rest : List ℕ) → n < 2 ^ 128 → next (signed_text true n ++ rest) ≡ Some (mark Minus, signed_text false n ++ rest)
 minus_token n rest lt = mark_token Minus (decimal n ++ rest) (digits_close (decimal n) rest (decimal_number n lt).digits (decimal_number n lt).some)
   where
     not_greater : (c : ℕ) → is_ascii_digit c ≡ true → (c == 62) ≡ false

@@ -29,9 +29,9 @@ abbrev pub string_text : List ℕ → List ℕ
 string_text v = 34 ∷ (raw_text v ++ 34 ∷ [])
 
 -- a decimal number with its sign
-abbrev pub number_text : Bool → ℕ → List ℕ
-number_text true n = 45 ∷ decimal n
-number_text false n = decimal n
+abbrev pub signed_text : Bool → ℕ → List ℕ
+signed_text true n = 45 ∷ decimal n
+signed_text false n = decimal n
 
 -- a letter or `_`, then bytes of a bare identifier
 abbrev pub is_bare_id : List ℕ → Bool

@@ -6,7 +6,7 @@ ghost use Rattle.ir_text_tokens.specs.Bytes.{is_blank, is_suffix, is_word};
 ghost use Rattle.ir_text_tokens.specs.Strings.{string_bytes};
 ghost use Rattle.ir_text_tokens.specs.Tokens.{Lexeme, bare, hash, integer, label, mark, next, quoted, skip, string, symbol, value};
 ghost use Rattle.ir_text_tokens.specs.Numbers.{integer_of};
-ghost use Rattle.ir_text_tokens.specs.Printing.{AreBytes, ClosesMark, IsWhole, Stops, extends_integer, is_bare_id, is_suffix_id, key_text, lexeme_text, mark_text, number_text, raw_text, string_text, symbol_text};
+ghost use Rattle.ir_text_tokens.specs.Printing.{AreBytes, ClosesMark, IsWhole, Stops, extends_integer, is_bare_id, is_suffix_id, key_text, lexeme_text, mark_text, signed_text, raw_text, string_text, symbol_text};
 ghost use Rattle.ir_text_tokens.specs.declared.token.Mark.{Mark};
 
 /// A token that is read, as it stands, and what follows it, are what follows the blanks and comments:
@@ -30,8 +30,8 @@ pub fn strings_read_back()
 /// A printed number is one integer token, behind a minus where it is negative, and has the value of
 /// which it was printed, where no digit, dot or `x` follows.
 pub fn numbers_read_back()
-    ensures token { (n : ℕ) (rest : List ℕ) → n < 2 ^ 128 → Stops extends_integer rest → next (number_text false n ++ rest) ≡ Some (integer (decimal n), rest) }
-    ensures minus { (n : ℕ) (rest : List ℕ) → n < 2 ^ 128 → next (number_text true n ++ rest) ≡ Some (mark Mark.Minus, number_text false n ++ rest) }
+    ensures token { (n : ℕ) (rest : List ℕ) → n < 2 ^ 128 → Stops extends_integer rest → next (signed_text false n ++ rest) ≡ Some (integer (decimal n), rest) }
+    ensures minus { (n : ℕ) (rest : List ℕ) → n < 2 ^ 128 → next (signed_text true n ++ rest) ≡ Some (mark Mark.Minus, signed_text false n ++ rest) }
     ensures value { (n : ℕ) → n < 2 ^ 128 → integer_of (decimal n) ≡ n }
 {}
 

@@ -1,7 +1,7 @@
 //! Tokens are taken from the front of a text by longest match.
 ghost use Rattle.std.specs.Prelude.{◌≡◌, ◌+◌, ◌≤◌, ◌∷◌, ℕ, length, option_map, IfErr};
 ghost use Rattle.std.specs.List.{prefix_len};
-ghost use Rattle.ir_text_tokens.specs.Reading.{Gives};
+ghost use Rattle.ir_text_tokens.specs.Reading.{GivesOrNone};
 ghost use Rattle.ir_text_tokens.specs.Tokens.{behind_first, begins_other, exponent_len, fraction_len, hex_len, lexeme_of, longer, mark, mark_at, mark_of, name_parts, next, next_mark, number_at, sign_at, sign_len, skip, skip_line, string_parts, suffix_len, symbol_at, token_at};
 ghost use Rattle.ir_types.specs.declared.refusal.Refusal.{Refusal};
 
@@ -147,7 +147,7 @@ fn suffix_len(bytes: &[u8]) -> usize
 
 /// The name behind its sign, with which all begins, and what follows it.
 fn name<'a>(all: &'a [u8], tail: &'a [u8]) -> Result<(&'a [u8], &'a [u8]), usize>
-    ensures { Gives (λ x. (x.0.now, x.1.now)) result (name_parts tail.now) }
+    ensures { GivesOrNone (λ x. (x.0.now, x.1.now)) result (name_parts tail.now) }
 {
     let len = suffix_len(tail);
     if len == 0 {
@@ -158,7 +158,7 @@ fn name<'a>(all: &'a [u8], tail: &'a [u8]) -> Result<(&'a [u8], &'a [u8]), usize
 
 /// What stands behind a quote, with which all begins, up to the next, and what follows that.
 fn string<'a>(all: &'a [u8], tail: &'a [u8]) -> Result<(&'a [u8], &'a [u8]), usize>
-    ensures { Gives (λ x. (x.0.now, x.1.now)) result (string_parts tail.now) }
+    ensures { GivesOrNone (λ x. (x.0.now, x.1.now)) result (string_parts tail.now) }
 {
     match closing(tail) {
         Ok(len) => Ok((&tail[..len], &tail[len + 1..])),
@@ -170,7 +170,7 @@ fn string<'a>(all: &'a [u8], tail: &'a [u8]) -> Result<(&'a [u8], &'a [u8]), usi
 /// A symbol behind its sign, with which all begins.
 #[tactic(auto, unfolding(crate::specs::Tokens::symbol_at))]
 fn symbol<'a>(all: &'a [u8], tail: &'a [u8]) -> Result<(Token<'a>, &'a [u8]), usize>
-    ensures { Gives (λ x. (lexeme_of x.0, x.1.now)) result (symbol_at tail.now) }
+    ensures { GivesOrNone (λ x. (lexeme_of x.0, x.1.now)) result (symbol_at tail.now) }
 {
     if let [b'"', text @ ..] = tail {
         let (raw, rest) = string(tail, text)?;
@@ -228,7 +228,7 @@ fn mark_at(byte: u8, tail: &[u8]) -> Option<(Mark, &[u8])>
 
 /// Punctuation that begins with the byte, with which all begins.
 fn punctuation<'a>(byte: u8, all: &'a [u8], tail: &'a [u8]) -> Result<(Token<'a>, &'a [u8]), usize>
-    ensures { Gives (λ x. (lexeme_of x.0, x.1.now)) result (mark_at byte tail.now) }
+    ensures { GivesOrNone (λ x. (lexeme_of x.0, x.1.now)) result (mark_at byte tail.now) }
 {
     match mark_at(byte, tail) {
         Some((mark, rest)) => Ok((Token::Mark(mark), rest)),
@@ -238,7 +238,7 @@ fn punctuation<'a>(byte: u8, all: &'a [u8], tail: &'a [u8]) -> Result<(Token<'a>
 
 /// A name or a string by its sign, with which all begins, else punctuation.
 fn sign<'a>(byte: u8, all: &'a [u8], tail: &'a [u8]) -> Result<(Token<'a>, &'a [u8]), usize>
-    ensures { Gives (λ x. (lexeme_of x.0, x.1.now)) result (sign_at byte tail.now) }
+    ensures { GivesOrNone (λ x. (lexeme_of x.0, x.1.now)) result (sign_at byte tail.now) }
 {
     match byte {
         b'"' => {
@@ -269,7 +269,7 @@ fn sign<'a>(byte: u8, all: &'a [u8], tail: &'a [u8]) -> Result<(Token<'a>, &'a [
 /// The token with whose first byte all begins.
 fn token_at<'a>(byte: u8, all: &'a [u8], tail: &'a [u8]) -> Result<(Token<'a>, &'a [u8]), usize>
     requires { all.now ≡ byte ∷ tail.now }
-    ensures { Gives (λ x. (lexeme_of x.0, x.1.now)) result (token_at byte tail.now) }
+    ensures { GivesOrNone (λ x. (lexeme_of x.0, x.1.now)) result (token_at byte tail.now) }
 {
     if byte.is_ascii_digit() {
         return Ok(number(all));
@@ -286,7 +286,7 @@ fn token_at<'a>(byte: u8, all: &'a [u8], tail: &'a [u8]) -> Result<(Token<'a>, &
 /// Language Reference, "Common syntax".
 #[tactic(auto, unfolding(crate::specs::Tokens::next))]
 pub fn token(bytes: &[u8]) -> Result<(Token<'_>, &[u8]), Fault>
-    ensures token { Gives (λ x. (lexeme_of x.0, x.1.now)) result (next bytes.now) }
+    ensures token { GivesOrNone (λ x. (lexeme_of x.0, x.1.now)) result (next bytes.now) }
     ensures refusal { IfErr result (λ fault. fault.refusal ≡ Refusal.BadToken) }
 {
     let all = skip(bytes);

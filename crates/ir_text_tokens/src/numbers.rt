@@ -1,6 +1,8 @@
 //! The numbers that integer tokens stand for.
 ghost use Rattle.std.specs.Prelude.{◌≡◌, ◌+◌, ◌*◌, ◌^◌, ◌<◌, ◌≤◌, length, SomeIff};
 ghost use Rattle.std.specs.Bool.{OnTrue};
+ghost use Rattle.std.specs.Char.{is_ascii_digit};
+ghost use Rattle.std.specs.List.{list_all};
 ghost use Rattle.ir_text_tokens.specs.Strings.{hex_value};
 ghost use Rattle.ir_text_tokens.specs.Numbers.{begins_hex, below_limit, integer_of, place_value};
 
@@ -28,6 +30,13 @@ fn place_value(base: u8, digits: &[u8]) -> Option<u128>
         rest = tail;
     }
     Some(number)
+}
+
+/// Whether all bytes are decimal digits.
+pub fn are_digits(bytes: &[u8]) -> bool
+    ensures { result ≡ list_all is_ascii_digit bytes.now }
+{
+    bytes.iter().all(|byte| byte.is_ascii_digit())
 }
 
 fn begins_hex(digits: &[u8]) -> bool

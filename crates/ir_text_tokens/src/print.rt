@@ -1,6 +1,6 @@
 //! The printed forms of tokens.
 ghost use Rattle.std.specs.Prelude.{◌≡◌, ◌++◌, ◌<◌, ℕ, List, OnOk};
-ghost use Rattle.ir_text_tokens.specs.Printing.{byte_text, hex_digit, is_bare_id, key_text, number_text, string_text, symbol_text};
+ghost use Rattle.ir_text_tokens.specs.Printing.{byte_text, hex_digit, is_bare_id, key_text, signed_text, string_text, symbol_text};
 
 use crate::runs::{Class, is_letter, run_len};
 use itoa::Buffer;
@@ -44,7 +44,7 @@ pub fn put_string(out: &mut Vec<u8>, text: &[u8]) -> Result<(), AllocError>
 
 /// Appends a decimal number with its sign. MLIR Language Reference, "Common syntax".
 pub fn put_number(out: &mut Vec<u8>, is_negative: bool, magnitude: u128) -> Result<(), AllocError>
-    ensures { OnOk result (out.new.items ≡ out.old.items ++ number_text is_negative magnitude) }
+    ensures { OnOk result (out.new.items ≡ out.old.items ++ signed_text is_negative magnitude) }
 {
     if is_negative {
         out.push(b'-')?;

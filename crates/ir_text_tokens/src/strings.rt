@@ -1,6 +1,6 @@
 //! String literals.
 ghost use Rattle.std.specs.Prelude.{◌≡◌, ◌≢◌, ◌∷◌, ◌<◌, ◌≤◌, ◌+◌, suc, false, None, length, drop, option_map, IfOk, IfSome};
-ghost use Rattle.ir_text_tokens.specs.Reading.{Gives};
+ghost use Rattle.ir_text_tokens.specs.Reading.{GivesOrNone};
 ghost use Rattle.ir_text_tokens.specs.Strings.{closing, closing_escape, escape_bytes, hex_value, is_short, option_list, short_value, string_bytes};
 ghost use Rattle.ir_text_tokens.specs.Bytes.{is_line_end};
 
@@ -72,7 +72,7 @@ fn part_len(byte: u8, bytes: &[u8]) -> Option<usize>
 /// refused: at the backslash of a bad escape, or `None` where the string is open.
 #[tactic(auto, unfolding(crate::specs::Strings::closing))]
 pub(crate) fn closing(bytes: &[u8]) -> Result<usize, Option<usize>>
-    ensures found { Gives (λ n. n) result (closing bytes.now) }
+    ensures found { GivesOrNone (λ n. n) result (closing bytes.now) }
     ensures within { IfOk result (λ n. n < length bytes.now) }
 {
     let mut rest = bytes;

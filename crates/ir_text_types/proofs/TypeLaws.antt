@@ -36,7 +36,7 @@ use Rattle.ir_text_types.specs.ShapeGrammar.{IsShape}
 use Rattle.ir_text_types.specs.ShapeReading.{dimensions_at}
 use Rattle.ir_text_types.specs.TypeReading.{many, type_done, scalar_from, scalar_at, shape_at, memref_at, word_from, word_type_from, word_type_at, types_at, outputs_from, outputs_at, signature_at, function_at, type_from as type_read_from, type_at, function_type_at}
 use Rattle.ir_text_reading.specs.Grammars.{Grammar, Then, Done, DoneIf, After, IsMark, Token}
-use Rattle.ir_text_types.specs.TypeGrammar.{terms_of, IsScalar, IsMemref, IsWordFrom, IsWordType, IsTypes, IsOutputs, IsSignature, IsFunction, IsType, IsFunctionType}
+use Rattle.ir_text_types.specs.TypeGrammar.{types_of, IsScalar, IsMemref, IsWordFrom, IsWordType, IsTypes, IsOutputs, IsSignature, IsFunction, IsType, IsFunctionType}
 use Rattle.ir_text_reading.specs.Worlds.{From}
 use Rattle.ir_text_reading.specs.Standing.{TypeStands}
 use Rattle.ir_text_reading.specs.Laws.{TypesStand, SignatureStands}
@@ -270,13 +270,13 @@ each_below z [] (y ∷ ys) h = absurd h
 each_below z (x ∷ xs) [] h = absurd h
 each_below z (x ∷ xs) (y ∷ ys) h = (h.0.0, each_below z xs ys h.1)
 
-each_term : (z : Things) (xs : List ℕ) (ys : List TypeTerm) → TypesStand z xs ys → terms.types_at (type_terms z) xs ≡ terms_of ys
+each_term : (z : Things) (xs : List ℕ) (ys : List TypeTerm) → TypesStand z xs ys → terms.types_at (type_terms z) xs ≡ types_of ys
 each_term z [] [] h = refl
 each_term z [] (y ∷ ys) h = absurd h
 each_term z (x ∷ xs) [] h = absurd h
 each_term z (x ∷ xs) (y ∷ ys) h = λ i. terms.next_type (h.0.1 i) (each_term z xs ys h.1 i)
 
-pub func_stands : (z : Things) (x : List ℕ × List ℕ) (y : List TypeTerm × List TypeTerm) → SignatureStands z x y → IsNodeOf (node.Func x.0 x.1) (Function (terms_of y.0) (terms_of y.1)) z
+pub func_stands : (z : Things) (x : List ℕ × List ℕ) (y : List TypeTerm × List TypeTerm) → SignatureStands z x y → IsNodeOf (node.Func x.0 x.1) (Function (types_of y.0) (types_of y.1)) z
 func_stands z x y h = (
   (All-from_recursion (λ t. t < length z.types) x.0 (each_below z x.0 y.0 h.0), All-from_recursion (λ t. t < length z.types) x.1 (each_below z x.1 y.1 h.1)),
   λ i. Function (each_term z x.0 y.0 h.0 i) (each_term z x.1 y.1 h.1 i),
@@ -305,8 +305,8 @@ module _ (p : Parse Typed ℕ) (P : Grammar (List ℕ) TypeTerm) (item : (c : Th
   pub function_exact : (c : Things) → Exact things Same c TypeStands (function_at p) (IsFunction P)
   unfolding function_at IsFunction
   function_exact c =
-      then_exact things Same c SignatureStands TypeStands (signature_at p many) (IsSignature P many) (λ x. type_done (node.Func x.0 x.1)) (λ y. DoneIf (type_fault (Function (terms_of y.0) (terms_of y.1)) ≡ None) (Function (terms_of y.0) (terms_of y.1)))
-      (signature_exact many c) (λ d x y g r. type_done_exact d (node.Func x.0 x.1) (Function (terms_of y.0) (terms_of y.1)) (λ z k w. func_stands z x y (r z k w)))
+      then_exact things Same c SignatureStands TypeStands (signature_at p many) (IsSignature P many) (λ x. type_done (node.Func x.0 x.1)) (λ y. DoneIf (type_fault (Function (types_of y.0) (types_of y.1)) ≡ None) (Function (types_of y.0) (types_of y.1)))
+      (signature_exact many c) (λ d x y g r. type_done_exact d (node.Func x.0 x.1) (Function (types_of y.0) (types_of y.1)) (λ z k w. func_stands z x y (r z k w)))
 
 -- ---- types, and the function types of operations
 

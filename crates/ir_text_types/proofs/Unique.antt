@@ -11,7 +11,7 @@ use Rattle.ir_text_types.specs.Scalars.{scalar_of, memref_word}
 use Rattle.ir_text_types.specs.ShapeGrammar.{IsShape}
 use Rattle.ir_text_types.specs.TypeReading.{many}
 use Rattle.ir_text_reading.specs.Grammars.{Grammar, Then, Done, DoneIf, After, Not, Either, IsMore, IsList, Token, IsMark}
-use Rattle.ir_text_types.specs.TypeGrammar.{terms_of, IsScalar, IsMemref, IsWordFrom, IsWordType, IsTypes, IsOutputs, IsSignature, IsFunction, IsType, IsFunctionType}
+use Rattle.ir_text_types.specs.TypeGrammar.{types_of, IsScalar, IsMemref, IsWordFrom, IsWordType, IsTypes, IsOutputs, IsSignature, IsFunction, IsType, IsFunctionType}
 use Rattle.ir_text_types.proofs.ShapeLaws.{dimensions_one}
 
 module _ {T : Type 0} where
@@ -128,7 +128,7 @@ module _ (P : Grammar (List ℕ) TypeTerm) (item : IsOne P) where
 
   function_one : IsOne (IsFunction P)
   unfolding IsFunction
-  function_one = then_one (IsSignature P many) _ (signature_one many) (λ x. done_if_one (type_fault (Function (terms_of x.0) (terms_of x.1)) ≡ None) (Function (terms_of x.0) (terms_of x.1)))
+  function_one = then_one (IsSignature P many) _ (signature_one many) (λ x. done_if_one (type_fault (Function (types_of x.0) (types_of x.1)) ≡ None) (Function (types_of x.0) (types_of x.1)))
 
 pub type_one : (depth : ℕ) → IsOne (IsType depth)
 unfolding IsType

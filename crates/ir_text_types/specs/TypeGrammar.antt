@@ -8,17 +8,15 @@ use Rattle.ir_types.specs.declared.node.TypeNode.{TypeNode}
 use Rattle.ir_types.specs.Terms.{TypeTerm, TypeTerms, no_types, next_type, Function, Memref, type_from}
 use Rattle.ir_types.specs.Reasons.{type_fault}
 use Rattle.ir_text_reading.specs.Grammars.{Grammar, Then, Done, DoneIf, After, Either, IsList, Token, IsMark}
+use Rattle.ir_text_reading.specs.Typed.{Text}
 use Rattle.ir_text_types.specs.Scalars.{scalar_of, memref_word}
 use Rattle.ir_text_types.specs.ShapeGrammar.{IsShape}
 use Rattle.ir_text_types.specs.TypeReading.{many}
 
-abbrev pub Text : Type 0
-Text = List ℕ
-
 -- types as one term
-abbrev pub terms_of : List TypeTerm → TypeTerms
-terms_of [] = no_types
-terms_of (t ∷ ts) = next_type t (terms_of ts)
+abbrev pub types_of : List TypeTerm → TypeTerms
+types_of [] = no_types
+types_of (t ∷ ts) = next_type t (types_of ts)
 
 -- a word that is an integer type or index
 abbrev pub IsScalar : Grammar Text TypeTerm
@@ -52,7 +50,7 @@ module _ (P : Grammar Text TypeTerm) where
 
   -- a function type, of no more depth than a type may have
   unfoldable pub IsFunction : Grammar Text TypeTerm
-  IsFunction = Then (IsSignature many) (λ x. DoneIf (type_fault (Function (terms_of x.0) (terms_of x.1)) ≡ None) (Function (terms_of x.0) (terms_of x.1)))
+  IsFunction = Then (IsSignature many) (λ x. DoneIf (type_fault (Function (types_of x.0) (types_of x.1)) ≡ None) (Function (types_of x.0) (types_of x.1)))
 
 -- a type of at most that depth
 unfoldable pub IsType : ℕ → Grammar Text TypeTerm

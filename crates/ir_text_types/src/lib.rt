@@ -4,6 +4,6 @@
 
 pub mod full;
 pub mod laws;
-mod scalars;
+pub mod scalars;
 mod shapes;
 pub mod types;

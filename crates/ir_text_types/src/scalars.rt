@@ -7,9 +7,10 @@ ghost use Rattle.ir_types.specs.Things.{Things, TypeIsOf};
 ghost use Rattle.ir_text_tokens.specs.Numbers.{below_limit, integer_of};
 ghost use Rattle.ir_text_types.specs.Scalars.{width_of, signed_of_word, integer_type_of, scalar_of, within, begins_zero, memref_word};
 
-use ir_text_tokens::numbers::integer_value;
+use ir_text_tokens::numbers::{are_digits, integer_value};
 use ir_types::limits::MOST_WIDTH;
 use ir_types::node::{Sign, TypeNode};
+use ir_types::refusal::Refusal;
 
 fn begins_zero(digits: &[u8]) -> bool
     ensures { result ≡ begins_zero digits.now }
@@ -18,12 +19,6 @@ fn begins_zero(digits: &[u8]) -> bool
         [] => true,
         [digit, ..] => *digit == b'0',
     }
-}
-
-fn are_digits(bytes: &[u8]) -> bool
-    ensures { result ≡ list_all is_ascii_digit bytes.now }
-{
-    bytes.iter().all(|byte| byte.is_ascii_digit())
 }
 
 /// The number as a width, from 1 to 128.
@@ -128,6 +123,26 @@ pub fn scalar_of(word: &[u8]) -> Option<TypeNode>
         return Some(TypeNode::Index);
     }
     integer_type_of(word)
+}
+
+/// Whether digits write a number that is no width.
+fn writes_bad_width(digits: &[u8]) -> bool {
+    !digits.is_empty() && are_digits(digits) && width_of(digits).is_none()
+}
+
+/// Why a word is no type that may stand where it does: an integer type with a bad width, or a type that is
+/// left out.
+pub fn word_refusal(word: &[u8]) -> Refusal {
+    match integer_parts(word) {
+        Some((_, digits)) => {
+            if writes_bad_width(digits) {
+                Refusal::BadWidth
+            } else {
+                Refusal::LeftOut
+            }
+        }
+        None => Refusal::LeftOut,
+    }
 }
 
 /// Whether a word is `memref`.

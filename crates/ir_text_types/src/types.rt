@@ -8,7 +8,7 @@ ghost use Rattle.ir_text_reading.specs.Outcomes.{Gives, of_option};
 ghost use Rattle.ir_text_reading.specs.Marks.{after};
 ghost use Rattle.ir_text_types.specs.TypeReading.{type_done, scalar_done, scalar_at, memref_at, word_type_at, types_at, outputs_at, signature_at, function_at, type_at, function_type_at, many};
 
-use crate::scalars::{is_memref, scalar_of};
+use crate::scalars::{is_memref, scalar_of, word_refusal};
 use crate::shapes::dimensions;
 use ir_items::lists::Items;
 use ir_text_reading::error::{ReadError, wrong};
@@ -135,21 +135,6 @@ fn word_type<'a>(
             }
         }
         _ => Err(ReadError::Refused(wrong(token_refusal(&found), bytes))),
-    }
-}
-
-/// Why a word is no type: an integer type with a bad width, or a type that is left out.
-fn word_refusal(word: &[u8]) -> Refusal {
-    let digits = match word {
-        [b'i', digits @ ..] => digits,
-        [b's', b'i', digits @ ..] => digits,
-        [b'u', b'i', digits @ ..] => digits,
-        _ => return Refusal::LeftOut,
-    };
-    if !digits.is_empty() && digits.iter().all(|digit| digit.is_ascii_digit()) {
-        Refusal::BadWidth
-    } else {
-        Refusal::LeftOut
     }
 }
 

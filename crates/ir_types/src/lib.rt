@@ -15,6 +15,7 @@ pub mod reading_laws;
 pub mod readings;
 pub mod refusal;
 mod table;
+pub mod things;
 pub mod word;
 pub mod word_laws;
 pub mod words;

@@ -7,4 +7,5 @@ pub mod own;
 pub mod property;
 pub mod registry;
 mod table;
-pub mod things;
+
+pub use ir_types::things;

@@ -8,10 +8,10 @@ ghost use Rattle.ir_types.specs.Sound.{IsSound};
 ghost use Rattle.op_registry.specs.Properties as properties;
 ghost use Rattle.op_registry.specs.Properties.{kinds};
 
-use crate::things::{attr_of, type_of};
 use ir_types::context::Context;
 use ir_types::ids::{AttrId, NameId, TypeId};
 use ir_types::node::{AttrNode, Sign, TypeNode};
+use ir_types::things::{attr_of, type_of};
 use ir_types::word::Word;
 use ir_types::words::OPERATIONS;
 

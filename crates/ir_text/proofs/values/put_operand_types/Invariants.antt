@@ -3,7 +3,7 @@ use Rattle.std.specs.Prelude.{codes}
 use Rattle.ir_text.specs.Rows.{parted}
 use Rattle.ir_text.specs.TypeText.{type_texts}
 use Rattle.ir_text.specs.Naming.{value_type}
-use Rattle.ir_text.specs.Printing.{types_of}
+use Rattle.ir_text_types.specs.TypeGrammar.{types_of}
 use Rattle.ir_text.specs.View.{named_in}
 use Rattle.ir_text.proofs.values.put_operand_types.Given as goal
 

@@ -1,6 +1,6 @@
 use Rattle.std.proofs.Common.{arith}
 use Rattle.ir_types.proofs.Terms.{attr_term_is, parts_below_more}
-use Rattle.ir_text.proofs.things.attr_of.Goals as goal
+use Rattle.ir_types.proofs.things.attr_of.Goals as goal
 
 pub returns-clause-term : goal.returns-clause-term
 returns-clause-term c = attr_term_is c.args.ctx.now c.args.id c.attr_node.result.now c.sound.ensures.holds c.attr_node.ensures.node

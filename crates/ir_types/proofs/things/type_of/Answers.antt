@@ -1,6 +1,6 @@
 use Rattle.std.proofs.Common.{arith}
 use Rattle.ir_types.proofs.Terms.{type_term_is, types_below_more}
-use Rattle.op_registry.proofs.things.type_of.Goals as goal
+use Rattle.ir_types.proofs.things.type_of.Goals as goal
 
 pub returns-clause-term : goal.returns-clause-term
 returns-clause-term c = type_term_is c.args.ctx.now c.args.id c.type_node.result.now c.sound.ensures.holds c.type_node.ensures

@@ -1,11 +1,19 @@
-//! The nodes of a context, and what they stand for.
+//! What the numbers of a context stand for.
 ghost use Rattle.std.specs.Prelude.{◌≡◌};
-ghost use Rattle.ir_types.specs.Things.{IsType, IsAttr, TypeIsOf, AttrIsOf};
-ghost use Rattle.ir_types.specs.Terms.{type_term, type_node_term, attr_term, attr_node_term};
+ghost use Rattle.ir_types.specs.Things.{IsName, IsType, IsAttr, TypeIsOf, AttrIsOf};
+ghost use Rattle.ir_types.specs.Terms.{name_term, type_term, type_node_term, attr_term, attr_node_term};
 
-use ir_types::context::Context;
-use ir_types::ids::{AttrId, TypeId};
-use ir_types::node::{AttrNode, TypeNode};
+use crate::context::Context;
+use crate::ids::{AttrId, NameId, TypeId};
+use crate::node::{AttrNode, TypeNode};
+
+/// The bytes of a name.
+pub fn name_of(ctx: &Context, id: NameId) -> &[u8]
+    requires { IsName ctx.now id }
+    ensures { result.now ≡ name_term ctx.now id }
+{
+    ctx.name_bytes(id)
+}
 
 /// The node of a type.
 pub fn type_of(ctx: &Context, id: TypeId) -> &TypeNode

@@ -1,0 +1,24 @@
+-- Entries put among sorted ones, as places in a list.
+use Rattle.std.specs.Prelude.{not}
+use Rattle.std.specs.List.{prefix_len}
+use Rattle.std.proofs.Common.{◌≡◌, refl, ap, subst, suc, ◌+◌, arith, Bool, true, false, List, [], ◌∷◌, ◌++◌, take, drop}
+use Rattle.ir_text_attributes.specs.Keyed.{put_among, put_all}
+
+module _ {K A : Type 0} (before : K → K → Bool) where
+  -- an entry stands behind those before which its key does not come
+  pub put_at : (e : K × A) (es : List (K × A)) → put_among before e es ≡ take (prefix_len (λ f. not (before e.0 f.0)) es) es ++ e ∷ drop (prefix_len (λ f. not (before e.0 f.0)) es) es
+  put_at e [] = refl
+  put_at e (f ∷ fs) = by_test (put_at e fs) (before e.0 f.0) refl
+    where
+      by_test : put_among before e fs ≡ take (prefix_len (λ g. not (before e.0 g.0)) fs) fs ++ e ∷ drop (prefix_len (λ g. not (before e.0 g.0)) fs) fs
+          → (b : Bool) → before e.0 f.0 ≡ b → put_among before e (f ∷ fs) ≡ take (prefix_len (λ g. not (before e.0 g.0)) (f ∷ fs)) (f ∷ fs) ++ e ∷ drop (prefix_len (λ g. not (before e.0 g.0)) (f ∷ fs)) (f ∷ fs)
+      by_test rest true h = rw h refl
+      by_test rest false h =
+          let n = prefix_len (λ g. not (before e.0 g.0)) fs in
+          let one : suc n ≡ 1 + n = omega arith in
+          rw h (subst (λ m. f ∷ put_among before e fs ≡ take m (f ∷ fs) ++ e ∷ drop m (f ∷ fs)) one (ap (λ (l : List (K × A)). f ∷ l) rest))
+
+  -- those behind go first
+  pub put_both : (done front back : List (K × A)) → put_all before done (front ++ back) ≡ put_all before (put_all before done back) front
+  put_both done [] back = refl
+  put_both done (f ∷ fs) back = ap (put_among before f) (put_both done fs back)
