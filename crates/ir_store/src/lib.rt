@@ -2,6 +2,7 @@
 //! of its name.
 #![tactic(auto)]
 
+pub mod lent;
 pub mod node;
 mod spots;
 pub mod store;

@@ -14,9 +14,11 @@ ghost use Rattle.ir_tree.specs.Tree.{head};
 ghost use Rattle.ir_tree_laws.specs.Values.{type_of_value, arguments_at};
 ghost use Rattle.ir_store.specs.Nodes.{node_of};
 ghost use Rattle.ir_store.specs.Stored.{known};
+ghost use Rattle.ir_store.specs.Lending.{lent_tree};
 ghost use Rattle.ir_store.specs.Calls.{Loaded, after_operand};
 ghost use Rattle.ir_tree_laws.specs.Reasons.{set_operand_reason, value_reason};
 
+use crate::lent::Lent;
 use crate::node::{Node, arguments, region_of};
 use crate::spots;
 use ir_tree::changes::with_operand_set;
@@ -94,6 +96,13 @@ impl Store {
         ensures { IfOk result (λ t. t ≡ self.now.module_of.tree) }
     {
         copy(&self.root)
+    }
+
+    /// The tree of the module, to be read. No copy is made of a tree that is kept.
+    pub fn lent(&self) -> Result<Lent<'_>, AllocError>
+        ensures { IfOk result (λ l. lent_tree l ≡ self.now.module_of.tree) }
+    {
+        Ok(Lent::Kept(&self.root))
     }
 
     /// The next free id.
