@@ -11,7 +11,9 @@ use Rattle.ir_types.specs.Words.{is_isolated}
 use Rattle.ir_tree.specs.Tree.{HeadOf, OpOf, op, Op as Tree, head}
 use Rattle.ir_tree.specs.Ids.{HasDistinctIds, find, first_of, op_count}
 use Rattle.ir_tree.specs.Limits.{every, regions_every, op_fits, head_fits, most_items, most_ops}
-use Rattle.ir_tree.specs.Edits.{at, change_entry, change_part}
+use Rattle.ir_tree.specs.Edits.{at, change_entry, change_part, with_operand}
+use Rattle.ir_tree_laws.specs.Changes.{Takes}
+use Rattle.ir_event.proofs.Operands.{holder}
 use Rattle.ir_tree.specs.Meaning.{Operation, key_before, meaning}
 use Rattle.ir_tree.specs.Places.{place_of, without}
 use Rattle.ir_tree.specs.WellFormed.{IsWellFormed}
@@ -41,11 +43,11 @@ use Rattle.listeners.specs.declared.key.Use.{Use}
 use Rattle.listeners.specs.declared.key.Key.{Key}
 use Rattle.listeners.specs.Uses.{in_order, operand_uses, uses_in, all_uses, use_row}
 use Rattle.listeners.specs.Keys.{key_of, keys_of, value_at, key_cells}
-use Rattle.listeners.specs.Drops.{drop_all, put_all}
-use Rattle.listeners.specs.Following.{IsFollowed, operands_in}
+use Rattle.listeners.specs.Others.{others}
+use Rattle.listeners.specs.Following.{HasNow, IsFollowed, operands_in}
+use Rattle.listeners.proofs.Apart.{replaced_others, split_tree}
 use Rattle.listeners.proofs.Cutting.{cut_order, edited_uses, leaf_uses, taken}
-use Rattle.listeners.proofs.Moving.{drop_all_order, put_all_order}
-use Rattle.listeners.proofs.Orders.{put_among}
+use Rattle.listeners.proofs.Others.{behind_alike, cancelled, others_alike, others_twice}
 use Rattle.listeners.proofs.Sorted.{value_back}
 use Rattle.listeners.proofs.Places.{one_use, set_uses, mapped_uses}
 
@@ -89,15 +91,6 @@ placed {N} {T} {A} x place t d e =
     root_in : (t : OpOf N T A) → In (stand t []) (stands [] t)
     root_in (op h rs) = inl refl
 
--- so many operands as a module's operations may have
-few_operands : (m : Module) (x : ℕ) (o : Operation) → IsWellFormed is_isolated m → find x m.tree ≡ Some o → length (head o).operands ≤ most_items
-few_operands m x o w f = few o (every_found op_fits x m.tree o (both (nat_le (op_count m.tree) most_ops) (every op_fits m.tree) w.formed.counts).1 f)
-  where
-    few : (o : Operation) → every op_fits o ≡ true → length (head o).operands ≤ most_items
-    few (op h rs) e =
-        let own = both (op_fits (op h rs)) (regions_every op_fits rs) e in
-        leb-true (length h.operands) most_items (both (nat_le (length h.operands) most_items) _ (both (head_fits h) _ own.0).0).0
-
 -- the operands that a store shows, where it shows a node in contents
 shown_operands : (c : Things) (s : Stored) (x : ℕ) (o : Operation) → option_map (λ (q : Tree). node_of (meaning c q)) (known x s) ≡ Some (node_of o) → operands_in s x ≡ Some (head o).operands
 shown_operands c s x o e = go (known x s) e
@@ -123,60 +116,62 @@ shown_there c s x o f = go (find x s.module_of.tree) refl
     go None e = (let bad : None ≡ Some o = sym (ap (option_map (meaning c)) e) ∙ mapped in absurd cc)
     go (Some q) e = (let same : Some (meaning c q) ≡ Some o = sym (ap (option_map (meaning c)) e) ∙ mapped in let one : meaning c q ≡ o = cc in ap (λ (u : Operation). Some (node_of u)) one)
 
+-- where an operation is taken out, what is left are the uses by others
+left_taken : (x : ℕ) (place : Place) (fresh : Bool) (m n : Module) → HasDistinctIds m.tree → Takes x place fresh m n → in_order (others x (uses_in m.tree)) ≡ in_order (uses_in n.tree)
+left_taken x place fresh m n d takes =
+    let p = placed x place m.tree d takes.there in
+    let own : List Use = operand_uses x 0 (head p.here).operands in
+    let cut = taken x m.tree p.here d p.found p.inner in
+    let whole : in_order (uses_in m.tree) ≡ in_order (own ++ uses_in n.tree) =
+    cut_order p.here m.tree (without x m.tree) cut
+    ∙ ap in_order (leaf_uses p.here (uses_in (without x m.tree)) (takes.empty p.here p.found))
+    ∙ (λ i. in_order (operand_uses (p.id i) 0 (head p.here).operands ++ uses_in (sym takes.left i))) in
+    cancelled own (others x (uses_in m.tree)) (uses_in n.tree) (sym (split_tree x m.tree p.here d p.found) ∙ whole)
+
+-- a table in which an operation has the operands that a tree shows, and the others what they have there
+now_agrees : (x : ℕ) (t o : Operation) (before after : List Use) → HasDistinctIds t → find x t ≡ Some o → in_order (others x before) ≡ in_order (others x (uses_in t)) → HasNow x (head o).operands before after → in_order after ≡ all_uses t
+now_agrees x t o before after d found rest now =
+    now ∙ behind_alike (operand_uses x 0 (head o).operands) (others x before) (others x (uses_in t)) rest ∙ sym (split_tree x t o d found)
+
 -- a table that followed an event is that of the module after it
-pub followed_agrees : (c : Things) (e : Event) (s : Stored) (m : Module) (ks ls : List Key) → Step c e m (module_meaning c s.module_of) → ShowsTaken e m (λ x. option_map (λ (q : Tree). node_of (meaning c q)) (known x s))
-    → IsFollowed (operands_in s) e ks ls → ks ≡ keys_of (all_uses m.tree) → ls ≡ keys_of (all_uses (meaning c s.module_of.tree))
-followed_agrees c (Put x place fresh) s m ks ls step shows f is =
+pub followed_agrees : (c : Things) (e : Event) (s : Stored) (m : Module) (before after : List Use) → Step c e m (module_meaning c s.module_of) → ShowsTaken e m (λ x. option_map (λ (q : Tree). node_of (meaning c q)) (known x s))
+    → IsFollowed (operands_in s) e before after → in_order before ≡ all_uses m.tree → in_order after ≡ all_uses (meaning c s.module_of.tree)
+followed_agrees c (Put x place fresh) s m before after step shows f is =
     let n : Module = module_meaning c s.module_of in
     let p = placed x place n.tree step.after.distinct step.changes.there in
-    let vs : List Value = (head p.here).operands in
-    let cut = taken x n.tree p.here step.after.distinct p.found p.inner in
-    let operands : operands_in s x ≡ Some vs = shown_operands c s x p.here (shown_there c s x p.here p.found) in
-    let now : ls ≡ keys_of (put_all (operand_uses x 0 vs) (all_uses m.tree)) = f vs (all_uses m.tree) operands (few_operands n x p.here step.after p.found) is in
-    now
-    ∙ ap keys_of (
-    put_all_order (operand_uses x 0 vs) (uses_in m.tree)
-    ∙ sym (
-    cut_order p.here n.tree (without x n.tree) cut
-    ∙ ap in_order (leaf_uses p.here (uses_in (without x n.tree)) (step.changes.empty p.here p.found))
-    ∙ (λ i. in_order (operand_uses (p.id i) 0 vs ++ uses_in (sym step.changes.left i)))
-    )
-    )
-followed_agrees c (Take x place fresh) s m ks ls step shows f is =
+    let left : in_order (others x (uses_in n.tree)) ≡ in_order (uses_in m.tree) = left_taken x place fresh n m step.after.distinct step.changes in
+    let rest : in_order (others x before) ≡ in_order (others x (uses_in n.tree)) =
+    others_alike x before (uses_in m.tree) is ∙ others_alike x (uses_in m.tree) (others x (uses_in n.tree)) (sym left) ∙ ap in_order (others_twice x (uses_in n.tree)) in
+    let shown : operands_in s x ≡ Some (head p.here).operands = shown_operands c s x p.here (shown_there c s x p.here p.found) in
+    now_agrees x n.tree p.here before after step.after.distinct p.found rest (f (head p.here).operands shown)
+followed_agrees c (Take x place fresh) s m before after step shows f is =
     let n : Module = module_meaning c s.module_of in
-    let p = placed x place m.tree step.before.distinct step.changes.there in
-    let vs : List Value = (head p.here).operands in
-    let cut = taken x m.tree p.here step.before.distinct p.found p.inner in
-    let operands : operands_in s x ≡ Some vs = shown_operands c s x p.here (shows ∙ ap (option_map (λ (o : Operation). node_of o)) p.found) in
-    let now : ls ≡ keys_of (drop_all (operand_uses x 0 vs) (all_uses m.tree)) = f vs (all_uses m.tree) operands (few_operands m x p.here step.before p.found) is in
-    now
-    ∙ ap (λ l. keys_of (drop_all (operand_uses x 0 vs) l)) (
-    cut_order p.here m.tree (without x m.tree) cut
-    ∙ ap in_order (leaf_uses p.here (uses_in (without x m.tree)) (step.changes.empty p.here p.found))
-    ∙ (λ i. in_order (operand_uses (p.id i) 0 vs ++ uses_in (sym step.changes.left i)))
-    )
-    ∙ ap keys_of (drop_all_order (operand_uses x 0 vs) (uses_in n.tree))
-followed_agrees c (SetOperand x k old new) s m ks ls step shows f is =
+    f ∙ others_alike x before (uses_in m.tree) is ∙ left_taken x place fresh m n step.before.distinct step.changes
+followed_agrees c (SetOperand x k old new) s m before after step shows f is =
+    let n : Module = module_meaning c s.module_of in
     let r = set_uses x k old new m.tree step.before.distinct step.changes.was in
-    let us : List Use = in_order (r.front ++ r.back) in
-    f us (is ∙ ap (λ l. keys_of (in_order l)) r.was ∙ ap keys_of (put_among r.front r.back (one_use old x k)))
-    ∙ sym (ap (λ t. keys_of (all_uses t)) step.changes.after ∙ ap (λ l. keys_of (in_order l)) r.is ∙ ap keys_of (put_among r.front r.back (one_use new x k)))
-followed_agrees c (SetEntry x part key old new) s m ks ls step shows f is =
-    f ∙ is
-    ∙ ap (λ l. keys_of (in_order l)) (sym (edited_uses (at x (change_part part (change_entry key_before (name_term c key) (option_map (attr_term c) new)))) (entry_id x part _) (entry_operands x part _) m.tree))
-    ∙ sym (ap (λ t. keys_of (all_uses t)) step.changes.after)
-followed_agrees c (Shift x old new) s m ks ls step shows f is =
+    let o = holder x k new new n.tree step.changes.is in
+    let same : others x (uses_in m.tree) ≡ others x (uses_in n.tree) =
+    replaced_others x (one_use old x k) (one_use new x k) (uses_in m.tree) (uses_in (with_operand x k new m.tree)) refl refl r ∙ ap (λ t. others x (uses_in t)) (sym step.changes.after) in
+    let rest : in_order (others x before) ≡ in_order (others x (uses_in n.tree)) = others_alike x before (uses_in m.tree) is ∙ ap in_order same in
+    let shown : operands_in s x ≡ Some (head o.here).operands = shown_operands c s x o.here (shown_there c s x o.here o.found) in
+    now_agrees x n.tree o.here before after step.after.distinct o.found rest (f (head o.here).operands shown)
+followed_agrees c (SetEntry x part key old new) s m before after step shows f is =
+    ap in_order f
+    ∙ is
+    ∙ ap in_order (sym (edited_uses (at x (change_part part (change_entry key_before (name_term c key) (option_map (attr_term c) new)))) (entry_id x part _) (entry_operands x part _) m.tree))
+    ∙ sym (ap (λ t. all_uses t) step.changes.after)
+followed_agrees c (Shift x old new) s m before after step shows f is =
     let n : Module = module_meaning c s.module_of in
     let p = placed x old m.tree step.before.distinct step.changes.was in
     let q = placed x new n.tree step.after.distinct step.changes.is in
-    let before = taken x m.tree p.here step.before.distinct p.found p.inner in
-    let after = taken x n.tree p.here step.after.distinct (step.changes.same ∙ p.found) q.inner in
-    f ∙ is
-    ∙ ap keys_of (
-    cut_order p.here m.tree (without x m.tree) before
+    let was = taken x m.tree p.here step.before.distinct p.found p.inner in
+    let now = taken x n.tree p.here step.after.distinct (step.changes.same ∙ p.found) q.inner in
+    ap in_order f
+    ∙ is
+    ∙ cut_order p.here m.tree (without x m.tree) was
     ∙ ap (λ t. in_order (uses_in p.here ++ uses_in t)) (sym step.changes.rest)
-    ∙ sym (cut_order p.here n.tree (without x n.tree) after)
-    )
+    ∙ sym (cut_order p.here n.tree (without x n.tree) now)
 
 -- the row of a key says its use
 row_says : (c : Things) (row : Row) (u : Use) → row.cells.items ≡ key_cells (key_of u) → row_meaning c row ≡ use_row u
@@ -212,5 +207,5 @@ pub rows_show : (c : Things) (rows : List Row) (keys : List Key) (us : List Use)
 rows_show c rows keys us is kept = let e = is ∙ ap (map key_cells) kept in record { says = rows_say c rows us e; known = rows_known c rows us e }
 
 -- the uses of what a module of a context stands for
-pub meaning_uses : (c : Things) (t : Tree) → keys_of (all_uses (meaning c t)) ≡ keys_of (all_uses t)
-meaning_uses c t = ap (λ l. keys_of (in_order l)) (mapped_uses (name_term c) (type_term c) (attr_term c) t)
+pub meaning_uses : (c : Things) (t : Tree) → all_uses (meaning c t) ≡ all_uses t
+meaning_uses c t = ap in_order (mapped_uses (name_term c) (type_term c) (attr_term c) t)

@@ -1,8 +1,11 @@
+pub mod Drops
 pub mod Orders
 pub mod Sorted
 pub mod Listed
-pub mod Keys
 pub mod Moving
+pub mod Others
 pub mod Cutting
 pub mod Places
+pub mod Apart
+pub mod Changing
 pub mod Following

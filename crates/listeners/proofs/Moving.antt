@@ -2,7 +2,7 @@
 use Rattle.std.proofs.Common.{◌≡◌, refl, ap, sym, ◌∙◌, List, [], ◌∷◌, ◌++◌}
 use Rattle.listeners.specs.declared.key.Use.{Use}
 use Rattle.listeners.specs.Uses.{put_use, in_order}
-use Rattle.listeners.specs.Drops.{drop_all, drop_use, put_all}
+use Rattle.listeners.proofs.Drops.{drop_all, drop_use, put_all}
 use Rattle.listeners.proofs.Orders.{drop_put, put_among}
 
 pub put_all_order : (us vs : List Use) → put_all us (in_order vs) ≡ in_order (us ++ vs)

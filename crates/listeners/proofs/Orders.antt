@@ -11,7 +11,7 @@ use Rattle.ir_tree.specs.declared.value.Value.TheVariants.{Result, Arg}
 use Rattle.ir_tree.specs.Frames.{owner_of, place_of}
 use Rattle.listeners.specs.declared.key.Use.{Use}
 use Rattle.listeners.specs.Uses.{use_cmp, put_use, in_order}
-use Rattle.listeners.specs.Drops.{drop_use}
+use Rattle.listeners.proofs.Drops.{drop_use}
 
 pub use_total : IsTotalOrder use_cmp
 use_total =
@@ -84,7 +84,7 @@ not_both : (u v : Use) → is_gt (use_cmp u v) ≡ true → is_gt (use_cmp v u) 
 not_both u v a = ap is_gt (use_total.antisymm v u ∙ ap ordering_reverse (greater (use_cmp u v) a))
 
 -- one step of `put_use`
-put_behind : (u v : Use) (vs : List Use) → is_gt (use_cmp u v) ≡ true → put_use u (v ∷ vs) ≡ v ∷ put_use u vs
+pub put_behind : (u v : Use) (vs : List Use) → is_gt (use_cmp u v) ≡ true → put_use u (v ∷ vs) ≡ v ∷ put_use u vs
 put_behind u v vs e = ap (λ b. cond b (v ∷ put_use u vs) (u ∷ v ∷ vs)) e
 
 pub put_first : (u v : Use) (vs : List Use) → is_gt (use_cmp u v) ≡ false → put_use u (v ∷ vs) ≡ u ∷ v ∷ vs

@@ -16,7 +16,7 @@ use Rattle.listeners.specs.declared.key.Use.{Use}
 use Rattle.listeners.specs.declared.key.Key.{Key}
 use Rattle.listeners.specs.Uses.{use_cmp, put_use, in_order}
 use Rattle.listeners.specs.Keys.{key_of, keys_of, value_at, use_of}
-use Rattle.listeners.specs.Drops.{drop_use}
+use Rattle.listeners.proofs.Drops.{drop_use}
 use Rattle.listeners.proofs.Orders.{use_total, put_among, put_first, drop_put}
 
 -- where use i of a list is, it is put among the others

@@ -1,6 +1,7 @@
 pub mod Uses
 pub mod Keys
+pub mod Others
 pub mod Listings
+pub mod Tables
 pub mod Listeners
-pub mod Drops
 pub mod Following

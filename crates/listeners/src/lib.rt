@@ -1,9 +1,13 @@
 //! Listeners that follow a module: where one agreed with it before an event, it agrees with it after, or is stale.
 #![tactic(auto)]
 
+mod changed;
 mod collect;
 mod follow;
+mod gather;
 pub mod key;
 mod listing;
+mod report;
 mod table;
+mod user;
 pub mod uses;

@@ -1,13 +1,19 @@
 //! Uses listed by their users, before anything asks for their order.
-ghost use Rattle.std.specs.Prelude.{◌≡◌, [], ◌++◌, length, IfOk, OnOk};
-ghost use Rattle.listeners.specs.Uses.{operand_uses, in_order};
-ghost use Rattle.listeners.specs.Keys.{key_of, keys_of};
-ghost use Rattle.listeners.specs.Listings.{operand_count, listed_uses};
+ghost use Rattle.std.specs.Prelude.{◌≡◌, [], ◌++◌, map, IfOk, OnOk};
+ghost use Rattle.listeners.specs.Uses.{operand_uses};
+ghost use Rattle.listeners.specs.Keys.{keys_of};
+ghost use Rattle.listeners.specs.Others.{only, others};
+ghost use Rattle.listeners.specs.Listings.{forgotten};
+ghost use Rattle.listeners.specs.Tables.{is_unchanged};
 
-use crate::key::{Key, Use};
+use crate::changed::Changed;
+use crate::gather::push_listed;
+use crate::key::Key;
+use crate::user::User;
 use ir_tree::value::Value;
 use ir_types::ids::OpId;
 use std::alloc::{AllocError, Global};
+use std::collections::BTreeMap;
 use std::marker::Model;
 
 /// Uses listed by their users: a contract sees the list of uses.
@@ -18,7 +24,7 @@ use std::marker::Model;
 #[derive(Drop)]
 pub(crate) struct Listing {
     /// The operations that have operands, with the number of them.
-    users: Vec<(OpId, u32)>,
+    users: Vec<User>,
     /// The operands of all of these, one after another.
     operands: Vec<Value>,
 }
@@ -61,19 +67,24 @@ impl Listing {
     }
 
     /// Adds the uses of an operation: its operands in order.
-    pub(crate) fn push(&mut self, user: OpId, operands: &[Value]) -> Result<(), AllocError>
-        ensures { OnOk result (self.new ≡ self.old ++ operand_uses user 0 operands.now) }
+    pub(crate) fn push(&mut self, id: OpId, operands: &[Value]) -> Result<(), AllocError>
+        ensures { OnOk result (self.new ≡ self.old ++ operand_uses id 0 operands.now) }
     {
         if operands.is_empty() {
             return Ok(());
         }
         // A module has at most 256 operands at an operation.
-        let Ok(count) = u32::try_from(operands.len()) else {
+        let Ok(count) = u16::try_from(operands.len()) else {
             return Err(AllocError);
         };
         let before = self.operands.len();
         self.operands.extend_from_slice(operands)?;
-        match self.users.push((user, count)) {
+        let user = User {
+            id,
+            count,
+            live: true,
+        };
+        match self.users.push(user) {
             Ok(()) => Ok(()),
             Err(_) => {
                 self.operands.truncate(before);
@@ -82,72 +93,49 @@ impl Listing {
         }
     }
 
-    /// The keys of the uses, in order.
-    pub(crate) fn sorted_keys(&self, alloc: Global) -> Result<Vec<Key>, AllocError>
-        ensures { IfOk result (λ keys. keys.items ≡ keys_of (in_order self.now)) }
+    /// Leaves out the uses of an operation, if it has some. This walks over all users, and needs no memory.
+    pub(crate) fn forget(&mut self, id: OpId)
+        ensures { self.new ≡ others id self.old }
     {
-        let mut keys = Vec::with_capacity(alloc, self.operands.len())?;
-        push_all_keys(&self.users, &self.operands, &mut keys)?;
-        keys.sort_unstable();
-        Ok(keys)
+        forget_in(&mut self.users, id);
+    }
+
+    /// Adds the keys of the uses whose users were not changed.
+    pub(crate) fn push_unchanged(
+        &self,
+        changed: &BTreeMap<OpId, Changed>,
+        keys: &mut Vec<Key>,
+    ) -> Result<(), AllocError>
+        ensures { OnOk result (keys.new.items ≡ keys.old.items ++ keys_of (only (is_unchanged changed.now) self.now)) }
+    {
+        push_listed(&self.users, &self.operands, changed, keys)
+    }
+
+    /// How many operands are listed.
+    pub(crate) fn len(&self) -> usize {
+        self.operands.len()
     }
 }
 
-/// The key of a use.
-pub(crate) fn key(entry: &Use) -> Key
-    ensures { result ≡ key_of entry.now }
+/// Leaves out the uses of an operation.
+fn forget_in(users: &mut [User], id: OpId)
+    ensures { users.new ≡ map (forgotten id) users.old }
 {
-    match entry.value {
-        Value::Result(owner, place) => Key {
-            owner,
-            region: None,
-            place,
-            user: entry.user,
-            operand: entry.operand,
-        },
-        Value::Arg(owner, region, place) => Key {
-            owner,
-            region: Some(region),
-            place,
-            user: entry.user,
-            operand: entry.operand,
-        },
+    for user in users {
+        *user = after(user, id);
     }
 }
 
-/// Adds the keys of listed uses.
-fn push_all_keys(
-    users: &[(OpId, u32)],
-    operands: &[Value],
-    keys: &mut Vec<Key>,
-) -> Result<(), AllocError>
-    requires { operand_count users.now ≡ length operands.now }
-    ensures { OnOk result (keys.new.items ≡ keys.old.items ++ keys_of (listed_uses users.now operands.now)) }
+/// A user where the uses of an operation are left out.
+fn after(user: &User, id: OpId) -> User
+    ensures { result ≡ forgotten id user.now }
 {
-    let mut rest = operands;
-    for entry in users {
-        let (user, count) = *entry;
-        let (own, others) = rest.split_at(count as usize);
-        push_keys(user, own, keys)?;
-        rest = others;
+    if user.id == id {
+        User {
+            live: false,
+            ..*user
+        }
+    } else {
+        *user
     }
-    Ok(())
-}
-
-/// Adds the keys of the uses of an operation.
-fn push_keys(user: OpId, operands: &[Value], keys: &mut Vec<Key>) -> Result<(), AllocError>
-    ensures { OnOk result (keys.new.items ≡ keys.old.items ++ keys_of (operand_uses user 0 operands.now)) }
-{
-    for (number, operand) in operands.iter().enumerate() {
-        // A module has at most 256 operands at an operation.
-        let Ok(number) = u32::try_from(number) else {
-            return Err(AllocError);
-        };
-        keys.push(key(&Use {
-            value: *operand,
-            user,
-            operand: number,
-        }))?;
-    }
-    Ok(())
 }

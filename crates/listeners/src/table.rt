@@ -1,74 +1,57 @@
-//! The table of uses, and its rows.
-ghost use Rattle.std.specs.Prelude.{◌≡◌, [], ◌∷◌, ◌++◌, map, IfOk, OnOk};
-ghost use Rattle.ir_event.specs.declared.row.Row.{Row as Line};
-ghost use Rattle.listeners.specs.Uses.{in_order};
-ghost use Rattle.listeners.specs.Keys.{keys_of, use_of, key_cells, value_at};
+//! The table of uses.
+ghost use Rattle.std.specs.Prelude.{◌≡◌, [], ◌++◌, OnOk};
+ghost use Rattle.std.specs.Bool.{OnTrue};
+ghost use Rattle.listeners.specs.Uses.{operand_uses, in_order};
+ghost use Rattle.listeners.specs.Others.{others};
+ghost use Rattle.listeners.specs.Tables.{table_uses};
 
-use crate::follow::add;
-use crate::key::Key;
+use crate::changed::Changed;
 use crate::listing::Listing;
-use ir_event::row::{Cell, Row};
 use ir_tree::value::Value;
+use ir_types::ids::OpId;
 use std::alloc::{AllocError, Global};
-use std::collections::BTreeSet;
+use std::collections::BTreeMap;
 
-/// The table of listed uses.
-pub(crate) fn table_of(alloc: Global, uses: &Listing) -> Result<BTreeSet<Key>, AllocError>
-    ensures { IfOk result (λ t. t.keys ≡ keys_of (in_order uses.now)) }
-{
-    let keys = uses.sorted_keys(alloc)?;
-    table_of_keys(alloc, &keys)
+/// The uses of a module: those that were listed where the listener began, and beside them the operands of each operation
+/// that an event changed since, which count in place of the listed ones.
+#[derive(Drop)]
+pub(crate) struct Table {
+    pub(crate) listed: Listing,
+    pub(crate) changed: BTreeMap<OpId, Changed>,
 }
 
-/// The table of keys that are in order.
-fn table_of_keys(alloc: Global, keys: &[Key]) -> Result<BTreeSet<Key>, AllocError>
-    ensures { IfOk result (λ t. t.keys ≡ keys_of (in_order (map use_of keys.now))) }
-{
-    let mut table = BTreeSet::new(alloc);
-    for key in keys {
-        if !add(&mut table, *key) {
-            return Err(AllocError);
+impl Table {
+    /// The table of listed uses.
+    pub(crate) fn new(alloc: Global, listed: Listing) -> Table
+        ensures { table_uses result ≡ listed }
+    {
+        Table {
+            listed,
+            changed: BTreeMap::new(alloc),
         }
     }
-    Ok(table)
-}
 
-/// The value of a key.
-fn value_of(key: &Key) -> Value
-    ensures { result ≡ value_at key.now.owner key.now.region key.now.place }
-{
-    match key.region {
-        None => Value::Result(key.owner, key.place),
-        Some(region) => Value::Arg(key.owner, region, key.place),
+    /// Gives an operation operands, in place of those that it had, if any. It is false where memory was refused.
+    pub(crate) fn put(&mut self, alloc: Global, op: OpId, operands: &[Value]) -> bool
+        ensures { OnTrue result (in_order (table_uses self.new) ≡ in_order (operand_uses op 0 operands.now ++ others op (table_uses self.old))) }
+    {
+        let Ok(operands) = Vec::from_slice(alloc, operands) else {
+            return false;
+        };
+        match self.changed.insert(op, Changed { operands }) {
+            Ok(_) => true,
+            Err(_) => false,
+        }
     }
-}
 
-/// The row of a key.
-fn row(alloc: Global, key: &Key) -> Result<Row, AllocError>
-    ensures { IfOk result (λ row. row.cells.items ≡ key_cells key.now) }
-{
-    let mut cells = Vec::with_capacity(alloc, 3)?;
-    cells.push(Cell::Val(value_of(key)))?;
-    cells.push(Cell::Op(key.user))?;
-    cells.push(Cell::Num(key.operand))?;
-    Ok(Row { cells })
-}
-
-/// Adds the row of a key.
-fn push_row(alloc: Global, key: &Key, rows: &mut Vec<Row>) -> Result<(), AllocError>
-    ensures { OnOk result (map (λ (r : Line). r.cells.items) rows.new.items ≡ map (λ (r : Line). r.cells.items) rows.old.items ++ key_cells key.now ∷ []) }
-{
-    rows.push(row(alloc, key)?)?;
-    Ok(())
-}
-
-/// The rows of a table.
-pub(crate) fn rows_of_table(alloc: Global, table: &BTreeSet<Key>) -> Result<Vec<Row>, AllocError>
-    ensures { IfOk result (λ rows. map (λ (r : Line). r.cells.items) rows.items ≡ map key_cells table.now.keys) }
-{
-    let mut rows = Vec::with_capacity(alloc, table.len())?;
-    for key in table {
-        push_row(alloc, key, &mut rows)?;
+    /// Takes the operands of an operation out, if it has some. This is done without memory where none is given.
+    pub(crate) fn take(&mut self, alloc: Global, op: OpId)
+        ensures { in_order (table_uses self.new) ≡ in_order (others op (table_uses self.old)) }
+    {
+        let operands = Vec::new(alloc);
+        match self.changed.insert(op, Changed { operands }) {
+            Ok(_) => {}
+            Err(_) => self.listed.forget(op),
+        }
     }
-    Ok(rows)
 }

@@ -3,13 +3,14 @@ ghost use Rattle.std.specs.Prelude.{◌≡◌, ◌≤◌, ◌+◌, ◌⊎◌, tr
 ghost use Rattle.ir_event.specs.Modules.{Module, things_in, module_in, shown_in};
 ghost use Rattle.ir_event.specs.Listener.{Told, ShowsTaken, is_take};
 ghost use Rattle.ir_event.specs.Step.{Step};
-ghost use Rattle.listeners.specs.Uses.{all_uses};
-ghost use Rattle.listeners.specs.Keys.{keys_of};
+ghost use Rattle.listeners.specs.Uses.{all_uses, in_order};
+ghost use Rattle.listeners.specs.Tables.{table_uses};
 
 use crate::collect::collect;
 use crate::follow::follow;
-use crate::key::Key;
-use crate::table::{rows_of_table, table_of};
+use crate::listing::Listing;
+use crate::report::rows_of_table;
+use crate::table::Table;
 use ir_event::analysis::Analysis;
 use ir_event::event::Event;
 use ir_event::row::{Kind, Memory, ReportFault, Row};
@@ -17,7 +18,6 @@ use ir_event::view::View;
 use ir_event::world::World;
 use ir_store::store::Store;
 use std::alloc::{AllocError, Global};
-use std::collections::BTreeSet;
 
 /// The analysis `uses`: each use of each value, in order.
 ///
@@ -25,7 +25,7 @@ use std::collections::BTreeSet;
 #[derive(Drop)]
 pub struct Uses {
     alloc: Global,
-    table: BTreeSet<Key>,
+    table: Table,
     stale: bool,
 }
 
@@ -38,19 +38,19 @@ impl Uses {
     {
         Uses {
             alloc,
-            table: BTreeSet::new(alloc),
+            table: Table::new(alloc, Listing::new(alloc)),
             stale: true,
         }
     }
 }
 
 /// The table of the uses of a store's module.
-fn table_in(alloc: Global, store: &Store) -> Result<BTreeSet<Key>, AllocError>
-    ensures { IfOk result (λ table. table.keys ≡ keys_of (all_uses store.now.module_of.tree)) }
+fn table_in(alloc: Global, store: &Store) -> Result<Table, AllocError>
+    ensures { IfOk result (λ table. in_order (table_uses table) ≡ all_uses store.now.module_of.tree) }
 {
-    let tree = store.tree()?;
-    let uses = collect(alloc, &tree)?;
-    table_of(alloc, &uses)
+    let lent = store.lent()?;
+    let listed = collect(alloc, lent.tree())?;
+    Ok(Table::new(alloc, listed))
 }
 
 impl Analysis for Uses {
@@ -64,7 +64,7 @@ impl Analysis for Uses {
 
     fn begin(&mut self, world: &World) -> Result<(), Memory> {
         // What was kept goes first, so that there is room for what is kept now.
-        self.table = BTreeSet::new(self.alloc);
+        self.table = Table::new(self.alloc, Listing::new(self.alloc));
         self.stale = true;
         match table_in(self.alloc, &world.store) {
             Ok(table) => {
@@ -89,7 +89,7 @@ impl Analysis for Uses {
             return view;
         }
         let mut view = view;
-        if !follow(&mut self.table, &mut view, &event) {
+        if !follow(self.alloc, &mut self.table, &mut view, &event) {
             self.stale = true;
         }
         view

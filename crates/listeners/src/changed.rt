@@ -1,0 +1,9 @@
+//! What an event changed of an operation.
+
+use ir_tree::value::Value;
+
+/// The operands that an operation has now.
+#[derive(Drop)]
+pub(crate) struct Changed {
+    pub(crate) operands: Vec<Value>,
+}

@@ -1,0 +1,102 @@
+//! The keys of uses, gathered from a listing and from what was changed since.
+ghost use Rattle.std.specs.Prelude.{◌≡◌, ◌++◌, length, OnOk};
+ghost use Rattle.listeners.specs.Uses.{operand_uses};
+ghost use Rattle.listeners.specs.Keys.{key_of, keys_of};
+ghost use Rattle.listeners.specs.Others.{only};
+ghost use Rattle.listeners.specs.Listings.{operand_count, listed_uses, user_uses};
+ghost use Rattle.listeners.specs.Tables.{changed_uses, is_unchanged};
+
+use crate::changed::Changed;
+use crate::key::{Key, Use};
+use crate::user::User;
+use ir_tree::value::Value;
+use ir_types::ids::OpId;
+use std::alloc::AllocError;
+use std::collections::BTreeMap;
+
+/// The key of a use.
+fn key(entry: &Use) -> Key
+    ensures { result ≡ key_of entry.now }
+{
+    match entry.value {
+        Value::Result(owner, place) => Key {
+            owner,
+            region: None,
+            place,
+            user: entry.user,
+            operand: entry.operand,
+        },
+        Value::Arg(owner, region, place) => Key {
+            owner,
+            region: Some(region),
+            place,
+            user: entry.user,
+            operand: entry.operand,
+        },
+    }
+}
+
+/// Adds the keys of the uses of an operation.
+fn push_keys(user: OpId, operands: &[Value], keys: &mut Vec<Key>) -> Result<(), AllocError>
+    ensures { OnOk result (keys.new.items ≡ keys.old.items ++ keys_of (operand_uses user 0 operands.now)) }
+{
+    for (number, operand) in operands.iter().enumerate() {
+        // A module has at most 256 operands at an operation.
+        let Ok(number) = u32::try_from(number) else {
+            return Err(AllocError);
+        };
+        keys.push(key(&Use {
+            value: *operand,
+            user,
+            operand: number,
+        }))?;
+    }
+    Ok(())
+}
+
+/// Adds the keys of the uses of a user, if they count.
+fn push_user(
+    user: &User,
+    operands: &[Value],
+    changed: &BTreeMap<OpId, Changed>,
+    keys: &mut Vec<Key>,
+) -> Result<(), AllocError>
+    ensures { OnOk result (keys.new.items ≡ keys.old.items ++ keys_of (only (is_unchanged changed.now) (user_uses user.now operands.now))) }
+{
+    if !user.live || changed.contains_key(&user.id) {
+        return Ok(());
+    }
+    push_keys(user.id, operands, keys)
+}
+
+/// Adds the keys of listed uses whose users were not changed.
+pub(crate) fn push_listed(
+    users: &[User],
+    operands: &[Value],
+    changed: &BTreeMap<OpId, Changed>,
+    keys: &mut Vec<Key>,
+) -> Result<(), AllocError>
+    requires { operand_count users.now ≡ length operands.now }
+    ensures { OnOk result (keys.new.items ≡ keys.old.items ++ keys_of (only (is_unchanged changed.now) (listed_uses users.now operands.now))) }
+{
+    let mut rest = operands;
+    for user in users {
+        let (own, behind) = rest.split_at(user.count as usize);
+        push_user(user, own, changed, keys)?;
+        rest = behind;
+    }
+    Ok(())
+}
+
+/// Adds the keys of the uses of operations that were changed.
+pub(crate) fn push_changed(
+    changed: &BTreeMap<OpId, Changed>,
+    keys: &mut Vec<Key>,
+) -> Result<(), AllocError>
+    ensures { OnOk result (keys.new.items ≡ keys.old.items ++ keys_of (changed_uses changed.now.entries)) }
+{
+    for (op, now) in changed {
+        push_keys(*op, &now.operands, keys)?;
+    }
+    Ok(())
+}

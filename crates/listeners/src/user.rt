@@ -1,0 +1,11 @@
+//! The users of a listing.
+
+use ir_types::ids::OpId;
+
+/// An operation with operands, and how many they are. One that is not live has no uses any more.
+#[derive(Clone, Copy, Debug)]
+pub(crate) struct User {
+    pub(crate) id: OpId,
+    pub(crate) count: u16,
+    pub(crate) live: bool,
+}
