@@ -1,5 +1,5 @@
 -- The uses of a tree, parted into those by one operation and those by others.
-use Rattle.std.proofs.Common.{◌≡◌, refl, ap, sym, ◌∙◌, subst, ℕ, Bool, true, false, cond, not, eqb, eqb-true, eq-eqb, List, [], ◌∷◌, ◌++◌, map, Option, Some}
+use Rattle.std.proofs.Common.{◌≡◌, refl, ap, sym, ◌∙◌, subst, ℕ, Bool, true, false, cond, not, eqb, eqb-true, eq-eqb, List, [], ◌∷◌, ◌++◌, map, Some}
 use Rattle.std.specs.Prelude.{option_map}
 use Rattle.std.specs.List.{IsDistinct, AllByRecursion}
 use Rattle.std.proofs.lemmas.Map.Keys.{IsDistinct-head, IsDistinct-tail}
@@ -11,7 +11,7 @@ use Rattle.listeners.specs.Uses.{operand_uses, uses_in, in_order}
 use Rattle.listeners.specs.Others.{is_other, others}
 use Rattle.listeners.proofs.Cutting.{moved_front}
 use Rattle.listeners.proofs.Others.{behind_alike, eqb_turned, only_append, own_in, own_out}
-use Rattle.listeners.proofs.Places.{Replaced, one_use, uses_at, uses_by_heads}
+use Rattle.listeners.proofs.Places.{Replaced, uses_at, uses_by_heads}
 
 module _ {N T A : Type 0} (x : ℕ) where
   none_there : (hs : List (HeadOf N T A)) → AllByRecursion (λ z. eqb x z ≡ false) (map (λ (h : HeadOf N T A). h.id) hs) → others x (uses_at hs) ≡ uses_at hs

@@ -1,5 +1,5 @@
 -- A table of uses where an operation is given other operands.
-use Rattle.std.proofs.Common.{◌≡◌, refl, ap, sym, ◌∙◌, subst, ℕ, ◌<◌, Bool, true, false, true≢false, cond, not, ◌&&◌, ◌+◌, eqb, eqb-true, eq-eqb, length, take, drop, List, [], ◌∷◌, ◌++◌, append_assoc, map, Option, Some, None, arith}
+use Rattle.std.proofs.Common.{◌≡◌, refl, ap, sym, ◌∙◌, subst, ℕ, ◌<◌, Bool, true, false, cond, not, ◌&&◌, ◌+◌, eqb, eqb-true, eq-eqb, length, take, drop, List, [], ◌∷◌, ◌++◌, append_assoc, map, Option, Some, None, arith}
 use Rattle.std.specs.Prelude.{is_some}
 use Rattle.std.specs.List.{AllByRecursion}
 use Rattle.std.specs.List.Sorted.{IsStrictlySortedBy}

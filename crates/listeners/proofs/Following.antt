@@ -1,22 +1,18 @@
 -- A table of uses that follows a module.
-use Rattle.std.proofs.Common.{◌≡◌, refl, ap, sym, ◌∙◌, subst, ℕ, ◌≤◌, Bool, true, false, cond, ◌&&◌, eqb, eqb-true, length, List, [], ◌∷◌, ◌++◌, map, Option, Some, None, inl, inr}
-use Rattle.std.specs.Prelude.{nat_le, option_map}
-use Rattle.std.proofs.lemmas.Bool.{leb-true}
+use Rattle.std.proofs.Common.{◌≡◌, refl, ap, sym, ◌∙◌, subst, ℕ, Bool, true, false, cond, eqb, eqb-true, List, [], ◌∷◌, ◌++◌, map, Option, Some, None, inl, inr}
+use Rattle.std.specs.Prelude.{option_map}
 use Rattle.std.proofs.lemmas.List.Elements.{All-cons, All-nil}
 use Rattle.std.specs.FinMap as finmap
 use Rattle.std.specs.List.{All}
 use Rattle.ir_types.specs.Things.{Things}
 use Rattle.ir_types.specs.Terms.{name_term, type_term, attr_term}
-use Rattle.ir_types.specs.Words.{is_isolated}
 use Rattle.ir_tree.specs.Tree.{HeadOf, OpOf, op, Op as Tree, head}
-use Rattle.ir_tree.specs.Ids.{HasDistinctIds, find, first_of, op_count}
-use Rattle.ir_tree.specs.Limits.{every, regions_every, op_fits, head_fits, most_items, most_ops}
+use Rattle.ir_tree.specs.Ids.{HasDistinctIds, find, first_of}
 use Rattle.ir_tree.specs.Edits.{at, change_entry, change_part, with_operand}
 use Rattle.ir_tree_laws.specs.Changes.{Takes}
 use Rattle.ir_event.proofs.Operands.{holder}
 use Rattle.ir_tree.specs.Meaning.{Operation, key_before, meaning}
 use Rattle.ir_tree.specs.Places.{place_of, without}
-use Rattle.ir_tree.specs.WellFormed.{IsWellFormed}
 use Rattle.ir_tree.specs.declared.place.Part.{Part}
 use Rattle.ir_tree.specs.declared.place.Part.TheVariants.{Props, Attrs}
 use Rattle.ir_tree.specs.declared.place.Place.{Place}
@@ -25,7 +21,7 @@ use Rattle.ir_tree.proofs.Mapped.{map_find}
 use Rattle.ir_tree_laws.specs.Members.{In}
 use Rattle.ir_tree_laws.specs.Stands.{StandOf, stands, place_in}
 use Rattle.ir_tree_laws.proofs.Around.{member_of_place}
-use Rattle.ir_tree_laws.proofs.Listed.{bool_cases, both}
+use Rattle.ir_tree_laws.proofs.Listed.{bool_cases}
 use Rattle.ir_tree_laws.proofs.Members.{same_stand, stand, stand_found}
 use Rattle.ir_store.specs.Nodes.{Node as Numbers, node_of}
 use Rattle.ir_store.specs.Stored.{Stored, known}
@@ -38,7 +34,6 @@ use Rattle.ir_event.specs.Listener.{ShowsTaken}
 use Rattle.ir_event.specs.Modules.{Module, Node, module_meaning}
 use Rattle.ir_event.specs.Rows.{cell_meaning, row_meaning, rows_meaning, CellIsOf, RowIsOf, Shows}
 use Rattle.ir_event.specs.Step.{Step}
-use Rattle.ir_event.proofs.Sounds.{every_found}
 use Rattle.listeners.specs.declared.key.Use.{Use}
 use Rattle.listeners.specs.declared.key.Key.{Key}
 use Rattle.listeners.specs.Uses.{in_order, operand_uses, uses_in, all_uses, use_row}

@@ -1,8 +1,8 @@
 -- Many uses put in, or dropped.
-use Rattle.std.proofs.Common.{◌≡◌, refl, ap, sym, ◌∙◌, List, [], ◌∷◌, ◌++◌}
+use Rattle.std.proofs.Common.{◌≡◌, refl, ap, ◌∙◌, List, [], ◌∷◌, ◌++◌}
 use Rattle.listeners.specs.declared.key.Use.{Use}
-use Rattle.listeners.specs.Uses.{put_use, in_order}
-use Rattle.listeners.proofs.Drops.{drop_all, drop_use, put_all}
+use Rattle.listeners.specs.Uses.{in_order}
+use Rattle.listeners.proofs.Drops.{drop_all, put_all}
 use Rattle.listeners.proofs.Orders.{drop_put, put_among}
 
 pub put_all_order : (us vs : List Use) → put_all us (in_order vs) ≡ in_order (us ++ vs)

@@ -1,7 +1,5 @@
-use Rattle.std.proofs.Common.{rules, ◌≡◌, refl, ap, sym, ◌∙◌, ◌++◌, true, false, cond, not, [], append-nil, subst}
-use Rattle.std.specs.Prelude.{is_some, OnOk}
-use Rattle.std.specs.Ordering.{nat_cmp}
-use Rattle.std.specs.BTreeMap as tree
+use Rattle.std.proofs.Common.{rules, ◌≡◌, ap, sym, ◌∙◌, ◌++◌, true, false, not, [], append-nil, subst}
+use Rattle.std.specs.Prelude.{OnOk}
 use Rattle.listeners.specs.Uses.{operand_uses}
 use Rattle.listeners.specs.Keys.{keys_of}
 use Rattle.listeners.specs.Others.{only}
