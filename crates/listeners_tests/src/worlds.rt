@@ -72,7 +72,7 @@ fn holder(
 }
 
 /// An operation of a function: its id, and its operands. It has one result.
-pub type Item<'a> = (u32, &'a [Value]);
+type Item<'a> = (u32, &'a [Value]);
 
 /// The operations of a function.
 fn body(alloc: Global, ty: TypeId, items: &[Item<'_>]) -> Result<Vec<TreeOp>, AllocError> {
@@ -101,7 +101,7 @@ fn are_below(alloc: Global, tree: &TreeOp, next: u32) -> Result<bool, AllocError
 }
 
 /// The next free id of the worlds.
-pub const NEXT: u32 = 8;
+const NEXT: u32 = 8;
 
 /// The world of a tree, or `NoSuchIndex` where what a world asks of a tree isn't so.
 fn load(alloc: Global, ctx: Context, tree: &TreeOp) -> Result<World, Refusal> {
@@ -113,7 +113,7 @@ fn load(alloc: Global, ctx: Context, tree: &TreeOp) -> Result<World, Refusal> {
 }
 
 /// The world of the module #0 with the function #1 of one argument and these operations.
-pub fn world(alloc: Global, items: &[Item<'_>]) -> Result<World, Refusal> {
+fn world(alloc: Global, items: &[Item<'_>]) -> Result<World, Refusal> {
     let mut ctx = Context::new(alloc)?;
     let word = TypeNode::Int {
         sign: Sign::Signless,
@@ -143,7 +143,7 @@ fn is_row(row: &Row, used: &Used) -> bool {
 }
 
 /// Whether rows are those of uses.
-pub fn are_rows(rows: &[Row], wanted: &[Used]) -> bool {
+fn are_rows(rows: &[Row], wanted: &[Used]) -> bool {
     rows.len() == wanted.len()
         && rows
             .iter()
@@ -157,11 +157,6 @@ pub fn reports<L: Analysis>(alloc: Global, panel: &Panel<L>, wanted: &[Used]) ->
         Ok(rows) => are_rows(&rows, wanted),
         Err(_) => false,
     }
-}
-
-/// Why a panel doesn't report uses.
-pub fn report_refusal<L: Analysis>(alloc: Global, panel: &Panel<L>) -> Option<Refusal> {
-    panel.report(alloc, Kind::new(1)).err()
 }
 
 /// Sets an operand and tells a panel of it, or is false where that is refused.
@@ -178,35 +173,5 @@ pub fn set_and_tell<L: Analysis>(
             true
         }
         Err(_) => false,
-    }
-}
-
-/// Why an operand can't be set.
-pub fn set_refusal(world: &mut World, op: u32, operand: u32, value: Value) -> Option<Refusal> {
-    match world.set_operand(OpId::new(op), operand, value) {
-        Ok(_) => None,
-        Err(refusal) => Some(refusal),
-    }
-}
-
-/// Whether two rows are one.
-fn is_same_row(one: &Row, other: &Row) -> bool {
-    one.cells.as_slice() == other.cells.as_slice()
-}
-
-/// Whether two lists of rows are one.
-fn are_same_rows(one: &[Row], other: &[Row]) -> bool {
-    one.len() == other.len()
-        && one
-            .iter()
-            .zip(other.iter())
-            .all(|(row, other)| is_same_row(row, other))
-}
-
-/// Whether two listeners report the same.
-pub fn same_reports<L: Analysis>(alloc: Global, one: &L, other: &L) -> bool {
-    match (one.report(alloc), other.report(alloc)) {
-        (Ok(one), Ok(other)) => are_same_rows(&one, &other),
-        _ => false,
     }
 }
