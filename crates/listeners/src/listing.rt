@@ -111,7 +111,7 @@ impl Listing {
         push_listed(&self.users, &self.operands, changed, keys)
     }
 
-    /// How many operands are listed.
+    /// How many operands are listed. Nothing follows from it but how much room is taken.
     pub(crate) fn len(&self) -> usize {
         self.operands.len()
     }
