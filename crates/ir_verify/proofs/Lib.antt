@@ -1,4 +1,1 @@
-pub mod SameTypes
-pub mod Words
-pub mod Nodes
 pub mod Sets

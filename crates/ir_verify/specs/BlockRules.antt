@@ -6,7 +6,7 @@ use Rattle.op_registry.specs.declared.definition.Trait.TheVariants.{Terminator}
 use Rattle.op_registry.specs.Rows.{Row, RegionRow}
 use Rattle.op_registry.specs.Registry.{has_trait}
 use Rattle.op_registry.specs.Properties.{string_of}
-use Rattle.ir_verify.specs.Fits.{Node, Surroundings, is_named, property, block_at, any_region}
+use Rattle.ir_verify_base.specs.Fits.{Node, Surroundings, is_named, property, block_at, any_region}
 
 -- the name of the last operation of the block of region k
 abbrev pub last_at : ℕ → Surroundings → Option (List ℕ)

@@ -1,8 +1,3 @@
-pub mod Types
-pub mod Fits
-pub mod Numbers
-pub mod Shapes
-pub mod TypeRules
 pub mod BlockRules
 pub mod PlaceRules
 pub mod Breaks

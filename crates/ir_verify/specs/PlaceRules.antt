@@ -7,9 +7,9 @@ use Rattle.ir_types.specs.Words.{is_listed}
 use Rattle.op_registry.specs.declared.definition.Trait.TheVariants.{Terminator}
 use Rattle.op_registry.specs.Rows.{Row}
 use Rattle.op_registry.specs.Registry.{row_of, has_trait}
-use Rattle.ir_verify.specs.Types.{same_types}
-use Rattle.ir_verify.specs.Fits.{Node, Outer, Surroundings, is_named, block_at, there, function_type}
-use Rattle.ir_verify.specs.Shapes.{is_well_shaped}
+use Rattle.ir_verify_base.specs.Types.{same_types}
+use Rattle.ir_verify_base.specs.Fits.{Node, Outer, Surroundings, is_named, block_at, there, function_type}
+use Rattle.ir_verify_base.specs.Shapes.{is_well_shaped}
 
 -- whether an operation ends no block
 abbrev pub ends_none : Option Node → Bool

@@ -2,7 +2,7 @@
 use Rattle.std.specs.Prelude.{ℕ, zero, suc, ◌+◌, ◌*◌, ◌/◌, ◌%◌, List, [], ◌∷◌, Bool, true, false, ◌==◌}
 use Rattle.op_registry.specs.Registry.{row_of}
 use Rattle.ir_verify.specs.declared.rules.RuleSet.{RuleSet}
-use Rattle.ir_verify.specs.Fits.{Surroundings}
+use Rattle.ir_verify_base.specs.Fits.{Surroundings}
 use Rattle.ir_verify.specs.Breaks.{told_in, numbers_from}
 
 -- a number with one bit more below the others

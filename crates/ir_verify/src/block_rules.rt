@@ -7,15 +7,15 @@ ghost use Rattle.op_registry.specs.Registry.{region_row};
 ghost use Rattle.op_registry.specs.Properties.{string_of as string_in};
 ghost use Rattle.ir_event.specs.Modules.{NodeIsOf};
 ghost use Rattle.surroundings.specs.Gathered.{AroundIsOf};
-ghost use Rattle.ir_verify.specs.Numbers.{node_in, around_in, row_in};
-ghost use Rattle.ir_verify.specs.Fits as fits;
+ghost use Rattle.ir_verify_base.specs.Numbers.{node_in, around_in, row_in};
+ghost use Rattle.ir_verify_base.specs.Fits as fits;
 ghost use Rattle.ir_verify.specs.BlockRules as rules;
 
-use crate::node::{has_block, is_named, property, string_of};
 use ir_store::node::Node;
 use ir_types::context::Context;
 use ir_types::ids::NameId;
 use ir_types::word::Word;
+use ir_verify_base::node::{has_block, is_named, property, string_of};
 use op_registry::definition::{OpDef, RegionRule, Trait};
 use op_registry::registry::Registry;
 use surroundings::around::Around;

@@ -2,18 +2,20 @@
 ghost use Rattle.std.specs.Prelude.{◌≡◌, ◌≤◌, ◌<◌, ◌^◌, [], ◌∷◌, ◌++◌, IfOk, OnOk, length, true, false};
 ghost use Rattle.surroundings.specs.Gathered.{AroundIsOf};
 ghost use Rattle.ir_verify.specs.Breaks.{told_of, numbers_from};
-ghost use Rattle.ir_verify.specs.Numbers.{around_in, node_in, row_in};
+ghost use Rattle.ir_verify_base.specs.Numbers.{around_in, node_in, row_in};
 ghost use Rattle.ir_verify.specs.Sets.{packed, rules_in, set_of, with_bit};
-ghost use Rattle.ir_verify.specs.Shapes as shapes;
+ghost use Rattle.ir_verify_base.specs.Shapes as shapes;
 
 use crate::block_rules::{breaks_6, breaks_8, breaks_9, breaks_21, breaks_22};
-use crate::memref_rules::{breaks_20, breaks_24};
 use crate::place_rules::{
     breaks_10, breaks_11, breaks_15, breaks_16, breaks_17, breaks_23, definition, ended,
 };
-use crate::shapes::{breaks_1, breaks_3, breaks_5, breaks_12, breaks_13, is_well_shaped};
-use crate::type_rules::{breaks_2, breaks_4, breaks_7, breaks_14, breaks_18, breaks_19, known_of};
 use ir_types::context::Context;
+use ir_verify_base::memref_rules::{breaks_20, breaks_24};
+use ir_verify_base::shapes::{breaks_1, breaks_3, breaks_5, breaks_12, breaks_13, is_well_shaped};
+use ir_verify_base::type_rules::{
+    breaks_2, breaks_4, breaks_7, breaks_14, breaks_18, breaks_19, known_of,
+};
 use op_registry::definition::OpDef;
 use op_registry::registry::Registry;
 use std::alloc::{AllocError, Global};

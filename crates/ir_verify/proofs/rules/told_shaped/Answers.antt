@@ -1,6 +1,6 @@
 use Rattle.std.proofs.Common.{◌∙◌, sym, [], ◌∷◌}
-use Rattle.ir_verify.specs.Numbers.{node_in, row_in}
-use Rattle.ir_verify.specs.Shapes.{breaks_1, breaks_3, breaks_5, breaks_12, breaks_13, is_well_shaped}
+use Rattle.ir_verify_base.specs.Numbers.{node_in, row_in}
+use Rattle.ir_verify_base.specs.Shapes.{breaks_1, breaks_3, breaks_5, breaks_12, breaks_13, is_well_shaped}
 use Rattle.ir_verify.specs.Sets.{packed}
 use Rattle.ir_verify.proofs.Sets.{told, no_faults}
 use Rattle.ir_verify.proofs.rules.told_shaped.Goals as goal

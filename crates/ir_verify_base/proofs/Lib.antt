@@ -1,0 +1,3 @@
+pub mod SameTypes
+pub mod Words
+pub mod Nodes

@@ -1,0 +1,73 @@
+-- What rules look at, given by the numbers of a context.
+use Rattle.std.specs.Prelude.{◌≡◌, ℕ, List, map, Option, option_map, IfSome}
+use Rattle.std.specs.List.{All}
+use Rattle.ir_types.specs.Things.{Things, IsType}
+use Rattle.ir_types.specs.Terms.{TypeTerm, AttrTerm, name_term, type_term, attr_term}
+use Rattle.ir_types.specs.WordNames.{word_bytes}
+use Rattle.ir_store.specs.Nodes.{Node as NumberNode}
+use Rattle.op_registry.specs.declared.definition.OpDef.{OpDef}
+use Rattle.op_registry.specs.Rows.{Row}
+use Rattle.op_registry.specs.Registry.{types_row, region_row, property_row}
+use Rattle.surroundings.specs.declared.around.Around.{Around}
+use Rattle.surroundings.specs.declared.around.Outer.{Outer}
+use Rattle.surroundings.specs.Mapped.{map_node}
+use Rattle.ir_verify_base.specs.declared.fits.Known.{Known as NumberKnown}
+use Rattle.ir_verify_base.specs.Fits.{Node, Outer as OuterTerm, Surroundings, Known, known_of, there}
+
+-- the types of a list of numbers
+abbrev pub typed : Things → List ℕ → List (Option TypeTerm)
+typed c ns = there (map (type_term c) ns)
+
+-- entries of a dictionary
+abbrev pub entries_in : Things → List (ℕ × ℕ) → List (List ℕ × AttrTerm)
+entries_in c es = map (λ (e : ℕ × ℕ). (name_term c e.0, attr_term c e.1)) es
+
+-- what an operation has, and what is around it
+abbrev pub node_in : Things → NumberNode → Node
+node_in c n = map_node (name_term c) (type_term c) (attr_term c) n
+
+abbrev pub outer_in : Things → Outer → OuterTerm
+outer_in c o = record { name = name_term c o.name; ended = option_map (node_in c) o.ended }
+
+abbrev pub around_in : Things → Around → Surroundings
+around_in c a = record {
+  node = node_in c a.node;
+  lasts = map (option_map (name_term c)) a.lasts.items;
+  types = typed c a.types.items;
+  outer = option_map (outer_in c) a.outer;
+}
+
+-- what types may be compared with
+abbrev pub known_in : Things → NumberKnown → Known
+known_in c k = record {
+  number = option_map (type_term c) k.number;
+  same = option_map (type_term c) k.same;
+  initial = typed c k.initial.now;
+  results = typed c k.results.now;
+  inputs = typed c k.inputs.now;
+}
+
+-- whose numbers are of the context
+pub record AreKnown (c : Things) (k : NumberKnown) : Type 0 where
+  pub number : IfSome k.number (λ t. IsType c t)
+  pub same : IfSome k.same (λ t. IsType c t)
+  pub initial : All (λ t. IsType c t) k.initial.now
+  pub results : All (λ t. IsType c t) k.results.now
+  pub inputs : All (λ t. IsType c t) k.inputs.now
+
+-- a definition of the table as a row
+abbrev pub row_in : OpDef → Row
+row_in def = record {
+  operands = types_row def.operands;
+  results = types_row def.results;
+  regions = map region_row def.regions.now;
+  properties = map property_row def.properties.now;
+  effects = def.effects;
+  traits = def.traits;
+  parents = map word_bytes def.parents.now;
+}
+
+-- they are those of an operation with what is around it
+pub record AreKnownOf (c : Things) (def : OpDef) (a : Around) (k : NumberKnown) : Type 0 where
+  pub are : known_in c k ≡ known_of (row_in def) (around_in c a)
+  pub numbers : AreKnown c k

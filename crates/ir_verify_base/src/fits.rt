@@ -1,0 +1,176 @@
+//! Whether types are those that a row of the operation table names.
+ghost use Rattle.std.specs.Prelude.{◌≡◌, IfSome, Some, ◌+◌, ◌≤◌, length};
+ghost use Rattle.std.specs.List.{All, list_all};
+ghost use Rattle.std.specs.Option.{option_eq, option_map};
+ghost use Rattle.ir_types.specs.Things.{IsType};
+ghost use Rattle.ir_types.specs.Terms.{type_term};
+ghost use Rattle.op_registry.specs.Registry.{types_row};
+ghost use Rattle.ir_verify_base.specs.Numbers.{typed, known_in, AreKnown};
+ghost use Rattle.ir_verify_base.specs.Types.{same_type};
+ghost use Rattle.ir_verify_base.specs.Fits as fits;
+
+use crate::types::{is_boolean, is_index, is_integer, is_memref, is_number, same, same_types};
+use ir_types::context::Context;
+use ir_types::ids::TypeId;
+use op_registry::definition::{TypeRule, Types};
+
+/// What the types of an operation may be compared with.
+#[derive(Clone, Copy)]
+pub struct Known<'a> {
+    /// The type of the first operand that the row calls a number.
+    pub number: Option<TypeId>,
+    /// That of the first operand that the row calls any.
+    pub same: Option<TypeId>,
+    /// Those of the operands after the fixed ones.
+    pub initial: &'a [TypeId],
+    pub results: &'a [TypeId],
+    /// The inputs of the function type that is a property.
+    pub inputs: &'a [TypeId],
+}
+
+/// Whether types are what a row calls them.
+pub fn types_fit(ctx: &Context, known: &Known<'_>, row: &Types, types: &[TypeId]) -> bool
+    requires known { AreKnown ctx.now known.now }
+    requires types { All (λ t. IsType ctx.now t) types.now }
+    ensures { result ≡ fits.types_fit (known_in ctx.now known.now) (types_row row.now) (typed ctx.now types.now) }
+{
+    let mut rules: &[TypeRule] = row.first;
+    let mut rest = types;
+    while let [rule, more @ ..] = rules {
+        let [ty, others @ ..] = rest else {
+            return false;
+        };
+        if !type_fits(ctx, known, *rule, *ty) {
+            return false;
+        }
+        rules = more;
+        rest = others;
+    }
+    more_fit(ctx, known, row.more, rest)
+}
+
+/// Whether the types after the fixed ones are.
+fn more_fit(ctx: &Context, known: &Known<'_>, more: Option<TypeRule>, types: &[TypeId]) -> bool
+    requires known { AreKnown ctx.now known.now }
+    requires types { All (λ t. IsType ctx.now t) types.now }
+    ensures { result ≡ fits.more_fit (known_in ctx.now known.now) more (typed ctx.now types.now) }
+{
+    match more {
+        None => types.is_empty(),
+        Some(rule) => rest_fit(ctx, known, rule, types),
+    }
+}
+
+fn rest_fit(ctx: &Context, known: &Known<'_>, rule: TypeRule, types: &[TypeId]) -> bool
+    requires known { AreKnown ctx.now known.now }
+    requires types { All (λ t. IsType ctx.now t) types.now }
+    ensures { result ≡ fits.more_fit (known_in ctx.now known.now) (Some rule) (typed ctx.now types.now) }
+{
+    match rule {
+        TypeRule::Initial => same_types(ctx, known.initial, types),
+        TypeRule::Result => same_types(ctx, known.results, types),
+        TypeRule::Input => same_types(ctx, known.inputs, types),
+        TypeRule::Any
+        | TypeRule::Number
+        | TypeRule::OtherNumber
+        | TypeRule::Integer
+        | TypeRule::Boolean
+        | TypeRule::Index
+        | TypeRule::Memref
+        | TypeRule::Element
+        | TypeRule::Same => all_fit(ctx, known, rule, types),
+    }
+}
+
+/// Whether each of some types is what a row calls it.
+fn all_fit(ctx: &Context, known: &Known<'_>, rule: TypeRule, types: &[TypeId]) -> bool
+    requires known { AreKnown ctx.now known.now }
+    requires types { All (λ t. IsType ctx.now t) types.now }
+    ensures { result ≡ list_all (fits.fits (known_in ctx.now known.now) rule) (typed ctx.now types.now) }
+{
+    let mut rest = types;
+    while let [ty, others @ ..] = rest {
+        if !type_fits(ctx, known, rule, *ty) {
+            return false;
+        }
+        rest = others;
+    }
+    true
+}
+
+/// Whether a type is what a row calls it. That of a memref's element is another rule's.
+fn type_fits(ctx: &Context, known: &Known<'_>, rule: TypeRule, ty: TypeId) -> bool
+    requires known { AreKnown ctx.now known.now }
+    requires ty { IsType ctx.now ty }
+    ensures { result ≡ fits.fits (known_in ctx.now known.now) rule (Some (type_term ctx.now ty)) }
+{
+    match rule {
+        TypeRule::Any => true,
+        TypeRule::Number => is_the_number(ctx, known.number, ty),
+        TypeRule::OtherNumber => is_number(ctx, ty),
+        TypeRule::Integer => is_integer(ctx, ty),
+        TypeRule::Boolean => is_boolean(ctx, ty),
+        TypeRule::Index => is_index(ctx, ty),
+        TypeRule::Memref => is_memref(ctx, ty),
+        TypeRule::Element => true,
+        TypeRule::Same => is_the_same(ctx, known.same, ty),
+        TypeRule::Initial => true,
+        TypeRule::Result => true,
+        TypeRule::Input => true,
+    }
+}
+
+/// Whether a type is the number of the row, or any number where the row calls no operand so.
+fn is_the_number(ctx: &Context, number: Option<TypeId>, ty: TypeId) -> bool
+    requires number { IfSome number (λ t. IsType ctx.now t) }
+    requires ty { IsType ctx.now ty }
+    ensures { result ≡ fits.is_the_number (option_map (type_term ctx.now) number) (Some (type_term ctx.now ty)) }
+{
+    match number {
+        None => is_number(ctx, ty),
+        Some(number) => same(ctx, number, ty),
+    }
+}
+
+/// Whether a type is the one that the row calls any.
+fn is_the_same(ctx: &Context, wanted: Option<TypeId>, ty: TypeId) -> bool
+    requires wanted { IfSome wanted (λ t. IsType ctx.now t) }
+    requires ty { IsType ctx.now ty }
+    ensures { result ≡ option_eq same_type (option_map (type_term ctx.now) wanted) (Some (type_term ctx.now ty)) }
+{
+    match wanted {
+        None => false,
+        Some(wanted) => same(ctx, wanted, ty),
+    }
+}
+
+/// Whether an operation that has so many operands after the fixed ones may have so many types where a row
+/// names some.
+pub fn count_fits(initial: usize, row: &Types, count: usize) -> bool
+    ensures { result ≡ fits.count_fits initial (types_row row.now) count }
+{
+    let first = row.first.len();
+    match row.more {
+        None => count == first,
+        Some(rule) => more_count(initial, first, rule, count),
+    }
+}
+
+fn more_count(initial: usize, first: usize, rule: TypeRule, count: usize) -> bool
+    ensures { result ≡ fits.more_count initial first (Some rule) count }
+{
+    match rule {
+        TypeRule::Initial => count >= first && count - first == initial,
+        TypeRule::Any
+        | TypeRule::Number
+        | TypeRule::OtherNumber
+        | TypeRule::Integer
+        | TypeRule::Boolean
+        | TypeRule::Index
+        | TypeRule::Memref
+        | TypeRule::Element
+        | TypeRule::Same
+        | TypeRule::Result
+        | TypeRule::Input => first <= count,
+    }
+}

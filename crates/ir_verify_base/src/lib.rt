@@ -1,0 +1,9 @@
+//! What the rules of the verifier look at, and the rules on an operation's own form, its types and its memrefs.
+#![tactic(auto)]
+
+pub mod fits;
+pub mod memref_rules;
+pub mod node;
+pub mod shapes;
+pub mod type_rules;
+pub mod types;

@@ -1,0 +1,334 @@
+//! The rules on types, of an operation of right form.
+ghost use Rattle.std.specs.Prelude.{◌≡◌, IfSome, Some, ℕ, List, [], map, length, drop, not, unwrap_or, option_and_then};
+ghost use Rattle.std.specs.List.{All};
+ghost use Rattle.std.specs.Option.{option_map};
+ghost use Rattle.ir_types.specs.Things.{Things, IsType, TypeIsOf, IsAttr};
+ghost use Rattle.ir_types.specs.Terms.{TypeTerm, AttrTerm, attr_from, attr_term, type_at, type_from, type_term};
+ghost use Rattle.ir_types.specs.WordNames.{word_bytes};
+ghost use Rattle.op_registry.specs.Registry.{region_row};
+ghost use Rattle.op_registry.specs.Properties.{integer_of as integer_in};
+ghost use Rattle.ir_event.specs.Modules.{NodeIsOf};
+ghost use Rattle.surroundings.specs.Gathered.{AroundIsOf};
+ghost use Rattle.ir_verify_base.specs.Numbers.{typed, known_in, node_in, around_in, row_in, AreKnown, AreKnownOf};
+ghost use Rattle.ir_verify_base.specs.Fits as fits;
+ghost use Rattle.ir_verify_base.specs.Types as types;
+ghost use Rattle.ir_verify_base.specs.TypeRules as rules;
+
+use crate::fits::{Known, types_fit};
+use crate::node::{block, function_type, is_named, property};
+use crate::types::{is_index, is_number, same, width_of};
+use ir_store::node::Node;
+use ir_types::context::Context;
+use ir_types::ids::TypeId;
+use ir_types::word::Word;
+use op_registry::definition::{OpDef, RegionRule, TypeRule};
+use op_registry::property::integer_of;
+use surroundings::around::Around;
+
+/// What the types of an operation may be compared with.
+pub fn known_of<'a>(ctx: &'a Context, def: &OpDef, around: &'a Around<'_>) -> Known<'a>
+    requires { AroundIsOf ctx.now around.now }
+    ensures { AreKnownOf ctx.now def.now around.now result }
+{
+    let types: &[TypeId] = &around.types;
+    let rules: &[TypeRule] = def.operands.first;
+    Known {
+        number: first_number(rules, types),
+        same: first_any(rules, types),
+        initial: after(types, rules.len()),
+        results: around.node.results(),
+        inputs: inputs_of(ctx, &around.node),
+    }
+}
+
+/// The type of the first operand that a row calls a number.
+fn first_number(rules: &[TypeRule], types: &[TypeId]) -> Option<TypeId>
+    ensures is { (c : Things) → option_map (type_term c) result ≡ fits.first_called fits.is_called_number rules.now (typed c types.now) }
+    ensures known { (c : Things) → All (λ t. IsType c t) types.now → IfSome result (λ t. IsType c t) }
+{
+    let mut named = rules;
+    let mut rest = types;
+    while let [rule, more @ ..] = named {
+        let [ty, others @ ..] = rest else {
+            return None;
+        };
+        if is_called_number(*rule) {
+            return Some(*ty);
+        }
+        named = more;
+        rest = others;
+    }
+    None
+}
+
+fn is_called_number(rule: TypeRule) -> bool
+    ensures { result ≡ fits.is_called_number rule }
+{
+    match rule {
+        TypeRule::Number => true,
+        TypeRule::Any
+        | TypeRule::OtherNumber
+        | TypeRule::Integer
+        | TypeRule::Boolean
+        | TypeRule::Index
+        | TypeRule::Memref
+        | TypeRule::Element
+        | TypeRule::Same
+        | TypeRule::Initial
+        | TypeRule::Result
+        | TypeRule::Input => false,
+    }
+}
+
+/// The type of the first operand that a row calls any.
+fn first_any(rules: &[TypeRule], types: &[TypeId]) -> Option<TypeId>
+    ensures is { (c : Things) → option_map (type_term c) result ≡ fits.first_called fits.is_called_any rules.now (typed c types.now) }
+    ensures known { (c : Things) → All (λ t. IsType c t) types.now → IfSome result (λ t. IsType c t) }
+{
+    let mut named = rules;
+    let mut rest = types;
+    while let [rule, more @ ..] = named {
+        let [ty, others @ ..] = rest else {
+            return None;
+        };
+        if is_called_any(*rule) {
+            return Some(*ty);
+        }
+        named = more;
+        rest = others;
+    }
+    None
+}
+
+fn is_called_any(rule: TypeRule) -> bool
+    ensures { result ≡ fits.is_called_any rule }
+{
+    match rule {
+        TypeRule::Any => true,
+        TypeRule::Number
+        | TypeRule::OtherNumber
+        | TypeRule::Integer
+        | TypeRule::Boolean
+        | TypeRule::Index
+        | TypeRule::Memref
+        | TypeRule::Element
+        | TypeRule::Same
+        | TypeRule::Initial
+        | TypeRule::Result
+        | TypeRule::Input => false,
+    }
+}
+
+/// The types after the first ones.
+fn after(types: &[TypeId], count: usize) -> &[TypeId]
+    ensures { result.now ≡ drop count types.now }
+{
+    if count <= types.len() {
+        &types[count..]
+    } else {
+        &[]
+    }
+}
+
+/// The inputs of the function type that an operation has as property.
+fn inputs_of<'a>(ctx: &'a Context, node: &Node<'_>) -> &'a [TypeId]
+    requires { NodeIsOf ctx.now node.now }
+    ensures inputs { typed ctx.now result.now ≡ unwrap_or (option_map (λ f. fits.there f.0) (fits.function_type (node_in ctx.now node.now))) [] }
+    ensures known { All (λ t. IsType ctx.now t) result.now }
+{
+    match function_type(ctx, node) {
+        None => &[],
+        Some(signature) => signature.inputs,
+    }
+}
+
+/// Rule 2: the first operand that the row calls a number is none, or an operand's type isn't what the row
+/// calls it.
+pub fn breaks_2(ctx: &Context, def: &OpDef, around: &Around<'_>, known: &Known<'_>) -> bool
+    requires around { AroundIsOf ctx.now around.now }
+    requires known { AreKnownOf ctx.now def.now around.now known.now }
+    ensures { result ≡ rules.breaks_2 (row_in def.now) (around_in ctx.now around.now) }
+{
+    is_no_number(ctx, known.number) || !types_fit(ctx, known, &def.operands, &around.types)
+}
+
+fn is_no_number(ctx: &Context, ty: Option<TypeId>) -> bool
+    requires { IfSome ty (λ t. IsType ctx.now t) }
+    ensures { result ≡ rules.is_no_number (option_map (type_term ctx.now) ty) }
+{
+    match ty {
+        None => false,
+        Some(ty) => !is_number(ctx, ty),
+    }
+}
+
+/// Rule 4: a result's type isn't what the row calls it.
+pub fn breaks_4(ctx: &Context, def: &OpDef, around: &Around<'_>, known: &Known<'_>) -> bool
+    requires around { AroundIsOf ctx.now around.now }
+    requires known { AreKnownOf ctx.now def.now around.now known.now }
+    ensures { result ≡ rules.breaks_4 (row_in def.now) (around_in ctx.now around.now) }
+{
+    !types_fit(ctx, known, &def.results, around.node.results())
+}
+
+/// Rule 7: the types of the arguments of a block aren't what the row calls them.
+pub fn breaks_7(ctx: &Context, def: &OpDef, around: &Around<'_>, known: &Known<'_>) -> bool
+    requires around { AroundIsOf ctx.now around.now }
+    requires known { AreKnownOf ctx.now def.now around.now known.now }
+    ensures { result ≡ rules.breaks_7 (row_in def.now) (around_in ctx.now around.now) }
+{
+    any_differ(ctx, known, def.regions, &around.node)
+}
+
+fn any_differ(ctx: &Context, known: &Known<'_>, regions: &[RegionRule], node: &Node<'_>) -> bool
+    requires node { NodeIsOf ctx.now node.now }
+    requires known { AreKnown ctx.now known.now }
+    ensures { result ≡ rules.any_differ (known_in ctx.now known.now) (map region_row regions.now) (node_in ctx.now node.now) }
+{
+    match regions {
+        [] => false,
+        [one] => arguments_differ(ctx, known, one, node, 0),
+        [one, two, ..] => {
+            arguments_differ(ctx, known, one, node, 0) || arguments_differ(ctx, known, two, node, 1)
+        }
+    }
+}
+
+fn arguments_differ(
+    ctx: &Context,
+    known: &Known<'_>,
+    region: &RegionRule,
+    node: &Node<'_>,
+    number: u32,
+) -> bool
+    requires node { NodeIsOf ctx.now node.now }
+    requires known { AreKnown ctx.now known.now }
+    ensures { result ≡ rules.arguments_differ (known_in ctx.now known.now) (region_row region.now) (fits.block_at number (node_in ctx.now node.now)) }
+{
+    match block(ctx, node, number) {
+        None => false,
+        Some(args) => !types_fit(ctx, known, &region.arguments, args),
+    }
+}
+
+/// Rule 14: the value of a constant isn't of its result's type.
+pub fn breaks_14(ctx: &Context, around: &Around<'_>) -> bool
+    requires { AroundIsOf ctx.now around.now }
+    ensures { result ≡ rules.breaks_14 (around_in ctx.now around.now) }
+{
+    is_named(ctx, &around.node, Word::ArithConstant) && is_of_another(ctx, &around.node)
+}
+
+fn is_of_another(ctx: &Context, node: &Node<'_>) -> bool
+    requires { NodeIsOf ctx.now node.now }
+    ensures { result ≡ rules.is_of_another (option_and_then integer_in (fits.property (word_bytes Word.Value) (node_in ctx.now node.now))) (map (type_term ctx.now) node.now.head.results) }
+{
+    let Some(ty) = value_type(ctx, node) else {
+        return false;
+    };
+    let [result] = node.results() else {
+        return false;
+    };
+    !same(ctx, ty, *result)
+}
+
+/// The type of the value of a constant.
+fn value_type(ctx: &Context, node: &Node<'_>) -> Option<TypeId>
+    requires { NodeIsOf ctx.now node.now }
+    ensures is { option_map (type_term ctx.now) result ≡ option_map (λ i. i.0) (option_and_then integer_in (fits.property (word_bytes Word.Value) (node_in ctx.now node.now))) }
+    ensures known { IfSome result (λ t. IsType ctx.now t) }
+{
+    let attr = property(ctx, node, Word::Value)?;
+    let (ty, _value) = integer_of(ctx, attr)?;
+    Some(ty)
+}
+
+/// Rule 18: an extension not to a greater width, or a truncation not to a smaller one.
+pub fn breaks_18(ctx: &Context, around: &Around<'_>) -> bool
+    requires { AroundIsOf ctx.now around.now }
+    ensures { result ≡ rules.breaks_18 (around_in ctx.now around.now) }
+{
+    if is_named(ctx, &around.node, Word::ArithTrunci) {
+        return isnt_smaller(ctx, &around.types, around.node.results());
+    }
+    is_extension(ctx, &around.node) && isnt_greater(ctx, &around.types, around.node.results())
+}
+
+fn is_extension(ctx: &Context, node: &Node<'_>) -> bool
+    ensures { result ≡ rules.is_extension (node_in ctx.now node.now) }
+{
+    is_named(ctx, node, Word::ArithExtsi) || is_named(ctx, node, Word::ArithExtui)
+}
+
+/// Whether the one operand and the one result have widths, and that of the result isn't greater.
+fn isnt_greater(ctx: &Context, operands: &[TypeId], results: &[TypeId]) -> bool
+    requires operands { All (λ t. IsType ctx.now t) operands.now }
+    requires results { All (λ t. IsType ctx.now t) results.now }
+    ensures { result ≡ rules.isnt_greater (typed ctx.now operands.now) (map (type_term ctx.now) results.now) }
+{
+    match widths(ctx, operands, results) {
+        None => false,
+        Some((v, w)) => v >= w,
+    }
+}
+
+/// Whether it isn't smaller.
+fn isnt_smaller(ctx: &Context, operands: &[TypeId], results: &[TypeId]) -> bool
+    requires operands { All (λ t. IsType ctx.now t) operands.now }
+    requires results { All (λ t. IsType ctx.now t) results.now }
+    ensures { result ≡ rules.isnt_smaller (typed ctx.now operands.now) (map (type_term ctx.now) results.now) }
+{
+    match widths(ctx, operands, results) {
+        None => false,
+        Some((v, w)) => w >= v,
+    }
+}
+
+/// The widths of the one operand and the one result, where both are signless integers.
+fn widths(ctx: &Context, operands: &[TypeId], results: &[TypeId]) -> Option<(u32, u32)>
+    requires operands { All (λ t. IsType ctx.now t) operands.now }
+    requires results { All (λ t. IsType ctx.now t) results.now }
+    ensures { result ≡ rules.widths (typed ctx.now operands.now) (map (type_term ctx.now) results.now) }
+{
+    let [operand] = operands else {
+        return None;
+    };
+    let [result] = results else {
+        return None;
+    };
+    let v = width_of(ctx, *operand)?;
+    let w = width_of(ctx, *result)?;
+    Some((v, w))
+}
+
+/// Rule 19: not exactly one of the operand and the result of an index cast is an index.
+pub fn breaks_19(ctx: &Context, around: &Around<'_>) -> bool
+    requires { AroundIsOf ctx.now around.now }
+    ensures { result ≡ rules.breaks_19 (around_in ctx.now around.now) }
+{
+    is_index_cast(ctx, &around.node) && not_one_index(ctx, &around.types, around.node.results())
+}
+
+fn is_index_cast(ctx: &Context, node: &Node<'_>) -> bool
+    ensures { result ≡ rules.is_index_cast (node_in ctx.now node.now) }
+{
+    is_named(ctx, node, Word::ArithIndexCast) || is_named(ctx, node, Word::ArithIndexCastui)
+}
+
+fn not_one_index(ctx: &Context, operands: &[TypeId], results: &[TypeId]) -> bool
+    requires operands { All (λ t. IsType ctx.now t) operands.now }
+    requires results { All (λ t. IsType ctx.now t) results.now }
+    ensures { result ≡ rules.not_one_index (typed ctx.now operands.now) (map (type_term ctx.now) results.now) }
+{
+    let [operand] = operands else {
+        return false;
+    };
+    let [result] = results else {
+        return false;
+    };
+    if is_index(ctx, *operand) {
+        is_index(ctx, *result)
+    } else {
+        !is_index(ctx, *result)
+    }
+}
