@@ -24,7 +24,7 @@ pub enum TypeRule {
     Memref,
     /// The element type of the memref.
     Element,
-    /// The type of the operand before, or for a result that of the last operand.
+    /// The type of the first operand that the row says may be of any type.
     Same,
     /// The type of the operand after the fixed ones that has this place among them: as many as
     /// there are such operands.
