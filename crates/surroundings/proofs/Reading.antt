@@ -1,9 +1,9 @@
 -- What is gathered by reading calls is what is around an operation.
-use Rattle.std.proofs.Common.{◌≡◌, refl, ap, sym, ◌∙◌, subst, ℕ, zero, suc, ◌+◌, ◌*◌, true, false, List, [], ◌∷◌, length, map, Option, Some, None, slice_get, arith}
-use Rattle.std.specs.Prelude.{option_map, option_and_then}
+use Rattle.std.proofs.Common.{◌≡◌, refl, ap, sym, ◌∙◌, subst, ℕ, zero, suc, ◌+◌, ◌*◌, ◌≤◌, Bool, true, false, ◌&&◌, List, [], ◌∷◌, length, map, Option, Some, None, slice_get, inl, inr, leb-true, arith}
+use Rattle.std.specs.Prelude.{option_map, option_and_then, nat_le}
 use Rattle.std.specs.List.{All}
 use Rattle.std.specs.FinMap as finmap
-use Rattle.std.proofs.lemmas.List.Elements.{All-head, All-tail}
+use Rattle.std.proofs.lemmas.List.Elements.{All-head, All-tail, All-nil, All-cons}
 use Rattle.ir_types.specs.Things.{Things, IsType}
 use Rattle.ir_tree.specs.declared.value.Value.{Value}
 use Rattle.ir_tree.specs.declared.value.Value.TheVariants.{Result, Arg}
@@ -12,15 +12,20 @@ use Rattle.ir_tree.specs.Tree.{HeadOf, OpOf, Op, op, RegionsOf, no_regions, regi
 use Rattle.ir_tree.specs.Ids.{HasDistinctIds, find, first_of, has_id}
 use Rattle.ir_tree.specs.Frames.{owner_of}
 use Rattle.ir_tree.specs.Places.{first_id, place_of}
+use Rattle.ir_tree.specs.Limits.{most_regions, items_fit, head_fits, all_arguments_pass, op_fits}
+use Rattle.ir_tree.specs.WellFormed.{IsFormed}
 use Rattle.ir_store.specs.Nodes.{Node, NodeOf, node_of, regions_arguments}
 use Rattle.ir_store.specs.Stored.{Stored, known}
-use Rattle.ir_tree_laws.specs.Values.{type_of_value, region_at}
+use Rattle.ir_tree_laws.specs.Values.{type_of_value, has_value, region_at}
 use Rattle.ir_tree_laws.specs.Reads.{ops_in, last_id, last_at, parent_of, next_of}
-use Rattle.ir_tree_laws.specs.Stands.{StepOf, StandOf, stand_id, stands, stand_of, place_in}
+use Rattle.ir_tree_laws.specs.Stands.{StepOf, StandOf, stand_id, stands, stand_of, place_in, sees}
 use Rattle.ir_tree_laws.specs.Members.{In}
 use Rattle.ir_tree_laws.proofs.Readings.{stands_find}
 use Rattle.ir_tree_laws.proofs.Members.{stand, joined_ops, member, stand_of_member, found_stands, stand_found}
 use Rattle.ir_tree_laws.proofs.Around.{around_there, member_of_place, place_of_member, absent_find, present_stand}
+use Rattle.ir_tree_laws.proofs.Formed.{from_formed}
+use Rattle.ir_tree_laws.proofs.Values.{seen_by}
+use Rattle.ir_tree_laws.proofs.Listed.{all_each, both, bool_cases}
 use Rattle.ir_event.specs.declared.world.World.{World}
 use Rattle.ir_event.specs.Modules.{NodeIsOf}
 use Rattle.ir_event.proofs.Sounds.{found_sound}
@@ -237,6 +242,44 @@ module _ (s : Stored) (d : HasDistinctIds s.module_of.tree) where
       ap gather_looks p.found
       ∙ (λ i. 5 + length (sym (head_shown p.here.here) i).operands + 2 * sym (regions_counted p.here.here) i)
       ∙ ap (λ (m : Node). 5 + length m.head.operands + 2 * length m.arguments) p.node
+
+  -- its operands are values of the tree, and it has few regions
+  module _ (isolated : ℕ → Bool) (formed : IsFormed isolated s.module_of.tree) where
+    all_of : (P : Value → Type 0) (vs : List Value) → ((v : Value) → In v vs → P v) → All P vs
+    all_of P [] f = All-nil P
+    all_of P (v ∷ vs) f = All-cons P v vs (f v (inl refl)) (all_of P vs (λ u h. f u (inr h)))
+
+    few : (o : Op) → op_fits o ≡ true → region_count (regions o) ≤ 16
+    few (op h rs) e =
+        let own = both (head_fits h) (nat_le (region_count rs) most_regions && all_arguments_pass items_fit rs) e in
+        leb-true (region_count rs) most_regions (both (nat_le (region_count rs) most_regions) (all_arguments_pass items_fit rs) own.1).0
+
+    pub operands_there : (x : ℕ) (n : Node) (p : Present x n) → All (λ v. has_value v s.module_of.tree ≡ true) n.head.operands
+    operands_there x n p =
+        let t = s.module_of.tree in
+        let here = p.here in
+        let at = (member x (stands [] t) here p.there).0 in
+        let each = (from_formed isolated t formed).sees_own here at in
+        let own = all_of (λ v. has_value v t ≡ true) (head here.here).operands (λ v h. (seen_by isolated t d here at v (all_each (sees isolated here.path) (head here.here).operands each v h)).is) in
+        subst (λ (m : Node). All (λ v. has_value v t ≡ true) m.head.operands) p.node (subst (λ (h : HeadOf ℕ ℕ ℕ). All (λ v. has_value v t ≡ true) h.operands) (sym (head_shown here.here)) own)
+
+    pub few_regions : (x : ℕ) (n : Node) (p : Present x n) → length n.arguments ≤ 16
+    few_regions x n p =
+        let t = s.module_of.tree in
+        let at = (member x (stands [] t) p.here p.there).0 in
+        let own = few p.here.here ((from_formed isolated t formed).fits p.here at) in
+        let count = regions_counted p.here.here in
+        let same = ap (λ (m : Node). length m.arguments) p.node in
+        omega (arith, own, count, same)
+
+  -- one around which there is nothing isn't there
+  pub gone : (x : ℕ) → surroundings x s.module_of.tree ≡ None → has_id x s.module_of.tree ≡ false
+  gone x e = elim (bool_cases (has_id x s.module_of.tree)) [
+    | inl h ↦ (let z = present_at x h in
+        let no : Some (surround s.module_of.tree z.0) ≡ None = sym (ap (option_map (surround s.module_of.tree)) z.1) ∙ e in
+        absurd cc)
+    | inr h ↦ h
+  ]
 
   pub count_found : (x : ℕ) (n : Node) (p : Present x n) → length n.arguments ≡ regions_found (find x s.module_of.tree)
   count_found x n p = ap (λ (m : Node). length m.arguments) (sym p.node) ∙ regions_counted p.here.here ∙ sym (ap regions_found p.found)

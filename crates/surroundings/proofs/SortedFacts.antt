@@ -1,11 +1,17 @@
 -- A table in the order of ids that keeps the facts of a tree has them in that order.
-use Rattle.std.proofs.Common.{◌≡◌, refl, sym, ◌∙◌, ℕ, Bool, true, false, true≢false, cond, eqb, eq-eqb, eqb-true, List, [], ◌∷◌, Some, inl, inr, IsTrue}
+use Rattle.std.proofs.Common.{◌≡◌, refl, sym, ap, ◌∙◌, ◌&&◌, ℕ, Bool, true, false, true≢false, cond, eqb, eq-eqb, eqb-true, List, [], ◌∷◌, Some, inl, inr, IsTrue}
 use lib.Dec.{T}
 use Rattle.std.specs.Prelude.{option_map}
-use Rattle.std.specs.Ordering.{nat_cmp, eq_by_cmp}
+use Rattle.std.specs.Ordering.{nat_cmp, eq_by_cmp, is_eq, is_lt}
+use Rattle.std.specs.declared.cmp.Ordering.TheVariants.{Less}
+use Rattle.std.specs.List.{AllByRecursion}
+use Rattle.std.specs.List.Sorted.{IsStrictlySortedBy}
+use Rattle.std.specs.Map.{lookup, keys_of}
+use Rattle.std.specs.BTreeMap.{BTreeMap, is_at}
+use Rattle.std.specs.BTreeMap as tree
 use Rattle.std.specs.Cmp.{unsigned_tied}
 use Rattle.std.specs.FinMap.{nat_cmp-IsAntisymmetric}
-use Rattle.std.specs.FinMap.Entries.{find, is_sorted, find-put, is_sorted-put, same_entries}
+use Rattle.std.specs.FinMap.Entries.{find, below_all, is_sorted, find-put, is_sorted-put, same_entries}
 use Rattle.std.proofs.lemmas.Cmp.{nat_cmp_total}
 use Rattle.ir_tree.specs.Tree.{OpOf}
 use Rattle.ir_tree_laws.specs.Stands.{StandOf, stand_id, stands, stand_in}
@@ -40,3 +46,20 @@ module _ {N U A F : Type 0} (fact : SurroundingsOf N U A → F) (t : OpOf N U A)
 
   pub kept_in_order : (es : List (ℕ × F)) → IsTrue (is_sorted nat_cmp es) → ((q : ℕ) → find nat_cmp q es ≡ fact_of fact t q) → es ≡ sorted_facts fact t
   kept_in_order es o h = same_entries nat_cmp nat_cmp_total nat_cmp-IsAntisymmetric es (sorted_facts fact t) (as_T (is_sorted nat_cmp es) o) (is_in_order (stands [] t)) (λ q. h q ∙ sym (found q (stands [] t)))
+
+  -- the entries of a map rise, and are found by their keys
+  above_first : (x : ℕ) (es : List (ℕ × F)) → AllByRecursion (λ y. nat_cmp x y ≡ Less) (keys_of es) → below_all nat_cmp x es ≡ true
+  above_first x [] a = refl
+  above_first x (e ∷ es) a = λ i. (ap is_lt a.0 ∙ refl) i && above_first x es a.1 i
+
+  rising : (es : List (ℕ × F)) → IsStrictlySortedBy nat_cmp (keys_of es) → is_sorted nat_cmp es ≡ true
+  unfolding IsStrictlySortedBy
+  rising [] s = refl
+  rising (e ∷ es) s = λ i. above_first e.0 es s.0 i && rising es s.1 i
+
+  looked_up : (q : ℕ) (es : List (ℕ × F)) → lookup (is_at (nat_cmp q)) es ≡ find nat_cmp q es
+  looked_up q [] = refl
+  looked_up q (e ∷ es) = ap (cond (is_eq (nat_cmp q e.0)) (Some e.1)) (looked_up q es)
+
+  pub map_in_order : (m : BTreeMap ℕ F) → tree.IsOrdered nat_cmp m → ((q : ℕ) → tree.get nat_cmp m q ≡ fact_of fact t q) → m.entries ≡ sorted_facts fact t
+  map_in_order m o h = kept_in_order m.entries (rising m.entries o) (λ q. sym (looked_up q m.entries) ∙ h q)

@@ -1,9 +1,9 @@
 //! Facts about operations, kept in a table.
-ghost use Rattle.std.specs.Prelude.{◌≡◌, ◌≤◌, ◌+◌, [], ◌∷◌, List, Option, ℕ, IfOk, OnOk};
+ghost use Rattle.std.specs.Prelude.{◌≡◌, ◌≤◌, ◌+◌, [], ◌∷◌, List, Option, ℕ, IfOk, OnOk, OnErr, true};
 ghost use Rattle.std.specs.Ordering.{nat_cmp};
 ghost use Rattle.std.specs.BTreeMap.{get};
 ghost use Rattle.ir_types.specs.Terms.{TypeTerm, AttrTerm};
-ghost use Rattle.ir_tree.specs.Ids.{find};
+ghost use Rattle.ir_tree.specs.Ids.{find, has_id};
 ghost use Rattle.ir_event.specs.Modules.{module_in};
 ghost use Rattle.surroundings.specs.Surroundings.{SurroundingsOf};
 ghost use Rattle.surroundings.specs.Near.{near, somes, if_any, lasts_in};
@@ -31,13 +31,15 @@ pub trait Fact: Drop {
         ensures { result ≡ fact (gathered_in ctx.now around.now) };
 }
 
-/// The fact about an operation of the module that the view shows, or none where it isn't there.
+/// The fact about an operation of the module that the view shows, or none where it isn't there. Memory is asked for
+/// only where it is.
 pub fn fact_at<F: Fact>(
     alloc: Global,
     view: &mut View<'_>,
     op: OpId,
 ) -> Result<Option<F>, AllocError>
     ensures fact { IfOk result (λ f. f ≡ fact_of F.fact (module_in view.old.world.now).tree op) }
+    ensures refused { OnErr result (has_id op (tree_in view.old.world.now) ≡ true) }
     ensures looks { view.new.looks ≤ view.old.looks + gather_looks (find op (tree_in view.old.world.now)) }
     ensures world { view.new.world.now ≡ view.old.world.now }
 {
@@ -134,6 +136,7 @@ fn renew_each<F: Fact>(
 /// How many regions an operation of the module has.
 fn region_count(view: &mut View<'_>, op: OpId) -> usize
     ensures count { result ≡ regions_found (find op (tree_in view.old.world.now)) }
+    ensures few { result ≤ 16 }
     ensures looks { view.new.looks ≤ view.old.looks + 2 }
     ensures world { view.new.world.now ≡ view.old.world.now }
 {
@@ -155,11 +158,8 @@ fn lasts(alloc: Global, view: &mut View<'_>, op: OpId) -> Result<Vec<Option<OpId
     let mut ops = Vec::new(alloc);
     ops.push(Some(op))?;
     let count = region_count(view, op);
-    let Ok(count) = u32::try_from(count) else {
-        return Err(AllocError);
-    };
     for region in 0..count {
-        let last = view.last(op, region);
+        let last = view.last(op, region as u32);
         ops.push(last)?;
     }
     Ok(ops)

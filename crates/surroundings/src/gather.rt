@@ -1,9 +1,9 @@
 //! What an operation is and has around it is gathered from a view.
-ghost use Rattle.std.specs.Prelude.{◌≡◌, ◌≤◌, ◌+◌, ◌*◌, Some, IfOk, IfSome, length, map, option_map, option_and_then};
+ghost use Rattle.std.specs.Prelude.{◌≡◌, ◌≤◌, ◌<◌, ◌+◌, ◌*◌, ◌^◌, true, Some, IfOk, OnErr, IfSome, length, map, option_map, option_and_then};
 ghost use Rattle.std.specs.List.{All};
 ghost use Rattle.ir_types.specs.Things.{IsType};
-ghost use Rattle.ir_tree.specs.Ids.{find};
-ghost use Rattle.ir_tree_laws.specs.Values.{type_of_value};
+ghost use Rattle.ir_tree.specs.Ids.{find, has_id};
+ghost use Rattle.ir_tree_laws.specs.Values.{type_of_value, has_value};
 ghost use Rattle.ir_event.specs.Modules.{NodeIsOf};
 ghost use Rattle.surroundings.specs.Surroundings.{surroundings};
 ghost use Rattle.surroundings.specs.Gathered.{AroundIsOf, gathered, outer_in, tree_in, last_name_at, from_on, outer_at, gather_looks};
@@ -15,7 +15,8 @@ use ir_tree::value::Value;
 use ir_types::ids::{NameId, OpId, TypeId};
 use std::alloc::{AllocError, Global};
 
-/// What an operation of the module that the view shows is and has around it, or none where it isn't there.
+/// What an operation of the module that the view shows is and has around it, or none where it isn't there. Memory is
+/// asked for only where it is.
 pub fn gather<'a>(
     alloc: Global,
     view: &mut View<'a>,
@@ -23,6 +24,7 @@ pub fn gather<'a>(
 ) -> Result<Option<Around<'a>>, AllocError>
     ensures around { IfOk result (λ r. option_map gathered r ≡ surroundings op (tree_in view.old.world.now)) }
     ensures known { IfOk result (λ r. IfSome r (λ a. AroundIsOf view.old.world.now.ctx a)) }
+    ensures refused { OnErr result (has_id op (tree_in view.old.world.now) ≡ true) }
     ensures looks { view.new.looks ≤ view.old.looks + gather_looks (find op (tree_in view.old.world.now)) }
     ensures world { view.new.world.now ≡ view.old.world.now }
 {
@@ -45,6 +47,7 @@ pub fn gather<'a>(
 
 /// The types of the operands of an operation of the module.
 fn types_of(alloc: Global, view: &mut View<'_>, values: &[Value]) -> Result<Vec<TypeId>, AllocError>
+    requires { All (λ v. has_value v (tree_in view.old.world.now) ≡ true) values.now }
     ensures types { IfOk result (λ v. map Some v.items ≡ map (λ x. type_of_value x (tree_in view.old.world.now)) values.now) }
     ensures known { IfOk result (λ v. All (λ t. IsType view.old.world.now.ctx t) v.items) }
     ensures looks { view.new.looks ≤ view.old.looks + length values.now }
@@ -52,20 +55,23 @@ fn types_of(alloc: Global, view: &mut View<'_>, values: &[Value]) -> Result<Vec<
 {
     let mut types = Vec::with_capacity(alloc, values.len())?;
     for value in values {
-        let ty = type_of(view, value)?;
-        types.push(ty)?;
+        types.push(type_of(view, value))?;
     }
     Ok(types)
 }
 
 /// The type of a value of the module.
-fn type_of(view: &mut View<'_>, value: &Value) -> Result<TypeId, AllocError>
-    ensures ty { IfOk result (λ t. type_of_value value.now (tree_in view.old.world.now) ≡ Some t) }
-    ensures known { IfOk result (λ t. IsType view.old.world.now.ctx t) }
+fn type_of(view: &mut View<'_>, value: &Value) -> TypeId
+    requires { has_value value.now (tree_in view.old.world.now) ≡ true }
+    ensures ty { type_of_value value.now (tree_in view.old.world.now) ≡ Some result }
+    ensures known { IsType view.old.world.now.ctx result }
     ensures looks { view.new.looks ≤ view.old.looks + 1 }
     ensures world { view.new.world.now ≡ view.old.world.now }
 {
-    view.value_type(*value).ok_or(AllocError)
+    match view.value_type(*value) {
+        Some(ty) => ty,
+        None => unreachable!(),
+    }
 }
 
 /// For each region of an operation the name of the last operation of its block.
@@ -75,16 +81,14 @@ fn lasts_of(
     op: OpId,
     regions: usize,
 ) -> Result<Vec<Option<NameId>>, AllocError>
+    requires { regions < 2 ^ 32 }
     ensures lasts { IfOk result (λ v. v.items ≡ from_on (last_name_at op (tree_in view.old.world.now)) 0 regions) }
     ensures looks { view.new.looks ≤ view.old.looks + 2 * regions }
     ensures world { view.new.world.now ≡ view.old.world.now }
 {
     let mut lasts = Vec::with_capacity(alloc, regions)?;
-    let Ok(regions) = u32::try_from(regions) else {
-        return Err(AllocError);
-    };
     for region in 0..regions {
-        let name = last_name(view, op, region);
+        let name = last_name(view, op, region as u32);
         lasts.push(name)?;
     }
     Ok(lasts)

@@ -5,7 +5,8 @@ ghost use Rattle.std.specs.BTreeMap.{get};
 ghost use Rattle.ir_event.specs.Modules.{Module, things_in, module_in};
 ghost use Rattle.ir_event.specs.Step.{Step};
 ghost use Rattle.ir_tree.specs.Ids.{ids};
-ghost use Rattle.surroundings.specs.Facts.{Keeps, Renewed, fact_of, most_looks};
+ghost use Rattle.ir_tree.specs.Meaning.{Operation};
+ghost use Rattle.surroundings.specs.Facts.{Keeps, Renewed, fact_of, most_looks, sorted_facts};
 ghost use Rattle.surroundings.specs.Gathered.{tree_in};
 
 use crate::fact::{Fact, follow, renew};
@@ -112,6 +113,15 @@ impl<F: Fact> Kept<F> {
                 view
             }
         }
+    }
+
+    /// The facts, by the numbers of the operations: where they are those of a module, each operation of it in order.
+    pub fn facts(&self) -> &BTreeMap<u32, F>
+        ensures is { result.now ≡ self.now.table }
+        ensures in_order { (t : Operation) → Keeps F.fact t (get nat_cmp self.now.table) → result.now.entries ≡ sorted_facts F.fact t }
+    {
+        let _ = self.table.len();
+        &self.table
     }
 
     /// Whether it has given up until it begins again.

@@ -18,7 +18,7 @@ loop-region-preserved c =
     let looks = c.last-last.ensures.looks in
     let before = inv.looks in
     let last = c.last-last.ensures.answer ∙ ap (λ u. last_at op r (tree_in u)) inv.world in
-    let below : r < count = (let t = c.loop-region-test.true in let k = c.in-Ok.ensures.1 in let n = c.region_count-count.ensures.count in omega arith) in
+    let below : r < count = (let t = c.loop-region-test.true in let n = c.region_count-count.ensures.count in omega arith) in
     let one : count - r ≡ suc (count - (r + 1)) = omega arith in
     let more = from_on (λ k. last_at op k tree) (r + 1) (count - (r + 1)) in
     record {
@@ -38,5 +38,5 @@ returns-clause-ops c =
     let count = regions_found (find op tree) in
     let r = c.loop-region.region in
     let out = c.loop-region.ops.items in
-    let none : count - r ≡ 0 = (let t = c.loop-region-test.false in let k = c.in-Ok.ensures.1 in let n = c.region_count-count.ensures.count in omega arith) in
+    let none : count - r ≡ 0 = (let t = c.loop-region-test.false in let n = c.region_count-count.ensures.count in omega arith) in
     ap somes (sym (append-nil out) ∙ ap (λ k. out ++ from_on (λ j. last_at op j tree) r k) (sym none) ∙ c.loop-region.invariant.ops) ∙ ap (λ l. op ∷ l) (lasts_read tree op)

@@ -1,4 +1,4 @@
-use Rattle.std.proofs.Common.{◌∙◌, sym, ap, subst, map, length, arith}
+use Rattle.std.proofs.Common.{◌≡◌, ◌∙◌, sym, ap, subst, true, map, length, arith}
 use Rattle.std.specs.Prelude.{option_map, option_and_then, IfSome}
 use Rattle.std.specs.List.{All}
 use Rattle.ir_types.specs.Things.{IsType}
@@ -6,11 +6,11 @@ use Rattle.ir_event.specs.Modules.{NodeIsOf}
 use Rattle.surroundings.specs.declared.around.Outer.{Outer}
 use Rattle.ir_store.specs.Nodes.{node_of}
 use Rattle.ir_store.specs.Stored.{known}
-use Rattle.ir_tree_laws.specs.Values.{type_of_value}
+use Rattle.ir_tree_laws.specs.Values.{type_of_value, has_value}
 use Rattle.ir_event.specs.declared.world.World.{World}
 use Rattle.ir_event.proofs.Nodes.{known_node}
 use Rattle.surroundings.specs.Gathered.{tree_in, last_name_at, from_on, outer_in, outer_at, gather_looks}
-use Rattle.surroundings.proofs.Reading.{absent, nothing_around, unshown, present, all_gathered, looks_counted}
+use Rattle.surroundings.proofs.Reading.{absent, nothing_around, unshown, present, all_gathered, looks_counted, operands_there, few_regions}
 use Rattle.surroundings.proofs.gather.gather.Goals as goal
 
 pub returns-then-not-in_tree-clause-around : goal.returns-then-not-in_tree-clause-around
@@ -34,6 +34,26 @@ pub returns-in_default-clause-looks : goal.returns-in_default-clause-looks
 returns-in_default-clause-looks c =
     let w = c.args.view.now.world.now in
     absurd (unshown w.store w.formed.distinct c.args.op (sym c.if-not-in_tree.ensures.answer) (ap (λ (u : World). option_map node_of (known c.args.op u.store)) (sym c.in_tree.ensures.world) ∙ sym c.in_default.ensures.answer))
+
+pub types_of-requires : goal.types_of-requires
+types_of-requires c =
+    let w = c.args.view.now.world.now in
+    let n = c.in-Some.node in
+    let e2 = c.node.ensures.world ∙ c.in_tree.ensures.world in
+    let shown = ap (λ (u : World). option_map node_of (known c.args.op u.store)) (sym c.in_tree.ensures.world) ∙ sym c.in-Some.ensures.answer in
+    let p = present w.store w.formed.distinct c.args.op n (sym c.if-not-in_tree.ensures.answer) shown in
+    subst (λ vs. All (λ v. has_value v (tree_in c.node.new.self.world.now) ≡ true) vs) (sym c.operands.ensures)
+    (subst (λ (u : World). All (λ v. has_value v (tree_in u) ≡ true) n.head.operands) (sym e2) (operands_there w.store w.formed.distinct _ w.formed.formed c.args.op n p))
+
+pub lasts_of-requires : goal.lasts_of-requires
+lasts_of-requires c =
+    let w = c.args.view.now.world.now in
+    let n = c.in-Some.node in
+    let shown = ap (λ (u : World). option_map node_of (known c.args.op u.store)) (sym c.in_tree.ensures.world) ∙ sym c.in-Some.ensures.answer in
+    let p = present w.store w.formed.distinct c.args.op n (sym c.if-not-in_tree.ensures.answer) shown in
+    let few = few_regions w.store w.formed.distinct _ w.formed.formed c.args.op n p in
+    let count = c.region_count.ensures in
+    omega arith
 
 pub returns-in_err-types-clause-looks : goal.returns-in_err-types-clause-looks
 returns-in_err-types-clause-looks c =

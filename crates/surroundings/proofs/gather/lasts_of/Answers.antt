@@ -12,7 +12,7 @@ loop-region-preserved c =
     let looks = c.last_name-name.ensures.looks in
     let before = inv.looks in
     let name = c.last_name-name.ensures.name ∙ ap (λ u. last_name_at c.args.op (tree_in u) r) inv.world in
-    let below : r < c.args.regions = (let t = c.loop-region-test.true in let k = c.in-Ok.ensures.1 in omega arith) in
+    let below : r < c.args.regions = c.loop-region-test.true in
     let one : c.args.regions - r ≡ suc (c.args.regions - (r + 1)) = omega arith in
     record {
       world = c.last_name-name.ensures.world ∙ inv.world;
