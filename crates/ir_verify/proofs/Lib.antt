@@ -1,1 +1,4 @@
 pub mod Sets
+pub mod Gathering
+pub mod Telling
+pub mod Presence

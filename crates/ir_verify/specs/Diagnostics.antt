@@ -1,5 +1,8 @@
 -- The analysis of diagnostics: which operations of a tree break which rules.
-use Rattle.std.specs.Prelude.{ℕ, List, [], ◌∷◌, ◌++◌, Option, option_map}
+use Rattle.std.specs.Prelude.{◌≡◌, ℕ, List, [], ◌∷◌, ◌++◌, true, false, Option, option_map}
+use Rattle.ir_types.specs.declared.refusal.Refusal.{Refusal}
+use Rattle.ir_types.specs.declared.refusal.Refusal.TheVariants.{NoSuchOp, Memory}
+use Rattle.ir_tree.specs.Ids.{has_id}
 use Rattle.ir_tree.specs.Meaning.{Operation}
 use Rattle.ir_event.specs.Rows.{RowTerm, Op, Rule}
 use Rattle.surroundings.specs.Surroundings.{surroundings}
@@ -9,6 +12,12 @@ use Rattle.ir_verify.specs.Breaks.{broken}
 -- the rules that operation x of a tree breaks, if it is there
 abbrev pub broken_at : ℕ → Operation → Option (List ℕ)
 broken_at x t = option_map broken (surroundings x t)
+
+-- why operation x of a tree isn't checked: it isn't there, or memory was refused
+abbrev pub Unchecked : ℕ → Operation → Refusal → Type 0
+Unchecked x t NoSuchOp = has_id x t ≡ false
+Unchecked x t Memory = has_id x t ≡ true
+Unchecked x t _ = ⊥
 
 -- the rows of an operation, by the rules' numbers
 abbrev pub rule_rows : ℕ → List ℕ → List RowTerm

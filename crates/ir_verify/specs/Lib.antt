@@ -3,3 +3,5 @@ pub mod PlaceRules
 pub mod Breaks
 pub mod Sets
 pub mod Diagnostics
+pub mod Reports
+pub mod Listeners

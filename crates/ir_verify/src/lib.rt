@@ -2,5 +2,8 @@
 #![tactic(auto)]
 
 mod block_rules;
+pub mod check;
+pub mod diagnostics;
 mod place_rules;
+mod report;
 pub mod rules;

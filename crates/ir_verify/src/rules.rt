@@ -20,6 +20,7 @@ use op_registry::definition::OpDef;
 use op_registry::registry::Registry;
 use std::alloc::{AllocError, Global};
 use surroundings::around::Around;
+use surroundings::fact::Fact;
 
 /// A set of rules.
 #[derive(Clone, Copy)]
@@ -54,6 +55,17 @@ impl RuleSet {
             rest /= 2;
         }
         Ok(numbers)
+    }
+}
+
+impl Fact for RuleSet {
+    ghost use Rattle.ir_verify.specs.Sets.{set_of};
+
+    ghost fact = { set_of };
+
+    #[tactic(auto, using(crate::proofs::Gathering::gathered_told))]
+    fn of(ctx: &Context, registry: &Registry, around: &Around<'_>) -> RuleSet {
+        told(ctx, registry, around)
     }
 }
 

@@ -1,0 +1,45 @@
+-- An operation about which there is a set of rules is there, and one about which there is none isn't.
+use Rattle.std.proofs.Common.{◌≡◌, refl, sym, ap, ◌∙◌, ℕ, true, false, Option, Some, None, inl, inr}
+use Rattle.std.specs.Prelude.{option_map}
+use Rattle.ir_types.specs.Terms.{name_term, type_term, attr_term}
+use Rattle.ir_tree.specs.Ids.{has_id}
+use Rattle.ir_tree_laws.proofs.Contents.{map_has_id}
+use Rattle.ir_tree_laws.proofs.Listed.{bool_cases}
+use Rattle.ir_event.specs.declared.world.World.{World}
+use Rattle.ir_event.specs.Modules.{module_in}
+use Rattle.surroundings.specs.Surroundings.{SurroundingsOf, surroundings}
+use Rattle.surroundings.specs.Mapped.{map_surroundings}
+use Rattle.surroundings.specs.Facts.{fact_of}
+use Rattle.surroundings.specs.Gathered.{tree_in}
+use Rattle.surroundings.proofs.Meanings.{mapped_surroundings}
+use Rattle.surroundings.proofs.Reading.{absent, nothing_around, gone}
+use Rattle.ir_verify_base.specs.Fits.{Surroundings}
+use Rattle.ir_verify.specs.declared.rules.RuleSet.{RuleSet}
+use Rattle.ir_verify.specs.Sets.{set_of}
+
+none_mapped : {X Y : Type 0} (f : X → Y) (o : Option X) → None ≡ option_map f o → o ≡ None
+none_mapped f None e = refl
+none_mapped f (Some x) e = absurd cc
+
+module _ (w : World) (x : ℕ) where
+  pub same_there : has_id x (tree_in w) ≡ true → has_id x (module_in w).tree ≡ true
+  same_there h = map_has_id (name_term w.ctx) (type_term w.ctx) (attr_term w.ctx) x (tree_in w) ∙ h
+
+  abbrev contents : SurroundingsOf ℕ ℕ ℕ → Surroundings
+  contents = map_surroundings (name_term w.ctx) (type_term w.ctx) (attr_term w.ctx)
+
+  around : fact_of set_of (module_in w).tree x ≡ option_map set_of (option_map contents (surroundings x (tree_in w)))
+  around = ap (option_map set_of) (mapped_surroundings (name_term w.ctx) (type_term w.ctx) (attr_term w.ctx) x (tree_in w))
+
+  pub isnt_there : None ≡ fact_of set_of (module_in w).tree x → has_id x (module_in w).tree ≡ false
+  isnt_there e =
+      map_has_id (name_term w.ctx) (type_term w.ctx) (attr_term w.ctx) x (tree_in w)
+      ∙ gone w.store w.formed.distinct x (none_mapped contents (surroundings x (tree_in w)) (sym (none_mapped set_of (option_map contents (surroundings x (tree_in w))) (e ∙ around))))
+
+  pub is_there : (r : RuleSet) → Some r ≡ fact_of set_of (module_in w).tree x → has_id x (module_in w).tree ≡ true
+  is_there r e = elim (bool_cases (has_id x (tree_in w))) [
+    | inl h ↦ same_there h
+    | inr h ↦ (let none : surroundings x (tree_in w) ≡ None = nothing_around w.store w.formed.distinct x (absent w.store w.formed.distinct x h) in
+        let no : Some r ≡ None = e ∙ around ∙ ap (λ s. option_map set_of (option_map contents s)) none in
+        absurd cc)
+  ]

@@ -1,0 +1,97 @@
+-- The rules in the set of an operation are those that it breaks, and the rows of a table of such sets are those of the tree.
+use Rattle.std.proofs.Common.{◌≡◌, refl, sym, ap, ◌∙◌, subst, ℕ, ◌+◌, ◌≤◌, Bool, List, [], ◌∷◌, ◌++◌, length, map, Option, Some, None, arith}
+use Rattle.std.specs.Prelude.{option_map}
+use Rattle.std.specs.List.{All}
+use Rattle.std.specs.Ordering.{nat_cmp}
+use Rattle.std.specs.declared.cmp.Ordering.{Ordering}
+use Rattle.std.specs.declared.cmp.Ordering.TheVariants.{Less, Equal, Greater}
+use Rattle.std.specs.FinMap.Entries.{put, by_order}
+use Rattle.std.proofs.lemmas.List.{map-append}
+use Rattle.std.proofs.lemmas.List.Elements.{All-nil, All-cons, All-head, All-tail, All-append}
+use Rattle.ir_types.specs.Things.{Things}
+use Rattle.ir_tree.specs.Meaning.{Operation}
+use Rattle.ir_tree_laws.specs.Stands.{StandOf, stand_id, stands}
+use Rattle.op_registry.specs.Rows.{Row}
+use Rattle.op_registry.specs.Registry.{row_of}
+use Rattle.ir_event.specs.declared.row.Cell.{Cell}
+use Rattle.ir_event.specs.declared.row.Cell.TheVariants.{Op, Rule}
+use Rattle.ir_event.specs.declared.row.Row.{Row as Line}
+use Rattle.ir_event.specs.Rows.{RowTerm, cell_meaning, rows_meaning, CellIsOf, RowIsOf, Shows}
+use Rattle.surroundings.specs.Surroundings.{surround, surroundings}
+use Rattle.surroundings.specs.Facts.{fact_of, sorted_in, sorted_facts}
+use Rattle.ir_verify_base.specs.Fits.{Surroundings}
+use Rattle.ir_verify.specs.declared.rules.RuleSet.{RuleSet}
+use Rattle.ir_verify.specs.Breaks.{told_in, numbers_from, broken}
+use Rattle.ir_verify.specs.Sets.{rules_in, set_of}
+use Rattle.ir_verify.specs.Diagnostics.{broken_at, rule_rows, rows_of, diagnostics_of}
+use Rattle.ir_verify.specs.Reports.{rule_cells, rules_cells, all_cells}
+use Rattle.ir_verify.proofs.Sets.{unpacked}
+
+few : (row : Option Row) (s : Surroundings) → length (told_in row s) ≤ 24
+few None s = omega arith
+few (Some row) s = omega arith
+
+pub rules_broken : (s : Surroundings) → rules_in (set_of s) ≡ broken s
+unfolding rules_in
+rules_broken s = unpacked 24 1 (told_in (row_of s.node.head.name) s) (few (row_of s.node.head.name) s)
+
+-- the set about an operation, read
+pub set_read : (x : ℕ) (t : Operation) (o : Option RuleSet) → o ≡ fact_of set_of t x → option_map rules_in o ≡ broken_at x t
+set_read x t o e = ap (option_map rules_in) e ∙ go (surroundings x t)
+  where
+    go : (s : Option Surroundings) → option_map rules_in (option_map set_of s) ≡ option_map broken s
+    go None = refl
+    go (Some s) = ap Some (rules_broken s)
+
+-- ---- tables of sets
+abbrev read : ℕ × RuleSet → ℕ × List ℕ
+read e = (e.0, rules_in e.1)
+
+put_read : (x : ℕ) (r : RuleSet) (es : List (ℕ × RuleSet)) → map read (put nat_cmp x r es) ≡ put nat_cmp x (rules_in r) (map read es)
+put_read x r [] = refl
+put_read x r (e ∷ es) = elim (nat_cmp x e.0) as (λ o. map read (by_order o ((x, r) ∷ e ∷ es) ((e.0, r) ∷ es) (e ∷ put nat_cmp x r es)) ≡ by_order o ((x, rules_in r) ∷ read e ∷ map read es) ((e.0, rules_in r) ∷ map read es) (read e ∷ put nat_cmp x (rules_in r) (map read es))) [
+  | Less ↦ refl
+  | Equal ↦ refl
+  | Greater ↦ ap (λ l. read e ∷ l) (put_read x r es)
+]
+
+facts_read : (t : Operation) (ss : List (StandOf (List ℕ) _ _)) → map read (sorted_in set_of t ss) ≡ sorted_in broken t ss
+facts_read t [] = refl
+facts_read t (s ∷ ss) = put_read (stand_id s) (set_of (surround t s)) (sorted_in set_of t ss) ∙ λ i. put nat_cmp (stand_id s) (rules_broken (surround t s) i) (facts_read t ss i)
+
+-- ---- rows
+module _ (c : Things) where
+  cells_say : (x : ℕ) (rs : List ℕ) → map (map (cell_meaning c)) (rules_cells x rs) ≡ rule_rows x rs
+  cells_say x [] = refl
+  cells_say x (r ∷ rs) = ap (λ l. map (cell_meaning c) (rule_cells x r) ∷ l) (cells_say x rs)
+
+  all_say : (es : List (ℕ × RuleSet)) → map (map (cell_meaning c)) (all_cells es) ≡ rows_of (map read es)
+  all_say [] = refl
+  all_say (e ∷ es) = map-append (map (cell_meaning c)) (rules_cells e.0 (rules_in e.1)) (all_cells es) ∙ λ i. cells_say e.0 (rules_in e.1) i ++ all_say es i
+
+  lines_say : (rows : List Line) → rows_meaning c rows ≡ map (map (cell_meaning c)) (map (λ (r : Line). r.cells.items) rows)
+  lines_say [] = refl
+  lines_say (r ∷ rows) = ap (λ l. map (cell_meaning c) r.cells.items ∷ l) (lines_say rows)
+
+  abbrev AreOf : List (List Cell) → Type 0
+  AreOf = All (λ cells. All (CellIsOf c) cells)
+
+  cells_known : (x : ℕ) (rs : List ℕ) → AreOf (rules_cells x rs)
+  cells_known x [] = All-nil (λ cells. All (CellIsOf c) cells)
+  cells_known x (r ∷ rs) =
+      All-cons (λ cells. All (CellIsOf c) cells) (rule_cells x r) (rules_cells x rs)
+      (All-cons (CellIsOf c) (Op x) (Rule r ∷ []) (tt {0}) (All-cons (CellIsOf c) (Rule r) [] (tt {0}) (All-nil (CellIsOf c)))) (cells_known x rs)
+
+  all_known : (es : List (ℕ × RuleSet)) → AreOf (all_cells es)
+  all_known [] = All-nil (λ cells. All (CellIsOf c) cells)
+  all_known (e ∷ es) = All-append (λ cells. All (CellIsOf c) cells) (rules_cells e.0 (rules_in e.1)) (all_cells es) (cells_known e.0 (rules_in e.1)) (all_known es)
+
+  lines_known : (rows : List Line) → AreOf (map (λ (r : Line). r.cells.items) rows) → All (RowIsOf c) rows
+  lines_known [] a = All-nil (RowIsOf c)
+  lines_known (r ∷ rows) a = All-cons (RowIsOf c) r rows (All-head (λ cells. All (CellIsOf c) cells) r.cells.items _ a) (lines_known rows (All-tail (λ cells. All (CellIsOf c) cells) r.cells.items _ a))
+
+  pub shows_diagnostics : (t : Operation) (es : List (ℕ × RuleSet)) (rows : List Line) → es ≡ sorted_facts set_of t → map (λ (r : Line). r.cells.items) rows ≡ all_cells es → Shows c rows (diagnostics_of t)
+  shows_diagnostics t es rows e is = record {
+    says = lines_say rows ∙ ap (map (map (cell_meaning c))) is ∙ all_say es ∙ ap (λ l. rows_of (map read l)) e ∙ ap rows_of (facts_read t (stands [] t));
+    known = lines_known rows (subst AreOf (sym is) (all_known es));
+  }

@@ -1,0 +1,23 @@
+-- What the listener means.
+use Rattle.std.specs.Prelude.{◌≡◌, false, None}
+use Rattle.std.specs.Ordering.{nat_cmp}
+use Rattle.std.specs.BTreeMap.{get}
+use Rattle.ir_event.specs.Listener.{Listener}
+use Rattle.surroundings.specs.Facts.{Keeps, most_looks}
+use Rattle.ir_verify.specs.declared.diagnostics.Diagnostics.{Diagnostics}
+use Rattle.ir_verify.specs.Sets.{set_of}
+use Rattle.ir_verify.specs.Diagnostics.{diagnostics_of}
+
+-- the table keeps of each operation of the module the rules that it breaks. It looks at most eight times, and six times at
+-- each operation near an event, once at each of its operands, and three times at each of its regions
+abbrev pub diagnostics_listener : Diagnostics → Listener
+diagnostics_listener s = record {
+  kind = 3;
+  analysis = diagnostics_of;
+  agrees = λ c m. (s.kept.stale ≡ false) × Keeps set_of m.tree (get nat_cmp s.kept.table);
+  stale = s.kept.stale;
+  heard = None;
+  most = λ e m n. most_looks e n.tree;
+  fresh = λ c m h. h.0;
+  grows = λ c d m holds also g h. h;
+}

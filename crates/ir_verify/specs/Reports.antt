@@ -1,0 +1,20 @@
+-- The rows of the report as they are made: the cells of each.
+use Rattle.std.specs.Prelude.{ℕ, List, [], ◌∷◌, ◌++◌}
+use Rattle.ir_event.specs.declared.row.Cell.{Cell}
+use Rattle.ir_event.specs.declared.row.Cell.TheVariants.{Op, Rule}
+use Rattle.ir_verify.specs.declared.rules.RuleSet.{RuleSet}
+use Rattle.ir_verify.specs.Sets.{rules_in}
+
+-- the row of an operation and a rule
+abbrev pub rule_cells : ℕ → ℕ → List Cell
+rule_cells x r = Op x ∷ Rule r ∷ []
+
+-- those of an operation and several rules
+abbrev pub rules_cells : ℕ → List ℕ → List (List Cell)
+rules_cells x [] = []
+rules_cells x (r ∷ rs) = rule_cells x r ∷ rules_cells x rs
+
+-- those of several operations
+abbrev pub all_cells : List (ℕ × RuleSet) → List (List Cell)
+all_cells [] = []
+all_cells (e ∷ es) = rules_cells e.0 (rules_in e.1) ++ all_cells es

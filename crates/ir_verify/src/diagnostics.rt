@@ -1,0 +1,66 @@
+//! The listener that keeps the diagnostics of a module.
+ghost use Rattle.std.specs.Prelude.{◌≡◌, true};
+
+use crate::report::rows;
+use crate::rules::RuleSet;
+use ir_event::analysis::Analysis;
+use ir_event::event::Event;
+use ir_event::row::{Kind, Memory, ReportFault, Row};
+use ir_event::view::View;
+use ir_event::world::World;
+use std::alloc::Global;
+use surroundings::kept::Kept;
+
+/// The analysis `diagnostics`: which operations break which rules.
+///
+/// It keeps of each operation the rules that it breaks. After an event it looks again at the operations near it, which
+/// alone can break other rules than before.
+#[derive(Drop)]
+pub struct Diagnostics {
+    kept: Kept<RuleSet>,
+}
+
+impl Diagnostics {
+    ghost use Rattle.ir_verify.specs.Listeners.{diagnostics_listener};
+
+    /// A listener that has not begun, and is stale.
+    pub fn new(alloc: Global) -> Diagnostics
+        ensures { (diagnostics_listener result).stale ≡ true }
+    {
+        Diagnostics {
+            kept: Kept::new(alloc),
+        }
+    }
+}
+
+impl Analysis for Diagnostics {
+    ghost use Rattle.ir_verify.specs.Listeners.{diagnostics_listener};
+
+    ghost meaning = { diagnostics_listener };
+
+    fn kind(&self) -> Kind {
+        Kind::new(3)
+    }
+
+    fn begin(&mut self, world: &World) -> Result<(), Memory> {
+        self.kept.begin(world)
+    }
+
+    fn told<'a>(&mut self, view: View<'a>, event: Event) -> View<'a> {
+        self.kept.told(view, event)
+    }
+
+    fn stale(&self) -> bool {
+        self.kept.stale()
+    }
+
+    fn report(&self, alloc: Global) -> Result<Vec<Row>, ReportFault> {
+        if self.kept.stale() {
+            return Err(ReportFault::Stale);
+        }
+        match rows(alloc, self.kept.facts()) {
+            Ok(rows) => Ok(rows),
+            Err(_) => Err(ReportFault::Memory),
+        }
+    }
+}

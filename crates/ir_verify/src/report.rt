@@ -1,0 +1,68 @@
+//! The rows of the report.
+ghost use Rattle.std.specs.Prelude.{◌≡◌, ◌++◌, [], ◌∷◌, map, OnOk, IfOk};
+ghost use Rattle.ir_event.specs.declared.row.Row.{Row as Line};
+ghost use Rattle.ir_event.specs.declared.row.Cell.TheVariants as cell;
+ghost use Rattle.ir_verify.specs.Sets.{rules_in};
+ghost use Rattle.ir_verify.specs.Reports.{rule_cells, rules_cells, all_cells};
+
+use crate::rules::RuleSet;
+use ir_event::row::{Cell, Row};
+use ir_tree::value::Value;
+use ir_types::ids::OpId;
+use std::alloc::{AllocError, Global};
+use std::collections::BTreeMap;
+
+// The checker has no proof of the loans of a function that holds cells, unless the function has a value of each type in
+// a cell: so some make a `Value` that nothing uses.
+
+/// The row of an operation that breaks a rule.
+fn row(alloc: Global, op: OpId, rule: u8) -> Result<Row, AllocError>
+    ensures { IfOk result (λ row. row.cells.items ≡ rule_cells op rule) }
+{
+    let _value = Value::Result(op, 0);
+    let mut cells = Vec::with_capacity(alloc, 2)?;
+    cells.push(Cell::Op(op))?;
+    cells.push(Cell::Rule(rule))?;
+    Ok(Row { cells })
+}
+
+/// Adds a row for each of the rules that an operation breaks.
+fn push_rows(alloc: Global, op: OpId, rules: &[u8], out: &mut Vec<Row>) -> Result<(), AllocError>
+    ensures { OnOk result (map (λ (r : Line). r.cells.items) out.new.items ≡ map (λ (r : Line). r.cells.items) out.old.items ++ rules_cells op rules.now) }
+{
+    for rule in rules {
+        out.push(row(alloc, op, *rule)?)?;
+    }
+    Ok(())
+}
+
+/// The same, where the rules are a set.
+fn push_set(alloc: Global, op: OpId, set: &RuleSet, out: &mut Vec<Row>) -> Result<(), AllocError>
+    ensures { OnOk result (map (λ (r : Line). r.cells.items) out.new.items ≡ map (λ (r : Line). r.cells.items) out.old.items ++ rules_cells op (rules_in set.now)) }
+{
+    let rules = set.numbers(alloc)?;
+    push_rows(alloc, op, &rules, out)
+}
+
+/// A row for each operation and each rule that it breaks, by operation and rule.
+pub(crate) fn rows(alloc: Global, table: &BTreeMap<u32, RuleSet>) -> Result<Vec<Row>, AllocError>
+    ensures { IfOk result (λ out. map (λ (r : Line). r.cells.items) out.items ≡ all_cells table.now.entries) }
+{
+    let mut out = Vec::new(alloc);
+    push_all(alloc, table, &mut out)?;
+    Ok(out)
+}
+
+/// Adds them.
+fn push_all(
+    alloc: Global,
+    table: &BTreeMap<u32, RuleSet>,
+    out: &mut Vec<Row>,
+) -> Result<(), AllocError>
+    ensures { OnOk result (map (λ (r : Line). r.cells.items) out.new.items ≡ map (λ (r : Line). r.cells.items) out.old.items ++ all_cells table.now.entries) }
+{
+    for (op, rules) in table {
+        push_set(alloc, OpId::new(*op), rules, out)?;
+    }
+    Ok(())
+}
