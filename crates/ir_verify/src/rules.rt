@@ -110,38 +110,39 @@ fn told_by(ctx: &Context, registry: &Registry, def: &OpDef, around: &Around<'_>)
     }
 }
 
-/// Those of one whose own form isn't right.
+/// Those of one whose own form isn't right: the rules that ask for a right one are silent.
 fn told_unshaped(ctx: &Context, registry: &Registry, def: &OpDef, around: &Around<'_>) -> RuleSet
     requires around { AroundIsOf ctx.now around.now }
     requires shaped { shapes.is_well_shaped (row_in def.now) (node_in ctx.now around.now.node) ≡ false }
     ensures { result.bits ≡ packed (told_of (row_in def.now) (around_in ctx.now around.now)) }
 {
     let node = &around.node;
+    let silent = false;
     RuleSet::of(&[
         breaks_1(ctx, def, node),
-        false,
+        silent,
         breaks_3(ctx, def, node),
-        false,
+        silent,
         breaks_5(ctx, def, node),
-        false,
-        false,
-        false,
-        false,
+        silent,
+        silent,
+        silent,
+        silent,
         breaks_10(ctx, registry, around),
         breaks_11(ctx, registry, def, around),
         breaks_12(ctx, def, node),
         breaks_13(ctx, def, node),
-        false,
-        false,
-        false,
-        false,
-        false,
-        false,
-        false,
-        false,
-        false,
+        silent,
+        silent,
+        silent,
+        silent,
+        silent,
+        silent,
+        silent,
+        silent,
+        silent,
         breaks_23(ctx, around),
-        false,
+        silent,
     ])
 }
 
