@@ -80,17 +80,15 @@ impl<F: Fact> Kept<F> {
         ensures ok { OnOk result ((self.new.stale ≡ false) × Keeps F.fact (module_in world.now).tree (get nat_cmp self.new.table)) }
         ensures err { OnErr result (self.new.stale ≡ true) }
     {
-        match tabulate(self.alloc, world) {
-            Ok(table) => {
-                self.table = table;
-                self.stale = false;
-                Ok(())
-            }
-            Err(_) => {
-                self.stale = true;
-                Err(Memory)
-            }
-        }
+        // What was kept goes first, so that there is room for what is kept now.
+        self.table = BTreeMap::new(self.alloc);
+        self.stale = true;
+        let Ok(table) = tabulate(self.alloc, world) else {
+            return Err(Memory);
+        };
+        self.table = table;
+        self.stale = false;
+        Ok(())
     }
 
     /// Hears of an event that was just made. The view shows the module after it, and is given back.
