@@ -1,11 +1,11 @@
 -- What rules look at is what is gathered, in contents.
-use Rattle.std.proofs.Common.{◌≡◌, refl, sym, ap, ◌∙◌, ℕ, List, [], ◌∷◌, map, Option, Some, None}
+use Rattle.std.proofs.Common.{◌≡◌, refl, ap, ◌∙◌, ℕ, List, [], ◌∷◌, map, Option, Some, None}
 use Rattle.std.specs.Prelude.{option_map}
 use Rattle.ir_types.specs.Things.{Things}
-use Rattle.ir_types.specs.Terms.{TypeTerm, name_term, type_term, attr_term}
+use Rattle.ir_types.specs.Terms.{name_term, type_term, attr_term}
 use Rattle.surroundings.specs.declared.around.Around.{Around}
 use Rattle.surroundings.specs.declared.around.Outer.{Outer}
-use Rattle.surroundings.specs.Mapped.{map_node, map_outer}
+use Rattle.surroundings.specs.Mapped.{map_outer}
 use Rattle.surroundings.specs.Gathered.{gathered_in, outer_in as gathered_outer}
 use Rattle.ir_verify_base.specs.Numbers.{typed, node_in, outer_in, around_in}
 use Rattle.ir_verify.specs.declared.rules.RuleSet.{RuleSet}

@@ -1,9 +1,8 @@
 -- The rules in the set of an operation are those that it breaks, and the rows of a table of such sets are those of the tree.
-use Rattle.std.proofs.Common.{◌≡◌, refl, sym, ap, ◌∙◌, subst, ℕ, ◌+◌, ◌≤◌, Bool, List, [], ◌∷◌, ◌++◌, length, map, Option, Some, None, arith}
+use Rattle.std.proofs.Common.{◌≡◌, refl, sym, ap, ◌∙◌, subst, ℕ, ◌≤◌, List, [], ◌∷◌, ◌++◌, length, map, Option, Some, None, arith}
 use Rattle.std.specs.Prelude.{option_map}
 use Rattle.std.specs.List.{All}
 use Rattle.std.specs.Ordering.{nat_cmp}
-use Rattle.std.specs.declared.cmp.Ordering.{Ordering}
 use Rattle.std.specs.declared.cmp.Ordering.TheVariants.{Less, Equal, Greater}
 use Rattle.std.specs.FinMap.Entries.{put, by_order}
 use Rattle.std.proofs.lemmas.List.{map-append}
@@ -16,12 +15,12 @@ use Rattle.op_registry.specs.Registry.{row_of}
 use Rattle.ir_event.specs.declared.row.Cell.{Cell}
 use Rattle.ir_event.specs.declared.row.Cell.TheVariants.{Op, Rule}
 use Rattle.ir_event.specs.declared.row.Row.{Row as Line}
-use Rattle.ir_event.specs.Rows.{RowTerm, cell_meaning, rows_meaning, CellIsOf, RowIsOf, Shows}
+use Rattle.ir_event.specs.Rows.{cell_meaning, rows_meaning, CellIsOf, RowIsOf, Shows}
 use Rattle.surroundings.specs.Surroundings.{surround, surroundings}
 use Rattle.surroundings.specs.Facts.{fact_of, sorted_in, sorted_facts}
 use Rattle.ir_verify_base.specs.Fits.{Surroundings}
 use Rattle.ir_verify.specs.declared.rules.RuleSet.{RuleSet}
-use Rattle.ir_verify.specs.Breaks.{told_in, numbers_from, broken}
+use Rattle.ir_verify.specs.Breaks.{told_in, broken}
 use Rattle.ir_verify.specs.Sets.{rules_in, set_of}
 use Rattle.ir_verify.specs.Diagnostics.{broken_at, rule_rows, rows_of, diagnostics_of}
 use Rattle.ir_verify.specs.Reports.{rule_cells, rules_cells, all_cells}

@@ -1,4 +1,3 @@
-use Rattle.std.proofs.Common.{◌∙◌, ap}
 use Rattle.ir_verify.proofs.Telling.{shows_diagnostics}
 use Rattle.ir_verify.proofs.diagnostics.DiagnosticsAnalysis.report.Goals as goal
 
