@@ -64,6 +64,10 @@ no_bits n rest l = let k : 25 - n ≡ 0 = omega arith in ap (λ m. numbers_from 
 pub told : (w b r : Bool) → w ≡ true → r ≡ b → r ≡ (w && b)
 told w b r e f = f ∙ ap (λ z. z && b) (sym e)
 
+-- and of one whose own form isn't right
+pub hushed : (w b : Bool) → w ≡ false → false ≡ (w && b)
+hushed w b e = ap (λ z. z && b) (sym e)
+
 pub no_faults : (a b c d e : Bool) → not ((a || (b || c)) || (d || e)) ≡ true → (a ≡ false) × (b ≡ false) × (c ≡ false) × (d ≡ false) × (e ≡ false)
 no_faults false false false false false h = (refl, refl, refl, refl, refl)
 no_faults true b c d e h = absurd (true≢false (sym h))

@@ -1,7 +1,6 @@
 //! The rows of the report.
 ghost use Rattle.std.specs.Prelude.{◌≡◌, ◌++◌, [], ◌∷◌, map, OnOk, IfOk};
 ghost use Rattle.ir_event.specs.declared.row.Row.{Row as Line};
-ghost use Rattle.ir_event.specs.declared.row.Cell.TheVariants as cell;
 ghost use Rattle.ir_verify.specs.Sets.{rules_in};
 ghost use Rattle.ir_verify.specs.Reports.{rule_cells, rules_cells, all_cells};
 
