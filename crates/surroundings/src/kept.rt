@@ -118,6 +118,7 @@ impl<F: Fact> Kept<F> {
         ensures is { result.now ≡ self.now.table }
         ensures in_order { (t : Operation) → Keeps F.fact t (get nat_cmp self.now.table) → result.now.entries ≡ sorted_facts F.fact t }
     {
+        // By its length the prover knows that the keys rise.
         let _ = self.table.len();
         &self.table
     }
