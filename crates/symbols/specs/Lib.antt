@@ -1,0 +1,5 @@
+pub mod Types
+pub mod Roles
+pub mod Symbols
+pub mod Table
+pub mod Listeners
