@@ -1,3 +1,9 @@
 pub mod Names
 pub mod SameTypes
 pub mod Listed
+pub mod Sizes
+pub mod Meant
+pub mod Local
+pub mod Gathered
+pub mod Added
+pub mod Agreed

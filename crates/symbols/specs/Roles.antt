@@ -77,47 +77,46 @@ callee_of h = if is_call h.name then option_and_then parts_of (beside (codes "ca
 abbrev pub call_of : Head → List (Option TypeTerm) → Option (CallOf (List ℕ) TypeTerm)
 call_of h types = option_map (λ callee. record { callee = callee; inputs = types; outputs = h.results }) (callee_of h)
 
--- the symbol references in an attribute, depth first
+abbrev pub References : Type 0
+References = List (ReferenceOf (List ℕ) AttrTerm)
+
+-- whether a reference has these parts
+abbrev pub has_parts : List (List ℕ) → ReferenceOf (List ℕ) AttrTerm → Bool
+has_parts parts p = pointwise bytes_eq parts p.1
+
+-- references with one more, where that isn't among them
+abbrev pub with_reference : References → ReferenceOf (List ℕ) AttrTerm → References
+with_reference seen p = if list_any (has_parts p.1) seen then seen else seen ++ p ∷ []
+
+-- references with those in an attribute, depth first
 abbrev mutual
-  pub symbols_in : AttrTerm → List (ReferenceOf (List ℕ) AttrTerm)
-  symbols_in (IntegerOf ty value) = []
-  symbols_in (String bytes) = []
-  symbols_in (TypeOf ty) = []
-  symbols_in Flag = []
-  symbols_in (Array items) = symbols_in_each items
-  symbols_in (Dictionary entries) = symbols_in_entries entries
-  symbols_in (Symbol parts) = (Symbol parts, parts) ∷ []
-  symbols_in (DenseArray ty values) = []
-  symbols_in (Overflow nsw nuw) = []
+  pub with_symbols : References → AttrTerm → References
+  with_symbols seen (IntegerOf ty value) = seen
+  with_symbols seen (String bytes) = seen
+  with_symbols seen (TypeOf ty) = seen
+  with_symbols seen Flag = seen
+  with_symbols seen (Array items) = with_each seen items
+  with_symbols seen (Dictionary entries) = with_entries seen entries
+  with_symbols seen (Symbol parts) = with_reference seen (Symbol parts, parts)
+  with_symbols seen (DenseArray ty values) = seen
+  with_symbols seen (Overflow nsw nuw) = seen
 
-  pub symbols_in_each : AttrTerms → List (ReferenceOf (List ℕ) AttrTerm)
-  symbols_in_each no_attrs = []
-  symbols_in_each (next_attr a rest) = symbols_in a ++ symbols_in_each rest
+  pub with_each : References → AttrTerms → References
+  with_each seen no_attrs = seen
+  with_each seen (next_attr a rest) = with_each (with_symbols seen a) rest
 
-  pub symbols_in_entries : EntryTerms → List (ReferenceOf (List ℕ) AttrTerm)
-  symbols_in_entries no_entries = []
-  symbols_in_entries (next_entry key a rest) = symbols_in a ++ symbols_in_entries rest
+  pub with_entries : References → EntryTerms → References
+  with_entries seen no_entries = seen
+  with_entries seen (next_entry key a rest) = with_entries (with_symbols seen a) rest
 
--- whether two references have the same parts
-abbrev pub same_reference : ReferenceOf (List ℕ) AttrTerm → ReferenceOf (List ℕ) AttrTerm → Bool
-same_reference p q = pointwise bytes_eq p.1 q.1
+-- with those in a dictionary, in the order of its keys
+abbrev pub with_dictionary : References → List (List ℕ × AttrTerm) → References
+with_dictionary seen [] = seen
+with_dictionary seen (e ∷ es) = with_dictionary (with_symbols seen e.1) es
 
--- a list of references with one more, where that isn't among them
-abbrev pub with_reference : List (ReferenceOf (List ℕ) AttrTerm) → ReferenceOf (List ℕ) AttrTerm → List (ReferenceOf (List ℕ) AttrTerm)
-with_reference seen p = if list_any (same_reference p) seen then seen else seen ++ p ∷ []
-
-abbrev pub with_references : List (ReferenceOf (List ℕ) AttrTerm) → List (ReferenceOf (List ℕ) AttrTerm) → List (ReferenceOf (List ℕ) AttrTerm)
-with_references seen [] = seen
-with_references seen (p ∷ ps) = with_references (with_reference seen p) ps
-
--- those in a dictionary, in the order of its keys
-abbrev pub symbols_in_dictionary : List (List ℕ × AttrTerm) → List (ReferenceOf (List ℕ) AttrTerm)
-symbols_in_dictionary [] = []
-symbols_in_dictionary (e ∷ es) = symbols_in e.1 ++ symbols_in_dictionary es
-
--- those of an operation, in the order in which they occur first: properties, then attributes
-abbrev pub references_of : Head → List (ReferenceOf (List ℕ) AttrTerm)
-references_of h = with_references (with_references [] (symbols_in_dictionary h.properties)) (symbols_in_dictionary h.attributes)
+-- those of an operation, each once, in the order in which they occur first: properties, then attributes
+abbrev pub references_of : Head → References
+references_of h = with_dictionary (with_dictionary [] h.properties) h.attributes
 
 -- the operation around, where it is a symbol table
 abbrev pub home_of : List (StepOf (List ℕ) TypeTerm AttrTerm) → Option ℕ

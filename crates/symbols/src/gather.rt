@@ -165,9 +165,13 @@ pub(crate) fn gather(
     ensures looks { view.new.looks ≤ view.old.looks + (2 + operand_count (known op view.old.world.now.store)) }
     ensures world { view.new.world.now ≡ view.old.world.now }
 {
-    let node = view.node(op).ok_or(AllocError)?;
+    let Some(node) = view.node(op) else {
+        return Err(AllocError);
+    };
     let is_table = view.context().table(node.name());
-    let tables = tables_of(roles, view, op, is_table).ok_or(AllocError)?;
+    let Some(tables) = tables_of(roles, view, op, is_table) else {
+        return Err(AllocError);
+    };
     let call = call_of(alloc, view, &node)?;
     role_with(alloc, view.context(), &node, &tables, call)
 }

@@ -1,5 +1,5 @@
 //! The symbol references in an operation's dictionaries.
-ghost use Rattle.std.specs.Prelude.{◌≡◌, [], ◌<◌, length, map, OnOk, IfOk};
+ghost use Rattle.std.specs.Prelude.{◌≡◌, ◌<◌, length, map, OnOk, IfOk};
 ghost use Rattle.std.specs.List.{All, list_any};
 ghost use Rattle.std.specs.Str.{bytes_eq};
 ghost use Rattle.std.specs.Cmp.Lexicographic.{pointwise};
@@ -7,7 +7,7 @@ ghost use Rattle.ir_types.specs.Things.{IsName, IsAttr};
 ghost use Rattle.ir_types.specs.Terms.{attr_term, attr_terms, attrs_at, entries_at, name_term, Symbol};
 ghost use Rattle.ir_tree.specs.Maps.{map_entry};
 ghost use Rattle.ir_event.specs.Modules.{NodeIsOf};
-ghost use Rattle.symbols.specs.Roles.{references_of, same_reference, symbols_in, symbols_in_dictionary, symbols_in_each, symbols_in_entries, with_reference, with_references};
+ghost use Rattle.symbols.specs.Roles.{has_parts, references_of, with_dictionary, with_each, with_entries, with_reference, with_symbols};
 ghost use Rattle.symbols.specs.Table.{head_meaning, reference_meaning, ReferenceIsOf};
 
 use crate::role::Reference;
@@ -51,24 +51,23 @@ fn same_names(ctx: &Context, ones: &[NameId], others: &[NameId]) -> bool
 }
 
 /// Whether a reference has these parts.
-fn has_parts(ctx: &Context, one: &Reference, parts: &[NameId]) -> bool
-    requires one { ReferenceIsOf ctx.now one.now }
+fn has_parts(ctx: &Context, parts: &[NameId], one: &Reference) -> bool
     requires parts { All (IsName ctx.now) parts.now }
-    ensures { result ≡ pointwise bytes_eq (map (name_term ctx.now) one.now.parts.items) (map (name_term ctx.now) parts.now) }
+    requires one { ReferenceIsOf ctx.now one.now }
+    ensures { result ≡ has_parts (map (name_term ctx.now) parts.now) (reference_meaning ctx.now one.now) }
 {
-    same_names(ctx, &one.parts, parts)
+    same_names(ctx, parts, &one.parts)
 }
 
 /// Whether a reference is among others.
-fn is_among(ctx: &Context, path: AttrId, parts: &[NameId], seen: &[Reference]) -> bool
+fn is_among(ctx: &Context, parts: &[NameId], seen: &[Reference]) -> bool
     requires parts { All (IsName ctx.now) parts.now }
     requires seen { All (ReferenceIsOf ctx.now) seen.now }
-    ensures { result ≡ list_any (same_reference (attr_term ctx.now path, map (name_term ctx.now) parts.now)) (map (reference_meaning ctx.now) seen.now) }
+    ensures { result ≡ list_any (has_parts (map (name_term ctx.now) parts.now)) (map (reference_meaning ctx.now) seen.now) }
 {
-    let _ = path;
     let mut rest = seen;
     while let [one, more @ ..] = rest {
-        if has_parts(ctx, one, parts) {
+        if has_parts(ctx, parts, one) {
             return true;
         }
         rest = more;
@@ -91,7 +90,7 @@ fn add(
     ensures added { OnOk result (map (reference_meaning ctx.now) out.new.items ≡ with_reference (map (reference_meaning ctx.now) out.old.items) (attr_term ctx.now path, map (name_term ctx.now) parts.now)) }
     ensures known { All (ReferenceIsOf ctx.now) out.new.items }
 {
-    if is_among(ctx, path, parts, out) {
+    if is_among(ctx, parts, out) {
         return Ok(());
     }
     let parts = Vec::from_slice(alloc, parts)?;
@@ -109,7 +108,7 @@ fn add_attr(
 ) -> Result<(), AllocError>
     requires id { IsAttr ctx.now id }
     requires out { All (ReferenceIsOf ctx.now) out.old.items }
-    ensures added { OnOk result (map (reference_meaning ctx.now) out.new.items ≡ with_references (map (reference_meaning ctx.now) out.old.items) (symbols_in (attr_term ctx.now id))) }
+    ensures added { OnOk result (map (reference_meaning ctx.now) out.new.items ≡ with_symbols (map (reference_meaning ctx.now) out.old.items) (attr_term ctx.now id)) }
     ensures known { All (ReferenceIsOf ctx.now) out.new.items }
 {
     match attr_of(ctx, id) {
@@ -135,7 +134,7 @@ fn add_attrs(
 ) -> Result<(), AllocError>
     requires ids { All (λ a. a < length ctx.now.attrs) ids.now }
     requires out { All (ReferenceIsOf ctx.now) out.old.items }
-    ensures added { OnOk result (map (reference_meaning ctx.now) out.new.items ≡ with_references (map (reference_meaning ctx.now) out.old.items) (symbols_in_each (attrs_at (attr_terms ctx.now) ids.now))) }
+    ensures added { OnOk result (map (reference_meaning ctx.now) out.new.items ≡ with_each (map (reference_meaning ctx.now) out.old.items) (attrs_at (attr_terms ctx.now) ids.now)) }
     ensures known { All (ReferenceIsOf ctx.now) out.new.items }
 {
     let mut rest = ids;
@@ -156,7 +155,7 @@ fn add_entries(
 ) -> Result<(), AllocError>
     requires entries { All (λ e. e.1 < length ctx.now.attrs) entries.now }
     requires out { All (ReferenceIsOf ctx.now) out.old.items }
-    ensures added { OnOk result (map (reference_meaning ctx.now) out.new.items ≡ with_references (map (reference_meaning ctx.now) out.old.items) (symbols_in_entries (entries_at ctx.now.names (attr_terms ctx.now) entries.now))) }
+    ensures added { OnOk result (map (reference_meaning ctx.now) out.new.items ≡ with_entries (map (reference_meaning ctx.now) out.old.items) (entries_at ctx.now.names (attr_terms ctx.now) entries.now)) }
     ensures known { All (ReferenceIsOf ctx.now) out.new.items }
 {
     let mut rest = entries;
@@ -176,7 +175,7 @@ fn add_dictionary(
 ) -> Result<(), AllocError>
     requires entries { All (λ e. IsName ctx.now e.0 × IsAttr ctx.now e.1) entries.now }
     requires out { All (ReferenceIsOf ctx.now) out.old.items }
-    ensures added { OnOk result (map (reference_meaning ctx.now) out.new.items ≡ with_references (map (reference_meaning ctx.now) out.old.items) (symbols_in_dictionary (map (map_entry (name_term ctx.now) (attr_term ctx.now)) entries.now))) }
+    ensures added { OnOk result (map (reference_meaning ctx.now) out.new.items ≡ with_dictionary (map (reference_meaning ctx.now) out.old.items) (map (map_entry (name_term ctx.now) (attr_term ctx.now)) entries.now)) }
     ensures known { All (ReferenceIsOf ctx.now) out.new.items }
 {
     add_entries(alloc, ctx, entries, out)
