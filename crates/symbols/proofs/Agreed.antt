@@ -16,11 +16,14 @@ use Rattle.ir_tree.specs.Places.{place_of, without}
 use Rattle.ir_tree.specs.Meaning.{Operation}
 use Rattle.ir_tree_laws.specs.Reads.{parent_of}
 use Rattle.ir_tree_laws.specs.Changes.{Takes, operand_at, entry_in}
-use Rattle.ir_tree_laws.specs.Stands.{StepOf, stand_id, stands, stand_of, place_in, left_stand}
+use Rattle.ir_tree_laws.specs.Stands.{StepOf, stand_id, stands, stand_in, stand_of, place_in, left_stand}
 use Rattle.ir_tree_laws.specs.Members.{In}
 use Rattle.ir_tree_laws.proofs.Listed.{bool_cases}
 use Rattle.ir_tree_laws.proofs.Members.{stand, member, same_stand, found_stands}
-use Rattle.ir_tree_laws.proofs.Around.{member_of_place, stand_present, left_apart}
+use Rattle.ir_tree_laws.proofs.Around.{member_of_place, present_stand, stand_present, left_apart}
+use Rattle.ir_tree_laws.proofs.Readings.{stands_find}
+use Rattle.ir_event.specs.Bounds.{op_of}
+use Rattle.ir_event.specs.Listener.{is_take}
 use Rattle.ir_tree_laws.proofs.Without.{member_left}
 use Rattle.ir_event.specs.Rows.{IsSymbol}
 use Rattle.ir_event.specs.declared.event.Event.{Event}
@@ -178,7 +181,7 @@ module _ (c : Things) (e : Event) (m n : Module) (s : Step c e m n) (f g : Table
 
 pub followed_keeps : (c : Things) (e : Event) (m n : Module) → Step c e m n → (f g : Table) → Keeps c m.tree f → Followed c n.tree e f g → Keeps c n.tree g
 followed_keeps c (Put x place fresh) m n s f g h r = renewed_keeps c (Put x place fresh) m n s f g h x (far_roles c (Put x place fresh) m n s) (place_there x n.tree place s.changes.there) r
-followed_keeps c (Take x place fresh) m n s f g h r y = elim (bool_cases (eqb x y)) [
+followed_keeps c (Take x place fresh) m n s f g h r = λ y. elim (bool_cases (eqb x y)) [
   | inr apart ↦ subst (λ z. Says c (role_of n.tree y) z) (sym (r y ∙ ap (λ b. cond b None (f y)) apart)) (subst (λ z. Says c z (f y)) (sym (far_roles c (Take x place fresh) m n s y apart)) (h y))
   | inl same ↦ (let none : g y ≡ None = r y ∙ ap (λ b. cond b None (f y)) same in
       record {
@@ -198,3 +201,32 @@ followed_is_kept c e m n sound s f g h r = record {
   grown = grows_refl c;
   keeps = followed_keeps c e m n s f g (keeps_more h.from c h.sound.holds h.grown m.tree f h.keeps) r;
 }
+
+-- the operation of an event that doesn't take it is there afterwards
+pub op_there : (c : Things) (e : Event) (m n : Module) → Step c e m n → is_take e ≡ false → has_id (op_of e) n.tree ≡ true
+op_there c (Put x place fresh) m n s k = place_there x n.tree place s.changes.there
+op_there c (Take x place fresh) m n s k = absurd (true≢false k)
+op_there c (SetOperand x k old new) m n s l = mapped_there x n.tree _ new s.changes.is
+op_there c (SetEntry x part key old new) m n s k = entry_there x n.tree _ _ s.changes.is
+op_there c (Shift x old new) m n s k = place_there x n.tree new s.changes.is
+
+pub found_there : (x : ℕ) (t : Operation) → has_id x t ≡ true → (o : Operation) × (find x t ≡ Some o)
+found_there x t e = go (find x t) refl
+  where
+    go : (o : Option Operation) → find x t ≡ o → (o : Operation) × (find x t ≡ Some o)
+    go (Some o) i = (o, i)
+    go None i =
+        let s = present_stand [] t x e in
+        let there : (r : Stand) × (stand_of x t ≡ Some r) = first_stand (stands [] t) s.0 s.1 s.2 in
+        let no : Some there.0.here ≡ None = sym (ap (option_map (λ (z : Stand). z.here)) there.1) ∙ stands_find x [] t ∙ i in
+        absurd cc
+      where
+        first_stand : (ss : List Stand) (s : Stand) → In s ss → stand_id s ≡ x → (r : Stand) × (stand_in x ss ≡ Some r)
+        first_stand [] s h j = absurd h
+        first_stand (u ∷ us) s h j = elim (bool_cases (eqb (stand_id u) x)) [
+          | inl k ↦ (u, ap (λ b. cond b (Some u) (stand_in x us)) k)
+          | inr k ↦ elim h [
+            | inl l ↦ absurd (true≢false (sym (eq-eqb (stand_id u) x (ap (λ (z : Stand). stand_id z) (sym l) ∙ j)) ∙ k))
+            | inr l ↦ (let w = first_stand us s l j in (w.0, ap (λ b. cond b (Some u) (stand_in x us)) k ∙ w.1))
+          ]
+        ]

@@ -7,3 +7,4 @@ pub mod Local
 pub mod Gathered
 pub mod Added
 pub mod Agreed
+pub mod Looks

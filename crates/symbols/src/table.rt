@@ -1,8 +1,9 @@
 //! The table of roles follows a module.
-ghost use Rattle.std.specs.Prelude.{◌≡◌, ◌≤◌, ◌+◌, OnOk, IfOk};
+ghost use Rattle.std.specs.Prelude.{◌≡◌, ◌≤◌, ◌+◌, true, OnOk, IfOk};
 ghost use Rattle.ir_tree.specs.Ids.{ids};
 ghost use Rattle.ir_store.specs.Stored.{known};
 ghost use Rattle.ir_event.specs.Bounds.{op_of, operand_count};
+ghost use Rattle.ir_event.specs.Listener.{is_take};
 ghost use Rattle.ir_event.specs.Modules.{module_in};
 ghost use Rattle.symbols.specs.Listeners.{kept_at};
 ghost use Rattle.symbols.specs.Table.{Added, Followed, Keeps, Renewed, tree_in};
@@ -42,6 +43,7 @@ pub(crate) fn follow(
 ) -> Result<(), AllocError>
     ensures followed { OnOk result (Followed view.old.world.now.ctx (module_in view.old.world.now).tree event.now (kept_at roles.old) (kept_at roles.new)) }
     ensures looks { view.new.looks ≤ view.old.looks + (2 + operand_count (known (op_of event.now) view.old.world.now.store)) }
+    ensures take { is_take event.now ≡ true → view.new.looks ≡ view.old.looks }
     ensures world { view.new.world.now ≡ view.old.world.now }
 {
     match event {
