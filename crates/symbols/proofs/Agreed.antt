@@ -62,13 +62,13 @@ somes f [] = refl
 somes f (x ∷ xs) = ap (λ l. Some (f x) ∷ l) (somes f xs)
 
 module _ (b c : Things) (holds : Holds b) (g : Grows b c) where
-  name_more : (n : ℕ) → IsName b n → IsName c n
+  pub name_more : (n : ℕ) → IsName b n → IsName c n
   name_more n h = let l = front_length b.names c.names g.names in omega (arith, l, h)
 
   type_more : (n : ℕ) → IsType b n → IsType c n
   type_more n h = let l = front_length b.types c.types g.types in omega (arith, l, h)
 
-  attr_more : (n : ℕ) → IsAttr b n → IsAttr c n
+  pub attr_more : (n : ℕ) → IsAttr b n → IsAttr c n
   attr_more n h = let l = front_length b.attrs c.attrs g.attrs in omega (arith, l, h)
 
   names_stay : (ns : List ℕ) → All (IsName b) ns → map (name_term c) ns ≡ map (name_term b) ns

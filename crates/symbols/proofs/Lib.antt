@@ -8,3 +8,5 @@ pub mod Gathered
 pub mod Added
 pub mod Agreed
 pub mod Looks
+pub mod Lines
+pub mod Reported

@@ -5,6 +5,8 @@
 mod gather;
 mod properties;
 mod references;
+mod report;
+mod resolve;
 pub mod role;
 pub mod symbols;
 mod table;

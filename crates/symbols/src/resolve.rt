@@ -1,0 +1,149 @@
+//! Symbol references are resolved in a table of roles.
+ghost use Rattle.std.specs.Prelude.{◌≡◌, ◌++◌, eqb, map, option_map, OnOk, IfOk};
+ghost use Rattle.std.specs.Cmp.Lexicographic.{pointwise};
+ghost use Rattle.symbols.specs.Symbols as symbols;
+ghost use Rattle.symbols.specs.Symbols.{definitions, defined, function_at, says_table};
+ghost use Rattle.symbols.specs.Table.{call_numbers};
+ghost use Rattle.symbols.specs.Lines.{numbered, numbers_at};
+
+use crate::role::{Call, Role};
+use ir_types::ids::{NameId, OpId, TypeId};
+use std::alloc::{AllocError, Global};
+use std::collections::BTreeMap;
+
+/// A definition: the table and the name, and the operation.
+pub(crate) type Definition = ((OpId, NameId), OpId);
+
+/// Adds the definition that an operation is, if it is one.
+fn push_definition(op: OpId, role: &Role, out: &mut Vec<Definition>) -> Result<(), AllocError>
+    ensures { OnOk result (out.new.items ≡ out.old.items ++ defined role.now.home role.now.symbol op) }
+{
+    let Some(table) = role.home else {
+        return Ok(());
+    };
+    let Some(name) = role.symbol else {
+        return Ok(());
+    };
+    out.push(((table, name), op))?;
+    Ok(())
+}
+
+/// The definitions of a table of roles, in the order of the operations' ids.
+pub(crate) fn definitions(
+    alloc: Global,
+    roles: &BTreeMap<OpId, Role>,
+) -> Result<Vec<Definition>, AllocError>
+    ensures { IfOk result (λ v. v.items ≡ definitions (numbered roles.now.entries)) }
+{
+    let mut out = Vec::new(alloc);
+    for (op, role) in roles {
+        push_definition(*op, role, &mut out)?;
+    }
+    Ok(out)
+}
+
+/// The operation that a name is in a table: of several definitions the first one.
+pub(crate) fn first_defined(definitions: &[Definition], table: OpId, name: NameId) -> Option<OpId>
+    ensures { result ≡ symbols.first_defined eqb table name definitions.now }
+{
+    let mut rest = definitions;
+    while let [definition, more @ ..] = rest {
+        let ((home, symbol), op) = *definition;
+        if home == table && symbol == name {
+            return Some(op);
+        }
+        rest = more;
+    }
+    None
+}
+
+/// Whether an operation is a symbol table.
+fn is_table(roles: &BTreeMap<OpId, Role>, op: OpId) -> bool
+    ensures { result ≡ says_table (numbers_at roles.now op) }
+{
+    match roles.get(&op) {
+        None => false,
+        Some(role) => role.is_table,
+    }
+}
+
+/// The operation that a name is in another.
+fn look_up(
+    roles: &BTreeMap<OpId, Role>,
+    definitions: &[Definition],
+    op: OpId,
+    name: NameId,
+) -> Option<OpId>
+    ensures { result ≡ symbols.look_up eqb (numbers_at roles.now) definitions.now op name }
+{
+    if !is_table(roles, op) {
+        return None;
+    }
+    first_defined(definitions, op, name)
+}
+
+/// The same in what there may be.
+fn look_in(
+    roles: &BTreeMap<OpId, Role>,
+    definitions: &[Definition],
+    found: Option<OpId>,
+    name: NameId,
+) -> Option<OpId>
+    ensures { result ≡ symbols.look_in eqb (numbers_at roles.now) definitions.now found name }
+{
+    match found {
+        None => None,
+        Some(op) => look_up(roles, definitions, op, name),
+    }
+}
+
+/// What the parts of a reference resolve to: the first in a table, each further one in the symbol before it.
+pub(crate) fn resolve(
+    roles: &BTreeMap<OpId, Role>,
+    definitions: &[Definition],
+    table: Option<OpId>,
+    parts: &[NameId],
+) -> Option<OpId>
+    ensures { result ≡ symbols.resolve eqb (numbers_at roles.now) definitions.now table parts.now }
+{
+    let mut found = table;
+    let mut rest = parts;
+    while let [part, more @ ..] = rest {
+        found = look_in(roles, definitions, found, *part);
+        rest = more;
+    }
+    found
+}
+
+/// Whether two lists of types are one.
+fn same_types(ones: &[TypeId], others: &[TypeId]) -> bool
+    ensures { result ≡ pointwise eqb ones.now others.now }
+{
+    let mut left = ones;
+    let mut right = others;
+    while let [a, more @ ..] = left {
+        let [b, rest @ ..] = right else {
+            return false;
+        };
+        if *a != *b {
+            return false;
+        }
+        left = more;
+        right = rest;
+    }
+    right.is_empty()
+}
+
+/// Whether an operation is a function that has the types of a call's operands and results.
+#[tactic(auto, using(crate::proofs::Lines::some_types))]
+pub(crate) fn fits(roles: &BTreeMap<OpId, Role>, call: &Call, op: OpId) -> bool
+    ensures { result ≡ symbols.fits eqb (call_numbers call.now) (function_at (numbers_at roles.now op)) }
+{
+    let Some(role) = roles.get(&op) else {
+        return false;
+    };
+    let Some(function) = &role.function else {
+        return false;
+    };
+    same_types(&function.inputs, &call.inputs) && same_types(&function.outputs, &call.outputs)
+}
