@@ -61,7 +61,7 @@ decided test m n f g = elim (bool_cases test) [
 ]
 
 -- a definition, and a row, in contents
-map_definition : {N M : Type 0} → (N → M) → DefinitionOf N → DefinitionOf M
+abbrev map_definition : {N M : Type 0} → (N → M) → DefinitionOf N → DefinitionOf M
 map_definition f d = ((d.0.0, f d.0.1), d.1)
 
 abbrev map_line : {N A M B : Type 0} → (N → M) → (A → B) → LineOf N A → LineOf M B

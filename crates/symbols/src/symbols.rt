@@ -1,13 +1,12 @@
 //! The listener that keeps symbols.
-ghost use Rattle.std.specs.Prelude.{◌≡◌, ◌≤◌, ◌+◌, ◌⊎◌, true, OnOk, OnErr};
-ghost use Rattle.ir_event.specs.Modules.{Module, things_in, module_in, shown_in};
-ghost use Rattle.ir_event.specs.Listener.{Told, SameAnalysis, ShowsTaken};
-ghost use Rattle.ir_event.specs.Step.{Step};
+ghost use Rattle.std.specs.Prelude.{◌≡◌, true};
 
+use crate::report::lines;
 use crate::role::Role;
 use crate::table::{follow, tabulate};
+use ir_event::analysis::Analysis;
 use ir_event::event::Event;
-use ir_event::row::Memory;
+use ir_event::row::{Kind, Memory, ReportFault, Row};
 use ir_event::view::View;
 use ir_event::world::World;
 use ir_types::ids::OpId;
@@ -39,13 +38,18 @@ impl Symbols {
             stale: true,
         }
     }
+}
 
-    /// Begins anew with a module. Refused for want of memory, it is stale.
-    pub fn begin(&mut self, world: &World) -> Result<(), Memory>
-        ensures ok { OnOk result ((symbols_listener self.new).agrees (things_in world.now) (module_in world.now)) }
-        ensures err { OnErr result ((symbols_listener self.new).stale ≡ true) }
-        ensures same { SameAnalysis (symbols_listener self.old) (symbols_listener self.new) }
-    {
+impl Analysis for Symbols {
+    ghost use Rattle.symbols.specs.Listeners.{symbols_listener};
+
+    ghost meaning = { symbols_listener };
+
+    fn kind(&self) -> Kind {
+        Kind::new(2)
+    }
+
+    fn begin(&mut self, world: &World) -> Result<(), Memory> {
         // What was kept goes first, so that there is room for what is kept now.
         self.roles = BTreeMap::new(self.alloc);
         self.stale = true;
@@ -60,14 +64,9 @@ impl Symbols {
         }
     }
 
-    /// Hears of an event that was just made. It looks at the event's operation alone, at most twice and once for each
-    /// operand; at a taken one it doesn't look.
-    pub fn told<'a>(&mut self, view: View<'a>, event: Event) -> View<'a>
-        ensures told { Told event (things_in view.entry.world.now) (module_in view.entry.world.now) (shown_in view.entry.world.now) (symbols_listener self.old) (symbols_listener self.new) }
-        ensures looks { (m : Module) → Step (things_in view.entry.world.now) event m (module_in view.entry.world.now) → ShowsTaken event m (shown_in view.entry.world.now)
-            → ((symbols_listener self.old).agrees (things_in view.entry.world.now) m ⊎ ((symbols_listener self.old).stale ≡ true)) → result.looks ≤ view.entry.looks + (symbols_listener self.old).most event m (module_in view.entry.world.now) }
-        ensures world { result.world.now ≡ view.entry.world.now }
-    {
+    /// It looks at the event's operation alone, at most twice and once for each operand; at one that was taken it
+    /// doesn't look.
+    fn told<'a>(&mut self, view: View<'a>, event: Event) -> View<'a> {
         if self.stale {
             return view;
         }
@@ -82,10 +81,17 @@ impl Symbols {
         }
     }
 
-    /// Whether it has given up until it begins again.
-    pub fn stale(&self) -> bool
-        ensures { result ≡ (symbols_listener self.now).stale }
-    {
+    fn stale(&self) -> bool {
         self.stale
+    }
+
+    fn report(&self, alloc: Global) -> Result<Vec<Row>, ReportFault> {
+        if self.stale {
+            return Err(ReportFault::Stale);
+        }
+        match lines(alloc, &self.roles) {
+            Ok(rows) => Ok(rows),
+            Err(_) => Err(ReportFault::Memory),
+        }
     }
 }

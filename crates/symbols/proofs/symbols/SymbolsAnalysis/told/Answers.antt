@@ -4,7 +4,7 @@ use Rattle.ir_event.specs.Modules.{module_in}
 use Rattle.symbols.specs.Listeners.{kept_at}
 use Rattle.symbols.proofs.Agreed.{followed_is_kept}
 use Rattle.symbols.proofs.Looks.{within_most}
-use Rattle.symbols.proofs.symbols.Symbols.told.Goals as goal
+use Rattle.symbols.proofs.symbols.SymbolsAnalysis.told.Goals as goal
 
 pub returns-in-Ok-clause-told : goal.returns-in-Ok-clause-told
 returns-in-Ok-clause-told c =
