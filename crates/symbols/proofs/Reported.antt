@@ -44,6 +44,7 @@ use Rattle.symbols.specs.Listeners.{kept_at}
 use Rattle.symbols.specs.Lines.{numbered, numbers_at, cells_of, lines_cells}
 use Rattle.symbols.proofs.SameTypes.{type_is, type_refl}
 use Rattle.symbols.proofs.Agreed.{name_more, attr_more}
+use Rattle.symbols.proofs.Lines.{same_test}
 
 abbrev Each : {X : Type 0} → (X → Type 0) → List X → Type 0
 Each P [] = Unit {0}
@@ -276,14 +277,6 @@ module _ (b : Things) where
           (each_append LineIs d1 (d2 ++ (d3 ++ d4)) (duplicates_known ds ds known) (each_append LineIs d2 (d3 ++ d4) (all_known true es k) (each_append LineIs d3 d4 (all_known false es k) (mismatches_known es))))
 
 -- ---- the entries of a map
-same_test : (x y : ℕ) → is_eq (nat_cmp x y) ≡ eqb x y
-same_test x y = go (nat_cmp x y) refl (ranks x y)
-  where
-    go : (r : Ordering) → nat_cmp x y ≡ r → MatchOrdering (nat_cmp x y) (x < y) (x ≡ y) (y < x) → is_eq (nat_cmp x y) ≡ eqb x y
-    go Less e m = let l = subst (λ r. MatchOrdering r (x < y) (x ≡ y) (y < x)) e m in ap is_eq e ∙ sym (ne_eqb x y (λ q. omega (arith, q, l)))
-    go Equal e m = let l = subst (λ r. MatchOrdering r (x < y) (x ≡ y) (y < x)) e m in ap is_eq e ∙ sym (eq-eqb x y l)
-    go Greater e m = let l = subst (λ r. MatchOrdering r (x < y) (x ≡ y) (y < x)) e m in ap is_eq e ∙ sym (ne_eqb x y (λ q. omega (arith, q, l)))
-
 both_hold : (a c : Bool) → T a → T c → T (a && c)
 both_hold true c p q = q
 both_hold false c p q = p

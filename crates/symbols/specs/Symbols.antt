@@ -132,7 +132,7 @@ abbrev pub lines_with : {N T A : Type 0} → (N → N → Bool) → (T → T →
 lines_with same_name same roles ds es =
     definition_lines ds
     ++ (duplicate_lines same_name ds ds
-        ++ (all_reference_lines same_name roles ds true es ++ (all_reference_lines same_name roles ds false es ++ mismatch_lines same_name same roles ds es)))
+    ++ (all_reference_lines same_name roles ds true es ++ (all_reference_lines same_name roles ds false es ++ mismatch_lines same_name same roles ds es)))
 
 abbrev pub symbol_lines : {N T A : Type 0} → (N → N → Bool) → (T → T → Bool) → RoleAt N T A → RolesOf N T A → List (LineOf N A)
 symbol_lines same_name same roles es = lines_with same_name same roles (definitions es) es

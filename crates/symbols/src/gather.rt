@@ -110,11 +110,7 @@ fn call_with(
 }
 
 /// The call of an operation, where it calls a symbol.
-fn call_of(
-    alloc: Global,
-    view: &mut View<'_>,
-    node: &Node<'_>,
-) -> Result<Option<Call>, AllocError>
+fn call_of(alloc: Global, view: &mut View<'_>, node: &Node<'_>) -> Result<Option<Call>, AllocError>
     requires { NodeIsOf view.old.world.now.ctx node.now }
     ensures call { IfOk result (λ k. option_map (call_meaning view.old.world.now.ctx) k ≡ call_from (head_meaning view.old.world.now.ctx node.now.head) (map (λ v. type_of_value v (module_in view.old.world.now).tree) node.now.head.operands)) }
     ensures known { IfOk result (λ k. IfSome k (CallIsOf view.old.world.now.ctx)) }

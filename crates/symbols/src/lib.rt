@@ -2,6 +2,7 @@
 //! with a module before an event it agrees with the module after it, or is stale.
 #![tactic(auto)]
 
+mod definitions;
 mod gather;
 mod properties;
 mod references;

@@ -7,7 +7,8 @@ ghost use Rattle.symbols.specs.Symbols.{all_reference_lines, call_line, definiti
 ghost use Rattle.symbols.specs.Table.{call_numbers, reference_of};
 ghost use Rattle.symbols.specs.Lines.{cells_of, lines_cells, numbered, numbers_at};
 
-use crate::resolve::{Definition, definitions, first_defined, fits, resolve};
+use crate::definitions::{Definition, Definitions, definitions_of};
+use crate::resolve::{fits, resolve};
 use crate::role::{Call, Role};
 use ir_event::row::{Cell, Row};
 use ir_tree::value::Value;
@@ -41,12 +42,12 @@ fn push_definition(
 /// Adds the rows of definitions.
 fn push_definitions(
     alloc: Global,
-    definitions: &[Definition],
+    definitions: &Definitions,
     out: &mut Vec<Row>,
 ) -> Result<(), AllocError>
     ensures { OnOk result (cells_of out.new.items ≡ cells_of out.old.items ++ lines_cells (definition_lines definitions.now)) }
 {
-    let mut rest = definitions;
+    let mut rest = definitions.list();
     while let [definition, more @ ..] = rest {
         push_definition(alloc, 0, definition, out)?;
         rest = more;
@@ -55,11 +56,11 @@ fn push_definitions(
 }
 
 /// Whether a definition isn't the one that counts.
-fn is_duplicate(definitions: &[Definition], definition: &Definition) -> bool
+fn is_duplicate(definitions: &Definitions, definition: &Definition) -> bool
     ensures { result ≡ is_duplicate eqb definitions.now definition.now }
 {
     let ((table, name), op) = *definition;
-    match first_defined(definitions, table, name) {
+    match definitions.first(table, name) {
         None => true,
         Some(first) => first != op,
     }
@@ -68,12 +69,12 @@ fn is_duplicate(definitions: &[Definition], definition: &Definition) -> bool
 /// Adds the rows of duplicates.
 fn push_duplicates(
     alloc: Global,
-    definitions: &[Definition],
+    definitions: &Definitions,
     out: &mut Vec<Row>,
 ) -> Result<(), AllocError>
     ensures { OnOk result (cells_of out.new.items ≡ cells_of out.old.items ++ lines_cells (duplicate_lines eqb definitions.now definitions.now)) }
 {
-    let mut rest = definitions;
+    let mut rest = definitions.list();
     while let [definition, more @ ..] = rest {
         if is_duplicate(definitions, definition) {
             push_definition(alloc, 1, definition, out)?;
@@ -152,7 +153,7 @@ fn push_references(
     alloc: Global,
     resolved: bool,
     roles: &BTreeMap<OpId, Role>,
-    definitions: &[Definition],
+    definitions: &Definitions,
     user: OpId,
     role: &Role,
     out: &mut Vec<Row>,
@@ -173,7 +174,7 @@ fn push_all_references(
     alloc: Global,
     resolved: bool,
     roles: &BTreeMap<OpId, Role>,
-    definitions: &[Definition],
+    definitions: &Definitions,
     out: &mut Vec<Row>,
 ) -> Result<(), AllocError>
     ensures { OnOk result (cells_of out.new.items ≡ cells_of out.old.items ++ lines_cells (all_reference_lines eqb (numbers_at roles.now) definitions.now resolved (numbered roles.now.entries))) }
@@ -185,12 +186,7 @@ fn push_all_references(
 }
 
 /// Adds the row of a mismatch.
-fn push_mismatch(
-    alloc: Global,
-    user: OpId,
-    op: OpId,
-    out: &mut Vec<Row>,
-) -> Result<(), AllocError>
+fn push_mismatch(alloc: Global, user: OpId, op: OpId, out: &mut Vec<Row>) -> Result<(), AllocError>
     ensures { OnOk result (cells_of out.new.items ≡ cells_of out.old.items ++ (Tag 4 ∷ Op user ∷ Op op ∷ []) ∷ []) }
 {
     let _value = Value::Result(op, 0);
@@ -226,7 +222,7 @@ fn push_call(
 fn push_call_of(
     alloc: Global,
     roles: &BTreeMap<OpId, Role>,
-    definitions: &[Definition],
+    definitions: &Definitions,
     user: OpId,
     role: &Role,
     out: &mut Vec<Row>,
@@ -244,7 +240,7 @@ fn push_call_of(
 fn push_mismatches(
     alloc: Global,
     roles: &BTreeMap<OpId, Role>,
-    definitions: &[Definition],
+    definitions: &Definitions,
     out: &mut Vec<Row>,
 ) -> Result<(), AllocError>
     ensures { OnOk result (cells_of out.new.items ≡ cells_of out.old.items ++ lines_cells (mismatch_lines eqb eqb (numbers_at roles.now) definitions.now (numbered roles.now.entries))) }
@@ -259,7 +255,7 @@ fn push_mismatches(
 fn push_lines(
     alloc: Global,
     roles: &BTreeMap<OpId, Role>,
-    definitions: &[Definition],
+    definitions: &Definitions,
     out: &mut Vec<Row>,
 ) -> Result<(), AllocError>
     ensures { OnOk result (cells_of out.new.items ≡ cells_of out.old.items ++ lines_cells (lines_with eqb eqb (numbers_at roles.now) definitions.now (numbered roles.now.entries))) }
@@ -277,7 +273,7 @@ pub(crate) fn lines(alloc: Global, roles: &BTreeMap<OpId, Role>) -> Result<Vec<R
     ensures ordered { IfOk result (λ _. tree.IsOrdered nat_cmp roles.now) }
 {
     let _ = roles.len();
-    let definitions = definitions(alloc, roles)?;
+    let definitions = definitions_of(alloc, roles)?;
     let mut out = Vec::new(alloc);
     push_lines(alloc, roles, &definitions, &mut out)?;
     Ok(out)

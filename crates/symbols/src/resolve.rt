@@ -1,61 +1,15 @@
 //! Symbol references are resolved in a table of roles.
-ghost use Rattle.std.specs.Prelude.{◌≡◌, ◌++◌, eqb, map, option_map, OnOk, IfOk};
+ghost use Rattle.std.specs.Prelude.{◌≡◌, eqb};
 ghost use Rattle.std.specs.Cmp.Lexicographic.{pointwise};
 ghost use Rattle.symbols.specs.Symbols as symbols;
-ghost use Rattle.symbols.specs.Symbols.{definitions, defined, function_at, says_table};
+ghost use Rattle.symbols.specs.Symbols.{function_at, says_table};
 ghost use Rattle.symbols.specs.Table.{call_numbers};
-ghost use Rattle.symbols.specs.Lines.{numbered, numbers_at};
+ghost use Rattle.symbols.specs.Lines.{numbers_at};
 
+use crate::definitions::Definitions;
 use crate::role::{Call, Role};
 use ir_types::ids::{NameId, OpId, TypeId};
-use std::alloc::{AllocError, Global};
 use std::collections::BTreeMap;
-
-/// A definition: the table and the name, and the operation.
-pub(crate) type Definition = ((OpId, NameId), OpId);
-
-/// Adds the definition that an operation is, if it is one.
-fn push_definition(op: OpId, role: &Role, out: &mut Vec<Definition>) -> Result<(), AllocError>
-    ensures { OnOk result (out.new.items ≡ out.old.items ++ defined role.now.home role.now.symbol op) }
-{
-    let Some(table) = role.home else {
-        return Ok(());
-    };
-    let Some(name) = role.symbol else {
-        return Ok(());
-    };
-    out.push(((table, name), op))?;
-    Ok(())
-}
-
-/// The definitions of a table of roles, in the order of the operations' ids.
-pub(crate) fn definitions(
-    alloc: Global,
-    roles: &BTreeMap<OpId, Role>,
-) -> Result<Vec<Definition>, AllocError>
-    ensures { IfOk result (λ v. v.items ≡ definitions (numbered roles.now.entries)) }
-{
-    let mut out = Vec::new(alloc);
-    for (op, role) in roles {
-        push_definition(*op, role, &mut out)?;
-    }
-    Ok(out)
-}
-
-/// The operation that a name is in a table: of several definitions the first one.
-pub(crate) fn first_defined(definitions: &[Definition], table: OpId, name: NameId) -> Option<OpId>
-    ensures { result ≡ symbols.first_defined eqb table name definitions.now }
-{
-    let mut rest = definitions;
-    while let [definition, more @ ..] = rest {
-        let ((home, symbol), op) = *definition;
-        if home == table && symbol == name {
-            return Some(op);
-        }
-        rest = more;
-    }
-    None
-}
 
 /// Whether an operation is a symbol table.
 fn is_table(roles: &BTreeMap<OpId, Role>, op: OpId) -> bool
@@ -70,7 +24,7 @@ fn is_table(roles: &BTreeMap<OpId, Role>, op: OpId) -> bool
 /// The operation that a name is in another.
 fn look_up(
     roles: &BTreeMap<OpId, Role>,
-    definitions: &[Definition],
+    definitions: &Definitions,
     op: OpId,
     name: NameId,
 ) -> Option<OpId>
@@ -79,13 +33,13 @@ fn look_up(
     if !is_table(roles, op) {
         return None;
     }
-    first_defined(definitions, op, name)
+    definitions.first(op, name)
 }
 
 /// The same in what there may be.
 fn look_in(
     roles: &BTreeMap<OpId, Role>,
-    definitions: &[Definition],
+    definitions: &Definitions,
     found: Option<OpId>,
     name: NameId,
 ) -> Option<OpId>
@@ -100,7 +54,7 @@ fn look_in(
 /// What the parts of a reference resolve to: the first in a table, each further one in the symbol before it.
 pub(crate) fn resolve(
     roles: &BTreeMap<OpId, Role>,
-    definitions: &[Definition],
+    definitions: &Definitions,
     table: Option<OpId>,
     parts: &[NameId],
 ) -> Option<OpId>

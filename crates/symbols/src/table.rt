@@ -83,10 +83,7 @@ fn ids_of(alloc: Global, world: &World) -> Result<Vec<OpId>, AllocError>
 }
 
 /// The roles of the operations of a module.
-pub(crate) fn tabulate(
-    alloc: Global,
-    world: &World,
-) -> Result<BTreeMap<OpId, Role>, AllocError>
+pub(crate) fn tabulate(alloc: Global, world: &World) -> Result<BTreeMap<OpId, Role>, AllocError>
     ensures { IfOk result (λ roles. Keeps world.now.ctx (module_in world.now).tree (kept_at roles)) }
 {
     let ops = ids_of(alloc, world)?;
