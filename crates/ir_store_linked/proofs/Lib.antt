@@ -13,6 +13,7 @@ mod Spotted
 mod Steps
 mod Idle
 mod Unused
+mod Tally
 mod Used
 mod Whole
 mod Valued

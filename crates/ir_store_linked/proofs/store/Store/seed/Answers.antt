@@ -47,7 +47,7 @@ invariant_of-result c =
     let same : (y : ℕ) → (y ≡ k → ⊥) → row_at rows' y ≡ row_at q.rows y = λ y ne. ap (λ z. row_at z y) er ∙ other_row c.grow_slot.new.rows.items k c.live_row.result y ne in
     let own : row_at rows' k ≡ record v { live = true } = ap (λ z. row_at z k) er ∙ own_row c.grow_slot.new.rows.items k c.live_row.result inside ∙ c.live_row.ensures in
     let id : x ≡ (head c.args.header.now).id = ap (λ z. (head z).id) c.header.view_is in
-    let bare_head : v.head.operands ≡ [] = emptied_operands v x c.args.header.now grown.is c.requires in
+    let bare_head : v.head.operands ≡ [] = emptied_operands v x c.args.header.now grown.is c.requires.bare in
     ((seed q wide c.laws.ensures.few c.laws-2.ensures.few x c.args.header.now k v grown keys ek bare_head rows' long' same own, seed_spells q wide c.laws.ensures.few c.laws-2.ensures.few x c.args.header.now k v grown keys ek bare_head rows' long' same own), ((finmap.empty, seed_holds q wide c.laws.ensures.few c.laws-2.ensures.few x c.args.header.now k v grown keys ek bare_head rows' long' same own), ((finmap.insert finmap.empty x none_gone, seed_gone q wide c.laws.ensures.few c.laws-2.ensures.few x c.args.header.now k v grown keys ek bare_head rows' long' same own), tt)))
 
 pub invariant_of-result-2 : goal.invariant_of-result-2
@@ -69,9 +69,9 @@ invariant_of-result-2 c =
     let same : (y : ℕ) → (y ≡ k → ⊥) → row_at rows' y ≡ row_at q.rows y = λ y ne. ap (λ z. row_at z y) er ∙ other_row c.grow_slot.new.rows.items k c.live_row.result y ne in
     let own : row_at rows' k ≡ record v { live = true } = ap (λ z. row_at z k) er ∙ own_row c.grow_slot.new.rows.items k c.live_row.result inside ∙ c.live_row.ensures in
     let id : x ≡ (head c.args.header.now).id = ap (λ z. (head z).id) c.header.view_is in
-    let bare_head : v.head.operands ≡ [] = emptied_operands v x c.args.header.now grown.is c.requires in
+    let bare_head : v.head.operands ≡ [] = emptied_operands v x c.args.header.now grown.is c.requires.bare in
     let w = spelled_is rows' q.sibs.lists k c.result-1.given.0 (seed q wide c.laws.ensures.few c.laws-2.ensures.few x c.args.header.now k v grown keys ek bare_head rows' long' same own) (seed_spells q wide c.laws.ensures.few c.laws-2.ensures.few x c.args.header.now k v grown keys ek bare_head rows' long' same own) in
-    seed_fits q wide c.laws.ensures.few c.laws-2.ensures.few x c.args.header.now k v grown keys ek bare_head rows' long' same own c.result-1.given.0 w
+    seed_fits q wide c.laws.ensures.few c.laws-2.ensures.few x c.args.header.now k v grown keys ek bare_head rows' long' same own c.args.next (subst (λ z. z < c.args.next) (sym id) c.requires.below) c.result-1.given.0 w
 
 pub returns : goal.returns
 returns c =
@@ -92,7 +92,7 @@ returns c =
     let same : (y : ℕ) → (y ≡ k → ⊥) → row_at rows' y ≡ row_at q.rows y = λ y ne. ap (λ z. row_at z y) er ∙ other_row c.grow_slot.new.rows.items k c.live_row.result y ne in
     let own : row_at rows' k ≡ record v { live = true } = ap (λ z. row_at z k) er ∙ own_row c.grow_slot.new.rows.items k c.live_row.result inside ∙ c.live_row.ensures in
     let id : x ≡ (head c.args.header.now).id = ap (λ z. (head z).id) c.header.view_is in
-    let bare_head : v.head.operands ≡ [] = emptied_operands v x c.args.header.now grown.is c.requires in
+    let bare_head : v.head.operands ≡ [] = emptied_operands v x c.args.header.now grown.is c.requires.bare in
     let w = spelled_is rows' q.sibs.lists k c.result-1.given.0 (seed q wide c.laws.ensures.few c.laws-2.ensures.few x c.args.header.now k v grown keys ek bare_head rows' long' same own) (seed_spells q wide c.laws.ensures.few c.laws-2.ensures.few x c.args.header.now k v grown keys ek bare_head rows' long' same own) ∙ seed_is q wide c.laws.ensures.few c.laws-2.ensures.few x c.args.header.now k v grown keys ek bare_head rows' long' same own id in
     let h = map_is (λ y. held_in rows' (keys y)) c.result-1.given.1.0 finmap.empty (seed_holds q wide c.laws.ensures.few c.laws-2.ensures.few x c.args.header.now k v grown keys ek bare_head rows' long' same own) in
     let g = map_is (λ y. gone_in rows' (keys y)) c.result-1.given.1.1.0 (finmap.insert finmap.empty x none_gone) (seed_gone q wide c.laws.ensures.few c.laws-2.ensures.few x c.args.header.now k v grown keys ek bare_head rows' long' same own) ∙ ap (λ z. finmap.insert finmap.empty z none_gone) id in
