@@ -1,7 +1,10 @@
 -- A store's slots grow.
-use Rattle.std.proofs.Common.{◌≡◌, ℕ, ◌<◌, List, refl, sym, ap, ◌∙◌, subst, length, ⊎_elim, Option, Some, None}
+use Rattle.std.proofs.Common.{◌≡◌, ℕ, ◌<◌, List, eqb, cond, refl, sym, ap, ◌∙◌, subst, length, ⊎_elim, Option, Some, None}
 use Rattle.std.specs.FinMap as finmap
-use Rattle.std.proofs.lemmas.Bool.{cases_Bool}
+use Rattle.std.specs.Ordering.{nat_cmp}
+use Rattle.std.specs.Cmp.{nat_cmp_total}
+use Rattle.std.proofs.lemmas.Bool.{cases_Bool, cases_eq, eq-eqb, ne_eqb}
+use Rattle.ir_store_linked.proofs.Taking.{eq_nat}
 use Rattle.chains.specs.Lists.{Laws, free}
 use Rattle.ir_tree.specs.Tree.{Op}
 use Rattle.ir_tree.specs.Ids.{HasDistinctIds, find, first_of, op_count}
@@ -20,6 +23,12 @@ use Rattle.ir_store_linked.proofs.Whole.{Whole}
 use Rattle.ir_store_linked.proofs.Wide.{Keyed, keyed_of, wide_spells, wide_right, wide_holds, wide_gone, wide_index, wide_bound}
 use Rattle.ir_store_linked.proofs.Tally.{wide_below, wide_owned, fill_below, fill_owned}
 use Rattle.ir_store_linked.proofs.Fill.{fill_spells, fill_right, fill_holds, fill_gone, fill_index}
+
+-- an id is given a slot
+pub key_put : (m m' : finmap.FinMap nat_cmp ℕ) (x y k : ℕ) → y ≡ x → m' ≡ finmap.insert m y k → (z : ℕ) → finmap.get m' z ≡ cond (eqb x z) (Some k) (finmap.get m z)
+key_put m m' x y k ey e z =
+    ap (λ l. finmap.get l z) (e ∙ ap (λ w. finmap.insert m w k) ey) ∙ finmap.get-insert nat_cmp_total m x k z
+    ∙ ap (λ b. cond b (Some k) (finmap.get m z)) (eq_nat z x ∙ ⊎_elim (λ f. eq-eqb z x f ∙ sym (eq-eqb x z (sym f))) (λ n. ne_eqb z x n ∙ sym (ne_eqb x z (λ f. n (sym f)))) (cases_eq z x))
 
 abbrev pub parts : Inside → Parts
 parts a = parts_of a.rows.items a.sibs a.uses a.cells.items

@@ -25,6 +25,7 @@ mod Runs
 mod Blocks
 mod Grown
 mod Growing
+mod Forgetting
 mod Seed
 mod Loaded
 mod Loading

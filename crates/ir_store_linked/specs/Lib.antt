@@ -13,3 +13,5 @@ pub mod Reasoned
 pub mod Using
 pub mod Grows
 pub mod Loads
+pub mod Releases
+pub mod Puts

@@ -8,6 +8,7 @@ mod find;
 mod grow;
 mod load;
 pub mod node;
+mod release;
 pub mod row;
 mod spot;
 mod stand;

@@ -1,6 +1,6 @@
 //! The module under edits.
 ghost use Rattle.std.specs.Prelude.{◌≡◌, ℕ, eqb, Some, None, MatchResult, MatchBool, option_map, IfOk, false, true, ◌<◌, OnOk, OnErr, []};
-ghost use Rattle.std.specs.BTreeMap as sorted;
+ghost use Rattle.std.specs.FinMap as finmap;
 ghost use Rattle.std.specs.Ordering.{nat_cmp};
 ghost use Rattle.ir_tree.specs.Ids.{has_id, op_count};
 ghost use Rattle.ir_tree.specs.Tree.{head};
@@ -27,6 +27,7 @@ use crate::uses::{
     value_head,
 };
 use chains::Chains;
+use id_table::IdTable;
 use ir_tree::place::Place;
 use ir_tree::tree::TreeOp;
 use ir_tree::value::Value;
@@ -34,7 +35,6 @@ use ir_types::ids::{OpId, TypeId};
 use ir_types::refusal::Refusal;
 use order::Ordered;
 use std::alloc::{AllocError, Global};
-use std::collections::BTreeMap;
 use std::marker::Model;
 
 /// A module under edits: its operations in slots, linked in lists.
@@ -52,13 +52,13 @@ pub struct Store {
     /// How many operations the module has.
     pub(crate) count: u64,
     ghost spelled: { Spelled (rows_of rows.items) sibs.lists root } by { Spelled-prop (rows_of rows.items) sibs.lists root },
-    ghost holds: { HoldsOf (rows_of rows.items) (sorted.get nat_cmp keys) } by { HoldsOf-prop (rows_of rows.items) (sorted.get nat_cmp keys) },
-    ghost lacks: { GoneOf (rows_of rows.items) (sorted.get nat_cmp keys) } by { GoneOf-prop (rows_of rows.items) (sorted.get nat_cmp keys) },
+    ghost holds: { HoldsOf (rows_of rows.items) (finmap.get keys) } by { HoldsOf-prop (rows_of rows.items) (finmap.get keys) },
+    ghost lacks: { GoneOf (rows_of rows.items) (finmap.get keys) } by { GoneOf-prop (rows_of rows.items) (finmap.get keys) },
 }
 
 impl Model for Store {
     ghost use Rattle.std.specs.Prelude.{eqb};
-    ghost use Rattle.std.specs.BTreeMap as sorted;
+    ghost use Rattle.std.specs.FinMap as finmap;
     ghost use Rattle.std.specs.Ordering.{nat_cmp};
     ghost use Rattle.ir_store_linked.specs.Stored.{Stored, stored_code};
     ghost use Rattle.ir_store_linked.specs.Rows.{rows_of};
@@ -70,7 +70,7 @@ impl Model for Store {
 
     ghost view = { λ s. record { module_of = record { tree = s.spelled.0; next = s.next }; held = s.holds.0; gone = s.lacks.0 } };
 
-    ghost invariant = { λ s. Fits (rows_of s.rows.items) (sorted.get nat_cmp s.keys) s.sibs s.root s.spelled.0 s.uses.homes (cells_of s.cells.items) s.count s.next };
+    ghost invariant = { λ s. Fits (rows_of s.rows.items) (finmap.get s.keys) s.sibs s.root s.spelled.0 s.uses.homes (cells_of s.cells.items) s.count s.next };
 }
 
 impl Store {
@@ -240,8 +240,8 @@ impl Store {
             Err(e) => return Err(e),
         };
         match self.keys.insert(op.number(), key) {
-            Ok(_) => {}
-            Err(e) => return Err(AllocError::from(e)),
+            Ok(()) => {}
+            Err(e) => return Err(e),
         }
         put_row(&mut self.rows, key, row);
         Ok(())
@@ -265,14 +265,17 @@ impl Store {
             Ok(grown) => grown,
             Err(e) => return Err(e),
         };
-        let mut keys = BTreeMap::new(alloc);
-        match keys.insert(header.id.number(), root) {
-            Ok(_) => {}
-            Err(e) => return Err(AllocError::from(e)),
-        }
-        put_row(&mut rows, root, live_row(row));
         sibs.laws();
         uses.laws();
+        let mut keys = match IdTable::new(alloc, 0) {
+            Ok(keys) => keys,
+            Err(e) => return Err(e),
+        };
+        match keys.insert(header.id.number(), root) {
+            Ok(()) => {}
+            Err(e) => return Err(e),
+        }
+        put_row(&mut rows, root, live_row(row));
         Ok(Store {
             alloc,
             rows,
