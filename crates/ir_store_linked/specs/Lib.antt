@@ -15,3 +15,4 @@ pub mod Grows
 pub mod Loads
 pub mod Releases
 pub mod Puts
+pub mod Heading
