@@ -11,6 +11,7 @@ mod load;
 pub mod node;
 mod release;
 pub mod row;
+mod sight;
 mod spot;
 mod stand;
 pub mod store;
