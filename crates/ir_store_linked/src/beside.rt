@@ -1,7 +1,6 @@
 //! What stands beside an operation of the module.
 ghost use Rattle.std.specs.Prelude.{◌≡◌, option_map};
-ghost use Rattle.std.specs.BTreeMap as sorted;
-ghost use Rattle.std.specs.Ordering.{nat_cmp};
+ghost use Rattle.std.specs.FinMap as finmap;
 ghost use Rattle.chains.specs.Lists.{home_at, list_at};
 ghost use Rattle.order.specs.Labels.{goes_before};
 ghost use Rattle.ir_tree_laws.specs.Reads.{first_at, last_at, prev_of, is_before};
@@ -69,7 +68,7 @@ impl Store {
 
 /// The head of the list of the block of a region of an operation of the module, if it has one.
 fn find_block(rows: &Vec<Row>, keys: &Keys, op: OpId, region: u32) -> Option<usize>
-    ensures { result ≡ block_in (rows_of rows.now.items) (live_slot (rows_of rows.now.items) (sorted.get nat_cmp keys.now)) op region }
+    ensures { result ≡ block_in (rows_of rows.now.items) (live_slot (rows_of rows.now.items) (finmap.get keys.now)) op region }
 {
     let key = find(rows, keys, op)?;
     let row = rows.get(key)?;
