@@ -2,7 +2,10 @@ mod Mapped
 mod Distinct
 mod Standing
 mod Listing
+mod After
+mod Siblings
 mod Climbing
+mod Preceding
 mod Founds
 mod Slots
 mod Cut

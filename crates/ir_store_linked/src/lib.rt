@@ -9,6 +9,7 @@ mod find;
 mod grow;
 mod load;
 pub mod node;
+mod preorder;
 pub mod row;
 mod sight;
 mod spot;
