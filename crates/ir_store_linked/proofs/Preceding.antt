@@ -1,11 +1,11 @@
 -- Which of two operations comes first in pre-order, by the operations around them.
-use Rattle.std.proofs.Common.{◌≡◌, refl, ap, sym, ◌∙◌, subst, ℕ, zero, suc, ◌+◌, ◌-◌, ◌<◌, ◌≤◌, Bool, true, false, true≢false, not, ◌||◌, eqb, eq-eqb, eqb-true, List, [], ◌∷◌, ◌++◌, length, Option, Some, None, option_map, inl, inr, ◌⊎◌, arith}
+use Rattle.std.proofs.Common.{◌≡◌, refl, ap, sym, ◌∙◌, subst, ℕ, zero, suc, ◌+◌, ◌-◌, ◌<◌, ◌≤◌, true, false, true≢false, not, ◌||◌, eqb, eq-eqb, List, [], ◌∷◌, ◌++◌, length, Option, Some, None, option_map, inl, inr, ◌⊎◌, arith}
 use Rattle.std.specs.Prelude.{nat_lt, option_and_then}
 use Rattle.std.specs.List.{IsDistinct}
 use Rattle.std.proofs.lemmas.Bool.{cases_eq, cases_lt, ne_eqb, lt-ltb, ltb-true}
 use Rattle.std.proofs.lemmas.Map.Keys.{IsDistinct-tail}
 use Rattle.ir_tree.specs.declared.place.Place.{Place}
-use Rattle.ir_tree.specs.Tree.{OpOf, RegionOf, empty, block, OpsOf, head, regions, ops_of, op_list, next}
+use Rattle.ir_tree.specs.Tree.{OpOf, RegionOf, empty, block, OpsOf, head, regions, ops_of, op_list}
 use Rattle.ir_tree.specs.Ids.{ids, regions_ids, HasDistinctIds, find}
 use Rattle.ir_tree.specs.Places.{place_of, first_id}
 use Rattle.ir_tree.proofs.Moves.{Absent}
@@ -20,8 +20,8 @@ use Rattle.ir_tree_laws.proofs.Around.{around_there, stand_present, present_stan
 use Rattle.ir_tree_laws.proofs.Neighbours.{list_there, parent_there}
 use Rattle.ir_tree_laws.proofs.Cuts.{preorder}
 use Rattle.ir_store_linked.specs.Lifted.{level, level_of, or_itself, lifted}
-use Rattle.ir_store_linked.proofs.After.{there, skip, hit, never_first, never_later, not_itself, same_first, same_later, same_within, first_before, none_before_first, past_first}
-use Rattle.ir_store_linked.proofs.Siblings.{own_present, own_ids, OfRegion, in_inner, by_region, by_list}
+use Rattle.ir_store_linked.proofs.After.{there, never_first, never_later, not_itself, same_first, same_later, same_within, first_before, none_before_first, past_first}
+use Rattle.ir_store_linked.proofs.Siblings.{own_present, own_ids, OfRegion, by_region, by_list}
 use Rattle.ir_store_linked.proofs.Climbing.{Placed, placed, level_there, level_up}
 
 module _ {N T A : Type 0} where

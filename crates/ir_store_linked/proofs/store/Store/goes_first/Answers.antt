@@ -1,4 +1,4 @@
-use Rattle.std.proofs.Common.{sym, ap, ◌∙◌, ◌<◌, subst, eqb-true}
+use Rattle.std.proofs.Common.{sym, ◌∙◌, ◌<◌, subst, eqb-true}
 use Rattle.ir_store_linked.specs.Lifted.{level_of}
 use Rattle.ir_store_linked.proofs.Climbing.{level_up, below_next}
 use Rattle.ir_store_linked.proofs.Preceding.{placeless_level, precedes_none, same_level_up, precedes_up, precedes_regions, precedes_list, differ}
