@@ -3,6 +3,10 @@ mod Distinct
 mod Standing
 mod Listing
 mod Climbing
+mod After
+mod Siblings
+mod Climbing
+mod Preceding
 mod Founds
 mod Slots
 mod Cut

@@ -1,9 +1,9 @@
 -- The operations beside an operation, by slots and in the tree.
 use Rattle.std.proofs.Common.{◌≡◌, ℕ, zero, suc, ◌<◌, List, [], ◌∷◌, ◌++◌, refl, sym, ap, ◌∙◌, subst, length, Bool, true, false, eqb, cond, ◌||◌, ⊎_elim, Option, Some, None, slice_get, arith}
 use Rattle.std.specs.Prelude.{option_map, option_and_then}
-use Rattle.std.proofs.lemmas.Bool.{cases_Bool, cases_eq, eq-eqb, ne_eqb, eqb-true, cond-false, cond-true, false≢true, or_left, or_right}
+use Rattle.std.proofs.lemmas.Bool.{cases_Bool, cases_eq, eq-eqb, ne_eqb, false≢true, or_left, or_right}
 use Rattle.std.proofs.lemmas.List.{get_or_past}
-use Rattle.chains.specs.Lists.{Lists, Laws, has, before, last_of, list_at, home_at, free, IsHead, IsItem}
+use Rattle.chains.specs.Lists.{Lists, Laws, has, before, last_of, list_at, home_at, free, IsHead}
 use Rattle.order.specs.Labels.{goes_before as slot_before}
 use Rattle.ir_tree.specs.declared.place.Place.{Place}
 use Rattle.ir_tree.specs.Tree.{Op, op, Regions, no_regions, region, empty, block, Ops, no_ops, next, head, regions, ops_of, op_list}

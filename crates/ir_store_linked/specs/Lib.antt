@@ -16,3 +16,5 @@ pub mod Loads
 pub mod Releases
 pub mod Puts
 pub mod Heading
+pub mod Heading
+pub mod Lifted

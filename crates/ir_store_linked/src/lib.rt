@@ -10,6 +10,7 @@ mod grow;
 mod load;
 pub mod node;
 mod release;
+mod preorder;
 pub mod row;
 mod sight;
 mod spot;

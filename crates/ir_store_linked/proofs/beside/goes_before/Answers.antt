@@ -1,6 +1,4 @@
-use Rattle.std.proofs.Common.{sym, ap, ◌∙◌}
-use Rattle.chains.specs.Lists.{list_at}
-use Rattle.order.specs.Labels.{goes_before}
+use Rattle.std.proofs.Common.{sym, ◌∙◌}
 use Rattle.ir_store_linked.proofs.Listing.{apart}
 use Rattle.ir_store_linked.proofs.beside.goes_before.Goals as goal
 
