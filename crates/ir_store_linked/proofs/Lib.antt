@@ -28,3 +28,6 @@ mod Seed
 mod Loaded
 mod Loading
 mod Copied
+mod Entering
+mod Dictionaries
+mod Changes

@@ -13,3 +13,4 @@ pub mod Reasoned
 pub mod Using
 pub mod Grows
 pub mod Loads
+pub mod Entered

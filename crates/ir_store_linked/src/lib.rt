@@ -4,6 +4,7 @@
 #![tactic(auto)]
 
 mod copy;
+mod entry;
 mod find;
 mod grow;
 mod load;
