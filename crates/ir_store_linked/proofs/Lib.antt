@@ -31,3 +31,5 @@ mod Copied
 mod Entering
 mod Dictionaries
 mod Changes
+mod Shifting
+mod Moved

@@ -14,3 +14,4 @@ pub mod Using
 pub mod Grows
 pub mod Loads
 pub mod Entered
+pub mod Shifting

@@ -10,6 +10,7 @@ mod grow;
 mod load;
 pub mod node;
 pub mod row;
+mod shift;
 mod spot;
 mod stand;
 pub mod store;
