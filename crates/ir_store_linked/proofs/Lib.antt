@@ -1,6 +1,7 @@
 mod Mapped
 mod Distinct
 mod Standing
+mod Listing
 mod Founds
 mod Slots
 mod Cut

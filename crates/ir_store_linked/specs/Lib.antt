@@ -15,3 +15,4 @@ pub mod Grows
 pub mod Loads
 pub mod Entered
 pub mod Shifting
+pub mod Heading

@@ -3,6 +3,7 @@
 //! that they use, so that a call takes a few steps however large the module is.
 #![tactic(auto)]
 
+mod beside;
 mod copy;
 mod entry;
 mod find;

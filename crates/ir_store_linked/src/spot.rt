@@ -26,7 +26,7 @@ pub(crate) fn find_held(rows: &Vec<Row>, keys: &Keys, op: OpId) -> Option<usize>
 }
 
 /// The head of the list of a region's block, if it has one.
-fn block_head(areas: &[Area], region: usize) -> Option<usize>
+pub(crate) fn block_head(areas: &[Area], region: usize) -> Option<usize>
     ensures { result ≡ option_and_then head_in (slice_get (map shape_of areas.now) region) }
 {
     match areas.get(region)? {
