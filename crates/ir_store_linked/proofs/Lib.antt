@@ -2,6 +2,7 @@ mod Mapped
 mod Distinct
 mod Standing
 mod Listing
+mod Climbing
 mod Founds
 mod Slots
 mod Cut

@@ -12,6 +12,7 @@ mod load;
 pub mod node;
 pub mod row;
 mod shift;
+mod sight;
 mod spot;
 mod stand;
 pub mod store;
