@@ -35,3 +35,4 @@ mod Dictionaries
 mod Changes
 mod Shifting
 mod Moved
+mod Rising
