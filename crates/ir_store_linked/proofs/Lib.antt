@@ -36,3 +36,9 @@ mod Seed
 mod Loaded
 mod Loading
 mod Copied
+mod Entering
+mod Dictionaries
+mod Changes
+mod Shifting
+mod Moved
+mod Rising

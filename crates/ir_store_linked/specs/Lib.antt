@@ -18,3 +18,6 @@ pub mod Puts
 pub mod Heading
 pub mod Heading
 pub mod Lifted
+pub mod Entered
+pub mod Shifting
+pub mod Heading

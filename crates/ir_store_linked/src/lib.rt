@@ -5,6 +5,7 @@
 
 mod beside;
 mod copy;
+mod entry;
 mod find;
 mod grow;
 mod load;
@@ -12,6 +13,7 @@ pub mod node;
 mod release;
 mod preorder;
 pub mod row;
+mod shift;
 mod sight;
 mod spot;
 mod stand;
