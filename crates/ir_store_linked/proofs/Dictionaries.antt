@@ -35,7 +35,7 @@ use Rattle.ir_store_linked.proofs.Distinct.{each_distinct}
 use Rattle.ir_store_linked.proofs.Slots.{Found, found, found_op, none_found, node_known, in_tree_is}
 use Rattle.ir_store_linked.proofs.Called.{rows_in, keys_in, stored, read_row, other_row, own_row}
 use Rattle.ir_store_linked.proofs.Whole.{Whole}
-use Rattle.ir_store_linked.proofs.Entering.{Inner, same_at, retold_spells, retold_right, retold_holds, retold_gone, retold_index}
+use Rattle.ir_store_linked.proofs.Entering.{Inner, same_at, retold_spells, retold_right, retold_holds, retold_gone, retold_index, retold_below, retold_owned, retold_counted}
 
 -- a dictionary isn't seen from outside
 pub inner_part : (part : Part) (f : List (ℕ × ℕ) → List (ℕ × ℕ)) → Inner (change_part part f)
@@ -166,13 +166,16 @@ module _ (a : Inside) (w : Whole a) (x : ℕ) (part : Part) (j : ℕ) where
           pub entry_given : Spelled (rows_of entered) a.sibs.lists a.root × (HoldsOf (rows_of entered) (keys_in a) × (GoneOf (rows_of entered) (keys_in a) × Unit {0}))
           entry_given = ((with_entry before x part j v a.spelled.0, spelt), ((a.holds.0, holds'), ((change_gone_of x lack (finmap.get a.lacks.0 x) a.lacks.0, lacks'), tt)))
 
-          pub entry_fits : (s : Spelled (rows_of entered) a.sibs.lists a.root) → Fits (rows_of entered) (keys_in a) a.sibs a.root s.0 a.uses.homes (cells_of a.cells.items)
-          entry_fits s = subst (λ z. Fits (rows_of entered) (keys_in a) a.sibs a.root z a.uses.homes (cells_of a.cells.items)) (sym (spelled_is (rows_of entered) a.sibs.lists a.root s (with_entry before x part j v a.spelled.0) spelt))
+          pub entry_fits : (s : Spelled (rows_of entered) a.sibs.lists a.root) → Fits (rows_of entered) (keys_in a) a.sibs a.root s.0 a.uses.homes (cells_of a.cells.items) a.count a.next
+          entry_fits s = subst (λ z. Fits (rows_of entered) (keys_in a) a.sibs a.root z a.uses.homes (cells_of a.cells.items) a.count a.next) (sym (spelled_is (rows_of entered) a.sibs.lists a.root s (with_entry before x part j v a.spelled.0) spelt))
               (record {
                 right = retold_right (rows_in a) (keys_in a) a.sibs a.root a.spelled.0 w.right a.spelled.1 x k here edit lack (inner_part part (change_entry before j v)) (rows_of entered) longs (other_row a.rows.items k m) own;
                 few = w.few;
                 index = retold_index (rows_in a) (keys_in a) a.sibs a.root a.spelled.0 w.right a.spelled.1 x k here edit lack (inner_part part (change_entry before j v)) (rows_of entered) longs (other_row a.rows.items k m) own a.uses.homes (cells_of a.cells.items) w.index;
                 distinct = each_distinct (at x edit) (same_at x edit (inner_part part (change_entry before j v))) a.spelled.0 w.distinct;
+                counted = w.counted ∙ retold_counted (rows_in a) (keys_in a) a.sibs a.root a.spelled.0 w.right a.spelled.1 x k here edit lack (inner_part part (change_entry before j v)) (rows_of entered) longs (other_row a.rows.items k m) own;
+                below = retold_below (rows_in a) (keys_in a) a.sibs a.root a.spelled.0 w.right a.spelled.1 x k here edit lack (inner_part part (change_entry before j v)) (rows_of entered) longs (other_row a.rows.items k m) own a.next w.below;
+                owned = retold_owned (rows_in a) (keys_in a) a.sibs a.root a.spelled.0 w.right a.spelled.1 x k here edit lack (inner_part part (change_entry before j v)) (rows_of entered) longs (other_row a.rows.items k m) own w.owned;
               })
 
           pub entry_done : (s : Spelled (rows_of entered) a.sibs.lists a.root) (h : HoldsOf (rows_of entered) (keys_in a)) (g : GoneOf (rows_of entered) (keys_in a))
@@ -213,9 +216,9 @@ module _ (a : Inside) (w : Whole a) (x : ℕ) (part : Part) (j : ℕ) where
           same_spelt : SpellsOp (rows_of rewritten) a.sibs.lists a.root a.spelled.0
           same_spelt = subst (λ z. SpellsOp z a.sibs.lists a.root a.spelled.0) (sym same_rows) a.spelled.1
 
-          pub same_fits : (s : Spelled (rows_of rewritten) a.sibs.lists a.root) → Fits (rows_of rewritten) (keys_in a) a.sibs a.root s.0 a.uses.homes (cells_of a.cells.items)
-          same_fits s = subst (λ z. Fits (rows_of rewritten) (keys_in a) a.sibs a.root z a.uses.homes (cells_of a.cells.items)) (sym (spelled_is (rows_of rewritten) a.sibs.lists a.root s a.spelled.0 same_spelt))
-              (subst (λ z. Fits z (keys_in a) a.sibs a.root a.spelled.0 a.uses.homes (cells_of a.cells.items)) (sym same_rows) w)
+          pub same_fits : (s : Spelled (rows_of rewritten) a.sibs.lists a.root) → Fits (rows_of rewritten) (keys_in a) a.sibs a.root s.0 a.uses.homes (cells_of a.cells.items) a.count a.next
+          same_fits s = subst (λ z. Fits (rows_of rewritten) (keys_in a) a.sibs a.root z a.uses.homes (cells_of a.cells.items) a.count a.next) (sym (spelled_is (rows_of rewritten) a.sibs.lists a.root s a.spelled.0 same_spelt))
+              (subst (λ z. Fits z (keys_in a) a.sibs a.root a.spelled.0 a.uses.homes (cells_of a.cells.items) a.count a.next) (sym same_rows) w)
 
           pub same_done : (s : Spelled (rows_of rewritten) a.sibs.lists a.root) (h : HoldsOf (rows_of rewritten) (keys_in a)) (g : GoneOf (rows_of rewritten) (keys_in a))
               → ◌≡◌ {A = Stored} (record { module_of = record { tree = s.0; next = a.next }; held = h.0; gone = g.0 }) (stored a)
@@ -230,5 +233,5 @@ module _ (a : Inside) (w : Whole a) (x : ℕ) (part : Part) (j : ℕ) where
           pub either_given : Spelled (rows_of (set a.rows.items k m)) a.sibs.lists a.root × (HoldsOf (rows_of (set a.rows.items k m)) (keys_in a) × (GoneOf (rows_of (set a.rows.items k m)) (keys_in a) × Unit {0}))
           either_given = ⊎_elim (λ e. entry_given m e) (λ e. same_given m e) em
 
-          pub either_fits : (s : Spelled (rows_of (set a.rows.items k m)) a.sibs.lists a.root) → Fits (rows_of (set a.rows.items k m)) (keys_in a) a.sibs a.root s.0 a.uses.homes (cells_of a.cells.items)
+          pub either_fits : (s : Spelled (rows_of (set a.rows.items k m)) a.sibs.lists a.root) → Fits (rows_of (set a.rows.items k m)) (keys_in a) a.sibs a.root s.0 a.uses.homes (cells_of a.cells.items) a.count a.next
           either_fits s = ⊎_elim (λ e. entry_fits m e s) (λ e. same_fits m e s) em

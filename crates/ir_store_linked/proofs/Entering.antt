@@ -1,19 +1,22 @@
 -- What an edit of one operation's dictionaries makes of the slots.
-use Rattle.std.proofs.Common.{◌≡◌, ℕ, List, refl, sym, ap, ◌∙◌, subst, length, cond, true, eqb, ⊎_elim, Option, Some, None, slice_get}
+use Rattle.std.proofs.Common.{◌≡◌, ℕ, ◌<◌, List, refl, sym, ap, ◌∙◌, subst, length, cond, true, eqb, ⊎_elim, Option, Some, None, slice_get}
 use Rattle.std.specs.FinMap as finmap
 use Rattle.std.specs.Ordering.{nat_cmp}
 use Rattle.std.specs.Cmp.{nat_cmp_total}
 use Rattle.std.proofs.lemmas.Bool.{cases_eq, eq-eqb, ne_eqb, cond-true, cond-false, cond_both}
 use Rattle.chains.specs.Lists.{Lists}
 use Rattle.ir_tree.specs.Tree.{Head, Op}
-use Rattle.ir_tree.specs.Ids.{has_id}
+use Rattle.ir_tree.specs.Frames.{owner_of}
+use Rattle.ir_tree.specs.Ids.{has_id, op_count}
 use Rattle.ir_tree.specs.Edits.{each_head, at}
 use Rattle.ir_store_linked.specs.Stored.{Gone}
 use Rattle.ir_store_linked.specs.Calls.{change_gone_of}
 use Rattle.ir_store_linked.specs.Rows.{Row, row_at, held_in, gone_in}
 use Rattle.ir_store_linked.specs.Spells.{SpellsOp}
 use Rattle.ir_store_linked.specs.Right.{Live, Used, Right}
-use Rattle.ir_store_linked.specs.Index.{Index, lives}
+use Rattle.ir_store_linked.specs.Index.{Index, HasIdsBelow, HasOwners, lives}
+use Rattle.ir_store_linked.proofs.Distinct.{each_ids}
+use Rattle.ir_store_linked.proofs.Tally.{live_stays}
 use Rattle.ir_store_linked.proofs.Mapped.{map_spells}
 use Rattle.ir_store_linked.proofs.Founds.{has_is}
 use Rattle.ir_store_linked.proofs.Slots.{Found, only}
@@ -136,3 +139,14 @@ module _ (rows : List Row) (keys : ℕ → Option ℕ) (sibs : Lists) (root : �
       (λ q i w e. (w, sym (ap (λ z. slice_get z i) (operands_are q)) ∙ e))
       (λ q i w u e o. ap (λ z. slice_get z i) (operands_are q) ∙ e)
       (λ q i w u e. live_is q)
+
+  pub retold_below : (n : ℕ) → HasIdsBelow n rows → HasIdsBelow n rows'
+  retold_below n b q l = subst (λ z. z < n) (sym (id_is q)) (b q (was q l))
+
+  pub retold_owned : HasOwners rows keys → HasOwners rows' keys
+  retold_owned h q i w l e =
+      live_stays rows rows' keys keys (owner_of w).0 (λ p g lp. (g, record { live = live_is p ∙ lp.live }))
+      (h q i w (was q l) (sym (ap (λ z. slice_get z i) (operands_are q)) ∙ e))
+
+  pub retold_counted : op_count t ≡ op_count (each_head (at x f) t)
+  retold_counted = ap length (sym (each_ids (at x f) (same_at x f inner) t))

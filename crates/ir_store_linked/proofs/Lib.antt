@@ -5,7 +5,6 @@ mod Listing
 mod Climbing
 mod After
 mod Siblings
-mod Climbing
 mod Preceding
 mod Founds
 mod Slots

@@ -22,7 +22,7 @@ use Rattle.ir_store_linked.proofs.Spotted.{spotted}
 use Rattle.ir_store_linked.proofs.Valued.{place_is}
 use Rattle.ir_store_linked.proofs.Called.{rows_in, keys_in, stored}
 use Rattle.ir_store_linked.proofs.Whole.{Whole}
-use Rattle.ir_store_linked.proofs.Shifting.{shift_item, shift_free, shift_head, shift_before, shift_spells, shift_ids, shift_right}
+use Rattle.ir_store_linked.proofs.Shifting.{shift_item, shift_free, shift_head, shift_before, shift_spells, shift_ids, shift_right, shift_counted}
 
 module _ (a : Inside) (w : Whole a) (laws : Laws a.sibs.lists a.sibs.homes) (x : ℕ) (place : Place) (can : CanRelink x place a.spelled.0) where
   pub move_found : (is_some (live_slot (rows_in a) (keys_in a) x) && is_some (spot_in (rows_in a) (keys_in a) a.sibs.homes place)) ≡ false → ⊥
@@ -67,13 +67,16 @@ module _ (a : Inside) (w : Whole a) (laws : Laws a.sibs.lists a.sibs.homes) (x :
         pub move_given : Spelled (rows_in a) sibs'.lists a.root × (HoldsOf (rows_in a) (keys_in a) × (GoneOf (rows_in a) (keys_in a) × Unit {0}))
         move_given = ((shifted x place a.spelled.0, spelt), (a.holds, (a.lacks, tt)))
 
-        pub move_fits : (s : Spelled (rows_in a) sibs'.lists a.root) → Fits (rows_in a) (keys_in a) sibs' a.root s.0 a.uses.homes (cells_of a.cells.items)
-        move_fits s = subst (λ z. Fits (rows_in a) (keys_in a) sibs' a.root z a.uses.homes (cells_of a.cells.items)) (sym (spelled_is (rows_in a) sibs'.lists a.root s (shifted x place a.spelled.0) spelt))
+        pub move_fits : (s : Spelled (rows_in a) sibs'.lists a.root) → Fits (rows_in a) (keys_in a) sibs' a.root s.0 a.uses.homes (cells_of a.cells.items) a.count a.next
+        move_fits s = subst (λ z. Fits (rows_in a) (keys_in a) sibs' a.root z a.uses.homes (cells_of a.cells.items) a.count a.next) (sym (spelled_is (rows_in a) sibs'.lists a.root s (shifted x place a.spelled.0) spelt))
             (record {
               right = shift_right (rows_in a) (keys_in a) a.sibs a.root a.spelled.0 w.right a.spelled.1 w.distinct x k here place c at at_spot.1.1 can mid el1 eh1 laws1 sibs' el' eh';
               few = w.few;
               index = w.index;
               distinct = shift_ids (rows_in a) (keys_in a) a.sibs a.root a.spelled.0 w.right a.spelled.1 w.distinct x k here place c at at_spot.1.1 can mid el1 eh1 laws1 sibs' el' eh';
+              counted = w.counted ∙ shift_counted (rows_in a) (keys_in a) a.sibs a.root a.spelled.0 w.right a.spelled.1 w.distinct x k here place c at at_spot.1.1 can mid el1 eh1 laws1 sibs' el' eh';
+              below = w.below;
+              owned = w.owned;
             })
 
         pub move_done : (s : Spelled (rows_in a) sibs'.lists a.root) (m : HoldsOf (rows_in a) (keys_in a)) (g : GoneOf (rows_in a) (keys_in a))

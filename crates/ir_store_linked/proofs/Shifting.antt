@@ -8,14 +8,14 @@ use Rattle.chains.specs.Lists.{Lists, Laws, list_at, home_at, free, has, IsHead,
 use Rattle.chains.proofs.Cuts.{list_at-map}
 use Rattle.ir_tree.specs.declared.place.Place.{Place}
 use Rattle.ir_tree.specs.Tree.{Op, op, Regions, no_regions, region, Region, empty, block, Ops, no_ops, next, head}
-use Rattle.ir_tree.specs.Ids.{HasDistinctIds, has_id, find, ids, regions_ids}
+use Rattle.ir_tree.specs.Ids.{HasDistinctIds, has_id, find, ids, op_count, regions_ids}
 use Rattle.ir_tree.specs.Places.{put, put_here, put_in, is_in_block, without, shifted}
 use Rattle.ir_tree.proofs.Moves.{Absent, regions_untouched}
 use Rattle.ir_tree.proofs.Returns.{absent_first}
 use Rattle.ir_tree_laws.specs.Reads.{is_within}
 use Rattle.ir_tree_laws.specs.Reasons.{leads_inside, before_within}
-use Rattle.ir_tree_laws.proofs.Shift.{own_distinct, is_put, shift_distinct, shift_found}
-use Rattle.ir_tree_laws.proofs.Edited.{taken_order}
+use Rattle.ir_tree_laws.proofs.Shift.{own_distinct, is_put, may_shift, shift_distinct, shift_found}
+use Rattle.ir_tree_laws.proofs.Edited.{taken_order, taken_op_count, put_op_count}
 use Rattle.ir_store_linked.specs.Rows.{Row, Shape, row_at}
 use Rattle.ir_store_linked.specs.Spells.{SpellsOp, SpellsRegions, SpellsRegion, SpellsOps}
 use Rattle.ir_store_linked.specs.Spots.{joined, StandsIn}
@@ -234,6 +234,9 @@ module _ (rows : List Row) (keys : ℕ → Option ℕ) (sibs : Lists) (root : �
 
       pub shift_ids : HasDistinctIds (shifted x place t)
       shift_ids = subst HasDistinctIds (sym shifted_is) (shift_distinct x place t o d own.1.0 can.inner can.spot outside)
+
+      pub shift_counted : op_count t ≡ op_count (shifted x place t)
+      shift_counted = taken_op_count x t o d own.1.0 can.inner ∙ sym (put_op_count place o (without x t) (may_shift x place t o d own.1.0 can.inner can.spot outside)) ∙ ap op_count (sym shifted_is)
 
       -- what was in the tree is in it
       stays : (y : ℕ) → has_id y t ≡ true → has_id y (shifted x place t) ≡ true

@@ -16,8 +16,6 @@ pub mod Loads
 pub mod Releases
 pub mod Puts
 pub mod Heading
-pub mod Heading
 pub mod Lifted
 pub mod Entered
 pub mod Shifting
-pub mod Heading

@@ -1,6 +1,6 @@
 //! Entries of dictionaries, set and taken out.
 ghost use Rattle.std.specs.Prelude.{◌≡◌, ℕ, true, None, OnOk, OnErr, IfSome, MatchResult, Some, is_some};
-ghost use Rattle.std.specs.BTreeMap as sorted;
+ghost use Rattle.std.specs.FinMap as finmap;
 ghost use Rattle.std.specs.Ordering.{nat_cmp};
 ghost use Rattle.ir_types.specs.Reasons.{IsRefusedFor};
 ghost use Rattle.ir_types.specs.Things.{IsName, IsAttr};
@@ -174,7 +174,7 @@ fn find_entry(
     key: NameId,
     value: &Option<AttrId>,
 ) -> Result<usize, Refusal>
-    ensures { result ≡ entry_in (rows_of rows.now.items) (key_before_in ctx.now) part key value.now (live_slot (rows_of rows.now.items) (sorted.get nat_cmp keys.now) op) }
+    ensures { result ≡ entry_in (rows_of rows.now.items) (key_before_in ctx.now) part key value.now (live_slot (rows_of rows.now.items) (finmap.get keys.now) op) }
 {
     let Some(at) = find(rows, keys, op) else {
         return Err(Refusal::NoSuchOp);

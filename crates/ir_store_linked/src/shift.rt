@@ -1,6 +1,6 @@
 //! Operations, with what stands in them, moved to other places.
 ghost use Rattle.std.specs.Prelude.{◌≡◌, eqb, length, MatchOption, Some, is_some, ◌&&◌, true, false};
-ghost use Rattle.std.specs.BTreeMap as sorted;
+ghost use Rattle.std.specs.FinMap as finmap;
 ghost use Rattle.std.specs.Ordering.{nat_cmp};
 ghost use Rattle.ir_tree.specs.Tree.{head};
 ghost use Rattle.ir_tree.specs.Ids.{find as the_first, has_id};
@@ -115,8 +115,8 @@ fn find_move(
     place: Place,
 ) -> Option<(usize, usize, Option<usize>)>
     requires { length rows.now.items ≡ length sibs.now.homes }
-    ensures { MatchOption result ((is_some (live_slot (rows_of rows.now.items) (sorted.get nat_cmp keys.now) op) && is_some (spot_in (rows_of rows.now.items) (sorted.get nat_cmp keys.now) sibs.now.homes place)) ≡ false)
-        (λ p. (Some p.0 ≡ live_slot (rows_of rows.now.items) (sorted.get nat_cmp keys.now) op) × (Some (p.1, p.2) ≡ spot_in (rows_of rows.now.items) (sorted.get nat_cmp keys.now) sibs.now.homes place)) }
+    ensures { MatchOption result ((is_some (live_slot (rows_of rows.now.items) (finmap.get keys.now) op) && is_some (spot_in (rows_of rows.now.items) (finmap.get keys.now) sibs.now.homes place)) ≡ false)
+        (λ p. (Some p.0 ≡ live_slot (rows_of rows.now.items) (finmap.get keys.now) op) × (Some (p.1, p.2) ≡ spot_in (rows_of rows.now.items) (finmap.get keys.now) sibs.now.homes place)) }
 {
     let key = find(rows, keys, op)?;
     let (head, before) = find_spot(rows, keys, sibs, place)?;

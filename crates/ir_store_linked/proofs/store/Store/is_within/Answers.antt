@@ -1,7 +1,8 @@
 use Rattle.std.proofs.Common.{sym, ◌∙◌, ◌<◌, subst, ap}
 use Rattle.ir_tree.specs.Ids.{find}
 use Rattle.ir_tree_laws.specs.Reads.{is_within}
-use Rattle.ir_store_linked.proofs.Climbing.{level_of, level_up, below_next}
+use Rattle.ir_store_linked.specs.Lifted.{level_of}
+use Rattle.ir_store_linked.proofs.Climbing.{level_up, below_next}
 use Rattle.ir_store_linked.proofs.Rising.{differs, agrees, within_at_none, within_at_up, within_at_own}
 use Rattle.ir_store_linked.proofs.store.Store.is_within.Goals as goal
 

@@ -1,7 +1,7 @@
 use Rattle.std.proofs.Common.{◌≡◌}
 use Rattle.ir_tree.specs.Ids.{find}
 use Rattle.ir_tree_laws.specs.Reads.{is_within}
-use Rattle.ir_store_linked.proofs.Climbing.{level_of}
+use Rattle.ir_store_linked.specs.Lifted.{level_of}
 use Rattle.ir_store_linked.proofs.store.Store.is_within.Given as goal
 
 abbrev pub invariant-around : goal.invariant-around
