@@ -36,3 +36,4 @@ mod Changes
 mod Shifting
 mod Moved
 mod Rising
+mod Tabled
