@@ -41,3 +41,4 @@ mod Changes
 mod Shifting
 mod Moved
 mod Rising
+mod Tabled

@@ -76,7 +76,7 @@ module _ {N T A : Type 0} (t : OpOf N T A) (d : HasDistinctIds t) (x : ℕ) wher
 
   -- the same, where it is known that the operation is there
   module _ (there : has_id x t ≡ true) where
-    the_op : (o : OpOf N T A) × (find x t ≡ Some o)
+    pub the_op : (o : OpOf N T A) × (find x t ≡ Some o)
     the_op = let w = present_stand [] t x there in (w.0.here, ap (λ z. find z t) (sym w.2) ∙ stand_found t d w.0 w.1)
 
     pub within_at_own : is_within x (find x t) ≡ true

@@ -1,10 +1,11 @@
 -- What shifting an operation needs, and where it goes in the slots.
-use Rattle.std.specs.Prelude.{◌≡◌, ℕ, eqb, true, false, not, ◌&&◌, Option, None}
+use Rattle.std.specs.Prelude.{◌≡◌, ℕ, eqb, true, false, not, ◌&&◌, Bool, if◌then◌else◌, Option, Some, None, option_map, option_and_then}
 use Rattle.ir_types.specs.declared.refusal.Refusal.{Refusal}
 use Rattle.ir_types.specs.declared.refusal.Refusal.TheVariants.{NoSuchOp, NoSuchIndex, IsRoot, IntoItself}
 use Rattle.ir_tree.specs.declared.place.Place.{Place}
-use Rattle.ir_tree.specs.Tree.{Op, OpOf, head}
+use Rattle.ir_tree.specs.Tree.{Op, OpOf, HeadOf, head}
 use Rattle.ir_tree.specs.Ids.{find, has_id}
+use Rattle.ir_tree_laws.specs.Tables.{table_of}
 use Rattle.ir_tree_laws.specs.Reasons.{unless, has_place, leads_inside}
 
 -- operation x is there and not the root, and the place is there and not within it
@@ -22,3 +23,11 @@ relink_reason x place t =
     (unless (not (eqb (head t).id x)) IsRoot
     (unless (has_place place t) NoSuchIndex
     (unless (not (leads_inside place (find x t))) IntoItself None)))
+
+-- the nearest operation, from one with a head up, whose name passes a test, where `near` is the nearest around it
+abbrev pub near_table : {N T A : Type 0} → (N → Bool) → Option (Option ℕ) → Option (HeadOf N T A) → Option ℕ
+near_table is_table near h = option_and_then (λ h. if is_table h.name then Some h.id else option_and_then (λ z. z) near) h
+
+-- from operation x up
+abbrev pub table_at : {N T A : Type 0} → (N → Bool) → ℕ → OpOf N T A → Option ℕ
+table_at is_table x t = near_table is_table (table_of is_table x t) (option_map head (find x t))

@@ -2,14 +2,18 @@
 ghost use Rattle.std.specs.Prelude.{◌≡◌, eqb, length, MatchOption, Some, is_some, ◌&&◌, true, false};
 ghost use Rattle.std.specs.FinMap as finmap;
 ghost use Rattle.std.specs.Ordering.{nat_cmp};
-ghost use Rattle.ir_tree.specs.Tree.{head};
+ghost use Rattle.ir_types.specs.Terms.{name_term};
+ghost use Rattle.ir_types.specs.Words.{is_table};
+ghost use Rattle.ir_tree.specs.Tree.{Op, head};
+ghost use Rattle.ir_tree.specs.Places.{shifted};
+ghost use Rattle.ir_tree_laws.specs.Tables.{table_of};
 ghost use Rattle.ir_tree.specs.Ids.{find as the_first, has_id};
 ghost use Rattle.ir_tree_laws.specs.Reads.{is_within};
-ghost use Rattle.ir_tree_laws.specs.Reasons.{has_place, leads_inside};
+ghost use Rattle.ir_tree_laws.specs.Reasons.{has_place, leads_inside, same_table};
 ghost use Rattle.ir_store_linked.specs.Calls.{after_shift};
 ghost use Rattle.ir_store_linked.specs.Rows.{rows_of, live_slot};
 ghost use Rattle.ir_store_linked.specs.Spots.{spot_in};
-ghost use Rattle.ir_store_linked.specs.Shifting.{CanRelink, relink_reason};
+ghost use Rattle.ir_store_linked.specs.Shifting.{CanRelink, relink_reason, table_at};
 
 use crate::find::{Keys, find};
 use crate::row::Row;
@@ -17,6 +21,7 @@ use crate::spot::{find_spot, link};
 use crate::store::Store;
 use crate::uses::id_at;
 use ir_tree::place::Place;
+use ir_types::context::Context;
 use ir_types::ids::OpId;
 use ir_types::refusal::Refusal;
 use order::Ordered;
@@ -103,6 +108,46 @@ impl Store {
             at = place.parent;
         }
         true
+    }
+}
+
+impl Store {
+    /// Whether an operation that may be moved to a place has the same nearest table there.
+    fn keeps_table(&self, ctx: &Context, op: OpId, place: &Place) -> bool
+        requires { CanRelink op place.now self.now.module_of.tree }
+        ensures { result ≡ same_table (table_of (λ n. is_table (name_term ctx.now n)) op self.now.module_of.tree) (table_of (λ n. is_table (name_term ctx.now n)) op (shifted op place.now self.now.module_of.tree)) }
+    {
+        self.distinct();
+        let Some(old) = self.place(op) else {
+            return false;
+        };
+        self.table_from(ctx, old.parent) == self.table_from(ctx, place.parent)
+    }
+
+    /// The nearest table, from an operation of the module up.
+    fn table_from(&self, ctx: &Context, op: OpId) -> Option<OpId>
+        requires { has_id op self.now.module_of.tree ≡ true }
+        ensures { result ≡ table_at (λ n. is_table (name_term ctx.now n)) op self.now.module_of.tree }
+    {
+        self.distinct();
+        let mut at = op;
+        'around: while !self.is_table(ctx, at) {
+            let Some(place) = self.place(at) else {
+                return None;
+            };
+            at = place.parent;
+        }
+        Some(at)
+    }
+
+    /// Whether an operation of the module has a symbol table.
+    fn is_table(&self, ctx: &Context, op: OpId) -> bool
+        ensures { (o : Op) → the_first op self.now.module_of.tree ≡ Some o → result ≡ is_table (name_term ctx.now (head o).name) }
+    {
+        match self.node(op) {
+            None => false,
+            Some(node) => ctx.table(node.name()),
+        }
     }
 }
 
