@@ -1,7 +1,8 @@
 use Rattle.std.proofs.Common.{refl, sym, ◌∙◌, ◌<◌, subst, ap}
 use Rattle.ir_types.specs.Terms.{name_term}
 use Rattle.ir_types.specs.Words.{is_table}
-use Rattle.ir_store_linked.proofs.Climbing.{level_of, level_up, parent_found, below_next}
+use Rattle.ir_store_linked.specs.Lifted.{level_of}
+use Rattle.ir_store_linked.proofs.Climbing.{level_up, parent_found, below_next}
 use Rattle.ir_store_linked.proofs.Rising.{the_op}
 use Rattle.ir_store_linked.proofs.Tabled.{found_there, table_own, table_next, table_none}
 use Rattle.ir_store_linked.proofs.store.Store.table_from.Goals as goal

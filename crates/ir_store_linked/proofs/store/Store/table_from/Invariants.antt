@@ -3,7 +3,7 @@ use Rattle.ir_types.specs.Terms.{name_term}
 use Rattle.ir_types.specs.Words.{is_table}
 use Rattle.ir_tree.specs.Ids.{has_id}
 use Rattle.ir_store_linked.specs.Shifting.{table_at}
-use Rattle.ir_store_linked.proofs.Climbing.{level_of}
+use Rattle.ir_store_linked.specs.Lifted.{level_of}
 use Rattle.ir_store_linked.proofs.store.Store.table_from.Given as goal
 
 abbrev pub invariant-around : goal.invariant-around
