@@ -32,3 +32,5 @@ mod Seed
 mod Loaded
 mod Loading
 mod Copied
+mod Fresh
+mod Putting

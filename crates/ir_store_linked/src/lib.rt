@@ -9,6 +9,7 @@ mod find;
 mod grow;
 mod load;
 pub mod node;
+mod put;
 mod release;
 pub mod row;
 mod sight;
