@@ -1,6 +1,5 @@
 -- The same, as a function's calls tell it.
 use Rattle.std.proofs.Common.{◌≡◌, ℕ, ◌<◌, List, map, set, get_or, sym, ap, ◌∙◌, subst, length, false, Option, Some, None, arith}
-use Rattle.std.specs.Ordering.{nat_cmp}
 use Rattle.std.specs.FinMap as finmap
 use Rattle.std.proofs.lemmas.List.{get_or-map, get_or-set_same, get_or-set_other, length-set, map-set, length-map}
 use Rattle.chains.specs.Lists.{Lists, free, without as drop_node, IsItem}

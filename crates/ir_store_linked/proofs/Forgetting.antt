@@ -1,10 +1,10 @@
 -- What giving up a held operation makes of the slots.
-use Rattle.std.proofs.Common.{◌≡◌, ℕ, ◌+◌, ◌<◌, List, set, get_or, refl, sym, ap, ◌∙◌, subst, length, Bool, true, false, eqb, cond, ⊎_elim, arith, Option, Some, None, slice_get}
+use Rattle.std.proofs.Common.{◌≡◌, ℕ, ◌+◌, ◌<◌, List, set, get_or, refl, sym, ap, ◌∙◌, subst, length, false, eqb, cond, ⊎_elim, arith, Option, Some, None, slice_get}
 use Rattle.std.specs.Prelude.{option_and_then, if◌then◌else◌}
 use Rattle.std.specs.Ordering.{nat_cmp}
 use Rattle.std.specs.Cmp.{nat_cmp_total}
 use Rattle.std.specs.FinMap as finmap
-use Rattle.std.proofs.lemmas.Bool.{cases_eq, eq-eqb, ne_eqb, cond-true, cond-false, cases_Bool, false≢true}
+use Rattle.std.proofs.lemmas.Bool.{cases_eq, eq-eqb, ne_eqb, cond-true, cond-false, false≢true}
 use Rattle.std.proofs.lemmas.List.{length-set, length-map}
 use Rattle.chains.specs.Lists.{Lists, home_at}
 use Rattle.ir_tree.specs.declared.value.Value.{Value}
@@ -12,15 +12,15 @@ use Rattle.ir_tree.specs.declared.value.Value.TheVariants.{Result, Arg}
 use Rattle.ir_tree.specs.Frames.{owner_of}
 use Rattle.ir_tree.specs.Tree.{Head, Op}
 use Rattle.ir_tree.specs.Ids.{has_id, op_count, HasDistinctIds}
-use Rattle.std.specs.Prelude.{nat_lt, is_some}
+use Rattle.std.specs.Prelude.{nat_lt}
 use Rattle.ir_store_linked.specs.declared.row.Row.{Row as Kept}
 use Rattle.ir_store_linked.specs.declared.store.Store.TheInside.{Inside}
 use Rattle.ir_store_linked.specs.Stored.{Stored, Gone}
 use Rattle.ir_store_linked.specs.Releases.{after_forget}
-use Rattle.ir_store_linked.specs.Rows.{Row, Shape, row_at, row_of, rows_of, held_in, held_slot, if_held, gone_in, bare}
+use Rattle.ir_store_linked.specs.Rows.{Row, Shape, row_at, row_of, rows_of, held_in, held_slot, gone_in, bare}
 use Rattle.ir_store_linked.specs.Spells.{SpellsOp, Spelled, spelled_is}
 use Rattle.ir_store_linked.specs.Holds.{HoldsOf, GoneOf, map_is}
-use Rattle.ir_store_linked.specs.Right.{Live, Used, HoldsId, Right}
+use Rattle.ir_store_linked.specs.Right.{Live, Used, Right}
 use Rattle.ir_store_linked.specs.Index.{operand_at, cell_at, LinkedTo, argument_head, slot_head, value_head, Index, Fits, lives, HasOwners, HasIdsBelow, cells_of}
 use Rattle.ir_store_linked.proofs.Called.{rows_in, keys_in, stored, read_row, other_row, own_row}
 use Rattle.ir_store_linked.proofs.Joining.{FoundHeld}

@@ -42,3 +42,5 @@ mod Shifting
 mod Moved
 mod Rising
 mod Tabled
+mod Fresh
+mod Putting

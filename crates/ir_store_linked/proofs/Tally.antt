@@ -9,17 +9,16 @@ use Rattle.ir_tree.specs.declared.value.Value.{Value}
 use Rattle.ir_tree.specs.declared.place.Place.{Place}
 use Rattle.ir_tree.specs.Frames.{owner_of}
 use Rattle.ir_tree.specs.Tree.{Op, op, head}
-use Rattle.ir_tree.specs.Ids.{HasDistinctIds, ids, has_id, op_count, find}
+use Rattle.ir_tree.specs.Ids.{HasDistinctIds, ids, has_id, op_count}
 use Rattle.ir_tree.specs.Places.{put, without}
 use Rattle.ir_tree_laws.specs.Reasons.{has_place, leaves, unused}
-use Rattle.ir_tree_laws.specs.Restores.{MayPut}
 use Rattle.ir_tree_laws.proofs.Formed.{no_more}
 use Rattle.ir_tree_laws.proofs.Edited.{put_op_count, taken_op_count}
 use Rattle.ir_store_linked.specs.Rows.{Row, row_at, if_live, live_slot, bare, row_with_operand}
 use Rattle.ir_store_linked.specs.Spells.{SpellsOp}
-use Rattle.ir_store_linked.specs.Right.{Live, Used, Right}
+use Rattle.ir_store_linked.specs.Right.{Live, Right}
 use Rattle.ir_store_linked.specs.Index.{operand_at, value_head, slot_head, HasOwners, HasIdsBelow}
-use Rattle.ir_store_linked.specs.Grows.{Parts, Spare, Wider, Ready}
+use Rattle.ir_store_linked.specs.Grows.{Parts, Wider, Ready}
 use Rattle.ir_store_linked.proofs.Cut.{bare_is, has_cut}
 use Rattle.ir_store_linked.proofs.Founds.{has_is}
 use Rattle.ir_store_linked.proofs.Distinct.{bare_own, bare_count, bare_apart}

@@ -10,6 +10,7 @@ mod find;
 mod grow;
 mod load;
 pub mod node;
+mod put;
 mod release;
 mod preorder;
 pub mod row;

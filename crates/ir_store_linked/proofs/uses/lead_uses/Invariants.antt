@@ -1,6 +1,5 @@
 use Rattle.std.specs.Prelude.{◌≡◌, length}
 use Rattle.std.specs.FinMap as finmap
-use Rattle.std.specs.Ordering.{nat_cmp}
 use Rattle.ir_store_linked.specs.Rows.{rows_of}
 use Rattle.ir_store_linked.specs.Index.{CanLead, all_led, value_head}
 use Rattle.ir_store_linked.proofs.uses.lead_uses.Given as goal

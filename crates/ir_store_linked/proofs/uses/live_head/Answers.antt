@@ -1,7 +1,6 @@
 use Rattle.std.proofs.Common.{◌∙◌, sym, ap, arith, ◌<◌, length}
 use Rattle.std.specs.Prelude.{option_and_then}
 use Rattle.std.specs.FinMap as finmap
-use Rattle.std.specs.Ordering.{nat_cmp}
 use Rattle.chains.specs.Lists.{free}
 use Rattle.ir_store_linked.specs.Rows.{rows_of, live_slot}
 use Rattle.ir_store_linked.specs.Index.{slot_head}

@@ -1,10 +1,6 @@
-use Rattle.std.proofs.Common.{◌≡◌, ℕ, ◌∙◌, sym, ap, subst, cond, eqb, Option, None}
-use Rattle.std.specs.Cmp.{nat_cmp_total}
+use Rattle.std.proofs.Common.{◌∙◌, ap}
 use Rattle.std.specs.FinMap as finmap
-use Rattle.std.proofs.lemmas.Bool.{eq-eqb, ne_eqb, cond-true, cond-false}
-use Rattle.std.specs.Prelude.{is_some, true}
 use Rattle.ir_store_linked.specs.Releases.{after_forget}
-use Rattle.ir_store_linked.proofs.Called.{keys_in}
 use Rattle.ir_store_linked.proofs.Forgetting.{key_gone, key_left, forget_given, forget_fits, forget_done}
 use Rattle.ir_store_linked.proofs.store.Store.forget.Goals as goal
 

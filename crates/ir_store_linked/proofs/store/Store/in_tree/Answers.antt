@@ -1,7 +1,6 @@
 use Rattle.std.proofs.Common.{◌∙◌, ap}
 use Rattle.std.specs.Prelude.{is_some}
 use Rattle.std.specs.FinMap as finmap
-use Rattle.std.specs.Ordering.{nat_cmp}
 use Rattle.ir_tree.specs.Ids.{has_id}
 use Rattle.ir_store_linked.specs.Rows.{rows_of}
 use Rattle.ir_store_linked.proofs.Slots.{in_tree_is}
