@@ -37,3 +37,4 @@ mod Shifting
 mod Moved
 mod Rising
 mod Tabled
+mod Sighted
