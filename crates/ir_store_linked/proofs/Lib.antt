@@ -44,3 +44,4 @@ mod Rising
 mod Tabled
 mod Fresh
 mod Putting
+mod Sighted
