@@ -1,12 +1,12 @@
 -- Loops that look for a key.
-use Rattle.std.proofs.Common.{◌≡◌, ℕ, ◌+◌, ◌<◌, ◌≤◌, List, [], ◌∷◌, ◌++◌, set, refl, sym, ap, ◌∙◌, length, Bool, true, false, eqb, ◌||◌, arith, append_assoc}
+use Rattle.std.proofs.Common.{◌≡◌, ℕ, ◌+◌, ◌<◌, ◌≤◌, List, [], ◌∷◌, ◌++◌, set, Some, refl, sym, ap, ◌∙◌, length, Bool, true, false, eqb, ◌||◌, arith, append_assoc}
 use Rattle.std.proofs.lemmas.Bool.{cond-true, cond-false}
 use Rattle.std.proofs.lemmas.List.{length_push, map-append}
 use Rattle.std.specs.List.{insert, remove}
-use Rattle.ir_tree.specs.Edits.{put_entry, drop_entry, same_key}
+use Rattle.ir_tree.specs.Edits.{put_entry, drop_entry, entry_at, same_key}
 use Rattle.ir_tree.specs.Meaning.{rises}
 use Rattle.entries.specs.Slots.{has_key, is_gone, keep_gone, keys}
-use Rattle.entries.proofs.Orders.{Order, apart, apart', same_is, none_after, rises_rest}
+use Rattle.entries.proofs.Orders.{Order, apart, apart', none_after, rises_rest}
 use Rattle.entries.proofs.Splits.{Cut, cut_insert, cut_set, cut_remove, cut_long}
 
 abbrev cut_step : {X : Type 0} (at : ℕ) (e : X) (tail all : List X) → Cut at (e ∷ tail) all → Cut (at + 1) tail all
@@ -72,17 +72,17 @@ module _ (before : ℕ → ℕ → Bool) (o : Order before) (k at : ℕ) (all : 
 pub record Sought (before : ℕ → ℕ → Bool) (k at : ℕ) (rest all : List (ℕ × ℕ)) : Type 0 where
   pub cut : Cut at rest all
   pub left : drop_entry before k all ≡ cut.front ++ drop_entry before k rest
-  pub absent : has_key k rest ≡ false → has_key k all ≡ false
+  pub value : entry_at before k all ≡ entry_at before k rest
 
 pub sought_start : (before : ℕ → ℕ → Bool) (k : ℕ) (all : List (ℕ × ℕ)) → Sought before k 0 all all
-sought_start before k all = record { cut = cut_start all; left = refl; absent = λ e. e }
+sought_start before k all = record { cut = cut_start all; left = refl; value = refl }
 
 module _ (before : ℕ → ℕ → Bool) (o : Order before) (k at : ℕ) (all : List (ℕ × ℕ)) where
   pub sought_step : (e : ℕ × ℕ) (tail : List (ℕ × ℕ)) → same_key before k e.0 ≡ false → Sought before k at (e ∷ tail) all → Sought before k (at + 1) tail all
   sought_step e tail n s = record {
     cut = cut_step at e tail all s.cut;
     left = s.left ∙ ap (λ z. s.cut.front ++ z) (cond-false (same_key before k e.0) tail (e ∷ drop_entry before k tail) n) ∙ sym (append_assoc s.cut.front (e ∷ []) (drop_entry before k tail));
-    absent = λ z. s.absent (ap (λ b. b || has_key k tail) (same_is before o k e.0 n) ∙ z);
+    value = s.value ∙ cond-false (same_key before k e.0) (Some e.1) (entry_at before k tail) n;
   }
 
   pub sought_found : (e : ℕ × ℕ) (tail : List (ℕ × ℕ)) → same_key before k e.0 ≡ true → Sought before k at (e ∷ tail) all → (at < length all) × (drop_entry before k all ≡ remove all at)

@@ -1,9 +1,10 @@
 -- The order of the keys of a context, by their bytes.
-use Rattle.std.proofs.Common.{◌≡◌, ℕ, List, [], ◌∷◌, refl, sym, ap, ◌∙◌, Bool, true, false, eqb, ◌&&◌, ◌||◌, not}
-use Rattle.std.proofs.lemmas.Bool.{ne_eqb, false≢true}
+use Rattle.std.proofs.Common.{◌≡◌, ℕ, List, [], ◌∷◌, refl, sym, ap, ◌∙◌, Bool, true, false, eqb, ◌&&◌, ◌||◌, not, ⊎_elim, Some}
+use Rattle.std.specs.Prelude.{is_some}
+use Rattle.std.proofs.lemmas.Bool.{ne_eqb, false≢true, cases_Bool, cond-true, cond-false}
 use Rattle.ir_types.specs.Things.{Things}
 use Rattle.ir_types.specs.Terms.{name_term}
-use Rattle.ir_tree.specs.Edits.{same_key}
+use Rattle.ir_tree.specs.Edits.{entry_at, same_key}
 use Rattle.ir_tree.specs.Meaning.{key_before_in, rises, rises_after}
 use Rattle.ir_tree_laws.proofs.Keys.{keys_ordered, key_before_trans}
 use Rattle.entries.specs.Slots.{has_key}
@@ -31,6 +32,14 @@ module _ (before : ℕ → ℕ → Bool) (o : Order before) where
 
   pub same_is : (k l : ℕ) → same_key before k l ≡ false → eqb l k ≡ false
   same_is k l e = ne_eqb l k (λ z. false≢true (sym e ∙ ap (λ w. not (before k w) && not (before w k)) z ∙ ap (λ b. not b && not b) (o.irr k)))
+
+  -- a key that is there has an attribute
+  pub present_has : (k : ℕ) (es : List (ℕ × ℕ)) → has_key k es ≡ true → is_some (entry_at before k es) ≡ true
+  present_has k [] h = absurd (false≢true h)
+  present_has k (e ∷ es) h = ⊎_elim
+      (λ y. ap is_some (cond-true (same_key before k e.0) (Some e.1) (entry_at before k es) y))
+      (λ n. ap is_some (cond-false (same_key before k e.0) (Some e.1) (entry_at before k es) n) ∙ present_has k es (ap (λ b. b || has_key k es) (sym (same_is k e.0 n)) ∙ h))
+      (cases_Bool (same_key before k e.0))
 
   -- a key that comes before the first of a dictionary isn't in it
   pub none_after : (k l : ℕ) (es : List (ℕ × ℕ)) → before k l ≡ true → rises_after before l es ≡ true → has_key k es ≡ false

@@ -1,8 +1,9 @@
-ghost use Rattle.std.specs.Prelude.{◌≡◌, [], ◌||◌, true, IfOk, OnOk, OnErr, IsOk, Some, None};
+ghost use Rattle.std.specs.Prelude.{◌≡◌, [], ◌||◌, true, length, IfOk, OnOk, OnErr, IsOk, Some, None, is_some};
+ghost use Rattle.ir_tree.specs.Edits.{entry_at};
 ghost use Rattle.ir_tree.specs.Meaning.{key_before_in, rises};
 ghost use Rattle.entries.specs.Slots.{has_key, is_gone, has_slot, with_change};
 
-use crate::lookup::{contains, find_entry, find_spot, forget};
+use crate::lookup::{contains, find_entry, find_spot, forget, value_at};
 use ir_types::context::Context;
 use ir_types::ids::{AttrId, NameId};
 use std::alloc::{AllocError, Global};
@@ -58,6 +59,20 @@ impl Dictionary {
         present
     }
 
+    /// How many entries there are.
+    pub fn len(&self) -> usize
+        ensures { result ≡ length self.now.present }
+    {
+        self.as_slice().len()
+    }
+
+    /// The attribute at a key, if there is one.
+    pub fn get(&self, ctx: &Context, key: NameId) -> Option<AttrId>
+        ensures { result ≡ entry_at (key_before_in ctx.now) key self.now.present }
+    {
+        value_at(ctx, self.as_slice(), key)
+    }
+
     /// Whether a key is one of the dictionary.
     pub fn has_key(&self, key: NameId) -> bool
         ensures { result ≡ has_key key self.now.present }
@@ -99,7 +114,7 @@ impl Dictionary {
 
     /// Takes a key out. Its slot stands.
     pub fn take_out(&mut self, ctx: &Context, key: NameId)
-        requires { has_key key self.old.present ≡ true }
+        requires { is_some (entry_at (key_before_in ctx.now) key self.old.present) ≡ true }
         ensures { self.new ≡ with_change (key_before_in ctx.now) key None self.old }
     {
         let (present, _gone) = self.items.as_slice().split_at(self.len);

@@ -1,8 +1,8 @@
 //! Where a key stands among entries.
-ghost use Rattle.std.specs.Prelude.{◌≡◌, ℕ, ◌<◌, ◌≤◌, ◌+◌, ◌⊎◌, length, take, drop, true, false, slice_set, MatchOption, MatchResult};
+ghost use Rattle.std.specs.Prelude.{◌≡◌, ℕ, ◌<◌, ◌≤◌, ◌+◌, ◌⊎◌, length, take, drop, true, false, slice_set, None, MatchOption, MatchResult};
 ghost use Rattle.std.specs.List.{insert, remove};
 ghost use Rattle.std.specs.Vec.{vec_capacity, vec_len};
-ghost use Rattle.ir_tree.specs.Edits.{put_entry, drop_entry, same_key};
+ghost use Rattle.ir_tree.specs.Edits.{put_entry, drop_entry, entry_at, same_key};
 ghost use Rattle.ir_tree.specs.Meaning.{key_before_in, rises};
 ghost use Rattle.entries.specs.Slots.{has_key, is_gone, keep_gone, keys};
 
@@ -45,7 +45,7 @@ fn is_same(ctx: &Context, one: NameId, other: NameId) -> bool
 /// Where a key stands in a dictionary, if it does.
 pub(crate) fn find_entry(ctx: &Context, entries: &[(NameId, AttrId)], key: NameId) -> Option<usize>
     ensures { MatchOption result
-        (has_key key entries.now ≡ false)
+        (entry_at (key_before_in ctx.now) key entries.now ≡ None)
         (λ i. (i < length entries.now) × (drop_entry (key_before_in ctx.now) key entries.now ≡ remove entries.now i)) }
 {
     let mut at = 0;
@@ -55,6 +55,20 @@ pub(crate) fn find_entry(ctx: &Context, entries: &[(NameId, AttrId)], key: NameI
             return Some(at);
         }
         at += 1;
+        rest = tail;
+    }
+    None
+}
+
+/// The attribute at a key of a dictionary, if there is one.
+pub(crate) fn value_at(ctx: &Context, entries: &[(NameId, AttrId)], key: NameId) -> Option<AttrId>
+    ensures { result ≡ entry_at (key_before_in ctx.now) key entries.now }
+{
+    let mut rest = entries;
+    while let [entry, tail @ ..] = rest {
+        if is_same(ctx, key, entry.0) {
+            return Some(entry.1);
+        }
         rest = tail;
     }
     None

@@ -1,4 +1,4 @@
-ghost use Rattle.std.specs.Prelude.{◌≡◌, ℕ, ◌<◌, eqb, if◌then◌else◌, Some, None, IfOk, OnOk, OnErr, MatchResult};
+ghost use Rattle.std.specs.Prelude.{◌≡◌, ℕ, ◌<◌, ◌++◌, ◌∷◌, [], eqb, if◌then◌else◌, Some, None, IfOk, OnOk, OnErr, MatchResult};
 ghost use Rattle.std.specs.FinMap as map;
 ghost use Rattle.std.specs.BTreeMap as sorted;
 ghost use Rattle.std.specs.Ordering.{nat_cmp};
@@ -32,7 +32,8 @@ impl Model for IdTable {
 }
 
 impl IdTable {
-    /// No ids. Those below `bound` will be found in one step.
+    /// No ids. Those below `bound` will be found in one step, and so will each that is given a slot when all below
+    /// it are such ids.
     pub fn new(alloc: Global, bound: usize) -> Result<IdTable, AllocError>
         ensures { IfOk result (λ t. t ≡ map.empty) }
     {
@@ -66,6 +67,9 @@ impl IdTable {
             self.near[place] = slot;
             return Ok(());
         }
+        if place == self.near.len() {
+            return add(&mut self.near, slot);
+        }
         put(&mut self.far, id, slot)
     }
 
@@ -79,6 +83,16 @@ impl IdTable {
         } else {
             drop_id(&mut self.far, id);
         }
+    }
+}
+
+/// Gives the next id of a list a slot.
+fn add(near: &mut Vec<usize>, slot: usize) -> Result<(), AllocError>
+    ensures { MatchResult result (λ _. near.new.items ≡ near.old.items ++ slot ∷ []) (λ _. near.new.items ≡ near.old.items) }
+{
+    match near.push(slot) {
+        Ok(()) => Ok(()),
+        Err(_) => Err(AllocError),
     }
 }
 

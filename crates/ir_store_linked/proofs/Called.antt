@@ -1,7 +1,5 @@
 -- The same, as a function's calls tell it.
 use Rattle.std.proofs.Common.{◌≡◌, ℕ, ◌<◌, List, map, set, get_or, sym, ap, ◌∙◌, subst, length, false, Option, Some, None, arith}
-use Rattle.std.specs.BTreeMap as sorted
-use Rattle.std.specs.Ordering.{nat_cmp}
 use Rattle.std.specs.FinMap as finmap
 use Rattle.std.proofs.lemmas.List.{get_or-map, get_or-set_same, get_or-set_other, length-set, map-set, length-map}
 use Rattle.chains.specs.Lists.{Lists, free, without as drop_node, IsItem}
@@ -41,7 +39,7 @@ abbrev pub rows_in : Inside → List Row
 rows_in a = rows_of a.rows.items
 
 abbrev pub keys_in : Inside → ℕ → Option ℕ
-keys_in a = sorted.get nat_cmp a.keys
+keys_in a = finmap.get a.keys
 
 abbrev pub IsRight : Inside → Type 0
 IsRight a = Right (rows_in a) (keys_in a) a.sibs a.root a.spelled.0

@@ -1,10 +1,10 @@
 -- Ids stay distinct.
-use Rattle.std.proofs.Common.{◌≡◌, ℕ, List, [], ◌∷◌, ◌++◌, refl, sym, ap, ◌∙◌, subst, Bool, true, false, eqb, ◌||◌, ⊎_elim, Some, None}
+use Rattle.std.proofs.Common.{◌≡◌, ℕ, List, [], ◌∷◌, ◌++◌, refl, sym, ap, ◌∙◌, subst, length, Bool, true, false, eqb, ◌||◌, Some, None}
 use Rattle.std.specs.List.{list_any, IsDistinct}
-use Rattle.std.proofs.lemmas.Bool.{cases_Bool, false≢true, eqb-true}
+use Rattle.std.proofs.lemmas.Bool.{false≢true, eqb-true}
 use Rattle.ir_tree.specs.declared.place.Place.{Place}
 use Rattle.ir_tree.specs.Tree.{Head, Op, op, Regions, no_regions, region, Region, empty, block, Ops, no_ops, next}
-use Rattle.ir_tree.specs.Ids.{ids, regions_ids, region_ids, ops_ids, has_id, HasDistinctIds}
+use Rattle.ir_tree.specs.Ids.{ids, regions_ids, region_ids, ops_ids, has_id, HasDistinctIds, op_count}
 use Rattle.ir_tree.specs.Edits.{each_head, regions_each_head, region_each_head, ops_each_head}
 use Rattle.ir_tree.specs.Places.{put}
 use Rattle.ir_tree.proofs.Gained.{gained_distinct}
@@ -16,12 +16,15 @@ bare_ids [] = refl
 bare_ids (None ∷ xs) = bare_ids xs
 bare_ids (Some a ∷ xs) = bare_ids xs
 
+pub bare_count : (r : Row) → op_count (bare r) ≡ 1
+bare_count r = ap (λ z. length (r.head.id ∷ z)) (bare_ids r.shapes)
+
 pub bare_own : (r : Row) → HasDistinctIds (bare r)
 bare_own r = subst (λ z. IsDistinct eqb (r.head.id ∷ z)) (sym (bare_ids r.shapes)) (cons_distinct r.head.id [] refl nil_distinct)
 
--- an operation with nothing in it, put into a tree that doesn't have it
-pub bare_distinct : (place : Place) (r : Row) (t : Op) → HasDistinctIds t → has_id r.head.id t ≡ false → HasDistinctIds (put place (bare r) t)
-bare_distinct place r t d out = gained_distinct place (bare r) (bare_own r) t d apart
+-- an operation with nothing in it has no id of a tree that doesn't have it
+pub bare_apart : (r : Row) (t : Op) → has_id r.head.id t ≡ false → (y : ℕ) → has_id y (bare r) ≡ true → has_id y t ≡ false
+bare_apart r t out y e = only y (ap (λ z. list_any (λ w. eqb w y) (r.head.id ∷ z)) (sym (bare_ids r.shapes)) ∙ e)
   where
     only : (y : ℕ) → list_any (λ z. eqb z y) (r.head.id ∷ []) ≡ true → has_id y t ≡ false
     only y e = go (eqb r.head.id y) refl e
@@ -30,8 +33,9 @@ bare_distinct place r t d out = gained_distinct place (bare r) (bare_own r) t d 
         go true f g = ap (λ z. has_id z t) (sym (eqb-true r.head.id y f)) ∙ out
         go false f g = absurd (false≢true g)
 
-    apart : (y : ℕ) → has_id y (bare r) ≡ true → has_id y t ≡ false
-    apart y e = only y (ap (λ z. list_any (λ w. eqb w y) (r.head.id ∷ z)) (sym (bare_ids r.shapes)) ∙ e)
+-- and is put into it
+pub bare_distinct : (place : Place) (r : Row) (t : Op) → HasDistinctIds t → has_id r.head.id t ≡ false → HasDistinctIds (put place (bare r) t)
+bare_distinct place r t d out = gained_distinct place (bare r) (bare_own r) t d (bare_apart r t out)
 
 -- heads that keep their ids
 module _ (f : Head → Head) (same : (h : Head) → (f h).id ≡ h.id) where

@@ -1,10 +1,13 @@
 -- A store's slots grow.
-use Rattle.std.proofs.Common.{◌≡◌, ℕ, ◌<◌, List, refl, sym, ap, ◌∙◌, subst, length, ⊎_elim, Option, Some, None}
+use Rattle.std.proofs.Common.{◌≡◌, ℕ, ◌<◌, List, eqb, cond, refl, sym, ap, ◌∙◌, subst, length, ⊎_elim, Option, Some, None}
 use Rattle.std.specs.FinMap as finmap
-use Rattle.std.proofs.lemmas.Bool.{cases_Bool}
+use Rattle.std.specs.Ordering.{nat_cmp}
+use Rattle.std.specs.Cmp.{nat_cmp_total}
+use Rattle.std.proofs.lemmas.Bool.{cases_Bool, cases_eq, eq-eqb, ne_eqb}
+use Rattle.ir_store_linked.proofs.Taking.{eq_nat}
 use Rattle.chains.specs.Lists.{Laws, free}
 use Rattle.ir_tree.specs.Tree.{Op}
-use Rattle.ir_tree.specs.Ids.{HasDistinctIds, find, first_of}
+use Rattle.ir_tree.specs.Ids.{HasDistinctIds, find, first_of, op_count}
 use Rattle.ir_store_linked.specs.declared.store.Store.TheInside.{Inside}
 use Rattle.ir_store_linked.specs.Stored.{Stored, known}
 use Rattle.ir_store_linked.specs.Emptied.{after_grow}
@@ -12,13 +15,20 @@ use Rattle.ir_store_linked.specs.Rows.{Row, row_at, held_in, gone_in, if_live, b
 use Rattle.ir_store_linked.specs.Spells.{SpellsOp, Spelled, spelled_is}
 use Rattle.ir_store_linked.specs.Holds.{HoldsOf, GoneOf, map_is}
 use Rattle.ir_store_linked.specs.Right.{Right}
-use Rattle.ir_store_linked.specs.Index.{Index, Fits, lives}
+use Rattle.ir_store_linked.specs.Index.{Index, Fits, lives, HasOwners}
 use Rattle.ir_store_linked.specs.Grows.{Parts, parts_of, IsEven, Wider, Ready, Grown}
 use Rattle.ir_store_linked.proofs.Slots.{found, found_op}
 use Rattle.ir_store_linked.proofs.Called.{rows_in, keys_in, stored}
 use Rattle.ir_store_linked.proofs.Whole.{Whole}
 use Rattle.ir_store_linked.proofs.Wide.{Keyed, keyed_of, wide_spells, wide_right, wide_holds, wide_gone, wide_index, wide_bound}
+use Rattle.ir_store_linked.proofs.Tally.{wide_below, wide_owned, fill_below, fill_owned}
 use Rattle.ir_store_linked.proofs.Fill.{fill_spells, fill_right, fill_holds, fill_gone, fill_index}
+
+-- an id is given a slot
+pub key_put : (m m' : finmap.FinMap nat_cmp ℕ) (x y k : ℕ) → y ≡ x → m' ≡ finmap.insert m y k → (z : ℕ) → finmap.get m' z ≡ cond (eqb x z) (Some k) (finmap.get m z)
+key_put m m' x y k ey e z =
+    ap (λ l. finmap.get l z) (e ∙ ap (λ w. finmap.insert m w k) ey) ∙ finmap.get-insert nat_cmp_total m x k z
+    ∙ ap (λ b. cond b (Some k) (finmap.get m z)) (eq_nat z x ∙ ⊎_elim (λ f. eq-eqb z x f ∙ sym (eq-eqb x z (sym f))) (λ n. ne_eqb z x n ∙ sym (ne_eqb x z (λ f. n (sym f)))) (cases_eq z x))
 
 abbrev pub parts : Inside → Parts
 parts a = parts_of a.rows.items a.sibs a.uses a.cells.items
@@ -76,12 +86,15 @@ module _ (a : Inside) (w : Whole a) where
       pub wide_given : Spelled q.rows q.sibs.lists a.root × (HoldsOf q.rows keys × (GoneOf q.rows keys × Unit {0}))
       wide_given = ((a.spelled.0, spells), ((a.holds.0, holds), ((a.lacks.0, gone), tt)))
 
-      pub wide_fits : (s : Spelled q.rows q.sibs.lists a.root) → Fits q.rows keys q.sibs a.root s.0 q.homes q.cells
+      pub wide_fits : (s : Spelled q.rows q.sibs.lists a.root) → Fits q.rows keys q.sibs a.root s.0 q.homes q.cells a.count a.next
       wide_fits s = record {
         right = subst (Right q.rows keys q.sibs a.root) (sym (spelled_is q.rows q.sibs.lists a.root s a.spelled.0 spells)) (subst (λ z. Right q.rows z q.sibs a.root a.spelled.0) (sym all_keys) right);
         few = uses_few;
         index = subst (λ z. Index q.rows z q.homes q.cells (lives q.rows)) (sym all_keys) index;
         distinct = subst HasDistinctIds (sym (spelled_is q.rows q.sibs.lists a.root s a.spelled.0 spells)) w.distinct;
+        counted = w.counted ∙ ap op_count (sym (spelled_is q.rows q.sibs.lists a.root s a.spelled.0 spells));
+        below = wide_below (parts a) q wide (keys_in a) a.next w.below;
+        owned = subst (HasOwners q.rows) (sym all_keys) (wide_owned (parts a) q wide (keys_in a) w.owned);
       }
 
       pub wide_done : (s : Spelled q.rows q.sibs.lists a.root) (h : HoldsOf q.rows keys) (g : GoneOf q.rows keys) → ◌≡◌ {A = Stored} (record { module_of = record { tree = s.0; next = a.next }; held = h.0; gone = g.0 }) (stored a)
@@ -112,7 +125,7 @@ module _ (a : Inside) (w : Whole a) where
       pub grow_given : Spelled rows' q.sibs.lists a.root × (HoldsOf rows' keys × (GoneOf rows' keys × Unit {0}))
       grow_given = ((a.spelled.0, spells'), ((finmap.insert a.holds.0 x (bare v), holds'), ((finmap.insert a.lacks.0 x v.gone, gone'), tt)))
 
-      pub grow_fits : (s : Spelled rows' q.sibs.lists a.root) → Fits rows' keys q.sibs a.root s.0 q.homes q.cells
+      pub grow_fits : (s : Spelled rows' q.sibs.lists a.root) → Fits rows' keys q.sibs a.root s.0 q.homes q.cells a.count a.next
       grow_fits s = record {
         right = subst (Right rows' keys q.sibs a.root) (sym (spelled_is rows' q.sibs.lists a.root s a.spelled.0 spells'))
             (fill_right q wide.even few (keys_in a) (length (parts a).homes) k x v ready a.root a.spelled.0 right rows' long' same own keys here others);
@@ -120,6 +133,9 @@ module _ (a : Inside) (w : Whole a) where
         index = fill_index q wide.even few (keys_in a) (length (parts a).homes) k x v ready (keyed_of q.rows (keys_in a) q.sibs a.root a.spelled.0 right) rows' long' same own keys here others
             (wide_bound (parts a) q wide (keys_in a) keyed w.index) index;
         distinct = subst HasDistinctIds (sym (spelled_is rows' q.sibs.lists a.root s a.spelled.0 spells')) w.distinct;
+        counted = w.counted ∙ ap op_count (sym (spelled_is rows' q.sibs.lists a.root s a.spelled.0 spells'));
+        below = fill_below q (keys_in a) (length (parts a).homes) k x v ready rows' same own keys others a.next (wide_below (parts a) q wide (keys_in a) a.next w.below);
+        owned = fill_owned q (keys_in a) (length (parts a).homes) k x v ready rows' same own keys others (wide_owned (parts a) q wide (keys_in a) w.owned);
       }
 
       pub grow_done : (s : Spelled rows' q.sibs.lists a.root) (h : HoldsOf rows' keys) (g : GoneOf rows' keys) → ◌≡◌ {A = Stored} (record { module_of = record { tree = s.0; next = a.next }; held = h.0; gone = g.0 }) (after_grow x o (stored a))

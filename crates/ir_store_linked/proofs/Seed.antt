@@ -6,8 +6,8 @@ use Rattle.std.specs.FinMap as finmap
 use Rattle.std.proofs.lemmas.Bool.{cases_eq, eq-eqb, ne_eqb, cond-true, cond-false, false≢true, or_left}
 use Rattle.std.proofs.lemmas.List.{length-set, get_or-set_same, get_or-set_other}
 use Rattle.chains.specs.Lists.{home_at, free}
-use Rattle.ir_store_linked.proofs.Distinct.{bare_own}
-use Rattle.ir_tree.specs.Ids.{HasDistinctIds, has_id}
+use Rattle.ir_store_linked.proofs.Distinct.{bare_own, bare_count}
+use Rattle.ir_tree.specs.Ids.{HasDistinctIds, has_id, op_count}
 use Rattle.ir_tree.specs.Tree.{Op, op, head}
 use Rattle.ir_tree_laws.specs.Reasons.{with_id}
 use Rattle.ir_store_linked.specs.Stored.{Gone, none_gone}
@@ -163,8 +163,19 @@ module _ (q : Parts) (wide : Wider nothing q) (few : length q.sibs.homes < free)
       (λ y n. same y n ∙ sym (held_same y n)) true (own ∙ ap {A = Row} {B = Row} (λ z. record z { live = true }) (sym held_own)) refl (ap (λ z. z.live) held_own ∙ ready.live)
       (λ i w e. (let z : None ≡ Some w = sym (ap (λ os. slice_get os i) no_operands) ∙ e in absurd cc)))
 
-  pub seed_fits : (s : (t : Op) × SpellsOp rows' q.sibs.lists k t) → s.0 ≡ seed → Fits rows' keys q.sibs k s.0 q.homes q.cells
-  seed_fits s e = record { right = subst (Right rows' keys q.sibs k) (sym e) seed_right; few = uses_few; index = seed_index; distinct = subst HasDistinctIds (sym e) (bare_own v) }
+  seed_row : (y : ℕ) → Live rows' y → row_at rows' y ≡ record v { live = true }
+  seed_row y l = ap (row_at rows') (only_live y l) ∙ own
+
+  pub seed_fits : (free_id : ℕ) → x < free_id → (s : (t : Op) × SpellsOp rows' q.sibs.lists k t) → s.0 ≡ seed → Fits rows' keys q.sibs k s.0 q.homes q.cells 1 free_id
+  seed_fits free_id below s e = record {
+    right = subst (Right rows' keys q.sibs k) (sym e) seed_right;
+    few = uses_few;
+    index = seed_index;
+    distinct = subst HasDistinctIds (sym e) (bare_own v);
+    counted = sym (ap op_count e ∙ bare_count v);
+    below = λ y l. subst (λ z. z < free_id) (sym (ap (λ z. z.head.id) (seed_row y l) ∙ ready.id)) below;
+    owned = λ y j u l f. (let z : None ≡ Some u = sym (ap (λ os. slice_get os j) (ap (λ z. z.head.operands) (seed_row y l) ∙ bare_head)) ∙ f in absurd cc);
+  }
 
   pub seed_is : x ≡ (head o).id → seed ≡ emptied o
   seed_is e = grown.is ∙ ap (λ z. with_id z (emptied o)) e ∙ same_id o

@@ -137,6 +137,9 @@ module _ (a : Inside) (r : IsRight a) (laws : Laws a.sibs.lists a.sibs.homes) (x
   pub joint_inside : k < length a.rows.items
   joint_inside = omega (arith, used_inside (rows_in a) k fk.used, length-map a.rows.items row_of)
 
+  pub joint_out : has_id (row_at (rows_in a) k).head.id a.spelled.0 ≡ false
+  joint_out = ap (λ z. has_id z a.spelled.0) fk.id ∙ sym (has_is x a.spelled.0) ∙ x_out (rows_in a) (keys_in a) a.sibs a.root a.spelled.0 r a.spelled.1 laws x k fk place sp.0 at sp.1.1
+
   module _ (n : Kept) (en : n ≡ get_or a.rows.items k n) (sibs' : Lists) (el : sibs'.lists ≡ joined k h at a.sibs.lists) (eh : sibs'.homes ≡ set a.sibs.homes k h) where
     abbrev pub joined_items : List Kept
     joined_items = set a.rows.items k (record n { live = true })
@@ -163,7 +166,7 @@ module _ (a : Inside) (r : IsRight a) (laws : Laws a.sibs.lists a.sibs.homes) (x
     joint_tree w = spelled_is (rows_of joined_items) sibs'.lists a.root w (put place o a.spelled.0) spells
 
     pub joint_distinct : HasDistinctIds a.spelled.0 → (w : Spelled (rows_of joined_items) sibs'.lists a.root) → HasDistinctIds w.0
-    joint_distinct d w = subst HasDistinctIds (sym (joint_tree w)) (bare_distinct place (row_at (rows_in a) k) a.spelled.0 d (ap (λ z. has_id z a.spelled.0) fk.id ∙ sym (has_is x a.spelled.0) ∙ x_out (rows_in a) (keys_in a) a.sibs a.root a.spelled.0 r a.spelled.1 laws x k fk place sp.0 at sp.1.1))
+    joint_distinct d w = subst HasDistinctIds (sym (joint_tree w)) (bare_distinct place (row_at (rows_in a) k) a.spelled.0 d joint_out)
 
     pub joint_right : (w : Spelled (rows_of joined_items) sibs'.lists a.root) → Right (rows_of joined_items) (keys_in a) sibs' a.root w.0
     joint_right w = subst (Right (rows_of joined_items) (keys_in a) sibs' a.root) (sym (spelled_is (rows_of joined_items) sibs'.lists a.root w (put place o a.spelled.0) spells))

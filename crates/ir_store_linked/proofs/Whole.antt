@@ -1,5 +1,5 @@
 -- The slots and the uses together, as a function's calls tell them.
-use Rattle.std.proofs.Common.{◌≡◌, eqb, ℕ, zero, suc, ◌+◌, ◌<◌, List, [], ◌∷◌, map, set, get_or, refl, sym, ap, ◌∙◌, subst, length, Bool, true, false, Option, Some, None, arith}
+use Rattle.std.proofs.Common.{◌≡◌, eqb, ℕ, zero, suc, ◌+◌, ◌-◌, ◌<◌, ◌≤◌, List, [], ◌∷◌, map, set, get_or, refl, sym, ap, ◌∙◌, subst, length, Bool, true, false, Option, Some, None, arith}
 use Rattle.std.specs.Prelude.{Result, Ok, Err}
 use Rattle.std.proofs.lemmas.List.{length-set, length-map}
 use Rattle.chains.specs.Lists.{Lists, Laws, free, without as drop_node}
@@ -9,10 +9,10 @@ use Rattle.ir_store_linked.specs.declared.row.Row.{Row as Kept}
 use Rattle.ir_store_linked.specs.declared.store.Store.TheInside.{Inside}
 use Rattle.ir_store_linked.specs.Rows.{Row, row_at, row_of, rows_of, row_with_operand, live_slot}
 use Rattle.ir_store_linked.specs.Right.{Live, Used}
-use Rattle.ir_store_linked.specs.Spells.{Spelled}
+use Rattle.ir_store_linked.specs.Spells.{Spelled, Spelled-prop}
 use Rattle.ir_store_linked.specs.Plans.{leaf_in}
 use Rattle.ir_store_linked.specs.Reasoned.{idle_in}
-use Rattle.ir_store_linked.specs.Index.{Index, Fits, lives, cells_of, HasHeads, CanFree, freed, led_to, all_led, value_head}
+use Rattle.ir_store_linked.specs.Index.{Index, Fits, HasIdsBelow, lives, cells_of, HasHeads, CanFree, freed, led_to, all_led, value_head}
 use Rattle.ir_store_linked.proofs.Slots.{Found, found}
 use Rattle.ir_store_linked.proofs.Taking.{IsLeaf}
 use Rattle.ir_store_linked.proofs.Unused.{TakePlanned, take_planned}
@@ -26,14 +26,17 @@ use Rattle.ir_types.specs.declared.refusal.Refusal.TheVariants.{NoSuchIndex, NoS
 use Rattle.ir_tree.specs.declared.place.Place.{Place}
 use Rattle.ir_tree.specs.Tree.{Head, Op, head}
 use Rattle.ir_tree.specs.Edits.{at as at_op, put_operand}
-use Rattle.ir_tree.specs.Ids.{HasDistinctIds}
+use Rattle.ir_tree.specs.Ids.{HasDistinctIds, op_count, has_id}
 use Rattle.ir_tree.proofs.Left.{left_distinct}
-use Rattle.ir_store_linked.proofs.Distinct.{each_distinct}
+use Rattle.ir_tree.specs.Places.{put, without}
+use Rattle.ir_tree.specs.Frames.{owner_of}
+use Rattle.ir_store_linked.proofs.Tally.{lower_below, count_within, cut_counted, cut_below, cut_owned, joined_counted, join_below, join_owned, write_below, write_owned, value_owner}
+use Rattle.ir_store_linked.proofs.Distinct.{each_distinct, each_ids}
 use Rattle.ir_tree.specs.Ids.{find}
 use Rattle.ir_tree_laws.specs.Values.{has_value}
 use Rattle.ir_store_linked.specs.Stored.{Stored}
 use Rattle.ir_store_linked.specs.Calls.{CanRestore, after_restore, raised}
-use Rattle.ir_tree_laws.specs.Reasons.{operand_reason, unless}
+use Rattle.ir_tree_laws.specs.Reasons.{operand_reason, unless, unused}
 use Rattle.ir_store_linked.specs.Reasoned.{with_head, rewire_reason}
 use Rattle.ir_store_linked.specs.Plans.{operand_in}
 use Rattle.ir_store_linked.specs.Rows.{held_slot, held_in, if_held, bare}
@@ -44,7 +47,7 @@ use Rattle.ir_store_linked.proofs.Slots.{operand_found}
 use Rattle.ir_store_linked.proofs.Unused.{all_get}
 use Rattle.ir_store_linked.proofs.Used.{can_lead, join_index, use_item, write_index}
 use Rattle.ir_store_linked.proofs.Valued.{value_is, place_is, live_head}
-use Rattle.ir_store_linked.proofs.Spotted.{joint_distinct, held_found, joint_right, joint_done, joint_inside, joint_before}
+use Rattle.ir_store_linked.proofs.Spotted.{joint_distinct, joint_tree, joint_out, held_found, joint_right, joint_done, joint_inside, joint_before}
 use Rattle.ir_store_linked.specs.Spots.{StandsIn}
 use Rattle.std.specs.Prelude.{IfSome}
 use Rattle.std.proofs.lemmas.List.{get_or-set_same, get_or-set_other}
@@ -54,7 +57,7 @@ use Rattle.ir_store_linked.proofs.Joining.{FoundHeld}
 use Rattle.ir_store_linked.proofs.Called.{rows_in, keys_in, stored, read_row, other_row, own_row, cut_tree, write_tree, right_after, write_fits, write_inside}
 
 abbrev pub Whole : Inside → Type 0
-Whole a = Fits (rows_in a) (keys_in a) a.sibs a.root a.spelled.0 a.uses.homes (cells_of a.cells.items)
+Whole a = Fits (rows_in a) (keys_in a) a.sibs a.root a.spelled.0 a.uses.homes (cells_of a.cells.items) a.count a.next
 
 pub freed_long : (b n : ℕ) (homes : List ℕ) → length (freed b n homes) ≡ length homes
 freed_long b zero homes = refl
@@ -95,14 +98,44 @@ module _ (a : Inside) (w : Whole a) where
       own : row_at rows' k ≡ record (row_at (rows_in a) k) { live = false }
       own = own_row a.rows.items k (record n { live = false }) inside ∙ ap {A = Row} {B = Row} (λ z. record z { live = false }) (sym (read_row a.rows.items k n inside en))
 
-      pub take_fits : (s : Spelled rows' sibs'.lists a.root) → Fits rows' (keys_in a) sibs' a.root s.0 homes' (cells_of a.cells.items)
-      take_fits s = record {
+      pub take_some : 1 ≤ a.count
+      take_some = omega (arith, w.counted, cut_counted (rows_in a) (keys_in a) a.sibs a.root a.spelled.0 w.right a.spelled.1 x k leaf w.distinct)
+
+      pub take_fits : unused x a.spelled.0 ≡ true → (s : Spelled rows' sibs'.lists a.root) → Fits rows' (keys_in a) sibs' a.root s.0 homes' (cells_of a.cells.items) (a.count - 1) a.next
+      take_fits spared s = record {
         right = right_after a w.right x k leaf n en sibs' el eh s;
         few = omega (arith, w.few, ap length eu, freed_long run.0 run.1 a.uses.homes);
         index = subst (λ z. Index rows' (keys_in a) z (cells_of a.cells.items) (lives rows')) (sym (eu ∙ ap (λ p. freed p.0 p.1 a.uses.homes) er))
             (take_index (rows_in a) (keys_in a) a.uses.homes (cells_of a.cells.items) w.few w.index k (w.right.live_used k leaf.found.live) rows' (other_row a.rows.items k (record n { live = false })) false own refl leaf.found.live);
         distinct = subst HasDistinctIds (sym (cut_tree a w.right x k leaf n en sibs' el eh s)) (left_distinct x a.spelled.0 w.distinct);
+        counted =
+            let c = cut_counted (rows_in a) (keys_in a) a.sibs a.root a.spelled.0 w.right a.spelled.1 x k leaf w.distinct in
+            let e : a.count - 1 ≡ op_count (without x a.spelled.0) = omega (arith, w.counted, c) in
+            e ∙ ap op_count (sym (cut_tree a w.right x k leaf n en sibs' el eh s));
+        below = cut_below (rows_in a) (keys_in a) a.sibs a.root a.spelled.0 w.right a.spelled.1 x k leaf rows' (other_row a.rows.items k (record n { live = false })) own a.next w.below;
+        owned = cut_owned (rows_in a) (keys_in a) a.sibs a.root a.spelled.0 w.right a.spelled.1 x k leaf rows' (other_row a.rows.items k (record n { live = false })) own spared w.owned;
       }
+
+-- there is room to count one more
+pub count_few : (a : Inside) → Whole a → a.count + 1 < 18446744073709551616
+count_few a w =
+    let most = count_within (rows_in a) (keys_in a) a.sibs a.root a.spelled.0 w.right a.spelled.1 w.distinct in
+    omega (arith, w.counted, most, w.right.long, w.right.few)
+
+-- the newest id is free again
+module _ (a : Inside) (w : Whole a) (x : ℕ) (newest : a.next ≡ x + 1) (out : has_id x a.spelled.0 ≡ false) where
+  pub lower_fits : (next : ℕ) → next ≡ x → (s : Spelled (rows_in a) a.sibs.lists a.root) → Fits (rows_in a) (keys_in a) a.sibs a.root s.0 a.uses.homes (cells_of a.cells.items) a.count next
+  lower_fits next e s = subst (λ (z : Spelled (rows_in a) a.sibs.lists a.root). Fits (rows_in a) (keys_in a) a.sibs a.root z.0 a.uses.homes (cells_of a.cells.items) a.count next)
+      (Spelled-prop (rows_in a) a.sibs.lists a.root a.spelled s)
+      (record {
+        right = w.right;
+        few = w.few;
+        index = w.index;
+        distinct = w.distinct;
+        counted = w.counted;
+        below = subst (λ z. HasIdsBelow z (rows_in a)) (sym e) (lower_below (rows_in a) (keys_in a) a.sibs a.root a.spelled.0 w.right a.spelled.1 x a.next newest out w.below);
+        owned = w.owned;
+      })
 
 pub some_of : {X : Type 0} (o : Option X) → is_some o ≡ true → (x : X) × (o ≡ Some x)
 some_of None e = absurd (false≢true e)
@@ -132,6 +165,12 @@ module _ (a : Inside) (w : Whole a) (laws : Laws a.sibs.lists a.sibs.homes) (x :
     held_is : finmap.get a.holds.0 x ≡ Some (bare (row_at (rows_in a) k))
     held_is = a.holds.1 x ∙ ap (held_in (rows_in a)) (ap (keys_in a) (sym fk.id) ∙ w.right.keyed k fk.used) ∙ rw fk.out refl
 
+    owners_there : (i : ℕ) (v : Value) → operand_at (rows_in a) k i ≡ Some v → is_some (live_slot (rows_in a) (keys_in a) (owner_of v).0) ≡ true
+    owners_there i v e =
+        value_owner (rows_in a) (live_slot (rows_in a) (keys_in a)) v
+        (value_is (rows_in a) (keys_in a) a.sibs a.root a.spelled.0 w.right a.spelled.1 v
+        ∙ all_get (λ z. has_value z a.spelled.0) (row_at (rows_in a) k).head.operands i v (can.values (bare (row_at (rows_in a) k)) held_is) e)
+
     heads_there : (i : ℕ) (v : Value) → operand_at (rows_in a) k i ≡ Some v → (h : ℕ) × (value_head (rows_in a) (keys_in a) v ≡ Some h)
     heads_there i v e =
         let p = all_get (λ z. has_value z a.spelled.0) (row_at (rows_in a) k).head.operands i v (can.values (bare (row_at (rows_in a) k)) held_is) e in
@@ -148,6 +187,14 @@ module _ (a : Inside) (w : Whole a) (laws : Laws a.sibs.lists a.sibs.homes) (x :
         go None e = tt
         go (Some t) e = joint_before a w.right laws x k ek place h at es t e
 
+    -- the next free id stays above those that were given out
+    raised_bound : (a.next ≤ raised fresh x a.next) × (x < raised fresh x a.next)
+    raised_bound = go fresh refl
+      where
+        go : (b : Bool) → fresh ≡ b → (a.next ≤ raised b x a.next) × (x < raised b x a.next)
+        go true e = let z = can.newest e in (omega (arith, z), omega arith)
+        go false e = let z = can.below e in (omega arith, z)
+
     module _ (h : ℕ) (at : Option ℕ) (es : Some (h, at) ≡ spot_in (rows_in a) (keys_in a) a.sibs.homes place) (n : Kept) (en : n ≡ get_or a.rows.items k n)
         (sibs' : Lists) (el : sibs'.lists ≡ joined k h at a.sibs.lists) (eh : sibs'.homes ≡ set a.sibs.homes k h)
         (homes' : List ℕ) (eu : homes' ≡ all_led (value_head (rows_in a) (keys_in a)) (row_at (rows_in a) k).uses (row_at (rows_in a) k).head.operands a.uses.homes) where
@@ -160,13 +207,21 @@ module _ (a : Inside) (w : Whole a) (laws : Laws a.sibs.lists a.sibs.homes) (x :
       own2 : row_at rows2 k ≡ record (row_at (rows_in a) k) { live = true }
       own2 = own_row a.rows.items k (record n { live = true }) inside2 ∙ ap {A = Row} {B = Row} (λ z. record z { live = true }) (sym (read_row a.rows.items k n inside2 en))
 
-      pub restore_fits : (s : Spelled rows2 sibs'.lists a.root) → Fits rows2 (keys_in a) sibs' a.root s.0 homes' (cells_of a.cells.items)
-      restore_fits s = record {
+      pub restore_fits : (s : Spelled rows2 sibs'.lists a.root) (next : ℕ) → next ≡ raised fresh x a.next → Fits rows2 (keys_in a) sibs' a.root s.0 homes' (cells_of a.cells.items) (a.count + 1) next
+      restore_fits s next en' = record {
         right = joint_right a w.right laws x k ek place h at es n en sibs' el eh s;
         few = omega (arith, w.few, ap length eu, led_long (value_head (rows_in a) (keys_in a)) (row_at (rows_in a) k).uses (row_at (rows_in a) k).head.operands a.uses.homes);
         index = subst (λ z. Index rows2 (keys_in a) z (cells_of a.cells.items) (lives rows2)) (sym eu)
             (join_index (rows_in a) (keys_in a) a.uses.homes (cells_of a.cells.items) w.few w.index k fk.used rows2 (other_row a.rows.items k (record n { live = true })) true own2 refl fk.out heads_there);
         distinct = joint_distinct a w.right laws x k ek place h at es n en sibs' el eh w.distinct s;
+        counted =
+            let c = joined_counted place (row_at (rows_in a) k) a.spelled.0 w.distinct (joint_out a w.right laws x k ek place h at es) can.spot in
+            let e : a.count + 1 ≡ op_count (put place (bare (row_at (rows_in a) k)) a.spelled.0) = omega (arith, w.counted, c) in
+            e ∙ ap op_count (sym (joint_tree a w.right laws x k ek place h at es n en sibs' el eh s));
+        below =
+            let b = raised_bound in
+            join_below (rows_in a) (keys_in a) k rows2 (other_row a.rows.items k (record n { live = true })) own2 a.next next (omega (arith, b.0, en')) (omega (arith, b.1, en', fk.id)) w.below;
+        owned = join_owned (rows_in a) (keys_in a) k rows2 (other_row a.rows.items k (record n { live = true })) own2 owners_there w.owned;
       }
 
       pub restore_done : (s : Spelled rows2 sibs'.lists a.root) (v : HoldsOf rows2 (keys_in a)) (g : GoneOf rows2 (keys_in a)) (next : ℕ) → next ≡ raised fresh x a.next
@@ -238,14 +293,33 @@ module _ (a : Inside) (w : Whole a) (x j : ℕ) (v : Value) where
       own3 : row_at rows3 k ≡ row_with_operand j v (row_at (rows_in a) k)
       own3 = own_row a.rows.items k m (write_inside a w.right x k j v ek) ∙ em ∙ ap (row_with_operand j v) (sym (read_row a.rows.items k n (write_inside a w.right x k j v ek) en))
 
-      pub rewire_fits : (s : Spelled rows3 a.sibs.lists a.root) (homes1 homes2 : List ℕ) → homes1 ≡ set a.uses.homes (use_at (rows_in a) k j) free → homes2 ≡ set homes1 (use_at (rows_in a) k j) h
-          → Fits rows3 (keys_in a) a.sibs a.root s.0 homes2 (cells_of a.cells.items)
-      rewire_fits s homes1 homes2 e1 e2 = record {
+      value_there : rewire_reason x j v a.spelled.0 ≡ None → has_value v a.spelled.0 ≡ true
+      value_there e = go (find x a.spelled.0) e
+        where
+          last : (b : Bool) → unless b NoSuchValue None ≡ None → b ≡ true
+          last true f = refl
+          last false f = absurd cc
+
+          go : (o : Option Op) → operand_reason j (unless (has_value v a.spelled.0) NoSuchValue None) o ≡ None → has_value v a.spelled.0 ≡ true
+          go None f = absurd cc
+          go (Some o) f = test (nat_lt j (length (head o).operands)) f
+            where
+              test : (b : Bool) → (if b then unless (has_value v a.spelled.0) NoSuchValue None else Some NoSuchIndex) ≡ None → has_value v a.spelled.0 ≡ true
+              test true g = last (has_value v a.spelled.0) g
+              test false g = absurd cc
+
+      pub rewire_fits : rewire_reason x j v a.spelled.0 ≡ None → (s : Spelled rows3 a.sibs.lists a.root) (homes1 homes2 : List ℕ) → homes1 ≡ set a.uses.homes (use_at (rows_in a) k j) free → homes2 ≡ set homes1 (use_at (rows_in a) k j) h
+          → Fits rows3 (keys_in a) a.sibs a.root s.0 homes2 (cells_of a.cells.items) a.count a.next
+      rewire_fits why s homes1 homes2 e1 e2 = record {
         right = write_fits a w.right x k j v ek n en m em s;
         few = omega (arith, w.few, ap length e2, ap length e1, length-set homes1 (use_at (rows_in a) k j) h, length-set a.uses.homes (use_at (rows_in a) k j) free);
         index = subst (λ z. Index rows3 (keys_in a) z (cells_of a.cells.items) (lives rows3)) (sym (e2 ∙ ap (λ z. set z (use_at (rows_in a) k j) h) e1))
             (write_index (rows_in a) (keys_in a) a.uses.homes (cells_of a.cells.items) w.few w.index k j h v fd.live uk inside eh rows3 (other_row a.rows.items k m) own3);
         distinct = subst HasDistinctIds (sym (write_tree a w.right x k j v ek n en m em s)) (each_distinct (at_op x (put_operand j v)) (same_at x (put_operand j v) (λ g. refl)) a.spelled.0 w.distinct);
+        counted = w.counted ∙ ap length (sym (each_ids (at_op x (put_operand j v)) (same_at x (put_operand j v) (λ g. refl)) a.spelled.0)) ∙ ap op_count (sym (write_tree a w.right x k j v ek n en m em s));
+        below = write_below (rows_in a) (keys_in a) k j v rows3 (other_row a.rows.items k m) own3 a.next w.below;
+        owned = write_owned (rows_in a) (keys_in a) k j v rows3 (other_row a.rows.items k m) own3
+            (value_owner (rows_in a) (live_slot (rows_in a) (keys_in a)) v (value_is (rows_in a) (keys_in a) a.sibs a.root a.spelled.0 w.right a.spelled.1 v ∙ value_there why)) w.owned;
       }
 
     pub rewire_item : IsItem a.uses.homes (use_at (rows_in a) k j)

@@ -1,14 +1,14 @@
 -- What is true of the uses of values, in slots.
-use Rattle.std.specs.Prelude.{◌≡◌, ℕ, zero, suc, ◌+◌, ◌<◌, List, [], ◌∷◌, map, length, nat_lt, eqb, get_or, slice_get, slice_set, Bool, true, false, not, ◌&&◌, if◌then◌else◌, Option, Some, None, option_and_then}
+use Rattle.std.specs.Prelude.{◌≡◌, ℕ, zero, suc, ◌+◌, ◌<◌, List, [], ◌∷◌, map, length, nat_lt, eqb, get_or, slice_get, slice_set, Bool, true, false, not, ◌&&◌, if◌then◌else◌, Option, Some, None, option_and_then, is_some}
 use Rattle.chains.specs.Lists.{Lists, IsHead, IsItem, IsFree, list_at, home_at, free}
 use Rattle.ir_tree.specs.declared.value.Value.{Value}
 use Rattle.ir_tree.specs.declared.value.Value.TheVariants.{Result, Arg}
-use Rattle.ir_tree.specs.Ids.{HasDistinctIds}
+use Rattle.ir_tree.specs.Ids.{HasDistinctIds, op_count}
 use Rattle.ir_tree.specs.Tree.{Op}
 use Rattle.ir_tree.specs.Frames.{owner_of}
 use Rattle.ir_store_linked.specs.declared.row.Cell.{Cell}
-use Rattle.ir_store_linked.specs.Rows.{Row, Shape, row_at}
-use Rattle.ir_store_linked.specs.Right.{Used, Right}
+use Rattle.ir_store_linked.specs.Rows.{Row, Shape, row_at, live_slot}
+use Rattle.ir_store_linked.specs.Right.{Live, Used, Right}
 use Rattle.ir_store_linked.specs.Plans.{is_nil}
 
 -- the slot and the operand of each node
@@ -143,12 +143,23 @@ pub record HasHeads (rows : List Row) (homes : List ℕ) (k : ℕ) : Type 0 wher
   pub results : AreHeads (row_at rows k).values (length (row_at rows k).head.results) homes
   pub arguments : ArgHeads rows homes (row_at rows k).shapes
 
+-- the operation of each value that the module's operations use is in the module
+abbrev pub HasOwners : List Row → (ℕ → Option ℕ) → Type 0
+HasOwners rows keys = (k j : ℕ) (v : Value) → Live rows k → operand_at rows k j ≡ Some v → is_some (live_slot rows keys (owner_of v).0) ≡ true
+
+-- and their ids are below a bound
+abbrev pub HasIdsBelow : ℕ → List Row → Type 0
+HasIdsBelow n rows = (k : ℕ) → Live rows k → (row_at rows k).head.id < n
+
 -- the slots and the uses are right
-pub record Fits (rows : List Row) (keys : ℕ → Option ℕ) (sibs : Lists) (root : ℕ) (t : Op) (homes : List ℕ) (cells : List (ℕ × ℕ)) : Type 0 where
+pub record Fits (rows : List Row) (keys : ℕ → Option ℕ) (sibs : Lists) (root : ℕ) (t : Op) (homes : List ℕ) (cells : List (ℕ × ℕ)) (count free_id : ℕ) : Type 0 where
   pub right : Right rows keys sibs root t
   pub few : length homes < free
   pub index : Index rows keys homes cells (lives rows)
   pub distinct : HasDistinctIds t
+  pub counted : count ≡ op_count t
+  pub below : HasIdsBelow free_id rows
+  pub owned : HasOwners rows keys
 
 -- the type of a value of an operation that has a slot
 abbrev pub shape_type : ℕ → Shape → Option ℕ

@@ -13,3 +13,9 @@ pub mod Reasoned
 pub mod Using
 pub mod Grows
 pub mod Loads
+pub mod Releases
+pub mod Puts
+pub mod Heading
+pub mod Lifted
+pub mod Entered
+pub mod Shifting

@@ -1,5 +1,5 @@
 -- What the slots hold, as plain data.
-use Rattle.std.specs.Prelude.{ℕ, List, [], ◌∷◌, map, take, drop, Bool, false, get_or, not, ◌&&◌, if◌then◌else◌, option_map, Option, Some, None}
+use Rattle.std.specs.Prelude.{ℕ, List, [], ◌∷◌, map, Bool, false, get_or, not, ◌&&◌, if◌then◌else◌, option_map, Option, Some, None}
 use Rattle.ir_tree.specs.Tree.{Head, Op, op, Regions, no_regions, region, empty, block, no_ops}
 use Rattle.ir_store_linked.specs.Stored.{Gone, none_gone}
 use Rattle.ir_store_linked.specs.Nodes.{Node}
@@ -40,8 +40,8 @@ abbrev pub row_of : Kept → Row
 row_of n = record {
   used = n.used;
   live = n.live;
-  head = record { id = n.id; name = n.name; operands = n.operands.items; results = n.results.items; properties = take n.props_len n.props.items; attributes = take n.attrs_len n.attrs.items };
-  gone = record { properties = map (λ e. e.0) (drop n.props_len n.props.items); attributes = map (λ e. e.0) (drop n.attrs_len n.attrs.items) };
+  head = record { id = n.id; name = n.name; operands = n.operands.items; results = n.results.items; properties = n.props.present; attributes = n.attrs.present };
+  gone = record { properties = n.props.gone; attributes = n.attrs.gone };
   shapes = map shape_of n.areas.items;
   owner = n.owner;
   region = n.region;

@@ -8,7 +8,6 @@ ghost use Rattle.ir_store_linked.specs.Plans.{AllHeads};
 ghost use Rattle.ir_store_linked.specs.Right.{Live};
 ghost use Rattle.ir_store_linked.specs.Spells.{SpellsOp, SpellsRegions, SpellsRegion, SpellsOps};
 
-use crate::node::front;
 use crate::row::{Area, Row};
 use crate::store::Store;
 use ir_tree::tree::{TreeOp, TreeRegion};
@@ -65,8 +64,8 @@ fn tree_of(alloc: Global, row: &Row, regions: Vec<TreeRegion>) -> Result<TreeOp,
         name: row.name,
         operands: Vec::from_slice(alloc, &row.operands)?,
         results: Vec::from_slice(alloc, &row.results)?,
-        props: Vec::from_slice(alloc, front(&row.props, row.props_len))?,
-        attrs: Vec::from_slice(alloc, front(&row.attrs, row.attrs_len))?,
+        props: Vec::from_slice(alloc, row.props.as_slice())?,
+        attrs: Vec::from_slice(alloc, row.attrs.as_slice())?,
         regions,
     })
 }

@@ -1,30 +1,30 @@
 //! Slots by ids.
 ghost use Rattle.std.specs.Prelude.{◌≡◌, ◌<◌, ℕ, eqb, map, length, IfSome, Some};
-ghost use Rattle.std.specs.BTreeMap as sorted;
+ghost use Rattle.std.specs.FinMap as finmap;
 ghost use Rattle.std.specs.Ordering.{nat_cmp};
 ghost use Rattle.ir_store_linked.specs.Rows.{rows_of, row_at, live_slot, shape_of};
 ghost use Rattle.ir_store_linked.specs.Plans.{AllHeads, all_bare, leaf_in, operand_in};
 ghost use Rattle.ir_store_linked.specs.Right.{Live};
 
 use crate::row::{Area, Row};
+use id_table::IdTable;
 use ir_types::ids::OpId;
 use ir_types::refusal::Refusal;
 use order::Ordered;
-use std::collections::BTreeMap;
 
 /// The slots of operations by their numbers.
-pub(crate) type Keys = BTreeMap<u32, usize>;
+pub(crate) type Keys = IdTable;
 
 /// The slot of an operation, of the module or held.
 pub(crate) fn slot(keys: &Keys, op: OpId) -> Option<usize>
-    ensures { result ≡ sorted.get nat_cmp keys.now op }
+    ensures { result ≡ finmap.get keys.now op }
 {
-    keys.get(&op.number()).copied()
+    keys.get(op.number())
 }
 
 /// The slot of an operation of the module.
 pub(crate) fn find(rows: &Vec<Row>, keys: &Keys, op: OpId) -> Option<usize>
-    ensures { result ≡ live_slot (rows_of rows.now.items) (sorted.get nat_cmp keys.now) op }
+    ensures { result ≡ live_slot (rows_of rows.now.items) (finmap.get keys.now) op }
 {
     let key = slot(keys, op)?;
     let row = rows.get(key)?;
@@ -57,7 +57,7 @@ pub(crate) fn find_leaf(
     op: OpId,
 ) -> Result<usize, Refusal>
     requires { (k : ℕ) → Live (rows_of rows.now.items) k → AllHeads sibs.now.homes (row_at (rows_of rows.now.items) k).shapes }
-    ensures { result ≡ leaf_in (rows_of rows.now.items) sibs.now.lists root (live_slot (rows_of rows.now.items) (sorted.get nat_cmp keys.now) op) }
+    ensures { result ≡ leaf_in (rows_of rows.now.items) sibs.now.lists root (live_slot (rows_of rows.now.items) (finmap.get keys.now) op) }
 {
     let Some(key) = find(rows, keys, op) else {
         return Err(Refusal::NoSuchOp);
@@ -82,7 +82,7 @@ pub(crate) fn find_operand(
     op: OpId,
     place: usize,
 ) -> Result<usize, Refusal>
-    ensures { result ≡ operand_in (rows_of rows.now.items) place (live_slot (rows_of rows.now.items) (sorted.get nat_cmp keys.now) op) }
+    ensures { result ≡ operand_in (rows_of rows.now.items) place (live_slot (rows_of rows.now.items) (finmap.get keys.now) op) }
 {
     let Some(key) = find(rows, keys, op) else {
         return Err(Refusal::NoSuchOp);

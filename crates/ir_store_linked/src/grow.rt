@@ -11,6 +11,7 @@ ghost use Rattle.std.specs.Prelude.{if◌then◌else◌};
 
 use crate::row::{Area, Cell, Row, push_row};
 use chains::Chains;
+use entries::Dictionary;
 use ir_tree::tree::{TreeOp, TreeRegion};
 use ir_tree::value::Value;
 use ir_types::ids::{NameId, OpId, TypeId};
@@ -28,10 +29,8 @@ fn spare_row(alloc: Global, owner: usize, region: u32, values: usize) -> Row
         name: NameId::new(0),
         operands: Vec::new(alloc),
         results: Vec::new(alloc),
-        props: Vec::new(alloc),
-        props_len: 0,
-        attrs: Vec::new(alloc),
-        attrs_len: 0,
+        props: Dictionary::new(alloc),
+        attrs: Dictionary::new(alloc),
         areas: Vec::new(alloc),
         owner,
         region,
@@ -277,10 +276,8 @@ fn held_row(
         name: header.name,
         operands: Vec::from_slice(alloc, &header.operands)?,
         results: Vec::from_slice(alloc, &header.results)?,
-        props: Vec::from_slice(alloc, &header.props)?,
-        props_len: header.props.len(),
-        attrs: Vec::from_slice(alloc, &header.attrs)?,
-        attrs_len: header.attrs.len(),
+        props: Dictionary::from_slice(alloc, &header.props)?,
+        attrs: Dictionary::from_slice(alloc, &header.attrs)?,
         areas,
         owner: 0,
         region: 0,

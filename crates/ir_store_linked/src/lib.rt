@@ -3,12 +3,19 @@
 //! that they use, so that a call takes a few steps however large the module is.
 #![tactic(auto)]
 
+mod beside;
 mod copy;
+mod entry;
 mod find;
 mod grow;
 mod load;
 pub mod node;
+mod put;
+mod release;
+mod preorder;
 pub mod row;
+mod shift;
+mod sight;
 mod spot;
 mod stand;
 pub mod store;

@@ -1,5 +1,5 @@
 //! What an operation of the module has, beside the operations in its blocks.
-ghost use Rattle.std.specs.Prelude.{◌≡◌, length, map, take, slice_get, option_map, option_and_then};
+ghost use Rattle.std.specs.Prelude.{◌≡◌, length, map, slice_get, option_map, option_and_then};
 ghost use Rattle.ir_store_linked.specs.Rows.{row_of, node_row, shape_of, shape_arguments};
 
 use crate::row::{Area, Row};
@@ -61,7 +61,7 @@ impl<'a> Node<'a> {
         ensures { result.now ≡ self.now.head.properties }
     {
         let row = self.row;
-        front(&row.props, row.props_len)
+        row.props.as_slice()
     }
 
     /// Its discardable attributes, in the order of their keys.
@@ -69,7 +69,7 @@ impl<'a> Node<'a> {
         ensures { result.now ≡ self.now.head.attributes }
     {
         let row = self.row;
-        front(&row.attrs, row.attrs_len)
+        row.attrs.as_slice()
     }
 
     /// How many regions it has.
@@ -86,17 +86,6 @@ impl<'a> Node<'a> {
     {
         let row = self.row;
         block_arguments(&row.areas, region)
-    }
-}
-
-/// The first entries of a list.
-pub(crate) fn front(entries: &[(NameId, AttrId)], count: usize) -> &[(NameId, AttrId)]
-    ensures { result.now ≡ take count entries.now }
-{
-    if count < entries.len() {
-        &entries[..count]
-    } else {
-        entries
     }
 }
 

@@ -2,8 +2,9 @@
 ghost use Rattle.std.specs.Prelude.{◌≡◌, ◌<◌, ◌++◌, ◌∷◌, [], OnOk, OnErr, length, slice_set};
 ghost use Rattle.ir_store_linked.specs.Rows.{row_of, rows_of, row_with_operand};
 
+use entries::Dictionary;
 use ir_tree::value::Value;
-use ir_types::ids::{AttrId, NameId, OpId, TypeId};
+use ir_types::ids::{NameId, OpId, TypeId};
 use std::alloc::AllocError;
 
 /// A slot: an operation of the module or a held one, or a block's head, or nothing.
@@ -17,12 +18,10 @@ pub struct Row {
     pub name: NameId,
     pub operands: Vec<Value>,
     pub results: Vec<TypeId>,
-    /// The properties, and behind `props_len` of them the keys that are gone and whose slots stand.
-    pub props: Vec<(NameId, AttrId)>,
-    pub props_len: usize,
+    /// The properties, and the slots of those that were taken out.
+    pub props: Dictionary,
     /// The discardable attributes, in the same way.
-    pub attrs: Vec<(NameId, AttrId)>,
-    pub attrs_len: usize,
+    pub attrs: Dictionary,
     pub areas: Vec<Area>,
     /// Of a block's head: the slot of the operation around it, and the number of the region.
     pub owner: usize,

@@ -1,6 +1,6 @@
 //! Where operations are put, in slots.
 ghost use Rattle.std.specs.Prelude.{◌≡◌, ◌<◌, eqb, length, map, slice_get, slice_set, option_and_then, IfSome, MatchOption, Some, is_some, ◌&&◌, false};
-ghost use Rattle.std.specs.BTreeMap as sorted;
+ghost use Rattle.std.specs.FinMap as finmap;
 ghost use Rattle.std.specs.Ordering.{nat_cmp};
 ghost use Rattle.chains.specs.Lists.{IsFree, IsHead};
 ghost use Rattle.ir_store_linked.specs.Rows.{rows_of, shape_of, head_in, held_slot};
@@ -14,7 +14,7 @@ use order::Ordered;
 
 /// The slot of a held operation.
 pub(crate) fn find_held(rows: &Vec<Row>, keys: &Keys, op: OpId) -> Option<usize>
-    ensures { result ≡ held_slot (rows_of rows.now.items) (sorted.get nat_cmp keys.now) op }
+    ensures { result ≡ held_slot (rows_of rows.now.items) (finmap.get keys.now) op }
 {
     let key = slot(keys, op)?;
     let row = rows.get(key)?;
@@ -26,7 +26,7 @@ pub(crate) fn find_held(rows: &Vec<Row>, keys: &Keys, op: OpId) -> Option<usize>
 }
 
 /// The head of the list of a region's block, if it has one.
-fn block_head(areas: &[Area], region: usize) -> Option<usize>
+pub(crate) fn block_head(areas: &[Area], region: usize) -> Option<usize>
     ensures { result ≡ option_and_then head_in (slice_get (map shape_of areas.now) region) }
 {
     match areas.get(region)? {
@@ -43,7 +43,7 @@ pub(crate) fn find_spot(
     place: Place,
 ) -> Option<(usize, Option<usize>)>
     requires { length rows.now.items ≡ length sibs.now.homes }
-    ensures { result ≡ spot_in (rows_of rows.now.items) (sorted.get nat_cmp keys.now) sibs.now.homes place }
+    ensures { result ≡ spot_in (rows_of rows.now.items) (finmap.get keys.now) sibs.now.homes place }
 {
     let parent = find(rows, keys, place.parent)?;
     let row = rows.get(parent)?;
@@ -95,8 +95,8 @@ pub(crate) fn find_joint(
     place: Place,
 ) -> Option<(usize, usize, Option<usize>)>
     requires { length rows.now.items ≡ length sibs.now.homes }
-    ensures { MatchOption result ((is_some (held_slot (rows_of rows.now.items) (sorted.get nat_cmp keys.now) op) && is_some (spot_in (rows_of rows.now.items) (sorted.get nat_cmp keys.now) sibs.now.homes place)) ≡ false)
-        (λ p. (Some p.0 ≡ held_slot (rows_of rows.now.items) (sorted.get nat_cmp keys.now) op) × (Some (p.1, p.2) ≡ spot_in (rows_of rows.now.items) (sorted.get nat_cmp keys.now) sibs.now.homes place)) }
+    ensures { MatchOption result ((is_some (held_slot (rows_of rows.now.items) (finmap.get keys.now) op) && is_some (spot_in (rows_of rows.now.items) (finmap.get keys.now) sibs.now.homes place)) ≡ false)
+        (λ p. (Some p.0 ≡ held_slot (rows_of rows.now.items) (finmap.get keys.now) op) × (Some (p.1, p.2) ≡ spot_in (rows_of rows.now.items) (finmap.get keys.now) sibs.now.homes place)) }
 {
     let key = find_held(rows, keys, op)?;
     let (head, before) = find_spot(rows, keys, sibs, place)?;

@@ -1,8 +1,8 @@
 //! The module under edits.
 ghost use Rattle.std.specs.Prelude.{◌≡◌, ℕ, eqb, Some, None, MatchResult, MatchBool, option_map, IfOk, false, true, ◌<◌, OnOk, OnErr, []};
-ghost use Rattle.std.specs.BTreeMap as sorted;
+ghost use Rattle.std.specs.FinMap as finmap;
 ghost use Rattle.std.specs.Ordering.{nat_cmp};
-ghost use Rattle.ir_tree.specs.Ids.{has_id};
+ghost use Rattle.ir_tree.specs.Ids.{has_id, op_count};
 ghost use Rattle.ir_tree.specs.Tree.{head};
 ghost use Rattle.ir_store_linked.specs.Rows.{rows_of, row_of};
 ghost use Rattle.ir_store_linked.specs.Spells.{Spelled, Spelled-prop};
@@ -27,6 +27,7 @@ use crate::uses::{
     value_head,
 };
 use chains::Chains;
+use id_table::IdTable;
 use ir_tree::place::Place;
 use ir_tree::tree::TreeOp;
 use ir_tree::value::Value;
@@ -34,7 +35,6 @@ use ir_types::ids::{OpId, TypeId};
 use ir_types::refusal::Refusal;
 use order::Ordered;
 use std::alloc::{AllocError, Global};
-use std::collections::BTreeMap;
 use std::marker::Model;
 
 /// A module under edits: its operations in slots, linked in lists.
@@ -49,14 +49,16 @@ pub struct Store {
     pub(crate) cells: Vec<Cell>,
     pub(crate) root: usize,
     pub(crate) next: u32,
+    /// How many operations the module has.
+    pub(crate) count: u64,
     ghost spelled: { Spelled (rows_of rows.items) sibs.lists root } by { Spelled-prop (rows_of rows.items) sibs.lists root },
-    ghost holds: { HoldsOf (rows_of rows.items) (sorted.get nat_cmp keys) } by { HoldsOf-prop (rows_of rows.items) (sorted.get nat_cmp keys) },
-    ghost lacks: { GoneOf (rows_of rows.items) (sorted.get nat_cmp keys) } by { GoneOf-prop (rows_of rows.items) (sorted.get nat_cmp keys) },
+    ghost holds: { HoldsOf (rows_of rows.items) (finmap.get keys) } by { HoldsOf-prop (rows_of rows.items) (finmap.get keys) },
+    ghost lacks: { GoneOf (rows_of rows.items) (finmap.get keys) } by { GoneOf-prop (rows_of rows.items) (finmap.get keys) },
 }
 
 impl Model for Store {
     ghost use Rattle.std.specs.Prelude.{eqb};
-    ghost use Rattle.std.specs.BTreeMap as sorted;
+    ghost use Rattle.std.specs.FinMap as finmap;
     ghost use Rattle.std.specs.Ordering.{nat_cmp};
     ghost use Rattle.ir_store_linked.specs.Stored.{Stored, stored_code};
     ghost use Rattle.ir_store_linked.specs.Rows.{rows_of};
@@ -68,7 +70,7 @@ impl Model for Store {
 
     ghost view = { λ s. record { module_of = record { tree = s.spelled.0; next = s.next }; held = s.holds.0; gone = s.lacks.0 } };
 
-    ghost invariant = { λ s. Fits (rows_of s.rows.items) (sorted.get nat_cmp s.keys) s.sibs s.root s.spelled.0 s.uses.homes (cells_of s.cells.items) };
+    ghost invariant = { λ s. Fits (rows_of s.rows.items) (finmap.get s.keys) s.sibs s.root s.spelled.0 s.uses.homes (cells_of s.cells.items) s.count s.next };
 }
 
 impl Store {
@@ -77,6 +79,13 @@ impl Store {
         ensures { result ≡ self.now.module_of.next }
     {
         self.next
+    }
+
+    /// How many operations the module has, the root included.
+    pub fn op_count(&self) -> u64
+        ensures { result ≡ op_count self.now.module_of.tree }
+    {
+        self.count
     }
 
     /// Whether an operation is in the module.
@@ -105,6 +114,7 @@ impl Store {
         let (base, count) = use_run(&self.rows, key);
         free_uses(&mut self.uses, base, count);
         self.sibs.remove(key);
+        self.count -= 1;
         let row = &mut self.rows[key];
         row.live = false;
         Ok(())
@@ -124,6 +134,7 @@ impl Store {
         };
         lead_row(&mut self.uses, &self.rows, &self.keys, key);
         link(&mut self.sibs, key, head, before);
+        self.count += 1;
         let row = &mut self.rows[key];
         row.live = true;
         self.next = raised(fresh, op, self.next);
@@ -229,8 +240,8 @@ impl Store {
             Err(e) => return Err(e),
         };
         match self.keys.insert(op.number(), key) {
-            Ok(_) => {}
-            Err(e) => return Err(AllocError::from(e)),
+            Ok(()) => {}
+            Err(e) => return Err(e),
         }
         put_row(&mut self.rows, key, row);
         Ok(())
@@ -240,7 +251,8 @@ impl Store {
 impl Store {
     /// A module of one operation without operands: one like a header, without the operations in its blocks.
     pub(crate) fn seed(alloc: Global, header: &TreeOp, next: u32) -> Result<Store, AllocError>
-        requires { (head header.now).operands ≡ [] }
+        requires bare { (head header.now).operands ≡ [] }
+        requires below { (head header.now).id < next }
         ensures { IfOk result (λ s. s ≡ seeded header.now next) }
     {
         let mut rows = Vec::new(alloc);
@@ -253,14 +265,17 @@ impl Store {
             Ok(grown) => grown,
             Err(e) => return Err(e),
         };
-        let mut keys = BTreeMap::new(alloc);
-        match keys.insert(header.id.number(), root) {
-            Ok(_) => {}
-            Err(e) => return Err(AllocError::from(e)),
-        }
-        put_row(&mut rows, root, live_row(row));
         sibs.laws();
         uses.laws();
+        let mut keys = match IdTable::new(alloc, 0) {
+            Ok(keys) => keys,
+            Err(e) => return Err(e),
+        };
+        match keys.insert(header.id.number(), root) {
+            Ok(()) => {}
+            Err(e) => return Err(e),
+        }
+        put_row(&mut rows, root, live_row(row));
         Ok(Store {
             alloc,
             rows,
@@ -270,6 +285,7 @@ impl Store {
             cells,
             root,
             next,
+            count: 1,
         })
     }
 }

@@ -3,7 +3,7 @@ ghost use Rattle.std.specs.Prelude.{◌≡◌, ◌<◌, ℕ, List, map, length, 
 ghost use Rattle.ir_store_linked.specs.Rows.{row_of, rows_of, row_at, shape_of};
 ghost use Rattle.ir_store_linked.specs.Index.{AreHeads, ArgHeads, CanFree, HasHeads, all_idle, args_idle, row_idle, freed, result_head, argument_head, slot_head};
 ghost use Rattle.std.specs.Prelude.{eqb};
-ghost use Rattle.std.specs.BTreeMap as sorted;
+ghost use Rattle.std.specs.FinMap as finmap;
 ghost use Rattle.std.specs.Ordering.{nat_cmp};
 ghost use Rattle.chains.specs.Lists.{free, IsHead};
 ghost use Rattle.ir_tree.specs.Frames.{owner_of};
@@ -147,9 +147,9 @@ pub(crate) fn value_head(
     uses: &Chains,
     value: &Value,
 ) -> Option<usize>
-    requires head { (h : ℕ) → value_head (rows_of rows.now.items) (sorted.get nat_cmp keys.now) value.now ≡ Some h → IsHead uses.now.homes h }
+    requires head { (h : ℕ) → value_head (rows_of rows.now.items) (finmap.get keys.now) value.now ≡ Some h → IsHead uses.now.homes h }
     requires few { length uses.now.homes < free }
-    ensures { result ≡ value_head (rows_of rows.now.items) (sorted.get nat_cmp keys.now) value.now }
+    ensures { result ≡ value_head (rows_of rows.now.items) (finmap.get keys.now) value.now }
 {
     let key = slot(keys, owner(value))?;
     slot_head(rows, key, value)
@@ -173,8 +173,8 @@ pub(crate) fn lead_uses(
     base: usize,
     operands: &[Value],
 )
-    requires { CanLead (value_head (rows_of rows.now.items) (sorted.get nat_cmp keys.now)) base operands.now uses.old.homes }
-    ensures { uses.new.homes ≡ all_led (value_head (rows_of rows.now.items) (sorted.get nat_cmp keys.now)) base operands.now uses.old.homes }
+    requires { CanLead (value_head (rows_of rows.now.items) (finmap.get keys.now)) base operands.now uses.old.homes }
+    ensures { uses.new.homes ≡ all_led (value_head (rows_of rows.now.items) (finmap.get keys.now)) base operands.now uses.old.homes }
 {
     let mut at = base;
     let mut rest = operands;
@@ -208,7 +208,7 @@ pub(crate) fn find_idle(
 ) -> Result<usize, Refusal>
     requires blocks { (k : ℕ) → Live (rows_of rows.now.items) k → AllHeads sibs.now.homes (row_at (rows_of rows.now.items) k).shapes }
     requires values { (k : ℕ) → Live (rows_of rows.now.items) k → HasHeads (rows_of rows.now.items) uses.now.homes k }
-    ensures { result ≡ idle_in (rows_of rows.now.items) uses.now.lists (leaf_in (rows_of rows.now.items) sibs.now.lists root (live_slot (rows_of rows.now.items) (sorted.get nat_cmp keys.now) op)) }
+    ensures { result ≡ idle_in (rows_of rows.now.items) uses.now.lists (leaf_in (rows_of rows.now.items) sibs.now.lists root (live_slot (rows_of rows.now.items) (finmap.get keys.now) op)) }
 {
     let key = match find_leaf(rows, keys, sibs, root, op) {
         Ok(key) => key,
@@ -223,9 +223,9 @@ pub(crate) fn find_idle(
 
 /// The head of the uses of a value of the module.
 fn live_head(rows: &Vec<Row>, keys: &Keys, uses: &Chains, value: &Value) -> Option<usize>
-    requires head { (h : ℕ) → value_head (rows_of rows.now.items) (sorted.get nat_cmp keys.now) value.now ≡ Some h → IsHead uses.now.homes h }
+    requires head { (h : ℕ) → value_head (rows_of rows.now.items) (finmap.get keys.now) value.now ≡ Some h → IsHead uses.now.homes h }
     requires few { length uses.now.homes < free }
-    ensures { result ≡ value_head (rows_of rows.now.items) (live_slot (rows_of rows.now.items) (sorted.get nat_cmp keys.now)) value.now }
+    ensures { result ≡ value_head (rows_of rows.now.items) (live_slot (rows_of rows.now.items) (finmap.get keys.now)) value.now }
 {
     let key = find(rows, keys, owner(value))?;
     slot_head(rows, key, value)
@@ -240,9 +240,9 @@ pub(crate) fn find_rewire(
     place: usize,
     value: &Value,
 ) -> Result<(usize, usize), Refusal>
-    requires head { (h : ℕ) → value_head (rows_of rows.now.items) (sorted.get nat_cmp keys.now) value.now ≡ Some h → IsHead uses.now.homes h }
+    requires head { (h : ℕ) → value_head (rows_of rows.now.items) (finmap.get keys.now) value.now ≡ Some h → IsHead uses.now.homes h }
     requires few { length uses.now.homes < free }
-    ensures { result ≡ with_head (operand_in (rows_of rows.now.items) place (live_slot (rows_of rows.now.items) (sorted.get nat_cmp keys.now) op)) (value_head (rows_of rows.now.items) (live_slot (rows_of rows.now.items) (sorted.get nat_cmp keys.now)) value.now) }
+    ensures { result ≡ with_head (operand_in (rows_of rows.now.items) place (live_slot (rows_of rows.now.items) (finmap.get keys.now) op)) (value_head (rows_of rows.now.items) (live_slot (rows_of rows.now.items) (finmap.get keys.now)) value.now) }
 {
     let key = match find_operand(rows, keys, op, place) {
         Ok(key) => key,
@@ -265,8 +265,8 @@ pub(crate) fn use_node(rows: &Vec<Row>, key: usize, place: usize) -> usize
 
 /// Puts the nodes of a slot's operands into the lists of the operands.
 pub(crate) fn lead_row(uses: &mut Chains, rows: &Vec<Row>, keys: &Keys, key: usize)
-    requires { CanLead (value_head (rows_of rows.now.items) (sorted.get nat_cmp keys.now)) (row_at (rows_of rows.now.items) key).uses (row_at (rows_of rows.now.items) key).head.operands uses.old.homes }
-    ensures { uses.new.homes ≡ all_led (value_head (rows_of rows.now.items) (sorted.get nat_cmp keys.now)) (row_at (rows_of rows.now.items) key).uses (row_at (rows_of rows.now.items) key).head.operands uses.old.homes }
+    requires { CanLead (value_head (rows_of rows.now.items) (finmap.get keys.now)) (row_at (rows_of rows.now.items) key).uses (row_at (rows_of rows.now.items) key).head.operands uses.old.homes }
+    ensures { uses.new.homes ≡ all_led (value_head (rows_of rows.now.items) (finmap.get keys.now)) (row_at (rows_of rows.now.items) key).uses (row_at (rows_of rows.now.items) key).head.operands uses.old.homes }
 {
     match rows.get(key) {
         None => {}
@@ -321,7 +321,7 @@ pub(crate) fn list_uses(
 
 /// The type of a value of the module.
 pub(crate) fn live_type(rows: &Vec<Row>, keys: &Keys, value: &Value) -> Option<TypeId>
-    ensures { result ≡ type_in (rows_of rows.now.items) (live_slot (rows_of rows.now.items) (sorted.get nat_cmp keys.now)) value.now }
+    ensures { result ≡ type_in (rows_of rows.now.items) (live_slot (rows_of rows.now.items) (finmap.get keys.now)) value.now }
 {
     let key = find(rows, keys, owner(value))?;
     let row = rows.get(key)?;

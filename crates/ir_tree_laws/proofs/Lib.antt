@@ -24,3 +24,4 @@ pub mod Undone
 pub mod Reverted
 pub mod Neighbours
 pub mod Nested
+pub mod ShiftSight

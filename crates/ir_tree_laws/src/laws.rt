@@ -1,5 +1,5 @@
 //! Laws of trees. Each is a function that does nothing: its contract is the law.
-ghost use Rattle.std.specs.Prelude.{◌≡◌, ◌≤◌, ◌+◌, ◌&&◌, ◌||◌, ◌-◌, not, ℕ, Bool, true, false, List, [], ◌∷◌, ◌++◌, map, length, eqb, Option, Some, None, option_map};
+ghost use Rattle.std.specs.Prelude.{◌≡◌, ◌↔◌, ◌<◌, ◌≤◌, ◌+◌, ◌&&◌, ◌||◌, ◌-◌, not, ℕ, Bool, true, false, List, [], ◌∷◌, ◌++◌, map, length, eqb, Option, Some, None, option_map};
 ghost use Rattle.std.specs.List.{filter, list_all, list_any};
 ghost use Rattle.ir_types.specs.Things.{Things};
 ghost use Rattle.ir_types.specs.Terms.{name_term, type_term, attr_term};
@@ -7,6 +7,7 @@ ghost use Rattle.ir_types.specs.Words.{is_isolated, is_table};
 ghost use Rattle.ir_tree.specs.declared.place.Part.{Part as Dictionary};
 ghost use Rattle.ir_tree.specs.declared.place.Place.{Place as Spot};
 ghost use Rattle.ir_tree.specs.declared.value.Value.{Value as TreeValue};
+ghost use Rattle.ir_tree.specs.declared.value.Value.TheVariants.{Result as ResultOf};
 ghost use Rattle.ir_tree.specs.Tree.{HeadOf, OpOf, Op, RegionsOf, op, head, op_list, ops_of, regions};
 ghost use Rattle.ir_tree.specs.Ids.{HasDistinctIds, IsNumberedFrom, find, has_id, ids, op_count, regions_ids};
 ghost use Rattle.ir_tree.specs.Limits.{depth, every, most_next, most_ops, op_fits};
@@ -115,6 +116,14 @@ pub fn what_is_left_stays<N, T, A>()
 pub fn shifting_is_taking_and_putting<N, T, A>()
     ensures { (x : ℕ) (place : Spot) (t o : OpOf N T A) → HasDistinctIds t → find x t ≡ Some o → eqb (head t).id x ≡ false → has_place place t ≡ true → leads_inside place (Some o) ≡ false
         → MayPut place o (without x t) × (shifted x place t ≡ put place o (without x t)) }
+{}
+
+/// Where an operation of a tree whose operations see their operands is shifted, they still do so just where those
+/// inside it do, and the users of its results see these.
+pub fn shifting_asks_what_is_inside_and_the_users<N, T, A>()
+    ensures { (isolated : N → Bool) (x : ℕ) (place : Spot) (t o : OpOf N T A) → HasDistinctIds t → operands_visible isolated t ≡ true → find x t ≡ Some o → eqb (head t).id x ≡ false → has_place place t ≡ true → leads_inside place (Some o) ≡ false
+        → (operands_visible isolated (shifted x place t) ≡ true) ↔ ((every (λ q. list_all (visible isolated (shifted x place t) (head q).id) (head q).operands) o ≡ true)
+        × ((k : ℕ) → k < length (head o).results → list_all (λ u. visible isolated (shifted x place t) u.0 (ResultOf x k)) (uses_of (ResultOf x k) t) ≡ true)) }
 {}
 
 /// Edits against which no reason stands leave a module well-formed.

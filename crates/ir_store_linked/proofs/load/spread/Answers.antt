@@ -3,7 +3,7 @@ use Rattle.ir_tree.specs.Tree.{head, regions, regions_of}
 use Rattle.ir_tree.specs.Ids.{regions_ids}
 use Rattle.ir_tree.specs.View.{region_view}
 use Rattle.ir_store_linked.specs.Loads.{Adds, put_regions, MayRegions, AreBelow}
-use Rattle.ir_store_linked.proofs.Loading.{root_may, root_below, root_loaded}
+use Rattle.ir_store_linked.proofs.Loading.{root_may, root_below, root_loaded, head_below}
 use Rattle.ir_store_linked.proofs.load.spread.Goals as goal
 
 pub load_regions-requires-clause-may : goal.load_regions-requires-clause-may
@@ -23,3 +23,6 @@ returns c =
     root_loaded c.args.tree.now c.requires.distinct c.args.next c.requires.below s c.in_ok-store.ensures c.load_regions.new.store
     (subst (λ z. Adds (put_regions z 0 (regions c.args.tree.now) s.module_of.tree) (regions_ids (regions c.args.tree.now)) s c.load_regions.new.store) (ap (λ z. (head z).id) c.tree.view_is)
     (subst (λ z. Adds (put_regions c.tree.inside.id 0 z s.module_of.tree) (regions_ids z) s c.load_regions.new.store) (ap regions c.tree.view_is) c.in_ok-load_regions.ensures))
+
+pub seed-requires-clause-below : goal.seed-requires-clause-below
+seed-requires-clause-below c = head_below c.args.next c.args.tree.now c.requires.below

@@ -1,7 +1,6 @@
 use Rattle.std.proofs.Common.{◌∙◌, ap}
 use Rattle.std.specs.Prelude.{is_some}
-use Rattle.std.specs.BTreeMap as sorted
-use Rattle.std.specs.Ordering.{nat_cmp}
+use Rattle.std.specs.FinMap as finmap
 use Rattle.ir_tree.specs.Ids.{has_id}
 use Rattle.ir_store_linked.specs.Rows.{rows_of}
 use Rattle.ir_store_linked.proofs.Slots.{in_tree_is}
@@ -11,5 +10,5 @@ pub returns : goal.returns
 returns c =
     let a = c.self.inside in
     c.is_some.ensures ∙ ap is_some c.find.ensures
-    ∙ in_tree_is (rows_of a.rows.items) (sorted.get nat_cmp a.keys) a.sibs a.root a.spelled.0 c.self.invariant.right a.spelled.1 c.args.op
+    ∙ in_tree_is (rows_of a.rows.items) (finmap.get a.keys) a.sibs a.root a.spelled.0 c.self.invariant.right a.spelled.1 c.args.op
     ∙ ap (λ s. has_id c.args.op s.module_of.tree) c.self.view_is

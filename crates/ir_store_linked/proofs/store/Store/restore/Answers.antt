@@ -1,8 +1,8 @@
-use Rattle.std.proofs.Common.{◌∙◌, sym, ap, subst}
+use Rattle.std.proofs.Common.{◌∙◌, sym, ap, subst, arith}
 use Rattle.ir_store_linked.specs.Calls.{after_restore, CanRestore}
 use Rattle.ir_store_linked.proofs.Called.{same_inside}
 use Rattle.ir_store_linked.proofs.Spotted.{joint_head, joint_given}
-use Rattle.ir_store_linked.proofs.Whole.{restore_found, restore_before, restore_lead, restore_fits, restore_done}
+use Rattle.ir_store_linked.proofs.Whole.{restore_found, restore_before, restore_lead, restore_fits, restore_done, count_few}
 use Rattle.ir_store_linked.proofs.store.Store.restore.Goals as goal
 
 pub same-self : goal.same-self
@@ -26,7 +26,7 @@ invariant_of-self-inside-2 c =
 pub invariant_of-self : goal.invariant_of-self
 invariant_of-self c =
     restore_fits c.self.inside c.self.invariant c.laws.ensures c.args.op c.args.place c.args.fresh (subst (CanRestore c.args.op c.args.place c.args.fresh) (sym c.self.view_is) c.requires) c.in-Some.key c.in-Some.ensures.0 c.in-Some.head c.in-Some.before c.in-Some.ensures.1
-    c.index_mut-row.result.now c.index_mut-row.ensures.value c.link.new.sibs c.link.ensures.lists c.link.ensures.homes c.lead_row.new.uses.homes c.lead_row.ensures c.self-3-1.given.0
+    c.index_mut-row.result.now c.index_mut-row.ensures.value c.link.new.sibs c.link.ensures.lists c.link.ensures.homes c.lead_row.new.uses.homes c.lead_row.ensures c.self-3-1.given.0 c.raised-self-inside.result c.raised-self-inside.ensures
 
 pub returns : goal.returns
 returns c =
@@ -37,3 +37,6 @@ returns c =
 pub link-requires-clause-before : goal.link-requires-clause-before
 link-requires-clause-before c =
     restore_before c.self.inside c.self.invariant c.laws.ensures c.args.op c.args.place c.args.fresh (subst (CanRestore c.args.op c.args.place c.args.fresh) (sym c.self.view_is) c.requires) c.in-Some.key c.in-Some.ensures.0 c.in-Some.head c.in-Some.before c.in-Some.ensures.1
+
+pub overflow_add-self : goal.overflow_add-self
+overflow_add-self c = let few = count_few c.self.inside c.self.invariant in omega arith

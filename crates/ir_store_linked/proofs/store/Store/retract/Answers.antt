@@ -1,15 +1,17 @@
-use Rattle.std.proofs.Common.{◌∙◌, sym, ap, subst, ◌≡◌}
+use Rattle.std.proofs.Common.{◌∙◌, sym, ap, ◌≡◌, false}
 use Rattle.ir_store_linked.specs.Calls.{after_take, lowered}
-use Rattle.ir_store_linked.specs.Spells.{Spelled, Spelled-prop}
-use Rattle.ir_store_linked.specs.Index.{Fits, cells_of}
-use Rattle.ir_store_linked.proofs.Called.{rows_in, keys_in, stored, same_inside}
+use Rattle.ir_tree.specs.Ids.{has_id}
+use Rattle.ir_store_linked.proofs.Called.{stored, same_inside}
+use Rattle.ir_store_linked.proofs.Tally.{left_out}
+use Rattle.ir_store_linked.proofs.Whole.{lower_fits}
 use Rattle.ir_store_linked.proofs.store.Store.retract.Goals as goal
 
 pub invariant_of-self : goal.invariant_of-self
 invariant_of-self c =
     let a = c.self.inside in
-    subst (λ (z : Spelled (rows_in a) a.sibs.lists a.root). Fits (rows_in a) (keys_in a) a.sibs a.root z.0 a.uses.homes (cells_of a.cells.items))
-    (Spelled-prop (rows_in a) a.sibs.lists a.root a.spelled c.self-1.given.0) c.self.invariant
+    let e : stored a ≡ after_take c.args.op c.args.self.now = c.self.view_is ∙ c.in-Ok.ensures.1 in
+    let out : has_id c.args.op a.spelled.0 ≡ false = ap (λ z. has_id c.args.op z.module_of.tree) e ∙ left_out c.args.op c.args.self.now.module_of.tree c.requires.inner in
+    lower_fits a c.self.invariant c.args.op (ap (λ z. z.module_of.next) e ∙ c.requires.newest c.if-fresh.true) out c.number-self-inside.result c.number-self-inside.ensures c.self-1.given.0
 
 pub returns-then-fresh : goal.returns-then-fresh
 returns-then-fresh c =

@@ -55,7 +55,7 @@ invariant_of-self-inside-2 c =
 pub invariant_of-self : goal.invariant_of-self
 invariant_of-self c =
     let p = rewired c.self.inside c.self.invariant c.args.op c.args.place c.args.value (Ok c.in-Ok.found) c.in-Ok.ensures in
-    rewire_fits c.self.inside c.self.invariant c.args.op c.args.place c.args.value c.in-Ok.found.0 c.in-Ok.found.1 p.0 p.1.0 p.1.1.1 c.index_mut-row.result.now c.index_mut-row.ensures.value c.put_operand.new.row c.put_operand.ensures c.self-3-1.given.0 c.remove.new.self.homes c.push_back.new.self.homes
+    rewire_fits c.self.inside c.self.invariant c.args.op c.args.place c.args.value c.in-Ok.found.0 c.in-Ok.found.1 p.0 p.1.0 p.1.1.1 c.index_mut-row.result.now c.index_mut-row.ensures.value c.put_operand.new.row c.put_operand.ensures p.1.1.0 c.self-3-1.given.0 c.remove.new.self.homes c.push_back.new.self.homes
     (c.remove.ensures.homes ∙ ap (λ z. set c.self.inside.uses.homes z free) c.use_node-node.ensures) (c.push_back.ensures.homes ∙ ap (λ z. set c.remove.new.self.homes z c.in-Ok.found.1) c.use_node-node.ensures)
 
 pub returns : goal.returns

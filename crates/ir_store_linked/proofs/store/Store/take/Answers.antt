@@ -5,6 +5,7 @@ use Rattle.ir_tree_laws.specs.Reasons.{take_reason}
 use Rattle.ir_store_linked.proofs.Called.{rows_in, keys_in, same_inside, cut_given, cut_done}
 use Rattle.ir_store_linked.proofs.Taking.{heads_of}
 use Rattle.ir_store_linked.proofs.Whole.{find_values, plan, free_run, take_fits}
+use Rattle.ir_tree_laws.proofs.Reasoned.{no_take_reason}
 use Rattle.ir_store_linked.proofs.store.Store.take.Goals as goal
 
 pub find_idle-requires-clause-blocks : goal.find_idle-requires-clause-blocks
@@ -41,7 +42,7 @@ pub invariant_of-self : goal.invariant_of-self
 invariant_of-self c =
     let a = c.self.inside in
     let p = plan a c.self.invariant c.laws.ensures c.args.op (Ok c.in-Ok.key) c.in-Ok.ensures in
-    take_fits a c.self.invariant c.args.op c.in-Ok.key p.0 c.use_run-base.result c.use_run-base.ensures c.index_mut-row.result.now c.index_mut-row.ensures.value c.remove.new.self c.remove.ensures.lists c.remove.ensures.homes c.free_uses.new.uses.homes c.free_uses.ensures c.self-3-1.given.0
+    take_fits a c.self.invariant c.args.op c.in-Ok.key p.0 c.use_run-base.result c.use_run-base.ensures c.index_mut-row.result.now c.index_mut-row.ensures.value c.remove.new.self c.remove.ensures.lists c.remove.ensures.homes c.free_uses.new.uses.homes c.free_uses.ensures (no_take_reason c.args.op a.spelled.0 p.1).spared c.self-3-1.given.0
 
 pub returns : goal.returns
 returns c =

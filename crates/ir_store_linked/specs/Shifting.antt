@@ -1,0 +1,33 @@
+-- What shifting an operation needs, and where it goes in the slots.
+use Rattle.std.specs.Prelude.{◌≡◌, ℕ, eqb, true, false, not, ◌&&◌, Bool, if◌then◌else◌, Option, Some, None, option_map, option_and_then}
+use Rattle.ir_types.specs.declared.refusal.Refusal.{Refusal}
+use Rattle.ir_types.specs.declared.refusal.Refusal.TheVariants.{NoSuchOp, NoSuchIndex, IsRoot, IntoItself}
+use Rattle.ir_tree.specs.declared.place.Place.{Place}
+use Rattle.ir_tree.specs.Tree.{Op, OpOf, HeadOf, head}
+use Rattle.ir_tree.specs.Ids.{find, has_id}
+use Rattle.ir_tree_laws.specs.Tables.{table_of}
+use Rattle.ir_tree_laws.specs.Reasons.{unless, has_place, leads_inside}
+
+-- operation x is there and not the root, and the place is there and not within it
+pub record CanRelink (x : ℕ) (place : Place) (t : Op) : Type 0 where
+  pub there : has_id x t ≡ true
+  pub inner : eqb (head t).id x ≡ false
+  pub spot : has_place place t ≡ true
+  pub outside : leads_inside place (find x t) ≡ false
+
+-- to move operation x to a place, where its table, how deep it comes to stand and what is seen then aren't looked at:
+-- it or the place's parent isn't there; it is the root; no such place; the place is within it
+abbrev pub relink_reason : {N T A : Type 0} → ℕ → Place → OpOf N T A → Option Refusal
+relink_reason x place t =
+    unless (has_id x t && has_id place.parent t) NoSuchOp
+    (unless (not (eqb (head t).id x)) IsRoot
+    (unless (has_place place t) NoSuchIndex
+    (unless (not (leads_inside place (find x t))) IntoItself None)))
+
+-- the nearest operation, from one with a head up, whose name passes a test, where `near` is the nearest around it
+abbrev pub near_table : {N T A : Type 0} → (N → Bool) → Option (Option ℕ) → Option (HeadOf N T A) → Option ℕ
+near_table is_table near h = option_and_then (λ h. if is_table h.name then Some h.id else option_and_then (λ z. z) near) h
+
+-- from operation x up
+abbrev pub table_at : {N T A : Type 0} → (N → Bool) → ℕ → OpOf N T A → Option ℕ
+table_at is_table x t = near_table is_table (table_of is_table x t) (option_map head (find x t))
