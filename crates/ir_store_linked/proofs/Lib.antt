@@ -33,4 +33,5 @@ mod Loaded
 mod Loading
 mod Copied
 mod Fresh
+mod Gaps
 mod Putting

@@ -16,3 +16,4 @@ pub mod Loads
 pub mod Releases
 pub mod Puts
 pub mod Heading
+pub mod Sights
