@@ -1,5 +1,6 @@
-//! The slots of ids. Ids below a bound, which is given when the table is made, are found in one step; the others, whatever
-//! they are, in as many steps as a sorted map takes. So ids that someone chose can't make the table slow.
+//! The slots of ids. Ids below a bound, which is given when the table is made, and those that come in order behind it are
+//! found in one step; the others, whatever they are, in as many steps as a sorted map takes. So ids that someone chose
+//! can't make the table slow.
 //!
 //! A contract sees a finite map from ids to slots.
 #![tactic(auto)]

@@ -43,5 +43,6 @@ mod Moved
 mod Rising
 mod Tabled
 mod Fresh
+mod Gaps
 mod Putting
 mod Sighted

@@ -19,3 +19,4 @@ pub mod Heading
 pub mod Lifted
 pub mod Entered
 pub mod Shifting
+pub mod Sights
