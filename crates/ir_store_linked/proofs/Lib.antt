@@ -38,3 +38,4 @@ mod Moved
 mod Rising
 mod Tabled
 mod Sighted
+mod Walked
