@@ -39,3 +39,4 @@ mod Rising
 mod Tabled
 mod Sighted
 mod Walked
+mod Relinked

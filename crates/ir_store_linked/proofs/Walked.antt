@@ -1,15 +1,15 @@
 -- A walk over what slots spell, and how deep that is.
-use Rattle.std.proofs.Common.{◌≡◌, ℕ, zero, suc, ◌+◌, ◌-◌, ◌<◌, List, [], ◌∷◌, ◌++◌, refl, sym, ap, ◌∙◌, subst, length, Bool, true, false, eqb, ◌&&◌, ◌||◌, ⊎_elim, arith, Option, Some, None, slice_get, max}
+use Rattle.std.proofs.Common.{◌≡◌, ℕ, zero, suc, ◌+◌, ◌-◌, ◌<◌, List, [], ◌∷◌, refl, sym, ap, ◌∙◌, length, Bool, true, false, eqb, ◌&&◌, ◌||◌, ⊎_elim, arith, Option, Some, None, slice_get, max}
 use Rattle.std.specs.Prelude.{nat_le, nat_lt, if◌then◌else◌}
 use Rattle.std.specs.List.{list_all}
-use Rattle.std.proofs.lemmas.Bool.{cases_Bool, false≢true, cond-true, cond-false, eq-eqb, ne_eqb, or_left, or_right, cases_eq, cases_lt, eqb-true}
+use Rattle.std.proofs.lemmas.Bool.{false≢true, cond-true, cond-false, eq-eqb, ne_eqb, or_left, or_right, cases_eq, cases_lt, eqb-true}
 use Rattle.std.proofs.lemmas.Bool.Decides.{nat_tests}
 use Rattle.std.proofs.lemmas.List.{get_or_past}
-use Rattle.chains.specs.Lists.{free, Once, Laws, IsHead, IsItem, list_at, home_at, has, after}
-use Rattle.ir_tree.specs.Tree.{Op, op, Regions, no_regions, region, Region, empty, block, Ops, no_ops, next}
+use Rattle.chains.specs.Lists.{free, Once, Laws, IsHead, IsItem, list_at, has, after}
+use Rattle.ir_tree.specs.Tree.{Op, op, Regions, no_regions, region, empty, block, Ops, no_ops, next}
 use Rattle.ir_tree.specs.Limits.{depth, regions_depth, ops_depth}
 use Rattle.ir_store_linked.specs.Rows.{Row, Shape, row_at}
-use Rattle.ir_store_linked.specs.Spells.{SpellsOp, SpellsRegions, SpellsRegion, SpellsOps}
+use Rattle.ir_store_linked.specs.Spells.{SpellsOp, SpellsRegions, SpellsOps}
 use Rattle.ir_store_linked.specs.Shifting.{shapes_pass, slot_fits, from_slot}
 
 -- a list from its first slot on is the list

@@ -3,12 +3,15 @@ use Rattle.std.specs.Prelude.{◌≡◌, ℕ, zero, suc, List, [], ◌∷◌, eq
 use Rattle.std.specs.List.{list_all}
 use Rattle.chains.specs.Lists.{list_at}
 use Rattle.ir_types.specs.declared.refusal.Refusal.{Refusal}
-use Rattle.ir_types.specs.declared.refusal.Refusal.TheVariants.{NoSuchOp, NoSuchIndex, IsRoot, IntoItself}
+use Rattle.ir_types.specs.declared.refusal.Refusal.TheVariants.{NoSuchOp, NoSuchIndex, IsRoot, IntoItself, OtherTable, TooDeepHere}
 use Rattle.ir_tree.specs.declared.place.Place.{Place}
 use Rattle.ir_tree.specs.Tree.{Op, OpOf, HeadOf, head}
 use Rattle.ir_tree.specs.Ids.{find, has_id}
+use Rattle.ir_types.specs.Reasons.{first_reason}
+use Rattle.ir_tree.specs.Places.{shifted}
+use Rattle.ir_tree_laws.specs.Reads.{around}
 use Rattle.ir_tree_laws.specs.Tables.{table_of}
-use Rattle.ir_tree_laws.specs.Reasons.{unless, has_place, leads_inside}
+use Rattle.ir_tree_laws.specs.Reasons.{unless, has_place, leads_inside, same_table, fits_around, levels_in}
 use Rattle.ir_store_linked.specs.Rows.{Row, Shape, row_at}
 
 -- operation x is there and not the root, and the place is there and not within it
@@ -56,3 +59,11 @@ from_slot (Some k) (q ∷ ks) = if eqb q k then q ∷ ks else from_slot (Some k)
 abbrev pub level : Option ℕ → ℕ
 level None = 0
 level (Some n) = n
+
+-- to shift operation x to a place, where what is seen then isn't looked at: what is against moving it; another nearest
+-- table is around the place; too many operations would stand around one
+abbrev pub unseen_reason : {N T A : Type 0} → (N → Bool) → ℕ → Place → OpOf N T A → Option Refusal
+unseen_reason is_table x place t =
+    first_reason (relink_reason x place t)
+    (unless (same_table (table_of is_table x t) (table_of is_table x (shifted x place t))) OtherTable
+    (unless (fits_around (levels_in (find x t)) (around place.parent t)) TooDeepHere None))

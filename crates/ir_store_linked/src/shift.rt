@@ -14,7 +14,7 @@ ghost use Rattle.ir_tree_laws.specs.Reasons.{fits_around, has_place, leads_insid
 ghost use Rattle.ir_store_linked.specs.Calls.{after_shift};
 ghost use Rattle.ir_store_linked.specs.Rows.{rows_of, live_slot};
 ghost use Rattle.ir_store_linked.specs.Spots.{spot_in};
-ghost use Rattle.ir_store_linked.specs.Shifting.{CanRelink, level, relink_reason, table_at};
+ghost use Rattle.ir_store_linked.specs.Shifting.{CanRelink, level, relink_reason, table_at, unseen_reason};
 
 use crate::depth::op_fits;
 use crate::find::{Keys, find};
@@ -110,6 +110,25 @@ impl Store {
             at = place.parent;
         }
         true
+    }
+}
+
+impl Store {
+    /// Why an operation can't be shifted to a place, where what is seen then isn't looked at.
+    pub(crate) fn unseen_fault(&self, ctx: &Context, op: OpId, place: &Place) -> Option<Refusal>
+        ensures { result ≡ unseen_reason (λ n. is_table (name_term ctx.now n)) op place.now self.now.module_of.tree }
+    {
+        match self.move_fault(op, place) {
+            Some(refusal) => return Some(refusal),
+            None => {}
+        }
+        if !self.keeps_table(ctx, op, place) {
+            return Some(Refusal::OtherTable);
+        }
+        if !self.fits_in(op, place.parent) {
+            return Some(Refusal::TooDeepHere);
+        }
+        None
     }
 }
 

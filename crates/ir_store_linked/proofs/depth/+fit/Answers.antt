@@ -1,4 +1,4 @@
-use Rattle.std.proofs.Common.{◌≡◌, ◌<◌, ◌-◌, get_or, arith, refl, ◌∙◌, sym, ap, subst, map, length}
+use Rattle.std.proofs.Common.{◌<◌, ◌-◌, get_or, arith, ◌∙◌, sym, ap, subst, map, length}
 use Rattle.chains.specs.Lists.{list_at, after}
 use Rattle.ir_store_linked.specs.Rows.{rows_of, shape_of}
 use Rattle.ir_store_linked.specs.Plans.{AllHeads}

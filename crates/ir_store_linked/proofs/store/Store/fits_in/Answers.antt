@@ -1,11 +1,9 @@
-use Rattle.std.proofs.Common.{◌≡◌, sym, ◌∙◌, ap, subst, ◌-◌, Some}
+use Rattle.std.proofs.Common.{sym, ◌∙◌, ap}
 use Rattle.std.specs.Prelude.{is_some, nat_lt}
 use Rattle.std.proofs.lemmas.Bool.{false≢true}
 use Rattle.ir_tree.specs.Ids.{has_id, find}
-use Rattle.ir_tree.specs.Limits.{most_around}
 use Rattle.ir_tree_laws.specs.Reads.{around}
 use Rattle.ir_tree_laws.specs.Reasons.{levels_in}
-use Rattle.ir_store_linked.specs.Shifting.{level, slot_fits}
 use Rattle.ir_store_linked.proofs.Slots.{found, found_op, in_tree_is}
 use Rattle.ir_store_linked.proofs.Taking.{heads_of}
 use Rattle.ir_store_linked.proofs.Called.{rows_in, keys_in}

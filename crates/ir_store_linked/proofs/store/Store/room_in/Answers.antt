@@ -1,5 +1,4 @@
-use Rattle.std.proofs.Common.{◌≡◌, ◌-◌, ◌<◌, sym, ◌∙◌, arith}
-use Rattle.ir_tree.specs.Limits.{most_around}
+use Rattle.std.proofs.Common.{◌≡◌, ◌-◌, sym, ◌∙◌, arith}
 use Rattle.ir_tree_laws.specs.Reads.{around}
 use Rattle.ir_store_linked.specs.Shifting.{level}
 use Rattle.ir_store_linked.proofs.Rising.{around_up, around_none}
