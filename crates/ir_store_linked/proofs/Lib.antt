@@ -46,3 +46,5 @@ mod Fresh
 mod Gaps
 mod Putting
 mod Sighted
+mod Walked
+mod Relinked

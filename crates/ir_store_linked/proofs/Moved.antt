@@ -1,11 +1,9 @@
 -- Moving an operation, as a function's calls tell it.
-use Rattle.std.proofs.Common.{◌≡◌, ℕ, List, map, set, sym, ap, ◌∙◌, subst, false, true, ◌&&◌, Option, Some}
+use Rattle.std.proofs.Common.{◌≡◌, ℕ, List, map, set, sym, ◌∙◌, subst, false, ◌&&◌, Option, Some}
 use Rattle.std.specs.Prelude.{is_some, IfSome}
-use Rattle.std.specs.FinMap as finmap
 use Rattle.std.proofs.lemmas.Bool.{false≢true}
 use Rattle.chains.specs.Lists.{Lists, Laws, free, IsHead, IsItem, IsFree, without as drop_node}
 use Rattle.ir_tree.specs.declared.place.Place.{Place}
-use Rattle.ir_tree.specs.Ids.{HasDistinctIds}
 use Rattle.ir_tree.specs.Places.{shifted}
 use Rattle.ir_store_linked.specs.declared.store.Store.TheInside.{Inside}
 use Rattle.ir_store_linked.specs.Stored.{Stored}

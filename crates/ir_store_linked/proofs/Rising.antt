@@ -1,17 +1,22 @@
 -- What is read of a tree from an operation up, by its place.
-use Rattle.std.proofs.Common.{◌≡◌, refl, ap, sym, ◌∙◌, subst, ℕ, Bool, true, false, true≢false, eqb, eq-eqb, eqb-true, not, List, [], ◌∷◌, Option, Some, None, option_map, inl, inr}
+use Rattle.std.proofs.Common.{◌≡◌, refl, ap, sym, ◌∙◌, subst, suc, length, ◌-◌, arith, ℕ, Bool, true, false, true≢false, eqb, eq-eqb, eqb-true, not, List, [], ◌∷◌, Option, Some, None, option_map, inl, inr}
+use Rattle.std.specs.Prelude.{is_some, nat_lt}
 use Rattle.std.specs.List.{list_any}
+use Rattle.std.proofs.lemmas.Bool.Decides.{nat_tests}
+use Rattle.ir_tree.specs.Limits.{most_around}
+use Rattle.ir_tree_laws.specs.Reasons.{fits_around}
 use Rattle.ir_tree.specs.declared.place.Place.{Place}
 use Rattle.ir_tree.specs.Tree.{OpOf, head}
 use Rattle.ir_tree.specs.Ids.{HasDistinctIds, find, has_id, ids}
 use Rattle.ir_tree.specs.Places.{place_of}
 use Rattle.ir_tree_laws.specs.Members.{In}
-use Rattle.ir_tree_laws.specs.Reads.{is_within}
-use Rattle.ir_tree_laws.specs.Stands.{StepOf, StandOf, stand_id, stands, place_in}
+use Rattle.ir_tree_laws.specs.Reads.{is_within, around}
+use Rattle.ir_tree_laws.specs.Stands.{StepOf, StandOf, stand_id, stand_in, stand_of, stands, place_in}
 use Rattle.ir_tree_laws.proofs.Listed.{bool_cases}
-use Rattle.ir_tree_laws.proofs.Members.{stand, itself, within, has_around, same_stand, found_stands, stand_found}
-use Rattle.ir_tree_laws.proofs.Around.{stand_present, present_stand, around_there, place_of_member}
-use Rattle.ir_store_linked.proofs.Climbing.{Placed, placed}
+use Rattle.ir_tree_laws.proofs.Members.{stand, itself, within, has_around, same_stand, found_stands, stand_found, member, stand_of_member}
+use Rattle.ir_tree_laws.proofs.Around.{stands_around, stand_present, present_stand, around_there, place_of_member}
+use Rattle.ir_store_linked.specs.Shifting.{level}
+use Rattle.ir_store_linked.proofs.Climbing.{placed, level_up, level as old_level}
 
 same_bool : (a b : Bool) → (a ≡ true → b ≡ true) → (b ≡ true → a ≡ true) → a ≡ b
 same_bool true b f g = sym (f refl)
@@ -87,3 +92,34 @@ module _ {N T A : Type 0} (t : OpOf N T A) (d : HasDistinctIds t) (x : ℕ) wher
 
     pub within_at_up : (y : ℕ) → (y ≡ x → ⊥) → (place : Place) → place_of y t ≡ Some place → is_within y (find x t) ≡ is_within place.parent (find x t)
     within_at_up y ne place e = ap (is_within y) the_op.1 ∙ within_up the_op.0 the_op.1 y ne place e ∙ sym (ap (is_within place.parent) the_op.1)
+
+-- how many operations stand around one, by its place
+module _ {N T A : Type 0} (t : OpOf N T A) (d : HasDistinctIds t) where
+  same_level : (o : Option ℕ) → old_level o ≡ level o
+  same_level None = refl
+  same_level (Some n) = refl
+
+  pub around_up : (x : ℕ) (place : Place) → place_of x t ≡ Some place → level (around x t) ≡ suc (level (around place.parent t))
+  around_up x place e = sym (same_level (around x t)) ∙ level_up t d x place e ∙ ap suc (same_level (around place.parent t))
+
+  pub around_none : (x : ℕ) → place_of x t ≡ None → level (around x t) ≡ 0
+  around_none x n = ap level (sym (stands_around x [] t)) ∙ go (stand_in x (stands [] t)) refl
+    where
+      top : (s : StandOf N T A) → In s (stands [] t) → stand_id s ≡ x → (path : List (StepOf N T A)) → s.path ≡ path → length s.path ≡ 0
+      top s h id [] r = ap length r
+      top s h id (a ∷ q) r =
+          let bad : ◌≡◌ {A = Option Place} None (place_in (a ∷ q)) = sym n ∙ ap (λ y. place_of y t) (sym id) ∙ place_of_member t d s.here a q (subst (λ l. In (stand s.here l) (stands [] t)) r h) in
+          absurd cc
+
+      go : (f : Option (StandOf N T A)) → stand_in x (stands [] t) ≡ f → level (option_map (λ (s : StandOf N T A). length s.path) f) ≡ 0
+      go None e = refl
+      go (Some s) e = let m = member x (stands [] t) s e in top s m.0 m.1 s.path refl
+
+  pub around_some : (x : ℕ) → has_id x t ≡ true → is_some (around x t) ≡ true
+  around_some x there =
+      let w = present_stand [] t x there in
+      ap is_some (sym (stands_around x [] t) ∙ ap (option_map (λ (s : StandOf N T A). length s.path)) (ap (λ z. stand_of z t) (sym w.2) ∙ stand_of_member t d w.0 w.1))
+
+pub room_is : (n : ℕ) (o : Option ℕ) → is_some o ≡ true → nat_lt n (most_around - level o) ≡ fits_around n o
+room_is n None e = absurd (true≢false (sym e))
+room_is n (Some m) e = grind (arith, nat_tests)

@@ -1,5 +1,5 @@
 -- What moving an operation, with what stands in it, makes of the slots.
-use Rattle.std.proofs.Common.{◌≡◌, ℕ, suc, ◌+◌, ◌<◌, List, [], ◌∷◌, ◌++◌, map, set, refl, sym, ap, ◌∙◌, subst, length, Bool, true, false, eqb, cond, ◌&&◌, ◌||◌, ⊎_elim, arith, Option, Some, None, slice_get}
+use Rattle.std.proofs.Common.{◌≡◌, ℕ, suc, ◌+◌, ◌<◌, List, [], ◌∷◌, ◌++◌, map, set, refl, sym, ap, ◌∙◌, subst, length, Bool, true, false, eqb, ◌&&◌, ◌||◌, ⊎_elim, arith, Option, Some, None, slice_get}
 use Rattle.std.specs.Prelude.{IfSome}
 use Rattle.std.specs.List.{list_any}
 use Rattle.std.proofs.lemmas.Bool.{cases_eq, eqb-false, eq-eqb, ne_eqb, cond-true, cond-false, cases_Bool, false≢true, or_left, or_right, or_cases}

@@ -3,14 +3,12 @@ use Rattle.std.proofs.Common.{◌≡◌, refl, ap, sym, ◌∙◌, ℕ, Bool, tr
 use Rattle.std.specs.Prelude.{option_and_then}
 use Rattle.std.specs.Option.{option_eq}
 use Rattle.ir_tree.specs.declared.place.Place.{Place}
-use Rattle.ir_tree.specs.Tree.{Op, HeadOf, OpOf, head}
+use Rattle.ir_tree.specs.Tree.{Op, OpOf, head}
 use Rattle.ir_tree.specs.Ids.{HasDistinctIds, find, has_id}
 use Rattle.ir_tree.specs.Places.{place_of, put, without, shifted}
-use Rattle.ir_tree.proofs.Left.{left_distinct}
 use Rattle.ir_tree_laws.specs.Tables.{table_of}
 use Rattle.ir_tree_laws.specs.Reasons.{has_place, leads_inside, same_table}
-use Rattle.ir_tree_laws.specs.Restores.{MayPut}
-use Rattle.ir_tree_laws.specs.Stands.{StepOf, StandOf, stand_id, stands, stand_of, table_in, place_in}
+use Rattle.ir_tree_laws.specs.Stands.{StepOf, StandOf, stand_id, stands, table_in, place_in}
 use Rattle.ir_tree_laws.specs.Members.{In}
 use Rattle.ir_tree_laws.proofs.Readings.{stands_table}
 use Rattle.ir_tree_laws.proofs.Members.{stand, stand_found, stand_of_member, found_stands}

@@ -5,6 +5,7 @@
 
 mod beside;
 mod copy;
+mod depth;
 mod entry;
 mod find;
 mod grow;

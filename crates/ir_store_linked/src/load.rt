@@ -9,7 +9,7 @@ ghost use Rattle.ir_tree.specs.Places.{put};
 ghost use Rattle.ir_tree_laws.specs.Restores.{MayPut};
 ghost use Rattle.ir_tree_laws.specs.Values.{has_value};
 ghost use Rattle.ir_tree.specs.Meaning.{isolated_in, IsSoundIn};
-ghost use Rattle.ir_tree.specs.WellFormed.{IsWellFormed, fault};
+ghost use Rattle.ir_tree.specs.WellFormed.{IsFormed, IsWellFormed, fault};
 ghost use Rattle.ir_store_linked.specs.Calls.{Loaded};
 ghost use Rattle.ir_store_linked.specs.Emptied.{emptied};
 ghost use Rattle.ir_store_linked.specs.Loads.{end_of, put_region, put_regions, MayRegion, MayRegions, Adds, AreBelow};
@@ -151,5 +151,17 @@ impl Store {
             Ok(store) => Ok(store),
             Err(_) => Err(Refusal::Memory),
         }
+    }
+
+    /// The same module of a tree that is handed over, and is known to be formed: it isn't checked again.
+    pub fn hold(alloc: Global, ctx: &Context, tree: TreeOp, next: u32) -> Result<Store, AllocError>
+        requires sound { IsSoundIn ctx.now tree }
+        requires distinct { HasDistinctIds tree }
+        requires below { All (λ x. x < next) (ids tree) }
+        requires formed { IsFormed (isolated_in ctx.now) tree }
+        ensures ok { IfOk result (λ s. Loaded tree next s) }
+        ensures formed { IfOk result (λ s. IsWellFormed (isolated_in ctx.now) s.module_of) }
+    {
+        spread(alloc, &tree, next)
     }
 }

@@ -80,12 +80,13 @@ impl<'a> Node<'a> {
         row.areas.len()
     }
 
-    /// The types of the arguments of a region's block, if there is one.
-    pub fn arguments(&self, region: usize) -> Option<&[TypeId]>
+    /// The types of the arguments of the block of a region, or none where it has no such region, or the
+    /// region no block.
+    pub fn arguments(&self, region: u32) -> Option<&[TypeId]>
         ensures { option_map (λ a. a.now) result ≡ option_and_then (λ a. a) (slice_get self.now.arguments region) }
     {
         let row = self.row;
-        block_arguments(&row.areas, region)
+        block_arguments(&row.areas, region as usize)
     }
 }
 

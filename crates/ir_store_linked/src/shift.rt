@@ -1,6 +1,11 @@
 //! Operations, with what stands in them, moved to other places.
+<<<<<<< HEAD
 ghost use Rattle.std.specs.Prelude.{◌≡◌, eqb, length, MatchOption, Some, is_some, ◌&&◌, true, false};
 ghost use Rattle.std.specs.FinMap as finmap;
+=======
+ghost use Rattle.std.specs.Prelude.{◌≡◌, ◌-◌, eqb, length, MatchOption, Some, is_some, ◌&&◌, true, false};
+ghost use Rattle.std.specs.BTreeMap as sorted;
+>>>>>>> h_entry2
 ghost use Rattle.std.specs.Ordering.{nat_cmp};
 ghost use Rattle.ir_types.specs.Terms.{name_term};
 ghost use Rattle.ir_types.specs.Words.{is_table};
@@ -8,13 +13,15 @@ ghost use Rattle.ir_tree.specs.Tree.{Op, head};
 ghost use Rattle.ir_tree.specs.Places.{shifted};
 ghost use Rattle.ir_tree_laws.specs.Tables.{table_of};
 ghost use Rattle.ir_tree.specs.Ids.{find as the_first, has_id};
-ghost use Rattle.ir_tree_laws.specs.Reads.{is_within};
-ghost use Rattle.ir_tree_laws.specs.Reasons.{has_place, leads_inside, same_table};
+ghost use Rattle.ir_tree.specs.Limits.{most_around};
+ghost use Rattle.ir_tree_laws.specs.Reads.{around, is_within};
+ghost use Rattle.ir_tree_laws.specs.Reasons.{fits_around, has_place, leads_inside, levels_in, same_table};
 ghost use Rattle.ir_store_linked.specs.Calls.{after_shift};
 ghost use Rattle.ir_store_linked.specs.Rows.{rows_of, live_slot};
 ghost use Rattle.ir_store_linked.specs.Spots.{spot_in};
-ghost use Rattle.ir_store_linked.specs.Shifting.{CanRelink, relink_reason, table_at};
+ghost use Rattle.ir_store_linked.specs.Shifting.{CanRelink, level, relink_reason, table_at, unseen_reason};
 
+use crate::depth::op_fits;
 use crate::find::{Keys, find};
 use crate::row::Row;
 use crate::spot::{find_spot, link};
@@ -112,6 +119,25 @@ impl Store {
 }
 
 impl Store {
+    /// Why an operation can't be shifted to a place, where what is seen then isn't looked at.
+    pub(crate) fn unseen_fault(&self, ctx: &Context, op: OpId, place: &Place) -> Option<Refusal>
+        ensures { result ≡ unseen_reason (λ n. is_table (name_term ctx.now n)) op place.now self.now.module_of.tree }
+    {
+        match self.move_fault(op, place) {
+            Some(refusal) => return Some(refusal),
+            None => {}
+        }
+        if !self.keeps_table(ctx, op, place) {
+            return Some(Refusal::OtherTable);
+        }
+        if !self.fits_in(op, place.parent) {
+            return Some(Refusal::TooDeepHere);
+        }
+        None
+    }
+}
+
+impl Store {
     /// Whether an operation that may be moved to a place has the same nearest table there.
     fn keeps_table(&self, ctx: &Context, op: OpId, place: &Place) -> bool
         requires { CanRelink op place.now self.now.module_of.tree }
@@ -148,6 +174,41 @@ impl Store {
             None => false,
             Some(node) => ctx.table(node.name()),
         }
+    }
+}
+
+impl Store {
+    /// Whether an operation of the module, with what stands in it, would stand in no more others than may be where it
+    /// is moved into another.
+    fn fits_in(&self, op: OpId, parent: OpId) -> bool
+        requires op { has_id op self.now.module_of.tree ≡ true }
+        requires parent { has_id parent self.now.module_of.tree ≡ true }
+        ensures { result ≡ fits_around (levels_in (the_first op self.now.module_of.tree)) (around parent self.now.module_of.tree) }
+    {
+        self.sibs.laws();
+        self.distinct();
+        let Some(key) = find(&self.rows, &self.keys, op) else {
+            return false;
+        };
+        let room = self.room_in(parent);
+        op_fits(&self.rows, &self.sibs, key, room)
+    }
+
+    /// How many levels may come to stand in an operation of the module.
+    fn room_in(&self, op: OpId) -> u32
+        ensures { result ≡ most_around - level (around op self.now.module_of.tree) }
+    {
+        self.distinct();
+        let mut at = op;
+        let mut room = 128;
+        'around: while room > 0 {
+            let Some(place) = self.place(at) else {
+                return room;
+            };
+            at = place.parent;
+            room -= 1;
+        }
+        0
     }
 }
 

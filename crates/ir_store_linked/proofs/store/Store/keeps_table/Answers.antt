@@ -1,4 +1,4 @@
-use Rattle.std.proofs.Common.{sym, ◌∙◌, subst, ap, eqb}
+use Rattle.std.proofs.Common.{sym, ◌∙◌, eqb}
 use Rattle.std.specs.Option.{option_eq}
 use Rattle.ir_types.specs.Terms.{name_term}
 use Rattle.ir_types.specs.Words.{is_table}

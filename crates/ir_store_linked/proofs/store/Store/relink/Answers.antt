@@ -1,4 +1,4 @@
-use Rattle.std.proofs.Common.{◌≡◌, ◌∙◌, sym, ap, subst}
+use Rattle.std.proofs.Common.{◌∙◌, sym, ap, subst}
 use Rattle.ir_store_linked.specs.Calls.{after_shift}
 use Rattle.ir_store_linked.specs.Shifting.{CanRelink}
 use Rattle.ir_store_linked.proofs.Called.{same_inside}

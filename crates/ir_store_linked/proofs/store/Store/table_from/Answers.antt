@@ -1,4 +1,4 @@
-use Rattle.std.proofs.Common.{refl, sym, ◌∙◌, ◌<◌, subst, ap}
+use Rattle.std.proofs.Common.{refl, sym, ◌∙◌, ◌<◌, subst}
 use Rattle.ir_types.specs.Terms.{name_term}
 use Rattle.ir_types.specs.Words.{is_table}
 use Rattle.ir_store_linked.specs.Lifted.{level_of}
