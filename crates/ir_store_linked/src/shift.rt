@@ -1,11 +1,6 @@
 //! Operations, with what stands in them, moved to other places.
-<<<<<<< HEAD
-ghost use Rattle.std.specs.Prelude.{◌≡◌, eqb, length, MatchOption, Some, is_some, ◌&&◌, true, false};
-ghost use Rattle.std.specs.FinMap as finmap;
-=======
 ghost use Rattle.std.specs.Prelude.{◌≡◌, ◌-◌, eqb, length, MatchOption, Some, is_some, ◌&&◌, true, false};
-ghost use Rattle.std.specs.BTreeMap as sorted;
->>>>>>> h_entry2
+ghost use Rattle.std.specs.FinMap as finmap;
 ghost use Rattle.std.specs.Ordering.{nat_cmp};
 ghost use Rattle.ir_types.specs.Terms.{name_term};
 ghost use Rattle.ir_types.specs.Words.{is_table};
