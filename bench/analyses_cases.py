@@ -1,9 +1,8 @@
 #!/usr/bin/env python3
-"""Writes stdin and stdout of crates/effects_cases, symbols_cases, constants_cases and analyses_cases: whole runs with the listeners
-of effects and dead operations, of symbols, of constants (each beside that of uses), and with all six, one a line, and what they
-write by the rules (bench/reference). Run it at the top of the repository.
+"""Writes stdin and stdout of crates/analyses_cases: whole runs with some listeners, one a line, and what they write by the rules
+(bench/reference). Run it at the top of the repository.
 
-For each listener there are modules by hand, modules by chance, and scripts that set operands; for all six together edits by hand
+For diagnostics there are the cases of verifier_cases.py. For each other listener there are modules by hand, modules by chance, and scripts that set operands; for all six together edits by hand
 that change rows elsewhere, and scripts of edits, marks and rollbacks with all rows after each command. By chance is from the
 seed below."""
 import random
@@ -11,6 +10,7 @@ import sys
 
 sys.dont_write_bytecode = True
 
+import verifier_cases  # noqa: E402
 from reference import chance, script  # noqa: E402
 from reference.lines import Table, given, told  # noqa: E402
 from reference.module import text_of  # noqa: E402
@@ -18,19 +18,20 @@ from reference.module import text_of  # noqa: E402
 SEED = 20
 MODULES, SCRIPTS, COMMANDS = 300, 100, 10
 KINDS = ("symbols", "effects", "dead", "constants")
-CRATES = {"symbols_cases": ("symbols",), "effects_cases": ("effects", "dead"), "constants_cases": ("constants",)}
+GROUPS = (("symbols",), ("effects", "dead"))
+WITH_EDITS = False
+TABLE = Table()
 
 
-class Cases(Table):
-    """The cases of one program, with its listeners and the commands that it is asked."""
+class Cases:
+    """Cases with some listeners, and the commands that they are asked."""
 
     def __init__(self, kinds, commands):
-        super().__init__()
         self.kinds, self.commands = kinds, commands
 
     def run(self, text, brief=True):
         status, out = script.run(text, brief, self.kinds, self.commands)
-        self.case(f"{'brief' if brief else 'full'} {given(text)}", f"{status} {told(out)}")
+        TABLE.case(f"{','.join(self.kinds)} {'brief' if brief else 'full'} {given(text)}", f"{status} {told(out)}")
         return out
 
 
@@ -216,15 +217,16 @@ def by_scripts(cases, maker):
         cases.run(script_of(text, lines, asked(script.BOXES) if brief else ""), brief)
 
 
-print("seed", SEED)
+print("seeds", SEED, verifier_cases.SEED)
 maker = random.Random(SEED)
-for crate, kinds in CRATES.items():
+for kinds in GROUPS:
     cases = Cases(("uses", *kinds), script.FIRST)
     for kind in kinds:
         by_hand(cases, kind)
         by_chance(cases, kind, maker)
-    cases.write(crate)
-cases = Cases(script.BOXES, script.ALL)
-by_edits(cases)
-by_scripts(cases, maker)
-cases.write("analyses_cases")
+verifier_cases.all_cases(Cases(verifier_cases.BOXES, script.FIRST).run)
+if WITH_EDITS:
+    cases = Cases(script.BOXES, script.ALL)
+    by_edits(cases)
+    by_scripts(cases, maker)
+TABLE.write("analyses_cases")

@@ -1,5 +1,5 @@
 //! The answer to a line.
-use crate::texts::first;
+use case_texts::texts::first;
 use crate::{lines, options, readers, replies, runs, writers};
 use std::alloc::{AllocError, Global};
 

@@ -9,7 +9,6 @@ mod options;
 mod readers;
 mod replies;
 mod runs;
-mod texts;
 mod writers;
 
 use std::alloc::AllocError;

@@ -1,6 +1,6 @@
 //! Whole runs, from bytes to bytes.
 use crate::readers::Slow;
-use crate::texts::{bytes, first, number, put_all_shown};
+use case_texts::texts::{bytes, first, number, put_all_shown};
 use crate::writers::Narrow;
 use ir_event::analysis::Analysis;
 use listeners::uses::Uses;

@@ -1,33 +1,21 @@
-#!/usr/bin/env python3
-"""Writes stdin and stdout of crates/ir_verify_cases: whole runs with the listeners of uses and diagnostics, one a line, and what
-they write by the rules (bench/reference). Run it at the top of the repository.
+"""Whole runs with the listeners of uses and diagnostics, and what they write by the rules (bench/reference); analyses_cases.py
+makes cases of them.
 
 The first cases are those of reference/examples.py, whose rows are written by hand: for each rule a module that breaks it and one
 that doesn't, what silences what, unlisted operations, edges. Then each listed operation with one change of each kind
 (reference/variations.py), scripts that set operands, and modules by chance, from the seed below."""
 import random
-import sys
 
-sys.dont_write_bytecode = True
-
-from reference import chance, examples, script, variations  # noqa: E402
-from reference.lines import Table, given, told  # noqa: E402
-from reference.module import text_of  # noqa: E402
+from reference import chance, examples, script, variations
+from reference.module import text_of
 
 SEED = 18
 MODULES = 500
 BOXES = ("uses", "diagnostics")
 ASKED = b"// -----\nreport diagnostics\n"
-table = Table()
 
 
-def case(text, brief=True):
-    status, out = script.run(text, brief, BOXES, script.FIRST)
-    table.case(f"{'brief' if brief else 'full'} {given(text)}", f"{status} {told(out)}")
-    return out
-
-
-def by_hand():
+def by_hand(case):
     """The examples, whose rows must be the same by the rules."""
     for broken, rows, mended in examples.RULES.values():
         for text, want in ((broken, rows), (mended, [])):
@@ -60,7 +48,7 @@ SCRIPTS = [
 ]
 
 
-def scripts():
+def scripts(case):
     for text, edits in SCRIPTS:
         commands = "".join(f"set-operand {edit}\nreport diagnostics\n" for edit in edits)
         case((text + "// -----\nreport diagnostics\n" + commands).encode())
@@ -81,17 +69,18 @@ def edited(maker, text):
     return text + ("// -----\n" + "\n".join(lines) + "\n").encode()
 
 
-def by_chance():
+def by_chance(case):
     maker = random.Random(SEED)
     for number in range(MODULES):
         text = text_of(chance.module(maker, maker.randrange(4, 15), maker.choice([0.05, 0.2, 0.35]))).encode()
         case(edited(maker, text) if number % 4 == 0 else text + ASKED, brief=number % 20 != 0)
 
 
-by_hand()
-scripts()
-for text in variations.texts():
-    case(text + ASKED)
-by_chance()
-print("seed", SEED)
-table.write("ir_verify_cases")
+
+def all_cases(case):
+    """Makes a case of each: of a text, and whether the module is not listed after each command."""
+    by_hand(case)
+    scripts(case)
+    for text in variations.texts():
+        case(text + ASKED)
+    by_chance(case)
