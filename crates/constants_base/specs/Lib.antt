@@ -1,0 +1,5 @@
+pub mod Heads
+pub mod Facts
+pub mod Walk
+pub mod Rows
+pub mod Reached

@@ -1,0 +1,4 @@
+//! The known values of a tree's operations: what they are, and laws of them.
+#![tactic(auto)]
+
+pub mod laws;
