@@ -1,3 +1,6 @@
 pub mod Walks
 pub mod Ordering
 pub mod Looked
+pub mod Looks
+pub mod Knowing
+pub mod Reaching

@@ -117,7 +117,7 @@ local_from_solved met (n ∷ hs) t o outside solved x out = elim (cases_eq x n.i
       ∙ ap (λ m. folded_if m t) (sym (node_there n hs x ne))
 ]
 
-node_outside : (met : List ℕ) (hs : List Header) (x : ℕ) → (In x (met_after met hs) → ⊥) → look_among hs x ≡ None
+pub node_outside : (met : List ℕ) (hs : List Header) (x : ℕ) → (In x (met_after met hs) → ⊥) → look_among hs x ≡ None
 node_outside met [] x out = refl
 node_outside met (n ∷ hs) x out = node_there n hs x (λ e. out (met_stays x (n.id ∷ met) hs (inl e))) ∙ node_outside (n.id ∷ met) hs x out
 

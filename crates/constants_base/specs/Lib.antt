@@ -3,3 +3,4 @@ pub mod Facts
 pub mod Walk
 pub mod Rows
 pub mod Reached
+pub mod Trails
