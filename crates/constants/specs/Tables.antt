@@ -1,0 +1,71 @@
+-- The table of known values, and how it follows an event.
+use Rattle.std.specs.Prelude.{◌≡◌, ℕ, ◌+◌, ◌≤◌, List, [], ◌∷◌, map, Option, None}
+use Rattle.std.specs.Ordering.{nat_cmp}
+use Rattle.std.specs.BTreeMap.{BTreeMap}
+use Rattle.std.specs.BTreeMap as tree
+use Rattle.ir_types.specs.declared.bits.Bits.{Bits}
+use Rattle.ir_tree.specs.Meaning.{Operation}
+use Rattle.ir_event.specs.declared.event.Event.{Event}
+use Rattle.ir_event.specs.declared.event.Event.TheVariants.{Put, Take, SetOperand, SetEntry, Shift}
+use Rattle.ir_event.specs.declared.row.Cell.{Cell}
+use Rattle.ir_event.specs.declared.row.Cell.TheVariants.{Val, Bits as BitsCell}
+use Rattle.ir_tree.specs.declared.value.Value.TheVariants.{Result}
+use Rattle.ir_event.specs.declared.world.World.{World}
+use Rattle.ir_event.specs.Modules.{module_in}
+use Rattle.ir_event.specs.Bounds.{op_of}
+use Rattle.dialects_int.specs.Folds.{known_of}
+use Rattle.constants_base.specs.Heads.{heads}
+use Rattle.constants_base.specs.Facts.{Header, Facts, look, value, AreLocal}
+use Rattle.constants_base.specs.Walk.{with_fact, facts_of, AreOrdered}
+use Rattle.constants_base.specs.Reached.{uses_among, reached, most_over}
+use Rattle.constants_base.specs.Trails.{IsThere}
+use Rattle.constants.specs.Phases.{SameBut}
+
+-- what a table knows
+abbrev pub known_in : BTreeMap ℕ Bits → Facts
+known_in table x = known_of (tree.get nat_cmp table x)
+
+-- the cells of an entry
+abbrev pub cells_of : ℕ × Bits → List Cell
+cells_of e = Val (Result e.0 0) ∷ BitsCell e.1 ∷ []
+
+-- the operations of a world's module, and how often the results of one are used
+abbrev pub look_in : World → ℕ → Option Header
+look_in w = look (module_in w).tree
+
+abbrev pub uses_in : World → ℕ → ℕ
+uses_in w = uses_among (heads (module_in w).tree)
+
+-- the operations of uses
+abbrev pub users_of : List (ℕ × ℕ) → List ℕ
+users_of us = map (λ (u : ℕ × ℕ). u.0) us
+
+-- facts that agreed with operations that differ at x alone agree with these, where it is done
+abbrev pub Updated : Type 0 → (ℕ → Option Header) → ℕ → Facts → Facts → Type 0
+Updated done ops x a b = IsThere ops x → (was : ℕ → Option Header) → SameBut x was ops → AreLocal was a → done → AreLocal ops b
+
+-- facts followed an event, where these operations are there now
+abbrev pub FactsFollowed : Type 0 → (ℕ → Option Header) → Event → Facts → Facts → Type 0
+FactsFollowed done ops (Put x place fresh) a b = Updated done ops x a b
+FactsFollowed done ops (Take x place fresh) a b = (y : ℕ) → b y ≡ with_fact x None a y
+FactsFollowed done ops (SetOperand x k old new) a b = Updated done ops x a b
+FactsFollowed done ops (SetEntry x part key old new) a b = Updated done ops x a b
+FactsFollowed done ops (Shift x old new) a b = (y : ℕ) → b y ≡ a y
+
+-- the looks of an update of x in a tree: at no more than what it reaches
+abbrev pub LooksWithin : Operation → ℕ → Facts → ℕ → ℕ → Type 0
+LooksWithin t x a before after =
+    IsThere (look t) x → (was : ℕ → Option Header) → SameBut x was (look t) → AreLocal was a → AreOrdered [] (heads t) → after ≤ before + most_over (reached a (facts_of t) (heads t) x) (heads t)
+
+-- those of following an event
+abbrev pub LooksFollowed : Operation → Event → Facts → ℕ → ℕ → Type 0
+LooksFollowed t (Put x place fresh) a before after = LooksWithin t x a before after
+LooksFollowed t (Take x place fresh) a before after = after ≡ before
+LooksFollowed t (SetOperand x k old new) a before after = LooksWithin t x a before after
+LooksFollowed t (SetEntry x part key old new) a before after = LooksWithin t x a before after
+LooksFollowed t (Shift x old new) a before after = after ≡ before
+
+-- operations were folded one after another
+abbrev pub WalkedIds : (ℕ → Option Header) → List ℕ → Facts → Facts → Type 0
+WalkedIds ops [] a b = (y : ℕ) → b y ≡ a y
+WalkedIds ops (x ∷ xs) a b = (m : Facts) × (IsThere ops x → (y : ℕ) → m y ≡ with_fact x (value ops a x) a y) × WalkedIds ops xs m b

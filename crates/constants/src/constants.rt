@@ -1,0 +1,101 @@
+//! The listener that keeps the known values.
+ghost use Rattle.std.specs.Prelude.{◌≡◌, ◌≤◌, ◌+◌, ◌⊎◌, ℕ, true};
+ghost use Rattle.ir_event.specs.Modules.{Module, things_in, module_in, shown_in};
+ghost use Rattle.ir_event.specs.Listener.{Told, ShowsTaken, is_take};
+ghost use Rattle.ir_event.specs.Step.{Step};
+
+use crate::collect::enter_tree;
+use crate::follow::follow;
+use crate::report::lines;
+use ir_event::analysis::Analysis;
+use ir_event::event::Event;
+use ir_event::row::{Kind, Memory, ReportFault, Row};
+use ir_event::view::View;
+use ir_event::world::World;
+use ir_types::bits::Bits;
+use ir_types::ids::OpId;
+use std::alloc::Global;
+use std::collections::BTreeMap;
+
+/// The analysis `constants`: which results are known, and their values (Operation Canonicalization, "Canonicalizing with
+/// the `fold` method").
+///
+/// It keeps each known value by the id of its operation. Where an operation changes, what was known by it is forgotten, along
+/// the users of what was forgotten; then what can be known is learnt, along the users of what was learnt.
+#[derive(Drop)]
+pub struct Constants {
+    alloc: Global,
+    table: BTreeMap<OpId, Bits>,
+    stale: bool,
+}
+
+impl Constants {
+    ghost use Rattle.constants.specs.Listeners.{constants_listener};
+
+    /// A listener that has not begun, and is stale.
+    pub fn new(alloc: Global) -> Constants
+        ensures { (constants_listener result).stale ≡ true }
+    {
+        Constants {
+            alloc,
+            table: BTreeMap::new(alloc),
+            stale: true,
+        }
+    }
+}
+
+impl Analysis for Constants {
+    ghost use Rattle.constants.specs.Listeners.{constants_listener};
+
+    ghost meaning = { constants_listener };
+
+    fn kind(&self) -> Kind {
+        Kind::new(6)
+    }
+
+    fn begin(&mut self, world: &World) -> Result<(), Memory> {
+        // What was kept goes first, so that there is room for what is kept now.
+        self.table = BTreeMap::new(self.alloc);
+        self.stale = true;
+        let Ok(tree) = world.store.tree() else {
+            return Err(Memory);
+        };
+        if !enter_tree(self.alloc, world, &tree, &mut self.table) {
+            return Err(Memory);
+        }
+        self.stale = false;
+        Ok(())
+    }
+
+    /// Where it agreed before an operation was taken it agrees afterwards, and isn't stale.
+    fn told<'a>(&mut self, view: View<'a>, event: Event) -> View<'a>
+        ensures told { Told event (things_in view.entry.world.now) (module_in view.entry.world.now) (shown_in view.entry.world.now) (constants_listener self.old) (constants_listener self.new) }
+        ensures looks { (m : Module) → Step (things_in view.entry.world.now) event m (module_in view.entry.world.now) → ShowsTaken event m (shown_in view.entry.world.now)
+            → ((constants_listener self.old).agrees (things_in view.entry.world.now) m ⊎ ((constants_listener self.old).stale ≡ true)) → result.looks ≤ view.entry.looks + (constants_listener self.old).most event m (module_in view.entry.world.now) }
+        ensures world { result.world.now ≡ view.entry.world.now }
+        ensures take { (m : Module) → is_take event ≡ true → Step (things_in view.entry.world.now) event m (module_in view.entry.world.now) → (constants_listener self.old).agrees (things_in view.entry.world.now) m → (constants_listener self.new).agrees (things_in view.entry.world.now) (module_in view.entry.world.now) }
+    {
+        if self.stale {
+            return view;
+        }
+        let mut view = view;
+        if !follow(self.alloc, &mut self.table, &mut view, &event) {
+            self.stale = true;
+        }
+        view
+    }
+
+    fn stale(&self) -> bool {
+        self.stale
+    }
+
+    fn report(&self, alloc: Global) -> Result<Vec<Row>, ReportFault> {
+        if self.stale {
+            return Err(ReportFault::Stale);
+        }
+        match lines(alloc, &self.table) {
+            Ok(rows) => Ok(rows),
+            Err(_) => Err(ReportFault::Memory),
+        }
+    }
+}

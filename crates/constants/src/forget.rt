@@ -1,0 +1,97 @@
+//! The first phase: what may have changed is forgotten.
+ghost use Rattle.std.specs.Prelude.{◌≡◌, ◌≤◌, ◌+◌, ℕ, Option, [], ◌++◌, ◌∷◌, true, if◌then◌else◌};
+ghost use Rattle.ir_tree_laws.specs.Members.{In};
+ghost use Rattle.constants_base.specs.Facts.{Header, AreLocal};
+ghost use Rattle.constants_base.specs.Trails.{total, Uses, IsTrail};
+ghost use Rattle.constants.specs.Phases.{Forgotten, Forgetting, SameBut};
+ghost use Rattle.constants.specs.Tables.{known_in, look_in, uses_in, users_of};
+
+use crate::table::{drop_fact, fact};
+use crate::users::uses_of;
+use ir_event::view::View;
+use ir_types::bits::Bits;
+use ir_types::ids::OpId;
+use std::collections::BTreeMap;
+
+/// Adds an operation to a trail. It is false where memory was refused.
+pub(crate) fn push(trail: &mut Vec<OpId>, op: OpId) -> bool
+    ensures { trail.new.items ≡ (if result then trail.old.items ++ op ∷ [] else trail.old.items) }
+{
+    trail.push(op).is_ok()
+}
+
+/// Forgets what is known of an operation's result, and adds it to the trail if something was known. It is false
+/// where memory was refused.
+fn forget(table: &mut BTreeMap<OpId, Bits>, op: OpId, trail: &mut Vec<OpId>) -> bool
+    ensures { Forgotten (result ≡ true) (λ y. y ≡ op) (known_in table.old) (known_in table.new) trail.old.items trail.new.items }
+{
+    if fact(table, op).is_none() {
+        return true;
+    }
+    if !push(trail, op) {
+        return false;
+    }
+    drop_fact(table, op);
+    true
+}
+
+/// Forgets the operations of these uses.
+fn forget_all(
+    table: &mut BTreeMap<OpId, Bits>,
+    uses: &[(OpId, usize)],
+    trail: &mut Vec<OpId>,
+) -> bool
+    ensures { Forgotten (result ≡ true) (λ y. In y (users_of uses.now)) (known_in table.old) (known_in table.new) trail.old.items trail.new.items }
+{
+    for use_of in uses {
+        if !forget(table, use_of.0, trail) {
+            return false;
+        }
+    }
+    true
+}
+
+/// Forgets the operations that use an operation's result.
+fn forget_users(
+    view: &mut View<'_>,
+    table: &mut BTreeMap<OpId, Bits>,
+    op: OpId,
+    trail: &mut Vec<OpId>,
+) -> bool
+    ensures forgotten { Forgotten (result ≡ true) (Uses (look_in view.old.world.now) op) (known_in table.old) (known_in table.new) trail.old.items trail.new.items }
+    ensures looks { view.new.looks ≤ view.old.looks + (1 + uses_in view.old.world.now op) }
+    ensures world { view.new.world.now ≡ view.old.world.now }
+{
+    let Some(uses) = uses_of(view, op) else {
+        return false;
+    };
+    forget_all(table, &uses, trail)
+}
+
+/// Forgets what may have changed with an operation, along the users of what was known. The trail gets all that was
+/// forgotten. It is false where memory was refused.
+pub(crate) fn forget_from(
+    view: &mut View<'_>,
+    table: &mut BTreeMap<OpId, Bits>,
+    op: OpId,
+    trail: &mut Vec<OpId>,
+) -> bool
+    requires { trail.old.items ≡ [] }
+    ensures forgotten { result ≡ true → (was : ℕ → Option Header) → SameBut op was (look_in view.old.world.now) → AreLocal was (known_in table.old)
+        → Forgetting (look_in view.old.world.now) op (known_in table.new) trail.new.items [] }
+    ensures trail { IsTrail (look_in view.old.world.now) (λ y. y ≡ op) (known_in table.old) trail.new.items }
+    ensures looks { view.new.looks ≤ view.old.looks + total (λ d. 1 + uses_in view.old.world.now d) trail.new.items }
+    ensures world { view.new.world.now ≡ view.old.world.now }
+{
+    if !forget(table, op, trail) {
+        return false;
+    }
+    let mut next = 0;
+    while next < trail.len() {
+        if !forget_users(view, table, trail[next], trail) {
+            return false;
+        }
+        next += 1;
+    }
+    true
+}

@@ -1,0 +1,160 @@
+//! The second phase: what can be known is learnt.
+ghost use Rattle.std.specs.Prelude.{◌≡◌, ◌≤◌, ◌+◌, ◌⊎◌, ℕ, length, true};
+ghost use Rattle.ir_tree_laws.specs.Members.{In};
+ghost use Rattle.constants_base.specs.Trails.{Uses, IsThere};
+ghost use Rattle.constants.specs.Phases.{Noted, Learnt, LearntFrom};
+ghost use Rattle.constants.specs.Tables.{known_in, look_in, uses_in, users_of};
+
+use crate::forget::push;
+use crate::table::{fact, note};
+use crate::users::{folded, uses_of};
+use ir_event::view::View;
+use ir_types::bits::Bits;
+use ir_types::ids::OpId;
+use std::alloc::Global;
+use std::collections::BTreeMap;
+
+/// Writes a value, and adds the operation to the trail. It is false where memory was refused.
+fn note_on(
+    table: &mut BTreeMap<OpId, Bits>,
+    op: OpId,
+    bits: &Bits,
+    trail: &mut Vec<OpId>,
+) -> bool
+    ensures { Noted (result ≡ true) op (bits.now.kind, bits.now.value) (known_in table.old) (known_in table.new) trail.old.items trail.new.items }
+{
+    if !note(table, op, bits) {
+        return false;
+    }
+    push(trail, op)
+}
+
+/// Writes what an operation folds to, where nothing was known, and adds it to the trail if that is something. It is
+/// false where memory was refused.
+fn learn(
+    alloc: Global,
+    view: &mut View<'_>,
+    table: &mut BTreeMap<OpId, Bits>,
+    op: OpId,
+    trail: &mut Vec<OpId>,
+) -> bool
+    ensures learnt { IsThere (look_in view.old.world.now) op → Learnt (result ≡ true) (look_in view.old.world.now) (λ y. y ≡ op) (known_in table.old) (known_in table.new) trail.old.items trail.new.items }
+    ensures looks { view.new.looks ≤ view.old.looks + 1 }
+    ensures world { view.new.world.now ≡ view.old.world.now }
+{
+    if fact(table, op).is_some() {
+        return true;
+    }
+    match folded(alloc, view, table, op) {
+        Ok(Some(bits)) => note_on(table, op, &bits, trail),
+        Ok(None) => true,
+        Err(_) => false,
+    }
+}
+
+/// Tries the operations of these uses.
+fn learn_uses(
+    alloc: Global,
+    view: &mut View<'_>,
+    table: &mut BTreeMap<OpId, Bits>,
+    uses: &[(OpId, usize)],
+    trail: &mut Vec<OpId>,
+) -> bool
+    ensures learnt { ((y : ℕ) → In y (users_of uses.now) → IsThere (look_in view.old.world.now) y)
+        → Learnt (result ≡ true) (look_in view.old.world.now) (λ y. In y (users_of uses.now)) (known_in table.old) (known_in table.new) trail.old.items trail.new.items }
+    ensures looks { view.new.looks ≤ view.old.looks + length uses.now }
+    ensures world { view.new.world.now ≡ view.old.world.now }
+{
+    for use_of in uses {
+        if !learn(alloc, view, table, use_of.0, trail) {
+            return false;
+        }
+    }
+    true
+}
+
+/// Tries each of these operations.
+fn learn_all(
+    alloc: Global,
+    view: &mut View<'_>,
+    table: &mut BTreeMap<OpId, Bits>,
+    ops: &[OpId],
+    trail: &mut Vec<OpId>,
+) -> bool
+    ensures learnt { ((y : ℕ) → In y ops.now → IsThere (look_in view.old.world.now) y)
+        → Learnt (result ≡ true) (look_in view.old.world.now) (λ y. In y ops.now) (known_in table.old) (known_in table.new) trail.old.items trail.new.items }
+    ensures looks { view.new.looks ≤ view.old.looks + length ops.now }
+    ensures world { view.new.world.now ≡ view.old.world.now }
+{
+    for op in ops {
+        if !learn(alloc, view, table, *op, trail) {
+            return false;
+        }
+    }
+    true
+}
+
+/// Tries an operation that changed, and those that were forgotten.
+fn learn_first(
+    alloc: Global,
+    view: &mut View<'_>,
+    table: &mut BTreeMap<OpId, Bits>,
+    op: OpId,
+    forgotten: &[OpId],
+    trail: &mut Vec<OpId>,
+) -> bool
+    ensures learnt { IsThere (look_in view.old.world.now) op → ((y : ℕ) → In y forgotten.now → IsThere (look_in view.old.world.now) y)
+        → Learnt (result ≡ true) (look_in view.old.world.now) (λ y. (y ≡ op) ⊎ In y forgotten.now) (known_in table.old) (known_in table.new) trail.old.items trail.new.items }
+    ensures looks { view.new.looks ≤ view.old.looks + (1 + length forgotten.now) }
+    ensures world { view.new.world.now ≡ view.old.world.now }
+{
+    if !learn(alloc, view, table, op, trail) {
+        return false;
+    }
+    learn_all(alloc, view, table, forgotten, trail)
+}
+
+/// Tries the operations that use an operation's result.
+fn learn_users(
+    alloc: Global,
+    view: &mut View<'_>,
+    table: &mut BTreeMap<OpId, Bits>,
+    op: OpId,
+    trail: &mut Vec<OpId>,
+) -> bool
+    ensures learnt { Learnt (result ≡ true) (look_in view.old.world.now) (Uses (look_in view.old.world.now) op) (known_in table.old) (known_in table.new) trail.old.items trail.new.items }
+    ensures looks { view.new.looks ≤ view.old.looks + (1 + uses_in view.old.world.now op + uses_in view.old.world.now op) }
+    ensures world { view.new.world.now ≡ view.old.world.now }
+{
+    let Some(uses) = uses_of(view, op) else {
+        return false;
+    };
+    learn_uses(alloc, view, table, &uses, trail)
+}
+
+/// Learns what can be known after an operation changed and others were forgotten. It is false where memory was
+/// refused.
+pub(crate) fn learn_from(
+    alloc: Global,
+    view: &mut View<'_>,
+    table: &mut BTreeMap<OpId, Bits>,
+    op: OpId,
+    forgotten: &[OpId],
+) -> bool
+    ensures learnt { IsThere (look_in view.old.world.now) op → ((y : ℕ) → In y forgotten.now → IsThere (look_in view.old.world.now) y)
+        → LearntFrom (result ≡ true) (look_in view.old.world.now) (uses_in view.old.world.now) op forgotten.now (known_in table.old) (known_in table.new) view.old.looks view.new.looks }
+    ensures world { view.new.world.now ≡ view.old.world.now }
+{
+    let mut trail = Vec::new(alloc);
+    if !learn_first(alloc, view, table, op, forgotten, &mut trail) {
+        return false;
+    }
+    let mut next = 0;
+    while next < trail.len() {
+        if !learn_users(alloc, view, table, trail[next], &mut trail) {
+            return false;
+        }
+        next += 1;
+    }
+    true
+}

@@ -1,0 +1,11 @@
+//! The known values of operations' results, kept up to date.
+#![tactic(auto)]
+
+mod collect;
+pub mod constants;
+mod follow;
+mod forget;
+mod learn;
+mod report;
+mod table;
+mod users;

@@ -1,0 +1,61 @@
+//! The table of known values.
+ghost use Rattle.std.specs.Prelude.{◌≡◌, ℕ, Some, None, false, IfOk, map};
+ghost use Rattle.std.specs.Bool.{OnTrue};
+ghost use Rattle.dialects_int.specs.Folds.{known_of};
+ghost use Rattle.constants_base.specs.Facts.{known, knowns};
+ghost use Rattle.constants_base.specs.Walk.{with_fact};
+ghost use Rattle.constants.specs.Tables.{known_in};
+
+use ir_tree::value::Value;
+use ir_types::bits::Bits;
+use ir_types::ids::OpId;
+use std::alloc::{AllocError, Global};
+use std::collections::BTreeMap;
+
+/// What is known of an operation's result.
+pub(crate) fn fact(table: &BTreeMap<OpId, Bits>, op: OpId) -> Option<Bits>
+    ensures { known_of result ≡ known_in table.now op }
+{
+    table.get(&op).copied()
+}
+
+/// Forgets what is known of an operation's result. This needs no memory.
+pub(crate) fn drop_fact(table: &mut BTreeMap<OpId, Bits>, op: OpId)
+    ensures { (y : ℕ) → known_in table.new y ≡ with_fact op None (known_in table.old) y }
+{
+    table.remove(&op);
+}
+
+/// Writes what is known of an operation's result. It is false where memory was refused.
+pub(crate) fn note(table: &mut BTreeMap<OpId, Bits>, op: OpId, bits: &Bits) -> bool
+    ensures noted { OnTrue result ((y : ℕ) → known_in table.new y ≡ with_fact op (known_of (Some bits.now)) (known_in table.old) y) }
+    ensures refused { result ≡ false → (y : ℕ) → known_in table.new y ≡ known_in table.old y }
+{
+    table.insert(op, *bits).is_ok()
+}
+
+/// What is known of a value.
+fn value_fact(table: &BTreeMap<OpId, Bits>, value: &Value) -> Option<Bits>
+    ensures { known_of result ≡ known (known_in table.now) value.now }
+{
+    match *value {
+        Value::Result(op, place) if place == 0 => fact(table, op),
+        Value::Result(_, _) => None,
+        Value::Arg(_, _, _) => None,
+    }
+}
+
+/// What is known of each of these values.
+pub(crate) fn value_facts(
+    alloc: Global,
+    table: &BTreeMap<OpId, Bits>,
+    values: &[Value],
+) -> Result<Vec<Option<Bits>>, AllocError>
+    ensures { IfOk result (λ r. map known_of r.items ≡ knowns (known_in table.now) values.now) }
+{
+    let mut facts = Vec::new(alloc);
+    for value in values {
+        facts.push(value_fact(table, value))?;
+    }
+    Ok(facts)
+}

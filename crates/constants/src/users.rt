@@ -1,0 +1,53 @@
+//! The operations that use the result of one, and what an operation folds to.
+ghost use Rattle.std.specs.Prelude.{◌≡◌, ◌≤◌, ◌+◌, length, IfSome, IfOk};
+ghost use Rattle.dialects_int.specs.Folds.{known_of};
+ghost use Rattle.constants_base.specs.Facts.{value};
+ghost use Rattle.constants_base.specs.Trails.{IsThere};
+ghost use Rattle.constants.specs.Phases.{AreUsers};
+ghost use Rattle.constants.specs.Tables.{known_in, look_in, uses_in, users_of};
+
+use crate::table::value_facts;
+use dialects_int::fold::fold;
+use ir_event::view::View;
+use ir_tree::value::Value;
+use ir_types::bits::Bits;
+use ir_types::ids::OpId;
+use std::alloc::{AllocError, Global};
+use std::collections::BTreeMap;
+
+/// The uses of an operation's first result, or none where memory was refused.
+pub(crate) fn uses_of(view: &mut View<'_>, op: OpId) -> Option<Vec<(OpId, usize)>>
+    ensures users { IfSome result (λ us. AreUsers (look_in view.old.world.now) op (users_of us.items)) }
+    ensures count { IfSome result (λ us. length us.items ≤ uses_in view.old.world.now op) }
+    ensures looks { view.new.looks ≤ view.old.looks + (1 + uses_in view.old.world.now op) }
+    ensures world { view.new.world.now ≡ view.old.world.now }
+{
+    match view.uses(Value::Result(op, 0)) {
+        Ok(uses) => Some(uses),
+        Err(_) => None,
+    }
+}
+
+/// What an operation that is shown folds to, from what the table knows.
+pub(crate) fn folded(
+    alloc: Global,
+    view: &mut View<'_>,
+    table: &BTreeMap<OpId, Bits>,
+    op: OpId,
+) -> Result<Option<Bits>, AllocError>
+    ensures value { IfOk result (λ r. IsThere (look_in view.old.world.now) op → known_of r ≡ value (look_in view.old.world.now) (known_in table.now) op) }
+    ensures looks { view.new.looks ≤ view.old.looks + 1 }
+    ensures world { view.new.world.now ≡ view.old.world.now }
+{
+    let Some(node) = view.node(op) else {
+        return Ok(None);
+    };
+    let operands = value_facts(alloc, table, node.operands())?;
+    Ok(fold(
+        view.context(),
+        node.name(),
+        node.properties(),
+        &operands,
+        node.results(),
+    ))
+}
