@@ -19,7 +19,7 @@ use Rattle.constants_base.specs.Facts.{Header, Facts, look, value, AreLocal}
 use Rattle.constants_base.specs.Walk.{with_fact, facts_of, AreOrdered}
 use Rattle.constants_base.specs.Reached.{uses_among, reached, most_over}
 use Rattle.constants_base.specs.Trails.{IsThere}
-use Rattle.constants.specs.Phases.{SameBut}
+use Rattle.constants_base.specs.Phases.{SameBut}
 
 -- what a table knows
 abbrev pub known_in : BTreeMap ℕ Bits → Facts

@@ -3,7 +3,7 @@ ghost use Rattle.std.specs.Prelude.{◌≡◌, ◌≤◌, ◌+◌, ℕ, Option, 
 ghost use Rattle.ir_tree_laws.specs.Members.{In};
 ghost use Rattle.constants_base.specs.Facts.{Header, AreLocal};
 ghost use Rattle.constants_base.specs.Trails.{total, Uses, IsTrail};
-ghost use Rattle.constants.specs.Phases.{Forgotten, Forgetting, SameBut};
+ghost use Rattle.constants_base.specs.Phases.{Forgotten, Forgetting, SameBut};
 ghost use Rattle.constants.specs.Tables.{known_in, look_in, uses_in, users_of};
 
 use crate::table::{drop_fact, fact};

@@ -2,7 +2,7 @@
 ghost use Rattle.std.specs.Prelude.{◌≡◌, ◌≤◌, ◌+◌, ◌⊎◌, ℕ, length, true};
 ghost use Rattle.ir_tree_laws.specs.Members.{In};
 ghost use Rattle.constants_base.specs.Trails.{Uses, IsThere};
-ghost use Rattle.constants.specs.Phases.{Noted, Learnt, LearntFrom};
+ghost use Rattle.constants_base.specs.Phases.{Noted, Learnt, LearntFrom};
 ghost use Rattle.constants.specs.Tables.{known_in, look_in, uses_in, users_of};
 
 use crate::forget::push;

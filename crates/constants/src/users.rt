@@ -3,7 +3,7 @@ ghost use Rattle.std.specs.Prelude.{◌≡◌, ◌≤◌, ◌+◌, length, IfSom
 ghost use Rattle.dialects_int.specs.Folds.{known_of};
 ghost use Rattle.constants_base.specs.Facts.{value};
 ghost use Rattle.constants_base.specs.Trails.{IsThere};
-ghost use Rattle.constants.specs.Phases.{AreUsers};
+ghost use Rattle.constants_base.specs.Phases.{AreUsers};
 ghost use Rattle.constants.specs.Tables.{known_in, look_in, uses_in, users_of};
 
 use crate::table::value_facts;

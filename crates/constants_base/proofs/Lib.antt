@@ -4,3 +4,5 @@ pub mod Looked
 pub mod Looks
 pub mod Knowing
 pub mod Reaching
+pub mod Forgets
+pub mod Learns

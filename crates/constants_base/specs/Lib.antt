@@ -4,3 +4,4 @@ pub mod Walk
 pub mod Rows
 pub mod Reached
 pub mod Trails
+pub mod Phases
