@@ -81,7 +81,7 @@ forgot_known D x v old new trail longer e is longer_is =
       all = λ d y h. ap new h ∙ gone;
     }
 
-pub forgot_more : (D E F : Type 0) (P Q R : ℕ → Type 0) (a b c : Facts) (l m n : List ℕ) → D → (F → E) → ((y : ℕ) → P y → R y) → ((y : ℕ) → Q y → R y) → ((y : ℕ) → R y → P y ⊎ Q y)
+pub forgot_more : (D E F : Type 0) (P Q R : ℕ → Type 0) (a b c : Facts) (l m n : List ℕ) → D → (F → E) → ((y : ℕ) → P y → R y) → ((y : ℕ) → Q y → R y) → (F → (y : ℕ) → R y → P y ⊎ Q y)
     → Forgotten D P a b l m → Forgotten E Q b c m n → Forgotten F R a c l n
 forgot_more D E F P Q R a b c l m n d le p q r f g = record {
   more = f.more ++ g.more;
@@ -97,7 +97,7 @@ forgot_more D E F P Q R a b c l m n d le p q r f g = record {
     | inr out ↦ g.kept z out ∙ f.gone z (elim (in_parts z f.more g.more h) [ inl k ↦ k | inr k ↦ absurd (out k) ])
   ];
   kept = λ z out. g.kept z (λ k. out (in_right z f.more g.more k)) ∙ f.kept z (λ k. out (in_left z f.more g.more k));
-  all = λ h z i. elim (r z i) [
+  all = λ h z i. elim (r h z i) [
     inl k ↦ elim (in_or_not z g.more) [ inl j ↦ g.gone z j | inr out ↦ g.kept z out ∙ f.all d z k ]
     | inr k ↦ g.all (le h) z k
   ];

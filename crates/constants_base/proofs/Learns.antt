@@ -91,7 +91,7 @@ module _ (ops : ℕ → Option Header) where
   learnt_value : (D : Type 0) (P : ℕ → Type 0) (old new : Facts) (l m : List ℕ) (f : Learnt D ops P old new l m) → D → (y : ℕ) → ((d : ℕ) → In d f.more → Uses ops d y → ⊥) → value ops new y ≡ value ops old y
   learnt_value D P old new l m f d y far = value_uses ops new old y (λ e u. f.kept d e (λ h. far e h u))
 
-  pub learnt_more : (D E F : Type 0) (P Q R : ℕ → Type 0) (a b c : Facts) (l m n : List ℕ) → D → (F → E) → ((y : ℕ) → P y → R y) → ((y : ℕ) → Q y → R y) → ((y : ℕ) → R y → P y ⊎ Q y)
+  pub learnt_more : (D E F : Type 0) (P Q R : ℕ → Type 0) (a b c : Facts) (l m n : List ℕ) → D → (F → E) → ((y : ℕ) → P y → R y) → ((y : ℕ) → Q y → R y) → (F → (y : ℕ) → R y → P y ⊎ Q y)
       → Learnt D ops P a b l m → Learnt E ops Q b c m n → Learnt F ops R a c l n
   learnt_more D E F P Q R a b c l m n d le p q r f g = record {
     more = f.more ++ g.more;
@@ -103,7 +103,7 @@ module _ (ops : ℕ → Option Header) where
     grows = λ y v h. g.grows y v (f.grows y v h);
     sound = λ h. g.sound (f.sound h);
     kept = λ h y out. g.kept (le h) y (λ k. out (in_right y f.more g.more k)) ∙ f.kept d y (λ k. out (in_left y f.more g.more k));
-    settled = λ h z i k far. elim (r z i) [
+    settled = λ h z i k far. elim (r h z i) [
       inl j ↦ learnt_value E Q b c m n g (le h) z (λ e s. far e (in_right e f.more g.more s))
           ∙ f.settled d z j (learnt_was E Q b c m n g z k) (λ e s. far e (in_left e f.more g.more s))
       | inr j ↦ g.settled (le h) z j k (λ e s. far e (in_right e f.more g.more s))

@@ -6,3 +6,4 @@ pub mod Knowing
 pub mod Reaching
 pub mod Forgets
 pub mod Learns
+pub mod Counted
