@@ -17,7 +17,10 @@ use std::collections::BTreeMap;
 pub(crate) fn push(trail: &mut Vec<OpId>, op: OpId) -> bool
     ensures { trail.new.items ≡ (if result then trail.old.items ++ op ∷ [] else trail.old.items) }
 {
-    trail.push(op).is_ok()
+    match trail.push(op) {
+        Ok(()) => true,
+        Err(_) => false,
+    }
 }
 
 /// Forgets what is known of an operation's result, and adds it to the trail if something was known. It is false

@@ -31,7 +31,10 @@ pub(crate) fn note(table: &mut BTreeMap<OpId, Bits>, op: OpId, bits: &Bits) -> b
     ensures noted { OnTrue result ((y : ℕ) → known_in table.new y ≡ with_fact op (known_of (Some bits.now)) (known_in table.old) y) }
     ensures refused { result ≡ false → (y : ℕ) → known_in table.new y ≡ known_in table.old y }
 {
-    table.insert(op, *bits).is_ok()
+    match table.insert(op, *bits) {
+        Ok(_) => true,
+        Err(_) => false,
+    }
 }
 
 /// What is known of a value.

@@ -7,3 +7,6 @@ pub mod Reaching
 pub mod Forgets
 pub mod Learns
 pub mod Counted
+pub mod Counts
+pub mod Cuts
+pub mod Events

@@ -1,0 +1,45 @@
+-- The forms in which the code of the first phase has its facts.
+use Rattle.std.proofs.Common.{◌≡◌, ◌<◌, ◌≤◌, ℕ, List, [], ◌∷◌, ◌++◌, length, map, get_or, take, Bool, true, false, true≢false, Option, Some, None, is_none, is_some, ◌⊎◌, inl, inr, refl, sym, ap, ◌∙◌, subst, cond, arith}
+use Rattle.std.proofs.lemmas.List.{take_all}
+use Rattle.ir_types.specs.declared.bits.Bits.{Bits}
+use Rattle.ir_tree_laws.specs.Members.{In}
+use Rattle.dialects_int.specs.Folds.{Known, known_of}
+use Rattle.constants_base.specs.Facts.{Facts}
+use Rattle.constants_base.specs.Phases.{Forgotten}
+use Rattle.constants.specs.Tables.{users_of}
+use Prim.Native.Nat.{zero, suc}
+
+pub never : {D : Type 0} → (b : Bool) → b ≡ false → b ≡ true → D
+never b e f = absurd (true≢false (sym f ∙ e))
+
+pub known_none : (o : Option Bits) (v : Option Known) → known_of o ≡ v → is_none o ≡ true → v ≡ None
+known_none None v e h = sym e
+known_none (Some b) v e h = absurd (true≢false (sym h))
+
+pub known_some : (o : Option Bits) (v : Option Known) → known_of o ≡ v → is_none o ≡ false → (k : Known) × (v ≡ Some k)
+known_some None v e h = absurd (true≢false h)
+known_some (Some b) v e h = ((b.kind, b.value), sym e)
+
+pub some_some : (o : Option Bits) (v : Option Known) → known_of o ≡ v → is_some o ≡ true → (k : Known) × (v ≡ Some k)
+some_some None v e h = absurd (true≢false (sym h))
+some_some (Some b) v e h = ((b.kind, b.value), sym e)
+
+pub some_none : (o : Option Bits) (v : Option Known) → known_of o ≡ v → is_some o ≡ false → v ≡ None
+some_none None v e h = sym e
+some_none (Some b) v e h = absurd (true≢false h)
+
+-- a user at its place
+pub users_length : (us : List (ℕ × ℕ)) → length (users_of us) ≡ length us
+users_length [] = refl
+users_length (u ∷ us) = ap (λ n. suc n) (users_length us)
+
+pub user_at : (us : List (ℕ × ℕ)) (i : ℕ) (u : ℕ × ℕ) → i < length us → u ≡ get_or us i u → u.0 ≡ get_or (users_of us) i u.0
+user_at [] i u lt e = absurd (omega (arith, lt))
+user_at (w ∷ us) zero u lt e = ap (λ (p : ℕ × ℕ). p.0) e
+user_at (w ∷ us) (suc i) u lt e = user_at us i u (omega (arith, lt)) e
+
+pub user_before : (us : List (ℕ × ℕ)) (i : ℕ) → i < length us → i < length (users_of us)
+user_before us i lt = let e = users_length us in omega (arith, lt, e)
+
+pub all_taken : (xs : List ℕ) (i : ℕ) (D : Type 0) (a b : Facts) (l m : List ℕ) → length xs ≤ i → Forgotten D (λ y. In y (take i xs)) a b l m → Forgotten D (λ y. In y xs) a b l m
+all_taken xs i D a b l m le f = subst (λ (z : List ℕ). Forgotten D (λ y. In y z) a b l m) (take_all i xs le) f
