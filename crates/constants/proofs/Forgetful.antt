@@ -6,27 +6,18 @@ use Rattle.ir_tree_laws.specs.Members.{In}
 use Rattle.dialects_int.specs.Folds.{Known, known_of}
 use Rattle.constants_base.specs.Facts.{Facts}
 use Rattle.constants_base.specs.Phases.{Forgotten}
+use Rattle.constants_base.proofs.Forgets.{forgot_none}
 use Rattle.constants.specs.Tables.{users_of}
 use Prim.Native.Nat.{zero, suc}
 
 pub never : {D : Type 0} → (b : Bool) → b ≡ false → b ≡ true → D
 never b e f = absurd (true≢false (sym f ∙ e))
 
-pub known_none : (o : Option Bits) (v : Option Known) → known_of o ≡ v → is_none o ≡ true → v ≡ None
-known_none None v e h = sym e
-known_none (Some b) v e h = absurd (true≢false (sym h))
+pub known_none : (o : Option Bits) (v : Option Known) → known_of o ≡ v → o ≡ None → v ≡ None
+known_none o v e h = sym e ∙ ap known_of h
 
-pub known_some : (o : Option Bits) (v : Option Known) → known_of o ≡ v → is_none o ≡ false → (k : Known) × (v ≡ Some k)
-known_some None v e h = absurd (true≢false h)
-known_some (Some b) v e h = ((b.kind, b.value), sym e)
-
-pub some_some : (o : Option Bits) (v : Option Known) → known_of o ≡ v → is_some o ≡ true → (k : Known) × (v ≡ Some k)
-some_some None v e h = absurd (true≢false (sym h))
-some_some (Some b) v e h = ((b.kind, b.value), sym e)
-
-pub some_none : (o : Option Bits) (v : Option Known) → known_of o ≡ v → is_some o ≡ false → v ≡ None
-some_none None v e h = sym e
-some_none (Some b) v e h = absurd (true≢false h)
+pub known_some : (o : Option Bits) (v : Option Known) (b : Bits) → known_of o ≡ v → o ≡ Some b → v ≡ Some (b.kind, b.value)
+known_some o v b e h = sym e ∙ ap known_of h
 
 -- a user at its place
 pub users_length : (us : List (ℕ × ℕ)) → length (users_of us) ≡ length us
@@ -43,3 +34,12 @@ user_before us i lt = let e = users_length us in omega (arith, lt, e)
 
 pub all_taken : (xs : List ℕ) (i : ℕ) (D : Type 0) (a b : Facts) (l m : List ℕ) → length xs ≤ i → Forgotten D (λ y. In y (take i xs)) a b l m → Forgotten D (λ y. In y xs) a b l m
 all_taken xs i D a b l m le f = subst (λ (z : List ℕ). Forgotten D (λ y. In y z) a b l m) (take_all i xs le) f
+
+pub pushed : (b : Bool) (x : ℕ) (l m : List ℕ) → m ≡ cond b (l ++ x ∷ []) l → b ≡ true → m ≡ l ++ x ∷ []
+pushed b x l m e h = e ∙ ap (λ b. cond b (l ++ x ∷ []) l) h
+
+pub not_pushed : (b : Bool) (x : ℕ) (l m : List ℕ) → m ≡ cond b (l ++ x ∷ []) l → b ≡ false → m ≡ l
+not_pushed b x l m e h = e ∙ ap (λ b. cond b (l ++ x ∷ []) l) h
+
+pub forgot_same : (D : Type 0) (P : ℕ → Type 0) (t : Facts) (l m : List ℕ) → (D → ⊥) → m ≡ l → Forgotten D P t t l m
+forgot_same D P t l m not_done e = subst (λ z. Forgotten D P t t l z) (sym e) (forgot_none D P t l not_done)

@@ -6,7 +6,7 @@ use Rattle.std.specs.Prelude.{All}
 use Rattle.std.specs.FinMap as finmap
 use Rattle.std.proofs.lemmas.Bool.{eq-eqb, ne_eqb, cases_eq, eqb-true}
 use Rattle.ir_types.specs.declared.bits.Bits.{Bits}
-use Rattle.ir_types.specs.Things.{IsType, IsAttr}
+use Rattle.ir_types.specs.Things.{Things, IsName, IsType, IsAttr}
 use Rattle.ir_types.specs.Terms.{TypeTerm, AttrTerm, name_term, type_term, attr_term}
 use Rattle.ir_tree.specs.declared.value.Value.{Value}
 use Rattle.ir_tree.specs.declared.value.Value.TheVariants.{Result, Arg}
@@ -184,7 +184,7 @@ types_of f es a k d lt = f _ (a k d lt)
 
 module _ (w : World) (x : ℕ) (n : Numbers) (is : option_map node_of (known x w.store) ≡ Some n) where
   pub shown_properties : All (λ (e : ℕ × ℕ). IsAttr w.ctx e.1) n.head.properties
-  shown_properties = types_of (λ e b. b.1) n.head.properties (known_node w x n is).properties
+  shown_properties = types_of {P = λ (e : ℕ × ℕ). IsName w.ctx e.0 × IsAttr w.ctx e.1} {Q = λ (e : ℕ × ℕ). IsAttr w.ctx e.1} (λ e b. b.1) n.head.properties (known_node w x n is).properties
 
   pub shown_results : All (λ t. IsType w.ctx t) n.head.results
   shown_results = (known_node w x n is).results
@@ -206,6 +206,18 @@ module _ (w : World) (x : ℕ) (n : Numbers) (is : option_map node_of (known x w
             ∙ ap (option_map (λ (o : Op). map_head (name_term w.ctx) (type_term w.ctx) (attr_term w.ctx) (head o))) f
             ∙ ap (λ (m : Numbers). Some (map_head (name_term w.ctx) (type_term w.ctx) (attr_term w.ctx) m.head)) one in
           gives ∙ ap (λ l. fold_of (name_term w.ctx n.head.name) (entries_of w.ctx n.head.properties) l (map (type_term w.ctx) n.head.results)) are ∙ sym (ap (λ o. folded_if o t) here)
+
+  -- the forms in which the code has these facts
+  pub properties_known : (c : Things) (ps : List (ℕ × ℕ)) → c ≡ w.ctx → ps ≡ n.head.properties → All (λ (e : ℕ × ℕ). IsAttr c e.1) ps
+  properties_known c ps e f = subst (λ c. All (λ (e : ℕ × ℕ). IsAttr c e.1) ps) (sym e) (subst (All (λ (e : ℕ × ℕ). IsAttr w.ctx e.1)) (sym f) shown_properties)
+
+  pub results_known : (c : Things) (ts : List ℕ) → c ≡ w.ctx → ts ≡ n.head.results → All (λ t. IsType c t) ts
+  results_known c ts e f = subst (λ c. All (λ t. IsType c t) ts) (sym e) (subst (All (λ t. IsType w.ctx t)) (sym f) shown_results)
+
+  pub folds_as : (t : Facts) (ks ls : List (Option Bits)) (r : Option Bits) (c : Things) (name : ℕ) (ps : List (ℕ × ℕ)) (os : List Value) (ts : List ℕ) → c ≡ w.ctx → name ≡ n.head.name → ps ≡ n.head.properties → os ≡ n.head.operands → ts ≡ n.head.results
+      → ls ≡ ks → map known_of ks ≡ knowns t os → known_of r ≡ fold_of (name_term c name) (entries_of c ps) (map known_of ls) (map (type_term c) ts) → IsThere (look_in w) x → known_of r ≡ value (look_in w) t x
+  folds_as t ks ls r c name ps os ts ec en ep eo et el are gives =
+      folds_to t ks r (are ∙ ap (knowns t) eo) (gives ∙ λ i. fold_of (name_term (ec i) (en i)) (entries_of (ec i) (ep i)) (map known_of (el i)) (map (type_term (ec i)) (et i)))
 
 -- what isn't shown isn't there
 pub not_shown : (w : World) (x : ℕ) → option_map node_of (known x w.store) ≡ None → IsThere (look_in w) x → ⊥

@@ -28,9 +28,9 @@ pub(crate) fn push(trail: &mut Vec<OpId>, op: OpId) -> bool
 fn forget(table: &mut BTreeMap<OpId, Bits>, op: OpId, trail: &mut Vec<OpId>) -> bool
     ensures { Forgotten (result ≡ true) (λ y. y ≡ op) (known_in table.old) (known_in table.new) trail.old.items trail.new.items }
 {
-    if fact(table, op).is_none() {
+    let Some(_) = fact(table, op) else {
         return true;
-    }
+    };
     if !push(trail, op) {
         return false;
     }

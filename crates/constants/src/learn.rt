@@ -42,7 +42,7 @@ fn learn(
     ensures looks { view.new.looks ≤ view.old.looks + 1 }
     ensures world { view.new.world.now ≡ view.old.world.now }
 {
-    if fact(table, op).is_some() {
+    if let Some(_) = fact(table, op) {
         return true;
     }
     match folded(alloc, view, table, op) {

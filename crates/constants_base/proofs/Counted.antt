@@ -52,16 +52,29 @@ taken_last xs i e y lt is h =
     subst (In y) (sym split) (in_right y (take i xs) (e ∷ []) (inl h))
 
 -- forgetting one after another
-pub forgot_next : (D E : Type 0) (xs : List ℕ) (i e : ℕ) (a b c : Facts) (l m n : List ℕ) → D → E → i < length xs → e ≡ get_or xs i e → Forgotten D (λ y. In y (take i xs)) a b l m → Forgotten E (λ y. y ≡ e) b c m n
-    → Forgotten E (λ y. In y (take (i + 1) xs)) a c l n
-forgot_next D E xs i e a b c l m n d f lt is one two =
-    forgot_more D E E (λ y. In y (take i xs)) (λ y. y ≡ e) (λ y. In y (take (i + 1) xs)) a b c l m n d (λ z. z) (λ y. taken_within xs i e y lt is) (λ y. taken_last xs i e y lt is) (λ z y. taken_more xs i e y lt is) one two
+pub forgot_next : (D E F : Type 0) (xs : List ℕ) (i e : ℕ) (a b c : Facts) (l m n : List ℕ) → D → E → i < length xs → e ≡ get_or xs i e → Forgotten D (λ y. In y (take i xs)) a b l m → Forgotten E (λ y. y ≡ e) b c m n
+    → Forgotten F (λ y. In y (take (i + 1) xs)) a c l n
+forgot_next D E F xs i e a b c l m n d f lt is one two =
+    forgot_more D E F (λ y. In y (take i xs)) (λ y. y ≡ e) (λ y. In y (take (i + 1) xs)) a b c l m n d (λ z. f) (λ y. taken_within xs i e y lt is) (λ y. taken_last xs i e y lt is) (λ z y. taken_more xs i e y lt is) one two
 
 -- or breaking off
-pub forgot_broken : (D E : Type 0) (xs : List ℕ) (i e : ℕ) (a b c : Facts) (l m n : List ℕ) → D → (E → ⊥) → i < length xs → e ≡ get_or xs i e → Forgotten D (λ y. In y (take i xs)) a b l m → Forgotten E (λ y. y ≡ e) b c m n
-    → Forgotten E (λ y. In y xs) a c l n
-forgot_broken D E xs i e a b c l m n d not_done lt is one two =
-    forgot_more D E E (λ y. In y (take i xs)) (λ y. y ≡ e) (λ y. In y xs) a b c l m n d (λ z. z) (λ y. taken_before xs i y) (λ y h. subst (λ z. In z xs) (sym h) (in_read xs i e lt is)) (λ z. absurd (not_done z)) one two
+pub forgot_broken : (D E F : Type 0) (xs : List ℕ) (i e : ℕ) (a b c : Facts) (l m n : List ℕ) → D → (F → ⊥) → i < length xs → e ≡ get_or xs i e → Forgotten D (λ y. In y (take i xs)) a b l m → Forgotten E (λ y. y ≡ e) b c m n
+    → Forgotten F (λ y. In y xs) a c l n
+forgot_broken D E F xs i e a b c l m n d not_done lt is one two =
+    forgot_more D E F (λ y. In y (take i xs)) (λ y. y ≡ e) (λ y. In y xs) a b c l m n d (λ z. absurd (not_done z)) (λ y. taken_before xs i y) (λ y h. subst (λ z. In z xs) (sym h) (in_read xs i e lt is)) (λ z. absurd (not_done z)) one two
+
+-- or at the end
+pub forgot_all : (D F : Type 0) (xs : List ℕ) (i : ℕ) (a b : Facts) (l m : List ℕ) → D → length xs ≤ i → Forgotten D (λ y. In y (take i xs)) a b l m → Forgotten F (λ y. In y xs) a b l m
+forgot_all D F xs i a b l m d le f = record {
+  more = f.more;
+  is = f.is;
+  once = f.once;
+  only = λ y h. taken_before xs i y (f.only y h);
+  was = f.was;
+  gone = f.gone;
+  kept = f.kept;
+  all = λ z y h. f.all d y (subst (In y) (sym (take_all i xs le)) h);
+}
 
 module _ {W : Type 0} (ops : W → ℕ → Option Header) (uses : W → ℕ → ℕ) where
   -- the loop of the first phase
@@ -124,13 +137,30 @@ module _ {W : Type 0} (ops : W → ℕ → Option Header) (uses : W → ℕ → 
     few = let few = b.few in omega (arith, few, bound);
   }
 
-  pub learns_broken : (D : Type 0) (xs : List ℕ) (i e : ℕ) (start old new : Facts) (l trail longer : List ℕ) (first w : W) (none looks : ℕ) → (D → ⊥) → i < length xs → e ≡ get_or xs i e
+  pub learns_broken : (D F : Type 0) (xs : List ℕ) (i e : ℕ) (start old new : Facts) (l trail longer : List ℕ) (first w : W) (none looks : ℕ) → (F → ⊥) → i < length xs → e ≡ get_or xs i e
       → LearnsAll xs i start old l trail first w none looks → (IsThere (ops w) e → Learnt D (ops w) (λ y. y ≡ e) old new trail longer)
-      → ((y : ℕ) → In y xs → IsThere (ops first) y) → Learnt D (ops first) (λ y. In y xs) start new l longer
-  learns_broken D xs i e start old new l trail longer first w none looks not_done lt is b f there =
+      → ((y : ℕ) → In y xs → IsThere (ops first) y) → Learnt F (ops first) (λ y. In y xs) start new l longer
+  learns_broken D F xs i e start old new l trail longer first w none looks not_done lt is b f there =
       let g : Learnt D (ops first) (λ y. y ≡ e) old new trail longer = subst (λ z. IsThere (ops z) e → Learnt D (ops z) (λ y. y ≡ e) old new trail longer) b.world f (there e (in_read xs i e lt is)) in
-      learnt_more (ops first) (Unit {0}) D D (λ y. In y (take i xs)) (λ y. y ≡ e) (λ y. In y xs) start old new l trail longer tt (λ z. z)
+      learnt_more (ops first) (Unit {0}) D F (λ y. In y (take i xs)) (λ y. y ≡ e) (λ y. In y xs) start old new l trail longer tt (λ z. absurd (not_done z))
       (λ y. taken_before xs i y) (λ y h. subst (λ z. In z xs) (sym h) (in_read xs i e lt is)) (λ z. absurd (not_done z)) (b.learnt there) g
+
+  pub learns_all : (F : Type 0) (xs : List ℕ) (i : ℕ) (start table : Facts) (l trail : List ℕ) (first w : W) (none looks : ℕ) → length xs ≤ i → LearnsAll xs i start table l trail first w none looks
+      → ((y : ℕ) → In y xs → IsThere (ops first) y) → Learnt F (ops first) (λ y. In y xs) start table l trail
+  learns_all F xs i start table l trail first w none looks le b there =
+      let f = b.learnt there in
+      record {
+        more = f.more;
+        is = f.is;
+        once = f.once;
+        only = λ y h. taken_before xs i y (f.only y h);
+        was = f.was;
+        now = f.now;
+        grows = f.grows;
+        sound = f.sound;
+        kept = λ z. f.kept tt;
+        settled = λ z y h. f.settled tt y (subst (In y) (sym (take_all i xs le)) h);
+      }
 
   -- the loop of the second phase
   pub record LearnsFrom (x : ℕ) (forgotten : List ℕ) (start table : Facts) (trail : List ℕ) (next : ℕ) (first w : W) (none looks : ℕ) : Type 0 where
@@ -162,10 +192,10 @@ module _ {W : Type 0} (ops : W → ℕ → Option Header) (uses : W → ℕ → 
         few = omega (arith, few, bound2, sum, sum2);
       }
 
-  pub learns_from_broken : (D : Type 0) (x e : ℕ) (forgotten : List ℕ) (start old new : Facts) (trail longer : List ℕ) (next : ℕ) (first w : W) (none looks more : ℕ) → (D → ⊥) → next < length trail → e ≡ get_or trail next e
+  pub learns_from_broken : (D F : Type 0) (x e : ℕ) (forgotten : List ℕ) (start old new : Facts) (trail longer : List ℕ) (next : ℕ) (first w : W) (none looks more : ℕ) → (F → ⊥) → next < length trail → e ≡ get_or trail next e
       → LearnsFrom x forgotten start old trail next first w none looks → Learnt D (ops w) (Uses (ops w) e) old new trail longer → more ≤ looks + (1 + uses w e + uses w e)
-      → LearntFrom D (ops first) (uses first) x forgotten start new none more
-  learns_from_broken D x e forgotten start old new trail longer next first w none looks more not_done lt is b f bound =
+      → LearntFrom F (ops first) (uses first) x forgotten start new none more
+  learns_from_broken D F x e forgotten start old new trail longer next first w none looks more not_done lt is b f bound =
       let f2 : Learnt D (ops first) (Uses (ops first) e) old new trail longer = subst (λ z. Learnt D (ops z) (Uses (ops z) e) old new trail longer) b.world f in
       let bound2 : more ≤ looks + (1 + uses first e + uses first e) = subst (λ z. more ≤ looks + (1 + uses z e + uses z e)) b.world bound in
       let few = b.few in
@@ -181,9 +211,9 @@ module _ {W : Type 0} (ops : W → ℕ → Option Header) (uses : W → ℕ → 
         local = λ d. absurd (not_done d);
       }
 
-  pub learns_first_broken : (D : Type 0) (x : ℕ) (forgotten : List ℕ) (start table : Facts) (l trail : List ℕ) (first : W) (none looks : ℕ) → (D → ⊥) → l ≡ [] → Learnt D (ops first) (λ y. (y ≡ x) ⊎ In y forgotten) start table l trail
-      → looks ≤ none + (1 + length forgotten) → LearntFrom D (ops first) (uses first) x forgotten start table none looks
-  learns_first_broken D x forgotten start table l longer first none looks not_done empty f bound = record {
+  pub learns_first_broken : (D F : Type 0) (x : ℕ) (forgotten : List ℕ) (start table : Facts) (l trail : List ℕ) (first : W) (none looks : ℕ) → (F → ⊥) → l ≡ [] → Learnt D (ops first) (λ y. (y ≡ x) ⊎ In y forgotten) start table l trail
+      → looks ≤ none + (1 + length forgotten) → LearntFrom F (ops first) (uses first) x forgotten start table none looks
+  learns_first_broken D F x forgotten start table l longer first none looks not_done empty f bound = record {
     trail = longer;
     path = learnt_trail_start (ops first) D (λ y. (y ≡ x) ⊎ In y forgotten) start table l longer empty f;
     sound = f.sound;
