@@ -1,3 +1,5 @@
 pub mod Tables
 pub mod Using
 pub mod Forgetful
+pub mod Told
+pub mod Learnable

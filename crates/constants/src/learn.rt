@@ -1,6 +1,8 @@
 //! The second phase: what can be known is learnt.
-ghost use Rattle.std.specs.Prelude.{◌≡◌, ◌≤◌, ◌+◌, ◌⊎◌, ℕ, length, true};
+ghost use Rattle.std.specs.Prelude.{◌≡◌, ◌≤◌, ◌+◌, ◌⊎◌, ℕ, length, true, None, Option};
 ghost use Rattle.ir_tree_laws.specs.Members.{In};
+ghost use Rattle.dialects_int.specs.Folds.{known_of};
+ghost use Rattle.constants_base.specs.Facts.{Header, value};
 ghost use Rattle.constants_base.specs.Trails.{Uses, IsThere};
 ghost use Rattle.constants_base.specs.Phases.{Noted, Learnt, LearntFrom};
 ghost use Rattle.constants.specs.Tables.{known_in, look_in, uses_in, users_of};
@@ -29,6 +31,21 @@ fn note_on(
     push(trail, op)
 }
 
+/// Does so where there is a value.
+fn note_found(
+    table: &mut BTreeMap<OpId, Bits>,
+    op: OpId,
+    found: &Option<Bits>,
+    trail: &mut Vec<OpId>,
+) -> bool
+    ensures { (ops : ℕ → Option Header) → known_in table.old op ≡ None → known_of found.now ≡ value ops (known_in table.old) op → Learnt (result ≡ true) ops (λ y. y ≡ op) (known_in table.old) (known_in table.new) trail.old.items trail.new.items }
+{
+    match found {
+        Some(bits) => note_on(table, op, bits, trail),
+        None => true,
+    }
+}
+
 /// Writes what an operation folds to, where nothing was known, and adds it to the trail if that is something. It is
 /// false where memory was refused.
 fn learn(
@@ -46,8 +63,7 @@ fn learn(
         return true;
     }
     match folded(alloc, view, table, op) {
-        Ok(Some(bits)) => note_on(table, op, &bits, trail),
-        Ok(None) => true,
+        Ok(found) => note_found(table, op, &found, trail),
         Err(_) => false,
     }
 }

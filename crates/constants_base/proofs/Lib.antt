@@ -10,3 +10,4 @@ pub mod Counted
 pub mod Counts
 pub mod Cuts
 pub mod Events
+pub mod Updating

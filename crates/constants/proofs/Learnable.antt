@@ -1,0 +1,37 @@
+-- The forms in which the code of the second phase has its facts.
+use Rattle.std.proofs.Common.{◌≡◌, ◌+◌, ◌≤◌, ℕ, List, [], ◌∷◌, ◌++◌, length, Bool, true, false, true≢false, Option, Some, None, ◌⊎◌, inl, inr, refl, sym, ap, ◌∙◌, subst, cond, arith}
+use Rattle.std.specs.Bool.{OnTrue}
+use Rattle.ir_types.specs.declared.bits.Bits.{Bits}
+use Rattle.ir_tree_laws.specs.Members.{In}
+use Rattle.dialects_int.specs.Folds.{Known, known_of}
+use Rattle.constants_base.specs.Facts.{Header, Facts, value}
+use Rattle.constants_base.specs.Walk.{with_fact}
+use Rattle.constants_base.specs.Trails.{Uses, IsThere}
+use Rattle.constants_base.specs.Phases.{Noted, Learnt, AreUsers}
+use Rattle.constants_base.proofs.Walks.{not_both}
+use Rattle.constants_base.proofs.Learns.{learnt_nothing, learnt_noted, learnt_more, learnt_as}
+use Rattle.constants.proofs.Forgetful.{never}
+
+pub on_true_is : (b : Bool) (P : Type 0) → b ≡ true → OnTrue b P → P
+on_true_is true P e p = p
+on_true_is false P e p = absurd (true≢false (sym e))
+
+pub noted_pushed : (b : Bool) (x : ℕ) (v : Known) (old new : Facts) (l m : List ℕ) → ((y : ℕ) → new y ≡ with_fact x (Some v) old y) → m ≡ cond b (l ++ x ∷ []) l → Noted (b ≡ true) x v old new l m
+noted_pushed true x v old new l m is e = inl (is, e)
+noted_pushed false x v old new l m is e = inr (never false refl, e, inl is)
+
+pub note_refused : (x : ℕ) (v : Known) (old new : Facts) (l : List ℕ) → ((y : ℕ) → new y ≡ old y) → Noted (false ≡ true) x v old new l l
+note_refused x v old new l is = inr (never false refl, refl, inr is)
+
+module _ (ops : ℕ → Option Header) where
+  -- what was known is not tried
+  pub learnt_known : (D : Type 0) (x : ℕ) (v : Known) (t : Facts) (l : List ℕ) → t x ≡ Some v → Learnt D ops (λ y. y ≡ x) t t l l
+  learnt_known D x v t l e = learnt_nothing ops D (λ y. y ≡ x) t l (λ d y h k. absurd (not_both (t y) v k (ap t h ∙ e)))
+
+  -- what gives nothing
+  pub learnt_none : (D : Type 0) (x : ℕ) (t : Facts) (l : List ℕ) → value ops t x ≡ None → Learnt D ops (λ y. y ≡ x) t t l l
+  learnt_none D x t l e = learnt_nothing ops D (λ y. y ≡ x) t l (λ d y h k. ap (value ops t) h ∙ e)
+
+  -- what was not tried for want of memory
+  pub learnt_not : (P : ℕ → Type 0) (t : Facts) (l : List ℕ) → Learnt (false ≡ true) ops P t t l l
+  learnt_not P t l = learnt_nothing ops (false ≡ true) P t l (λ d. never false refl d)
