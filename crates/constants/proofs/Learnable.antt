@@ -35,3 +35,18 @@ module _ (ops : ℕ → Option Header) where
   -- what was not tried for want of memory
   pub learnt_not : (P : ℕ → Type 0) (t : Facts) (l : List ℕ) → Learnt (false ≡ true) ops P t t l l
   learnt_not P t l = learnt_nothing ops (false ≡ true) P t l (λ d. never false refl d)
+
+  -- more were to be tried
+  pub learnt_widen : (D F : Type 0) (P R : ℕ → Type 0) (a b : Facts) (l m : List ℕ) → (F → ⊥) → ((y : ℕ) → P y → R y) → Learnt D ops P a b l m → Learnt F ops R a b l m
+  learnt_widen D F P R a b l m not_done p f = record {
+    more = f.more;
+    is = f.is;
+    once = f.once;
+    only = λ y h. p y (f.only y h);
+    was = f.was;
+    now = f.now;
+    grows = f.grows;
+    sound = f.sound;
+    kept = λ z. absurd (not_done z);
+    settled = λ z. absurd (not_done z);
+  }
