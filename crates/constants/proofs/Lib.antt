@@ -3,3 +3,5 @@ pub mod Using
 pub mod Forgetful
 pub mod Told
 pub mod Learnable
+pub mod Finding
+pub mod Reporting

@@ -11,3 +11,4 @@ pub mod Counts
 pub mod Cuts
 pub mod Events
 pub mod Updating
+pub mod Sorted

@@ -68,7 +68,7 @@ walk_keeps met (n ∷ hs) s y o h =
     walk_keeps (n.id ∷ met) hs (with_fact n.id (folded n s) s) y o.2 (inr h)
     ∙ put_other n.id y (folded n s) s (λ e. o.0 (subst (λ z. In z met) e h))
 
-walk_outside : (met : List ℕ) (hs : List Header) (s : Facts) (y : ℕ) → (In y (met_after met hs) → ⊥) → walk hs s y ≡ s y
+pub walk_outside : (met : List ℕ) (hs : List Header) (s : Facts) (y : ℕ) → (In y (met_after met hs) → ⊥) → walk hs s y ≡ s y
 walk_outside met [] s y out = refl
 walk_outside met (n ∷ hs) s y out =
     walk_outside (n.id ∷ met) hs (with_fact n.id (folded n s) s) y out

@@ -1,0 +1,78 @@
+-- What the report shows.
+use Rattle.std.proofs.Common.{◌≡◌, ℕ, ◌<◌, ◌≤◌, List, [], ◌∷◌, ◌++◌, Bool, true, false, true≢false, Option, Some, None, ◌⊎◌, inl, inr, refl, sym, ap, ◌∙◌, subst, arith, cond, eqb, map}
+use Rattle.std.specs.Prelude.{nat_lt, option_map}
+use Rattle.std.specs.List.{AllByRecursion, All, IsDistinct}
+use Rattle.std.specs.List.Sorted.{IsStrictlySortedBy}
+use Rattle.std.specs.Ordering.{nat_cmp, is_eq}
+use Rattle.std.specs.declared.cmp.Ordering.TheVariants.{Less}
+use Rattle.std.specs.Map.{lookup, keys_of}
+use Rattle.std.specs.BTreeMap.{BTreeMap, is_at}
+use Rattle.std.specs.BTreeMap as tree
+use Rattle.std.proofs.lemmas.Bool.Decides.{nat_tests}
+use Rattle.std.proofs.lemmas.List.Elements.{All-cons, All-nil}
+use Rattle.ir_types.specs.declared.bits.Bits.{Bits}
+use Rattle.ir_types.specs.Things.{Things}
+use Rattle.ir_tree.specs.Ids.{ids, HasDistinctIds}
+use Rattle.ir_tree.specs.Meaning.{Operation}
+use Rattle.ir_event.specs.declared.row.Cell.{Cell}
+use Rattle.ir_event.specs.declared.row.Row.{Row as Line}
+use Rattle.ir_event.specs.Rows.{CellTerm, cell_meaning, rows_meaning, CellIsOf, RowIsOf, Shows}
+use Rattle.dialects_int.specs.Folds.{Known, known_of}
+use Rattle.constants_base.specs.Facts.{Facts}
+use Rattle.constants_base.specs.Walk.{facts_of}
+use Rattle.constants_base.specs.Rows.{constants_of, constant_row, constants_rows}
+use Rattle.constants_base.proofs.Sorted.{look, Above, Rising, rising_same, constants_rising, constants_look}
+use Rattle.constants.specs.Tables.{known_in, cells_of}
+use Rattle.constants.proofs.Tables.{less_than, same_test}
+
+-- what the entries of a table say
+abbrev said : List (ℕ × Bits) → List (ℕ × Known)
+said es = map (λ (e : ℕ × Bits). (e.0, (e.1.kind, e.1.value))) es
+
+above_said : (x : ℕ) (es : List (ℕ × Bits)) → AllByRecursion (λ y. nat_cmp x y ≡ Less) (keys_of es) → Above x (said es)
+above_said x [] a = tt
+above_said x (e ∷ es) a = (less_than x e.0 a.0, above_said x es a.1)
+
+said_rising : (es : List (ℕ × Bits)) → IsStrictlySortedBy nat_cmp (keys_of es) → Rising (said es)
+unfolding IsStrictlySortedBy
+said_rising [] s = tt
+said_rising (e ∷ es) s = (above_said e.0 es s.0, said_rising es s.1)
+
+flip : (a b : ℕ) → eqb a b ≡ eqb b a
+flip a b = grind (arith, nat_tests)
+
+look_said : (x : ℕ) (es : List (ℕ × Bits)) → look x (said es) ≡ known_of (lookup (is_at (nat_cmp x)) es)
+look_said x [] = refl
+look_said x (e ∷ es) =
+    ap (λ b. cond b (Some (e.1.kind, e.1.value)) (look x (said es))) (flip x e.0 ∙ sym (same_test x e.0))
+    ∙ ap (cond (is_eq (nat_cmp x e.0)) (Some (e.1.kind, e.1.value))) (look_said x es)
+    ∙ elim (is_eq (nat_cmp x e.0)) as (λ b. cond b (Some (e.1.kind, e.1.value)) (known_of (lookup (is_at (nat_cmp x)) es)) ≡ known_of (cond b (Some e.1) (lookup (is_at (nat_cmp x)) es)))
+    [ true ↦ refl | false ↦ refl ]
+
+said_constants : (m : BTreeMap ℕ Bits) (t : Operation) → tree.IsOrdered nat_cmp m → HasDistinctIds t → ((x : ℕ) → known_in m x ≡ facts_of t x) → said m.entries ≡ constants_of t
+said_constants m t ordered d h = rising_same (said m.entries) (constants_of t) (said_rising m.entries ordered) (constants_rising t d) (λ x. look_said x m.entries ∙ h x ∙ sym (constants_look t d x))
+
+module _ (c : Things) where
+  rows_say : (rows : List Line) (es : List (ℕ × Bits)) → map (λ (r : Line). r.cells.items) rows ≡ map cells_of es → rows_meaning c rows ≡ map constant_row (said es)
+  rows_say [] [] e = refl
+  rows_say [] (x ∷ es) e = absurd cc
+  rows_say (r ∷ rows) [] e = absurd cc
+  rows_say (r ∷ rows) (x ∷ es) e =
+      let one : r.cells.items ≡ cells_of x = cc in
+      let rest : map (λ (r : Line). r.cells.items) rows ≡ map cells_of es = cc in
+      λ i. map (cell_meaning c) (one i) ∷ rows_say rows es rest i
+
+  row_known : (x : ℕ × Bits) → All (CellIsOf c) (cells_of x)
+  row_known x = All-cons (CellIsOf c) _ _ tt (All-cons (CellIsOf c) _ _ tt (All-nil (CellIsOf c)))
+
+  rows_known : (rows : List Line) (es : List (ℕ × Bits)) → map (λ (r : Line). r.cells.items) rows ≡ map cells_of es → All (RowIsOf c) rows
+  rows_known [] es e = All-nil (RowIsOf c)
+  rows_known (r ∷ rows) [] e = absurd cc
+  rows_known (r ∷ rows) (x ∷ es) e =
+      let one : r.cells.items ≡ cells_of x = cc in
+      let rest : map (λ (r : Line). r.cells.items) rows ≡ map cells_of es = cc in
+      All-cons (RowIsOf c) r rows (subst (All (CellIsOf c)) (sym one) (row_known x)) (rows_known rows es rest)
+
+  pub shows_constants : (m : BTreeMap ℕ Bits) (rows : List Line) (t : Operation) → tree.IsOrdered nat_cmp m → map (λ (r : Line). r.cells.items) rows ≡ map cells_of m.entries → HasDistinctIds t → ((x : ℕ) → known_in m x ≡ facts_of t x)
+      → Shows c rows (constants_rows t)
+  shows_constants m rows t ordered is d h = record { says = rows_say rows m.entries is ∙ ap (map constant_row) (said_constants m t ordered d h); known = rows_known rows m.entries is }
