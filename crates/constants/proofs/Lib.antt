@@ -5,3 +5,5 @@ pub mod Told
 pub mod Learnable
 pub mod Finding
 pub mod Reporting
+pub mod Begins
+pub mod Entering

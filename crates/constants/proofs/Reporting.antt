@@ -15,6 +15,8 @@ use Rattle.ir_types.specs.Things.{Things}
 use Rattle.ir_tree.specs.Ids.{ids, HasDistinctIds}
 use Rattle.ir_tree.specs.Meaning.{Operation}
 use Rattle.ir_event.specs.declared.row.Cell.{Cell}
+use Rattle.ir_event.specs.declared.row.Cell.TheVariants as cell
+use Rattle.ir_tree.specs.declared.value.Value.TheVariants.{Result}
 use Rattle.ir_event.specs.declared.row.Row.{Row as Line}
 use Rattle.ir_event.specs.Rows.{CellTerm, cell_meaning, rows_meaning, CellIsOf, RowIsOf, Shows}
 use Rattle.dialects_int.specs.Folds.{Known, known_of}
@@ -63,7 +65,7 @@ module _ (c : Things) where
       λ i. map (cell_meaning c) (one i) ∷ rows_say rows es rest i
 
   row_known : (x : ℕ × Bits) → All (CellIsOf c) (cells_of x)
-  row_known x = All-cons (CellIsOf c) _ _ tt (All-cons (CellIsOf c) _ _ tt (All-nil (CellIsOf c)))
+  row_known x = All-cons (CellIsOf c) (cell.Val (Result x.0 0)) (cell.Bits x.1 ∷ []) tt (All-cons (CellIsOf c) (cell.Bits x.1) [] tt (All-nil (CellIsOf c)))
 
   rows_known : (rows : List Line) (es : List (ℕ × Bits)) → map (λ (r : Line). r.cells.items) rows ≡ map cells_of es → All (RowIsOf c) rows
   rows_known [] es e = All-nil (RowIsOf c)

@@ -3,6 +3,7 @@ ghost use Rattle.std.specs.Prelude.{◌≡◌, ℕ};
 ghost use Rattle.std.specs.Bool.{OnTrue};
 ghost use Rattle.ir_tree.specs.Ids.{ids, region_ids};
 ghost use Rattle.ir_tree.specs.View.{region_view};
+ghost use Rattle.dialects_int.specs.Folds.{known_of};
 ghost use Rattle.constants_base.specs.Facts.{value};
 ghost use Rattle.constants_base.specs.Walk.{with_fact};
 ghost use Rattle.constants_base.specs.Trails.{IsThere};
@@ -18,17 +19,26 @@ use ir_types::ids::OpId;
 use std::alloc::Global;
 use std::collections::BTreeMap;
 
+/// Writes what is known of an operation's result, or that nothing is. It is false where memory was refused.
+fn write_found(table: &mut BTreeMap<OpId, Bits>, op: OpId, found: &Option<Bits>) -> bool
+    ensures { OnTrue result ((y : ℕ) → known_in table.new y ≡ with_fact op (known_of found.now) (known_in table.old) y) }
+{
+    match found {
+        Some(bits) => note(table, op, bits),
+        None => {
+            drop_fact(table, op);
+            true
+        }
+    }
+}
+
 /// Writes what an operation folds to, from what is known so far. It is false where memory was refused.
 fn enter(alloc: Global, world: &World, table: &mut BTreeMap<OpId, Bits>, op: OpId) -> bool
     ensures { OnTrue result (IsThere (look_in world.now) op → (y : ℕ) → known_in table.new y ≡ with_fact op (value (look_in world.now) (known_in table.old) op) (known_in table.old) y) }
 {
     let mut view = View::new(world);
     match folded(alloc, &mut view, table, op) {
-        Ok(Some(bits)) => note(table, op, &bits),
-        Ok(None) => {
-            drop_fact(table, op);
-            true
-        }
+        Ok(found) => write_found(table, op, &found),
         Err(_) => false,
     }
 }

@@ -1,0 +1,33 @@
+use Rattle.std.proofs.Common.{◌≡◌, true, false, true≢false, refl, sym, ◌∙◌, inl, inr, rules}
+use Rattle.ir_event.specs.Modules.{module_in}
+use Rattle.constants.proofs.Told.{followed_facts, followed_looks}
+use Rattle.constants.specs.Tables.{known_in}
+use Rattle.constants.proofs.constants.ConstantsAnalysis.told.Goals as goal
+
+pub returns-else-not-follow-clause-told : goal.returns-else-not-follow-clause-told
+returns-else-not-follow-clause-told c =
+    let w = c.args.view.world.now in
+    let yes : c.follow.result ≡ true = search rules in
+    record {
+      same = record { kind = refl; analysis = λ t. refl; most = λ e m n. refl };
+      agrees = λ m step shows held. inl (held.0, (step.after.distinct, followed_facts w.ctx m (module_in w) (c.follow.result ≡ true) (known_in c.args.self.now.table) (known_in c.follow.new.table) c.args.event step c.follow.ensures.followed yes held.1.1));
+      stale = λ h. h;
+      heard = inl refl;
+    }
+
+pub returns-else-not-follow-clause-looks : goal.returns-else-not-follow-clause-looks
+returns-else-not-follow-clause-looks c m step shows (inl held) =
+    let w = c.args.view.world.now in
+    followed_looks w.ctx m (module_in w) (known_in c.args.self.now.table) c.args.view.looks c.follow.new.view.looks c.args.event step held.1.1 c.follow.ensures.looks
+returns-else-not-follow-clause-looks c m step shows (inr stale) = absurd (true≢false (sym stale ∙ c.if-self.false))
+
+pub returns-else-not-follow-clause-take : goal.returns-else-not-follow-clause-take
+returns-else-not-follow-clause-take c m take step held =
+    let w = c.args.view.world.now in
+    (held.0, (step.after.distinct, followed_facts w.ctx m (module_in w) (c.follow.result ≡ true) (known_in c.args.self.now.table) (known_in c.follow.new.table) c.args.event step c.follow.ensures.followed (c.follow.ensures.take take) held.1.1))
+
+pub returns-then-not-follow-clause-looks : goal.returns-then-not-follow-clause-looks
+returns-then-not-follow-clause-looks c m step shows (inl held) =
+    let w = c.args.view.world.now in
+    followed_looks w.ctx m (module_in w) (known_in c.args.self.now.table) c.args.view.looks c.follow.new.view.looks c.args.event step held.1.1 c.follow.ensures.looks
+returns-then-not-follow-clause-looks c m step shows (inr stale) = absurd (true≢false (sym stale ∙ c.if-self.false))
