@@ -76,7 +76,7 @@ gathered f y (x ∷ xs) h = elim (in_parts y (f x) (gather f xs) h) [ inl a ↦ 
 is_use_in : (x j : ℕ) (us : List (ℕ × ℕ)) → is_use x j us ≡ true → In (x, j) us
 is_use_in x j [] e = absurd (true≢false (sym e))
 is_use_in x j (u ∷ us) e = elim (either (same_use u (x, j)) (is_use x j us) e) [
-  inl h ↦ (let b = both (eqb u.0 x) (eqb u.1 j) h in inl (λ i. (sym (eqb-true u.0 x b.0) i, sym (eqb-true u.1 j b.1) i)))
+  | inl h ↦ (let b = both (eqb u.0 x) (eqb u.1 j) h in inl (λ i. (sym (eqb-true u.0 x b.0) i, sym (eqb-true u.1 j b.1) i)))
   | inr h ↦ inr (is_use_in x j us h)
 ]
 
@@ -106,9 +106,9 @@ fewer [] ws once h = omega arith
 fewer (u ∷ us) ws once h =
     let s = split u ws (h u (inl refl)) in
     let rest : length us ≤ length (s.front ++ s.back) = fewer us (s.front ++ s.back) once.1 (λ p k. elim (in_parts p s.front (u ∷ s.back) (subst (In p) s.is (h p (inr k)))) [
-      inl a ↦ in_left p s.front s.back a
+      | inl a ↦ in_left p s.front s.back a
       | inr b ↦ elim b [
-        inl e ↦ absurd (true≢false (sym (in_is_use u.0 u.1 us (subst (λ z. In z us) e k)) ∙ once.0))
+        | inl e ↦ absurd (true≢false (sym (in_is_use u.0 u.1 us (subst (λ z. In z us) e k)) ∙ once.0))
         | inr c ↦ in_right p s.front s.back c
       ]
     ]) in
@@ -136,7 +136,7 @@ module _ (w : World) (d : ℕ) (us : List (ℕ × ℕ)) (are : AreUses (Result d
   used y h =
       let u = in_mapped (λ (u : ℕ × ℕ). u.0) y us h in
       let i : In (u.0.0, u.0.1) (gather (λ s. operand_uses (Result d 0) (stand_id s) 0 (head s.here).operands) (stands [] w.store.module_of.tree)) =
-        subst (In (u.0.0, u.0.1)) (sym (stands_uses (Result d 0) [] w.store.module_of.tree)) (in_uses u.0.0 u.0.1 u.1) in
+      subst (In (u.0.0, u.0.1)) (sym (stands_uses (Result d 0) [] w.store.module_of.tree)) (in_uses u.0.0 u.0.1 u.1) in
       let g = gathered (λ (s : StandOf ℕ ℕ ℕ). operand_uses (Result d 0) (stand_id s) 0 (head s.here).operands) (u.0.0, u.0.1) (stands [] w.store.module_of.tree) i in
       let r = use_operand (Result d 0) (stand_id g.0) 0 u.0.0 u.0.1 (head g.0.here).operands g.2 in
       let id : y ≡ stand_id g.0 = u.2 ∙ r.0 in
@@ -159,8 +159,8 @@ module _ (w : World) (d : ℕ) (us : List (ℕ × ℕ)) (are : AreUses (Result d
           let s = found_stands y w.store.module_of.tree o f in
           let l = listed_use (Result d 0) (stand_id s.0) 0 (head s.0.here).operands (subst (λ (q : Op). In (Result d 0) (head q).operands) (sym s.3) operand) in
           let i : In (stand_id s.0, l.0) (uses_of (Result d 0) w.store.module_of.tree) =
-            subst (In (stand_id s.0, l.0)) (stands_uses (Result d 0) [] w.store.module_of.tree)
-            (in_gather (λ (s : StandOf ℕ ℕ ℕ). operand_uses (Result d 0) (stand_id s) 0 (head s.here).operands) (stand_id s.0, l.0) s.0 (stands [] w.store.module_of.tree) s.1 l.1) in
+          subst (In (stand_id s.0, l.0)) (stands_uses (Result d 0) [] w.store.module_of.tree)
+          (in_gather (λ (s : StandOf ℕ ℕ ℕ). operand_uses (Result d 0) (stand_id s) 0 (head s.here).operands) (stand_id s.0, l.0) s.0 (stands [] w.store.module_of.tree) s.1 l.1) in
           let k : In (stand_id s.0, l.0) us = is_use_in (stand_id s.0) l.0 us (are.same (stand_id s.0) l.0 ∙ in_is_use (stand_id s.0) l.0 (uses_of (Result d 0) w.store.module_of.tree) i) in
           subst (λ z. In z (users_of us)) s.2 (in_map (λ (u : ℕ × ℕ). u.0) (stand_id s.0, l.0) us k)
 
@@ -171,7 +171,7 @@ module _ (w : World) (d : ℕ) (us : List (ℕ × ℕ)) (are : AreUses (Result d
   users_few =
       let a = fewer us (uses_of (Result d 0) w.store.module_of.tree) are.once (λ p h. in_uses p.0 p.1 h) in
       let b : length (uses_of (Result d 0) w.store.module_of.tree) ≤ uses_among (heads (meaning w.ctx w.store.module_of.tree)) d =
-        length_uses (name_term w.ctx) (type_term w.ctx) (attr_term w.ctx) d 0 w.store.module_of.tree in
+      length_uses (name_term w.ctx) (type_term w.ctx) (attr_term w.ctx) d 0 w.store.module_of.tree in
       omega (arith, a, b)
 
 pub few_looks : (n m old : ℕ) → n ≤ m → min (old + (n + 1)) (2 ^ 64 - 1) ≤ old + (1 + m)
@@ -202,9 +202,9 @@ module _ (w : World) (x : ℕ) (n : Numbers) (is : option_map node_of (known x w
           let shown : Some (node_of (op k rs)) ≡ Some n = sym (ap (λ o. option_map node_of (first_of o (finmap.get w.store.held x))) f) ∙ is in
           let one : node_of (op k rs) ≡ n = cc in
           let here : look_in w x ≡ Some (map_head (name_term w.ctx) (type_term w.ctx) (attr_term w.ctx) n.head) =
-            look_number w x
-            ∙ ap (option_map (λ (o : Op). map_head (name_term w.ctx) (type_term w.ctx) (attr_term w.ctx) (head o))) f
-            ∙ ap (λ (m : Numbers). Some (map_head (name_term w.ctx) (type_term w.ctx) (attr_term w.ctx) m.head)) one in
+          look_number w x
+          ∙ ap (option_map (λ (o : Op). map_head (name_term w.ctx) (type_term w.ctx) (attr_term w.ctx) (head o))) f
+          ∙ ap (λ (m : Numbers). Some (map_head (name_term w.ctx) (type_term w.ctx) (attr_term w.ctx) m.head)) one in
           gives ∙ ap (λ l. fold_of (name_term w.ctx n.head.name) (entries_of w.ctx n.head.properties) l (map (type_term w.ctx) n.head.results)) are ∙ sym (ap (λ o. folded_if o t) here)
 
   -- the forms in which the code has these facts

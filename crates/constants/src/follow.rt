@@ -16,12 +16,7 @@ use std::collections::BTreeMap;
 
 /// Follows a change of one operation: forgets what may have changed, then learns what can be known. It is false
 /// where memory was refused.
-fn update(
-    alloc: Global,
-    table: &mut BTreeMap<OpId, Bits>,
-    view: &mut View<'_>,
-    op: OpId,
-) -> bool
+fn update(alloc: Global, table: &mut BTreeMap<OpId, Bits>, view: &mut View<'_>, op: OpId) -> bool
     ensures updated { Updated (result ≡ true) (look_in view.old.world.now) op (known_in table.old) (known_in table.new) }
     ensures looks { LooksWithin (module_in view.old.world.now).tree op (known_in table.old) view.old.looks view.new.looks }
     ensures world { view.new.world.now ≡ view.old.world.now }

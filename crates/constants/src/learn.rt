@@ -17,12 +17,7 @@ use std::alloc::Global;
 use std::collections::BTreeMap;
 
 /// Writes a value, and adds the operation to the trail. It is false where memory was refused.
-fn note_on(
-    table: &mut BTreeMap<OpId, Bits>,
-    op: OpId,
-    bits: &Bits,
-    trail: &mut Vec<OpId>,
-) -> bool
+fn note_on(table: &mut BTreeMap<OpId, Bits>, op: OpId, bits: &Bits, trail: &mut Vec<OpId>) -> bool
     ensures { Noted (result ≡ true) op (bits.now.kind, bits.now.value) (known_in table.old) (known_in table.new) trail.old.items trail.new.items }
 {
     if !note(table, op, bits) {

@@ -93,7 +93,7 @@ module _ {W : Type 0} (ops : W → ℕ → Option Header) (uses : W → ℕ → 
       let bound2 : more ≤ looks + (1 + uses first e) = subst (λ z. more ≤ looks + (1 + uses z e)) b.world bound in
       let few = b.few in
       let sum : total (λ d. 1 + uses first d) (take (next + 1) longer) ≡ total (λ d. 1 + uses first d) (take next trail) + (1 + uses first e) =
-        ap (λ l. total (λ d. 1 + uses first d) (take (next + 1) l)) f2.is ∙ total_next (λ d. 1 + uses first d) trail f2.more next e lt is in
+      ap (λ l. total (λ d. 1 + uses first d) (take (next + 1) l)) f2.is ∙ total_next (λ d. 1 + uses first d) trail f2.more next e lt is in
       record {
         from = forgetting_from_more (ops first) D x e start old new trail longer next d lt is b.from f2;
         world = same ∙ b.world;
@@ -106,7 +106,7 @@ module _ {W : Type 0} (ops : W → ℕ → Option Header) (uses : W → ℕ → 
       let bound2 : more ≤ looks + (1 + uses first e) = subst (λ z. more ≤ looks + (1 + uses z e)) b.world bound in
       let few = b.few in
       let sum : total (λ d. 1 + uses first d) (take next trail) + (1 + uses first e) ≤ total (λ d. 1 + uses first d) longer =
-        subst (λ l. total (λ d. 1 + uses first d) (take next trail) + (1 + uses first e) ≤ total (λ d. 1 + uses first d) l) (sym f.is) (total_front (λ d. 1 + uses first d) trail f.more next e lt is) in
+      subst (λ l. total (λ d. 1 + uses first d) (take next trail) + (1 + uses first e) ≤ total (λ d. 1 + uses first d) l) (sym f.is) (total_front (λ d. 1 + uses first d) trail f.more next e lt is) in
       omega (arith, few, bound2, sum)
 
   pub forgets_trail : (D : Type 0) (x e : ℕ) (start old new : Facts) (trail longer : List ℕ) (next : ℕ) (first w : W) (none looks : ℕ) → next < length trail → e ≡ get_or trail next e
@@ -130,9 +130,9 @@ module _ {W : Type 0} (ops : W → ℕ → Option Header) (uses : W → ℕ → 
       → LearnsAll xs i start old l trail first w none looks → (IsThere (ops w) e → Learnt D (ops w) (λ y. y ≡ e) old new trail longer) → more ≤ looks + 1 → v ≡ w → LearnsAll xs (i + 1) start new l longer first v none more
   learns_more D xs i e start old new l trail longer first w v none looks more d lt is b f bound same = record {
     learnt = λ there.
-      let g : Learnt D (ops first) (λ y. y ≡ e) old new trail longer = subst (λ z. IsThere (ops z) e → Learnt D (ops z) (λ y. y ≡ e) old new trail longer) b.world f (there e (in_read xs i e lt is)) in
-      learnt_more (ops first) (Unit {0}) D (Unit {0}) (λ y. In y (take i xs)) (λ y. y ≡ e) (λ y. In y (take (i + 1) xs)) start old new l trail longer tt (λ z. d)
-      (λ y. taken_within xs i e y lt is) (λ y. taken_last xs i e y lt is) (λ z y. taken_more xs i e y lt is) (b.learnt there) g;
+        let g : Learnt D (ops first) (λ y. y ≡ e) old new trail longer = subst (λ z. IsThere (ops z) e → Learnt D (ops z) (λ y. y ≡ e) old new trail longer) b.world f (there e (in_read xs i e lt is)) in
+        learnt_more (ops first) (Unit {0}) D (Unit {0}) (λ y. In y (take i xs)) (λ y. y ≡ e) (λ y. In y (take (i + 1) xs)) start old new l trail longer tt (λ z. d)
+        (λ y. taken_within xs i e y lt is) (λ y. taken_last xs i e y lt is) (λ z y. taken_more xs i e y lt is) (b.learnt there) g;
     world = same ∙ b.world;
     few = let few = b.few in omega (arith, few, bound);
   }
@@ -184,7 +184,7 @@ module _ {W : Type 0} (ops : W → ℕ → Option Header) (uses : W → ℕ → 
       let bound2 : more ≤ looks + (1 + uses first e + uses first e) = subst (λ z. more ≤ looks + (1 + uses z e + uses z e)) b.world bound in
       let few = b.few in
       let sum : total (λ d. 1 + uses first d) (take (next + 1) longer) ≡ total (λ d. 1 + uses first d) (take next trail) + (1 + uses first e) =
-        ap (λ l. total (λ d. 1 + uses first d) (take (next + 1) l)) f2.is ∙ total_next (λ d. 1 + uses first d) trail f2.more next e lt is in
+      ap (λ l. total (λ d. 1 + uses first d) (take (next + 1) l)) f2.is ∙ total_next (λ d. 1 + uses first d) trail f2.more next e lt is in
       let sum2 : total (uses first) (take (next + 1) longer) ≡ total (uses first) (take next trail) + uses first e = ap (λ l. total (uses first) (take (next + 1) l)) f2.is ∙ total_next (uses first) trail f2.more next e lt is in
       record {
         from = learning_from_more (ops first) D x e forgotten start old new trail longer next d lt is b.from f2;
@@ -200,9 +200,9 @@ module _ {W : Type 0} (ops : W → ℕ → Option Header) (uses : W → ℕ → 
       let bound2 : more ≤ looks + (1 + uses first e + uses first e) = subst (λ z. more ≤ looks + (1 + uses z e + uses z e)) b.world bound in
       let few = b.few in
       let sum : total (λ d. 1 + uses first d) (take next trail) + (1 + uses first e) ≤ total (λ d. 1 + uses first d) longer =
-        subst (λ l. total (λ d. 1 + uses first d) (take next trail) + (1 + uses first e) ≤ total (λ d. 1 + uses first d) l) (sym f2.is) (total_front (λ d. 1 + uses first d) trail f2.more next e lt is) in
+      subst (λ l. total (λ d. 1 + uses first d) (take next trail) + (1 + uses first e) ≤ total (λ d. 1 + uses first d) l) (sym f2.is) (total_front (λ d. 1 + uses first d) trail f2.more next e lt is) in
       let sum2 : total (uses first) (take next trail) + uses first e ≤ total (uses first) longer =
-        subst (λ l. total (uses first) (take next trail) + uses first e ≤ total (uses first) l) (sym f2.is) (total_front (uses first) trail f2.more next e lt is) in
+      subst (λ l. total (uses first) (take next trail) + uses first e ≤ total (uses first) l) (sym f2.is) (total_front (uses first) trail f2.more next e lt is) in
       record {
         trail = longer;
         path = learnt_trail_more (ops first) D (λ y. (y ≡ x) ⊎ In y forgotten) e old new trail longer (in_read trail next e lt is) b.from.path f2;

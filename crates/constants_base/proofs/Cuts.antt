@@ -103,7 +103,7 @@ node_past (m ∷ xs) n ys y ne = ap (λ r. cond (eqb y m.id) (Some m) r) (node_p
 not_met : (met : List ℕ) (hs : List Header) (y : ℕ) → AreOrdered met hs → In y met → look_among hs y ≡ None
 not_met met [] y o h = refl
 not_met met (n ∷ hs) y o h = elim (cases_eq y n.id) [
-  inl e ↦ absurd (o.0 (subst (λ z. In z met) e h))
+  | inl e ↦ absurd (o.0 (subst (λ z. In z met) e h))
   | inr ne ↦ node_there n hs y ne ∙ not_met (n.id ∷ met) hs y o.2 (inr h)
 ]
 
@@ -115,7 +115,7 @@ ordered_fresh met (m ∷ xs) n ys o h = ordered_fresh (m.id ∷ met) xs n ys o.2
 node_gone : (met : List ℕ) (xs : List Header) (n : Header) (ys : List Header) → AreOrdered met (xs ++ n ∷ ys) → look_among (xs ++ ys) n.id ≡ None
 node_gone met [] n ys o = not_met (n.id ∷ met) ys n.id o.2 (inl refl)
 node_gone met (m ∷ xs) n ys o = elim (cases_eq n.id m.id) [
-  inl e ↦ absurd (ordered_fresh (m.id ∷ met) xs n ys o.2 (inl e))
+  | inl e ↦ absurd (ordered_fresh (m.id ∷ met) xs n ys o.2 (inl e))
   | inr ne ↦ node_there m (xs ++ ys) n.id ne ∙ node_gone (m.id ∷ met) xs n ys o.2
 ]
 
@@ -131,7 +131,7 @@ none_right (Some m) b e = absurd (let f : Some m ≡ None = e in cc)
 apart : (met : List ℕ) (xs ys : List Header) (y : ℕ) → AreOrdered met (xs ++ ys) → (look_among xs y ≡ None) ⊎ (look_among ys y ≡ None)
 apart met [] ys y o = inl refl
 apart met (n ∷ xs) ys y o = elim (cases_eq y n.id) [
-  inl e ↦ inr (none_right (look_among xs y) (look_among ys y) (sym (among_append xs ys y) ∙ not_met (n.id ∷ met) (xs ++ ys) y o.2 (inl e)))
+  | inl e ↦ inr (none_right (look_among xs y) (look_among ys y) (sym (among_append xs ys y) ∙ not_met (n.id ∷ met) (xs ++ ys) y o.2 (inl e)))
   | inr ne ↦ elim (apart (n.id ∷ met) xs ys y o.2) [ inl h ↦ inl (node_there n xs y ne ∙ h) | inr h ↦ inr h ]
 ]
 
@@ -141,7 +141,7 @@ moved f hs b y o =
     among_append f (hs ++ b) y
     ∙ ap (first_of (look_among f y)) (among_append hs b y)
     ∙ elim (apart [] f (hs ++ b) y o) [
-      inl e ↦ ap (λ z. first_of z (first_of (look_among hs y) (look_among b y))) e
+      | inl e ↦ ap (λ z. first_of z (first_of (look_among hs y) (look_among b y))) e
           ∙ ap (first_of (look_among hs y)) (sym (among_append f b y ∙ ap (λ z. first_of z (look_among b y)) e))
       | inr e ↦ (let none : first_of (look_among hs y) (look_among b y) ≡ None = sym (among_append hs b y) ∙ e in
           let left : look_among hs y ≡ None = none_left (look_among hs y) (look_among b y) none in

@@ -125,7 +125,7 @@ module _ (c : Things) (m n : Module) where
   -- to forget what is taken is all there is to do
   pub taken_local : (x : ℕ) (place : Place) (fresh : Bool) (t u : Facts) → Step c (Take x place fresh) m n → ((y : ℕ) → u y ≡ with_fact x None t y) → AreLocal (look m.tree) t → AreLocal (look n.tree) u
   taken_local x place fresh t u s is local y = elim (cases_eq y x) [
-    inl e ↦ ap u e ∙ is x ∙ put_same x None t ∙ sym (ap (λ o. folded_if o u) (ap (look n.tree) e ∙ taken_gone m n x ordered s.before.distinct place fresh s.changes))
+    | inl e ↦ ap u e ∙ is x ∙ put_same x None t ∙ sym (ap (λ o. folded_if o u) (ap (look n.tree) e ∙ taken_gone m n x ordered s.before.distinct place fresh s.changes))
     | inr ne ↦ is y
         ∙ put_other x y None t ne
         ∙ local y

@@ -89,16 +89,16 @@ forgot_more D E F P Q R a b c l m n d le p q r f g = record {
   once = once_append f.more g.more f.once g.once (λ z h k. let w = g.was z k in not_both (b z) w.0 (f.gone z h) w.1);
   only = λ z h. elim (in_parts z f.more g.more h) [ inl k ↦ p z (f.only z k) | inr k ↦ q z (g.only z k) ];
   was = λ z h. elim (in_parts z f.more g.more h) [
-    inl k ↦ f.was z k
+    | inl k ↦ f.was z k
     | inr k ↦ (let w = g.was z k in elim (in_or_not z f.more) [ inl i ↦ absurd (not_both (b z) w.0 (f.gone z i) w.1) | inr out ↦ (w.0, sym (f.kept z out) ∙ w.1) ])
   ];
   gone = λ z h. elim (in_or_not z g.more) [
-    inl k ↦ g.gone z k
+    | inl k ↦ g.gone z k
     | inr out ↦ g.kept z out ∙ f.gone z (elim (in_parts z f.more g.more h) [ inl k ↦ k | inr k ↦ absurd (out k) ])
   ];
   kept = λ z out. g.kept z (λ k. out (in_right z f.more g.more k)) ∙ f.kept z (λ k. out (in_left z f.more g.more k));
   all = λ h z i. elim (r h z i) [
-    inl k ↦ elim (in_or_not z g.more) [ inl j ↦ g.gone z j | inr out ↦ g.kept z out ∙ f.all d z k ]
+    | inl k ↦ elim (in_or_not z g.more) [ inl j ↦ g.gone z j | inr out ↦ g.kept z out ∙ f.all d z k ]
     | inr k ↦ g.all (le h) z k
   ];
 }
@@ -129,26 +129,26 @@ module _ (ops : ℕ → Option Header) where
       let agreed : (y : ℕ) → y ≢ x → value ops old y ≡ old y = λ y ne. ap (λ o. folded_if o old) (same y ne) ∙ sym (local y) in
       record {
         known = λ y v k far.
-          let ne : y ≢ x = λ e. not_both (new y) v (f.all d y e) k in
-          forgot_value D (λ y. y ≡ x) old new l trail f y (λ e h. far e (subst (In e) (sym is) h)) ∙ agreed y ne ∙ forgot_below D (λ y. y ≡ x) old new l trail f y v k;
+            let ne : y ≢ x = λ e. not_both (new y) v (f.all d y e) k in
+            forgot_value D (λ y. y ≡ x) old new l trail f y (λ e h. far e (subst (In e) (sym is) h)) ∙ agreed y ne ∙ forgot_below D (λ y. y ≡ x) old new l trail f y v k;
         unknown = λ y k ne out.
-          value_less ops new old y (forgot_below D (λ y. y ≡ x) old new l trail f) (agreed y ne ∙ sym (f.kept y (λ h. ne (f.only y h))) ∙ k);
+            value_less ops new old y (forgot_below D (λ y. y ≡ x) old new l trail f) (agreed y ne ∙ sym (f.kept y (λ h. ne (f.only y h))) ∙ k);
       }
 
   forgetting_more : (D : Type 0) (x e : ℕ) (old new : Facts) (trail longer rest : List ℕ) → D → Forgetting ops x old trail (e ∷ rest) → (f : Forgotten D (Uses ops e) old new trail longer) → Forgetting ops x new longer (rest ++ f.more)
   forgetting_more D x e old new trail longer rest d b f = record {
     known = λ y v k far.
-      let past : Uses ops e y → ⊥ = λ h. not_both (new y) v (f.all d y h) k in
-      let there : (In y f.more → ⊥) = λ h. not_both (new y) v (f.gone y h) k in
-      forgot_value D (Uses ops e) old new trail longer f y (λ z h. far z (in_right z rest f.more h))
-      ∙ b.known y v (sym (f.kept y there) ∙ k) (λ z h u. elim h [
-        inl eq ↦ past (subst (λ w. Uses ops w y) eq u)
-        | inr g ↦ far z (in_left z rest f.more g) u
-      ]);
+        let past : Uses ops e y → ⊥ = λ h. not_both (new y) v (f.all d y h) k in
+        let there : (In y f.more → ⊥) = λ h. not_both (new y) v (f.gone y h) k in
+        forgot_value D (Uses ops e) old new trail longer f y (λ z h. far z (in_right z rest f.more h))
+        ∙ b.known y v (sym (f.kept y there) ∙ k) (λ z h u. elim h [
+          | inl eq ↦ past (subst (λ w. Uses ops w y) eq u)
+          | inr g ↦ far z (in_left z rest f.more g) u
+        ]);
     unknown = λ y k ne out.
-      let not_more : In y f.more → ⊥ = λ h. out (subst (In y) (sym f.is) (in_right y trail f.more h)) in
-      let was : old y ≡ None = sym (f.kept y not_more) ∙ k in
-      value_less ops new old y (forgot_below D (Uses ops e) old new trail longer f) (b.unknown y was ne (λ h. out (subst (In y) (sym f.is) (in_left y trail f.more h))));
+        let not_more : In y f.more → ⊥ = λ h. out (subst (In y) (sym f.is) (in_right y trail f.more h)) in
+        let was : old y ≡ None = sym (f.kept y not_more) ∙ k in
+        value_less ops new old y (forgot_below D (Uses ops e) old new trail longer f) (b.unknown y was ne (λ h. out (subst (In y) (sym f.is) (in_left y trail f.more h))));
   }
 
   -- the trail of the loop: from `start` on, the users of the first `next` operations of the trail were forgotten
@@ -171,7 +171,7 @@ module _ (ops : ℕ → Option Header) where
     once = once_append trail f.more path.once f.once (λ y h k. let w = f.was y k in not_both (old y) w.0 (gone y h) w.1);
     known = λ y h. elim (in_parts y trail f.more h) [ inl k ↦ path.known y k | inr k ↦ (let w = f.was y k in (w.0, below y w.0 w.1)) ];
     reached = λ r first users y h. elim (in_parts y trail f.more h) [
-      inl k ↦ path.reached r first users y k
+      | inl k ↦ path.reached r first users y k
       | inr k ↦ users e y (path.reached r first users e here) (path.known e here) (f.only y k)
     ];
   })
@@ -196,14 +196,14 @@ module _ (ops : ℕ → Option Header) where
         within = omega (arith, lt, size);
         path = trail_more D x e start old new trail longer (in_read trail next e lt is) b.gone b.below b.path f;
         gone = λ y h. elim (in_or_not y f.more) [
-          inl k ↦ f.gone y k
+          | inl k ↦ f.gone y k
           | inr out ↦ f.kept y out ∙ b.gone y (elim (in_parts y trail f.more (subst (In y) f.is h)) [ inl k ↦ k | inr k ↦ absurd (out k) ])
         ];
         below = λ y v k. b.below y v (forgot_below D (Uses ops e) old new trail longer f y v k);
         kept = λ was same local.
-          let here : drop next trail ≡ e ∷ drop (next + 1) trail = rw (add-one) (rw (← is) at (drop-cons trail next e lt)) in
-          let rest : drop (next + 1) longer ≡ drop (next + 1) trail ++ f.more = ap (drop (next + 1)) f.is ∙ drop-append-le (next + 1) trail f.more (omega (arith, lt)) in
-          subst (Forgetting ops x new longer) (sym rest) (forgetting_more D x e old new trail longer (drop (next + 1) trail) d (subst (Forgetting ops x old trail) here (b.kept was same local)) f);
+            let here : drop next trail ≡ e ∷ drop (next + 1) trail = rw (add-one) (rw (← is) at (drop-cons trail next e lt)) in
+            let rest : drop (next + 1) longer ≡ drop (next + 1) trail ++ f.more = ap (drop (next + 1)) f.is ∙ drop-append-le (next + 1) trail f.more (omega (arith, lt)) in
+            subst (Forgetting ops x new longer) (sym rest) (forgetting_more D x e old new trail longer (drop (next + 1) trail) d (subst (Forgetting ops x old trail) here (b.kept was same local)) f);
       }
 
   pub forgetting_from_end : (x : ℕ) (start table : Facts) (trail : List ℕ) (next : ℕ) → length trail ≤ next → ForgettingFrom x start table trail next

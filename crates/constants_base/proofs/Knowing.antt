@@ -13,7 +13,7 @@ use Rattle.constants_base.proofs.Walks.{in_or_not, some_or_none, not_both, none_
 
 known_uses : (a b : Facts) (v : Value) → ((d : ℕ) → Result d 0 ≡ v → a d ≡ b d) → known a v ≡ known b v
 known_uses a b (Result x k) same = elim (cases_eq k 0) [
-  inl e ↦ ap (λ o. cond (eqb k 0) o None) (same x (ap (Result x) (sym e)))
+  | inl e ↦ ap (λ o. cond (eqb k 0) o None) (same x (ap (Result x) (sym e)))
   | inr ne ↦ ap (λ c. cond c (a x) None) (ne_eqb k 0 ne) ∙ sym (ap (λ c. cond c (b x) None) (ne_eqb k 0 ne))
 ]
 known_uses a b (Arg x r k) same = refl
@@ -24,7 +24,7 @@ knowns_uses a b (v ∷ vs) same = λ i. known_uses a b v (λ d e. same d (inl e)
 
 known_below : (a b : Facts) (v : Value) → ((d : ℕ) (w : Known) → Result d 0 ≡ v → a d ≡ Some w → b d ≡ Some w) → (w : Known) → known a v ≡ Some w → known b v ≡ Some w
 known_below a b (Result x k) le w h = elim (cases_eq k 0) [
-  inl e ↦ ap (λ c. cond c (b x) None) (eq-eqb k 0 e) ∙ le x w (ap (Result x) (sym e)) (sym (ap (λ c. cond c (a x) None) (eq-eqb k 0 e)) ∙ h)
+  | inl e ↦ ap (λ c. cond c (b x) None) (eq-eqb k 0 e) ∙ le x w (ap (Result x) (sym e)) (sym (ap (λ c. cond c (a x) None) (eq-eqb k 0 e)) ∙ h)
   | inr ne ↦ (let f : None ≡ Some w = sym (ap (λ c. cond c (a x) None) (ne_eqb k 0 ne)) ∙ h in absurd cc)
 ]
 known_below a b (Arg x r k) le w h = h
@@ -61,14 +61,14 @@ module _ (ops : ℕ → Option Header) where
 pub listed : (met : List ℕ) (hs : List Header) (n : Header) → AreOrdered met hs → In n hs → (look_among hs n.id ≡ Some n) × (In n.id met → ⊥)
 listed met [] n o h = absurd h
 listed met (m ∷ hs) n o h = elim h [
-  inl e ↦ (ap (λ (z : Header). look_among (m ∷ hs) z.id) e ∙ node_here m hs ∙ ap Some (sym e), λ g. o.0 (subst (λ (z : Header). In z.id met) e g))
+  | inl e ↦ (ap (λ (z : Header). look_among (m ∷ hs) z.id) e ∙ node_here m hs ∙ ap Some (sym e), λ g. o.0 (subst (λ (z : Header). In z.id met) e g))
   | inr k ↦ (let r = listed (m.id ∷ met) hs n o.2 k in (node_there m hs n.id (λ e. r.1 (inl e)) ∙ r.0, λ g. r.1 (inr g)))
 ]
 
 pub among_in : (hs : List Header) (y : ℕ) (n : Header) → look_among hs y ≡ Some n → In n hs × (n.id ≡ y)
 among_in [] y n e = let f : None ≡ Some n = e in absurd cc
 among_in (m ∷ hs) y n e = elim (cases_eq y m.id) [
-  inl q ↦ (let f : Some m ≡ Some n = sym (ap (λ b. cond b (Some m) (look_among hs y)) (eq-eqb y m.id q)) ∙ e in
+  | inl q ↦ (let f : Some m ≡ Some n = sym (ap (λ b. cond b (Some m) (look_among hs y)) (eq-eqb y m.id q)) ∙ e in
       let is : m ≡ n = cc in
       (inl (sym is), ap (λ (z : Header). z.id) (sym is) ∙ sym q))
   | inr ne ↦ (let r = among_in hs y n (sym (node_there m hs y ne) ∙ e) in (inr r.0, r.1))
@@ -91,7 +91,7 @@ follow_along t met [] s o le follows y v h e = le y v h e
 follow_along t met (n ∷ hs) s o le follows y v h e =
     follow_along t (n.id ∷ met) hs (with_fact n.id (folded n s) s) o.2
     (λ z w g k. elim (cases_eq z n.id) [
-      inl q ↦ ap (with_fact n.id (folded n s) s) q
+      | inl q ↦ ap (with_fact n.id (folded n s) s) q
           ∙ put_same n.id (folded n s) s
           ∙ folded_below n t s w (λ d u i j. le d u (met_operand met n.operands d 0 o.1 i) j) (follows n (inl refl) w (sym (ap t q) ∙ k))
       | inr ne ↦ put_other n.id z (folded n s) s ne ∙ le z w (elim g [ inl q ↦ absurd (ne q) | inr g2 ↦ g2 ]) k
@@ -100,6 +100,6 @@ follow_along t met (n ∷ hs) s o le follows y v h e =
 
 pub follows_walk : (hs : List Header) (t : Facts) → AreOrdered [] hs → Follows (look_among hs) t → (y : ℕ) (v : Known) → t y ≡ Some v → walk hs nothing y ≡ Some v
 follows_walk hs t o follows y v e = elim (in_or_not y (met_after [] hs)) [
-  inl h ↦ follow_along t [] hs nothing o (λ z w g k. absurd g) (λ n i w k. sym (ap (λ m. folded_if m t) (listed [] hs n o i).0) ∙ follows n.id w k) y v h e
+  | inl h ↦ follow_along t [] hs nothing o (λ z w g k. absurd g) (λ n i w k. sym (ap (λ m. folded_if m t) (listed [] hs n o i).0) ∙ follows n.id w k) y v h e
   | inr out ↦ (let f : None ≡ Some v = sym (ap (λ m. folded_if m t) (node_outside [] hs y out)) ∙ follows y v e in absurd cc)
 ]

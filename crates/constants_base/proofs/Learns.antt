@@ -33,13 +33,13 @@ module _ (ops : ℕ → Option Header) where
 
   grown : (x : ℕ) (v : Known) (old new : Facts) → old x ≡ None → ((y : ℕ) → new y ≡ with_fact x (Some v) old y) → (y : ℕ) (w : Known) → old y ≡ Some w → new y ≡ Some w
   grown x v old new none is y w k = elim (cases_eq y x) [
-    inl e ↦ absurd (not_both (old x) w none (sym (ap old e) ∙ k))
+    | inl e ↦ absurd (not_both (old x) w none (sym (ap old e) ∙ k))
     | inr ne ↦ is y ∙ put_other x y (Some v) old ne ∙ k
   ]
 
   sound_written : (x : ℕ) (v : Known) (old new : Facts) → old x ≡ None → value ops old x ≡ Some v → ((y : ℕ) → new y ≡ with_fact x (Some v) old y) → Follows ops old → Follows ops new
   sound_written x v old new none gives is f y w k = elim (cases_eq y x) [
-    inl e ↦ ap (value ops new) e ∙ value_more ops old new x v (grown x v old new none is) gives ∙ sym (is x ∙ put_same x (Some v) old) ∙ ap new (sym e) ∙ k
+    | inl e ↦ ap (value ops new) e ∙ value_more ops old new x v (grown x v old new none is) gives ∙ sym (is x ∙ put_same x (Some v) old) ∙ ap new (sym e) ∙ k
     | inr ne ↦ value_more ops old new y w (grown x v old new none is) (f y w (sym (is y ∙ put_other x y (Some v) old ne) ∙ k))
   ]
 
@@ -104,7 +104,7 @@ module _ (ops : ℕ → Option Header) where
     sound = λ h. g.sound (f.sound h);
     kept = λ h y out. g.kept (le h) y (λ k. out (in_right y f.more g.more k)) ∙ f.kept d y (λ k. out (in_left y f.more g.more k));
     settled = λ h z i k far. elim (r h z i) [
-      inl j ↦ learnt_value E Q b c m n g (le h) z (λ e s. far e (in_right e f.more g.more s))
+      | inl j ↦ learnt_value E Q b c m n g (le h) z (λ e s. far e (in_right e f.more g.more s))
           ∙ f.settled d z j (learnt_was E Q b c m n g z k) (λ e s. far e (in_left e f.more g.more s))
       | inr j ↦ g.settled (le h) z j k (λ e s. far e (in_right e f.more g.more s))
     ];
@@ -131,25 +131,25 @@ module _ (ops : ℕ → Option Header) where
       record {
         known = f.sound (λ y v k. from.known y v k (λ e h u. h));
         unknown = λ y k far.
-          let far2 : (e : ℕ) → In e f.more → Uses ops e y → ⊥ = λ e h. far e (subst (In e) (sym is) h) in
-          let other : (y ≡ x → ⊥) → (In y forgotten → ⊥) → value ops new y ≡ None = λ ne out.
+            let far2 : (e : ℕ) → In e f.more → Uses ops e y → ⊥ = λ e h. far e (subst (In e) (sym is) h) in
+            let other : (y ≡ x → ⊥) → (In y forgotten → ⊥) → value ops new y ≡ None = λ ne out.
             learnt_value D P old new l trail f d y far2 ∙ from.unknown y (learnt_was D P old new l trail f y k) ne out in
-          elim (cases_eq y x) [
-            inl e ↦ f.settled d y (inl e) k far2
-            | inr ne ↦ elim (in_or_not y forgotten) [ inl h ↦ f.settled d y (inr h) k far2 | inr out ↦ other ne out ]
-          ];
+            elim (cases_eq y x) [
+              | inl e ↦ f.settled d y (inl e) k far2
+              | inr ne ↦ elim (in_or_not y forgotten) [ inl h ↦ f.settled d y (inr h) k far2 | inr out ↦ other ne out ]
+            ];
       }
 
   learning_more : (D : Type 0) (e : ℕ) (old new : Facts) (trail longer rest : List ℕ) → D → Learning ops old (e ∷ rest) → (f : Learnt D ops (Uses ops e) old new trail longer) → Learning ops new (rest ++ f.more)
   learning_more D e old new trail longer rest d b f = record {
     known = f.sound b.known;
     unknown = λ y k far.
-      let far2 : (z : ℕ) → In z f.more → Uses ops z y → ⊥ = λ z h. far z (in_right z rest f.more h) in
-      none_if_not (value ops new y) (λ v gives.
+        let far2 : (z : ℕ) → In z f.more → Uses ops z y → ⊥ = λ z h. far z (in_right z rest f.more h) in
+        none_if_not (value ops new y) (λ v gives.
         let past : Uses ops e y → ⊥ = λ u. not_both (value ops new y) v (f.settled d y u k far2) gives in
         not_both (value ops new y) v
         (learnt_value D (Uses ops e) old new trail longer f d y far2 ∙ b.unknown y (learnt_was D (Uses ops e) old new trail longer f y k) (λ z h u. elim h [
-          inl eq ↦ past (subst (λ w. Uses ops w y) eq u)
+          | inl eq ↦ past (subst (λ w. Uses ops w y) eq u)
           | inr g ↦ far z (in_left z rest f.more g) u
         ]))
         gives);
@@ -158,7 +158,7 @@ module _ (ops : ℕ → Option Header) where
   -- nothing is left to follow
   learning_end : (t : Facts) → Learning ops t [] → AreLocal ops t
   learning_end t b y = elim (some_or_none (t y)) [
-    inl e ↦ e ∙ sym (b.unknown y e (λ d h u. h))
+    | inl e ↦ e ∙ sym (b.unknown y e (λ d h u. h))
     | inr e ↦ e.1 ∙ sym (b.known y e.0 e.1)
   ]
 
@@ -179,11 +179,11 @@ module _ (ops : ℕ → Option Header) where
     once = once_append trail f.more path.once f.once (λ y h k. let w = path.known y h in not_both (old y) w.0 (f.was y k) w.1);
     known = λ y h. elim (in_parts y trail f.more h) [ inl k ↦ (let w = path.known y k in (w.0, f.grows y w.0 w.1)) | inr k ↦ f.now y k ];
     reached = λ r first users y h.
-      let earlier : (d z : ℕ) → r d ≡ true → IsKnown old d → Uses ops d z → r z ≡ true = λ d z a k u. users d z a (k.0, f.grows d k.0 k.1) u in
-      elim (in_parts y trail f.more h) [
-        inl k ↦ path.reached r first earlier y k
-        | inr k ↦ earlier e y (path.reached r first earlier e here) (path.known e here) (f.only y k)
-      ];
+        let earlier : (d z : ℕ) → r d ≡ true → IsKnown old d → Uses ops d z → r z ≡ true = λ d z a k u. users d z a (k.0, f.grows d k.0 k.1) u in
+        elim (in_parts y trail f.more h) [
+          | inl k ↦ path.reached r first earlier y k
+          | inr k ↦ earlier e y (path.reached r first earlier e here) (path.known e here) (f.only y k)
+        ];
   })
 
   pub learning_from_start : (D : Type 0) (x : ℕ) (forgotten : List ℕ) (start table : Facts) (l trail : List ℕ) → D → l ≡ [] → Learnt D ops (λ y. (y ≡ x) ⊎ In y forgotten) start table l trail → LearningFrom x forgotten start table trail 0
@@ -203,9 +203,9 @@ module _ (ops : ℕ → Option Header) where
         path = learnt_trail_more D (λ y. (y ≡ x) ⊎ In y forgotten) e old new trail longer (in_read trail next e lt is) b.path f;
         sound = λ h. f.sound (b.sound h);
         kept = λ from.
-          let here : drop next trail ≡ e ∷ drop (next + 1) trail = rw (add-one) (rw (← is) at (drop-cons trail next e lt)) in
-          let rest : drop (next + 1) longer ≡ drop (next + 1) trail ++ f.more = ap (drop (next + 1)) f.is ∙ drop-append-le (next + 1) trail f.more (omega (arith, lt)) in
-          subst (Learning ops new) (sym rest) (learning_more D e old new trail longer (drop (next + 1) trail) d (subst (Learning ops old) here (b.kept from)) f);
+            let here : drop next trail ≡ e ∷ drop (next + 1) trail = rw (add-one) (rw (← is) at (drop-cons trail next e lt)) in
+            let rest : drop (next + 1) longer ≡ drop (next + 1) trail ++ f.more = ap (drop (next + 1)) f.is ∙ drop-append-le (next + 1) trail f.more (omega (arith, lt)) in
+            subst (Learning ops new) (sym rest) (learning_more D e old new trail longer (drop (next + 1) trail) d (subst (Learning ops old) here (b.kept from)) f);
       }
 
   pub learning_from_end : (x : ℕ) (forgotten : List ℕ) (start table : Facts) (trail : List ℕ) (next : ℕ) → length trail ≤ next → LearningFrom x forgotten start table trail next → Forgetting ops x start forgotten [] → AreLocal ops table

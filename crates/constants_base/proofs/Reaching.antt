@@ -37,7 +37,7 @@ module _ (knows : ℕ → Bool) where
   along_grows : (hs : List Header) (r : ℕ → Bool) (y : ℕ) → r y ≡ true → reached_along knows hs r y ≡ true
   along_grows [] r y e = e
   along_grows (n ∷ hs) r y e = along_grows hs (with_op n.id (now n r) r) y (elim (cases_eq y n.id) [
-    inl q ↦ ap (with_op n.id (now n r) r) q ∙ with_same n.id (now n r) r ∙ or_left (r n.id) _ (ap r (sym q) ∙ e)
+    | inl q ↦ ap (with_op n.id (now n r) r) q ∙ with_same n.id (now n r) r ∙ or_left (r n.id) _ (ap r (sym q) ∙ e)
     | inr ne ↦ with_other n.id y (now n r) r ne ∙ e
   ])
 
@@ -111,6 +111,6 @@ module _ (before after : Facts) (hs : List Header) (x : ℕ) (ordered : AreOrder
       let second : (y : ℕ) → In y learned → r y ≡ true = two.reached r (λ y e. elim e [ inl q ↦ ap r q ∙ reached_first | inr h ↦ first y h ]) (λ d y a k u. reached_users d y a (inr (now d k)) u) in
       looks_within hs r forgotten learned one.once two.once (λ d h. (there d (there1 d h), first d h)) (λ d h. (there d (there2 d h), second d h))
       (λ h i far d k. elim (used_or_not h.operands d) [
-        inl e ↦ e
+        | inl e ↦ e
         | inr used ↦ absurd (true≢false (sym (reached_user h d used.0 i used.1 (second d k) (now d (two.known d k))) ∙ far))
       ])

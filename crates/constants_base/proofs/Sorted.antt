@@ -152,7 +152,7 @@ among_apart t (x ∷ xs) d = go (t x) (among_apart t xs (IsDistinct-tail eqb x x
 among_look : (t : Facts) (x : ℕ) (xs : List ℕ) → IsDistinct eqb xs → ((In x xs → ⊥) → t x ≡ None) → look x (known_among t xs) ≡ t x
 among_look t x [] d out = sym (out (λ h. h))
 among_look t x (y ∷ xs) d out = elim (cases_eq x y) [
-  inl e ↦ (let none : look x (known_among t xs) ≡ None = not_in_look x (known_among t xs) (subst (λ z. NotIn z (known_among t xs)) (sym e) (among_not_in t y xs (IsDistinct-head eqb y xs d))) in
+  | inl e ↦ (let none : look x (known_among t xs) ≡ None = not_in_look x (known_among t xs) (subst (λ z. NotIn z (known_among t xs)) (sym e) (among_not_in t y xs (IsDistinct-head eqb y xs d))) in
       pair_look x y (t y) (known_among t xs)
       ∙ ap (λ b. cond b (first_of (t y) (look x (known_among t xs))) (look x (known_among t xs))) (eq-eqb x y e)
       ∙ ap (first_of (t y)) none

@@ -14,7 +14,7 @@ loop-next-init c =
     let yes : c.learn_first.result ≡ true = search rules in (
       c.learn_first.ensures.world,
       λ here there. learns_from_start look_in uses_in (c.learn_first.result ≡ true) c.args.op c.args.forgotten.now (known_in c.args.table.now) (known_in c.learn_first.new.table) c.new-trail.result.items c.learn_first.new.trail.items
-      c.args.view.now.world.now c.learn_first.new.view.world.now c.args.view.now.looks c.learn_first.new.view.looks yes c.new-trail.ensures.items (c.learn_first.ensures.learnt here there) c.learn_first.ensures.world c.learn_first.ensures.looks,
+          c.args.view.now.world.now c.learn_first.new.view.world.now c.args.view.now.looks c.learn_first.new.view.looks yes c.new-trail.ensures.items (c.learn_first.ensures.learnt here there) c.learn_first.ensures.world c.learn_first.ensures.looks,
     )
 
 pub returns-then-not-learn_users-clause-learnt : goal.returns-then-not-learn_users-clause-learnt
@@ -34,7 +34,7 @@ loop-next-preserved c =
     let is : c.index.result.now ≡ get_or c.loop-next.trail.items c.loop-next.next c.index.result.now = search rules in (
       c.learn_users.ensures.world ∙ c.loop-next.invariant.0,
       λ here there. learns_from_more look_in uses_in (c.learn_users.result ≡ true) c.args.op c.index.result.now c.args.forgotten.now (known_in c.args.table.now) (known_in c.loop-next.table) (known_in c.learn_users.new.table) c.loop-next.trail.items c.learn_users.new.trail.items
-      c.loop-next.next c.args.view.now.world.now c.loop-next.view.world.now c.learn_users.new.view.world.now c.args.view.now.looks c.loop-next.view.looks c.learn_users.new.view.looks yes lt is (c.loop-next.invariant.1 here there) c.learn_users.ensures.learnt c.learn_users.ensures.looks c.learn_users.ensures.world,
+          c.loop-next.next c.args.view.now.world.now c.loop-next.view.world.now c.learn_users.new.view.world.now c.args.view.now.looks c.loop-next.view.looks c.learn_users.new.view.looks yes lt is (c.loop-next.invariant.1 here there) c.learn_users.ensures.learnt c.learn_users.ensures.looks c.learn_users.ensures.world,
     )
 
 pub returns-clause-learnt : goal.returns-clause-learnt

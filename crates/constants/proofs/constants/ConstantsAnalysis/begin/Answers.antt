@@ -9,6 +9,8 @@ use Rattle.constants.proofs.constants.ConstantsAnalysis.begin.Goals as goal
 pub returns-clause-ok : goal.returns-clause-ok
 returns-clause-ok c =
     let w = c.args.world.now in
-    let yes : c.enter_tree.result ≡ true = search rules in
-    (refl, begun w (known_in c.new.result) (known_in c.enter_tree.new.table) (vacant c.new.result c.new.ensures.empty)
-    (subst (λ (z : Op). WalkedIds (look_in w) (ids z) (known_in c.new.result) (known_in c.enter_tree.new.table)) c.in-Ok.ensures (on_true_is c.enter_tree.result _ yes c.enter_tree.ensures)))
+    let yes : c.enter_tree.result ≡ true = search rules in (
+      refl,
+      begun w (known_in c.new.result) (known_in c.enter_tree.new.table) (vacant c.new.result c.new.ensures.empty)
+          (subst (λ (z : Op). WalkedIds (look_in w) (ids z) (known_in c.new.result) (known_in c.enter_tree.new.table)) c.in-Ok.ensures (on_true_is c.enter_tree.result _ yes c.enter_tree.ensures)),
+    )
