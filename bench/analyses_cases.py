@@ -18,7 +18,7 @@ from reference.module import text_of  # noqa: E402
 SEED = 20
 MODULES, SCRIPTS, COMMANDS = 300, 100, 10
 KINDS = ("symbols", "effects", "dead", "constants")
-GROUPS = (("symbols",), ("effects", "dead"))
+GROUPS = (("symbols",), ("effects", "dead"), ("constants",))
 WITH_EDITS = False
 TABLE = Table()
 

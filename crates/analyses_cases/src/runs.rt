@@ -1,5 +1,6 @@
 //! Whole runs with the listeners that a line names.
 use case_texts::texts::{bytes, first, put_all_shown};
+use constants::constants::Constants;
 use effects::dead::Dead;
 use effects::effects::Effects;
 use ir_event::analysis::Analysis;
@@ -23,6 +24,7 @@ fn status_of(
         match kind {
             "symbols" => boxes.push(Box::new(alloc, Symbols::new(alloc))?)?,
             "diagnostics" => boxes.push(Box::new(alloc, Diagnostics::new(alloc))?)?,
+            "constants" => boxes.push(Box::new(alloc, Constants::new(alloc))?)?,
             "effects" => boxes.push(Box::new(alloc, Effects::new(alloc))?)?,
             "dead" => boxes.push(Box::new(alloc, Dead::new(alloc))?)?,
             _ => boxes.push(Box::new(alloc, Uses::new(alloc))?)?,
