@@ -1,19 +1,17 @@
 -- Tables to which the roles of operations are added, each behind that of the one that it stands in.
-use Rattle.std.proofs.Common.{◌≡◌, refl, ap, sym, ◌∙◌, subst, ℕ, Bool, true, false, true≢false, cond, ◌||◌, eqb, eq-eqb, eqb-true, List, [], ◌∷◌, Option, Some, None, inl, inr}
+use Rattle.std.proofs.Common.{◌≡◌, refl, ap, sym, ◌∙◌, subst, ℕ, Bool, true, false, true≢false, ◌||◌, eqb, eq-eqb, eqb-true, List, [], ◌∷◌, Option, Some, None, inl, inr}
 use Rattle.std.specs.Prelude.{option_map, is_some, IfSome}
 use Rattle.std.specs.List.{list_any}
 use Rattle.ir_types.specs.Things.{Things}
 use Rattle.ir_tree.specs.Ids.{ids, has_id}
 use Rattle.ir_tree.specs.Meaning.{Operation}
-use Rattle.ir_tree_laws.specs.Reads.{parent_of}
-use Rattle.ir_tree_laws.specs.Stands.{stand_id, stands, stand_of}
+use Rattle.ir_tree_laws.specs.Stands.{stands, stand_of}
 use Rattle.ir_tree_laws.proofs.Listed.{bool_cases, neither}
 use Rattle.ir_tree_laws.proofs.Members.{member}
 use Rattle.ir_tree_laws.proofs.Around.{stand_present}
 use Rattle.ir_event.specs.declared.world.World.{World}
 use Rattle.ir_event.specs.Modules.{module_in}
-use Rattle.symbols.specs.declared.role.Role.{Role as Numbers}
-use Rattle.symbols.specs.Roles.{Stand, Role, role, role_of}
+use Rattle.symbols.specs.Roles.{Stand, role, role_of}
 use Rattle.symbols.specs.Table.{Table, Says, Keeps, Renewed, AreRight, Added, RoleIsOf, role_meaning}
 
 -- what is there is something

@@ -1,22 +1,20 @@
 -- A table that followed an event keeps the roles of the module after it.
-use Rattle.std.proofs.Common.{◌≡◌, refl, ap, sym, ◌∙◌, subst, ℕ, suc, ◌+◌, ◌≤◌, Bool, true, false, true≢false, cond, eqb, eq-eqb, eqb-true, List, [], ◌∷◌, length, map, get_or, Option, Some, None, inl, inr, arith}
-use Rattle.std.specs.Prelude.{option_map, option_and_then, slice_get, is_some, IfSome}
+use Rattle.std.proofs.Common.{◌≡◌, refl, ap, sym, ◌∙◌, subst, ℕ, suc, true, false, true≢false, cond, eqb, eq-eqb, eqb-true, List, [], ◌∷◌, length, map, get_or, Option, Some, None, inl, inr, arith}
+use Rattle.std.specs.Prelude.{option_map, option_and_then, IfSome}
 use Rattle.std.specs.List.{All, list_any}
-use Rattle.std.specs.FinMap as finmap
 use Rattle.std.proofs.lemmas.List.Elements.{All-head, All-tail}
 use Rattle.ir_types.specs.Things.{Things, Grows, IsName, IsType, IsAttr}
 use Rattle.ir_types.specs.Sound.{Holds, IsSound}
-use Rattle.ir_types.specs.Terms.{TypeTerm, AttrTerm, name_term, type_term, attr_term}
+use Rattle.ir_types.specs.Terms.{TypeTerm, AttrTerm, name_term, type_term}
 use Rattle.ir_types.proofs.Growth.{front_length, grows_refl}
 use Rattle.ir_types.proofs.Terms.{name_stays, type_stays, attr_stays}
 use Rattle.ir_tree.specs.declared.place.Place.{Place}
-use Rattle.ir_tree.specs.Tree.{OpOf, Op, op, head}
+use Rattle.ir_tree.specs.Tree.{head}
 use Rattle.ir_tree.specs.Ids.{HasDistinctIds, ids, find, has_id}
 use Rattle.ir_tree.specs.Places.{place_of, without}
 use Rattle.ir_tree.specs.Meaning.{Operation}
 use Rattle.ir_tree_laws.specs.Reads.{parent_of}
-use Rattle.ir_tree_laws.specs.Changes.{Takes, operand_at, entry_in}
-use Rattle.ir_tree_laws.specs.Stands.{StepOf, stand_id, stands, stand_in, stand_of, place_in, left_stand}
+use Rattle.ir_tree_laws.specs.Stands.{StepOf, stand_id, stands, stand_in, stand_of, place_in}
 use Rattle.ir_tree_laws.specs.Members.{In}
 use Rattle.ir_tree_laws.proofs.Listed.{bool_cases}
 use Rattle.ir_tree_laws.proofs.Members.{stand, member, same_stand, found_stands}

@@ -7,8 +7,8 @@ use Rattle.ir_types.specs.Things.{Things}
 use Rattle.ir_types.specs.Terms.{TypeTerm, AttrTerm, name_term, type_term, attr_term}
 use Rattle.ir_types.specs.Words.{is_table}
 use Rattle.ir_tree.specs.declared.place.Place.{Place}
-use Rattle.ir_tree.specs.Tree.{HeadOf, Op, op, head}
-use Rattle.ir_tree.specs.Ids.{HasDistinctIds, find, first_of, has_id}
+use Rattle.ir_tree.specs.Tree.{Op, op, head}
+use Rattle.ir_tree.specs.Ids.{HasDistinctIds, find, first_of}
 use Rattle.ir_tree.specs.Places.{place_of}
 use Rattle.ir_tree.specs.Meaning.{Operation, meaning}
 use Rattle.ir_tree.proofs.Mapped.{map_find, map_place, map_ids}

@@ -1,25 +1,24 @@
 -- Each event leaves the role of every operation but its own.
-use Rattle.std.proofs.Common.{◌≡◌, refl, ap, sym, ◌∙◌, subst, ℕ, ◌+◌, Bool, true, false, true≢false, cond, eqb, eq-eqb, eqb-true, List, [], ◌∷◌, ◌++◌, map, Option, Some, None, inl, inr, ◌⊎◌}
+use Rattle.std.proofs.Common.{◌≡◌, refl, ap, sym, ◌∙◌, subst, ℕ, ◌+◌, true, false, true≢false, cond, eqb, eq-eqb, eqb-true, List, [], ◌∷◌, ◌++◌, map, Option, Some, None, inl, inr, ◌⊎◌}
 use Rattle.std.specs.Prelude.{option_map, option_and_then}
 use Rattle.ir_types.specs.Things.{Things}
 use Rattle.ir_types.specs.Terms.{TypeTerm, AttrTerm}
 use Rattle.ir_types.specs.Words.{is_table}
 use Rattle.ir_tree.specs.declared.value.Value.{Value}
-use Rattle.ir_tree.specs.declared.place.Place.{Place}
 use Rattle.ir_tree.specs.declared.place.Part.{Part}
 use Rattle.ir_tree.specs.declared.place.Part.TheVariants.{Props, Attrs}
-use Rattle.ir_tree.specs.Tree.{HeadOf, OpOf, op, RegionsOf, no_regions, region, RegionOf, empty, block, OpsOf, no_ops, next, head, regions}
+use Rattle.ir_tree.specs.Tree.{op, RegionsOf, no_regions, region, RegionOf, empty, block, OpsOf, no_ops, next, head, regions}
 use Rattle.ir_tree.specs.Ids.{HasDistinctIds, find}
 use Rattle.ir_tree.specs.Uses.{uses_of}
-use Rattle.ir_tree.specs.Edits.{each_head, regions_each_head, ops_each_head, at, put_operand, change_part}
+use Rattle.ir_tree.specs.Edits.{each_head, regions_each_head, at, put_operand, change_part}
 use Rattle.ir_tree.specs.Frames.{owner_of}
-use Rattle.ir_tree.specs.Places.{place_of, without}
+use Rattle.ir_tree.specs.Places.{without}
 use Rattle.ir_tree.specs.Meaning.{Operation}
 use Rattle.ir_store.specs.Nodes.{node_of, regions_arguments}
 use Rattle.ir_tree_laws.specs.Changes.{HoldNone}
 use Rattle.ir_tree_laws.specs.Values.{type_of_value}
 use Rattle.ir_tree_laws.specs.Tables.{table_of}
-use Rattle.ir_tree_laws.specs.Stands.{StepOf, StandOf, stand_id, stands, regions_stands, region_stands, ops_stands, stand_in, stand_of, table_in, is_gone, left_step, left_stand, edit_step, edit_stand}
+use Rattle.ir_tree_laws.specs.Stands.{StepOf, stand_id, stands, regions_stands, region_stands, ops_stands, stand_in, stand_of, table_in, is_gone, left_step, left_stand, edit_step, edit_stand}
 use Rattle.ir_tree_laws.specs.Members.{In}
 use Rattle.ir_tree_laws.proofs.Listed.{bool_cases, in_left, in_right, in_parts}
 use Rattle.ir_tree_laws.proofs.Readings.{step, stands_find, stands_table}

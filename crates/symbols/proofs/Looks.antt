@@ -1,6 +1,6 @@
 -- How often the event's operation is looked at.
 use Rattle.std.proofs.Common.{◌≡◌, refl, ap, sym, ◌∙◌, ℕ, ◌+◌, ◌≤◌, true, length, Option, Some, None, arith}
-use Rattle.std.specs.Prelude.{option_map, max}
+use Rattle.std.specs.Prelude.{option_map}
 use Rattle.std.specs.FinMap as finmap
 use Rattle.ir_types.specs.Terms.{name_term, type_term, attr_term}
 use Rattle.ir_tree.specs.Tree.{Op, op, head}
@@ -15,7 +15,6 @@ use Rattle.ir_event.specs.Bounds.{op_of, operand_count, operands_of}
 use Rattle.ir_event.specs.Listener.{is_take}
 use Rattle.ir_event.specs.Modules.{Module, module_in}
 use Rattle.ir_event.specs.Step.{Step}
-use Rattle.ir_tree_laws.proofs.Around.{present_stand}
 use Rattle.symbols.proofs.Agreed.{op_there, found_there}
 
 -- as many operands as in what an operation stands for

@@ -1,8 +1,8 @@
 -- What is read in numbers, in contents.
-use Rattle.std.proofs.Common.{◌≡◌, refl, ap, sym, ◌∙◌, ℕ, List, [], ◌∷◌, map, Option, Some, None}
+use Rattle.std.proofs.Common.{◌≡◌, refl, ap, sym, ℕ, List, [], ◌∷◌, map, Option, Some, None}
 use Rattle.std.specs.Prelude.{option_map}
 use Rattle.ir_types.specs.Things.{Things}
-use Rattle.ir_types.specs.Terms.{AttrTerm, name_term, type_term, attr_term, attr_terms, entries_at}
+use Rattle.ir_types.specs.Terms.{name_term, type_term, attr_term, attr_terms, entries_at}
 use Rattle.ir_tree.specs.declared.value.Value.{Value}
 use Rattle.ir_tree.specs.Tree.{Op}
 use Rattle.ir_tree.specs.Maps.{map_entry}

@@ -1,22 +1,19 @@
 -- What a report shows.
-use Rattle.std.proofs.Common.{◌≡◌, refl, ap, sym, ◌∙◌, subst, ℕ, ◌<◌, ◌++◌, Bool, true, false, true≢false, cond, not, ◌&&◌, eqb, eq-eqb, eqb-true, List, [], ◌∷◌, map, Option, Some, None, inl, inr, arith}
+use Rattle.std.proofs.Common.{◌≡◌, refl, ap, sym, ◌∙◌, subst, ℕ, ◌++◌, Bool, true, false, true≢false, cond, not, ◌&&◌, eqb, eq-eqb, eqb-true, List, [], ◌∷◌, map, Option, Some, None, inl, inr, arith}
 use Rattle.std.specs.Prelude.{option_map, IfSome}
 use Rattle.std.specs.List.{AllByRecursion, All}
 use Rattle.std.specs.List.Sorted.{IsStrictlySortedBy}
 use Rattle.std.specs.Option.{option_eq}
 use Rattle.std.specs.Str.{bytes_eq}
-use Rattle.std.specs.Ordering.{nat_cmp, is_eq, is_lt, MatchOrdering}
-use Rattle.std.specs.Cmp.{ranks}
+use Rattle.std.specs.Ordering.{nat_cmp, is_eq, is_lt}
 use Rattle.std.specs.Cmp.Lexicographic.{pointwise}
-use Rattle.std.specs.declared.cmp.Ordering.{Ordering}
-use Rattle.std.specs.declared.cmp.Ordering.TheVariants.{Less, Equal, Greater}
+use Rattle.std.specs.declared.cmp.Ordering.TheVariants.{Less}
 use Rattle.std.specs.Map.{lookup, keys_of}
 use Rattle.std.specs.BTreeMap.{BTreeMap, is_at}
 use Rattle.std.specs.BTreeMap as tree
 use Rattle.std.specs.FinMap.{nat_cmp-IsAntisymmetric}
 use Rattle.std.specs.FinMap.Entries.{find, is_sorted, below_all, find-put, is_sorted-put, same_entries}
 use Rattle.std.proofs.lemmas.Cmp.{nat_cmp_total}
-use Rattle.std.proofs.lemmas.Bool.{ne_eqb}
 use Rattle.std.proofs.lemmas.List.{map-append}
 use Rattle.std.proofs.lemmas.List.Elements.{All-head, All-tail, All-cons, All-nil}
 use lib.Dec.{T}
@@ -37,9 +34,9 @@ use Rattle.symbols.specs.declared.role.Reference.{Reference}
 use Rattle.symbols.specs.declared.role.Call.{Call}
 use Rattle.symbols.specs.declared.role.Signature.{Signature}
 use Rattle.symbols.specs.Types.{same_type}
-use Rattle.symbols.specs.Roles.{Role, Stand, role, role_of}
-use Rattle.symbols.specs.Symbols.{RolesOf, roles_in, roles_by_id, DefinitionOf, defined, definitions, RoleAt, says_table, function_at, LineOf, Definition, Duplicate, Use, Unresolved, Mismatch, first_defined, is_duplicate, look_up, look_in, resolve, fits, definition_lines, duplicate_lines, reference_line, reference_lines, all_reference_lines, mismatch_line, call_line, mismatch_lines, lines_with, symbol_lines, symbols_of, line_cells, symbol_rows}
-use Rattle.symbols.specs.Table.{reference_of, call_numbers, signature_numbers, role_numbers, map_reference, map_call, map_signature, role_meaning, call_meaning, RoleIsOf, ReferenceIsOf, CallIsOf, SignatureIsOf, Says, Keeps, IsKept}
+use Rattle.symbols.specs.Roles.{Stand, role, role_of}
+use Rattle.symbols.specs.Symbols.{RolesOf, roles_in, roles_by_id, DefinitionOf, defined, definitions, says_table, function_at, LineOf, Definition, Duplicate, Use, Unresolved, Mismatch, first_defined, is_duplicate, look_in, resolve, fits, definition_lines, duplicate_lines, reference_line, reference_lines, all_reference_lines, mismatch_line, call_line, mismatch_lines, lines_with, symbol_lines, line_cells, symbol_rows}
+use Rattle.symbols.specs.Table.{reference_of, call_numbers, signature_numbers, role_numbers, map_reference, map_call, map_signature, role_meaning, call_meaning, RoleIsOf, ReferenceIsOf, CallIsOf, SignatureIsOf, Keeps, IsKept}
 use Rattle.symbols.specs.Listeners.{kept_at}
 use Rattle.symbols.specs.Lines.{numbered, numbers_at, cells_of, lines_cells}
 use Rattle.symbols.proofs.SameTypes.{type_is, type_refl}

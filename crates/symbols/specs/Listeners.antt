@@ -3,9 +3,7 @@ use Rattle.std.specs.Prelude.{◌≡◌, ℕ, ◌+◌, false, None}
 use Rattle.std.specs.Ordering.{nat_cmp}
 use Rattle.std.specs.BTreeMap.{BTreeMap}
 use Rattle.std.specs.BTreeMap as tree
-use Rattle.ir_types.specs.Things.{Things}
 use Rattle.ir_types.proofs.Growth.{grows_trans}
-use Rattle.ir_event.specs.Modules.{Module}
 use Rattle.ir_event.specs.Bounds.{operands_of}
 use Rattle.ir_event.specs.Listener.{Listener}
 use Rattle.symbols.specs.declared.role.Role.{Role as Numbers}

@@ -1,6 +1,6 @@
 -- What the operations of a tree have to do with symbols: where they stand among symbol tables, which symbols they are,
 -- which they refer to, and what they call (Symbols and Symbol Tables).
-use Rattle.std.specs.Prelude.{ℕ, List, [], ◌∷◌, ◌++◌, map, codes, Bool, true, false, ◌==◌, ◌||◌, if◌then◌else◌, Option, Some, None, option_map, option_and_then}
+use Rattle.std.specs.Prelude.{ℕ, List, [], ◌∷◌, ◌++◌, map, codes, Bool, ◌||◌, if◌then◌else◌, Option, Some, None, option_map, option_and_then}
 use Rattle.std.specs.List.{list_any}
 use Rattle.std.specs.Str.{bytes_eq}
 use Rattle.std.specs.Cmp.Lexicographic.{pointwise}
@@ -9,7 +9,7 @@ use Rattle.ir_types.specs.Words.{is_table}
 use Rattle.ir_tree.specs.Tree.{HeadOf, head}
 use Rattle.ir_tree.specs.Meaning.{Operation}
 use Rattle.ir_tree_laws.specs.Values.{type_of_value}
-use Rattle.ir_tree_laws.specs.Stands.{StepOf, StandOf, stand_id, stands, stand_of, table_in, gather}
+use Rattle.ir_tree_laws.specs.Stands.{StepOf, StandOf, stand_of, table_in}
 use Rattle.op_registry.specs.Registry.{beside}
 use Rattle.op_registry.specs.Properties.{string_of, type_of}
 use Rattle.symbols.specs.Types.{function_of}

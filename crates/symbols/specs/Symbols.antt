@@ -1,5 +1,5 @@
 -- The analysis: which symbols are defined, and what the references to symbols resolve to (Symbols and Symbol Tables).
-use Rattle.std.specs.Prelude.{ℕ, List, [], ◌∷◌, ◌++◌, map, eqb, Bool, true, false, ◌&&◌, not, if◌then◌else◌, Option, Some, None, option_map, option_and_then}
+use Rattle.std.specs.Prelude.{ℕ, List, [], ◌∷◌, ◌++◌, map, eqb, Bool, true, false, ◌&&◌, not, if◌then◌else◌, Option, Some, None}
 use Rattle.std.specs.Ordering.{nat_cmp}
 use Rattle.std.specs.FinMap.Entries.{put}
 use Rattle.std.specs.Str.{bytes_eq}
@@ -10,7 +10,7 @@ use Rattle.ir_tree.specs.Meaning.{Operation}
 use Rattle.ir_tree_laws.specs.Stands.{stand_id, stands}
 use Rattle.ir_event.specs.Rows.{RowTerm, Op, Name, Path, Tag}
 use Rattle.symbols.specs.Types.{same_type}
-use Rattle.symbols.specs.Roles.{ReferenceOf, CallOf, RoleOf, Role, Stand, role, role_of}
+use Rattle.symbols.specs.Roles.{ReferenceOf, CallOf, RoleOf, Stand, role, role_of}
 
 -- the roles of all operations, in the order of their ids
 abbrev pub RolesOf : Type 0 → Type 0 → Type 0 → Type 0

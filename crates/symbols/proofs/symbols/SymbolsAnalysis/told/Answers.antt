@@ -1,4 +1,4 @@
-use Rattle.std.proofs.Common.{◌≡◌, refl, inl, subst}
+use Rattle.std.proofs.Common.{refl, inl, subst}
 use Rattle.ir_types.specs.Sound.{IsSound}
 use Rattle.ir_event.specs.Modules.{module_in}
 use Rattle.symbols.specs.Listeners.{kept_at}
