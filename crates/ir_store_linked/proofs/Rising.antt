@@ -16,7 +16,8 @@ use Rattle.ir_tree_laws.proofs.Listed.{bool_cases}
 use Rattle.ir_tree_laws.proofs.Members.{stand, itself, within, has_around, same_stand, found_stands, stand_found, member, stand_of_member}
 use Rattle.ir_tree_laws.proofs.Around.{stands_around, stand_present, present_stand, around_there, place_of_member}
 use Rattle.ir_store_linked.specs.Shifting.{level}
-use Rattle.ir_store_linked.proofs.Climbing.{placed, level_up, level as old_level}
+use Rattle.ir_store_linked.specs.Lifted.{level as old_level}
+use Rattle.ir_store_linked.proofs.Climbing.{placed, level_up}
 
 same_bool : (a b : Bool) → (a ≡ true → b ≡ true) → (b ≡ true → a ≡ true) → a ≡ b
 same_bool true b f g = sym (f refl)
