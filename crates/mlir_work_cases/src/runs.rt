@@ -1,7 +1,7 @@
 //! Whole runs, from bytes to bytes.
 use crate::readers::Slow;
-use case_texts::texts::{bytes, first, number, put_all_shown};
 use crate::writers::Narrow;
+use case_texts::texts::{bytes, first, number, put_all_shown};
 use ir_event::analysis::Analysis;
 use listeners::uses::Uses;
 use mlir_work_run::run::{Options, run};
