@@ -131,7 +131,7 @@ impl<'a> View<'a> {
         ensures world { self.new.world.now ≡ self.old.world.now }
     {
         self.looks = self.looks.saturating_add(1);
-        self.world.store.value_type(value)
+        self.world.store.value_type(&value)
     }
 
     /// The uses of a value, each once: the operations, and the numbers of the operands. Each is a look too.
@@ -141,7 +141,7 @@ impl<'a> View<'a> {
         ensures world { self.new.world.now ≡ self.old.world.now }
     {
         self.looks = self.looks.saturating_add(1);
-        let uses = self.world.store.uses(value)?;
+        let uses = self.world.store.uses(&value)?;
         self.looks = self.looks.saturating_add(uses.len() as u64);
         Ok(uses)
     }

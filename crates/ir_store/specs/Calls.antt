@@ -1,5 +1,5 @@
 -- What each call makes of a store.
-use Rattle.std.specs.Prelude.{◌≡◌, ℕ, ◌+◌, ◌<◌, List, [], ◌∷◌, ◌++◌, eqb, nat_lt, Bool, true, false, if◌then◌else◌, Option, Some, None, is_some}
+use Rattle.std.specs.Prelude.{◌≡◌, ℕ, ◌+◌, ◌<◌, eqb, nat_lt, Bool, true, false, if◌then◌else◌, Option, Some, None, is_some}
 use Rattle.std.specs.List.{list_all}
 use Rattle.std.specs.Ordering.{nat_cmp}
 use Rattle.std.specs.FinMap as map
@@ -13,6 +13,7 @@ use Rattle.ir_tree.specs.Places.{put, without, shifted}
 use Rattle.ir_tree.specs.Limits.{most_next}
 use Rattle.ir_tree_laws.specs.Values.{has_value}
 use Rattle.ir_tree_laws.specs.Reasons.{with_id, has_place, holds_none, unused}
+use Rattle.entries.specs.Slots.{gone_after}
 use Rattle.ir_store.specs.Stored.{Stored, Gone, none_gone, change_gone, has_entry, has_slot}
 
 -- a store as it is loaded: the module, with no operation held, and no key of its operations gone
@@ -81,16 +82,6 @@ after_operand x k v s = with_tree (with_operand x k v s.module_of.tree) s
 -- operation x, with what is inside it, shifted to a place
 abbrev pub after_shift : ℕ → Place → Stored → Stored
 after_shift x place s = with_tree (shifted x place s.module_of.tree) s
-
--- the keys that are gone, without the first that is k
-abbrev pub keep_gone : ℕ → List ℕ → List ℕ
-keep_gone k [] = []
-keep_gone k (l ∷ ls) = if eqb l k then ls else l ∷ keep_gone k ls
-
--- the keys that are gone, where key k is taken out or has an attribute again
-abbrev pub gone_after : {A : Type 0} → ℕ → Option A → List ℕ → List ℕ
-gone_after k None ls = ls ++ k ∷ []
-gone_after k (Some a) ls = keep_gone k ls
 
 -- the gone keys of all operations, with those of operation x changed
 abbrev pub change_gone_of : ℕ → (Gone → Gone) → Option Gone → map.FinMap nat_cmp Gone → map.FinMap nat_cmp Gone

@@ -1,8 +1,7 @@
 -- What a store holds: the module, the operations that were taken from it and are held, and the slots of keys
 -- that were taken out of dictionaries.
-use Rattle.std.specs.Prelude.{ℕ, List, [], eqb, Bool, false, ◌||◌, Option, Some, None, refl}
+use Rattle.std.specs.Prelude.{ℕ, List, [], Bool, false, ◌||◌, Option, Some, None, refl}
 use Rattle.std.specs.Coded.{Coded, code_by, coded×, coded_list, coded_ℕ}
-use Rattle.std.specs.List.{list_any}
 use Rattle.std.specs.Ordering.{nat_cmp}
 use Rattle.std.specs.FinMap as map
 use Rattle.ir_tree.specs.declared.place.Part.{Part}
@@ -12,6 +11,7 @@ use Rattle.ir_tree.specs.Code.{op_code}
 use Rattle.ir_tree.specs.Ids.{find, first_of}
 use Rattle.ir_tree.specs.Edits.{part_of}
 use Rattle.ir_tree.specs.WellFormed.{Module, module_code}
+use Rattle.entries.specs.Slots.{has_key, is_gone}
 
 -- the keys that were taken out of an operation's dictionaries and whose slots stand, in the order in which they went
 pub record Gone : Type 0 where
@@ -58,10 +58,6 @@ known x s = first_of (find x s.module_of.tree) (map.get s.held x)
 abbrev pub gone_of : ℕ → Stored → Option Gone
 gone_of x s = map.get s.gone x
 
--- whether a key is one of a dictionary
-abbrev pub has_key : ℕ → List (ℕ × ℕ) → Bool
-has_key k es = list_any (λ e. eqb e.0 k) es
-
 -- whether there is something, and it passes a test
 abbrev pub is_some_with : {X : Type 0} → (X → Bool) → Option X → Bool
 is_some_with p None = false
@@ -74,7 +70,7 @@ has_entry x part k s = is_some_with (λ o. has_key k (part_of part (head o))) (k
 -- whether key k is gone from it, and its slot stands
 abbrev pub stands : Part → ℕ → Option Gone → Bool
 stands part k None = false
-stands part k (Some g) = list_any (λ l. eqb l k) (gone_in part g)
+stands part k (Some g) = is_gone k (gone_in part g)
 
 -- whether there is a slot for key k: the key is there, or its slot still stands
 abbrev pub has_slot : ℕ → Part → ℕ → Stored → Bool

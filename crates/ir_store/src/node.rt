@@ -1,117 +1,101 @@
 //! What an operation of the module has, beside the operations in its blocks.
-ghost use Rattle.std.specs.Prelude.{◌≡◌, length, slice_get, option_map, option_and_then};
-ghost use Rattle.ir_tree.specs.Tree.{regions};
-ghost use Rattle.ir_tree.specs.View.{region_view};
-ghost use Rattle.ir_store.specs.Nodes.{node_of};
-ghost use Rattle.ir_tree_laws.specs.Values.{arguments_of, region_at};
+ghost use Rattle.std.specs.Prelude.{◌≡◌, length, map, slice_get, option_map, option_and_then};
+ghost use Rattle.ir_store.specs.Rows.{row_of, node_row, shape_of, shape_arguments};
 
-use ir_tree::tree::{TreeOp, TreeRegion};
+use crate::row::{Area, Row};
 use ir_tree::value::Value;
 use ir_types::ids::{AttrId, NameId, TypeId};
 use std::marker::Model;
 
-/// An operation of the module, to be read: its head, and the arguments of its blocks.
+/// An operation of the module, or a held one, to be read.
 #[derive(Drop)]
 pub struct Node<'a> {
-    op: &'a TreeOp,
+    row: &'a Row,
 }
 
 impl<'a> Model for Node<'a> {
-    ghost use Rattle.ir_store.specs.Nodes.{Node, node_code, node_of};
+    ghost use Rattle.ir_store.specs.Nodes.{Node, node_code};
+    ghost use Rattle.ir_store.specs.Rows.{row_of, node_row};
 
     ghost Value = { Node };
 
     ghost coded = { node_code };
 
-    ghost view = { λ n. node_of n.op.now };
+    ghost view = { λ n. node_row (row_of n.row.now) };
 }
 
 impl<'a> Node<'a> {
     /// An operation to be read.
-    pub(crate) fn new(op: &'a TreeOp) -> Node<'a>
-        ensures { result ≡ node_of op.now }
+    pub(crate) fn new(row: &'a Row) -> Node<'a>
+        ensures { result ≡ node_row (row_of row.now) }
     {
-        Node { op }
+        Node { row }
     }
 
     /// The name of the operation.
     pub fn name(&self) -> NameId
         ensures { result ≡ self.now.head.name }
     {
-        let op = self.op;
-        op.name
+        let row = self.row;
+        row.name
     }
 
     /// Its operands, in order.
     pub fn operands(&self) -> &[Value]
         ensures { result.now ≡ self.now.head.operands }
     {
-        let op = self.op;
-        &op.operands
+        let row = self.row;
+        &row.operands
     }
 
     /// The types of its results, in order.
     pub fn results(&self) -> &[TypeId]
         ensures { result.now ≡ self.now.head.results }
     {
-        let op = self.op;
-        &op.results
+        let row = self.row;
+        &row.results
     }
 
-    /// Its properties, sorted by their keys' bytes (Language Reference, "Properties").
+    /// Its properties, in the order of their keys.
     pub fn properties(&self) -> &[(NameId, AttrId)]
         ensures { result.now ≡ self.now.head.properties }
     {
-        let op = self.op;
-        &op.props
+        let row = self.row;
+        row.props.as_slice()
     }
 
-    /// Its discardable attributes, sorted by their keys' bytes (Language Reference, "Attributes").
+    /// Its discardable attributes, in the order of their keys.
     pub fn attributes(&self) -> &[(NameId, AttrId)]
         ensures { result.now ≡ self.now.head.attributes }
     {
-        let op = self.op;
-        &op.attrs
+        let row = self.row;
+        row.attrs.as_slice()
     }
 
     /// How many regions it has.
     pub fn region_count(&self) -> usize
         ensures { result ≡ length self.now.arguments }
     {
-        let op = self.op;
-        let regions: &[TreeRegion] = &op.regions;
-        regions.len()
+        let row = self.row;
+        row.areas.len()
     }
 
     /// The types of the arguments of the block of a region, or none where it has no such region, or the
     /// region no block.
     pub fn arguments(&self, region: u32) -> Option<&[TypeId]>
-        ensures { option_map (λ args. args.now) result ≡ option_and_then (λ args. args) (slice_get self.now.arguments region) }
+        ensures { option_map (λ a. a.now) result ≡ option_and_then (λ a. a) (slice_get self.now.arguments region) }
     {
-        arguments(region_of(self.op, region)?)
+        let row = self.row;
+        block_arguments(&row.areas, region as usize)
     }
 }
 
-/// The region of an operation with a number.
-pub(crate) fn region_of(op: &TreeOp, region: u32) -> Option<&TreeRegion>
-    ensures { option_map (λ g. region_view g.now) result ≡ region_at region (regions op.now) }
+/// The types of the arguments of a region's block, if there is one.
+fn block_arguments(areas: &[Area], region: usize) -> Option<&[TypeId]>
+    ensures { option_map (λ a. a.now) result ≡ option_and_then shape_arguments (slice_get (map shape_of areas.now) region) }
 {
-    region_among(&op.regions, region as usize)
-}
-
-/// The region at a place.
-fn region_among(regions: &[TreeRegion], place: usize) -> Option<&TreeRegion>
-    ensures { option_map (λ g. g.now) result ≡ slice_get regions.now place }
-{
-    regions.get(place)
-}
-
-/// The types of the arguments of a region's block, if it has one.
-pub(crate) fn arguments(region: &TreeRegion) -> Option<&[TypeId]>
-    ensures { option_map (λ args. args.now) result ≡ arguments_of (region_view region.now) }
-{
-    match region {
-        TreeRegion::Empty => None,
-        TreeRegion::Block { args, .. } => Some(args.as_slice()),
+    match areas.get(region)? {
+        Area::Empty => None,
+        Area::Block { args, .. } => Some(args),
     }
 }

@@ -147,7 +147,7 @@ fn node(alloc: Global, store: &Store, text: &str) -> Result<String, AllocError> 
 
 /// The type of a value.
 fn value_type(alloc: Global, store: &Store, text: &str) -> Result<String, AllocError> {
-    match store.value_type(value(text)) {
+    match store.value_type(&value(text)) {
         Some(ty) => written::number(alloc, u64::from(ty.number())),
         None => written::word(alloc, "none"),
     }

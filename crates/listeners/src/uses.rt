@@ -48,8 +48,8 @@ impl Uses {
 fn table_in(alloc: Global, store: &Store) -> Result<Table, AllocError>
     ensures { IfOk result (λ table. in_order (table_uses table) ≡ all_uses store.now.module_of.tree) }
 {
-    let lent = store.lent()?;
-    let listed = collect(alloc, lent.tree())?;
+    let tree = store.tree()?;
+    let listed = collect(alloc, &tree)?;
     Ok(Table::new(alloc, listed))
 }
 

@@ -76,10 +76,10 @@ fn refused(alloc: Global, refusal: Refusal) -> Answered
 pub(crate) fn text_of_module(alloc: Global, world: &World) -> Result<Vec<u8>, Refusal>
     ensures { IfOk result (λ text. text.items ≡ text_of (module_in world.now).tree) }
 {
-    let Ok(lent) = world.store.lent() else {
+    let Ok(tree) = world.store.tree() else {
         return Err(Refusal::Memory);
     };
-    match print(alloc, &world.ctx, lent.tree()) {
+    match print(alloc, &world.ctx, &tree) {
         Ok(text) => Ok(text),
         Err(_) => Err(Refusal::Memory),
     }

@@ -1,5 +1,10 @@
-use Rattle.ir_store.proofs.Plain.{loaded}
+use Rattle.ir_tree.specs.Ids.{ids}
+use Rattle.ir_tree.specs.Meaning.{isolated_in}
+use Rattle.ir_store.proofs.Loading.{are_below, root_bare}
 use Rattle.ir_store.proofs.store.Store.hold.Goals as goal
 
-pub returns-clause-ok : goal.returns-clause-ok
-returns-clause-ok c = loaded _ _
+pub spread-requires-clause-below : goal.spread-requires-clause-below
+spread-requires-clause-below c = are_below c.args.next (ids c.args.tree) c.requires.below
+
+pub spread-requires-clause-root : goal.spread-requires-clause-root
+spread-requires-clause-root c = root_bare (isolated_in c.args.ctx.now) c.args.tree c.requires.formed.visible

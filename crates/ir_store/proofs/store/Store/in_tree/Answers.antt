@@ -1,9 +1,14 @@
-use Rattle.std.proofs.Common.{◌∙◌, sym, ap, is_some}
+use Rattle.std.proofs.Common.{◌∙◌, ap}
+use Rattle.std.specs.Prelude.{is_some}
+use Rattle.std.specs.FinMap as finmap
 use Rattle.ir_tree.specs.Ids.{has_id}
-use Rattle.ir_store.specs.Stored.{Stored}
-use Rattle.ir_store.proofs.Found.{found_there, is_some-option_map}
+use Rattle.ir_store.specs.Rows.{rows_of}
+use Rattle.ir_store.proofs.Slots.{in_tree_is}
 use Rattle.ir_store.proofs.store.Store.in_tree.Goals as goal
 
 pub returns : goal.returns
 returns c =
-    c.is_some.ensures ∙ sym (is_some-option_map (λ o. o.now) c.find.result) ∙ ap is_some c.find.ensures ∙ found_there c.args.op _ ∙ ap (λ (s : Stored). has_id c.args.op s.module_of.tree) c.self.view_is
+    let a = c.self.inside in
+    c.is_some.ensures ∙ ap is_some c.find.ensures
+    ∙ in_tree_is (rows_of a.rows.items) (finmap.get a.keys) a.sibs a.root a.spelled.0 c.self.invariant.right a.spelled.1 c.args.op
+    ∙ ap (λ s. has_id c.args.op s.module_of.tree) c.self.view_is

@@ -1,9 +1,10 @@
-use Rattle.std.proofs.Common.{subst, sym}
-use Rattle.ir_tree.specs.Tree.{Op}
-use Rattle.ir_store.specs.Calls.{Loaded}
-use Rattle.ir_store.specs.Plain.{stored_of}
-use Rattle.ir_store.proofs.Plain.{loaded}
+use Rattle.ir_tree.specs.Ids.{ids}
+use Rattle.ir_tree.specs.Meaning.{isolated_in}
+use Rattle.ir_store.proofs.Loading.{are_below, root_bare}
 use Rattle.ir_store.proofs.store.Store.load.Goals as goal
 
-pub returns-clause-ok : goal.returns-clause-ok
-returns-clause-ok c = subst (λ (t : Op). Loaded t c.args.next (stored_of c.in_ok-root.root c.args.next)) c.in_ok-root.ensures (loaded c.in_ok-root.root c.args.next)
+pub spread-requires-clause-below : goal.spread-requires-clause-below
+spread-requires-clause-below c = are_below c.args.next (ids c.args.tree.now) c.requires.below
+
+pub spread-requires-clause-root : goal.spread-requires-clause-root
+spread-requires-clause-root c = root_bare (isolated_in c.args.ctx.now) c.args.tree.now c.in-Ok.ensures.visible

@@ -1,0 +1,237 @@
+-- Entries that are set, as a function's calls tell it.
+use Rattle.std.proofs.Common.{◌≡◌, ℕ, ◌<◌, List, [], set, get_or, refl, sym, ap, ◌∙◌, subst, length, Bool, true, false, ◌||◌, Option, Some, None, arith, ◌⊎◌, inl, inr, ⊎_elim}
+use Rattle.std.specs.Prelude.{if◌then◌else◌, Result, Ok, Err, OnOk, OnErr, is_some, option_map}
+use Rattle.std.specs.FinMap as finmap
+use Rattle.std.proofs.lemmas.Bool.{false≢true}
+use Rattle.std.proofs.lemmas.List.{length-set, length-map}
+use Rattle.std.proofs.Math.Seq.{map-set_same}
+use Rattle.ir_types.specs.declared.refusal.Refusal.{Refusal}
+use Rattle.ir_types.specs.declared.refusal.Refusal.TheVariants.{NoSuchKey, Memory}
+use Rattle.ir_types.specs.Reasons.{IsRefusedFor}
+use Rattle.ir_tree.specs.declared.place.Part.{Part}
+use Rattle.ir_tree.specs.declared.place.Part.TheVariants.{Props, Attrs}
+use Rattle.ir_tree.specs.Tree.{Head, Op, op, head}
+use Rattle.ir_tree.specs.Ids.{find, has_id}
+use Rattle.ir_tree.specs.Limits.{every}
+use Rattle.ir_tree.specs.Meaning.{dictionaries_rise, rises}
+use Rattle.ir_tree.specs.Edits.{at, part_of, change_part, change_entry, with_entry, entry_at}
+use Rattle.ir_tree_laws.specs.Reasons.{entry_reason, found_entry_reason, set_entry_reason}
+use Rattle.ir_tree_laws.proofs.Listed.{all_each, both}
+use Rattle.ir_tree_laws.specs.Stands.{stands as all_stands}
+use Rattle.ir_tree_laws.proofs.Readings.{stands_every}
+use Rattle.ir_tree_laws.proofs.Members.{found_stands}
+use Rattle.entries.specs.Slots.{gone_after, has_key, has_slot as is_slot}
+use Rattle.ir_store.specs.declared.row.Row.{Row as Kept}
+use Rattle.ir_store.specs.declared.store.Store.TheInside.{Inside}
+use Rattle.ir_store.specs.Nodes.{node_of}
+use Rattle.ir_store.specs.Stored.{Stored, Gone, change_gone, known, has_entry, has_slot, stands, is_some_with}
+use Rattle.ir_store.specs.Calls.{after_entry, change_gone_of}
+use Rattle.ir_store.specs.Rows.{Row, row_at, row_of, rows_of, node_row, live_slot, held_in, gone_in}
+use Rattle.ir_store.specs.Spells.{SpellsOp, Spelled, spelled_is}
+use Rattle.ir_store.specs.Holds.{HoldsOf, GoneOf, map_is}
+use Rattle.ir_store.specs.Index.{Fits, cells_of}
+use Rattle.ir_store.specs.Entered.{slots_in, row_with_entry, slot_unless, entry_in}
+use Rattle.ir_store.proofs.Distinct.{each_distinct}
+use Rattle.ir_store.proofs.Slots.{Found, found, found_op, none_found, node_known, in_tree_is}
+use Rattle.ir_store.proofs.Called.{rows_in, keys_in, stored, read_row, other_row, own_row}
+use Rattle.ir_store.proofs.Whole.{Whole}
+use Rattle.ir_store.proofs.Entering.{Inner, same_at, retold_spells, retold_right, retold_holds, retold_gone, retold_index, retold_below, retold_owned, retold_counted}
+
+-- a dictionary isn't seen from outside
+pub inner_part : (part : Part) (f : List (ℕ × ℕ) → List (ℕ × ℕ)) → Inner (change_part part f)
+inner_part Props f = record { id = λ h. refl; operands = λ h. refl; results = λ h. refl }
+inner_part Attrs f = record { id = λ h. refl; operands = λ h. refl; results = λ h. refl }
+
+same_head : (rows : List Row) (lists : List (List ℕ)) (k : ℕ) (o : Op) → SpellsOp rows lists k o → (row_at rows k).head ≡ head o
+same_head rows lists k (op h rs) w = w.1.0
+
+-- what is taken out is there
+pub there_before : (before : ℕ → ℕ → Bool) (j : ℕ) (v : Option ℕ) (es : List (ℕ × ℕ)) → entry_reason before j v es ≡ None → v ≡ None → is_some (entry_at before j es) ≡ true
+there_before before j (Some b) es e f = absurd cc
+there_before before j None es e f = go (is_some (entry_at before j es)) e
+  where
+    go : (b : Bool) → (if b then None else Some NoSuchKey) ≡ None → b ≡ true
+    go true e = refl
+    go false e = absurd cc
+
+-- why a call is refused
+pub refused_some : (r : Option Refusal) (e : Refusal) → r ≡ Some e → IsRefusedFor {A = Unit {0}} r (Err e)
+refused_some r e f = rw f refl
+
+pub refused_memory : (r : Option Refusal) → r ≡ None → IsRefusedFor {A = Unit {0}} r (Err Memory)
+refused_memory r f = rw f refl
+
+-- a call was accepted or refused
+pub either_way : {X Y : Type 0} {P Q : Type 0} (res : Result X Y) → OnOk res P → OnErr res Q → P ⊎ Q
+either_way (Ok u) p q = inl p
+either_way (Err e) p q = inr q
+
+-- what is found in a tree passes what every operation of it passes
+pub every_found : (p : Op → Bool) (x : ℕ) (t o : Op) → every p t ≡ true → find x t ≡ Some o → p o ≡ true
+every_found p x t o e f = let s = found_stands x t o f in subst (λ z. p z ≡ true) s.3 (all_each (λ z. p z.here) (all_stands [] t) (stands_every p [] t ∙ e) s.0 s.1)
+
+part_rises : (before : ℕ → ℕ → Bool) (part : Part) (o : Op) → dictionaries_rise before o ≡ true → rises before (part_of part (head o)) ≡ true
+part_rises before Props o e = (both (rises before (head o).properties) (rises before (head o).attributes) e).0
+part_rises before Attrs o e = (both (rises before (head o).properties) (rises before (head o).attributes) e).1
+
+-- an operation of a node
+node_is : (p : Head → Bool) (m : Option Op) → is_some_with (λ o. p (head o)) m ≡ is_some_with (λ n. p n.head) (option_map node_of m)
+node_is p None = refl
+node_is p (Some (op h rs)) = refl
+
+module _ (a : Inside) (w : Whole a) (x : ℕ) (part : Part) (j : ℕ) where
+  -- whether a slot has a slot for the key
+  abbrev pub slot_of : Option ℕ → Bool
+  slot_of None = false
+  slot_of (Some k) = is_slot j (slots_in part (row_at (rows_in a) k))
+
+  entry_is : (o : Option ℕ) → keys_in a x ≡ o → has_entry x part j (stored a) ≡ is_some_with (λ k. has_key j (part_of part (row_at (rows_in a) k).head)) o
+  entry_is o e =
+      node_is (λ h. has_key j (part_of part h)) (known x (stored a))
+      ∙ ap (is_some_with (λ n. has_key j (part_of part n.head))) (sym (node_known (rows_in a) (keys_in a) a.sibs a.root a.spelled.0 w.right a.spelled.1 x (finmap.get a.holds.0 x) (a.holds.1 x) o e))
+      ∙ go o
+    where
+      go : (o : Option ℕ) → is_some_with (λ n. has_key j (part_of part n.head)) (option_map (λ k. node_row (row_at (rows_in a) k)) o) ≡ is_some_with (λ k. has_key j (part_of part (row_at (rows_in a) k).head)) o
+      go None = refl
+      go (Some k) = refl
+
+  pub slot_is : (o : Option ℕ) → keys_in a x ≡ o → slot_of o ≡ has_slot x part j (stored a)
+  slot_is o e = go o ∙ sym (λ i. entry_is o e i || stands part j ((a.lacks.1 x ∙ ap (gone_in (rows_in a)) e) i))
+    where
+      go : (o : Option ℕ) → slot_of o ≡ (is_some_with (λ k. has_key j (part_of part (row_at (rows_in a) k).head)) o || stands part j (gone_in (rows_in a) o))
+      go None = refl
+      go (Some k) = refl
+
+  module _ (before : ℕ → ℕ → Bool) (v : Option ℕ) where
+    -- a slot in which the entry can be set, or why not
+    abbrev pub EntryFound : Result ℕ Refusal → Type 0
+    EntryFound (Ok k) = (Some k ≡ live_slot (rows_in a) (keys_in a) x) × ((set_entry_reason before x part j v a.spelled.0 ≡ None) × (entry_reason before j v (part_of part (row_at (rows_in a) k).head) ≡ None))
+    EntryFound (Err e) = set_entry_reason before x part j v a.spelled.0 ≡ Some e
+
+    pub entry_found : (res : Result ℕ Refusal) → res ≡ entry_in (rows_in a) before part j v (live_slot (rows_in a) (keys_in a) x) → EntryFound res
+    entry_found res e = subst EntryFound (sym e) (go (live_slot (rows_in a) (keys_in a) x) refl)
+      where
+        go : (o : Option ℕ) → live_slot (rows_in a) (keys_in a) x ≡ o → EntryFound (entry_in (rows_in a) before part j v o)
+        go None f = ap (found_entry_reason before part j v) (none_found (rows_in a) (keys_in a) a.sibs a.root a.spelled.0 w.right a.spelled.1 x f)
+        go (Some k) f =
+            let o = found_op (rows_in a) (keys_in a) a.sibs a.root a.spelled.0 w.right a.spelled.1 x k (found (rows_in a) (keys_in a) a.sibs a.root a.spelled.0 w.right a.spelled.1 x k f) in
+            let why : set_entry_reason before x part j v a.spelled.0 ≡ entry_reason before j v (part_of part (row_at (rows_in a) k).head) =
+            ap (found_entry_reason before part j v) o.1.0 ∙ ap (λ h. entry_reason before j v (part_of part h)) (sym (same_head (rows_in a) a.sibs.lists k o.0 o.1.1)) in
+            test why (entry_reason before j v (part_of part (row_at (rows_in a) k).head)) refl
+          where
+            test : set_entry_reason before x part j v a.spelled.0 ≡ entry_reason before j v (part_of part (row_at (rows_in a) k).head)
+                → (z : Option Refusal) → entry_reason before j v (part_of part (row_at (rows_in a) k).head) ≡ z → EntryFound (slot_unless k z)
+            test why None g = (sym f, (why ∙ g, g))
+            test why (Some e) g = why ∙ g
+
+    pub revert_found : has_id x a.spelled.0 ≡ true → None ≡ live_slot (rows_in a) (keys_in a) x → ⊥
+    revert_found e f = false≢true (ap is_some f ∙ in_tree_is (rows_in a) (keys_in a) a.sibs a.root a.spelled.0 w.right a.spelled.1 x ∙ e)
+
+    module _ (k : ℕ) (ek : Some k ≡ live_slot (rows_in a) (keys_in a) x) where
+      here : Found (rows_in a) x k
+      here = found (rows_in a) (keys_in a) a.sibs a.root a.spelled.0 w.right a.spelled.1 x k (sym ek)
+
+      pub entry_inside : k < length a.rows.items
+      entry_inside = omega (arith, here.inside, length-map a.rows.items row_of)
+
+      abbrev edit : Head → Head
+      edit = change_part part (change_entry before j v)
+
+      abbrev lack : Gone → Gone
+      lack = change_gone part (gone_after j v)
+
+      module _ (n : Kept) (en : n ≡ get_or a.rows.items k n) where
+        pub entry_row : row_at (rows_in a) k ≡ row_of n
+        entry_row = read_row a.rows.items k n entry_inside en
+
+        module _ (m : Kept) (em : row_of m ≡ row_with_entry before part j v (row_of n)) where
+          abbrev pub entered : List Kept
+          entered = set a.rows.items k m
+
+          longs : length (rows_of entered) ≡ length (rows_in a)
+          longs = length-map entered row_of ∙ length-set a.rows.items k m ∙ sym (length-map a.rows.items row_of)
+
+          own : row_at (rows_of entered) k ≡ row_with_entry before part j v (row_at (rows_in a) k)
+          own = own_row a.rows.items k m entry_inside ∙ em ∙ ap (row_with_entry before part j v) (sym entry_row)
+
+          spelt : SpellsOp (rows_of entered) a.sibs.lists a.root (with_entry before x part j v a.spelled.0)
+          spelt = retold_spells (rows_in a) (keys_in a) a.sibs a.root a.spelled.0 w.right a.spelled.1 x k here edit lack (inner_part part (change_entry before j v)) (rows_of entered) longs (other_row a.rows.items k m) own
+
+          holds' : (y : ℕ) → finmap.get a.holds.0 y ≡ held_in (rows_of entered) (keys_in a y)
+          holds' y = a.holds.1 y ∙ retold_holds (rows_in a) (keys_in a) a.sibs a.root a.spelled.0 w.right a.spelled.1 x k here edit lack (inner_part part (change_entry before j v)) (rows_of entered) longs (other_row a.rows.items k m) own y
+
+          lacks' : (y : ℕ) → finmap.get (change_gone_of x lack (finmap.get a.lacks.0 x) a.lacks.0) y ≡ gone_in (rows_of entered) (keys_in a y)
+          lacks' = retold_gone (rows_in a) (keys_in a) a.sibs a.root a.spelled.0 w.right a.spelled.1 x k here edit lack (inner_part part (change_entry before j v)) (rows_of entered) longs (other_row a.rows.items k m) own a.lacks.0 a.lacks.1
+
+          pub entry_given : Spelled (rows_of entered) a.sibs.lists a.root × (HoldsOf (rows_of entered) (keys_in a) × (GoneOf (rows_of entered) (keys_in a) × Unit {0}))
+          entry_given = ((with_entry before x part j v a.spelled.0, spelt), ((a.holds.0, holds'), ((change_gone_of x lack (finmap.get a.lacks.0 x) a.lacks.0, lacks'), tt)))
+
+          pub entry_fits : (s : Spelled (rows_of entered) a.sibs.lists a.root) → Fits (rows_of entered) (keys_in a) a.sibs a.root s.0 a.uses.homes (cells_of a.cells.items) a.count a.next
+          entry_fits s = subst (λ z. Fits (rows_of entered) (keys_in a) a.sibs a.root z a.uses.homes (cells_of a.cells.items) a.count a.next) (sym (spelled_is (rows_of entered) a.sibs.lists a.root s (with_entry before x part j v a.spelled.0) spelt))
+              (record {
+                right = retold_right (rows_in a) (keys_in a) a.sibs a.root a.spelled.0 w.right a.spelled.1 x k here edit lack (inner_part part (change_entry before j v)) (rows_of entered) longs (other_row a.rows.items k m) own;
+                few = w.few;
+                index = retold_index (rows_in a) (keys_in a) a.sibs a.root a.spelled.0 w.right a.spelled.1 x k here edit lack (inner_part part (change_entry before j v)) (rows_of entered) longs (other_row a.rows.items k m) own a.uses.homes (cells_of a.cells.items) w.index;
+                distinct = each_distinct (at x edit) (same_at x edit (inner_part part (change_entry before j v))) a.spelled.0 w.distinct;
+                counted = w.counted ∙ retold_counted (rows_in a) (keys_in a) a.sibs a.root a.spelled.0 w.right a.spelled.1 x k here edit lack (inner_part part (change_entry before j v)) (rows_of entered) longs (other_row a.rows.items k m) own;
+                below = retold_below (rows_in a) (keys_in a) a.sibs a.root a.spelled.0 w.right a.spelled.1 x k here edit lack (inner_part part (change_entry before j v)) (rows_of entered) longs (other_row a.rows.items k m) own a.next w.below;
+                owned = retold_owned (rows_in a) (keys_in a) a.sibs a.root a.spelled.0 w.right a.spelled.1 x k here edit lack (inner_part part (change_entry before j v)) (rows_of entered) longs (other_row a.rows.items k m) own w.owned;
+              })
+
+          pub entry_done : (s : Spelled (rows_of entered) a.sibs.lists a.root) (h : HoldsOf (rows_of entered) (keys_in a)) (g : GoneOf (rows_of entered) (keys_in a))
+              → ◌≡◌ {A = Stored} (record { module_of = record { tree = s.0; next = a.next }; held = h.0; gone = g.0 }) (after_entry before x part j v (stored a))
+          entry_done s h g =
+              let e1 = spelled_is (rows_of entered) a.sibs.lists a.root s (with_entry before x part j v a.spelled.0) spelt in
+              let e2 = map_is (λ y. held_in (rows_of entered) (keys_in a y)) h a.holds.0 holds' in
+              let e3 = map_is (λ y. gone_in (rows_of entered) (keys_in a y)) g (change_gone_of x lack (finmap.get a.lacks.0 x) a.lacks.0) lacks' in
+              λ i. record { module_of = record { tree = e1 i; next = a.next }; held = e2 i; gone = e3 i }
+
+        at_key : keys_in a x ≡ Some k
+        at_key = ap (keys_in a) (sym here.id) ∙ w.right.keyed k (w.right.live_used k here.live)
+
+        -- what setting it back asks of the row
+        pub revert_sorted : every (dictionaries_rise before) a.spelled.0 ≡ true → rises before (part_of part (row_of n).head) ≡ true
+        revert_sorted e =
+            let o = found_op (rows_in a) (keys_in a) a.sibs a.root a.spelled.0 w.right a.spelled.1 x k here in
+            ap (λ h. rises before (part_of part h)) (ap (λ z. z.head) (sym entry_row) ∙ same_head (rows_in a) a.sibs.lists k o.0 o.1.1)
+            ∙ part_rises before part o.0 (every_found (dictionaries_rise before) x a.spelled.0 o.0 e o.1.0)
+
+        pub revert_slot : has_slot x part j (stored a) ≡ true → is_slot j (slots_in part (row_of n)) ≡ true
+        revert_slot e = ap (λ z. is_slot j (slots_in part z)) (sym entry_row) ∙ slot_is (Some k) at_key ∙ e
+
+        pub revert_there : has_entry x part j (stored a) ≡ true → has_key j (part_of part (row_of n).head) ≡ true
+        revert_there e = ap (λ z. has_key j (part_of part z.head)) (sym entry_row) ∙ sym (entry_is (Some k) at_key) ∙ e
+
+        -- a row is written that is as it was
+        module _ (m : Kept) (em : row_of m ≡ row_of n) where
+          abbrev pub rewritten : List Kept
+          rewritten = set a.rows.items k m
+
+          same_rows : rows_of rewritten ≡ rows_in a
+          same_rows = map-set_same row_of a.rows.items k m n (em ∙ ap row_of en)
+
+          pub same_given : Spelled (rows_of rewritten) a.sibs.lists a.root × (HoldsOf (rows_of rewritten) (keys_in a) × (GoneOf (rows_of rewritten) (keys_in a) × Unit {0}))
+          same_given = subst (λ z. Spelled z a.sibs.lists a.root × (HoldsOf z (keys_in a) × (GoneOf z (keys_in a) × Unit {0}))) (sym same_rows) (a.spelled, (a.holds, (a.lacks, tt)))
+
+          same_spelt : SpellsOp (rows_of rewritten) a.sibs.lists a.root a.spelled.0
+          same_spelt = subst (λ z. SpellsOp z a.sibs.lists a.root a.spelled.0) (sym same_rows) a.spelled.1
+
+          pub same_fits : (s : Spelled (rows_of rewritten) a.sibs.lists a.root) → Fits (rows_of rewritten) (keys_in a) a.sibs a.root s.0 a.uses.homes (cells_of a.cells.items) a.count a.next
+          same_fits s = subst (λ z. Fits (rows_of rewritten) (keys_in a) a.sibs a.root z a.uses.homes (cells_of a.cells.items) a.count a.next) (sym (spelled_is (rows_of rewritten) a.sibs.lists a.root s a.spelled.0 same_spelt))
+              (subst (λ z. Fits z (keys_in a) a.sibs a.root a.spelled.0 a.uses.homes (cells_of a.cells.items) a.count a.next) (sym same_rows) w)
+
+          pub same_done : (s : Spelled (rows_of rewritten) a.sibs.lists a.root) (h : HoldsOf (rows_of rewritten) (keys_in a)) (g : GoneOf (rows_of rewritten) (keys_in a))
+              → ◌≡◌ {A = Stored} (record { module_of = record { tree = s.0; next = a.next }; held = h.0; gone = g.0 }) (stored a)
+          same_done s h g =
+              let e1 = spelled_is (rows_of rewritten) a.sibs.lists a.root s a.spelled.0 same_spelt in
+              let e2 = map_is (λ y. held_in (rows_of rewritten) (keys_in a y)) h a.holds.0 (λ y. a.holds.1 y ∙ ap (λ z. held_in z (keys_in a y)) (sym same_rows)) in
+              let e3 = map_is (λ y. gone_in (rows_of rewritten) (keys_in a y)) g a.lacks.0 (λ y. a.lacks.1 y ∙ ap (λ z. gone_in z (keys_in a y)) (sym same_rows)) in
+              λ i. record { module_of = record { tree = e1 i; next = a.next }; held = e2 i; gone = e3 i }
+
+        -- or what is written is one of both
+        module _ (m : Kept) (em : (row_of m ≡ row_with_entry before part j v (row_of n)) ⊎ (row_of m ≡ row_of n)) where
+          pub either_given : Spelled (rows_of (set a.rows.items k m)) a.sibs.lists a.root × (HoldsOf (rows_of (set a.rows.items k m)) (keys_in a) × (GoneOf (rows_of (set a.rows.items k m)) (keys_in a) × Unit {0}))
+          either_given = ⊎_elim (λ e. entry_given m e) (λ e. same_given m e) em
+
+          pub either_fits : (s : Spelled (rows_of (set a.rows.items k m)) a.sibs.lists a.root) → Fits (rows_of (set a.rows.items k m)) (keys_in a) a.sibs a.root s.0 a.uses.homes (cells_of a.cells.items) a.count a.next
+          either_fits s = ⊎_elim (λ e. entry_fits m e s) (λ e. same_fits m e s) em

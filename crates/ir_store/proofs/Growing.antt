@@ -1,0 +1,146 @@
+-- A store's slots grow.
+use Rattle.std.proofs.Common.{◌≡◌, ℕ, ◌<◌, List, eqb, cond, refl, sym, ap, ◌∙◌, subst, length, ⊎_elim, Option, Some, None}
+use Rattle.std.specs.FinMap as finmap
+use Rattle.std.specs.Ordering.{nat_cmp}
+use Rattle.std.specs.Cmp.{nat_cmp_total}
+use Rattle.std.proofs.lemmas.Bool.{cases_Bool, cases_eq, eq-eqb, ne_eqb}
+use Rattle.ir_store.proofs.Taking.{eq_nat}
+use Rattle.chains.specs.Lists.{Laws, free}
+use Rattle.ir_tree.specs.Tree.{Op}
+use Rattle.ir_tree.specs.Ids.{HasDistinctIds, find, first_of, op_count}
+use Rattle.ir_store.specs.declared.store.Store.TheInside.{Inside}
+use Rattle.ir_store.specs.Stored.{Stored, known}
+use Rattle.ir_store.specs.Emptied.{after_grow}
+use Rattle.ir_store.specs.Rows.{Row, row_at, held_in, gone_in, if_live, bare}
+use Rattle.ir_store.specs.Spells.{SpellsOp, Spelled, spelled_is}
+use Rattle.ir_store.specs.Holds.{HoldsOf, GoneOf, map_is}
+use Rattle.ir_store.specs.Right.{Right}
+use Rattle.ir_store.specs.Index.{Index, Fits, lives, HasOwners}
+use Rattle.ir_store.specs.Grows.{Parts, parts_of, IsEven, Wider, Ready, Grown}
+use Rattle.ir_store.proofs.Slots.{found, found_op}
+use Rattle.ir_store.proofs.Called.{rows_in, keys_in, stored}
+use Rattle.ir_store.proofs.Whole.{Whole}
+use Rattle.ir_store.proofs.Wide.{Keyed, keyed_of, wide_spells, wide_right, wide_holds, wide_gone, wide_index, wide_bound}
+use Rattle.ir_store.proofs.Tally.{wide_below, wide_owned, fill_below, fill_owned}
+use Rattle.ir_store.proofs.Fill.{fill_spells, fill_right, fill_holds, fill_gone, fill_index}
+
+-- an id is given a slot
+pub key_put : (m m' : finmap.FinMap nat_cmp ℕ) (x y k : ℕ) → y ≡ x → m' ≡ finmap.insert m y k → (z : ℕ) → finmap.get m' z ≡ cond (eqb x z) (Some k) (finmap.get m z)
+key_put m m' x y k ey e z =
+    ap (λ l. finmap.get l z) (e ∙ ap (λ w. finmap.insert m w k) ey) ∙ finmap.get-insert nat_cmp_total m x k z
+    ∙ ap (λ b. cond b (Some k) (finmap.get m z)) (eq_nat z x ∙ ⊎_elim (λ f. eq-eqb z x f ∙ sym (eq-eqb x z (sym f))) (λ n. ne_eqb z x n ∙ sym (ne_eqb x z (λ f. n (sym f)))) (cases_eq z x))
+
+abbrev pub parts : Inside → Parts
+parts a = parts_of a.rows.items a.sibs a.uses a.cells.items
+
+module _ (a : Inside) (w : Whole a) where
+  pub is_even : Laws a.sibs.lists a.sibs.homes → IsEven (parts a)
+  is_even l = record { long = w.right.long; lists = l.counted; counted = w.index.counted }
+
+  keyed : Keyed (rows_in a) (keys_in a) a.sibs
+  keyed = keyed_of (rows_in a) (keys_in a) a.sibs a.root a.spelled.0 w.right
+
+  -- an operation that isn't known has no slot
+  pub no_key : (x : ℕ) → known x (stored a) ≡ None → keys_in a x ≡ None
+  no_key x e = go (keys_in a x) refl
+    where
+      first : (o m : Option Op) → first_of o m ≡ None → (o ≡ None) × (m ≡ None)
+      first None m e = (refl, e)
+      first (Some o) m e = absurd cc
+
+      go : (o : Option ℕ) → keys_in a x ≡ o → o ≡ None
+      go None f = refl
+      go (Some k) f =
+          let b = first (find x a.spelled.0) (finmap.get a.holds.0 x) e in
+          ⊎_elim
+          (λ l.
+          let fd = found (rows_in a) (keys_in a) a.sibs a.root a.spelled.0 w.right a.spelled.1 x k (ap (if_live (rows_in a)) f ∙ rw l refl) in
+          let o = found_op (rows_in a) (keys_in a) a.sibs a.root a.spelled.0 w.right a.spelled.1 x k fd in
+          let z : None ≡ Some o.0 = sym b.0 ∙ o.1.0 in absurd cc)
+          (λ l.
+          let h : finmap.get a.holds.0 x ≡ Some (bare (row_at (rows_in a) k)) = a.holds.1 x ∙ ap (held_in (rows_in a)) f ∙ rw l refl in
+          let z : None ≡ Some (bare (row_at (rows_in a) k)) = sym b.1 ∙ h in absurd cc)
+          (cases_Bool (row_at (rows_in a) k).live)
+
+  module _ (q : Parts) (wide : Wider (parts a) q) (few : length q.sibs.homes < free) (uses_few : length q.homes < free) where
+    spells : SpellsOp q.rows q.sibs.lists a.root a.spelled.0
+    spells = wide_spells (parts a) q wide (keys_in a) a.root a.spelled.0 w.right a.spelled.1
+
+    right : Right q.rows (keys_in a) q.sibs a.root a.spelled.0
+    right = wide_right (parts a) q wide (keys_in a) a.root a.spelled.0 w.right few
+
+    index : Index q.rows (keys_in a) q.homes q.cells (lives q.rows)
+    index = wide_index (parts a) q wide (keys_in a) keyed w.index
+
+    -- nothing came of it
+    module _ (keys : ℕ → Option ℕ) (ek : (y : ℕ) → keys y ≡ keys_in a y) where
+      all_keys : keys ≡ keys_in a
+      all_keys = λ i y. ek y i
+
+      holds : (y : ℕ) → finmap.get a.holds.0 y ≡ held_in q.rows (keys y)
+      holds y = a.holds.1 y ∙ wide_holds (parts a) q wide (keys_in a) a.root a.spelled.0 w.right y ∙ ap (held_in q.rows) (sym (ek y))
+
+      gone : (y : ℕ) → finmap.get a.lacks.0 y ≡ gone_in q.rows (keys y)
+      gone y = a.lacks.1 y ∙ wide_gone (parts a) q wide (keys_in a) a.root a.spelled.0 w.right y ∙ ap (gone_in q.rows) (sym (ek y))
+
+      pub wide_given : Spelled q.rows q.sibs.lists a.root × (HoldsOf q.rows keys × (GoneOf q.rows keys × Unit {0}))
+      wide_given = ((a.spelled.0, spells), ((a.holds.0, holds), ((a.lacks.0, gone), tt)))
+
+      pub wide_fits : (s : Spelled q.rows q.sibs.lists a.root) → Fits q.rows keys q.sibs a.root s.0 q.homes q.cells a.count a.next
+      wide_fits s = record {
+        right = subst (Right q.rows keys q.sibs a.root) (sym (spelled_is q.rows q.sibs.lists a.root s a.spelled.0 spells)) (subst (λ z. Right q.rows z q.sibs a.root a.spelled.0) (sym all_keys) right);
+        few = uses_few;
+        index = subst (λ z. Index q.rows z q.homes q.cells (lives q.rows)) (sym all_keys) index;
+        distinct = subst HasDistinctIds (sym (spelled_is q.rows q.sibs.lists a.root s a.spelled.0 spells)) w.distinct;
+        counted = w.counted ∙ ap op_count (sym (spelled_is q.rows q.sibs.lists a.root s a.spelled.0 spells));
+        below = wide_below (parts a) q wide (keys_in a) a.next w.below;
+        owned = subst (HasOwners q.rows) (sym all_keys) (wide_owned (parts a) q wide (keys_in a) w.owned);
+      }
+
+      pub wide_done : (s : Spelled q.rows q.sibs.lists a.root) (h : HoldsOf q.rows keys) (g : GoneOf q.rows keys) → ◌≡◌ {A = Stored} (record { module_of = record { tree = s.0; next = a.next }; held = h.0; gone = g.0 }) (stored a)
+      wide_done s h g =
+          let e1 = spelled_is q.rows q.sibs.lists a.root s a.spelled.0 spells in
+          let e2 = map_is (λ y. held_in q.rows (keys y)) h a.holds.0 holds in
+          let e3 = map_is (λ y. gone_in q.rows (keys y)) g a.lacks.0 gone in
+          λ i. record { module_of = record { tree = e1 i; next = a.next }; held = e2 i; gone = e3 i }
+
+    -- a row is written
+    module _ (x : ℕ) (o : Op) (k : ℕ) (v : Row) (none : keys_in a x ≡ None) (grown : Grown (parts a) q x o k v)
+        (keys : ℕ → Option ℕ) (here : keys x ≡ Some k) (others : (y : ℕ) → (y ≡ x → ⊥) → keys y ≡ keys_in a y)
+        (rows' : List Row) (long' : length rows' ≡ length q.rows) (same : (y : ℕ) → (y ≡ k → ⊥) → row_at rows' y ≡ row_at q.rows y) (own : row_at rows' k ≡ v) where
+      ready : Ready q (keys_in a) (length (parts a).homes) k x v
+      ready = grown.ready (keys_in a) none
+
+      spells' : SpellsOp rows' q.sibs.lists a.root a.spelled.0
+      spells' = fill_spells q wide.even few (keys_in a) (length (parts a).homes) k x v ready a.root a.spelled.0 right rows' long' same own keys here others spells
+
+      holds' : (y : ℕ) → finmap.get (finmap.insert a.holds.0 x (bare v)) y ≡ held_in rows' (keys y)
+      holds' = fill_holds q wide.even few (keys_in a) (length (parts a).homes) k x v ready a.root a.spelled.0 right rows' long' same own keys here others a.holds.0
+          (λ y. a.holds.1 y ∙ wide_holds (parts a) q wide (keys_in a) a.root a.spelled.0 w.right y)
+
+      gone' : (y : ℕ) → finmap.get (finmap.insert a.lacks.0 x v.gone) y ≡ gone_in rows' (keys y)
+      gone' = fill_gone q wide.even few (keys_in a) (length (parts a).homes) k x v ready a.root a.spelled.0 right rows' long' same own keys here others a.lacks.0
+          (λ y. a.lacks.1 y ∙ wide_gone (parts a) q wide (keys_in a) a.root a.spelled.0 w.right y)
+
+      pub grow_given : Spelled rows' q.sibs.lists a.root × (HoldsOf rows' keys × (GoneOf rows' keys × Unit {0}))
+      grow_given = ((a.spelled.0, spells'), ((finmap.insert a.holds.0 x (bare v), holds'), ((finmap.insert a.lacks.0 x v.gone, gone'), tt)))
+
+      pub grow_fits : (s : Spelled rows' q.sibs.lists a.root) → Fits rows' keys q.sibs a.root s.0 q.homes q.cells a.count a.next
+      grow_fits s = record {
+        right = subst (Right rows' keys q.sibs a.root) (sym (spelled_is rows' q.sibs.lists a.root s a.spelled.0 spells'))
+            (fill_right q wide.even few (keys_in a) (length (parts a).homes) k x v ready a.root a.spelled.0 right rows' long' same own keys here others);
+        few = uses_few;
+        index = fill_index q wide.even few (keys_in a) (length (parts a).homes) k x v ready (keyed_of q.rows (keys_in a) q.sibs a.root a.spelled.0 right) rows' long' same own keys here others
+            (wide_bound (parts a) q wide (keys_in a) keyed w.index) index;
+        distinct = subst HasDistinctIds (sym (spelled_is rows' q.sibs.lists a.root s a.spelled.0 spells')) w.distinct;
+        counted = w.counted ∙ ap op_count (sym (spelled_is rows' q.sibs.lists a.root s a.spelled.0 spells'));
+        below = fill_below q (keys_in a) (length (parts a).homes) k x v ready rows' same own keys others a.next (wide_below (parts a) q wide (keys_in a) a.next w.below);
+        owned = fill_owned q (keys_in a) (length (parts a).homes) k x v ready rows' same own keys others (wide_owned (parts a) q wide (keys_in a) w.owned);
+      }
+
+      pub grow_done : (s : Spelled rows' q.sibs.lists a.root) (h : HoldsOf rows' keys) (g : GoneOf rows' keys) → ◌≡◌ {A = Stored} (record { module_of = record { tree = s.0; next = a.next }; held = h.0; gone = g.0 }) (after_grow x o (stored a))
+      grow_done s h g =
+          let e1 = spelled_is rows' q.sibs.lists a.root s a.spelled.0 spells' in
+          let e2 = map_is (λ y. held_in rows' (keys y)) h (finmap.insert a.holds.0 x (bare v)) holds' ∙ ap (finmap.insert a.holds.0 x) grown.is in
+          let e3 = map_is (λ y. gone_in rows' (keys y)) g (finmap.insert a.lacks.0 x v.gone) gone' ∙ ap (finmap.insert a.lacks.0 x) grown.gone in
+          λ i. record { module_of = record { tree = e1 i; next = a.next }; held = e2 i; gone = e3 i }

@@ -1,0 +1,265 @@
+-- The operations beside an operation, by slots and in the tree.
+use Rattle.std.proofs.Common.{◌≡◌, ℕ, zero, suc, ◌<◌, List, [], ◌∷◌, ◌++◌, refl, sym, ap, ◌∙◌, subst, length, Bool, true, false, eqb, cond, ◌||◌, ⊎_elim, Option, Some, None, slice_get, arith}
+use Rattle.std.specs.Prelude.{option_map, option_and_then}
+use Rattle.std.proofs.lemmas.Bool.{cases_Bool, cases_eq, eq-eqb, ne_eqb, false≢true, or_left, or_right}
+use Rattle.std.proofs.lemmas.List.{get_or_past}
+use Rattle.chains.specs.Lists.{Lists, Laws, has, before, last_of, list_at, home_at, free, IsHead}
+use Rattle.order.specs.Labels.{goes_before as slot_before}
+use Rattle.ir_tree.specs.declared.place.Place.{Place}
+use Rattle.ir_tree.specs.Tree.{Op, op, Regions, no_regions, region, empty, block, Ops, no_ops, next, head, regions, ops_of, op_list}
+use Rattle.ir_tree.specs.Ids.{HasDistinctIds, first_of}
+use Rattle.ir_tree.specs.Places.{place_of, first_id}
+use Rattle.ir_tree_laws.specs.Members.{In}
+use Rattle.ir_tree_laws.specs.Values.{region_at}
+use Rattle.ir_tree_laws.specs.Stands.{StepOf, StandOf, stand_id, stands, place_in}
+use Rattle.ir_tree_laws.specs.Reads.{ops_in, ops_at, last_id, is_among, goes_before, id_before, list_of, in_list, is_before}
+use Rattle.ir_tree_laws.proofs.Members.{stand}
+use Rattle.ir_tree_laws.proofs.Around.{member_of_place}
+use Rattle.ir_tree_laws.proofs.Neighbours.{list_there}
+use Rattle.ir_store.specs.Rows.{Row, Shape, row_at, live_slot, head_in}
+use Rattle.ir_store.specs.Spells.{SpellsOp, SpellsRegions, SpellsOps}
+use Rattle.ir_store.specs.Spots.{id_in, slot_place}
+use Rattle.ir_store.specs.Right.{Live, Right}
+use Rattle.ir_store.specs.Heading.{block_in, CanStand}
+use Rattle.ir_store.proofs.Slots.{Found, found, found_op, none_found, only, slot_of_live}
+use Rattle.ir_store.proofs.Cut.{head_id, live_of}
+use Rattle.ir_store.proofs.Standing.{some_place, root_placeless, place_missing}
+
+later : (a : Option ℕ) (x : ℕ) (b : Option ℕ) → first_of (first_of a (Some x)) b ≡ first_of a (Some x)
+later None x b = refl
+later (Some a) x b = refl
+
+alone : (a : Option ℕ) → first_of a None ≡ a
+alone None = refl
+alone (Some a) = refl
+
+cond_map : {X Y : Type 0} (b : Bool) (f : X → Y) (x y : X) → cond b (f x) (f y) ≡ f (cond b x y)
+cond_map true f x y = refl
+cond_map false f x y = refl
+
+same : (b : Bool) → cond b false false ≡ false
+same true = refl
+same false = refl
+
+-- operations of a list, and slots
+module _ (rows : List Row) (lists : List (List ℕ)) where
+  pub first_spelt : (ks : List ℕ) (os : Ops) → SpellsOps rows lists ks os → option_map (id_in rows) (slice_get ks 0) ≡ first_id os
+  first_spelt [] no_ops z = refl
+  first_spelt [] (next o os) z = absurd z
+  first_spelt (k ∷ ks) no_ops z = absurd z
+  first_spelt (k ∷ ks) (next o os) z = ap Some (sym (head_id rows lists k o z.0))
+
+  last_behind : (last : Option ℕ) (ks : List ℕ) (os : Ops) → SpellsOps rows lists ks os → first_of (last_id os) (option_map (id_in rows) last) ≡ option_map (id_in rows) (last_of last ks)
+  last_behind last [] no_ops z = refl
+  last_behind last [] (next o os) z = absurd z
+  last_behind last (k ∷ ks) no_ops z = absurd z
+  last_behind last (k ∷ ks) (next o os) z =
+      later (last_id os) (head o).id (option_map (id_in rows) last) ∙ ap (λ i. first_of (last_id os) (Some i)) (head_id rows lists k o z.0) ∙ last_behind (Some k) ks os z.1
+
+  pub last_spelt : (ks : List ℕ) (os : Ops) → SpellsOps rows lists ks os → option_map (id_in rows) (last_of None ks) ≡ last_id os
+  last_spelt ks os z = sym (last_behind None ks os z) ∙ alone (last_id os)
+
+  -- where x is the operation of one slot
+  module _ (x k : ℕ) (id : (row_at rows k).head.id ≡ x) (one : (q : ℕ) → Live rows q → (row_at rows q).head.id ≡ x → q ≡ k) where
+    same_test : (q : ℕ) (o : Op) → SpellsOp rows lists q o → eqb (head o).id x ≡ eqb q k
+    same_test q o z = ⊎_elim
+        (λ e. eq-eqb (head o).id x (head_id rows lists q o z ∙ ap (λ y. (row_at rows y).head.id) e ∙ id) ∙ sym (eq-eqb q k e))
+        (λ n. ne_eqb (head o).id x (λ y. n (one q (live_of rows lists q o z) (sym (head_id rows lists q o z) ∙ y))) ∙ sym (ne_eqb q k n))
+        (cases_eq q k)
+
+    pub before_spelt : (last : Option ℕ) (ks : List ℕ) (os : Ops) → SpellsOps rows lists ks os → id_before x (option_map (id_in rows) last) os ≡ option_map (id_in rows) (before k last ks)
+    before_spelt last [] no_ops z = refl
+    before_spelt last [] (next o os) z = absurd z
+    before_spelt last (q ∷ ks) no_ops z = absurd z
+    before_spelt last (q ∷ ks) (next o os) z =
+        (λ i. cond (same_test q o z.0 i) (option_map (id_in rows) last) (id_before x (Some (head_id rows lists q o z.0 i)) os))
+        ∙ ap (cond (eqb q k) (option_map (id_in rows) last)) (before_spelt (Some q) ks os z.1)
+        ∙ cond_map (eqb q k) (option_map (id_in rows)) last (before k (Some q) ks)
+
+    pub among_spelt : (ks : List ℕ) (os : Ops) → SpellsOps rows lists ks os → is_among x os ≡ has k ks
+    among_spelt [] no_ops z = refl
+    among_spelt [] (next o os) z = absurd z
+    among_spelt (q ∷ ks) no_ops z = absurd z
+    among_spelt (q ∷ ks) (next o os) z = λ i. same_test q o z.0 i || among_spelt ks os z.1 i
+
+    -- and y is that of another
+    pub goes_spelt : (y j : ℕ) → ((ks : List ℕ) (os : Ops) → SpellsOps rows lists ks os → is_among y os ≡ has j ks) → (ks : List ℕ) (os : Ops) → SpellsOps rows lists ks os → goes_before x y os ≡ slot_before k j ks
+    goes_spelt y j among [] no_ops z = refl
+    goes_spelt y j among [] (next o os) z = absurd z
+    goes_spelt y j among (q ∷ ks) no_ops z = absurd z
+    goes_spelt y j among (q ∷ ks) (next o os) z = λ i. cond (same_test q o z.0 i) (among ks os z.1 i) (goes_spelt y j among ks os z.1 i)
+
+  -- where x has no slot
+  module _ (x : ℕ) (none : (q : ℕ) → Live rows q → (row_at rows q).head.id ≡ x → ⊥) where
+    never_among : (ks : List ℕ) (os : Ops) → SpellsOps rows lists ks os → is_among x os ≡ false
+    never_among [] no_ops z = refl
+    never_among [] (next o os) z = absurd z
+    never_among (k ∷ ks) no_ops z = absurd z
+    never_among (k ∷ ks) (next o os) z = ap (λ b. b || is_among x os) (ne_eqb (head o).id x (λ e. none k (live_of rows lists k o z.0) (sym (head_id rows lists k o z.0) ∙ e))) ∙ never_among ks os z.1
+
+    pub never_behind : (y : ℕ) (ks : List ℕ) (os : Ops) → SpellsOps rows lists ks os → goes_before y x os ≡ false
+    never_behind y [] no_ops z = refl
+    never_behind y [] (next o os) z = absurd z
+    never_behind y (k ∷ ks) no_ops z = absurd z
+    never_behind y (k ∷ ks) (next o os) z = (λ i. cond (eqb (head o).id y) (never_among ks os z.1 i) (never_behind y ks os z.1 i)) ∙ same (eqb (head o).id y)
+
+-- where a node isn't in a list, none stands before it
+pub not_behind : (a b : ℕ) (ks : List ℕ) → has b ks ≡ false → slot_before a b ks ≡ false
+not_behind a b [] e = refl
+not_behind a b (k ∷ ks) e = (λ i. cond (eqb k a) (rest e i) (not_behind a b ks (rest e) i)) ∙ same (eqb k a)
+  where
+    half : (p q : Bool) → (p || q) ≡ false → q ≡ false
+    half true q f = absurd (false≢true (sym f))
+    half false q f = f
+
+    rest : has b (k ∷ ks) ≡ false → has b ks ≡ false
+    rest f = half (eqb k b) (has b ks) f
+
+among_there : (x : ℕ) (front : List Op) (o : Op) (rest : List Op) → (head o).id ≡ x → is_among x (ops_of (front ++ o ∷ rest)) ≡ true
+among_there x [] o rest e = or_left (eqb (head o).id x) (is_among x (ops_of rest)) (eq-eqb (head o).id x e)
+among_there x (f ∷ front) o rest e = or_right (eqb (head f).id x) (is_among x (ops_of (front ++ o ∷ rest))) (among_there x front o rest e)
+
+-- a list's head, if there is one, and the operations that stand there
+abbrev pub ListIs : List Row → Lists → Option ℕ → Option Ops → Type 0
+ListIs rows sibs None None = Unit {0}
+ListIs rows sibs None (Some os) = ⊥
+ListIs rows sibs (Some h) None = ⊥
+ListIs rows sibs (Some h) (Some os) = IsHead sibs.homes h × SpellsOps rows sibs.lists (list_at sibs.lists h) os
+
+module _ (rows : List Row) (keys : ℕ → Option ℕ) (sibs : Lists) (root : ℕ) (t : Op) (r : Right rows keys sibs root t) (s : SpellsOp rows sibs.lists root t) where
+  regions_list : (n : ℕ) (xs : List Shape) (rs : Regions) → ((i : ℕ) (a : List ℕ × ℕ) → slice_get xs i ≡ Some (Some a) → IsHead sibs.homes a.1) → SpellsRegions rows sibs.lists xs rs
+      → ListIs rows sibs (option_and_then head_in (slice_get xs n)) (option_and_then ops_in (region_at n rs))
+  regions_list n [] no_regions f z = tt
+  regions_list n [] (region g rs) f z = absurd z
+  regions_list n (a ∷ xs) no_regions f z = absurd z
+  regions_list zero (None ∷ xs) (region empty rs) f z = tt
+  regions_list zero (None ∷ xs) (region (block args os) rs) f z = absurd z.0
+  regions_list zero (Some a ∷ xs) (region empty rs) f z = absurd z.0
+  regions_list zero (Some a ∷ xs) (region (block args os) rs) f z = (f 0 a refl, z.0.1)
+  regions_list (suc n) (a ∷ xs) (region g rs) f z = regions_list n xs rs (λ i. f (suc i)) z.1
+
+  -- the operations of a block are those of its list
+  pub block_is : (p n : ℕ) → ListIs rows sibs (block_in rows (live_slot rows keys) p n) (ops_at p n t)
+  block_is p n = go (live_slot rows keys p) refl
+    where
+      in_op : (q : ℕ) → Live rows q → (o : Op) → SpellsOp rows sibs.lists q o → ListIs rows sibs (option_and_then head_in (slice_get (row_at rows q).shapes n)) (option_and_then ops_in (region_at n (regions o)))
+      in_op q l (op h rs) z = regions_list n (row_at rows q).shapes rs (λ i a e. (r.blocks q i a (r.live_used q l) e).head) z.1.1
+
+      go : (o : Option ℕ) → live_slot rows keys p ≡ o → ListIs rows sibs (option_and_then (λ k. option_and_then head_in (slice_get (row_at rows k).shapes n)) o) (ops_at p n t)
+      go None e = rw (none_found rows keys sibs root t r s p e) tt
+      go (Some q) e =
+          let fd = found rows keys sibs root t r s p q e in
+          let o = found_op rows keys sibs root t r s p q fd in
+          rw o.1.0 (in_op q fd.live o.0 o.1.1)
+
+  pub no_block : (p n : ℕ) → None ≡ block_in rows (live_slot rows keys) p n → ops_at p n t ≡ None
+  no_block p n e = go (ops_at p n t) (subst (λ b. ListIs rows sibs b (ops_at p n t)) (sym e) (block_is p n))
+    where
+      go : (os : Option Ops) → ListIs rows sibs None os → os ≡ None
+      go None l = refl
+      go (Some os) l = absurd l
+
+  pub some_block : (p n h : ℕ) → Some h ≡ block_in rows (live_slot rows keys) p n → (os : Ops) × ((ops_at p n t ≡ Some os) × (IsHead sibs.homes h × SpellsOps rows sibs.lists (list_at sibs.lists h) os))
+  some_block p n h e = go (ops_at p n t) refl (subst (λ b. ListIs rows sibs b (ops_at p n t)) (sym e) (block_is p n))
+    where
+      go : (o : Option Ops) → ops_at p n t ≡ o → ListIs rows sibs (Some h) o → (os : Ops) × ((ops_at p n t ≡ Some os) × (IsHead sibs.homes h × SpellsOps rows sibs.lists (list_at sibs.lists h) os))
+      go None f l = absurd l
+      go (Some os) f l = (os, (f, l))
+
+  alone_there : (x k : ℕ) → Found rows x k → (q : ℕ) → Live rows q → (row_at rows q).head.id ≡ x → q ≡ k
+  alone_there x k f q l e = only rows keys sibs root t r s x k f.live f.id q l e
+
+  pub stands_alone : (k : ℕ) → Live rows k → CanStand sibs.homes k
+  stands_alone k l = ⊎_elim
+      (λ e. record { inside = subst (λ z. z < length sibs.homes) (sym e) r.top.inside; other = λ z. (let i = r.top.inside in let u = r.top.unlinked in let few = r.few in let h : free ≡ root = sym u ∙ ap (home_at sibs.homes) (sym e) ∙ z ∙ e in absurd (omega (arith, i, h, few))) })
+      (λ n. let p = (r.items k l n).item in record { inside = p.inside; other = p.other })
+      (cases_eq k root)
+
+  module _ (laws : Laws sibs.lists sibs.homes) (d : HasDistinctIds t) where
+    -- the list in which an operation stands
+    pub record Beside (x k : ℕ) : Type 0 where
+      pub list : Ops
+      pub is : list_of x t ≡ Some list
+      pub spelt : SpellsOps rows sibs.lists (list_at sibs.lists (home_at sibs.homes k)) list
+      pub owner : Live rows (row_at rows (home_at sibs.homes k)).owner
+
+    pub beside : (x k : ℕ) → Found rows x k → (k ≡ root → ⊥) → Beside x k
+    beside x k f n =
+        let m = member_of_place x place t put in
+        at_path m.0 m.1 m.2 m.0.path refl m.3
+      where
+        place : Place
+        place = slot_place rows sibs.lists sibs.homes k
+
+        put : place_of x t ≡ Some (slot_place rows sibs.lists sibs.homes k)
+        put = some_place rows keys sibs root t r s laws x k f n
+
+        in_list_of : (os : Ops) → list_of x t ≡ Some os → is_among x os ≡ true → (h : Option ℕ) → ListIs rows sibs h (Some os) → h ≡ block_in rows (live_slot rows keys) place.parent place.region → Beside x k
+        in_list_of os e a None l w = absurd l
+        in_list_of os e a (Some h) l w =
+            let here : has k (list_at sibs.lists h) ≡ true = sym (among_spelt rows sibs.lists x k f.id (alone_there x k f) (list_at sibs.lists h) os l.1) ∙ a in
+            let home = (laws.members h k here).0 in
+            record { list = os; is = e; spelt = subst (λ y. SpellsOps rows sibs.lists (list_at sibs.lists y) os) (sym home) l.1; owner = owned h w home }
+          where
+            owned : (h : ℕ) → Some h ≡ block_in rows (live_slot rows keys) place.parent place.region → home_at sibs.homes k ≡ h → Live rows (row_at rows (home_at sibs.homes k)).owner
+            owned h w home = go (live_slot rows keys place.parent) refl w
+              where
+                in_shapes : (q : ℕ) → Live rows q → (o : Option Shape) → slice_get (row_at rows q).shapes place.region ≡ o → Some h ≡ option_and_then head_in o → Live rows (row_at rows (home_at sibs.homes k)).owner
+                in_shapes q l None e w = absurd cc
+                in_shapes q l (Some None) e w = absurd cc
+                in_shapes q l (Some (Some a)) e w =
+                    let own : h ≡ a.1 = cc in
+                    subst (Live rows) (sym (r.blocks q place.region a (r.live_used q l) e).owner ∙ ap (λ y. (row_at rows y).owner) (sym own ∙ sym home)) l
+
+                go : (o : Option ℕ) → live_slot rows keys place.parent ≡ o → Some h ≡ option_and_then (λ k. option_and_then head_in (slice_get (row_at rows k).shapes place.region)) o → Live rows (row_at rows (home_at sibs.homes k)).owner
+                go None e w = absurd cc
+                go (Some q) e w = let fd = found rows keys sibs root t r s place.parent q e in in_shapes q fd.live (slice_get (row_at rows q).shapes place.region) refl w
+
+        at_path : (u : StandOf ℕ ℕ ℕ) → In u (stands [] t) → stand_id u ≡ x → (path : List (StepOf ℕ ℕ ℕ)) → u.path ≡ path → place_in u.path ≡ Some place → Beside x k
+        at_path u h id [] e w = (let bad : None ≡ Some place = sym (ap place_in e) ∙ w in absurd cc)
+        at_path u h id (a ∷ q) e w =
+            let there : In (stand u.here (a ∷ q)) (stands [] t) = subst (λ l. In (stand u.here l) (stands [] t)) e h in
+            let os = ops_of (a.front ++ u.here ∷ op_list a.rest) in
+            let is : list_of x t ≡ Some os = ap (λ y. list_of y t) (sym id) ∙ list_there t d u.here a q there in
+            let at : ops_at place.parent place.region t ≡ Some os = ap (option_and_then (λ p. ops_at p.parent p.region t)) (sym put) ∙ is in
+            in_list_of os is (among_there x a.front u.here (op_list a.rest) id) (block_in rows (live_slot rows keys) place.parent place.region) (subst (ListIs rows sibs (block_in rows (live_slot rows keys) place.parent place.region)) at (block_is place.parent place.region)) refl
+
+    root_listless : (x : ℕ) → Found rows x root → list_of x t ≡ None
+    root_listless x f = ap (option_and_then (λ p. ops_at p.parent p.region t)) (root_placeless rows keys sibs root t r s laws d x f)
+
+    pub missing_listless : (x : ℕ) → live_slot rows keys x ≡ None → list_of x t ≡ None
+    missing_listless x e = ap (option_and_then (λ p. ops_at p.parent p.region t)) (place_missing rows keys sibs root t r s laws x e)
+
+    pub root_list : (x k : ℕ) → Found rows x k → k ≡ root → list_of x t ≡ None
+    root_list x k f e = root_listless x (subst (Found rows x) e f)
+
+    pub prev_found : (x k : ℕ) → Found rows x k → (k ≡ root → ⊥) → option_map (id_in rows) (before k None (list_at sibs.lists (home_at sibs.homes k))) ≡ option_and_then (id_before x None) (list_of x t)
+    prev_found x k f n =
+        let b = beside x k f n in
+        sym (ap (option_and_then (id_before x None)) b.is ∙ before_spelt rows sibs.lists x k f.id (alone_there x k f) None (list_at sibs.lists (home_at sibs.homes k)) b.list b.spelt)
+
+    root_bare : list_at sibs.lists (home_at sibs.homes root) ≡ []
+    root_bare =
+        let few = laws.few in
+        let counted = laws.counted in
+        ap (list_at sibs.lists) r.top.unlinked ∙ get_or_past sibs.lists free [] (omega (arith, few, counted))
+
+    pub before_found : (x k y j : ℕ) → Found rows x k → Found rows y j → slot_before k j (list_at sibs.lists (home_at sibs.homes k)) ≡ is_before x y t
+    before_found x k y j f g = ⊎_elim
+        (λ e. ap (λ z. slot_before k j (list_at sibs.lists (home_at sibs.homes z))) e ∙ ap (slot_before k j) root_bare ∙ sym (ap (in_list (goes_before x y)) (root_list x k f e)))
+        (λ n. let b = beside x k f n in
+        sym (ap (in_list (goes_before x y)) b.is
+        ∙ goes_spelt rows sibs.lists x k f.id (alone_there x k f) y j (among_spelt rows sibs.lists y j g.id (alone_there y j g)) (list_at sibs.lists (home_at sibs.homes k)) b.list b.spelt))
+        (cases_eq k root)
+
+    pub before_missing : (x k y : ℕ) → Found rows x k → live_slot rows keys y ≡ None → is_before x y t ≡ false
+    before_missing x k y f e = ⊎_elim
+        (λ z. ap (in_list (goes_before x y)) (root_list x k f z))
+        (λ n. let b = beside x k f n in
+        ap (in_list (goes_before x y)) b.is
+        ∙ never_behind rows sibs.lists y (λ q l i. let z : None ≡ Some q = sym e ∙ slot_of_live rows keys sibs root t r s y q l i in absurd cc) x (list_at sibs.lists (home_at sibs.homes k)) b.list b.spelt)
+        (cases_eq k root)
+
+-- a node that has another home isn't in a list
+pub apart : (lists : List (List ℕ)) (homes : List ℕ) → Laws lists homes → (a b h : ℕ) → (home_at homes b ≡ h → ⊥) → slot_before a b (list_at lists h) ≡ false
+apart lists homes laws a b h n = not_behind a b (list_at lists h) (⊎_elim (λ y. absurd (n (laws.members h b y).0)) (λ e. e) (cases_Bool (has b (list_at lists h))))

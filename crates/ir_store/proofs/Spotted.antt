@@ -1,0 +1,191 @@
+-- What was found of a place, against the slots; and the joining of a store's own slots.
+use Rattle.std.proofs.Common.{◌≡◌, ℕ, ◌<◌, List, set, get_or, refl, sym, ap, ◌∙◌, subst, length, Bool, true, false, eqb, not, ◌&&◌, cond, Option, Some, None, slice_get, ⊎_elim, arith}
+use Rattle.std.specs.Prelude.{option_and_then}
+use Rattle.std.specs.FinMap as finmap
+use Rattle.std.proofs.lemmas.Bool.{cases_eq, eqb-true, false≢true}
+use Rattle.std.proofs.lemmas.List.{length-set, length-map}
+use Rattle.chains.specs.Lists.{Lists, Laws, home_at, free, IsHead, IsItem, IsFree}
+use Rattle.ir_tree.specs.declared.place.Place.{Place}
+use Rattle.ir_tree.specs.Tree.{Op}
+use Rattle.ir_tree.specs.Places.{put}
+use Rattle.ir_store.specs.declared.row.Row.{Row as Kept}
+use Rattle.ir_store.specs.declared.store.Store.TheInside.{Inside}
+use Rattle.ir_store.specs.Stored.{Stored}
+use Rattle.ir_store.specs.Calls.{after_restore, put_held}
+use Rattle.ir_store.specs.Rows.{Row, Shape, row_at, row_of, rows_of, live_slot, held_slot, if_held, head_in, held_in, gone_in, bare}
+use Rattle.ir_store.specs.Spells.{SpellsOp, Spelled, spelled_is}
+use Rattle.ir_store.specs.Holds.{HoldsOf, GoneOf, map_is}
+use Rattle.ir_store.specs.Spots.{spot_in, before_in, at_slot, stands, joined, StandsIn}
+use Rattle.ir_store.specs.Right.{Live, Right}
+use Rattle.ir_store.proofs.Slots.{found, used_inside}
+use Rattle.ir_store.proofs.Called.{read_row, other_row, own_row, rows_in, keys_in, IsRight, stored}
+use Rattle.ir_tree.specs.Ids.{HasDistinctIds, has_id}
+use Rattle.ir_store.proofs.Founds.{has_is}
+use Rattle.ir_store.proofs.Distinct.{bare_distinct}
+use Rattle.ir_store.proofs.Joining.{x_out, FoundHeld, Before, Spot, spot_head, slot_free, join_spells, join_right, join_holds, was_held, join_gone}
+
+both : (a b : Bool) → (a && b) ≡ true → (a ≡ true) × (b ≡ true)
+both true b e = (refl, e)
+both false b e = absurd (false≢true e)
+
+if_some : {X : Type 0} (b : Bool) (k q : X) → cond b (Some k) None ≡ Some q → (b ≡ true) × (k ≡ q)
+if_some true k q e = (refl, cc)
+if_some false k q e = absurd cc
+
+some_one : {X : Type 0} (x y : X) → Some x ≡ Some y → x ≡ y
+some_one x y e = cc
+
+not_true : (b : Bool) → not b ≡ true → b ≡ false
+not_true true e = absurd (false≢true e)
+not_true false e = refl
+
+module _ (rows : List Row) (keys : ℕ → Option ℕ) (sibs : Lists) (root : ℕ) (t : Op) (r : Right rows keys sibs root t) (s : SpellsOp rows sibs.lists root t) where
+  pub held_found : (x k : ℕ) → Some k ≡ held_slot rows keys x → FoundHeld rows x k
+  held_found x k e = go (keys x) refl (sym e)
+    where
+      go : (o : Option ℕ) → keys x ≡ o → if_held rows o ≡ Some k → FoundHeld rows x k
+      go None f g = absurd cc
+      go (Some q) f g =
+          let b = if_some ((row_at rows q).used && not (row_at rows q).live) q k g in
+          let c = both (row_at rows q).used (not (row_at rows q).live) b.0 in
+          let h = r.known x q f in
+          subst (FoundHeld rows x) b.1 (record { used = h.used; out = not_true (row_at rows q).live c.1; id = h.id })
+
+  -- a live slot whose home is a head stands in its list
+  pub item_of : (q n : ℕ) → Live rows q → IsHead sibs.homes n → home_at sibs.homes q ≡ n → IsItem sibs.homes q
+  item_of q n l h e = ⊎_elim
+      (λ z. let f : n ≡ free = sym e ∙ ap (home_at sibs.homes) z ∙ r.top.unlinked in let few = r.few in let i : n < length sibs.homes = h.inside in absurd (omega arith))
+      (λ z. (r.items q l z).item)
+      (cases_eq q root)
+
+  module _ (place : Place) (n : ℕ) (at : Option ℕ) where
+    abbrev Spotted : Type 0
+    Spotted = (a : List ℕ × ℕ) × ((a.1 ≡ n) × Spot rows sibs.homes place a at)
+
+    befores : (h : IsHead sibs.homes n) (b : Option ℕ) → before_in rows keys sibs.homes b n ≡ Some (n, at) → Before rows sibs.homes n at b
+    befores h None e = let f : None ≡ at = ap (λ z. z.1) (some_one (n, None) (n, at) e) in subst (λ z. Before rows sibs.homes n z None) f tt
+    befores h (Some b) e = go (live_slot rows keys b) refl e
+      where
+        go : (o : Option ℕ) → live_slot rows keys b ≡ o → option_and_then (at_slot sibs.homes n) o ≡ Some (n, at) → Before rows sibs.homes n at (Some b)
+        go None f g = absurd cc
+        go (Some q) f g =
+            let w = if_some (stands sibs.homes n q) (n, Some q) (n, at) g in
+            let c = both (not (eqb (home_at sibs.homes q) free)) (eqb (home_at sibs.homes q) n) w.0 in
+            let e = eqb-true (home_at sibs.homes q) n c.1 in
+            let fd = found rows keys sibs root t r s b q f in
+            let same : Some q ≡ at = ap (λ z. z.1) w.1 in
+            subst (λ z. Before rows sibs.homes n z (Some b)) same (fd, (item_of q n fd.live h e, e))
+
+    pub spotted : Some (n, at) ≡ spot_in rows keys sibs.homes place → Spotted
+    spotted e = go (live_slot rows keys place.parent) refl (sym e)
+      where
+        go : (o : Option ℕ) → live_slot rows keys place.parent ≡ o
+            → option_and_then (λ p. option_and_then (λ a. option_and_then (before_in rows keys sibs.homes place.before) (head_in a)) (slice_get (row_at rows p).shapes place.region)) o ≡ Some (n, at) → Spotted
+        go None f g = absurd cc
+        go (Some p) f g = shape (slice_get (row_at rows p).shapes place.region) refl g
+          where
+            first : (b : Option ℕ) (m : ℕ) → before_in rows keys sibs.homes b m ≡ Some (n, at) → m ≡ n
+            first None m e = ap (λ z. z.0) (some_one (m, None) (n, at) e)
+            first (Some b) m e = one (live_slot rows keys b) e
+              where
+                one : (o : Option ℕ) → option_and_then (at_slot sibs.homes m) o ≡ Some (n, at) → m ≡ n
+                one None e = absurd cc
+                one (Some q) e = ap (λ z. z.0) (if_some (stands sibs.homes m q) (m, Some q) (n, at) e).1
+
+            shape : (c : Option Shape) → slice_get (row_at rows p).shapes place.region ≡ c → option_and_then (λ a. option_and_then (before_in rows keys sibs.homes place.before) (head_in a)) c ≡ Some (n, at) → Spotted
+            shape None h e = absurd cc
+            shape (Some None) h e = absurd cc
+            shape (Some (Some a)) h e =
+                let fd = found rows keys sibs root t r s place.parent p f in
+                let m = first place.before a.1 e in
+                let b = r.blocks p place.region a (r.live_used p fd.live) h in (
+                  a,
+                  (
+                    m,
+                    record {
+                      parent = p;
+                      found = fd;
+                      shape = h;
+                      before = subst (λ z. Before rows sibs.homes z at place.before) (sym m)
+                          (befores (subst (IsHead sibs.homes) m b.head) place.before (subst (λ z. before_in rows keys sibs.homes place.before z ≡ Some (n, at)) m e));
+                    },
+                  ),
+                )
+
+-- an operation is joined in
+module _ (a : Inside) (r : IsRight a) (laws : Laws a.sibs.lists a.sibs.homes) (x k : ℕ) (ek : Some k ≡ held_slot (rows_in a) (keys_in a) x)
+    (place : Place) (h : ℕ) (at : Option ℕ) (es : Some (h, at) ≡ spot_in (rows_in a) (keys_in a) a.sibs.homes place) where
+  fk : FoundHeld (rows_in a) x k
+  fk = held_found (rows_in a) (keys_in a) a.sibs a.root a.spelled.0 r a.spelled.1 x k ek
+
+  sp : (b : List ℕ × ℕ) × ((b.1 ≡ h) × Spot (rows_in a) a.sibs.homes place b at)
+  sp = spotted (rows_in a) (keys_in a) a.sibs a.root a.spelled.0 r a.spelled.1 place h at es
+
+  pub joint_head : IsHead a.sibs.homes h
+  joint_head = subst (IsHead a.sibs.homes) sp.1.0 (spot_head (rows_in a) (keys_in a) a.sibs a.root a.spelled.0 r a.spelled.1 laws x k fk place sp.0 at sp.1.1)
+
+  pub joint_free : IsFree a.sibs.homes k
+  joint_free = slot_free (rows_in a) (keys_in a) a.sibs a.root a.spelled.0 r a.spelled.1 laws x k fk place sp.0 at sp.1.1
+
+  pub joint_before : (t : ℕ) → at ≡ Some t → StandsIn a.sibs.homes h t
+  joint_before t e = go place.before (subst (λ z. Before (rows_in a) a.sibs.homes sp.0.1 z place.before) e sp.1.1.before)
+    where
+      go : (b : Option ℕ) → Before (rows_in a) a.sibs.homes sp.0.1 (Some t) b → StandsIn a.sibs.homes h t
+      go None z = absurd z
+      go (Some b) z = record { item = z.1.0; home = z.1.1 ∙ sp.1.0 }
+
+  pub joint_inside : k < length a.rows.items
+  joint_inside = omega (arith, used_inside (rows_in a) k fk.used, length-map a.rows.items row_of)
+
+  pub joint_out : has_id (row_at (rows_in a) k).head.id a.spelled.0 ≡ false
+  joint_out = ap (λ z. has_id z a.spelled.0) fk.id ∙ sym (has_is x a.spelled.0) ∙ x_out (rows_in a) (keys_in a) a.sibs a.root a.spelled.0 r a.spelled.1 laws x k fk place sp.0 at sp.1.1
+
+  module _ (n : Kept) (en : n ≡ get_or a.rows.items k n) (sibs' : Lists) (el : sibs'.lists ≡ joined k h at a.sibs.lists) (eh : sibs'.homes ≡ set a.sibs.homes k h) where
+    abbrev pub joined_items : List Kept
+    joined_items = set a.rows.items k (record n { live = true })
+
+    long' : length (rows_of joined_items) ≡ length (rows_in a)
+    long' = length-map joined_items row_of ∙ length-set a.rows.items k (record n { live = true }) ∙ sym (length-map a.rows.items row_of)
+
+    come : row_at (rows_of joined_items) k ≡ record (row_at (rows_in a) k) { live = true }
+    come = own_row a.rows.items k (record n { live = true }) joint_inside ∙ ap {A = Row} {B = Row} (λ z. record z { live = true }) (sym (read_row a.rows.items k n joint_inside en))
+
+    el' : sibs'.lists ≡ joined k sp.0.1 at a.sibs.lists
+    el' = el ∙ ap (λ z. joined k z at a.sibs.lists) (sym sp.1.0)
+
+    eh' : sibs'.homes ≡ set a.sibs.homes k sp.0.1
+    eh' = eh ∙ ap (set a.sibs.homes k) (sym sp.1.0)
+
+    abbrev o : Op
+    o = bare (row_at (rows_in a) k)
+
+    spells : SpellsOp (rows_of joined_items) sibs'.lists a.root (put place o a.spelled.0)
+    spells = join_spells (rows_in a) (keys_in a) a.sibs a.root a.spelled.0 r a.spelled.1 laws x k fk place sp.0 at sp.1.1 (rows_of joined_items) long' (other_row a.rows.items k (record n { live = true })) come sibs' el' eh'
+
+    pub joint_tree : (w : Spelled (rows_of joined_items) sibs'.lists a.root) → w.0 ≡ put place o a.spelled.0
+    joint_tree w = spelled_is (rows_of joined_items) sibs'.lists a.root w (put place o a.spelled.0) spells
+
+    pub joint_distinct : HasDistinctIds a.spelled.0 → (w : Spelled (rows_of joined_items) sibs'.lists a.root) → HasDistinctIds w.0
+    joint_distinct d w = subst HasDistinctIds (sym (joint_tree w)) (bare_distinct place (row_at (rows_in a) k) a.spelled.0 d joint_out)
+
+    pub joint_right : (w : Spelled (rows_of joined_items) sibs'.lists a.root) → Right (rows_of joined_items) (keys_in a) sibs' a.root w.0
+    joint_right w = subst (Right (rows_of joined_items) (keys_in a) sibs' a.root) (sym (spelled_is (rows_of joined_items) sibs'.lists a.root w (put place o a.spelled.0) spells))
+        (join_right (rows_in a) (keys_in a) a.sibs a.root a.spelled.0 r a.spelled.1 laws x k fk place sp.0 at sp.1.1 (rows_of joined_items) long' (other_row a.rows.items k (record n { live = true })) come sibs' el' eh')
+
+    holds : (y : ℕ) → finmap.get (finmap.remove a.holds.0 x) y ≡ held_in (rows_of joined_items) (keys_in a y)
+    holds = join_holds (rows_in a) (keys_in a) a.sibs a.root a.spelled.0 r a.spelled.1 laws x k fk place sp.0 at sp.1.1 (rows_of joined_items) long' (other_row a.rows.items k (record n { live = true })) come sibs' el' eh' a.holds.0 a.holds.1
+
+    lacks : (y : ℕ) → finmap.get a.lacks.0 y ≡ gone_in (rows_of joined_items) (keys_in a y)
+    lacks y = a.lacks.1 y ∙ join_gone (rows_in a) (keys_in a) a.sibs a.root a.spelled.0 r a.spelled.1 laws x k fk place sp.0 at sp.1.1 (rows_of joined_items) long' (other_row a.rows.items k (record n { live = true })) come sibs' el' eh' y
+
+    pub joint_given : Spelled (rows_of joined_items) sibs'.lists a.root × (HoldsOf (rows_of joined_items) (keys_in a) × (GoneOf (rows_of joined_items) (keys_in a) × Unit {0}))
+    joint_given = ((put place o a.spelled.0, spells), ((finmap.remove a.holds.0 x, holds), ((a.lacks.0, lacks), tt)))
+
+    pub joint_done : (w : Spelled (rows_of joined_items) sibs'.lists a.root) (v : HoldsOf (rows_of joined_items) (keys_in a)) (g : GoneOf (rows_of joined_items) (keys_in a))
+        → ◌≡◌ {A = Stored} (record { module_of = record { tree = w.0; next = a.next }; held = v.0; gone = g.0 }) (after_restore x place false (stored a))
+    joint_done w v g =
+        let was = was_held (rows_in a) (keys_in a) a.sibs a.root a.spelled.0 r a.spelled.1 laws x k fk place sp.0 at sp.1.1 (rows_of joined_items) long' (other_row a.rows.items k (record n { live = true })) come sibs' el' eh' a.holds.0 a.holds.1 in
+        let e1 = spelled_is (rows_of joined_items) sibs'.lists a.root w (put place o a.spelled.0) spells ∙ ap (λ z. put_held place z a.spelled.0) (sym was) in
+        let e2 = map_is (λ y. held_in (rows_of joined_items) (keys_in a y)) v (finmap.remove a.holds.0 x) holds in
+        let e3 = map_is (λ y. gone_in (rows_of joined_items) (keys_in a y)) g a.lacks.0 lacks in
+        λ i. record { module_of = record { tree = e1 i; next = a.next }; held = e2 i; gone = e3 i }

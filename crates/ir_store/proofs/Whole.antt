@@ -1,0 +1,337 @@
+-- The slots and the uses together, as a function's calls tell them.
+use Rattle.std.proofs.Common.{◌≡◌, eqb, ℕ, zero, suc, ◌+◌, ◌-◌, ◌<◌, ◌≤◌, List, [], ◌∷◌, map, set, get_or, refl, sym, ap, ◌∙◌, subst, length, Bool, true, false, Option, Some, None, arith}
+use Rattle.std.specs.Prelude.{Result, Ok, Err}
+use Rattle.std.proofs.lemmas.List.{length-set, length-map}
+use Rattle.chains.specs.Lists.{Lists, Laws, free, without as drop_node}
+use Rattle.ir_types.specs.declared.refusal.Refusal.{Refusal}
+use Rattle.ir_tree.specs.declared.value.Value.{Value}
+use Rattle.ir_store.specs.declared.row.Row.{Row as Kept}
+use Rattle.ir_store.specs.declared.store.Store.TheInside.{Inside}
+use Rattle.ir_store.specs.Rows.{Row, row_at, row_of, rows_of, row_with_operand, live_slot}
+use Rattle.ir_store.specs.Right.{Live, Used}
+use Rattle.ir_store.specs.Spells.{Spelled, Spelled-prop}
+use Rattle.ir_store.specs.Plans.{leaf_in}
+use Rattle.ir_store.specs.Reasoned.{idle_in}
+use Rattle.ir_store.specs.Index.{Index, Fits, HasIdsBelow, lives, cells_of, HasHeads, CanFree, freed, led_to, all_led, value_head}
+use Rattle.ir_store.proofs.Slots.{Found, found}
+use Rattle.ir_store.proofs.Taking.{IsLeaf}
+use Rattle.ir_store.proofs.Unused.{TakePlanned, take_planned}
+use Rattle.ir_store.proofs.Used.{has_heads, can_free, take_index}
+use Rattle.std.proofs.Common.{not, ◌&&◌, ⊎_elim}
+use Rattle.std.specs.Prelude.{is_some, nat_lt, if◌then◌else◌}
+use Rattle.std.specs.FinMap as finmap
+use Rattle.std.proofs.lemmas.Bool.{cases_Bool, false≢true}
+use Rattle.chains.specs.Lists.{IsItem, IsHead, IsFree}
+use Rattle.ir_types.specs.declared.refusal.Refusal.TheVariants.{NoSuchIndex, NoSuchValue}
+use Rattle.ir_tree.specs.declared.place.Place.{Place}
+use Rattle.ir_tree.specs.Tree.{Head, Op, head}
+use Rattle.ir_tree.specs.Edits.{at as at_op, put_operand}
+use Rattle.ir_tree.specs.Ids.{HasDistinctIds, op_count, has_id}
+use Rattle.ir_tree.proofs.Left.{left_distinct}
+use Rattle.ir_tree.specs.Places.{put, without}
+use Rattle.ir_tree.specs.Frames.{owner_of}
+use Rattle.ir_store.proofs.Tally.{lower_below, count_within, cut_counted, cut_below, cut_owned, joined_counted, join_below, join_owned, write_below, write_owned, value_owner}
+use Rattle.ir_store.proofs.Distinct.{each_distinct, each_ids}
+use Rattle.ir_tree.specs.Ids.{find}
+use Rattle.ir_tree_laws.specs.Values.{has_value}
+use Rattle.ir_store.specs.Stored.{Stored}
+use Rattle.ir_store.specs.Calls.{CanRestore, after_restore, raised}
+use Rattle.ir_tree_laws.specs.Reasons.{operand_reason, unless, unused}
+use Rattle.ir_store.specs.Reasoned.{with_head, rewire_reason}
+use Rattle.ir_store.specs.Plans.{operand_in}
+use Rattle.ir_store.specs.Rows.{held_slot, held_in, if_held, bare}
+use Rattle.ir_store.specs.Holds.{HoldsOf, GoneOf}
+use Rattle.ir_store.specs.Spots.{spot_in, joined}
+use Rattle.ir_store.specs.Index.{CanLead, operand_at, use_at}
+use Rattle.ir_store.proofs.Slots.{operand_found}
+use Rattle.ir_store.proofs.Unused.{all_get}
+use Rattle.ir_store.proofs.Used.{can_lead, join_index, use_item, write_index}
+use Rattle.ir_store.proofs.Valued.{value_is, place_is, live_head}
+use Rattle.ir_store.proofs.Spotted.{joint_distinct, joint_tree, joint_out, held_found, joint_right, joint_done, joint_inside, joint_before}
+use Rattle.ir_store.specs.Spots.{StandsIn}
+use Rattle.std.specs.Prelude.{IfSome}
+use Rattle.std.proofs.lemmas.List.{get_or-set_same, get_or-set_other}
+use Rattle.chains.specs.Lists.{home_at}
+use Rattle.ir_store.proofs.Cut.{not_item}
+use Rattle.ir_store.proofs.Joining.{FoundHeld}
+use Rattle.ir_store.proofs.Called.{rows_in, keys_in, stored, read_row, other_row, own_row, cut_tree, write_tree, right_after, write_fits, write_inside}
+
+abbrev pub Whole : Inside → Type 0
+Whole a = Fits (rows_in a) (keys_in a) a.sibs a.root a.spelled.0 a.uses.homes (cells_of a.cells.items) a.count a.next
+
+pub freed_long : (b n : ℕ) (homes : List ℕ) → length (freed b n homes) ≡ length homes
+freed_long b zero homes = refl
+freed_long b (suc n) homes = freed_long (b + 1) n (set homes b free) ∙ length-set homes b free
+
+pub led_long : (head : Value → Option ℕ) (b : ℕ) (vs : List Value) (homes : List ℕ) → length (all_led head b vs homes) ≡ length homes
+led_long head b [] homes = refl
+led_long head b (v ∷ vs) homes = led_long head (b + 1) vs (led_to b (head v) homes) ∙ one (head v)
+  where
+    one : (o : Option ℕ) → length (led_to b o homes) ≡ length homes
+    one None = refl
+    one (Some h) = length-set homes b h
+
+module _ (a : Inside) (w : Whole a) where
+  pub find_values : (q : ℕ) → Live (rows_in a) q → HasHeads (rows_in a) a.uses.homes q
+  find_values q l = has_heads (rows_in a) (keys_in a) a.uses.homes (cells_of a.cells.items) w.few (lives (rows_in a)) w.index q (w.right.keyed q (w.right.live_used q l))
+
+  module _ (laws : Laws a.uses.lists a.uses.homes) (x : ℕ) where
+    abbrev pub Plan : Result ℕ Refusal → Type 0
+    Plan = TakePlanned (rows_in a) (keys_in a) a.sibs a.root a.spelled.0 w.right a.spelled.1 a.uses (cells_of a.cells.items) laws w.index x
+
+    pub plan : (res : Result ℕ Refusal) → res ≡ idle_in (rows_in a) a.uses.lists (leaf_in (rows_in a) a.sibs.lists a.root (live_slot (rows_in a) (keys_in a) x)) → Plan res
+    plan res e = take_planned (rows_in a) (keys_in a) a.sibs a.root a.spelled.0 w.right a.spelled.1 a.uses (cells_of a.cells.items) laws w.index x res _ refl e
+
+  module _ (x k : ℕ) (leaf : IsLeaf (rows_in a) a.sibs.lists a.root x k) (run : ℕ × ℕ) (er : run ≡ ((row_at (rows_in a) k).uses, length (row_at (rows_in a) k).head.operands)) where
+    pub free_run : CanFree run.0 run.1 a.uses.homes
+    free_run = subst (λ p. CanFree p.0 p.1 a.uses.homes) (sym er)
+        (can_free (rows_in a) (keys_in a) a.uses.homes (cells_of a.cells.items) w.few w.index k (w.right.live_used k leaf.found.live) leaf.found.live)
+
+    module _ (n : Kept) (en : n ≡ get_or a.rows.items k n) (sibs' : Lists) (el : sibs'.lists ≡ map (drop_node k) a.sibs.lists) (eh : sibs'.homes ≡ set a.sibs.homes k free)
+        (homes' : List ℕ) (eu : homes' ≡ freed run.0 run.1 a.uses.homes) where
+      abbrev rows' : List Row
+      rows' = rows_of (set a.rows.items k (record n { live = false }))
+
+      inside : k < length a.rows.items
+      inside = omega (arith, leaf.found.inside, length-map a.rows.items row_of)
+
+      own : row_at rows' k ≡ record (row_at (rows_in a) k) { live = false }
+      own = own_row a.rows.items k (record n { live = false }) inside ∙ ap {A = Row} {B = Row} (λ z. record z { live = false }) (sym (read_row a.rows.items k n inside en))
+
+      pub take_some : 1 ≤ a.count
+      take_some = omega (arith, w.counted, cut_counted (rows_in a) (keys_in a) a.sibs a.root a.spelled.0 w.right a.spelled.1 x k leaf w.distinct)
+
+      pub take_fits : unused x a.spelled.0 ≡ true → (s : Spelled rows' sibs'.lists a.root) → Fits rows' (keys_in a) sibs' a.root s.0 homes' (cells_of a.cells.items) (a.count - 1) a.next
+      take_fits spared s = record {
+        right = right_after a w.right x k leaf n en sibs' el eh s;
+        few = omega (arith, w.few, ap length eu, freed_long run.0 run.1 a.uses.homes);
+        index = subst (λ z. Index rows' (keys_in a) z (cells_of a.cells.items) (lives rows')) (sym (eu ∙ ap (λ p. freed p.0 p.1 a.uses.homes) er))
+            (take_index (rows_in a) (keys_in a) a.uses.homes (cells_of a.cells.items) w.few w.index k (w.right.live_used k leaf.found.live) rows' (other_row a.rows.items k (record n { live = false })) false own refl leaf.found.live);
+        distinct = subst HasDistinctIds (sym (cut_tree a w.right x k leaf n en sibs' el eh s)) (left_distinct x a.spelled.0 w.distinct);
+        counted =
+            let c = cut_counted (rows_in a) (keys_in a) a.sibs a.root a.spelled.0 w.right a.spelled.1 x k leaf w.distinct in
+            let e : a.count - 1 ≡ op_count (without x a.spelled.0) = omega (arith, w.counted, c) in
+            e ∙ ap op_count (sym (cut_tree a w.right x k leaf n en sibs' el eh s));
+        below = cut_below (rows_in a) (keys_in a) a.sibs a.root a.spelled.0 w.right a.spelled.1 x k leaf rows' (other_row a.rows.items k (record n { live = false })) own a.next w.below;
+        owned = cut_owned (rows_in a) (keys_in a) a.sibs a.root a.spelled.0 w.right a.spelled.1 x k leaf rows' (other_row a.rows.items k (record n { live = false })) own spared w.owned;
+      }
+
+-- there is room to count one more
+pub count_few : (a : Inside) → Whole a → a.count + 1 < 18446744073709551616
+count_few a w =
+    let most = count_within (rows_in a) (keys_in a) a.sibs a.root a.spelled.0 w.right a.spelled.1 w.distinct in
+    omega (arith, w.counted, most, w.right.long, w.right.few)
+
+-- the newest id is free again
+module _ (a : Inside) (w : Whole a) (x : ℕ) (newest : a.next ≡ x + 1) (out : has_id x a.spelled.0 ≡ false) where
+  pub lower_fits : (next : ℕ) → next ≡ x → (s : Spelled (rows_in a) a.sibs.lists a.root) → Fits (rows_in a) (keys_in a) a.sibs a.root s.0 a.uses.homes (cells_of a.cells.items) a.count next
+  lower_fits next e s = subst (λ (z : Spelled (rows_in a) a.sibs.lists a.root). Fits (rows_in a) (keys_in a) a.sibs a.root z.0 a.uses.homes (cells_of a.cells.items) a.count next)
+      (Spelled-prop (rows_in a) a.sibs.lists a.root a.spelled s)
+      (record {
+        right = w.right;
+        few = w.few;
+        index = w.index;
+        distinct = w.distinct;
+        counted = w.counted;
+        below = subst (λ z. HasIdsBelow z (rows_in a)) (sym e) (lower_below (rows_in a) (keys_in a) a.sibs a.root a.spelled.0 w.right a.spelled.1 x a.next newest out w.below);
+        owned = w.owned;
+      })
+
+pub some_of : {X : Type 0} (o : Option X) → is_some o ≡ true → (x : X) × (o ≡ Some x)
+some_of None e = absurd (false≢true e)
+some_of (Some x) e = (x, refl)
+
+-- an operation is put back
+module _ (a : Inside) (w : Whole a) (laws : Laws a.sibs.lists a.sibs.homes) (x : ℕ) (place : Place) (fresh : Bool) (can : CanRestore x place fresh (stored a)) where
+  held_there : is_some (held_slot (rows_in a) (keys_in a) x) ≡ true
+  held_there = go (keys_in a x) refl (ap is_some (sym (a.holds.1 x)) ∙ can.held)
+    where
+      go : (o : Option ℕ) → keys_in a x ≡ o → is_some (held_in (rows_in a) o) ≡ true → is_some (if_held (rows_in a) o) ≡ true
+      go None e f = absurd (false≢true f)
+      go (Some q) e f = ⊎_elim
+          (λ l. absurd (false≢true (sym (rw l refl) ∙ f)))
+          (λ l. λ i. is_some {T = ℕ} (if (w.right.known x q e).used.used i && not (l i) then Some q else None))
+          (cases_Bool (row_at (rows_in a) q).live)
+
+  pub restore_found : (is_some (held_slot (rows_in a) (keys_in a) x) && is_some (spot_in (rows_in a) (keys_in a) a.sibs.homes place)) ≡ false → ⊥
+  restore_found e =
+      let p : is_some (spot_in (rows_in a) (keys_in a) a.sibs.homes place) ≡ true = place_is (rows_in a) (keys_in a) a.sibs a.root a.spelled.0 w.right a.spelled.1 laws place ∙ can.spot in
+      false≢true (sym e ∙ (λ i. held_there i && p i))
+
+  module _ (k : ℕ) (ek : Some k ≡ held_slot (rows_in a) (keys_in a) x) where
+    fk : FoundHeld (rows_in a) x k
+    fk = held_found (rows_in a) (keys_in a) a.sibs a.root a.spelled.0 w.right a.spelled.1 x k ek
+
+    held_is : finmap.get a.holds.0 x ≡ Some (bare (row_at (rows_in a) k))
+    held_is = a.holds.1 x ∙ ap (held_in (rows_in a)) (ap (keys_in a) (sym fk.id) ∙ w.right.keyed k fk.used) ∙ rw fk.out refl
+
+    owners_there : (i : ℕ) (v : Value) → operand_at (rows_in a) k i ≡ Some v → is_some (live_slot (rows_in a) (keys_in a) (owner_of v).0) ≡ true
+    owners_there i v e =
+        value_owner (rows_in a) (live_slot (rows_in a) (keys_in a)) v
+        (value_is (rows_in a) (keys_in a) a.sibs a.root a.spelled.0 w.right a.spelled.1 v
+        ∙ all_get (λ z. has_value z a.spelled.0) (row_at (rows_in a) k).head.operands i v (can.values (bare (row_at (rows_in a) k)) held_is) e)
+
+    heads_there : (i : ℕ) (v : Value) → operand_at (rows_in a) k i ≡ Some v → (h : ℕ) × (value_head (rows_in a) (keys_in a) v ≡ Some h)
+    heads_there i v e =
+        let p = all_get (λ z. has_value z a.spelled.0) (row_at (rows_in a) k).head.operands i v (can.values (bare (row_at (rows_in a) k)) held_is) e in
+        let y = some_of (value_head (rows_in a) (live_slot (rows_in a) (keys_in a)) v) (value_is (rows_in a) (keys_in a) a.sibs a.root a.spelled.0 w.right a.spelled.1 v ∙ p) in
+        (y.0, live_head (rows_in a) (keys_in a) v y.0 y.1)
+
+    pub restore_lead : CanLead (value_head (rows_in a) (keys_in a)) (row_at (rows_in a) k).uses (row_at (rows_in a) k).head.operands a.uses.homes
+    restore_lead = can_lead (rows_in a) (keys_in a) a.uses.homes (cells_of a.cells.items) w.few w.index k fk.used fk.out heads_there
+
+    pub restore_before : (h : ℕ) (at : Option ℕ) → Some (h, at) ≡ spot_in (rows_in a) (keys_in a) a.sibs.homes place → IfSome at (λ t. StandsIn a.sibs.homes h t)
+    restore_before h at es = go at refl
+      where
+        go : (o : Option ℕ) → at ≡ o → IfSome o (λ t. StandsIn a.sibs.homes h t)
+        go None e = tt
+        go (Some t) e = joint_before a w.right laws x k ek place h at es t e
+
+    -- the next free id stays above those that were given out
+    raised_bound : (a.next ≤ raised fresh x a.next) × (x < raised fresh x a.next)
+    raised_bound = go fresh refl
+      where
+        go : (b : Bool) → fresh ≡ b → (a.next ≤ raised b x a.next) × (x < raised b x a.next)
+        go true e = let z = can.newest e in (omega (arith, z), omega arith)
+        go false e = let z = can.below e in (omega arith, z)
+
+    module _ (h : ℕ) (at : Option ℕ) (es : Some (h, at) ≡ spot_in (rows_in a) (keys_in a) a.sibs.homes place) (n : Kept) (en : n ≡ get_or a.rows.items k n)
+        (sibs' : Lists) (el : sibs'.lists ≡ joined k h at a.sibs.lists) (eh : sibs'.homes ≡ set a.sibs.homes k h)
+        (homes' : List ℕ) (eu : homes' ≡ all_led (value_head (rows_in a) (keys_in a)) (row_at (rows_in a) k).uses (row_at (rows_in a) k).head.operands a.uses.homes) where
+      abbrev rows2 : List Row
+      rows2 = rows_of (set a.rows.items k (record n { live = true }))
+
+      inside2 : k < length a.rows.items
+      inside2 = joint_inside a w.right laws x k ek place h at es
+
+      own2 : row_at rows2 k ≡ record (row_at (rows_in a) k) { live = true }
+      own2 = own_row a.rows.items k (record n { live = true }) inside2 ∙ ap {A = Row} {B = Row} (λ z. record z { live = true }) (sym (read_row a.rows.items k n inside2 en))
+
+      pub restore_fits : (s : Spelled rows2 sibs'.lists a.root) (next : ℕ) → next ≡ raised fresh x a.next → Fits rows2 (keys_in a) sibs' a.root s.0 homes' (cells_of a.cells.items) (a.count + 1) next
+      restore_fits s next en' = record {
+        right = joint_right a w.right laws x k ek place h at es n en sibs' el eh s;
+        few = omega (arith, w.few, ap length eu, led_long (value_head (rows_in a) (keys_in a)) (row_at (rows_in a) k).uses (row_at (rows_in a) k).head.operands a.uses.homes);
+        index = subst (λ z. Index rows2 (keys_in a) z (cells_of a.cells.items) (lives rows2)) (sym eu)
+            (join_index (rows_in a) (keys_in a) a.uses.homes (cells_of a.cells.items) w.few w.index k fk.used rows2 (other_row a.rows.items k (record n { live = true })) true own2 refl fk.out heads_there);
+        distinct = joint_distinct a w.right laws x k ek place h at es n en sibs' el eh w.distinct s;
+        counted =
+            let c = joined_counted place (row_at (rows_in a) k) a.spelled.0 w.distinct (joint_out a w.right laws x k ek place h at es) can.spot in
+            let e : a.count + 1 ≡ op_count (put place (bare (row_at (rows_in a) k)) a.spelled.0) = omega (arith, w.counted, c) in
+            e ∙ ap op_count (sym (joint_tree a w.right laws x k ek place h at es n en sibs' el eh s));
+        below =
+            let b = raised_bound in
+            join_below (rows_in a) (keys_in a) k rows2 (other_row a.rows.items k (record n { live = true })) own2 a.next next (omega (arith, b.0, en')) (omega (arith, b.1, en', fk.id)) w.below;
+        owned = join_owned (rows_in a) (keys_in a) k rows2 (other_row a.rows.items k (record n { live = true })) own2 owners_there w.owned;
+      }
+
+      pub restore_done : (s : Spelled rows2 sibs'.lists a.root) (v : HoldsOf rows2 (keys_in a)) (g : GoneOf rows2 (keys_in a)) (next : ℕ) → next ≡ raised fresh x a.next
+          → ◌≡◌ {A = Stored} (record { module_of = record { tree = s.0; next = next }; held = v.0; gone = g.0 }) (after_restore x place fresh (stored a))
+      restore_done s v g next en' =
+          let e = joint_done a w.right laws x k ek place h at es n en sibs' el eh s v g in
+          λ i. record { module_of = record { tree = (e i).module_of.tree; next = en' i }; held = (e i).held; gone = (e i).gone }
+
+-- an edit of one operation keeps its id
+same_at : (x : ℕ) (f : Head → Head) → ((g : Head) → (f g).id ≡ g.id) → (h : Head) → (at_op x f h).id ≡ h.id
+same_at x f e h = go (eqb h.id x)
+  where
+    go : (b : Bool) → (if b then f h else h).id ≡ h.id
+    go true = e h
+    go false = refl
+
+-- an operand is written
+module _ (a : Inside) (w : Whole a) (x j : ℕ) (v : Value) where
+  pub rewire_head : (h : ℕ) → value_head (rows_in a) (keys_in a) v ≡ Some h → IsHead a.uses.homes h
+  rewire_head h e = w.index.heads v h e
+
+  abbrev pub Rewired : Result (ℕ × ℕ) Refusal → Type 0
+  Rewired (Ok p) = (Some p.0 ≡ live_slot (rows_in a) (keys_in a) x) × ((j < length (row_at (rows_in a) p.0).head.operands) × ((rewire_reason x j v a.spelled.0 ≡ None) × (value_head (rows_in a) (keys_in a) v ≡ Some p.1)))
+  Rewired (Err e) = rewire_reason x j v a.spelled.0 ≡ Some e
+
+  stays : (rest : Option Refusal) (o : Option Op) (e : Refusal) → operand_reason j None o ≡ Some e → operand_reason j rest o ≡ Some e
+  stays rest None e f = f
+  stays rest (Some o) e f = test (nat_lt j (length (head o).operands)) f
+    where
+      test : (b : Bool) → (if b then None else Some NoSuchIndex) ≡ Some e → (if b then rest else Some NoSuchIndex) ≡ Some e
+      test true g = absurd cc
+      test false g = g
+
+  goes_on : (rest : Option Refusal) (o : Option Op) → operand_reason j None o ≡ None → operand_reason j rest o ≡ rest
+  goes_on rest None f = absurd cc
+  goes_on rest (Some o) f = test (nat_lt j (length (head o).operands)) f
+    where
+      test : (b : Bool) → (if b then None else Some NoSuchIndex) ≡ None → (if b then rest else Some NoSuchIndex) ≡ rest
+      test true g = refl
+      test false g = absurd cc
+
+  pub rewired : (res : Result (ℕ × ℕ) Refusal) → res ≡ with_head (operand_in (rows_in a) j (live_slot (rows_in a) (keys_in a) x)) (value_head (rows_in a) (live_slot (rows_in a) (keys_in a)) v) → Rewired res
+  rewired res e = subst Rewired (sym e)
+      (go (operand_in (rows_in a) j (live_slot (rows_in a) (keys_in a) x)) refl (value_head (rows_in a) (live_slot (rows_in a) (keys_in a)) v) refl)
+    where
+      value_test : is_some (value_head (rows_in a) (live_slot (rows_in a) (keys_in a)) v) ≡ has_value v a.spelled.0
+      value_test = value_is (rows_in a) (keys_in a) a.sibs a.root a.spelled.0 w.right a.spelled.1 v
+
+      go : (o : Result ℕ Refusal) → o ≡ operand_in (rows_in a) j (live_slot (rows_in a) (keys_in a) x) → (h : Option ℕ) → value_head (rows_in a) (live_slot (rows_in a) (keys_in a)) v ≡ h → Rewired (with_head o h)
+      go (Err e) f h g = stays (unless (has_value v a.spelled.0) NoSuchValue None) (find x a.spelled.0) e (operand_found (rows_in a) (keys_in a) a.sibs a.root a.spelled.0 w.right a.spelled.1 x j (Err e) f)
+      go (Ok k) f None g =
+          let p = operand_found (rows_in a) (keys_in a) a.sibs a.root a.spelled.0 w.right a.spelled.1 x j (Ok k) f in
+          goes_on (unless (has_value v a.spelled.0) NoSuchValue None) (find x a.spelled.0) p.1.1 ∙ ap (λ b. unless b NoSuchValue None) (sym value_test ∙ ap is_some g)
+      go (Ok k) f (Some h) g =
+          let p = operand_found (rows_in a) (keys_in a) a.sibs a.root a.spelled.0 w.right a.spelled.1 x j (Ok k) f in
+          (p.0, (p.1.0, (goes_on (unless (has_value v a.spelled.0) NoSuchValue None) (find x a.spelled.0) p.1.1 ∙ ap (λ b. unless b NoSuchValue None) (sym value_test ∙ ap is_some g), live_head (rows_in a) (keys_in a) v h g)))
+
+  module _ (k h : ℕ) (ek : Some k ≡ live_slot (rows_in a) (keys_in a) x) (inside : j < length (row_at (rows_in a) k).head.operands) (eh : value_head (rows_in a) (keys_in a) v ≡ Some h) where
+    fd : Found (rows_in a) x k
+    fd = found (rows_in a) (keys_in a) a.sibs a.root a.spelled.0 w.right a.spelled.1 x k (sym ek)
+
+    uk : Used (rows_in a) k
+    uk = w.right.live_used k fd.live
+
+    module _ (n : Kept) (en : n ≡ get_or a.rows.items k n) (m : Kept) (em : row_of m ≡ row_with_operand j v (row_of n)) where
+      abbrev rows3 : List Row
+      rows3 = rows_of (set a.rows.items k m)
+
+      own3 : row_at rows3 k ≡ row_with_operand j v (row_at (rows_in a) k)
+      own3 = own_row a.rows.items k m (write_inside a w.right x k j v ek) ∙ em ∙ ap (row_with_operand j v) (sym (read_row a.rows.items k n (write_inside a w.right x k j v ek) en))
+
+      value_there : rewire_reason x j v a.spelled.0 ≡ None → has_value v a.spelled.0 ≡ true
+      value_there e = go (find x a.spelled.0) e
+        where
+          last : (b : Bool) → unless b NoSuchValue None ≡ None → b ≡ true
+          last true f = refl
+          last false f = absurd cc
+
+          go : (o : Option Op) → operand_reason j (unless (has_value v a.spelled.0) NoSuchValue None) o ≡ None → has_value v a.spelled.0 ≡ true
+          go None f = absurd cc
+          go (Some o) f = test (nat_lt j (length (head o).operands)) f
+            where
+              test : (b : Bool) → (if b then unless (has_value v a.spelled.0) NoSuchValue None else Some NoSuchIndex) ≡ None → has_value v a.spelled.0 ≡ true
+              test true g = last (has_value v a.spelled.0) g
+              test false g = absurd cc
+
+      pub rewire_fits : rewire_reason x j v a.spelled.0 ≡ None → (s : Spelled rows3 a.sibs.lists a.root) (homes1 homes2 : List ℕ) → homes1 ≡ set a.uses.homes (use_at (rows_in a) k j) free → homes2 ≡ set homes1 (use_at (rows_in a) k j) h
+          → Fits rows3 (keys_in a) a.sibs a.root s.0 homes2 (cells_of a.cells.items) a.count a.next
+      rewire_fits why s homes1 homes2 e1 e2 = record {
+        right = write_fits a w.right x k j v ek n en m em s;
+        few = omega (arith, w.few, ap length e2, ap length e1, length-set homes1 (use_at (rows_in a) k j) h, length-set a.uses.homes (use_at (rows_in a) k j) free);
+        index = subst (λ z. Index rows3 (keys_in a) z (cells_of a.cells.items) (lives rows3)) (sym (e2 ∙ ap (λ z. set z (use_at (rows_in a) k j) h) e1))
+            (write_index (rows_in a) (keys_in a) a.uses.homes (cells_of a.cells.items) w.few w.index k j h v fd.live uk inside eh rows3 (other_row a.rows.items k m) own3);
+        distinct = subst HasDistinctIds (sym (write_tree a w.right x k j v ek n en m em s)) (each_distinct (at_op x (put_operand j v)) (same_at x (put_operand j v) (λ g. refl)) a.spelled.0 w.distinct);
+        counted = w.counted ∙ ap length (sym (each_ids (at_op x (put_operand j v)) (same_at x (put_operand j v) (λ g. refl)) a.spelled.0)) ∙ ap op_count (sym (write_tree a w.right x k j v ek n en m em s));
+        below = write_below (rows_in a) (keys_in a) k j v rows3 (other_row a.rows.items k m) own3 a.next w.below;
+        owned = write_owned (rows_in a) (keys_in a) k j v rows3 (other_row a.rows.items k m) own3
+            (value_owner (rows_in a) (live_slot (rows_in a) (keys_in a)) v (value_is (rows_in a) (keys_in a) a.sibs a.root a.spelled.0 w.right a.spelled.1 v ∙ value_there why)) w.owned;
+      }
+
+    pub rewire_item : IsItem a.uses.homes (use_at (rows_in a) k j)
+    rewire_item = use_item (rows_in a) (keys_in a) a.uses.homes (cells_of a.cells.items) w.index k j fd.live uk inside
+
+    pub rewire_free : (u : ℕ) (homes1 : List ℕ) → u ≡ use_at (rows_in a) k j → homes1 ≡ set a.uses.homes u free → IsFree homes1 u
+    rewire_free u homes1 eu e1 =
+        let it = subst (IsItem a.uses.homes) (sym eu) rewire_item in
+        record { inside = omega (arith, it.inside, ap length e1, length-set a.uses.homes u free); unlinked = ap (λ z. home_at z u) e1 ∙ get_or-set_same a.uses.homes u free free it.inside }
+
+    pub rewire_headed : (u : ℕ) (homes1 : List ℕ) → u ≡ use_at (rows_in a) k j → homes1 ≡ set a.uses.homes u free → IsHead homes1 h
+    rewire_headed u homes1 eu e1 =
+        let it = subst (IsItem a.uses.homes) (sym eu) rewire_item in
+        let hd = w.index.heads v h eh in
+        record { inside = omega (arith, hd.inside, ap length e1, length-set a.uses.homes u free); own = ap (λ z. home_at z h) e1 ∙ get_or-set_other a.uses.homes u h free free (not_item a.uses.homes h u hd it) ∙ hd.own }

@@ -1,0 +1,68 @@
+use Rattle.std.proofs.Common.{refl, ◌∙◌, sym, ap, inl, inr}
+use Rattle.std.specs.Prelude.{Ok, Err}
+use Rattle.ir_tree.specs.Meaning.{key_before_in}
+use Rattle.ir_tree.specs.Edits.{part_of}
+use Rattle.ir_tree_laws.specs.Reasons.{entry_reason, set_entry_reason}
+use Rattle.ir_store.specs.Calls.{after_entry}
+use Rattle.ir_store.proofs.Called.{same_inside}
+use Rattle.ir_store.proofs.Dictionaries.{refused_some, refused_memory, entry_found, entry_row, there_before, either_way, either_given, either_fits, entry_done, same_done}
+use Rattle.ir_store.proofs.store.Store.enter.Goals as goal
+
+pub same-self : goal.same-self
+same-self c = same_inside c.self.inside _ _ _
+
+pub returns-in-Err : goal.returns-in-Err
+returns-in-Err c = (
+  refused_some _ c.in-Err.e
+      (sym (ap (λ s. set_entry_reason (key_before_in c.args.ctx.now) c.args.op c.args.part c.args.key c.args.value s.module_of.tree) c.self.view_is)
+      ∙ entry_found c.self.inside c.self.invariant c.args.op c.args.part c.args.key (key_before_in c.args.ctx.now) c.args.value (Err c.in-Err.e) c.in-Err.ensures),
+  refl,
+)
+
+pub change_row-requires : goal.change_row-requires
+change_row-requires c =
+    let before = key_before_in c.args.ctx.now in
+    let p = entry_found c.self.inside c.self.invariant c.args.op c.args.part c.args.key before c.args.value (Ok c.in-Ok.at) c.in-Ok.ensures in
+    let row = entry_row c.self.inside c.self.invariant c.args.op c.args.part c.args.key before c.args.value c.in-Ok.at p.0 c.index_mut-row.result.now c.index_mut-row.ensures.value in
+    there_before before c.args.key c.args.value _ (sym (ap (λ r. entry_reason before c.args.key c.args.value (part_of c.args.part r.head)) row) ∙ p.1.1)
+
+pub invariant_of-self-inside-2 : goal.invariant_of-self-inside-2
+invariant_of-self-inside-2 c =
+    let before = key_before_in c.args.ctx.now in
+    let p = entry_found c.self.inside c.self.invariant c.args.op c.args.part c.args.key before c.args.value (Ok c.in-Ok.at) c.in-Ok.ensures in
+    either_given c.self.inside c.self.invariant c.args.op c.args.part c.args.key before c.args.value c.in-Ok.at p.0 c.index_mut-row.result.now c.index_mut-row.ensures.value c.change_row.new.row
+    (either_way c.change_row.result c.change_row.ensures.ok c.change_row.ensures.err)
+
+pub invariant_of-self : goal.invariant_of-self
+invariant_of-self c =
+    let before = key_before_in c.args.ctx.now in
+    let p = entry_found c.self.inside c.self.invariant c.args.op c.args.part c.args.key before c.args.value (Ok c.in-Ok.at) c.in-Ok.ensures in
+    either_fits c.self.inside c.self.invariant c.args.op c.args.part c.args.key before c.args.value c.in-Ok.at p.0 c.index_mut-row.result.now c.index_mut-row.ensures.value c.change_row.new.row
+    (inr c.in-Err-change_row.ensures.err) c.self-3-1.given.0
+
+pub returns : goal.returns
+returns c =
+    let before = key_before_in c.args.ctx.now in
+    let p = entry_found c.self.inside c.self.invariant c.args.op c.args.part c.args.key before c.args.value (Ok c.in-Ok.at) c.in-Ok.ensures in (
+      sym (ap (λ s. set_entry_reason before c.args.op c.args.part c.args.key c.args.value s.module_of.tree) c.self.view_is) ∙ p.1.0,
+      entry_done c.self.inside c.self.invariant c.args.op c.args.part c.args.key before c.args.value c.in-Ok.at p.0 c.index_mut-row.result.now c.index_mut-row.ensures.value c.change_row.new.row
+          c.in-Ok-change_row.ensures.ok c.self-3-1.given.0 c.self-3-1.given.1.0 c.self-3-1.given.1.1.0
+          ∙ ap (after_entry before c.args.op c.args.part c.args.key c.args.value) c.self.view_is,
+    )
+
+pub returns-in-Err-change_row : goal.returns-in-Err-change_row
+returns-in-Err-change_row c =
+    let before = key_before_in c.args.ctx.now in
+    let p = entry_found c.self.inside c.self.invariant c.args.op c.args.part c.args.key before c.args.value (Ok c.in-Ok.at) c.in-Ok.ensures in (
+      refused_memory _ (sym (ap (λ s. set_entry_reason before c.args.op c.args.part c.args.key c.args.value s.module_of.tree) c.self.view_is) ∙ p.1.0),
+      same_done c.self.inside c.self.invariant c.args.op c.args.part c.args.key before c.args.value c.in-Ok.at p.0 c.index_mut-row.result.now c.index_mut-row.ensures.value c.change_row.new.row
+          c.in-Err-change_row.ensures.err c.self-3-1.given.0 c.self-3-1.given.1.0 c.self-3-1.given.1.1.0
+          ∙ c.self.view_is,
+    )
+
+pub invariant_of-self-2 : goal.invariant_of-self-2
+invariant_of-self-2 c =
+    let before = key_before_in c.args.ctx.now in
+    let p = entry_found c.self.inside c.self.invariant c.args.op c.args.part c.args.key before c.args.value (Ok c.in-Ok.at) c.in-Ok.ensures in
+    either_fits c.self.inside c.self.invariant c.args.op c.args.part c.args.key before c.args.value c.in-Ok.at p.0 c.index_mut-row.result.now c.index_mut-row.ensures.value c.change_row.new.row
+    (inl c.in-Ok-change_row.ensures.ok) c.self-3-1.given.0

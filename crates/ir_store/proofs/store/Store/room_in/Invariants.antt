@@ -1,0 +1,11 @@
+use Rattle.std.proofs.Common.{◌≡◌, ◌-◌}
+use Rattle.ir_tree.specs.Limits.{most_around}
+use Rattle.ir_tree_laws.specs.Reads.{around}
+use Rattle.ir_store.specs.Shifting.{level}
+use Rattle.ir_store.proofs.store.Store.room_in.Given as goal
+
+abbrev pub invariant-around : goal.invariant-around
+invariant-around l = l.room - level (around l.at l.self.module_of.tree) ≡ most_around - level (around l.fn.op l.self.module_of.tree)
+
+abbrev pub decreases-around : goal.decreases-around
+decreases-around l = l.room

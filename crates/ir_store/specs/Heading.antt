@@ -1,0 +1,13 @@
+-- The lists of blocks, in slots.
+use Rattle.std.specs.Prelude.{◌≡◌, ◌<◌, ℕ, List, length, Option, option_and_then, slice_get}
+use Rattle.chains.specs.Lists.{home_at}
+use Rattle.ir_store.specs.Rows.{Row, row_at, head_in}
+
+-- the head of the list of the block of region n of operation p, if it has one: `slots` tells the slots of operations
+abbrev pub block_in : List Row → (ℕ → Option ℕ) → ℕ → ℕ → Option ℕ
+block_in rows slots p n = option_and_then (λ k. option_and_then head_in (slice_get (row_at rows k).shapes n)) (slots p)
+
+-- node k may stand in a list: it isn't a head
+pub record CanStand (homes : List ℕ) (k : ℕ) : Type 0 where
+  pub inside : k < length homes
+  pub other : home_at homes k ≡ k → ⊥

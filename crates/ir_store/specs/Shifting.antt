@@ -1,0 +1,69 @@
+-- What shifting an operation needs, and where it goes in the slots.
+use Rattle.std.specs.Prelude.{◌≡◌, ℕ, zero, suc, List, [], ◌∷◌, eqb, true, false, not, ◌&&◌, Bool, if◌then◌else◌, Option, Some, None, option_map, option_and_then}
+use Rattle.std.specs.List.{list_all}
+use Rattle.chains.specs.Lists.{list_at}
+use Rattle.ir_types.specs.declared.refusal.Refusal.{Refusal}
+use Rattle.ir_types.specs.declared.refusal.Refusal.TheVariants.{NoSuchOp, NoSuchIndex, IsRoot, IntoItself, OtherTable, TooDeepHere}
+use Rattle.ir_tree.specs.declared.place.Place.{Place}
+use Rattle.ir_tree.specs.Tree.{Op, OpOf, HeadOf, head}
+use Rattle.ir_tree.specs.Ids.{find, has_id}
+use Rattle.ir_types.specs.Reasons.{first_reason}
+use Rattle.ir_tree.specs.Places.{shifted}
+use Rattle.ir_tree_laws.specs.Reads.{around}
+use Rattle.ir_tree_laws.specs.Tables.{table_of}
+use Rattle.ir_tree_laws.specs.Reasons.{unless, has_place, leads_inside, same_table, fits_around, levels_in}
+use Rattle.ir_store.specs.Rows.{Row, Shape, row_at}
+
+-- operation x is there and not the root, and the place is there and not within it
+pub record CanRelink (x : ℕ) (place : Place) (t : Op) : Type 0 where
+  pub there : has_id x t ≡ true
+  pub inner : eqb (head t).id x ≡ false
+  pub spot : has_place place t ≡ true
+  pub outside : leads_inside place (find x t) ≡ false
+
+-- to move operation x to a place, where its table, how deep it comes to stand and what is seen then aren't looked at:
+-- it or the place's parent isn't there; it is the root; no such place; the place is within it
+abbrev pub relink_reason : {N T A : Type 0} → ℕ → Place → OpOf N T A → Option Refusal
+relink_reason x place t =
+    unless (has_id x t && has_id place.parent t) NoSuchOp
+    (unless (not (eqb (head t).id x)) IsRoot
+    (unless (has_place place t) NoSuchIndex
+    (unless (not (leads_inside place (find x t))) IntoItself None)))
+
+-- the nearest operation, from one with a head up, whose name passes a test, where `near` is the nearest around it
+abbrev pub near_table : {N T A : Type 0} → (N → Bool) → Option (Option ℕ) → Option (HeadOf N T A) → Option ℕ
+near_table is_table near h = option_and_then (λ h. if is_table h.name then Some h.id else option_and_then (λ z. z) near) h
+
+-- from operation x up
+abbrev pub table_at : {N T A : Type 0} → (N → Bool) → ℕ → OpOf N T A → Option ℕ
+table_at is_table x t = near_table is_table (table_of is_table x t) (option_map head (find x t))
+
+-- the lists of the blocks hold only slots that pass a test
+abbrev pub shapes_pass : List (List ℕ) → (ℕ → Bool) → List Shape → Bool
+shapes_pass lists p [] = true
+shapes_pass lists p (None ∷ xs) = shapes_pass lists p xs
+shapes_pass lists p (Some a ∷ xs) = list_all p (list_at lists a.1) && shapes_pass lists p xs
+
+-- whether the operation of slot k has fewer levels inside it than n
+abbrev pub slot_fits : List Row → List (List ℕ) → ℕ → ℕ → Bool
+slot_fits rows lists zero k = false
+slot_fits rows lists (suc n) k = (row_at rows k).live && shapes_pass lists (slot_fits rows lists n) (row_at rows k).shapes
+
+-- a list from a slot on
+abbrev pub from_slot : Option ℕ → List ℕ → List ℕ
+from_slot None ks = []
+from_slot (Some k) [] = []
+from_slot (Some k) (q ∷ ks) = if eqb q k then q ∷ ks else from_slot (Some k) ks
+
+-- how many operations stand around one that may be there
+abbrev pub level : Option ℕ → ℕ
+level None = 0
+level (Some n) = n
+
+-- to shift operation x to a place, where what is seen then isn't looked at: what is against moving it; another nearest
+-- table is around the place; too many operations would stand around one
+abbrev pub unseen_reason : {N T A : Type 0} → (N → Bool) → ℕ → Place → OpOf N T A → Option Refusal
+unseen_reason is_table x place t =
+    first_reason (relink_reason x place t)
+    (unless (same_table (table_of is_table x t) (table_of is_table x (shifted x place t))) OtherTable
+    (unless (fits_around (levels_in (find x t)) (around place.parent t)) TooDeepHere None))

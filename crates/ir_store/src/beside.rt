@@ -1,0 +1,106 @@
+//! What stands beside an operation of the module.
+ghost use Rattle.std.specs.Prelude.{◌≡◌, option_map};
+ghost use Rattle.std.specs.FinMap as finmap;
+ghost use Rattle.chains.specs.Lists.{home_at, list_at};
+ghost use Rattle.order.specs.Labels.{goes_before};
+ghost use Rattle.ir_tree_laws.specs.Reads.{first_at, last_at, prev_of, is_before};
+ghost use Rattle.ir_store.specs.Rows.{rows_of, live_slot};
+ghost use Rattle.ir_store.specs.Spots.{id_in};
+ghost use Rattle.ir_store.specs.Heading.{block_in, CanStand};
+
+use crate::find::{Keys, find};
+use crate::row::Row;
+use crate::spot::block_head;
+use crate::store::Store;
+use crate::uses::id_at;
+use ir_types::ids::OpId;
+use order::Ordered;
+
+impl Store {
+    /// The first operation of the block of a region, if there is one.
+    pub fn first(&self, op: OpId, region: u32) -> Option<OpId>
+        ensures { result ≡ first_at op region self.now.module_of.tree }
+    {
+        let Some(head) = find_block(&self.rows, &self.keys, op, region) else {
+            return None;
+        };
+        id_of(&self.rows, self.sibs.first(head))
+    }
+
+    /// The last operation of the block of a region, if there is one.
+    pub fn last(&self, op: OpId, region: u32) -> Option<OpId>
+        ensures { result ≡ last_at op region self.now.module_of.tree }
+    {
+        let Some(head) = find_block(&self.rows, &self.keys, op, region) else {
+            return None;
+        };
+        id_of(&self.rows, self.sibs.last(head))
+    }
+
+    /// The operation right before an operation in its block, if there is one.
+    pub fn prev(&self, op: OpId) -> Option<OpId>
+        ensures { result ≡ prev_of op self.now.module_of.tree }
+    {
+        self.sibs.laws();
+        let Some(key) = find(&self.rows, &self.keys, op) else {
+            return None;
+        };
+        if key == self.root {
+            return None;
+        }
+        id_of(&self.rows, self.sibs.prev(key))
+    }
+
+    /// Whether an operation stands before another in one block.
+    pub fn is_before(&self, op: OpId, other: OpId) -> bool
+        ensures { result ≡ is_before op other self.now.module_of.tree }
+    {
+        self.sibs.laws();
+        let Some(key) = find(&self.rows, &self.keys, op) else {
+            return false;
+        };
+        let Some(behind) = find(&self.rows, &self.keys, other) else {
+            return false;
+        };
+        goes_before(&self.sibs, key, behind)
+    }
+}
+
+/// The head of the list of the block of a region of an operation of the module, if it has one.
+fn find_block(rows: &Vec<Row>, keys: &Keys, op: OpId, region: u32) -> Option<usize>
+    ensures { result ≡ block_in (rows_of rows.now.items) (live_slot (rows_of rows.now.items) (finmap.get keys.now)) op region }
+{
+    let key = find(rows, keys, op)?;
+    let row = rows.get(key)?;
+    block_head(&row.areas, region as usize)
+}
+
+/// The operation in a slot, if one is given.
+fn id_of(rows: &Vec<Row>, key: Option<usize>) -> Option<OpId>
+    ensures { result ≡ option_map (id_in (rows_of rows.now.items)) key }
+{
+    match key {
+        None => None,
+        Some(key) => Some(id_at(rows, key)),
+    }
+}
+
+/// Whether a node stands before another in one list.
+fn goes_before(sibs: &Ordered, node: usize, behind: usize) -> bool
+    requires node { CanStand sibs.now.homes node }
+    requires behind { CanStand sibs.now.homes behind }
+    ensures { result ≡ goes_before node behind (list_at sibs.now.lists (home_at sibs.now.homes node)) }
+{
+    sibs.laws();
+    let Some(home) = sibs.home(node) else {
+        return false;
+    };
+    let Some(other) = sibs.home(behind) else {
+        return false;
+    };
+    if home == other {
+        sibs.is_before(node, behind)
+    } else {
+        false
+    }
+}

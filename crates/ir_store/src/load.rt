@@ -1,0 +1,167 @@
+//! A store is made of a tree, operation by operation.
+ghost use Rattle.std.specs.Prelude.{◌≡◌, ◌⊎◌, ◌<◌, ◌∷◌, [], IfOk, IfErr, OnOk, Some, map, true};
+ghost use Rattle.std.specs.List.{All, list_all};
+ghost use Rattle.std.specs.FinMap as finmap;
+ghost use Rattle.ir_tree.specs.Ids.{HasDistinctIds, ids, regions_ids, region_ids};
+ghost use Rattle.ir_tree.specs.Tree.{head, regions_of};
+ghost use Rattle.ir_tree.specs.View.{region_view};
+ghost use Rattle.ir_tree.specs.Places.{put};
+ghost use Rattle.ir_tree_laws.specs.Restores.{MayPut};
+ghost use Rattle.ir_tree_laws.specs.Values.{has_value};
+ghost use Rattle.ir_tree.specs.Meaning.{isolated_in, IsSoundIn};
+ghost use Rattle.ir_tree.specs.WellFormed.{IsFormed, IsWellFormed, fault};
+ghost use Rattle.ir_store.specs.Calls.{Loaded};
+ghost use Rattle.ir_store.specs.Emptied.{emptied};
+ghost use Rattle.ir_store.specs.Loads.{end_of, put_region, put_regions, MayRegion, MayRegions, Adds, AreBelow};
+
+use crate::store::Store;
+use ir_tree::check::check;
+use ir_tree::place::Place;
+use ir_tree::tree::{TreeOp, TreeRegion};
+use ir_tree::value::Value;
+use ir_types::context::Context;
+use ir_types::ids::OpId;
+use ir_types::refusal::Refusal;
+use std::alloc::{AllocError, Global};
+
+impl Store {
+    /// Whether the module has these values.
+    pub(crate) fn has_values(&self, values: &[Value]) -> bool
+        ensures { result ≡ list_all (λ v. has_value v self.now.module_of.tree) values.now }
+    {
+        let mut rest = values;
+        'values: while let [value, tail @ ..] = rest {
+            if self.value_type(value).is_none() {
+                return false;
+            }
+            rest = tail;
+        }
+        true
+    }
+}
+
+/// An operation at the end of a block, without what stands in its own blocks.
+fn load_head(store: &mut Store, owner: OpId, region: u32, op: &TreeOp) -> Result<(), AllocError>
+    requires may { MayPut (end_of owner region) (emptied op.now) store.old.module_of.tree }
+    requires held { store.old.held ≡ finmap.empty }
+    requires below { (head op.now).id < store.old.module_of.next }
+    ensures { OnOk result (Adds (put (end_of owner region) (emptied op.now) store.old.module_of.tree) ((head op.now).id ∷ []) store.old store.new) }
+{
+    if !store.has_values(&op.operands) {
+        return Err(AllocError);
+    }
+    store.grow(op.id, op)?;
+    let place = Place {
+        parent: owner,
+        region,
+        before: None,
+    };
+    store.restore(op.id, place, false);
+    Ok(())
+}
+
+/// An operation at the end of a block, with all that stands in it.
+#[cycle(load)]
+fn load_op(store: &mut Store, owner: OpId, region: u32, op: &TreeOp) -> Result<(), AllocError>
+    requires may { MayPut (end_of owner region) op.now store.old.module_of.tree }
+    requires held { store.old.held ≡ finmap.empty }
+    requires below { AreBelow store.old.module_of.next (ids op.now) }
+    ensures { OnOk result (Adds (put (end_of owner region) op.now store.old.module_of.tree) (ids op.now) store.old store.new) }
+{
+    load_head(store, owner, region, op)?;
+    load_regions(store, op.id, &op.regions)
+}
+
+/// What stands in the regions of an operation.
+#[cycle(load)]
+pub(crate) fn load_regions(
+    store: &mut Store,
+    owner: OpId,
+    regions: &Vec<TreeRegion>,
+) -> Result<(), AllocError>
+    requires may { MayRegions owner 0 (regions_of (map region_view regions.now.items)) store.old.module_of.tree }
+    requires held { store.old.held ≡ finmap.empty }
+    requires below { AreBelow store.old.module_of.next (regions_ids (regions_of (map region_view regions.now.items))) }
+    ensures { OnOk result (Adds (put_regions owner 0 (regions_of (map region_view regions.now.items)) store.old.module_of.tree) (regions_ids (regions_of (map region_view regions.now.items))) store.old store.new) }
+{
+    let mut number = 0;
+    for region in regions {
+        load_region(store, owner, number, region)?;
+        number = match number.checked_add(1) {
+            None => return Err(AllocError),
+            Some(number) => number,
+        };
+    }
+    Ok(())
+}
+
+/// What stands in the block of a region.
+#[cycle(load)]
+fn load_region(
+    store: &mut Store,
+    owner: OpId,
+    number: u32,
+    region: &TreeRegion,
+) -> Result<(), AllocError>
+    requires may { MayRegion owner number (region_view region.now) store.old.module_of.tree }
+    requires held { store.old.held ≡ finmap.empty }
+    requires below { AreBelow store.old.module_of.next (region_ids (region_view region.now)) }
+    ensures { OnOk result (Adds (put_region owner number (region_view region.now) store.old.module_of.tree) (region_ids (region_view region.now)) store.old store.new) }
+{
+    match region {
+        TreeRegion::Empty => Ok(()),
+        TreeRegion::Block { ops, .. } => {
+            for op in ops {
+                load_op(store, owner, number, op)?;
+            }
+            Ok(())
+        }
+    }
+}
+
+/// The store of a tree of which the root has no operands.
+fn spread(alloc: Global, tree: &TreeOp, next: u32) -> Result<Store, AllocError>
+    requires distinct { HasDistinctIds tree.now }
+    requires below { AreBelow next (ids tree.now) }
+    requires root { (head tree.now).operands ≡ [] }
+    ensures { IfOk result (λ s. Loaded tree.now next s) }
+{
+    let mut store = Store::seed(alloc, tree, next)?;
+    load_regions(&mut store, tree.id, &tree.regions)?;
+    Ok(store)
+}
+
+impl Store {
+    /// A module with a tree and a next free id, where every operand is visible and no limit is passed.
+    ///
+    /// Refusals: `UnknownValue`, `TooDeep`, `TooMany` in this order; `Memory`.
+    pub fn load(alloc: Global, ctx: &Context, tree: &TreeOp, next: u32) -> Result<Store, Refusal>
+        requires sound { IsSoundIn ctx.now tree.now }
+        requires distinct { HasDistinctIds tree.now }
+        requires below { All (λ x. x < next) (ids tree.now) }
+        ensures ok { IfOk result (λ s. Loaded tree.now next s) }
+        ensures formed { IfOk result (λ s. IsWellFormed (isolated_in ctx.now) s.module_of) }
+        ensures refused { IfErr result (λ e. (e ≡ Refusal.Memory) ⊎ (fault (isolated_in ctx.now) tree.now ≡ Some e)) }
+    {
+        match check(alloc, ctx, tree) {
+            Ok(()) => {}
+            Err(e) => return Err(e),
+        }
+        match spread(alloc, tree, next) {
+            Ok(store) => Ok(store),
+            Err(_) => Err(Refusal::Memory),
+        }
+    }
+
+    /// The same module of a tree that is handed over, and is known to be formed: it isn't checked again.
+    pub fn hold(alloc: Global, ctx: &Context, tree: TreeOp, next: u32) -> Result<Store, AllocError>
+        requires sound { IsSoundIn ctx.now tree }
+        requires distinct { HasDistinctIds tree }
+        requires below { All (λ x. x < next) (ids tree) }
+        requires formed { IsFormed (isolated_in ctx.now) tree }
+        ensures ok { IfOk result (λ s. Loaded tree next s) }
+        ensures formed { IfOk result (λ s. IsWellFormed (isolated_in ctx.now) s.module_of) }
+    {
+        spread(alloc, &tree, next)
+    }
+}

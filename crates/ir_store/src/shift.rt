@@ -1,0 +1,225 @@
+//! Operations, with what stands in them, moved to other places.
+ghost use Rattle.std.specs.Prelude.{◌≡◌, ◌-◌, eqb, length, MatchOption, Some, is_some, ◌&&◌, true, false};
+ghost use Rattle.std.specs.FinMap as finmap;
+ghost use Rattle.std.specs.Ordering.{nat_cmp};
+ghost use Rattle.ir_types.specs.Terms.{name_term};
+ghost use Rattle.ir_types.specs.Words.{is_table};
+ghost use Rattle.ir_tree.specs.Tree.{Op, head};
+ghost use Rattle.ir_tree.specs.Places.{shifted};
+ghost use Rattle.ir_tree_laws.specs.Tables.{table_of};
+ghost use Rattle.ir_tree.specs.Ids.{find as the_first, has_id};
+ghost use Rattle.ir_tree.specs.Limits.{most_around};
+ghost use Rattle.ir_tree_laws.specs.Reads.{around, is_within};
+ghost use Rattle.ir_tree_laws.specs.Reasons.{fits_around, has_place, leads_inside, levels_in, same_table};
+ghost use Rattle.ir_store.specs.Calls.{after_shift};
+ghost use Rattle.ir_store.specs.Rows.{rows_of, live_slot};
+ghost use Rattle.ir_store.specs.Spots.{spot_in};
+ghost use Rattle.ir_store.specs.Shifting.{CanRelink, level, relink_reason, table_at, unseen_reason};
+
+use crate::depth::op_fits;
+use crate::find::{Keys, find};
+use crate::row::Row;
+use crate::spot::{find_spot, link};
+use crate::store::Store;
+use crate::uses::id_at;
+use ir_tree::place::Place;
+use ir_types::context::Context;
+use ir_types::ids::OpId;
+use ir_types::refusal::Refusal;
+use order::Ordered;
+
+impl Store {
+    /// Moves an operation of the module, with what stands in it, to a place outside of it. Whether its table stays,
+    /// how deep it comes to stand and what is seen then isn't looked at.
+    pub(crate) fn relink(&mut self, op: OpId, place: Place)
+        requires { CanRelink op place self.old.module_of.tree }
+        ensures { self.new ≡ after_shift op place self.old }
+    {
+        self.sibs.laws();
+        let Some((key, head, before)) = find_move(&self.rows, &self.keys, &self.sibs, op, place)
+        else {
+            return;
+        };
+        self.sibs.remove(key);
+        self.sibs.laws();
+        link(&mut self.sibs, key, head, before);
+    }
+}
+
+impl Store {
+    /// Why an operation can't be moved to a place, where its table, how deep it comes to stand and what is seen then
+    /// aren't looked at.
+    fn move_fault(&self, op: OpId, place: &Place) -> Option<Refusal>
+        ensures { result ≡ relink_reason op place.now self.now.module_of.tree }
+    {
+        if !self.in_tree(op) || !self.in_tree(place.parent) {
+            return Some(Refusal::NoSuchOp);
+        }
+        if self.is_root(op) {
+            return Some(Refusal::IsRoot);
+        }
+        if !self.has_spot(place) {
+            return Some(Refusal::NoSuchIndex);
+        }
+        if self.leads_inside(op, place) {
+            return Some(Refusal::IntoItself);
+        }
+        None
+    }
+
+    /// Whether an operation is the root.
+    fn is_root(&self, op: OpId) -> bool
+        ensures { result ≡ eqb (head self.now.module_of.tree).id op }
+    {
+        id_at(&self.rows, self.root) == op
+    }
+
+    /// Whether a place is one of the module's.
+    fn has_spot(&self, place: &Place) -> bool
+        ensures { result ≡ has_place place.now self.now.module_of.tree }
+    {
+        self.sibs.laws();
+        find_spot(&self.rows, &self.keys, &self.sibs, *place).is_some()
+    }
+
+    /// Whether a place's parent, or the operation that comes next there, is an operation of the module or within it.
+    fn leads_inside(&self, op: OpId, place: &Place) -> bool
+        requires { has_id op self.now.module_of.tree ≡ true }
+        ensures { result ≡ leads_inside place.now (the_first op self.now.module_of.tree) }
+    {
+        if self.is_within(place.parent, op) {
+            return true;
+        }
+        match place.before {
+            None => false,
+            Some(before) => self.is_within(before, op),
+        }
+    }
+
+    /// Whether an operation is one of the module, or within it.
+    fn is_within(&self, inner: OpId, op: OpId) -> bool
+        requires { has_id op self.now.module_of.tree ≡ true }
+        ensures { result ≡ is_within inner (the_first op self.now.module_of.tree) }
+    {
+        self.distinct();
+        let mut at = inner;
+        'around: while at != op {
+            let Some(place) = self.place(at) else {
+                return false;
+            };
+            at = place.parent;
+        }
+        true
+    }
+}
+
+impl Store {
+    /// Why an operation can't be shifted to a place, where what is seen then isn't looked at.
+    pub(crate) fn unseen_fault(&self, ctx: &Context, op: OpId, place: &Place) -> Option<Refusal>
+        ensures { result ≡ unseen_reason (λ n. is_table (name_term ctx.now n)) op place.now self.now.module_of.tree }
+    {
+        match self.move_fault(op, place) {
+            Some(refusal) => return Some(refusal),
+            None => {}
+        }
+        if !self.keeps_table(ctx, op, place) {
+            return Some(Refusal::OtherTable);
+        }
+        if !self.fits_in(op, place.parent) {
+            return Some(Refusal::TooDeepHere);
+        }
+        None
+    }
+}
+
+impl Store {
+    /// Whether an operation that may be moved to a place has the same nearest table there.
+    fn keeps_table(&self, ctx: &Context, op: OpId, place: &Place) -> bool
+        requires { CanRelink op place.now self.now.module_of.tree }
+        ensures { result ≡ same_table (table_of (λ n. is_table (name_term ctx.now n)) op self.now.module_of.tree) (table_of (λ n. is_table (name_term ctx.now n)) op (shifted op place.now self.now.module_of.tree)) }
+    {
+        self.distinct();
+        let Some(old) = self.place(op) else {
+            return false;
+        };
+        self.table_from(ctx, old.parent) == self.table_from(ctx, place.parent)
+    }
+
+    /// The nearest table, from an operation of the module up.
+    fn table_from(&self, ctx: &Context, op: OpId) -> Option<OpId>
+        requires { has_id op self.now.module_of.tree ≡ true }
+        ensures { result ≡ table_at (λ n. is_table (name_term ctx.now n)) op self.now.module_of.tree }
+    {
+        self.distinct();
+        let mut at = op;
+        'around: while !self.is_table(ctx, at) {
+            let Some(place) = self.place(at) else {
+                return None;
+            };
+            at = place.parent;
+        }
+        Some(at)
+    }
+
+    /// Whether an operation of the module has a symbol table.
+    fn is_table(&self, ctx: &Context, op: OpId) -> bool
+        ensures { (o : Op) → the_first op self.now.module_of.tree ≡ Some o → result ≡ is_table (name_term ctx.now (head o).name) }
+    {
+        match self.node(op) {
+            None => false,
+            Some(node) => ctx.table(node.name()),
+        }
+    }
+}
+
+impl Store {
+    /// Whether an operation of the module, with what stands in it, would stand in no more others than may be where it
+    /// is moved into another.
+    fn fits_in(&self, op: OpId, parent: OpId) -> bool
+        requires op { has_id op self.now.module_of.tree ≡ true }
+        requires parent { has_id parent self.now.module_of.tree ≡ true }
+        ensures { result ≡ fits_around (levels_in (the_first op self.now.module_of.tree)) (around parent self.now.module_of.tree) }
+    {
+        self.sibs.laws();
+        self.distinct();
+        let Some(key) = find(&self.rows, &self.keys, op) else {
+            return false;
+        };
+        let room = self.room_in(parent);
+        op_fits(&self.rows, &self.sibs, key, room)
+    }
+
+    /// How many levels may come to stand in an operation of the module.
+    fn room_in(&self, op: OpId) -> u32
+        ensures { result ≡ most_around - level (around op self.now.module_of.tree) }
+    {
+        self.distinct();
+        let mut at = op;
+        let mut room = 128;
+        'around: while room > 0 {
+            let Some(place) = self.place(at) else {
+                return room;
+            };
+            at = place.parent;
+            room -= 1;
+        }
+        0
+    }
+}
+
+/// The slot of an operation of the module, and where it is put.
+fn find_move(
+    rows: &Vec<Row>,
+    keys: &Keys,
+    sibs: &Ordered,
+    op: OpId,
+    place: Place,
+) -> Option<(usize, usize, Option<usize>)>
+    requires { length rows.now.items ≡ length sibs.now.homes }
+    ensures { MatchOption result ((is_some (live_slot (rows_of rows.now.items) (finmap.get keys.now) op) && is_some (spot_in (rows_of rows.now.items) (finmap.get keys.now) sibs.now.homes place)) ≡ false)
+        (λ p. (Some p.0 ≡ live_slot (rows_of rows.now.items) (finmap.get keys.now) op) × (Some (p.1, p.2) ≡ spot_in (rows_of rows.now.items) (finmap.get keys.now) sibs.now.homes place)) }
+{
+    let key = find(rows, keys, op)?;
+    let (head, before) = find_spot(rows, keys, sibs, place)?;
+    Some((key, head, before))
+}
