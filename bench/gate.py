@@ -7,7 +7,7 @@ usage: bench/gate.py [LOG]     runs `rt ci` at the top of the repository and kee
        bench/gate.py --table LOG.times     prints the table of an earlier run again
 
 The gate prints no times of its own, so its processes are looked at twice a second, and each is counted with what it had used
-when it was last seen. Nothing else of the kit should run meanwhile.
+when it was last seen. Only those that it started are counted, but others beside it make it slower.
 """
 import collections
 import json
@@ -31,9 +31,29 @@ def kind_of(words, folder):
     return "build" if "--crate-checked" in words else "itself"
 
 
-def look(seen):
-    """Notes what each process of the checker has used so far."""
+def parents():
+    """Returns the parent of each process."""
+    found = {}
     for pid in filter(str.isdigit, os.listdir("/proc")):
+        try:
+            with open(f"/proc/{pid}/stat") as it:
+                found[int(pid)] = int(it.read().rpartition(")")[2].split()[1])
+        except OSError:
+            continue
+    return found
+
+
+def started_by(process, pid, above):
+    """Says whether a process was started by another, or by one that it started."""
+    while pid > 1 and pid != process:
+        pid = above.get(pid, 0)
+    return pid == process
+
+
+def look(seen, gate):
+    """Notes what each process of the checker that the gate started has used so far."""
+    above = parents()
+    for pid in (str(it) for it in above if started_by(gate, it, above)):
         try:
             with open(f"/proc/{pid}/cmdline", "rb") as it:
                 words = it.read().decode(errors="replace").split("\0")
@@ -85,7 +105,7 @@ def main():
     with open(log, "w") as out:
         gate = subprocess.Popen(["rt", "ci"], stdout=out, stderr=subprocess.STDOUT)
         while gate.poll() is None:
-            look(seen)
+            look(seen, gate.pid)
             time.sleep(0.5)
     used = resource.getrusage(resource.RUSAGE_CHILDREN)
     times = {"wall": time.time() - began, "processor": used.ru_utime + used.ru_stime, "seen": seen}
