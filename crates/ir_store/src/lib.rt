@@ -21,3 +21,4 @@ mod spot;
 mod stand;
 pub mod store;
 mod uses;
+mod walk;
