@@ -41,6 +41,16 @@ impl Chains {
         }
     }
 
+    /// No nodes. The first `count` ones come without moving the others, but not without a refusal.
+    pub fn with_capacity(alloc: Global, count: usize) -> Result<Chains, AllocError>
+        ensures { IfOk result (λ c. c ≡ record { lists = []; homes = []; room = 0 }) }
+    {
+        Ok(Chains {
+            links: Vec::with_capacity(alloc, count)?,
+            room: 0,
+        })
+    }
+
     /// Takes a node out of its list. It is free then.
     pub fn remove(&mut self, node: usize)
         requires { IsItem self.old.homes node }

@@ -44,6 +44,17 @@ impl IdTable {
         })
     }
 
+    /// No ids. The first `count` ones, where they are 0, 1 and so on, come without moving the others.
+    pub fn with_capacity(alloc: Global, count: usize) -> Result<IdTable, AllocError>
+        ensures { IfOk result (λ t. t ≡ map.empty) }
+    {
+        let near = Vec::with_capacity(alloc, count)?;
+        Ok(IdTable {
+            near,
+            far: BTreeMap::new(alloc),
+        })
+    }
+
     /// The slot of an id, if it has one.
     pub fn get(&self, id: u32) -> Option<usize>
         ensures { result ≡ map.get self.now id }
