@@ -15,6 +15,7 @@ pub mod node;
 mod preorder;
 mod put;
 mod release;
+mod room;
 pub mod row;
 mod shift;
 mod sight;

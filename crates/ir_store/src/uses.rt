@@ -290,7 +290,7 @@ pub(crate) fn use_in(rows: &Vec<Row>, cells: &Vec<Cell>, node: usize) -> (OpId, 
 {
     match cells.get(node) {
         None => (id_at(rows, 0), 0),
-        Some(cell) => (id_at(rows, cell.row), cell.place),
+        Some(cell) => (id_at(rows, cell.row as usize), cell.place as usize),
     }
 }
 

@@ -12,12 +12,12 @@ use Rattle.ir_store.specs.Grows.{parts_of, Wider, Grown}
 use Rattle.ir_store.proofs.Called.{other_row, own_row}
 use Rattle.ir_store.proofs.Growing.{key_put}
 use Rattle.ir_store.proofs.Seed.{nothing, emptied_operands, seed, seed_spells, seed_holds, seed_gone, seed_fits, seed_is}
-use Rattle.ir_store.proofs.store.Store.seed.Goals as goal
+use Rattle.ir_store.proofs.store.Store.seed_in.Goals as goal
 
 pub put_row-requires : goal.put_row-requires
 put_row-requires c =
     let q = parts_of c.grow_slot.new.rows.items c.grow_slot.new.sibs c.grow_slot.new.uses c.grow_slot.new.cells.items in
-    let from : parts_of c.new-rows.result.items c.new-sibs.result c.new-uses.result c.new-cells.result.items ≡ nothing = λ i. record { rows = rows_of (c.new-rows.ensures.items i); sibs = c.new-sibs.ensures i; homes = (c.new-uses.ensures i).homes; cells = cells_of (c.new-cells.ensures.items i) } in
+    let from : parts_of c.args.rows.items c.args.sibs c.args.uses c.args.cells.items ≡ nothing = λ i. record { rows = rows_of (c.requires.rows i); sibs = c.requires.sibs i; homes = (c.requires.uses i).homes; cells = cells_of (c.requires.cells i) } in
     let wide : Wider nothing q = subst (λ z. Wider z q) from c.in-Ok.ensures.wider in
     let grown : Grown nothing q c.header.inside.id c.args.header.now c.in-Ok.grown.0 (row_of c.in-Ok.grown.1) = subst (λ z. Grown z q c.header.inside.id c.args.header.now c.in-Ok.grown.0 (row_of c.in-Ok.grown.1)) from c.in-Ok.ensures.grown in
     let ready = grown.ready (λ y. None) refl in
@@ -26,7 +26,7 @@ put_row-requires c =
 pub invariant_of-result : goal.invariant_of-result
 invariant_of-result c =
     let q = parts_of c.grow_slot.new.rows.items c.grow_slot.new.sibs c.grow_slot.new.uses c.grow_slot.new.cells.items in
-    let from : parts_of c.new-rows.result.items c.new-sibs.result c.new-uses.result c.new-cells.result.items ≡ nothing = λ i. record { rows = rows_of (c.new-rows.ensures.items i); sibs = c.new-sibs.ensures i; homes = (c.new-uses.ensures i).homes; cells = cells_of (c.new-cells.ensures.items i) } in
+    let from : parts_of c.args.rows.items c.args.sibs c.args.uses c.args.cells.items ≡ nothing = λ i. record { rows = rows_of (c.requires.rows i); sibs = c.requires.sibs i; homes = (c.requires.uses i).homes; cells = cells_of (c.requires.cells i) } in
     let wide : Wider nothing q = subst (λ z. Wider z q) from c.in-Ok.ensures.wider in
     let grown : Grown nothing q c.header.inside.id c.args.header.now c.in-Ok.grown.0 (row_of c.in-Ok.grown.1) = subst (λ z. Grown z q c.header.inside.id c.args.header.now c.in-Ok.grown.0 (row_of c.in-Ok.grown.1)) from c.in-Ok.ensures.grown in
     let ready = grown.ready (λ y. None) refl in
@@ -34,7 +34,7 @@ invariant_of-result c =
     let k = c.in-Ok.grown.0 in
     let v = row_of c.in-Ok.grown.1 in
     let keys = finmap.get c.insert.new.self in
-    let ek : (y : ℕ) → keys y ≡ cond (eqb x y) (Some k) None = λ y. key_put c.in-Ok-new.keys c.insert.new.self x c.number.result k c.number.ensures c.in-Ok-insert.ensures.inserted y ∙ ap (cond (eqb x y) (Some k)) (ap (λ m. finmap.get m y) c.in-Ok-new.ensures ∙ finmap.get-empty nat_cmp y) in
+    let ek : (y : ℕ) → keys y ≡ cond (eqb x y) (Some k) None = λ y. key_put c.args.keys c.insert.new.self x c.number.result k c.number.ensures c.in-Ok-insert.ensures.inserted y ∙ ap (cond (eqb x y) (Some k)) (ap (λ m. finmap.get m y) c.requires.keys ∙ finmap.get-empty nat_cmp y) in
     let rows' = rows_of c.put_row.new.rows.items in
     let er = ap rows_of c.put_row.ensures in
     let long' = ap length er ∙ length-map (slice_set c.grow_slot.new.rows.items k c.live_row.result) row_of ∙ length-set c.grow_slot.new.rows.items k c.live_row.result ∙ sym (length-map c.grow_slot.new.rows.items row_of) in
@@ -48,7 +48,7 @@ invariant_of-result c =
 pub invariant_of-result-2 : goal.invariant_of-result-2
 invariant_of-result-2 c =
     let q = parts_of c.grow_slot.new.rows.items c.grow_slot.new.sibs c.grow_slot.new.uses c.grow_slot.new.cells.items in
-    let from : parts_of c.new-rows.result.items c.new-sibs.result c.new-uses.result c.new-cells.result.items ≡ nothing = λ i. record { rows = rows_of (c.new-rows.ensures.items i); sibs = c.new-sibs.ensures i; homes = (c.new-uses.ensures i).homes; cells = cells_of (c.new-cells.ensures.items i) } in
+    let from : parts_of c.args.rows.items c.args.sibs c.args.uses c.args.cells.items ≡ nothing = λ i. record { rows = rows_of (c.requires.rows i); sibs = c.requires.sibs i; homes = (c.requires.uses i).homes; cells = cells_of (c.requires.cells i) } in
     let wide : Wider nothing q = subst (λ z. Wider z q) from c.in-Ok.ensures.wider in
     let grown : Grown nothing q c.header.inside.id c.args.header.now c.in-Ok.grown.0 (row_of c.in-Ok.grown.1) = subst (λ z. Grown z q c.header.inside.id c.args.header.now c.in-Ok.grown.0 (row_of c.in-Ok.grown.1)) from c.in-Ok.ensures.grown in
     let ready = grown.ready (λ y. None) refl in
@@ -56,7 +56,7 @@ invariant_of-result-2 c =
     let k = c.in-Ok.grown.0 in
     let v = row_of c.in-Ok.grown.1 in
     let keys = finmap.get c.insert.new.self in
-    let ek : (y : ℕ) → keys y ≡ cond (eqb x y) (Some k) None = λ y. key_put c.in-Ok-new.keys c.insert.new.self x c.number.result k c.number.ensures c.in-Ok-insert.ensures.inserted y ∙ ap (cond (eqb x y) (Some k)) (ap (λ m. finmap.get m y) c.in-Ok-new.ensures ∙ finmap.get-empty nat_cmp y) in
+    let ek : (y : ℕ) → keys y ≡ cond (eqb x y) (Some k) None = λ y. key_put c.args.keys c.insert.new.self x c.number.result k c.number.ensures c.in-Ok-insert.ensures.inserted y ∙ ap (cond (eqb x y) (Some k)) (ap (λ m. finmap.get m y) c.requires.keys ∙ finmap.get-empty nat_cmp y) in
     let rows' = rows_of c.put_row.new.rows.items in
     let er = ap rows_of c.put_row.ensures in
     let long' = ap length er ∙ length-map (slice_set c.grow_slot.new.rows.items k c.live_row.result) row_of ∙ length-set c.grow_slot.new.rows.items k c.live_row.result ∙ sym (length-map c.grow_slot.new.rows.items row_of) in
@@ -71,7 +71,7 @@ invariant_of-result-2 c =
 pub returns : goal.returns
 returns c =
     let q = parts_of c.grow_slot.new.rows.items c.grow_slot.new.sibs c.grow_slot.new.uses c.grow_slot.new.cells.items in
-    let from : parts_of c.new-rows.result.items c.new-sibs.result c.new-uses.result c.new-cells.result.items ≡ nothing = λ i. record { rows = rows_of (c.new-rows.ensures.items i); sibs = c.new-sibs.ensures i; homes = (c.new-uses.ensures i).homes; cells = cells_of (c.new-cells.ensures.items i) } in
+    let from : parts_of c.args.rows.items c.args.sibs c.args.uses c.args.cells.items ≡ nothing = λ i. record { rows = rows_of (c.requires.rows i); sibs = c.requires.sibs i; homes = (c.requires.uses i).homes; cells = cells_of (c.requires.cells i) } in
     let wide : Wider nothing q = subst (λ z. Wider z q) from c.in-Ok.ensures.wider in
     let grown : Grown nothing q c.header.inside.id c.args.header.now c.in-Ok.grown.0 (row_of c.in-Ok.grown.1) = subst (λ z. Grown z q c.header.inside.id c.args.header.now c.in-Ok.grown.0 (row_of c.in-Ok.grown.1)) from c.in-Ok.ensures.grown in
     let ready = grown.ready (λ y. None) refl in
@@ -79,7 +79,7 @@ returns c =
     let k = c.in-Ok.grown.0 in
     let v = row_of c.in-Ok.grown.1 in
     let keys = finmap.get c.insert.new.self in
-    let ek : (y : ℕ) → keys y ≡ cond (eqb x y) (Some k) None = λ y. key_put c.in-Ok-new.keys c.insert.new.self x c.number.result k c.number.ensures c.in-Ok-insert.ensures.inserted y ∙ ap (cond (eqb x y) (Some k)) (ap (λ m. finmap.get m y) c.in-Ok-new.ensures ∙ finmap.get-empty nat_cmp y) in
+    let ek : (y : ℕ) → keys y ≡ cond (eqb x y) (Some k) None = λ y. key_put c.args.keys c.insert.new.self x c.number.result k c.number.ensures c.in-Ok-insert.ensures.inserted y ∙ ap (cond (eqb x y) (Some k)) (ap (λ m. finmap.get m y) c.requires.keys ∙ finmap.get-empty nat_cmp y) in
     let rows' = rows_of c.put_row.new.rows.items in
     let er = ap rows_of c.put_row.ensures in
     let long' = ap length er ∙ length-map (slice_set c.grow_slot.new.rows.items k c.live_row.result) row_of ∙ length-set c.grow_slot.new.rows.items k c.live_row.result ∙ sym (length-map c.grow_slot.new.rows.items row_of) in
@@ -96,7 +96,7 @@ returns c =
 pub insert-requires : goal.insert-requires
 insert-requires c =
     let q = parts_of c.grow_slot.new.rows.items c.grow_slot.new.sibs c.grow_slot.new.uses c.grow_slot.new.cells.items in
-    let from : parts_of c.new-rows.result.items c.new-sibs.result c.new-uses.result c.new-cells.result.items ≡ nothing = λ i. record { rows = rows_of (c.new-rows.ensures.items i); sibs = c.new-sibs.ensures i; homes = (c.new-uses.ensures i).homes; cells = cells_of (c.new-cells.ensures.items i) } in
+    let from : parts_of c.args.rows.items c.args.sibs c.args.uses c.args.cells.items ≡ nothing = λ i. record { rows = rows_of (c.requires.rows i); sibs = c.requires.sibs i; homes = (c.requires.uses i).homes; cells = cells_of (c.requires.cells i) } in
     let wide : Wider nothing q = subst (λ z. Wider z q) from c.in-Ok.ensures.wider in
     let grown : Grown nothing q c.header.inside.id c.args.header.now c.in-Ok.grown.0 (row_of c.in-Ok.grown.1) = subst (λ z. Grown z q c.header.inside.id c.args.header.now c.in-Ok.grown.0 (row_of c.in-Ok.grown.1)) from c.in-Ok.ensures.grown in
     let ready = grown.ready (λ y. None) refl in
