@@ -1,0 +1,4 @@
+pub mod Maps
+pub mod Gone
+pub mod Putting
+pub mod Taking

@@ -1,0 +1,21 @@
+-- The steps of the edits of a world.
+use Rattle.std.specs.Prelude.{◌≡◌, ℕ, Option, true, false}
+use Rattle.ir_types.specs.Things.{Things}
+use Rattle.ir_tree.specs.declared.place.Place.{Place}
+use Rattle.ir_tree.specs.declared.place.Part.{Part}
+use Rattle.ir_event.specs.declared.event.Event.{Event}
+use Rattle.ir_event.specs.declared.event.Event.TheVariants.{Put, Take, SetEntry}
+use Rattle.ir_event.specs.Modules.{Module}
+use Rattle.ir_event.specs.Step.{Step}
+
+-- the event puts an operation at a place, under the next free id, and leads from one module to the other
+abbrev pub IsPutStep : Place → Event → Things → Module → Module → Type 0
+IsPutStep place e c m n = (e ≡ Put m.next place true) × Step c e m n
+
+-- the event takes operation x, and leads from one module to the other
+abbrev pub IsTakeStep : ℕ → Event → Things → Module → Module → Type 0
+IsTakeStep x e c m n = (place : Place) × (e ≡ Take x place false) × Step c e m n
+
+-- the event sets key k of one dictionary of operation x, and leads from one module to the other
+abbrev pub IsEntryStep : ℕ → Part → ℕ → Option ℕ → Event → Things → Module → Module → Type 0
+IsEntryStep x part k a e c m n = (old : Option ℕ) × (e ≡ SetEntry x part k old a) × Step c e m n

@@ -1,0 +1,96 @@
+//! Operations are put and taken, operands and entries are set, each with its event.
+ghost use Rattle.std.specs.Prelude.{◌≡◌, Some, None, true, IfOk, OnOk, OnErr, IfSome, MatchResult, Err};
+ghost use Rattle.std.specs.FinMap as finmap;
+ghost use Rattle.ir_types.specs.Reasons.{IsRefusedFor};
+ghost use Rattle.ir_types.specs.Things.{IsName, IsAttr};
+ghost use Rattle.ir_tree.specs.Meaning.{IsSoundIn, isolated_in, key_before_in};
+ghost use Rattle.ir_tree.specs.WellFormed.{IsWellFormed};
+ghost use Rattle.ir_tree_laws.specs.Changes.{entry_in};
+ghost use Rattle.ir_tree_laws.specs.Reasons.{holds_none, put_reason, set_entry_reason, set_operand_reason, take_reason};
+ghost use Rattle.ir_store.specs.Calls.{after_entry, after_operand, after_put, after_take};
+ghost use Rattle.ir_event.specs.declared.event.Event.TheVariants.{Put};
+ghost use Rattle.ir_event.specs.Modules.{things_in, module_in, shown_in};
+ghost use Rattle.ir_event.specs.Listener.{ShowsTaken};
+ghost use Rattle.ir_event.specs.Step.{IsOperandStep, Step};
+ghost use Rattle.world_edits.specs.Edits.{IsEntryStep, IsPutStep, IsTakeStep};
+
+use ir_event::event::Event;
+use ir_event::world::World;
+use ir_store::store::Store;
+use ir_tree::place::Place;
+use ir_tree::tree::TreeOp;
+use ir_types::context::Context;
+use ir_types::ids::OpId;
+use ir_types::refusal::Refusal;
+
+/// Puts an operation at a place of the module, and gives the event: one like a header, whose blocks hold none and
+/// whose id isn't looked at. Its id is the next free one.
+///
+/// Refusals: `NoSuchOp` where the place's parent isn't in the module; `NoSuchIndex` where that has no such place;
+/// `Full`; `IdsExhausted`; `TooDeepHere`; `NoSuchValue`; `NotVisible` where it wouldn't see an operand; in this
+/// order; and `Memory`.
+pub fn put(world: &mut World, place: Place, header: &TreeOp) -> Result<Event, Refusal>
+    requires sound { IsSoundIn world.old.ctx header.now }
+    requires bare { holds_none (Some header.now) ≡ true }
+    requires unheld { finmap.get world.old.store.held world.old.store.module_of.next ≡ None }
+    ensures step { IfOk result (λ e. IsPutStep place e (things_in world.old) (module_in world.old) (module_in world.new)) }
+    ensures store { OnOk result (world.new.store ≡ after_put place header.now world.old.store) }
+    ensures ctx { world.new.ctx ≡ world.old.ctx }
+    ensures refused { MatchResult result (λ _. put_reason (isolated_in world.old.ctx) place header.now world.old.store.module_of.next world.old.store.module_of.tree ≡ None)
+        (λ e. IsRefusedFor {A = Unit {0}} (put_reason (isolated_in world.old.ctx) place header.now world.old.store.module_of.next world.old.store.module_of.tree) (Err e)) }
+    ensures err { OnErr result (world.new.store ≡ world.old.store) }
+{
+    put_in(&world.ctx, &mut world.store, &place, header)
+}
+
+/// Puts an operation at a place of a store's module.
+fn put_in(
+    ctx: &Context,
+    store: &mut Store,
+    place: &Place,
+    header: &TreeOp,
+) -> Result<Event, Refusal>
+    requires sound { IsSoundIn ctx.now header.now }
+    requires bare { holds_none (Some header.now) ≡ true }
+    requires unheld { finmap.get store.old.held store.old.module_of.next ≡ None }
+    ensures ok { IfOk result (λ e. (e ≡ Put store.old.module_of.next place.now true) × (store.new ≡ after_put place.now header.now store.old)) }
+    ensures refused { MatchResult result (λ _. put_reason (isolated_in ctx.now) place.now header.now store.old.module_of.next store.old.module_of.tree ≡ None)
+        (λ e. IsRefusedFor {A = Unit {0}} (put_reason (isolated_in ctx.now) place.now header.now store.old.module_of.next store.old.module_of.tree) (Err e)) }
+    ensures formed { IsWellFormed (isolated_in ctx.now) store.old.module_of → IsWellFormed (isolated_in ctx.now) store.new.module_of }
+    ensures err { OnErr result (store.new ≡ store.old) }
+{
+    match store.put(ctx, *place, header) {
+        Ok(op) => Ok(Event::Put {
+            op,
+            place: *place,
+            fresh: true,
+        }),
+        Err(refusal) => Err(refusal),
+    }
+}
+
+/// Takes an operation out of the module, and gives the event. It is held then, and shown as it was.
+///
+/// Refusals, in order: `NoSuchOp`; `IsRoot`; `NotEmpty`; `HasUses`.
+pub fn take(world: &mut World, op: OpId) -> Result<Event, Refusal>
+    ensures step { IfOk result (λ e. IsTakeStep op e (things_in world.old) (module_in world.old) (module_in world.new)) }
+    ensures shown { IfOk result (λ e. ShowsTaken e (module_in world.old) (shown_in world.new)) }
+    ensures store { OnOk result (world.new.store ≡ after_take op world.old.store) }
+    ensures ctx { world.new.ctx ≡ world.old.ctx }
+    ensures refused { MatchResult result (λ _. take_reason op world.old.store.module_of.tree ≡ None) (λ e. take_reason op world.old.store.module_of.tree ≡ Some e) }
+    ensures err { OnErr result (world.new.store ≡ world.old.store) }
+{
+    let place = world.store.place(op);
+    match world.store.take(op) {
+        Ok(()) => {}
+        Err(refusal) => return Err(refusal),
+    }
+    let Some(place) = place else {
+        return Err(Refusal::NoSuchOp);
+    };
+    Ok(Event::Take {
+        op,
+        place,
+        fresh: false,
+    })
+}

@@ -1,0 +1,4 @@
+//! Edits of a world, each with its event, and the undoing of an event.
+#![tactic(auto)]
+
+pub mod edits;
