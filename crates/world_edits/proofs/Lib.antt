@@ -2,3 +2,4 @@ pub mod Maps
 pub mod Gone
 pub mod Putting
 pub mod Taking
+pub mod Entering

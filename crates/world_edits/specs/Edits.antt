@@ -1,8 +1,10 @@
 -- The steps of the edits of a world.
-use Rattle.std.specs.Prelude.{◌≡◌, ℕ, Option, true, false}
+use Rattle.std.specs.Prelude.{◌≡◌, ℕ, Bool, Option, Some, true, false}
 use Rattle.ir_types.specs.Things.{Things}
 use Rattle.ir_tree.specs.declared.place.Place.{Place}
 use Rattle.ir_tree.specs.declared.place.Part.{Part}
+use Rattle.ir_tree.specs.Tree.{Op}
+use Rattle.ir_tree_laws.specs.Changes.{entry_in}
 use Rattle.ir_event.specs.declared.event.Event.{Event}
 use Rattle.ir_event.specs.declared.event.Event.TheVariants.{Put, Take, SetEntry}
 use Rattle.ir_event.specs.Modules.{Module}
@@ -15,6 +17,10 @@ IsPutStep place e c m n = (e ≡ Put m.next place true) × Step c e m n
 -- the event takes operation x, and leads from one module to the other
 abbrev pub IsTakeStep : ℕ → Event → Things → Module → Module → Type 0
 IsTakeStep x e c m n = (place : Place) × (e ≡ Take x place false) × Step c e m n
+
+-- the event says that a dictionary's entry of a tree was one attribute, or none, and is now another
+abbrev pub IsEntryEvent : (ℕ → ℕ → Bool) → ℕ → Part → ℕ → Option ℕ → Op → Event → Type 0
+IsEntryEvent before x part k a t e = (old : Option ℕ) × (e ≡ SetEntry x part k old a) × (entry_in before x part k t ≡ Some old)
 
 -- the event sets key k of one dictionary of operation x, and leads from one module to the other
 abbrev pub IsEntryStep : ℕ → Part → ℕ → Option ℕ → Event → Things → Module → Module → Type 0

@@ -3,6 +3,7 @@ ghost use Rattle.std.specs.Prelude.{◌≡◌, Some, None, true, IfOk, OnOk, OnE
 ghost use Rattle.std.specs.FinMap as finmap;
 ghost use Rattle.ir_types.specs.Reasons.{IsRefusedFor};
 ghost use Rattle.ir_types.specs.Things.{IsName, IsAttr};
+ghost use Rattle.ir_tree.specs.Edits.{entry_at};
 ghost use Rattle.ir_tree.specs.Meaning.{IsSoundIn, isolated_in, key_before_in};
 ghost use Rattle.ir_tree.specs.WellFormed.{IsWellFormed};
 ghost use Rattle.ir_tree_laws.specs.Changes.{entry_in};
@@ -12,15 +13,16 @@ ghost use Rattle.ir_event.specs.declared.event.Event.TheVariants.{Put};
 ghost use Rattle.ir_event.specs.Modules.{things_in, module_in, shown_in};
 ghost use Rattle.ir_event.specs.Listener.{ShowsTaken};
 ghost use Rattle.ir_event.specs.Step.{IsOperandStep, Step};
-ghost use Rattle.world_edits.specs.Edits.{IsEntryStep, IsPutStep, IsTakeStep};
+ghost use Rattle.world_edits.specs.Edits.{IsEntryEvent, IsEntryStep, IsPutStep, IsTakeStep};
 
 use ir_event::event::Event;
 use ir_event::world::World;
 use ir_store::store::Store;
-use ir_tree::place::Place;
+use ir_tree::place::{Part, Place};
+use ir_tree::sound::comes_before;
 use ir_tree::tree::TreeOp;
 use ir_types::context::Context;
-use ir_types::ids::OpId;
+use ir_types::ids::{AttrId, NameId, OpId};
 use ir_types::refusal::Refusal;
 
 /// Puts an operation at a place of the module, and gives the event: one like a header, whose blocks hold none and
@@ -93,4 +95,98 @@ pub fn take(world: &mut World, op: OpId) -> Result<Event, Refusal>
         place,
         fresh: false,
     })
+}
+
+/// Sets a key of one dictionary of an operation to an attribute, or takes it out, and gives the event. It wants memory
+/// only where the key has no slot.
+///
+/// Refusals, in order: `NoSuchOp`; `NoSuchKey` where there is no entry to be taken out; `Full` where the dictionary has
+/// no room for one more; and `Memory`.
+pub fn set_entry(
+    world: &mut World,
+    op: OpId,
+    part: Part,
+    key: NameId,
+    value: Option<AttrId>,
+) -> Result<Event, Refusal>
+    requires key { IsName world.old.ctx key }
+    requires value { IfSome value (λ a. IsAttr world.old.ctx a) }
+    ensures step { IfOk result (λ e. IsEntryStep op part key value e (things_in world.old) (module_in world.old) (module_in world.new)) }
+    ensures store { OnOk result (world.new.store ≡ after_entry (key_before_in world.old.ctx) op part key value world.old.store) }
+    ensures ctx { world.new.ctx ≡ world.old.ctx }
+    ensures refused { MatchResult result (λ _. set_entry_reason (key_before_in world.old.ctx) op part key value world.old.store.module_of.tree ≡ None)
+        (λ e. IsRefusedFor {A = Unit {0}} (set_entry_reason (key_before_in world.old.ctx) op part key value world.old.store.module_of.tree) (Err e)) }
+    ensures err { OnErr result (world.new.store ≡ world.old.store) }
+{
+    enter_in(&world.ctx, &mut world.store, op, &part, key, &value)
+}
+
+/// Sets an entry of a store's module.
+fn enter_in(
+    ctx: &Context,
+    store: &mut Store,
+    op: OpId,
+    part: &Part,
+    key: NameId,
+    value: &Option<AttrId>,
+) -> Result<Event, Refusal>
+    requires key { IsName ctx.now key }
+    requires value { IfSome value.now (λ a. IsAttr ctx.now a) }
+    requires sound { IsSoundIn ctx.now store.old.module_of.tree }
+    ensures event { IfOk result (λ e. IsEntryEvent (key_before_in ctx.now) op part.now key value.now store.old.module_of.tree e) }
+    ensures store { OnOk result (store.new ≡ after_entry (key_before_in ctx.now) op part.now key value.now store.old) }
+    ensures refused { MatchResult result (λ _. set_entry_reason (key_before_in ctx.now) op part.now key value.now store.old.module_of.tree ≡ None)
+        (λ e. IsRefusedFor {A = Unit {0}} (set_entry_reason (key_before_in ctx.now) op part.now key value.now store.old.module_of.tree) (Err e)) }
+    ensures sound { IsSoundIn ctx.now store.new.module_of.tree }
+    ensures formed { IsWellFormed (isolated_in ctx.now) store.old.module_of → IsWellFormed (isolated_in ctx.now) store.new.module_of }
+    ensures err { OnErr result (store.new ≡ store.old) }
+{
+    let Some(old) = entry_of(ctx, store, op, *part, key) else {
+        return Err(Refusal::NoSuchOp);
+    };
+    match store.set_entry(ctx, op, *part, key, *value) {
+        Ok(()) => {}
+        Err(refusal) => return Err(refusal),
+    }
+    Ok(Event::SetEntry {
+        op,
+        part: *part,
+        key,
+        old,
+        new: *value,
+    })
+}
+
+/// The attribute at a key among entries, if there is one.
+fn entry_among(ctx: &Context, entries: &[(NameId, AttrId)], key: NameId) -> Option<AttrId>
+    ensures { result ≡ entry_at (key_before_in ctx.now) key entries.now }
+{
+    let mut rest = entries;
+    while let [entry, tail @ ..] = rest {
+        if !comes_before(ctx, key, entry.0) && !comes_before(ctx, entry.0, key) {
+            return Some(entry.1);
+        }
+        rest = tail;
+    }
+    None
+}
+
+/// What one dictionary of an operation has at a key, or none where the operation isn't in the module.
+fn entry_of(
+    ctx: &Context,
+    store: &Store,
+    op: OpId,
+    part: Part,
+    key: NameId,
+) -> Option<Option<AttrId>>
+    ensures { result ≡ entry_in (key_before_in ctx.now) op part key store.now.module_of.tree }
+{
+    if !store.in_tree(op) {
+        return None;
+    }
+    let node = store.node(op)?;
+    match part {
+        Part::Props => Some(entry_among(ctx, node.properties(), key)),
+        Part::Attrs => Some(entry_among(ctx, node.attributes(), key)),
+    }
 }
