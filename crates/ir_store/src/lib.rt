@@ -10,6 +10,7 @@ mod entry;
 mod find;
 mod grow;
 mod load;
+mod marks;
 pub mod node;
 mod preorder;
 mod put;
