@@ -1,4 +1,4 @@
-ghost use Rattle.std.specs.Prelude.{◌≡◌, [], ◌||◌, true, length, IfOk, OnOk, OnErr, IsOk, Some, None, is_some};
+ghost use Rattle.std.specs.Prelude.{◌≡◌, [], ◌||◌, true, length, nat_lt, IfOk, OnOk, OnErr, IsOk, Some, None, is_some};
 ghost use Rattle.ir_tree.specs.Edits.{entry_at};
 ghost use Rattle.ir_tree.specs.Meaning.{key_before_in, rises};
 ghost use Rattle.entries.specs.Slots.{has_key, is_gone, has_slot, with_change};
@@ -143,6 +143,13 @@ impl Dictionary {
                 Err(_) => unreachable!(),
             },
         }
+    }
+
+    /// Whether a key was taken out whose slot still stands.
+    pub fn has_gone(&self) -> bool
+        ensures { result ≡ nat_lt 0 (length self.now.gone) }
+    {
+        self.len < self.items.len()
     }
 
     /// Gives up the slots of the keys that are gone.

@@ -29,6 +29,8 @@ use Rattle.ir_store.specs.Calls.{after_entry, change_gone_of}
 use Rattle.ir_store.specs.Rows.{Row, row_at, row_of, rows_of, node_row, live_slot, held_in, gone_in}
 use Rattle.ir_store.specs.Spells.{SpellsOp, Spelled, spelled_is}
 use Rattle.ir_store.specs.Holds.{HoldsOf, GoneOf, map_is}
+use Rattle.ir_store.specs.Marks.{mark, home_of, node_of_slot}
+use Rattle.ir_store.proofs.Marking.{marked_edit}
 use Rattle.ir_store.specs.Index.{Fits, cells_of}
 use Rattle.ir_store.specs.Entered.{slots_in, row_with_entry, slot_unless, entry_in}
 use Rattle.ir_store.proofs.Distinct.{each_distinct}
@@ -166,8 +168,9 @@ module _ (a : Inside) (w : Whole a) (x : ℕ) (part : Part) (j : ℕ) where
           pub entry_given : Spelled (rows_of entered) a.sibs.lists a.root × (HoldsOf (rows_of entered) (keys_in a) × (GoneOf (rows_of entered) (keys_in a) × Unit {0}))
           entry_given = ((with_entry before x part j v a.spelled.0, spelt), ((a.holds.0, holds'), ((change_gone_of x lack (finmap.get a.lacks.0 x) a.lacks.0, lacks'), tt)))
 
-          pub entry_fits : (s : Spelled (rows_of entered) a.sibs.lists a.root) → Fits (rows_of entered) (keys_in a) a.sibs a.root s.0 a.uses.homes (cells_of a.cells.items) a.count a.next
-          entry_fits s = subst (λ z. Fits (rows_of entered) (keys_in a) a.sibs a.root z a.uses.homes (cells_of a.cells.items) a.count a.next) (sym (spelled_is (rows_of entered) a.sibs.lists a.root s (with_entry before x part j v a.spelled.0) spelt))
+          pub entry_fits : (s : Spelled (rows_of entered) a.sibs.lists a.root) (marks : List ℕ) → marks ≡ set a.marks.homes (node_of_slot k) (home_of (mark (row_at (rows_of entered) k)))
+              → Fits (rows_of entered) (keys_in a) a.sibs a.root s.0 a.uses.homes (cells_of a.cells.items) a.count a.next marks
+          entry_fits s marks es = subst (λ z. Fits (rows_of entered) (keys_in a) a.sibs a.root z a.uses.homes (cells_of a.cells.items) a.count a.next marks) (sym (spelled_is (rows_of entered) a.sibs.lists a.root s (with_entry before x part j v a.spelled.0) spelt))
               (record {
                 right = retold_right (rows_in a) (keys_in a) a.sibs a.root a.spelled.0 w.right a.spelled.1 x k here edit lack (inner_part part (change_entry before j v)) (rows_of entered) longs (other_row a.rows.items k m) own;
                 few = w.few;
@@ -176,6 +179,7 @@ module _ (a : Inside) (w : Whole a) (x : ℕ) (part : Part) (j : ℕ) where
                 counted = w.counted ∙ retold_counted (rows_in a) (keys_in a) a.sibs a.root a.spelled.0 w.right a.spelled.1 x k here edit lack (inner_part part (change_entry before j v)) (rows_of entered) longs (other_row a.rows.items k m) own;
                 below = retold_below (rows_in a) (keys_in a) a.sibs a.root a.spelled.0 w.right a.spelled.1 x k here edit lack (inner_part part (change_entry before j v)) (rows_of entered) longs (other_row a.rows.items k m) own a.next w.below;
                 owned = retold_owned (rows_in a) (keys_in a) a.sibs a.root a.spelled.0 w.right a.spelled.1 x k here edit lack (inner_part part (change_entry before j v)) (rows_of entered) longs (other_row a.rows.items k m) own w.owned;
+                marked = marked_edit (rows_in a) (rows_of entered) a.marks.homes marks k w.marked (w.marked.inside k (w.right.live_used k here.live)) (other_row a.rows.items k m) es;
               })
 
           pub entry_done : (s : Spelled (rows_of entered) a.sibs.lists a.root) (h : HoldsOf (rows_of entered) (keys_in a)) (g : GoneOf (rows_of entered) (keys_in a))
@@ -216,9 +220,9 @@ module _ (a : Inside) (w : Whole a) (x : ℕ) (part : Part) (j : ℕ) where
           same_spelt : SpellsOp (rows_of rewritten) a.sibs.lists a.root a.spelled.0
           same_spelt = subst (λ z. SpellsOp z a.sibs.lists a.root a.spelled.0) (sym same_rows) a.spelled.1
 
-          pub same_fits : (s : Spelled (rows_of rewritten) a.sibs.lists a.root) → Fits (rows_of rewritten) (keys_in a) a.sibs a.root s.0 a.uses.homes (cells_of a.cells.items) a.count a.next
-          same_fits s = subst (λ z. Fits (rows_of rewritten) (keys_in a) a.sibs a.root z a.uses.homes (cells_of a.cells.items) a.count a.next) (sym (spelled_is (rows_of rewritten) a.sibs.lists a.root s a.spelled.0 same_spelt))
-              (subst (λ z. Fits z (keys_in a) a.sibs a.root a.spelled.0 a.uses.homes (cells_of a.cells.items) a.count a.next) (sym same_rows) w)
+          pub same_fits : (s : Spelled (rows_of rewritten) a.sibs.lists a.root) → Fits (rows_of rewritten) (keys_in a) a.sibs a.root s.0 a.uses.homes (cells_of a.cells.items) a.count a.next a.marks.homes
+          same_fits s = subst (λ z. Fits (rows_of rewritten) (keys_in a) a.sibs a.root z a.uses.homes (cells_of a.cells.items) a.count a.next a.marks.homes) (sym (spelled_is (rows_of rewritten) a.sibs.lists a.root s a.spelled.0 same_spelt))
+              (subst (λ z. Fits z (keys_in a) a.sibs a.root a.spelled.0 a.uses.homes (cells_of a.cells.items) a.count a.next a.marks.homes) (sym same_rows) w)
 
           pub same_done : (s : Spelled (rows_of rewritten) a.sibs.lists a.root) (h : HoldsOf (rows_of rewritten) (keys_in a)) (g : GoneOf (rows_of rewritten) (keys_in a))
               → ◌≡◌ {A = Stored} (record { module_of = record { tree = s.0; next = a.next }; held = h.0; gone = g.0 }) (stored a)
@@ -232,6 +236,3 @@ module _ (a : Inside) (w : Whole a) (x : ℕ) (part : Part) (j : ℕ) where
         module _ (m : Kept) (em : (row_of m ≡ row_with_entry before part j v (row_of n)) ⊎ (row_of m ≡ row_of n)) where
           pub either_given : Spelled (rows_of (set a.rows.items k m)) a.sibs.lists a.root × (HoldsOf (rows_of (set a.rows.items k m)) (keys_in a) × (GoneOf (rows_of (set a.rows.items k m)) (keys_in a) × Unit {0}))
           either_given = ⊎_elim (λ e. entry_given m e) (λ e. same_given m e) em
-
-          pub either_fits : (s : Spelled (rows_of (set a.rows.items k m)) a.sibs.lists a.root) → Fits (rows_of (set a.rows.items k m)) (keys_in a) a.sibs a.root s.0 a.uses.homes (cells_of a.cells.items) a.count a.next
-          either_fits s = ⊎_elim (λ e. entry_fits m e s) (λ e. same_fits m e s) em

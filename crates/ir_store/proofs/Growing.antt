@@ -1,9 +1,9 @@
 -- A store's slots grow.
-use Rattle.std.proofs.Common.{◌≡◌, ℕ, ◌<◌, List, eqb, cond, refl, sym, ap, ◌∙◌, subst, length, ⊎_elim, Option, Some, None}
+use Rattle.std.proofs.Common.{◌≡◌, ℕ, ◌<◌, List, set, eqb, cond, false, refl, sym, ap, ◌∙◌, subst, length, ⊎_elim, Option, Some, None}
 use Rattle.std.specs.FinMap as finmap
 use Rattle.std.specs.Ordering.{nat_cmp}
 use Rattle.std.specs.Cmp.{nat_cmp_total}
-use Rattle.std.proofs.lemmas.Bool.{cases_Bool, cases_eq, eq-eqb, ne_eqb}
+use Rattle.std.proofs.lemmas.Bool.{cases_Bool, cases_eq, eq-eqb, ne_eqb, cases_lt}
 use Rattle.ir_store.proofs.Taking.{eq_nat}
 use Rattle.chains.specs.Lists.{Laws, free}
 use Rattle.ir_tree.specs.Tree.{Op}
@@ -11,7 +11,7 @@ use Rattle.ir_tree.specs.Ids.{HasDistinctIds, find, first_of, op_count}
 use Rattle.ir_store.specs.declared.store.Store.TheInside.{Inside}
 use Rattle.ir_store.specs.Stored.{Stored, known}
 use Rattle.ir_store.specs.Emptied.{after_grow}
-use Rattle.ir_store.specs.Rows.{Row, row_at, held_in, gone_in, if_live, bare}
+use Rattle.ir_store.specs.Rows.{Row, no_row, row_at, held_in, gone_in, if_live, bare}
 use Rattle.ir_store.specs.Spells.{SpellsOp, Spelled, spelled_is}
 use Rattle.ir_store.specs.Holds.{HoldsOf, GoneOf, map_is}
 use Rattle.ir_store.specs.Right.{Right}
@@ -20,6 +20,10 @@ use Rattle.ir_store.specs.Grows.{Parts, parts_of, IsEven, Wider, Ready, Grown}
 use Rattle.ir_store.proofs.Slots.{found, found_op}
 use Rattle.ir_store.proofs.Called.{rows_in, keys_in, stored}
 use Rattle.ir_store.proofs.Whole.{Whole}
+use Rattle.std.specs.Prelude.{if◌then◌else◌}
+use Rattle.ir_store.specs.Marks.{mark, has_gone, home_of, node_of_slot, Marked, CanMark, Reaches}
+use Rattle.ir_store.proofs.Marking.{marked_edit, marked_same, marked_more, can_mark}
+use Rattle.std.proofs.lemmas.List.{get_or_past}
 use Rattle.ir_store.proofs.Wide.{Keyed, keyed_of, wide_spells, wide_right, wide_holds, wide_gone, wide_index, wide_bound}
 use Rattle.ir_store.proofs.Tally.{wide_below, wide_owned, fill_below, fill_owned}
 use Rattle.ir_store.proofs.Fill.{fill_spells, fill_right, fill_holds, fill_gone, fill_index}
@@ -29,6 +33,9 @@ pub key_put : (m m' : finmap.FinMap nat_cmp ℕ) (x y k : ℕ) → y ≡ x → m
 key_put m m' x y k ey e z =
     ap (λ l. finmap.get l z) (e ∙ ap (λ w. finmap.insert m w k) ey) ∙ finmap.get-insert nat_cmp_total m x k z
     ∙ ap (λ b. cond b (Some k) (finmap.get m z)) (eq_nat z x ∙ ⊎_elim (λ f. eq-eqb z x f ∙ sym (eq-eqb x z (sym f))) (λ n. ne_eqb z x n ∙ sym (ne_eqb x z (λ f. n (sym f)))) (cases_eq z x))
+
+pub spare_mark : (b : Row) → b.used ≡ false → b.live ≡ false → mark b ≡ mark no_row
+spare_mark b e f = ap (λ l. if l then (if has_gone b.gone then Some 1 else None) else (if b.used then Some 0 else None)) f ∙ ap (λ u. if u then Some 0 else None) e
 
 abbrev pub parts : Inside → Parts
 parts a = parts_of a.rows.items a.sibs a.uses a.cells.items
@@ -72,6 +79,18 @@ module _ (a : Inside) (w : Whole a) where
     index : Index q.rows (keys_in a) q.homes q.cells (lives q.rows)
     index = wide_index (parts a) q wide (keys_in a) keyed w.index
 
+    more_rows : {A : Type 0} (f : Row → A) → ((b : Row) → b.used ≡ false → b.live ≡ false → f b ≡ f no_row) → (k : ℕ) → f (row_at q.rows k) ≡ f (row_at (rows_in a) k)
+    more_rows f e k = ⊎_elim
+        (λ l. ap f (wide.row k l))
+        (λ g. let z = wide.spare k g in e (row_at q.rows k) z.used z.live ∙ ap f (sym (get_or_past (rows_in a) k no_row g)))
+        (cases_lt k (length (rows_in a)))
+
+    marked : Marked q.rows a.marks.homes
+    marked = marked_same (rows_in a) q.rows a.marks.homes w.marked (more_rows mark spare_mark) (more_rows (λ z. z.used) (λ b e f. e))
+
+    pub grow_can_mark : (mid : List ℕ) → Reaches a.marks.homes mid → (k : ℕ) → node_of_slot k < length mid → CanMark mid k
+    grow_can_mark mid reached k l = can_mark q.rows mid k (marked_more q.rows a.marks.homes mid marked reached) l
+
     -- nothing came of it
     module _ (keys : ℕ → Option ℕ) (ek : (y : ℕ) → keys y ≡ keys_in a y) where
       all_keys : keys ≡ keys_in a
@@ -86,8 +105,8 @@ module _ (a : Inside) (w : Whole a) where
       pub wide_given : Spelled q.rows q.sibs.lists a.root × (HoldsOf q.rows keys × (GoneOf q.rows keys × Unit {0}))
       wide_given = ((a.spelled.0, spells), ((a.holds.0, holds), ((a.lacks.0, gone), tt)))
 
-      pub wide_fits : (s : Spelled q.rows q.sibs.lists a.root) → Fits q.rows keys q.sibs a.root s.0 q.homes q.cells a.count a.next
-      wide_fits s = record {
+      pub wide_fits : (s : Spelled q.rows q.sibs.lists a.root) (marks : List ℕ) → Reaches a.marks.homes marks → Fits q.rows keys q.sibs a.root s.0 q.homes q.cells a.count a.next marks
+      wide_fits s marks reached = record {
         right = subst (Right q.rows keys q.sibs a.root) (sym (spelled_is q.rows q.sibs.lists a.root s a.spelled.0 spells)) (subst (λ z. Right q.rows z q.sibs a.root a.spelled.0) (sym all_keys) right);
         few = uses_few;
         index = subst (λ z. Index q.rows z q.homes q.cells (lives q.rows)) (sym all_keys) index;
@@ -95,6 +114,7 @@ module _ (a : Inside) (w : Whole a) where
         counted = w.counted ∙ ap op_count (sym (spelled_is q.rows q.sibs.lists a.root s a.spelled.0 spells));
         below = wide_below (parts a) q wide (keys_in a) a.next w.below;
         owned = subst (HasOwners q.rows) (sym all_keys) (wide_owned (parts a) q wide (keys_in a) w.owned);
+        marked = marked_more q.rows a.marks.homes marks marked reached;
       }
 
       pub wide_done : (s : Spelled q.rows q.sibs.lists a.root) (h : HoldsOf q.rows keys) (g : GoneOf q.rows keys) → ◌≡◌ {A = Stored} (record { module_of = record { tree = s.0; next = a.next }; held = h.0; gone = g.0 }) (stored a)
@@ -125,8 +145,8 @@ module _ (a : Inside) (w : Whole a) where
       pub grow_given : Spelled rows' q.sibs.lists a.root × (HoldsOf rows' keys × (GoneOf rows' keys × Unit {0}))
       grow_given = ((a.spelled.0, spells'), ((finmap.insert a.holds.0 x (bare v), holds'), ((finmap.insert a.lacks.0 x v.gone, gone'), tt)))
 
-      pub grow_fits : (s : Spelled rows' q.sibs.lists a.root) → Fits rows' keys q.sibs a.root s.0 q.homes q.cells a.count a.next
-      grow_fits s = record {
+      pub grow_fits : (s : Spelled rows' q.sibs.lists a.root) (mid marks : List ℕ) → Reaches a.marks.homes mid → node_of_slot k < length mid → marks ≡ set mid (node_of_slot k) (home_of (mark (row_at rows' k))) → Fits rows' keys q.sibs a.root s.0 q.homes q.cells a.count a.next marks
+      grow_fits s mid marks reached there em = record {
         right = subst (Right rows' keys q.sibs a.root) (sym (spelled_is rows' q.sibs.lists a.root s a.spelled.0 spells'))
             (fill_right q wide.even few (keys_in a) (length (parts a).homes) k x v ready a.root a.spelled.0 right rows' long' same own keys here others);
         few = uses_few;
@@ -136,6 +156,7 @@ module _ (a : Inside) (w : Whole a) where
         counted = w.counted ∙ ap op_count (sym (spelled_is rows' q.sibs.lists a.root s a.spelled.0 spells'));
         below = fill_below q (keys_in a) (length (parts a).homes) k x v ready rows' same own keys others a.next (wide_below (parts a) q wide (keys_in a) a.next w.below);
         owned = fill_owned q (keys_in a) (length (parts a).homes) k x v ready rows' same own keys others (wide_owned (parts a) q wide (keys_in a) w.owned);
+        marked = marked_edit q.rows rows' mid marks k (marked_more q.rows a.marks.homes mid marked reached) there same em;
       }
 
       pub grow_done : (s : Spelled rows' q.sibs.lists a.root) (h : HoldsOf rows' keys) (g : GoneOf rows' keys) → ◌≡◌ {A = Stored} (record { module_of = record { tree = s.0; next = a.next }; held = h.0; gone = g.0 }) (after_grow x o (stored a))

@@ -65,8 +65,8 @@ module _ (a : Inside) (w : Whole a) (laws : Laws a.sibs.lists a.sibs.homes) (x :
         pub move_given : Spelled (rows_in a) sibs'.lists a.root × (HoldsOf (rows_in a) (keys_in a) × (GoneOf (rows_in a) (keys_in a) × Unit {0}))
         move_given = ((shifted x place a.spelled.0, spelt), (a.holds, (a.lacks, tt)))
 
-        pub move_fits : (s : Spelled (rows_in a) sibs'.lists a.root) → Fits (rows_in a) (keys_in a) sibs' a.root s.0 a.uses.homes (cells_of a.cells.items) a.count a.next
-        move_fits s = subst (λ z. Fits (rows_in a) (keys_in a) sibs' a.root z a.uses.homes (cells_of a.cells.items) a.count a.next) (sym (spelled_is (rows_in a) sibs'.lists a.root s (shifted x place a.spelled.0) spelt))
+        pub move_fits : (s : Spelled (rows_in a) sibs'.lists a.root) → Fits (rows_in a) (keys_in a) sibs' a.root s.0 a.uses.homes (cells_of a.cells.items) a.count a.next a.marks.homes
+        move_fits s = subst (λ z. Fits (rows_in a) (keys_in a) sibs' a.root z a.uses.homes (cells_of a.cells.items) a.count a.next a.marks.homes) (sym (spelled_is (rows_in a) sibs'.lists a.root s (shifted x place a.spelled.0) spelt))
             (record {
               right = shift_right (rows_in a) (keys_in a) a.sibs a.root a.spelled.0 w.right a.spelled.1 w.distinct x k here place c at at_spot.1.1 can mid el1 eh1 laws1 sibs' el' eh';
               few = w.few;
@@ -75,6 +75,7 @@ module _ (a : Inside) (w : Whole a) (laws : Laws a.sibs.lists a.sibs.homes) (x :
               counted = w.counted ∙ shift_counted (rows_in a) (keys_in a) a.sibs a.root a.spelled.0 w.right a.spelled.1 w.distinct x k here place c at at_spot.1.1 can mid el1 eh1 laws1 sibs' el' eh';
               below = w.below;
               owned = w.owned;
+              marked = w.marked;
             })
 
         pub move_done : (s : Spelled (rows_in a) sibs'.lists a.root) (m : HoldsOf (rows_in a) (keys_in a)) (g : GoneOf (rows_in a) (keys_in a))

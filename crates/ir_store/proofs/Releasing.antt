@@ -23,10 +23,19 @@ use Rattle.ir_store.specs.Holds.{HoldsOf, GoneOf, map_is}
 use Rattle.ir_store.specs.Right.{Live, Used, Right}
 use Rattle.ir_store.specs.Index.{operand_at, cell_at, LinkedTo, argument_head, slot_head, value_head, Index, Fits, lives, HasOwners, HasIdsBelow, cells_of}
 use Rattle.ir_store.proofs.Called.{rows_in, keys_in, stored}
-use Rattle.ir_store.proofs.Forgetting.{some_same, result_with, argument_with}
+use Rattle.ir_store.specs.Marks.{Marked}
 use Rattle.ir_store.proofs.Slots.{in_tree_is}
 use Rattle.ir_store.proofs.Tally.{live_stays, some_live}
 use Rattle.ir_store.proofs.Whole.{Whole}
+
+pub some_same : {X : Type 0} (x y : X) → Some x ≡ Some y → x ≡ y
+some_same x y e = cc
+
+abbrev result_with : ℕ → Head → ℕ → Option ℕ
+result_with i h b = if nat_lt i (length h.results) then Some (b + i) else None
+
+abbrev argument_with : ℕ → ℕ → List ℕ × ℕ → Option ℕ
+argument_with b i a = if nat_lt i (length a.0) then Some (b + i) else None
 
 -- the attributes of a map, each changed
 pub find_mapped : {X Y : Type 0} (f : X → Y) (q : ℕ) (es : List (ℕ × X)) → finmap.find nat_cmp q (map (λ e. (e.0, f e.1)) es) ≡ option_map f (finmap.find nat_cmp q es)
@@ -351,8 +360,8 @@ module _ (a : Inside) (w : Whole a) (from : ℕ) (items : List Kept) (long : len
   pub release_given : Spelled (rows_of items) a.sibs.lists a.root × (HoldsOf (rows_of items) keys' × (GoneOf (rows_of items) keys' × Unit {0}))
   release_given = ((a.spelled.0, spells), ((finmap.retain_keys a.holds.0 (λ x. nat_lt x from), holds), ((lacked, lacks), tt)))
 
-  pub release_fits : (s : Spelled (rows_of items) a.sibs.lists a.root) → Fits (rows_of items) keys' a.sibs a.root s.0 a.uses.homes (cells_of a.cells.items) a.count a.next
-  release_fits s =
+  pub release_fits : (s : Spelled (rows_of items) a.sibs.lists a.root) (marks : List ℕ) → Marked (rows_of items) marks → Fits (rows_of items) keys' a.sibs a.root s.0 a.uses.homes (cells_of a.cells.items) a.count a.next marks
+  release_fits s marks m =
       let e = spelled_is (rows_of items) a.sibs.lists a.root s a.spelled.0 spells in
       record {
         right = subst (Right (rows_of items) keys' a.sibs a.root) (sym e) (release_right from (rows_in a) (keys_in a) a.sibs a.root a.spelled.0 w.right a.spelled.1 (rows_of items) long all keys' left);
@@ -362,6 +371,7 @@ module _ (a : Inside) (w : Whole a) (from : ℕ) (items : List Kept) (long : len
         counted = w.counted ∙ ap op_count (sym e);
         below = release_below from (rows_in a) (keys_in a) a.sibs a.root a.spelled.0 w.right a.spelled.1 (rows_of items) long all keys' left a.next w.below;
         owned = release_owned from (rows_in a) (keys_in a) a.sibs a.root a.spelled.0 w.right a.spelled.1 (rows_of items) long all keys' left a.uses.homes (cells_of a.cells.items) w.index w.owned;
+        marked = m;
       }
 
   pub release_done : (s : Spelled (rows_of items) a.sibs.lists a.root) (h : HoldsOf (rows_of items) keys') (g : GoneOf (rows_of items) keys')

@@ -1,5 +1,5 @@
 -- The slots of a module of one operation, of which the blocks hold none.
-use Rattle.std.proofs.Common.{◌≡◌, ℕ, ◌<◌, List, [], set, refl, sym, ap, ◌∙◌, subst, length, true, eqb, cond, ⊎_elim, arith, Option, Some, None, slice_get}
+use Rattle.std.proofs.Common.{◌≡◌, ℕ, ◌<◌, List, [], ◌∷◌, set, refl, sym, ap, ◌∙◌, subst, length, true, eqb, cond, ⊎_elim, arith, Option, Some, None, slice_get}
 use Rattle.std.specs.Ordering.{nat_cmp}
 use Rattle.std.specs.Cmp.{nat_cmp_total}
 use Rattle.std.specs.FinMap as finmap
@@ -15,6 +15,10 @@ use Rattle.ir_store.specs.Emptied.{emptied}
 use Rattle.ir_store.specs.Rows.{Row, row_at, no_row, held_in, gone_in, bare, bare_regions}
 use Rattle.ir_store.specs.Spells.{SpellsOp, SpellsRegions}
 use Rattle.ir_store.specs.Right.{Live, Used, HoldsId, Right}
+use Rattle.std.specs.Prelude.{if◌then◌else◌}
+use Rattle.ir_store.specs.Marks.{mark, has_gone, home_of, node_of_slot, Reaches}
+use Rattle.ir_store.proofs.Marking.{marked_edit, marked_same, marked_none, set_as_is}
+use Rattle.ir_store.proofs.Growing.{spare_mark}
 use Rattle.ir_store.specs.Index.{value_head, all_led, Index, lives, Fits}
 use Rattle.ir_store.specs.Grows.{Parts, Spare, IsEven, Wider, Ready, Grown}
 use Rattle.ir_store.proofs.Taking.{eq_nat}
@@ -166,8 +170,8 @@ module _ (q : Parts) (wide : Wider nothing q) (few : length q.sibs.homes < free)
   seed_row : (y : ℕ) → Live rows' y → row_at rows' y ≡ record v { live = true }
   seed_row y l = ap (row_at rows') (only_live y l) ∙ own
 
-  pub seed_fits : (free_id : ℕ) → x < free_id → (s : (t : Op) × SpellsOp rows' q.sibs.lists k t) → s.0 ≡ seed → Fits rows' keys q.sibs k s.0 q.homes q.cells 1 free_id
-  seed_fits free_id below s e = record {
+  pub seed_fits : (free_id : ℕ) → x < free_id → (s : (t : Op) × SpellsOp rows' q.sibs.lists k t) → s.0 ≡ seed → (marks more : List ℕ) → marks ≡ 0 ∷ 1 ∷ [] → Reaches marks more → node_of_slot k < length more → Fits rows' keys q.sibs k s.0 q.homes q.cells 1 free_id more
+  seed_fits free_id below s e marks more em reached there = record {
     right = subst (Right rows' keys q.sibs k) (sym e) seed_right;
     few = uses_few;
     index = seed_index;
@@ -175,6 +179,11 @@ module _ (q : Parts) (wide : Wider nothing q) (few : length q.sibs.homes < free)
     counted = sym (ap op_count e ∙ bare_count v);
     below = λ y l. subst (λ z. z < free_id) (sym (ap (λ z. z.head.id) (seed_row y l) ∙ ready.id)) below;
     owned = λ y j u l f. (let z : None ≡ Some u = sym (ap (λ os. slice_get os j) (ap (λ z. z.head.operands) (seed_row y l) ∙ bare_head)) ∙ f in absurd cc);
+    marked =
+        let none = marked_none marks more em reached in
+        let old = marked_same [] q.rows more none (λ y. let z = wide.spare y (omega arith) in spare_mark (row_at q.rows y) z.used z.live) (λ y. (wide.spare y (omega arith)).used) in
+        let out : mark (row_at rows' k) ≡ None = ap mark own ∙ ap (λ g. if has_gone g then Some 1 else None) grown.gone in
+        marked_edit q.rows rows' more more k old there same (sym (ap (λ o. set more (node_of_slot k) (home_of o)) out ∙ set_as_is more (node_of_slot k) (reached.same (node_of_slot k) ∙ ap (λ z. home_at z (node_of_slot k)) em) there));
   }
 
   pub seed_is : x ≡ (head o).id → seed ≡ emptied o

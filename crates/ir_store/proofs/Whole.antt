@@ -20,7 +20,7 @@ use Rattle.ir_store.proofs.Used.{has_heads, can_free, take_index}
 use Rattle.std.proofs.Common.{not, ◌&&◌, ⊎_elim}
 use Rattle.std.specs.Prelude.{is_some, nat_lt, if◌then◌else◌}
 use Rattle.std.specs.FinMap as finmap
-use Rattle.std.proofs.lemmas.Bool.{cases_Bool, false≢true}
+use Rattle.std.proofs.lemmas.Bool.{cases_eq, cases_Bool, false≢true}
 use Rattle.chains.specs.Lists.{IsItem, IsHead, IsFree}
 use Rattle.ir_types.specs.declared.refusal.Refusal.TheVariants.{NoSuchIndex, NoSuchValue}
 use Rattle.ir_tree.specs.declared.place.Place.{Place}
@@ -55,9 +55,11 @@ use Rattle.chains.specs.Lists.{home_at}
 use Rattle.ir_store.proofs.Cut.{not_item}
 use Rattle.ir_store.proofs.Joining.{FoundHeld}
 use Rattle.ir_store.proofs.Called.{rows_in, keys_in, stored, read_row, other_row, own_row, cut_tree, write_tree, right_after, write_fits, write_inside}
+use Rattle.ir_store.specs.Marks.{mark, home_of, node_of_slot, Marked, Reaches}
+use Rattle.ir_store.proofs.Marking.{marked_edit, marked_same, marked_more, marked_none}
 
 abbrev pub Whole : Inside → Type 0
-Whole a = Fits (rows_in a) (keys_in a) a.sibs a.root a.spelled.0 a.uses.homes (cells_of a.cells.items) a.count a.next
+Whole a = Fits (rows_in a) (keys_in a) a.sibs a.root a.spelled.0 a.uses.homes (cells_of a.cells.items) a.count a.next a.marks.homes
 
 pub freed_long : (b n : ℕ) (homes : List ℕ) → length (freed b n homes) ≡ length homes
 freed_long b zero homes = refl
@@ -101,8 +103,8 @@ module _ (a : Inside) (w : Whole a) where
       pub take_some : 1 ≤ a.count
       take_some = omega (arith, w.counted, cut_counted (rows_in a) (keys_in a) a.sibs a.root a.spelled.0 w.right a.spelled.1 x k leaf w.distinct)
 
-      pub take_fits : unused x a.spelled.0 ≡ true → (s : Spelled rows' sibs'.lists a.root) → Fits rows' (keys_in a) sibs' a.root s.0 homes' (cells_of a.cells.items) (a.count - 1) a.next
-      take_fits spared s = record {
+      pub take_fits : unused x a.spelled.0 ≡ true → (s : Spelled rows' sibs'.lists a.root) (marks : List ℕ) → marks ≡ set a.marks.homes (node_of_slot k) (home_of (mark (row_at rows' k))) → Fits rows' (keys_in a) sibs' a.root s.0 homes' (cells_of a.cells.items) (a.count - 1) a.next marks
+      take_fits spared s marks em = record {
         right = right_after a w.right x k leaf n en sibs' el eh s;
         few = omega (arith, w.few, ap length eu, freed_long run.0 run.1 a.uses.homes);
         index = subst (λ z. Index rows' (keys_in a) z (cells_of a.cells.items) (lives rows')) (sym (eu ∙ ap (λ p. freed p.0 p.1 a.uses.homes) er))
@@ -114,6 +116,7 @@ module _ (a : Inside) (w : Whole a) where
             e ∙ ap op_count (sym (cut_tree a w.right x k leaf n en sibs' el eh s));
         below = cut_below (rows_in a) (keys_in a) a.sibs a.root a.spelled.0 w.right a.spelled.1 x k leaf rows' (other_row a.rows.items k (record n { live = false })) own a.next w.below;
         owned = cut_owned (rows_in a) (keys_in a) a.sibs a.root a.spelled.0 w.right a.spelled.1 x k leaf rows' (other_row a.rows.items k (record n { live = false })) own spared w.owned;
+        marked = marked_edit (rows_in a) rows' a.marks.homes marks k w.marked (w.marked.inside k (w.right.live_used k leaf.found.live)) (other_row a.rows.items k (record n { live = false })) em;
       }
 
 -- there is room to count one more
@@ -124,8 +127,8 @@ count_few a w =
 
 -- the newest id is free again
 module _ (a : Inside) (w : Whole a) (x : ℕ) (newest : a.next ≡ x + 1) (out : has_id x a.spelled.0 ≡ false) where
-  pub lower_fits : (next : ℕ) → next ≡ x → (s : Spelled (rows_in a) a.sibs.lists a.root) → Fits (rows_in a) (keys_in a) a.sibs a.root s.0 a.uses.homes (cells_of a.cells.items) a.count next
-  lower_fits next e s = subst (λ (z : Spelled (rows_in a) a.sibs.lists a.root). Fits (rows_in a) (keys_in a) a.sibs a.root z.0 a.uses.homes (cells_of a.cells.items) a.count next)
+  pub lower_fits : (next : ℕ) → next ≡ x → (s : Spelled (rows_in a) a.sibs.lists a.root) → Fits (rows_in a) (keys_in a) a.sibs a.root s.0 a.uses.homes (cells_of a.cells.items) a.count next a.marks.homes
+  lower_fits next e s = subst (λ (z : Spelled (rows_in a) a.sibs.lists a.root). Fits (rows_in a) (keys_in a) a.sibs a.root z.0 a.uses.homes (cells_of a.cells.items) a.count next a.marks.homes)
       (Spelled-prop (rows_in a) a.sibs.lists a.root a.spelled s)
       (record {
         right = w.right;
@@ -135,6 +138,7 @@ module _ (a : Inside) (w : Whole a) (x : ℕ) (newest : a.next ≡ x + 1) (out :
         counted = w.counted;
         below = subst (λ z. HasIdsBelow z (rows_in a)) (sym e) (lower_below (rows_in a) (keys_in a) a.sibs a.root a.spelled.0 w.right a.spelled.1 x a.next newest out w.below);
         owned = w.owned;
+        marked = w.marked;
       })
 
 pub some_of : {X : Type 0} (o : Option X) → is_some o ≡ true → (x : X) × (o ≡ Some x)
@@ -207,8 +211,8 @@ module _ (a : Inside) (w : Whole a) (laws : Laws a.sibs.lists a.sibs.homes) (x :
       own2 : row_at rows2 k ≡ record (row_at (rows_in a) k) { live = true }
       own2 = own_row a.rows.items k (record n { live = true }) inside2 ∙ ap {A = Row} {B = Row} (λ z. record z { live = true }) (sym (read_row a.rows.items k n inside2 en))
 
-      pub restore_fits : (s : Spelled rows2 sibs'.lists a.root) (next : ℕ) → next ≡ raised fresh x a.next → Fits rows2 (keys_in a) sibs' a.root s.0 homes' (cells_of a.cells.items) (a.count + 1) next
-      restore_fits s next en' = record {
+      pub restore_fits : (s : Spelled rows2 sibs'.lists a.root) (next : ℕ) → next ≡ raised fresh x a.next → (marks : List ℕ) → marks ≡ set a.marks.homes (node_of_slot k) (home_of (mark (row_at rows2 k))) → Fits rows2 (keys_in a) sibs' a.root s.0 homes' (cells_of a.cells.items) (a.count + 1) next marks
+      restore_fits s next en' marks em = record {
         right = joint_right a w.right laws x k ek place h at es n en sibs' el eh s;
         few = omega (arith, w.few, ap length eu, led_long (value_head (rows_in a) (keys_in a)) (row_at (rows_in a) k).uses (row_at (rows_in a) k).head.operands a.uses.homes);
         index = subst (λ z. Index rows2 (keys_in a) z (cells_of a.cells.items) (lives rows2)) (sym eu)
@@ -222,6 +226,7 @@ module _ (a : Inside) (w : Whole a) (laws : Laws a.sibs.lists a.sibs.homes) (x :
             let b = raised_bound in
             join_below (rows_in a) (keys_in a) k rows2 (other_row a.rows.items k (record n { live = true })) own2 a.next next (omega (arith, b.0, en')) (omega (arith, b.1, en', fk.id)) w.below;
         owned = join_owned (rows_in a) (keys_in a) k rows2 (other_row a.rows.items k (record n { live = true })) own2 owners_there w.owned;
+        marked = marked_edit (rows_in a) rows2 a.marks.homes marks k w.marked (w.marked.inside k fk.used) (other_row a.rows.items k (record n { live = true })) em;
       }
 
       pub restore_done : (s : Spelled rows2 sibs'.lists a.root) (v : HoldsOf rows2 (keys_in a)) (g : GoneOf rows2 (keys_in a)) (next : ℕ) → next ≡ raised fresh x a.next
@@ -293,6 +298,9 @@ module _ (a : Inside) (w : Whole a) (x j : ℕ) (v : Value) where
       own3 : row_at rows3 k ≡ row_with_operand j v (row_at (rows_in a) k)
       own3 = own_row a.rows.items k m (write_inside a w.right x k j v ek) ∙ em ∙ ap (row_with_operand j v) (sym (read_row a.rows.items k n (write_inside a w.right x k j v ek) en))
 
+      kept3 : {A : Type 0} (f : Row → A) → f (row_with_operand j v (row_at (rows_in a) k)) ≡ f (row_at (rows_in a) k) → (q : ℕ) → f (row_at rows3 q) ≡ f (row_at (rows_in a) q)
+      kept3 f e q = ⊎_elim (λ z. ap (λ c. f (row_at rows3 c)) z ∙ ap f own3 ∙ e ∙ ap (λ c. f (row_at (rows_in a) c)) (sym z)) (λ z. ap f (other_row a.rows.items k m q z)) (cases_eq q k)
+
       value_there : rewire_reason x j v a.spelled.0 ≡ None → has_value v a.spelled.0 ≡ true
       value_there e = go (find x a.spelled.0) e
         where
@@ -309,7 +317,7 @@ module _ (a : Inside) (w : Whole a) (x j : ℕ) (v : Value) where
               test false g = absurd cc
 
       pub rewire_fits : rewire_reason x j v a.spelled.0 ≡ None → (s : Spelled rows3 a.sibs.lists a.root) (homes1 homes2 : List ℕ) → homes1 ≡ set a.uses.homes (use_at (rows_in a) k j) free → homes2 ≡ set homes1 (use_at (rows_in a) k j) h
-          → Fits rows3 (keys_in a) a.sibs a.root s.0 homes2 (cells_of a.cells.items) a.count a.next
+          → Fits rows3 (keys_in a) a.sibs a.root s.0 homes2 (cells_of a.cells.items) a.count a.next a.marks.homes
       rewire_fits why s homes1 homes2 e1 e2 = record {
         right = write_fits a w.right x k j v ek n en m em s;
         few = omega (arith, w.few, ap length e2, ap length e1, length-set homes1 (use_at (rows_in a) k j) h, length-set a.uses.homes (use_at (rows_in a) k j) free);
@@ -320,6 +328,7 @@ module _ (a : Inside) (w : Whole a) (x j : ℕ) (v : Value) where
         below = write_below (rows_in a) (keys_in a) k j v rows3 (other_row a.rows.items k m) own3 a.next w.below;
         owned = write_owned (rows_in a) (keys_in a) k j v rows3 (other_row a.rows.items k m) own3
             (value_owner (rows_in a) (live_slot (rows_in a) (keys_in a)) v (value_is (rows_in a) (keys_in a) a.sibs a.root a.spelled.0 w.right a.spelled.1 v ∙ value_there why)) w.owned;
+        marked = marked_same (rows_in a) rows3 a.marks.homes w.marked (kept3 mark refl) (kept3 (λ z. z.used) refl);
       }
 
     pub rewire_item : IsItem a.uses.homes (use_at (rows_in a) k j)

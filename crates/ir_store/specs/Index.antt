@@ -10,6 +10,7 @@ use Rattle.ir_store.specs.declared.row.Cell.{Cell}
 use Rattle.ir_store.specs.Rows.{Row, Shape, row_at, live_slot}
 use Rattle.ir_store.specs.Right.{Live, Used, Right}
 use Rattle.ir_store.specs.Plans.{is_nil}
+use Rattle.ir_store.specs.Marks.{Marked}
 
 -- the slot and the operand of each node
 abbrev pub cells_of : List Cell → List (ℕ × ℕ)
@@ -152,7 +153,7 @@ abbrev pub HasIdsBelow : ℕ → List Row → Type 0
 HasIdsBelow n rows = (k : ℕ) → Live rows k → (row_at rows k).head.id < n
 
 -- the slots and the uses are right
-pub record Fits (rows : List Row) (keys : ℕ → Option ℕ) (sibs : Lists) (root : ℕ) (t : Op) (homes : List ℕ) (cells : List (ℕ × ℕ)) (count free_id : ℕ) : Type 0 where
+pub record Fits (rows : List Row) (keys : ℕ → Option ℕ) (sibs : Lists) (root : ℕ) (t : Op) (homes : List ℕ) (cells : List (ℕ × ℕ)) (count free_id : ℕ) (marks : List ℕ) : Type 0 where
   pub right : Right rows keys sibs root t
   pub few : length homes < free
   pub index : Index rows keys homes cells (lives rows)
@@ -160,6 +161,7 @@ pub record Fits (rows : List Row) (keys : ℕ → Option ℕ) (sibs : Lists) (ro
   pub counted : count ≡ op_count t
   pub below : HasIdsBelow free_id rows
   pub owned : HasOwners rows keys
+  pub marked : Marked rows marks
 
 -- the type of a value of an operation that has a slot
 abbrev pub shape_type : ℕ → Shape → Option ℕ

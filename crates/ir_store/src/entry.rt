@@ -15,6 +15,7 @@ ghost use Rattle.ir_store.specs.Rows.{row_of, rows_of, row_at, live_slot};
 ghost use Rattle.ir_store.specs.Entered.{slots_in, row_with_entry, entry_in};
 
 use crate::find::{Keys, find, slot};
+use crate::marks::put_mark;
 use crate::row::Row;
 use crate::store::Store;
 use entries::Dictionary;
@@ -86,6 +87,7 @@ impl Store {
             Ok(()) => {}
             Err(_) => return Err(Refusal::Memory),
         }
+        put_mark(&mut self.marks, &self.rows, at);
         Ok(())
     }
 }
@@ -113,6 +115,7 @@ impl Store {
         };
         let row = &mut self.rows[at];
         revert_row(ctx, row, part, key, value);
+        put_mark(&mut self.marks, &self.rows, at);
     }
 }
 

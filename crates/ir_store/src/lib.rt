@@ -11,6 +11,7 @@ mod find;
 mod grow;
 mod load;
 mod look;
+mod marks;
 pub mod node;
 mod preorder;
 mod put;

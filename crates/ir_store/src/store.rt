@@ -19,6 +19,7 @@ ghost use Rattle.ir_store.specs.Holds.{HoldsOf, HoldsOf-prop, GoneOf, GoneOf-pro
 
 use crate::find::{Keys, find, slot};
 use crate::grow::grow_slot;
+use crate::marks::{new_marks, put_mark, reach};
 use crate::node::Node;
 use crate::room::Room;
 use crate::row::{Cell, Row, put_operand, put_row};
@@ -48,6 +49,8 @@ pub struct Store {
     /// The uses of values: a list for each value.
     pub(crate) uses: Chains,
     pub(crate) cells: Vec<Cell>,
+    /// The slots that are looked at when what is held is given up.
+    pub(crate) marks: Chains,
     pub(crate) root: usize,
     pub(crate) next: u32,
     /// How many operations the module has.
@@ -71,7 +74,7 @@ impl Model for Store {
 
     ghost view = { λ s. record { module_of = record { tree = s.spelled.0; next = s.next }; held = s.holds.0; gone = s.lacks.0 } };
 
-    ghost invariant = { λ s. Fits (rows_of s.rows.items) (finmap.get s.keys) s.sibs s.root s.spelled.0 s.uses.homes (cells_of s.cells.items) s.count s.next };
+    ghost invariant = { λ s. Fits (rows_of s.rows.items) (finmap.get s.keys) s.sibs s.root s.spelled.0 s.uses.homes (cells_of s.cells.items) s.count s.next s.marks.homes };
 }
 
 impl Store {
@@ -118,6 +121,7 @@ impl Store {
         self.count -= 1;
         let row = &mut self.rows[key];
         row.live = false;
+        put_mark(&mut self.marks, &self.rows, key);
         Ok(())
     }
 }
@@ -138,6 +142,7 @@ impl Store {
         self.count += 1;
         let row = &mut self.rows[key];
         row.live = true;
+        put_mark(&mut self.marks, &self.rows, key);
         self.next = raised(fresh, op, self.next);
     }
 
@@ -240,11 +245,16 @@ impl Store {
             Ok(grown) => grown,
             Err(e) => return Err(e),
         };
+        match reach(&mut self.marks, self.rows.len()) {
+            Ok(()) => {}
+            Err(e) => return Err(e),
+        }
         match self.keys.insert(op.number(), key) {
             Ok(()) => {}
             Err(e) => return Err(e),
         }
         put_row(&mut self.rows, key, row);
+        put_mark(&mut self.marks, &self.rows, key);
         Ok(())
     }
 }
@@ -307,6 +317,14 @@ impl Store {
             Ok(()) => {}
             Err(e) => return Err(e),
         }
+        let mut marks = match new_marks(alloc) {
+            Ok(marks) => marks,
+            Err(e) => return Err(e),
+        };
+        match reach(&mut marks, rows.len()) {
+            Ok(()) => {}
+            Err(e) => return Err(e),
+        }
         put_row(&mut rows, root, live_row(row));
         Ok(Store {
             alloc,
@@ -315,6 +333,7 @@ impl Store {
             sibs,
             uses,
             cells,
+            marks,
             root,
             next,
             count: 1,

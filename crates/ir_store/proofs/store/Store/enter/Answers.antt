@@ -1,11 +1,13 @@
-use Rattle.std.proofs.Common.{refl, ◌∙◌, sym, ap, inl, inr}
+use Rattle.std.proofs.Common.{refl, ◌∙◌, sym, ap}
 use Rattle.std.specs.Prelude.{Ok, Err}
 use Rattle.ir_tree.specs.Meaning.{key_before_in}
 use Rattle.ir_tree.specs.Edits.{part_of}
 use Rattle.ir_tree_laws.specs.Reasons.{entry_reason, set_entry_reason}
 use Rattle.ir_store.specs.Calls.{after_entry}
-use Rattle.ir_store.proofs.Called.{same_inside}
-use Rattle.ir_store.proofs.Dictionaries.{refused_some, refused_memory, entry_found, entry_row, there_before, either_way, either_given, either_fits, entry_done, same_done}
+use Rattle.ir_store.proofs.Called.{rows_in, keys_in, same_inside}
+use Rattle.ir_store.proofs.Marking.{can_mark_used}
+use Rattle.ir_store.proofs.Slots.{found}
+use Rattle.ir_store.proofs.Dictionaries.{refused_some, refused_memory, entry_found, entry_row, there_before, entry_given, same_given, entry_fits, same_fits, entry_done, same_done}
 use Rattle.ir_store.proofs.store.Store.enter.Goals as goal
 
 pub same-self : goal.same-self
@@ -26,19 +28,31 @@ change_row-requires c =
     let row = entry_row c.self.inside c.self.invariant c.args.op c.args.part c.args.key before c.args.value c.in-Ok.at p.0 c.index_mut-row.result.now c.index_mut-row.ensures.value in
     there_before before c.args.key c.args.value _ (sym (ap (λ r. entry_reason before c.args.key c.args.value (part_of c.args.part r.head)) row) ∙ p.1.1)
 
+pub put_mark-requires : goal.put_mark-requires
+put_mark-requires c =
+    let a = c.self.inside in
+    let w = c.self.invariant in
+    let p = entry_found a w c.args.op c.args.part c.args.key (key_before_in c.args.ctx.now) c.args.value (Ok c.in-Ok.at) c.in-Ok.ensures in
+    can_mark_used (rows_in a) a.marks.homes c.in-Ok.at w.marked (w.right.live_used c.in-Ok.at (found (rows_in a) (keys_in a) a.sibs a.root a.spelled.0 w.right a.spelled.1 c.args.op c.in-Ok.at (sym p.0)).live)
+
 pub invariant_of-self-inside-2 : goal.invariant_of-self-inside-2
 invariant_of-self-inside-2 c =
     let before = key_before_in c.args.ctx.now in
     let p = entry_found c.self.inside c.self.invariant c.args.op c.args.part c.args.key before c.args.value (Ok c.in-Ok.at) c.in-Ok.ensures in
-    either_given c.self.inside c.self.invariant c.args.op c.args.part c.args.key before c.args.value c.in-Ok.at p.0 c.index_mut-row.result.now c.index_mut-row.ensures.value c.change_row.new.row
-    (either_way c.change_row.result c.change_row.ensures.ok c.change_row.ensures.err)
+    entry_given c.self.inside c.self.invariant c.args.op c.args.part c.args.key before c.args.value c.in-Ok.at p.0 c.index_mut-row.result.now c.index_mut-row.ensures.value c.change_row.new.row c.in-Ok-change_row.ensures.ok
+
+pub invariant_of-self-inside-in-Err-change_row : goal.invariant_of-self-inside-in-Err-change_row
+invariant_of-self-inside-in-Err-change_row c =
+    let before = key_before_in c.args.ctx.now in
+    let p = entry_found c.self.inside c.self.invariant c.args.op c.args.part c.args.key before c.args.value (Ok c.in-Ok.at) c.in-Ok.ensures in
+    same_given c.self.inside c.self.invariant c.args.op c.args.part c.args.key before c.args.value c.in-Ok.at p.0 c.index_mut-row.result.now c.index_mut-row.ensures.value c.change_row.new.row c.in-Err-change_row.ensures.err
 
 pub invariant_of-self : goal.invariant_of-self
 invariant_of-self c =
     let before = key_before_in c.args.ctx.now in
     let p = entry_found c.self.inside c.self.invariant c.args.op c.args.part c.args.key before c.args.value (Ok c.in-Ok.at) c.in-Ok.ensures in
-    either_fits c.self.inside c.self.invariant c.args.op c.args.part c.args.key before c.args.value c.in-Ok.at p.0 c.index_mut-row.result.now c.index_mut-row.ensures.value c.change_row.new.row
-    (inr c.in-Err-change_row.ensures.err) c.self-3-1.given.0
+    same_fits c.self.inside c.self.invariant c.args.op c.args.part c.args.key before c.args.value c.in-Ok.at p.0 c.index_mut-row.result.now c.index_mut-row.ensures.value c.change_row.new.row
+    c.in-Err-change_row.ensures.err c.self-in-Err-change_row-1.given.0
 
 pub returns : goal.returns
 returns c =
@@ -56,7 +70,7 @@ returns-in-Err-change_row c =
     let p = entry_found c.self.inside c.self.invariant c.args.op c.args.part c.args.key before c.args.value (Ok c.in-Ok.at) c.in-Ok.ensures in (
       refused_memory _ (sym (ap (λ s. set_entry_reason before c.args.op c.args.part c.args.key c.args.value s.module_of.tree) c.self.view_is) ∙ p.1.0),
       same_done c.self.inside c.self.invariant c.args.op c.args.part c.args.key before c.args.value c.in-Ok.at p.0 c.index_mut-row.result.now c.index_mut-row.ensures.value c.change_row.new.row
-          c.in-Err-change_row.ensures.err c.self-3-1.given.0 c.self-3-1.given.1.0 c.self-3-1.given.1.1.0
+          c.in-Err-change_row.ensures.err c.self-in-Err-change_row-1.given.0 c.self-in-Err-change_row-1.given.1.0 c.self-in-Err-change_row-1.given.1.1.0
           ∙ c.self.view_is,
     )
 
@@ -64,5 +78,5 @@ pub invariant_of-self-2 : goal.invariant_of-self-2
 invariant_of-self-2 c =
     let before = key_before_in c.args.ctx.now in
     let p = entry_found c.self.inside c.self.invariant c.args.op c.args.part c.args.key before c.args.value (Ok c.in-Ok.at) c.in-Ok.ensures in
-    either_fits c.self.inside c.self.invariant c.args.op c.args.part c.args.key before c.args.value c.in-Ok.at p.0 c.index_mut-row.result.now c.index_mut-row.ensures.value c.change_row.new.row
-    (inl c.in-Ok-change_row.ensures.ok) c.self-3-1.given.0
+    entry_fits c.self.inside c.self.invariant c.args.op c.args.part c.args.key before c.args.value c.in-Ok.at p.0 c.index_mut-row.result.now c.index_mut-row.ensures.value c.change_row.new.row
+    c.in-Ok-change_row.ensures.ok c.self-3-1.given.0 c.put_mark.new.marks.homes c.put_mark.ensures

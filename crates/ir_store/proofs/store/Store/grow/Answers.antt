@@ -7,7 +7,8 @@ use Rattle.ir_store.specs.Stored.{known}
 use Rattle.ir_store.specs.Emptied.{after_grow}
 use Rattle.ir_store.specs.Grows.{parts_of}
 use Rattle.ir_store.proofs.Called.{keys_in, other_row, own_row}
-use Rattle.ir_store.proofs.Growing.{key_put, no_key, wide_given, wide_fits, wide_done, grow_given, grow_fits, grow_done}
+use Rattle.ir_store.proofs.Growing.{key_put, no_key, grow_can_mark, wide_given, wide_fits, wide_done, grow_given, grow_fits, grow_done}
+use Rattle.ir_store.proofs.Marking.{reach_none, grow_there}
 use Rattle.ir_store.proofs.store.Store.grow.Goals as goal
 
 pub insert-requires : goal.insert-requires
@@ -24,12 +25,27 @@ invariant_of-self-inside c =
 pub invariant_of-self : goal.invariant_of-self
 invariant_of-self c =
     let q = parts_of c.grow_slot-grown.new.rows.items c.grow_slot-grown.new.sibs c.grow_slot-grown.new.uses c.grow_slot-grown.new.cells.items in
-    wide_fits c.self.inside c.self.invariant q c.in-Err.ensures.wider c.laws-2.ensures.few c.laws-3.ensures.few (keys_in c.self.inside) (λ y. refl) c.in-Err.self-1-own.given.0
+    wide_fits c.self.inside c.self.invariant q c.in-Err.ensures.wider c.laws-2.ensures.few c.laws-3.ensures.few (keys_in c.self.inside) (λ y. refl) c.in-Err.self-1-own.given.0 c.self.inside.marks.homes (reach_none c.self.inside.marks.homes)
 
 pub returns-in-Err-clause-err : goal.returns-in-Err-clause-err
 returns-in-Err-clause-err c =
     let q = parts_of c.grow_slot-grown.new.rows.items c.grow_slot-grown.new.sibs c.grow_slot-grown.new.uses c.grow_slot-grown.new.cells.items in
     wide_done c.self.inside c.self.invariant q c.in-Err.ensures.wider c.laws-2.ensures.few c.laws-3.ensures.few (keys_in c.self.inside) (λ y. refl) c.in-Err.self-1-own.given.0 c.in-Err.self-1-own.given.1.0 c.in-Err.self-1-own.given.1.1.0 ∙ c.self.view_is
+
+pub invariant_of-self-inside-in-Err-reach : goal.invariant_of-self-inside-in-Err-reach
+invariant_of-self-inside-in-Err-reach c =
+    let q = parts_of c.grow_slot-grown.new.rows.items c.grow_slot-grown.new.sibs c.grow_slot-grown.new.uses c.grow_slot-grown.new.cells.items in
+    wide_given c.self.inside c.self.invariant q c.in-Ok.ensures.wider c.laws-2.ensures.few c.laws-3.ensures.few (keys_in c.self.inside) (λ y. refl)
+
+pub invariant_of-self-in-Err-reach : goal.invariant_of-self-in-Err-reach
+invariant_of-self-in-Err-reach c =
+    let q = parts_of c.grow_slot-grown.new.rows.items c.grow_slot-grown.new.sibs c.grow_slot-grown.new.uses c.grow_slot-grown.new.cells.items in
+    wide_fits c.self.inside c.self.invariant q c.in-Ok.ensures.wider c.laws-2.ensures.few c.laws-3.ensures.few (keys_in c.self.inside) (λ y. refl) c.in-Err-reach.self-in-Err-reach-1-own.given.0 c.reach.new.marks.homes c.reach.ensures.nodes
+
+pub returns-in-Err-reach-clause-err : goal.returns-in-Err-reach-clause-err
+returns-in-Err-reach-clause-err c =
+    let q = parts_of c.grow_slot-grown.new.rows.items c.grow_slot-grown.new.sibs c.grow_slot-grown.new.uses c.grow_slot-grown.new.cells.items in
+    wide_done c.self.inside c.self.invariant q c.in-Ok.ensures.wider c.laws-2.ensures.few c.laws-3.ensures.few (keys_in c.self.inside) (λ y. refl) c.in-Err-reach.self-in-Err-reach-1-own.given.0 c.in-Err-reach.self-in-Err-reach-1-own.given.1.0 c.in-Err-reach.self-in-Err-reach-1-own.given.1.1.0 ∙ c.self.view_is
 
 pub invariant_of-self-inside-in-Err-insert : goal.invariant_of-self-inside-in-Err-insert
 invariant_of-self-inside-in-Err-insert c =
@@ -39,7 +55,7 @@ invariant_of-self-inside-in-Err-insert c =
 pub invariant_of-self-in-Err-insert : goal.invariant_of-self-in-Err-insert
 invariant_of-self-in-Err-insert c =
     let q = parts_of c.grow_slot-grown.new.rows.items c.grow_slot-grown.new.sibs c.grow_slot-grown.new.uses c.grow_slot-grown.new.cells.items in
-    wide_fits c.self.inside c.self.invariant q c.in-Ok.ensures.wider c.laws-2.ensures.few c.laws-3.ensures.few (finmap.get c.insert.new.self) (λ y. ap (λ m. finmap.get m y) c.in-Err-insert.ensures.refused) c.in-Err-insert.self-in-Err-insert-1-own.given.0
+    wide_fits c.self.inside c.self.invariant q c.in-Ok.ensures.wider c.laws-2.ensures.few c.laws-3.ensures.few (finmap.get c.insert.new.self) (λ y. ap (λ m. finmap.get m y) c.in-Err-insert.ensures.refused) c.in-Err-insert.self-in-Err-insert-1-own.given.0 c.reach.new.marks.homes c.reach.ensures.nodes
 
 pub returns-in-Err-insert-clause-err : goal.returns-in-Err-insert-clause-err
 returns-in-Err-insert-clause-err c =
@@ -50,6 +66,14 @@ pub put_row-requires : goal.put_row-requires
 put_row-requires c =
     let none = no_key c.self.inside c.self.invariant c.args.op (ap (known c.args.op) c.self.view_is ∙ c.requires) in
     (c.in-Ok.ensures.grown.ready (keys_in c.self.inside) none).inside
+
+pub put_mark-requires : goal.put_mark-requires
+put_mark-requires c =
+    let q = parts_of c.grow_slot-grown.new.rows.items c.grow_slot-grown.new.sibs c.grow_slot-grown.new.uses c.grow_slot-grown.new.cells.items in
+    let none = no_key c.self.inside c.self.invariant c.args.op (ap (known c.args.op) c.self.view_is ∙ c.requires) in
+    let ready = c.in-Ok.ensures.grown.ready (keys_in c.self.inside) none in
+    grow_can_mark c.self.inside c.self.invariant q c.in-Ok.ensures.wider c.laws-2.ensures.few c.laws-3.ensures.few c.reach.new.marks.homes c.reach.ensures.nodes c.in-Ok.grown.0
+    (grow_there c.in-Ok.grown.0 q.rows c.reach.new.marks.homes c.len.result ready.inside (omega (arith, c.len.ensures, length-map c.grow_slot-grown.new.rows.items row_of)) c.in-Ok-reach.ensures.there)
 
 pub invariant_of-self-inside-2 : goal.invariant_of-self-inside-2
 invariant_of-self-inside-2 c =
@@ -81,7 +105,7 @@ invariant_of-self-2 c =
     let inside : c.in-Ok.grown.0 < length c.grow_slot-grown.new.rows.items = omega (arith, ready.inside, length-map c.grow_slot-grown.new.rows.items row_of) in
     let same : (y : ℕ) → (y ≡ c.in-Ok.grown.0 → ⊥) → row_at rows' y ≡ row_at q.rows y = λ y ne. ap (λ z. row_at z y) er ∙ other_row c.grow_slot-grown.new.rows.items c.in-Ok.grown.0 c.in-Ok.grown.1 y ne in
     let own = ap (λ z. row_at z c.in-Ok.grown.0) er ∙ own_row c.grow_slot-grown.new.rows.items c.in-Ok.grown.0 c.in-Ok.grown.1 inside in
-    grow_fits c.self.inside c.self.invariant q c.in-Ok.ensures.wider c.laws-2.ensures.few c.laws-3.ensures.few c.args.op c.args.header.now c.in-Ok.grown.0 (row_of c.in-Ok.grown.1) none c.in-Ok.ensures.grown (finmap.get c.insert.new.self) here others rows' long' same own c.self-2-1.given.0
+    grow_fits c.self.inside c.self.invariant q c.in-Ok.ensures.wider c.laws-2.ensures.few c.laws-3.ensures.few c.args.op c.args.header.now c.in-Ok.grown.0 (row_of c.in-Ok.grown.1) none c.in-Ok.ensures.grown (finmap.get c.insert.new.self) here others rows' long' same own c.self-2-1.given.0 c.reach.new.marks.homes c.put_mark.new.marks.homes c.reach.ensures.nodes (grow_there c.in-Ok.grown.0 q.rows c.reach.new.marks.homes c.len.result ready.inside (omega (arith, c.len.ensures, length-map c.grow_slot-grown.new.rows.items row_of)) c.in-Ok-reach.ensures.there) c.put_mark.ensures
 
 pub returns-clause-ok : goal.returns-clause-ok
 returns-clause-ok c =

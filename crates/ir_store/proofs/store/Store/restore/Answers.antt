@@ -1,6 +1,8 @@
 use Rattle.std.proofs.Common.{◌∙◌, sym, ap, subst, arith}
 use Rattle.ir_store.specs.Calls.{after_restore, CanRestore}
-use Rattle.ir_store.proofs.Called.{same_inside}
+use Rattle.ir_store.proofs.Called.{rows_in, keys_in, same_inside}
+use Rattle.ir_store.proofs.Marking.{can_mark_used}
+use Rattle.ir_store.proofs.Spotted.{held_found}
 use Rattle.ir_store.proofs.Spotted.{joint_head, joint_given}
 use Rattle.ir_store.proofs.Whole.{restore_found, restore_before, restore_lead, restore_fits, restore_done, count_few}
 use Rattle.ir_store.proofs.store.Store.restore.Goals as goal
@@ -18,6 +20,12 @@ pub link-requires-clause-head : goal.link-requires-clause-head
 link-requires-clause-head c =
     joint_head c.self.inside c.self.invariant.right c.laws.ensures c.args.op c.in-Some.key c.in-Some.ensures.0 c.args.place c.in-Some.head c.in-Some.before c.in-Some.ensures.1
 
+pub put_mark-requires : goal.put_mark-requires
+put_mark-requires c =
+    let a = c.self.inside in
+    let w = c.self.invariant in
+    can_mark_used (rows_in a) a.marks.homes c.in-Some.key w.marked (held_found (rows_in a) (keys_in a) a.sibs a.root a.spelled.0 w.right a.spelled.1 c.args.op c.in-Some.key c.in-Some.ensures.0).used
+
 pub invariant_of-self-inside-2 : goal.invariant_of-self-inside-2
 invariant_of-self-inside-2 c =
     joint_given c.self.inside c.self.invariant.right c.laws.ensures c.args.op c.in-Some.key c.in-Some.ensures.0 c.args.place c.in-Some.head c.in-Some.before c.in-Some.ensures.1
@@ -26,7 +34,7 @@ invariant_of-self-inside-2 c =
 pub invariant_of-self : goal.invariant_of-self
 invariant_of-self c =
     restore_fits c.self.inside c.self.invariant c.laws.ensures c.args.op c.args.place c.args.fresh (subst (CanRestore c.args.op c.args.place c.args.fresh) (sym c.self.view_is) c.requires) c.in-Some.key c.in-Some.ensures.0 c.in-Some.head c.in-Some.before c.in-Some.ensures.1
-    c.index_mut-row.result.now c.index_mut-row.ensures.value c.link.new.sibs c.link.ensures.lists c.link.ensures.homes c.lead_row.new.uses.homes c.lead_row.ensures c.self-3-1.given.0 c.raised-self-inside.result c.raised-self-inside.ensures
+    c.index_mut-row.result.now c.index_mut-row.ensures.value c.link.new.sibs c.link.ensures.lists c.link.ensures.homes c.lead_row.new.uses.homes c.lead_row.ensures c.self-3-1.given.0 c.raised-self-inside.result c.raised-self-inside.ensures c.put_mark.new.marks.homes c.put_mark.ensures
 
 pub returns : goal.returns
 returns c =

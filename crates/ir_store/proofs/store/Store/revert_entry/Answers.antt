@@ -1,10 +1,12 @@
-use Rattle.std.proofs.Common.{◌∙◌, ap}
+use Rattle.std.proofs.Common.{◌∙◌, ap, sym}
 use Rattle.ir_tree.specs.Ids.{has_id}
 use Rattle.ir_tree.specs.Limits.{every}
 use Rattle.ir_tree.specs.Meaning.{key_before_in, dictionaries_rise}
 use Rattle.ir_store.specs.Stored.{has_slot, has_entry}
 use Rattle.ir_store.specs.Calls.{after_entry}
-use Rattle.ir_store.proofs.Called.{same_inside}
+use Rattle.ir_store.proofs.Called.{rows_in, keys_in, same_inside}
+use Rattle.ir_store.proofs.Marking.{can_mark_used}
+use Rattle.ir_store.proofs.Slots.{found}
 use Rattle.ir_store.proofs.Changes.{set_sound}
 use Rattle.ir_store.proofs.Dictionaries.{revert_found, revert_sorted, revert_slot, revert_there, entry_given, entry_fits, entry_done}
 use Rattle.ir_store.proofs.store.Store.revert_entry.Goals as goal
@@ -32,6 +34,12 @@ pub returns-in_default-clause-done : goal.returns-in_default-clause-done
 returns-in_default-clause-done c =
     absurd (revert_found c.self.inside c.self.invariant c.args.op c.args.part c.args.key (key_before_in c.args.ctx.now) c.args.value (ap (λ s. has_id c.args.op s.module_of.tree) c.self.view_is ∙ c.requires.can.there) c.in_default.ensures)
 
+pub put_mark-requires : goal.put_mark-requires
+put_mark-requires c =
+    let a = c.self.inside in
+    let w = c.self.invariant in
+    can_mark_used (rows_in a) a.marks.homes c.in-Some.at w.marked (w.right.live_used c.in-Some.at (found (rows_in a) (keys_in a) a.sibs a.root a.spelled.0 w.right a.spelled.1 c.args.op c.in-Some.at (sym c.in-Some.ensures)).live)
+
 pub invariant_of-self-inside-2 : goal.invariant_of-self-inside-2
 invariant_of-self-inside-2 c =
     entry_given c.self.inside c.self.invariant c.args.op c.args.part c.args.key (key_before_in c.args.ctx.now) c.args.value c.in-Some.at c.in-Some.ensures c.index_mut-row.result.now c.index_mut-row.ensures.value c.revert_row.new.row c.revert_row.ensures
@@ -39,7 +47,7 @@ invariant_of-self-inside-2 c =
 pub invariant_of-self : goal.invariant_of-self
 invariant_of-self c =
     entry_fits c.self.inside c.self.invariant c.args.op c.args.part c.args.key (key_before_in c.args.ctx.now) c.args.value c.in-Some.at c.in-Some.ensures c.index_mut-row.result.now c.index_mut-row.ensures.value c.revert_row.new.row c.revert_row.ensures
-    c.self-3-1.given.0
+    c.self-3-1.given.0 c.put_mark.new.marks.homes c.put_mark.ensures
 
 pub returns-clause-done : goal.returns-clause-done
 returns-clause-done c =

@@ -11,6 +11,7 @@ use Rattle.ir_store.specs.Holds.{map_is}
 use Rattle.ir_store.specs.Grows.{parts_of, Wider, Grown}
 use Rattle.ir_store.proofs.Called.{other_row, own_row}
 use Rattle.ir_store.proofs.Growing.{key_put}
+use Rattle.ir_store.proofs.Marking.{grow_there}
 use Rattle.ir_store.proofs.Seed.{nothing, emptied_operands, seed, seed_spells, seed_holds, seed_gone, seed_fits, seed_is}
 use Rattle.ir_store.proofs.store.Store.seed_in.Goals as goal
 
@@ -66,7 +67,8 @@ invariant_of-result-2 c =
     let id : x ≡ (head c.args.header.now).id = ap (λ z. (head z).id) c.header.view_is in
     let bare_head : v.head.operands ≡ [] = emptied_operands v x c.args.header.now grown.is c.requires.bare in
     let w = spelled_is rows' q.sibs.lists k c.result-1.given.0 (seed q wide c.laws.ensures.few c.laws-2.ensures.few x c.args.header.now k v grown keys ek bare_head rows' long' same own) (seed_spells q wide c.laws.ensures.few c.laws-2.ensures.few x c.args.header.now k v grown keys ek bare_head rows' long' same own) in
-    seed_fits q wide c.laws.ensures.few c.laws-2.ensures.few x c.args.header.now k v grown keys ek bare_head rows' long' same own c.args.next (subst (λ z. z < c.args.next) (sym id) c.requires.below) c.result-1.given.0 w
+    seed_fits q wide c.laws.ensures.few c.laws-2.ensures.few x c.args.header.now k v grown keys ek bare_head rows' long' same own c.args.next (subst (λ z. z < c.args.next) (sym id) c.requires.below) c.result-1.given.0 w c.in-Ok-new_marks.marks.homes c.reach.new.marks.homes c.in-Ok-new_marks.ensures c.reach.ensures.nodes
+    (grow_there k q.rows c.reach.new.marks.homes c.len.result ready.inside (omega (arith, c.len.ensures, length-map c.grow_slot.new.rows.items row_of)) c.in-Ok-reach.ensures.there)
 
 pub returns : goal.returns
 returns c =

@@ -6,6 +6,7 @@ use Rattle.ir_store.proofs.Called.{rows_in, keys_in, same_inside, cut_given, cut
 use Rattle.ir_store.proofs.Taking.{heads_of}
 use Rattle.ir_store.proofs.Whole.{find_values, plan, free_run, take_fits}
 use Rattle.ir_tree_laws.proofs.Reasoned.{no_take_reason}
+use Rattle.ir_store.proofs.Marking.{can_mark_used}
 use Rattle.ir_store.proofs.store.Store.take.Goals as goal
 
 pub find_idle-requires-clause-blocks : goal.find_idle-requires-clause-blocks
@@ -32,6 +33,11 @@ remove-requires c =
     let p = plan c.self.inside c.self.invariant c.laws.ensures c.args.op (Ok c.in-Ok.key) c.in-Ok.ensures in
     (c.self.invariant.right.items c.in-Ok.key p.0.found.live p.0.inner).item
 
+pub put_mark-requires : goal.put_mark-requires
+put_mark-requires c =
+    let p = plan c.self.inside c.self.invariant c.laws.ensures c.args.op (Ok c.in-Ok.key) c.in-Ok.ensures in
+    can_mark_used (rows_in c.self.inside) c.self.inside.marks.homes c.in-Ok.key c.self.invariant.marked (c.self.invariant.right.live_used c.in-Ok.key p.0.found.live)
+
 pub invariant_of-self-inside-2 : goal.invariant_of-self-inside-2
 invariant_of-self-inside-2 c =
     let a = c.self.inside in
@@ -42,7 +48,7 @@ pub invariant_of-self : goal.invariant_of-self
 invariant_of-self c =
     let a = c.self.inside in
     let p = plan a c.self.invariant c.laws.ensures c.args.op (Ok c.in-Ok.key) c.in-Ok.ensures in
-    take_fits a c.self.invariant c.args.op c.in-Ok.key p.0 c.use_run-base.result c.use_run-base.ensures c.index_mut-row.result.now c.index_mut-row.ensures.value c.remove.new.self c.remove.ensures.lists c.remove.ensures.homes c.free_uses.new.uses.homes c.free_uses.ensures (no_take_reason c.args.op a.spelled.0 p.1).spared c.self-3-1.given.0
+    take_fits a c.self.invariant c.args.op c.in-Ok.key p.0 c.use_run-base.result c.use_run-base.ensures c.index_mut-row.result.now c.index_mut-row.ensures.value c.remove.new.self c.remove.ensures.lists c.remove.ensures.homes c.free_uses.new.uses.homes c.free_uses.ensures (no_take_reason c.args.op a.spelled.0 p.1).spared c.self-3-1.given.0 c.put_mark.new.marks.homes c.put_mark.ensures
 
 pub returns : goal.returns
 returns c =
