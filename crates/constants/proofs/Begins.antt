@@ -1,10 +1,6 @@
 -- A table that was made in order knows what the walk finds.
-use Rattle.std.proofs.Common.{◌≡◌, ℕ, List, [], ◌∷◌, ◌++◌, Bool, true, Option, Some, None, inl, inr, refl, sym, ap, ◌∙◌, subst, map}
-use Rattle.std.specs.Option.{option_map}
-use Rattle.ir_tree.specs.Tree.{Op, regions_of}
-use Rattle.ir_tree.specs.Ids.{ids, regions_ids, HasDistinctIds}
-use Rattle.ir_tree.specs.View.{region_view, op_view}
-use Rattle.ir_tree.specs.declared.tree.TreeOp.TheInside.{Inside}
+use Rattle.std.proofs.Common.{◌≡◌, ℕ, List, [], ◌∷◌, Option, Some, None, inl, inr, refl, sym, ap, ◌∙◌, subst, map}
+use Rattle.ir_tree.specs.Ids.{ids, HasDistinctIds}
 use Rattle.ir_tree.specs.Meaning.{Operation}
 use Rattle.ir_tree_laws.specs.Members.{In}
 use Rattle.std.specs.Ordering.{nat_cmp}
@@ -18,25 +14,12 @@ use Rattle.ir_event.specs.declared.world.World.{World}
 use Rattle.ir_event.specs.Modules.{module_in}
 use Rattle.ir_event.proofs.Steps.{formed_meaning}
 use Rattle.constants_base.specs.Heads.{heads}
-use Rattle.constants_base.specs.Facts.{Header, Facts, look, folded, folded_if, value}
-use Rattle.constants_base.specs.Walk.{nothing, with_fact, walk, look_among, facts_of, AreOrdered}
-use Rattle.constants_base.specs.Trails.{IsThere}
+use Rattle.constants_base.specs.Facts.{Header, Facts, look, folded, folded_if}
+use Rattle.constants_base.specs.Walk.{with_fact, walk, facts_of, AreOrdered}
 use Rattle.constants_base.proofs.Knowing.{listed}
 use Rattle.constants_base.proofs.Looked.{look_heads}
 use Rattle.constants_base.proofs.Ordering.{heads_ids, ordered_tree}
 use Rattle.constants.specs.Tables.{known_in, look_in, WalkedIds}
-
-pub walked_none : (ops : ℕ → Option Header) (a : Facts) → WalkedIds ops [] a a
-walked_none ops a y = refl
-
-pub walked_joined : (ops : ℕ → Option Header) (xs ys : List ℕ) (a b c : Facts) → WalkedIds ops xs a b → WalkedIds ops ys b c → WalkedIds ops (xs ++ ys) a c
-walked_joined ops [] ys a b c h k = subst (λ (z : Facts). WalkedIds ops ys z c) (λ i y. h y i) k
-walked_joined ops (x ∷ xs) ys a b c h k = (h.0, h.1, walked_joined ops xs ys h.0 b c h.2 k)
-
--- an operation, and then what is inside it
-pub walked_whole : (ops : ℕ → Option Header) (i : Inside) (t : Op) (a m c : Facts) → op_view i ≡ t → (IsThere ops i.id → (y : ℕ) → m y ≡ with_fact i.id (value ops a i.id) a y)
-    → WalkedIds ops (regions_ids (regions_of (map region_view i.regions.items))) m c → WalkedIds ops (ids t) a c
-walked_whole ops i t a m c is first rest = subst (λ z. WalkedIds ops (ids z) a c) is (m, first, rest)
 
 -- along the operations that are there
 walked_heads : (ops : ℕ → Option Header) (hs : List Header) (a b : Facts) → ((h : Header) → In h hs → ops h.id ≡ Some h) → WalkedIds ops (map (λ (h : Header). h.id) hs) a b → (y : ℕ) → b y ≡ walk hs a y

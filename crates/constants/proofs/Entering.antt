@@ -1,5 +1,5 @@
 -- One operation of a walk.
-use Rattle.std.proofs.Common.{◌≡◌, ℕ, Bool, true, false, Option, sym, ap, ◌∙◌}
+use Rattle.std.proofs.Common.{◌≡◌, ℕ, Bool, true, false, Option, ap, ◌∙◌}
 use Rattle.std.specs.Bool.{OnTrue}
 use Rattle.dialects_int.specs.Folds.{Known}
 use Rattle.constants_base.specs.Facts.{Header, Facts, value}

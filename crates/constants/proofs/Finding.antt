@@ -1,5 +1,5 @@
 -- What was learnt in a world is learnt in the world that it is.
-use Rattle.std.proofs.Common.{◌≡◌, ℕ, Option, List, sym, subst}
+use Rattle.std.proofs.Common.{◌≡◌, ℕ, Option, List, subst}
 use Rattle.ir_tree_laws.specs.Members.{In}
 use Rattle.constants_base.specs.Facts.{Header, Facts}
 use Rattle.constants_base.specs.Trails.{IsThere}

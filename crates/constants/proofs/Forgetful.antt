@@ -1,5 +1,5 @@
 -- The forms in which the code of the first phase has its facts.
-use Rattle.std.proofs.Common.{◌≡◌, ◌<◌, ◌≤◌, ℕ, List, [], ◌∷◌, ◌++◌, length, map, get_or, take, Bool, true, false, true≢false, Option, Some, None, is_none, is_some, ◌⊎◌, inl, inr, refl, sym, ap, ◌∙◌, subst, cond, arith}
+use Rattle.std.proofs.Common.{◌≡◌, ◌<◌, ◌≤◌, ℕ, List, [], ◌∷◌, ◌++◌, length, get_or, take, Bool, true, false, true≢false, Option, Some, None, refl, sym, ap, ◌∙◌, subst, cond, arith}
 use Rattle.std.proofs.lemmas.List.{take_all}
 use Rattle.ir_types.specs.declared.bits.Bits.{Bits}
 use Rattle.ir_tree_laws.specs.Members.{In}

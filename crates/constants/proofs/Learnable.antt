@@ -1,15 +1,12 @@
 -- The forms in which the code of the second phase has its facts.
-use Rattle.std.proofs.Common.{◌≡◌, ◌+◌, ◌≤◌, ℕ, List, [], ◌∷◌, ◌++◌, length, Bool, true, false, true≢false, Option, Some, None, ◌⊎◌, inl, inr, refl, sym, ap, ◌∙◌, subst, cond, arith}
+use Rattle.std.proofs.Common.{◌≡◌, ℕ, List, [], ◌∷◌, ◌++◌, Bool, true, false, true≢false, Option, Some, None, inl, inr, refl, sym, ap, ◌∙◌, cond}
 use Rattle.std.specs.Bool.{OnTrue}
-use Rattle.ir_types.specs.declared.bits.Bits.{Bits}
-use Rattle.ir_tree_laws.specs.Members.{In}
-use Rattle.dialects_int.specs.Folds.{Known, known_of}
+use Rattle.dialects_int.specs.Folds.{Known}
 use Rattle.constants_base.specs.Facts.{Header, Facts, value}
 use Rattle.constants_base.specs.Walk.{with_fact}
-use Rattle.constants_base.specs.Trails.{Uses, IsThere}
-use Rattle.constants_base.specs.Phases.{Noted, Learnt, AreUsers}
+use Rattle.constants_base.specs.Phases.{Noted, Learnt}
 use Rattle.constants_base.proofs.Walks.{not_both}
-use Rattle.constants_base.proofs.Learns.{learnt_nothing, learnt_noted, learnt_more, learnt_as}
+use Rattle.constants_base.proofs.Learns.{learnt_nothing}
 use Rattle.constants.proofs.Forgetful.{never}
 
 pub on_true_is : (b : Bool) (P : Type 0) → b ≡ true → OnTrue b P → P

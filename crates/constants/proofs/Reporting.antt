@@ -1,7 +1,6 @@
 -- What the report shows.
-use Rattle.std.proofs.Common.{◌≡◌, ℕ, ◌<◌, ◌≤◌, List, [], ◌∷◌, ◌++◌, Bool, true, false, true≢false, Option, Some, None, ◌⊎◌, inl, inr, refl, sym, ap, ◌∙◌, subst, arith, cond, eqb, map}
-use Rattle.std.specs.Prelude.{nat_lt, option_map}
-use Rattle.std.specs.List.{AllByRecursion, All, IsDistinct}
+use Rattle.std.proofs.Common.{◌≡◌, ℕ, List, [], ◌∷◌, true, false, Some, refl, sym, ap, ◌∙◌, subst, arith, cond, eqb, map}
+use Rattle.std.specs.List.{AllByRecursion, All}
 use Rattle.std.specs.List.Sorted.{IsStrictlySortedBy}
 use Rattle.std.specs.Ordering.{nat_cmp, is_eq}
 use Rattle.std.specs.declared.cmp.Ordering.TheVariants.{Less}
@@ -12,15 +11,13 @@ use Rattle.std.proofs.lemmas.Bool.Decides.{nat_tests}
 use Rattle.std.proofs.lemmas.List.Elements.{All-cons, All-nil}
 use Rattle.ir_types.specs.declared.bits.Bits.{Bits}
 use Rattle.ir_types.specs.Things.{Things}
-use Rattle.ir_tree.specs.Ids.{ids, HasDistinctIds}
+use Rattle.ir_tree.specs.Ids.{HasDistinctIds}
 use Rattle.ir_tree.specs.Meaning.{Operation}
-use Rattle.ir_event.specs.declared.row.Cell.{Cell}
 use Rattle.ir_event.specs.declared.row.Cell.TheVariants as cell
 use Rattle.ir_tree.specs.declared.value.Value.TheVariants.{Result}
 use Rattle.ir_event.specs.declared.row.Row.{Row as Line}
-use Rattle.ir_event.specs.Rows.{CellTerm, cell_meaning, rows_meaning, CellIsOf, RowIsOf, Shows}
+use Rattle.ir_event.specs.Rows.{cell_meaning, rows_meaning, CellIsOf, RowIsOf, Shows}
 use Rattle.dialects_int.specs.Folds.{Known, known_of}
-use Rattle.constants_base.specs.Facts.{Facts}
 use Rattle.constants_base.specs.Walk.{facts_of}
 use Rattle.constants_base.specs.Rows.{constants_of, constant_row, constants_rows}
 use Rattle.constants_base.proofs.Sorted.{look, Above, Rising, rising_same, constants_rising, constants_look}

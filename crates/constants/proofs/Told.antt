@@ -1,18 +1,14 @@
 -- The listener agrees with the module after an event that it followed.
-use Rattle.std.proofs.Common.{◌≡◌, ◌≤◌, ◌+◌, ℕ, Bool, true, false, true≢false, List, [], Option, Some, None, ◌⊎◌, inl, inr, refl, sym, ap, ◌∙◌, subst, arith}
-use Rattle.std.proofs.lemmas.Bool.{cases_eq}
+use Rattle.std.proofs.Common.{◌≡◌, ◌≤◌, ◌+◌, ℕ, sym, ap, ◌∙◌, subst, arith}
 use Rattle.ir_types.specs.Things.{Things}
-use Rattle.ir_tree.specs.Ids.{HasDistinctIds}
-use Rattle.ir_tree.specs.Meaning.{Operation}
 use Rattle.ir_event.specs.declared.event.Event.{Event}
 use Rattle.ir_event.specs.declared.event.Event.TheVariants.{Put, Take, SetOperand, SetEntry, Shift}
 use Rattle.ir_event.specs.Modules.{Module}
 use Rattle.ir_event.specs.Step.{Step}
 use Rattle.constants_base.specs.Heads.{heads}
-use Rattle.constants_base.specs.Facts.{Header, Facts, look, folded_if, value, AreLocal}
-use Rattle.constants_base.specs.Walk.{facts_of, AreOrdered}
+use Rattle.constants_base.specs.Facts.{Facts, look, folded_if, AreLocal}
+use Rattle.constants_base.specs.Walk.{facts_of}
 use Rattle.constants_base.specs.Reached.{reached, most_over, most_looks}
-use Rattle.constants_base.specs.Trails.{IsThere}
 use Rattle.constants_base.proofs.Walks.{value_same}
 use Rattle.constants_base.proofs.Looked.{local_facts, same_facts_local}
 use Rattle.constants_base.proofs.Events.{ChangedAt, ordered_after, put_changed, operand_changed, entry_changed, shift_same, taken_local}

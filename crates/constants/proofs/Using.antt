@@ -1,19 +1,18 @@
 -- The users of a result, and what an operation that is shown folds to.
-use Rattle.std.proofs.Common.{◌≡◌, ◌≢◌, ◌≤◌, ℕ, ◌+◌, ◌-◌, ◌^◌, min, List, [], ◌∷◌, ◌++◌, length, map, Bool, true, false, true≢false, ◌||◌, ◌&&◌, Option, Some, None, ◌⊎◌, inl, inr, refl, sym, ap, ◌∙◌, subst, arith, cond, eqb, length-append}
-use Rattle.std.specs.List.{list_any}
+use Rattle.std.proofs.Common.{◌≡◌, ◌≤◌, ℕ, ◌+◌, ◌-◌, ◌^◌, min, List, [], ◌∷◌, ◌++◌, length, map, Bool, true, false, true≢false, ◌||◌, ◌&&◌, Option, Some, None, inl, inr, refl, sym, ap, ◌∙◌, subst, arith, cond, eqb, length-append}
 use Rattle.std.specs.Option.{option_map}
 use Rattle.std.specs.Prelude.{All}
 use Rattle.std.specs.FinMap as finmap
-use Rattle.std.proofs.lemmas.Bool.{eq-eqb, ne_eqb, cases_eq, eqb-true}
+use Rattle.std.proofs.lemmas.Bool.{eq-eqb, eqb-true}
 use Rattle.ir_types.specs.declared.bits.Bits.{Bits}
 use Rattle.ir_types.specs.Things.{Things, IsName, IsType, IsAttr}
-use Rattle.ir_types.specs.Terms.{TypeTerm, AttrTerm, name_term, type_term, attr_term}
+use Rattle.ir_types.specs.Terms.{name_term, type_term, attr_term}
 use Rattle.ir_tree.specs.declared.value.Value.{Value}
 use Rattle.ir_tree.specs.declared.value.Value.TheVariants.{Result, Arg}
-use Rattle.ir_tree.specs.Tree.{HeadOf, Op, op, head}
-use Rattle.ir_tree.specs.Ids.{find, first_of, HasDistinctIds}
+use Rattle.ir_tree.specs.Tree.{Op, op, head}
+use Rattle.ir_tree.specs.Ids.{find, first_of}
 use Rattle.ir_tree.specs.Maps.{map_head}
-use Rattle.ir_tree.specs.Meaning.{Operation, meaning}
+use Rattle.ir_tree.specs.Meaning.{meaning}
 use Rattle.ir_tree.specs.Uses.{same_value, operand_uses, uses_of}
 use Rattle.ir_tree.proofs.Mapped.{map_find}
 use Rattle.ir_tree_laws.specs.Members.{In}
@@ -26,12 +25,11 @@ use Rattle.ir_store.specs.Nodes.{Node as Numbers, node_of}
 use Rattle.ir_store.specs.Stored.{known}
 use Rattle.ir_store.specs.Using.{AreUses, EachOnce, is_use, same_use}
 use Rattle.ir_event.specs.declared.world.World.{World}
-use Rattle.ir_event.specs.Modules.{module_in, NodeIsOf}
 use Rattle.ir_event.proofs.Nodes.{known_node}
-use Rattle.dialects_int.specs.Folds.{Known, known_of, entries_of, fold_of}
+use Rattle.dialects_int.specs.Folds.{known_of, entries_of, fold_of}
 use Rattle.constants_base.specs.Heads.{heads}
-use Rattle.constants_base.specs.Facts.{Header, Facts, knowns, folded, folded_if, value, look}
-use Rattle.constants_base.specs.Reached.{one_if, is_result_of, results_among, over, uses_among}
+use Rattle.constants_base.specs.Facts.{Header, Facts, knowns, folded_if, value}
+use Rattle.constants_base.specs.Reached.{uses_among}
 use Rattle.constants_base.specs.Trails.{Uses, IsThere}
 use Rattle.constants_base.specs.Phases.{AreUsers}
 use Rattle.constants_base.proofs.Counts.{length_uses}

@@ -12,7 +12,6 @@ use Rattle.ir_event.specs.declared.row.Cell.TheVariants.{Val, Bits as BitsCell}
 use Rattle.ir_tree.specs.declared.value.Value.TheVariants.{Result}
 use Rattle.ir_event.specs.declared.world.World.{World}
 use Rattle.ir_event.specs.Modules.{module_in}
-use Rattle.ir_event.specs.Bounds.{op_of}
 use Rattle.dialects_int.specs.Folds.{known_of}
 use Rattle.constants_base.specs.Heads.{heads}
 use Rattle.constants_base.specs.Facts.{Header, Facts, look, value, AreLocal}

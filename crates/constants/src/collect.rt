@@ -1,8 +1,7 @@
 //! The table of a module, by one walk in order.
 ghost use Rattle.std.specs.Prelude.{◌≡◌, ℕ};
 ghost use Rattle.std.specs.Bool.{OnTrue};
-ghost use Rattle.ir_tree.specs.Ids.{ids, region_ids};
-ghost use Rattle.ir_tree.specs.View.{region_view};
+ghost use Rattle.ir_tree.specs.Ids.{ids};
 ghost use Rattle.dialects_int.specs.Folds.{known_of};
 ghost use Rattle.constants_base.specs.Facts.{value};
 ghost use Rattle.constants_base.specs.Walk.{with_fact};
@@ -13,7 +12,6 @@ use crate::table::{drop_fact, note};
 use crate::users::folded;
 use ir_event::view::View;
 use ir_event::world::World;
-use ir_tree::tree::{TreeOp, TreeRegion};
 use ir_types::bits::Bits;
 use ir_types::ids::OpId;
 use std::alloc::Global;
@@ -43,43 +41,24 @@ fn enter(alloc: Global, world: &World, table: &mut BTreeMap<OpId, Bits>, op: OpI
     }
 }
 
-/// Writes what an operation and those inside it fold to, in order.
-#[cycle(enter)]
-pub(crate) fn enter_tree(
-    alloc: Global,
-    world: &World,
-    root: &TreeOp,
-    table: &mut BTreeMap<OpId, Bits>,
-) -> bool
-    ensures { OnTrue result (WalkedIds (look_in world.now) (ids root.now) (known_in table.old) (known_in table.new)) }
+/// Writes what operations fold to, one after another.
+fn enter_all(alloc: Global, world: &World, ops: &[OpId], table: &mut BTreeMap<OpId, Bits>) -> bool
+    ensures { OnTrue result (WalkedIds (look_in world.now) ops.now (known_in table.old) (known_in table.new)) }
 {
-    if !enter(alloc, world, table, root.id) {
-        return false;
-    }
-    for region in &root.regions {
-        if !enter_region(alloc, world, region, table) {
+    for op in ops {
+        if !enter(alloc, world, table, *op) {
             return false;
         }
     }
     true
 }
 
-/// Writes what the operations of a region fold to.
-#[cycle(enter)]
-fn enter_region(
-    alloc: Global,
-    world: &World,
-    region: &TreeRegion,
-    table: &mut BTreeMap<OpId, Bits>,
-) -> bool
-    ensures { OnTrue result (WalkedIds (look_in world.now) (region_ids (region_view region.now)) (known_in table.old) (known_in table.new)) }
+/// Writes what the operations of a world's module fold to, in order. It is false where memory was refused.
+pub(crate) fn enter_module(alloc: Global, world: &World, table: &mut BTreeMap<OpId, Bits>) -> bool
+    ensures { OnTrue result (WalkedIds (look_in world.now) (ids world.now.store.module_of.tree) (known_in table.old) (known_in table.new)) }
 {
-    if let TreeRegion::Block { ops, .. } = region {
-        for op in ops {
-            if !enter_tree(alloc, world, op, table) {
-                return false;
-            }
-        }
-    }
-    true
+    let Ok(ops) = world.store.operations() else {
+        return false;
+    };
+    enter_all(alloc, world, &ops, table)
 }

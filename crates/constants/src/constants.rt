@@ -4,7 +4,7 @@ ghost use Rattle.ir_event.specs.Modules.{Module, things_in, module_in, shown_in}
 ghost use Rattle.ir_event.specs.Listener.{Told, ShowsTaken, is_take};
 ghost use Rattle.ir_event.specs.Step.{Step};
 
-use crate::collect::enter_tree;
+use crate::collect::enter_module;
 use crate::follow::follow;
 use crate::report::lines;
 use ir_event::analysis::Analysis;
@@ -57,10 +57,7 @@ impl Analysis for Constants {
         // What was kept goes first, so that there is room for what is kept now.
         self.table = BTreeMap::new(self.alloc);
         self.stale = true;
-        let Ok(tree) = world.store.tree() else {
-            return Err(Memory);
-        };
-        if !enter_tree(self.alloc, world, &tree, &mut self.table) {
+        if !enter_module(self.alloc, world, &mut self.table) {
             return Err(Memory);
         }
         self.stale = false;

@@ -1,5 +1,4 @@
-use Rattle.std.proofs.Common.{◌≡◌, Some, None, ap, sym, ◌∙◌, subst}
-use Rattle.std.specs.Bool.{OnTrue}
+use Rattle.std.proofs.Common.{◌≡◌, subst}
 use Rattle.ir_event.specs.declared.world.World.{World}
 use Rattle.dialects_int.specs.Folds.{known_of}
 use Rattle.constants_base.specs.Trails.{IsThere}

@@ -1,9 +1,5 @@
-use Rattle.std.proofs.Common.{◌≡◌, ℕ, List, true, false, refl, sym, ◌∙◌, rules, subst}
-use Rattle.ir_event.specs.declared.world.World.{World}
+use Rattle.std.proofs.Common.{◌≡◌, true, false, refl, rules}
 use Rattle.ir_event.specs.Modules.{module_in}
-use Rattle.ir_tree_laws.specs.Members.{In}
-use Rattle.constants_base.specs.Trails.{IsThere}
-use Rattle.constants_base.specs.Phases.{LearntFrom}
 use Rattle.constants_base.proofs.Updating.{trail_there, broken_looks, whole_looks}
 use Rattle.constants.proofs.Forgetful.{never}
 use Rattle.constants.proofs.Finding.{learnt_in}

@@ -1,5 +1,4 @@
-use Rattle.std.proofs.Common.{◌≡◌, true, sym, ap, ◌∙◌}
-use Rattle.dialects_int.specs.Folds.{known_of}
+use Rattle.std.proofs.Common.{◌≡◌, true}
 use Rattle.constants.proofs.Learnable.{learnt_known, learnt_not}
 use Rattle.constants.proofs.Forgetful.{known_none, known_some}
 use Rattle.constants.specs.Tables.{known_in, look_in}

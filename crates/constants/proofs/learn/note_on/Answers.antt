@@ -1,4 +1,4 @@
-use Rattle.std.proofs.Common.{◌≡◌, ◌∷◌, true, false, rules}
+use Rattle.std.proofs.Common.{◌≡◌, true, false, rules}
 use Rattle.constants.proofs.Learnable.{on_true_is, noted_pushed, note_refused}
 use Rattle.constants.specs.Tables.{known_in}
 use Rattle.constants.proofs.learn.note_on.Goals as goal

@@ -1,7 +1,4 @@
-use Rattle.std.proofs.Common.{◌≡◌, Some, sym, ◌∙◌, ap}
-use Rattle.std.specs.Option.{option_map}
-use Rattle.ir_store.specs.Nodes.{node_of}
-use Rattle.ir_store.specs.Stored.{known}
+use Rattle.std.proofs.Common.{sym, ◌∙◌, ap}
 use Rattle.ir_event.specs.declared.world.World.{World}
 use Rattle.constants.proofs.Using.{not_shown, properties_known, results_known, folds_as}
 use Rattle.constants.specs.Tables.{known_in}

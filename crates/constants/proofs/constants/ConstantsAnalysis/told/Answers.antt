@@ -1,4 +1,4 @@
-use Rattle.std.proofs.Common.{◌≡◌, true, false, true≢false, refl, sym, ◌∙◌, inl, inr, rules}
+use Rattle.std.proofs.Common.{◌≡◌, true, true≢false, refl, sym, ◌∙◌, inl, inr, rules}
 use Rattle.ir_event.specs.Modules.{module_in}
 use Rattle.constants.proofs.Told.{followed_facts, followed_looks}
 use Rattle.constants.specs.Tables.{known_in}
