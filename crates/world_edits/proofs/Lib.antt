@@ -3,3 +3,4 @@ pub mod Gone
 pub mod Putting
 pub mod Taking
 pub mod Entering
+pub mod Undoing

@@ -86,17 +86,16 @@ module _ (c : Things) (x : ℕ) (s u : Stored) where
       (taken_steps c x place false s.module_of (after_take x s).module_of w (take_keeps (isolated_in c) x s.module_of w e) sound (subst (λ p. Takes x p false s.module_of (after_take x s).module_of) same t.1))
 
   -- and it is shown as it was
-  pub still_shown : take_reason x s.module_of.tree ≡ None → u ≡ after_take x s
-      → option_map (λ o. node_of (meaning c o)) (known x u) ≡ option_map node_of (find x (meaning c s.module_of.tree))
-  still_shown e is =
-      ap (λ v. option_map (λ o. node_of (meaning c o)) (known x v)) is
-      ∙ ap (λ q. option_map (λ o. node_of (meaning c o)) (first_of q (finmap.get (hold x (find x s.module_of.tree) s.held) x))) (not_there x s.module_of.tree reasons.inner)
+  pub still_shown : has_id x s.module_of.tree ≡ true → eqb (head s.module_of.tree).id x ≡ false
+      → option_map (λ o. node_of (meaning c o)) (known x (after_take x s)) ≡ option_map node_of (find x (meaning c s.module_of.tree))
+  still_shown there inner =
+      ap (λ q. option_map (λ o. node_of (meaning c o)) (first_of q (finmap.get (hold x (find x s.module_of.tree) s.held) x))) (not_there x s.module_of.tree inner)
       ∙ go (find x s.module_of.tree) refl
       ∙ sym (ap (option_map node_of) (map_find (name_term c) (type_term c) (attr_term c) x s.module_of.tree))
     where
-      reasons : NoTakeReason x s.module_of.tree
-      reasons = no_take_reason x s.module_of.tree e
-
       go : (q : Option Op) → find x s.module_of.tree ≡ q → option_map (λ o. node_of (meaning c o)) (finmap.get (hold x q s.held) x) ≡ option_map node_of (option_map (meaning c) q)
-      go None f = absurd (true≢false (sym reasons.there ∙ none_found x s.module_of.tree f))
+      go None f = absurd (true≢false (sym there ∙ none_found x s.module_of.tree f))
       go (Some o) f = ap (option_map (λ o. node_of (meaning c o))) (held_now x (Some o) s.held o refl)
+
+  pub shown_taken : take_reason x s.module_of.tree ≡ None → u ≡ after_take x s → option_map (λ o. node_of (meaning c o)) (known x u) ≡ option_map node_of (find x (meaning c s.module_of.tree))
+  shown_taken e is = (let reasons = no_take_reason x s.module_of.tree e in ap (λ v. option_map (λ o. node_of (meaning c o)) (known x v)) is ∙ still_shown reasons.there reasons.inner)

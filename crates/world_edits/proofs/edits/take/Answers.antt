@@ -1,5 +1,5 @@
 use Rattle.std.proofs.Common.{refl, sym}
-use Rattle.world_edits.proofs.Taking.{sound_after, formed_after, held_after, stood, take_step, still_shown}
+use Rattle.world_edits.proofs.Taking.{sound_after, formed_after, held_after, stood, take_step, shown_taken}
 use Rattle.world_edits.proofs.edits.take.Goals as goal
 
 pub invariant_of-world : goal.invariant_of-world
@@ -19,7 +19,7 @@ returns-clause-step c =
 pub returns-clause-shown : goal.returns-clause-shown
 returns-clause-shown c =
     let w = c.args.world.now in
-    still_shown w.ctx c.args.op w.store c.take.new.self c.in-Ok.ensures.0 c.in-Ok.ensures.1
+    shown_taken w.ctx c.args.op w.store c.take.new.self c.in-Ok.ensures.0 c.in-Ok.ensures.1
 
 pub returns-in_default-clause-refused : goal.returns-in_default-clause-refused
 returns-in_default-clause-refused c =

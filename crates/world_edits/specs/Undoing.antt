@@ -1,0 +1,44 @@
+-- Undoing an event in a store.
+use Rattle.std.specs.Prelude.{◌≡◌, ℕ, Bool, true, Option, Some, None, IfSome, is_some}
+use Rattle.std.specs.FinMap as map
+use Rattle.ir_types.specs.Things.{Things, IsName, IsAttr}
+use Rattle.ir_tree.specs.Tree.{Op}
+use Rattle.ir_tree.specs.Ids.{find}
+use Rattle.ir_tree.specs.Meaning.{IsSoundIn, isolated_in, key_before_in, meaning}
+use Rattle.ir_tree_laws.specs.Reasons.{set_operand_reason}
+use Rattle.ir_store.specs.Stored.{Stored, has_slot}
+use Rattle.ir_store.specs.Calls.{after_entry, after_operand, after_restore, after_retract, after_shift, CanRestore, CanRetract, CanRevert}
+use Rattle.ir_event.specs.declared.event.Event.{Event}
+use Rattle.ir_event.specs.declared.event.Event.TheVariants.{Put, Take, SetOperand, SetEntry, Shift}
+use Rattle.ir_event.specs.Modules.{Module, module_meaning}
+use Rattle.ir_event.specs.Step.{Step}
+
+-- what undoing an event makes of a store
+abbrev pub undone : Things → Event → Stored → Stored
+undone c (Put x place fresh) s = after_retract x fresh s
+undone c (Take x place fresh) s = after_restore x place fresh s
+undone c (SetOperand x k old new) s = after_operand x k old s
+undone c (SetEntry x part k old new) s = after_entry (key_before_in c) x part k old s
+undone c (Shift x old new) s = after_shift x old s
+
+-- what the store's calls ask for it
+abbrev pub MayUndo : Things → Event → Stored → Type 0
+MayUndo c (Put x place fresh) s = CanRetract x fresh s
+MayUndo c (Take x place fresh) s = CanRestore x place fresh s
+MayUndo c (SetOperand x k old new) s = set_operand_reason (isolated_in c) x k old s.module_of.tree ≡ None
+MayUndo c (SetEntry x part k old new) s = CanRevert x part k old s × (IsName c k × (IfSome old (λ a. IsAttr c a) × IsSoundIn c s.module_of.tree))
+MayUndo c (Shift x old new) s = ⊥
+
+-- a store still holds what an event took from a module p, and still has the slot of an entry that it changed; an entry
+-- that wasn't there was set
+abbrev pub Keeps : Things → Event → Module → Stored → Type 0
+Keeps c (Put x place fresh) p s = Unit {0}
+Keeps c (Take x place fresh) p s = (o : Op) × (map.get s.held x ≡ Some o) × (find x p.tree ≡ Some (meaning c o))
+Keeps c (SetOperand x k old new) p s = Unit {0}
+Keeps c (SetEntry x part k old new) p s = (has_slot x part k s ≡ true) × (old ≡ None → is_some new ≡ true)
+Keeps c (Shift x old new) p s = ⊥
+
+-- the event led from p to the module of a store, which keeps what undoing it needs
+pub record CameFrom (c : Things) (e : Event) (p : Module) (s : Stored) : Type 0 where
+  pub step : Step c e p (module_meaning c s.module_of)
+  pub keeps : Keeps c e p s
