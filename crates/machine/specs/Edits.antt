@@ -1,0 +1,149 @@
+-- Edits of a module as data: what each makes of a module, and why one is refused.
+use Rattle.std.specs.Prelude.{ℕ, ◌+◌, nat_le, eqb, Bool, not, ◌||◌, Option, Some, None, is_some, if◌then◌else◌}
+use Rattle.std.specs.List.{list_all}
+use Rattle.std.specs.Option.{option_eq}
+use Rattle.ir_types.specs.declared.refusal.Refusal.{Refusal}
+use Rattle.ir_types.specs.declared.refusal.Refusal.TheVariants.{NoSuchOp, NoSuchValue, HasUses, NotVisible, TypeDiffers, NoSuchIndex, IsRoot, Full, IdsExhausted, TooDeepHere}
+use Rattle.ir_tree.specs.declared.value.Value.{Value}
+use Rattle.ir_tree.specs.declared.place.Place.{Place}
+use Rattle.ir_tree.specs.declared.place.Part.{Part}
+use Rattle.ir_tree.specs.declared.place.Part.TheVariants.{Props, Attrs}
+use Rattle.ir_tree.specs.Tree.{HeadOf, OpOf, head}
+use Rattle.ir_tree.specs.Ids.{find, has_id, op_count}
+use Rattle.ir_tree.specs.Sites.{visible, operands_visible}
+use Rattle.ir_tree.specs.Frames.{owner_of}
+use Rattle.ir_tree.specs.Limits.{depth, every, most_ops, most_next, op_fits}
+use Rattle.ir_tree.specs.Uses.{uses_of}
+use Rattle.ir_tree.specs.Edits.{with_operand, with_value_replaced, with_entry, entry_at}
+use Rattle.ir_tree.specs.Places.{put, without, shifted}
+use Rattle.ir_tree.specs.WellFormed.{ModuleOf}
+use Rattle.ir_tree_laws.specs.Values.{type_of_value, has_value}
+use Rattle.ir_tree_laws.specs.Reads.{is_within, around}
+use Rattle.ir_tree_laws.specs.Reasons.{unless, has_place, fits_around, with_id, put_reason, set_operand_reason, set_entry_reason, shift_reason}
+
+-- the tests of names, keys and types by which modules are edited
+pub record TestsOf (N T : Type 0) : Type 0 where
+  -- the operations of a name are isolated from above
+  pub isolated : N → Bool
+  -- they are symbol tables
+  pub table : N → Bool
+  -- a key is inherent to them: it is one of their properties
+  pub inherent : N → N → Bool
+  -- a key comes before another
+  pub before : N → N → Bool
+  -- two types are one
+  pub same_type : T → T → Bool
+
+-- an edit
+pub data EditOf (N T A : Type 0) : Type 0 where
+  -- an operation, with what is inside it, put at a place
+  Insert : Place → OpOf N T A → EditOf N T A
+  -- an operation without operations in its blocks, whose id isn't looked at, put at a place under the next free id
+  Make : Place → OpOf N T A → EditOf N T A
+  -- an operation taken away, with what is inside it
+  Erase : ℕ → EditOf N T A
+  -- an operation moved to a place, with what is inside it
+  Move : ℕ → Place → EditOf N T A
+  -- a value set as an operand of an operation, by its number
+  SetOperand : ℕ → ℕ → Value → EditOf N T A
+  -- the second value in place of the first, wherever it is used
+  Replace : Value → Value → EditOf N T A
+  -- an attribute set at a key of an operation
+  SetAttr : ℕ → N → A → EditOf N T A
+  -- the entry at a key of an operation taken out
+  DropAttr : ℕ → N → EditOf N T A
+
+-- the dictionary of an operation in which a key belongs: the properties, where it is inherent or they have it, else
+-- the attributes
+abbrev pub part_in : {N T A : Type 0} → TestsOf N T → N → Option (OpOf N T A) → Part
+part_in w k None = Attrs
+part_in w k (Some o) = if w.inherent (head o).name k || is_some (entry_at w.before k (head o).properties) then Props else Attrs
+
+-- the same for operation x of a tree
+abbrev pub part_for : {N T A : Type 0} → TestsOf N T → ℕ → N → OpOf N T A → Part
+part_for w x k t = part_in w k (find x t)
+
+-- ---- what an edit makes of a module
+
+-- the tree after an edit, where an id is the next free one
+abbrev pub tree_edited : {N T A : Type 0} → TestsOf N T → EditOf N T A → ℕ → OpOf N T A → OpOf N T A
+tree_edited w (Insert place o) free t = put place o t
+tree_edited w (Make place o) free t = put place (with_id free o) t
+tree_edited w (Erase x) free t = without x t
+tree_edited w (Move x place) free t = shifted x place t
+tree_edited w (SetOperand x k v) free t = with_operand x k v t
+tree_edited w (Replace old new) free t = with_value_replaced old new t
+tree_edited w (SetAttr x k a) free t = with_entry w.before x (part_for w x k t) k (Some a) t
+tree_edited w (DropAttr x k) free t = with_entry w.before x (part_for w x k t) k None t
+
+-- how many ids an edit gives out
+abbrev pub ids_given : {N T A : Type 0} → EditOf N T A → ℕ
+ids_given (Insert place o) = op_count o
+ids_given (Make place o) = 1
+ids_given (Erase x) = 0
+ids_given (Move x place) = 0
+ids_given (SetOperand x k v) = 0
+ids_given (Replace old new) = 0
+ids_given (SetAttr x k a) = 0
+ids_given (DropAttr x k) = 0
+
+-- the module after an edit
+abbrev pub edited_by : {N T A : Type 0} → TestsOf N T → EditOf N T A → ModuleOf N T A → ModuleOf N T A
+edited_by w e m = record { tree = tree_edited w e m.next m.tree; next = m.next + ids_given e }
+
+-- ---- why an edit is refused: the first reason in this order, if there is one
+
+-- to put operation o, with what is inside it, at a place, where `free` is the next free id: the place's parent isn't
+-- there; no such place; a count would pass its limit; not enough ids are left; too many operations would stand around
+-- one; an operand would not be visible
+abbrev pub insert_reason : {N T A : Type 0} → (N → Bool) → Place → OpOf N T A → ℕ → OpOf N T A → Option Refusal
+insert_reason isolated place o free t =
+    unless (has_id place.parent t) NoSuchOp
+    (unless (has_place place t) NoSuchIndex
+    (unless (nat_le (op_count t + op_count o) most_ops) Full
+    (unless (every op_fits o) Full
+    (unless (nat_le (free + op_count o) most_next) IdsExhausted
+    (unless (fits_around (depth o) (around place.parent t)) TooDeepHere
+    (unless (operands_visible isolated (put place o t)) NotVisible None))))))
+
+-- whether no operand of a head is a value of an operation that may be there, or of one within it
+abbrev pub leaves_within : {N T A : Type 0} → Option (OpOf N T A) → HeadOf N T A → Bool
+leaves_within o h = list_all (λ v. not (is_within (owner_of v).0 o)) h.operands
+
+-- whether no operation that stands neither at x nor within it uses a value from there
+abbrev pub unused_outside : {N T A : Type 0} → ℕ → OpOf N T A → Bool
+unused_outside x t = every (λ o. leaves_within (find x t) (head o)) (without x t)
+
+-- to erase operation x: it isn't there; it is the root; a value from there is used outside it
+abbrev pub erase_reason : {N T A : Type 0} → ℕ → OpOf N T A → Option Refusal
+erase_reason x t =
+    unless (has_id x t) NoSuchOp
+    (unless (not (eqb (head t).id x)) IsRoot
+    (unless (unused_outside x t) HasUses None))
+
+-- whether each operation that uses the first value sees the second
+abbrev pub users_see : {N T A : Type 0} → (N → Bool) → Value → Value → OpOf N T A → Bool
+users_see isolated old new t = list_all (λ u. visible isolated t u.0 new) (uses_of old t)
+
+-- to replace a value by another: the first isn't there; the second isn't; their types differ; a user of the first
+-- doesn't see the second
+abbrev pub replace_reason : {N T A : Type 0} → TestsOf N T → Value → Value → OpOf N T A → Option Refusal
+replace_reason w old new t =
+    unless (has_value old t) NoSuchValue
+    (unless (has_value new t) NoSuchValue
+    (unless (option_eq w.same_type (type_of_value old t) (type_of_value new t)) TypeDiffers
+    (unless (users_see w.isolated old new t) NotVisible None)))
+
+-- why an edit of a tree is refused, where an id is the next free one
+abbrev pub tree_reason : {N T A : Type 0} → TestsOf N T → EditOf N T A → ℕ → OpOf N T A → Option Refusal
+tree_reason w (Insert place o) free t = insert_reason w.isolated place o free t
+tree_reason w (Make place o) free t = put_reason w.isolated place o free t
+tree_reason w (Erase x) free t = erase_reason x t
+tree_reason w (Move x place) free t = shift_reason w.isolated w.table x place t
+tree_reason w (SetOperand x k v) free t = set_operand_reason w.isolated x k v t
+tree_reason w (Replace old new) free t = replace_reason w old new t
+tree_reason w (SetAttr x k a) free t = set_entry_reason w.before x (part_for w x k t) k (Some a) t
+tree_reason w (DropAttr x k) free t = set_entry_reason w.before x (part_for w x k t) k None t
+
+abbrev pub reason_by : {N T A : Type 0} → TestsOf N T → EditOf N T A → ModuleOf N T A → Option Refusal
+reason_by w e m = tree_reason w e m.next m.tree

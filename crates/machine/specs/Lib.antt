@@ -1,0 +1,8 @@
+pub mod Types
+pub mod Edits
+pub mod Contents
+pub mod Panels
+pub mod Machine
+pub mod Runs
+pub mod Spots
+pub mod Commands

@@ -1,0 +1,64 @@
+-- The attached analyses: what may be seen of them, and what calls make of them.
+use Rattle.std.specs.Prelude.{◌≡◌, ℕ, List, [], ◌∷◌, ◌++◌, Bool, true, false, ◌==◌, Some, is_some, map, position, remove, slice_get, slice_set}
+use Rattle.std.specs.List.{AllZip}
+use Rattle.ir_tree.specs.Meaning.{Operation}
+use Rattle.ir_event.specs.Rows.{RowTerm}
+use Rattle.ir_event.specs.Listener.{Listener}
+
+-- what may be seen of a listener: its kind, its analysis, and whether it has given up
+pub record Shown : Type 0 where
+  pub kind : ℕ
+  pub analysis : Operation → List RowTerm
+  pub stale : Bool
+
+abbrev pub shown : Listener → Shown
+shown a = record { kind = a.kind; analysis = a.analysis; stale = a.stale }
+
+-- `B` is a type of listeners, and `meaning` what each of them means
+abbrev pub all_shown : {B : Type 0} → (B → Listener) → List B → List Shown
+all_shown meaning bs = map (λ b. shown (meaning b)) bs
+
+-- b is the analysis that a is
+pub record IsSame (a b : Shown) : Type 0 where
+  pub kind : b.kind ≡ a.kind
+  pub analysis : (t : Operation) → b.analysis t ≡ a.analysis t
+
+-- b is the analysis that a is, and no fresher
+pub record Ages (a b : Shown) : Type 0 where
+  pub same : IsSame a b
+  pub stale : a.stale ≡ true → b.stale ≡ true
+
+-- each may have turned stale; none was added, dropped, moved or mended
+abbrev pub AllAge : List Shown → List Shown → Type 0
+AllAge = AllZip Ages
+
+abbrev pub is_kind : ℕ → Shown → Bool
+is_kind kind a = a.kind == kind
+
+-- whether an analysis of a kind is attached
+abbrev pub has_kind : ℕ → List Shown → Bool
+has_kind kind panel = is_some (position (is_kind kind) panel)
+
+-- an analysis was added last, and isn't stale
+pub record Attached (a : Shown) (old new : List Shown) : Type 0 where
+  pub begun : Shown
+  pub same : IsSame a begun
+  pub stale : begun.stale ≡ false
+  pub last : new ≡ old ++ begun ∷ []
+
+-- the analysis of a kind is gone, and the others are in order
+pub record Detached (kind : ℕ) (old new : List Shown) : Type 0 where
+  pub place : ℕ
+  pub is : position (is_kind kind) old ≡ Some place
+  pub rest : new ≡ remove old place
+
+-- the analysis of a kind was begun again, and is now stale or not; the others are as they were
+pub record BegunAgain (kind : ℕ) (stale : Bool) (old new : List Shown) : Type 0 where
+  pub place : ℕ
+  pub before : Shown
+  pub after : Shown
+  pub is : position (is_kind kind) old ≡ Some place
+  pub was : slice_get old place ≡ Some before
+  pub same : IsSame before after
+  pub gives : after.stale ≡ stale
+  pub rest : new ≡ slice_set old place after

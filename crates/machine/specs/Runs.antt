@@ -1,0 +1,51 @@
+-- Lists of calls, with their replies.
+use Rattle.std.specs.Prelude.{◌≡◌, ℕ, zero, suc, List, [], ◌∷◌, Bool, true, false, Option, Some, None, option_and_then}
+use Rattle.machine.specs.Machine.{State, Call, Do, Mark, Step, Commit, Rollback, Attach, Detach, Resync, Report, Print, Reply, Done, DoneAs, Refused, Shows, Goes}
+
+-- a call and how it was answered
+pub record Answered : Type 0 where
+  pub call : Call
+  pub reply : Reply
+  pub shows : Shows
+
+-- from s the machine may answer these calls so, one after another, and go on to t
+abbrev pub Runs : State → List Answered → State → Type 0
+Runs s [] t = t ≡ s
+Runs s (a ∷ more) t = (u : State) × Goes s a.call a.reply a.shows u × Runs u more t
+
+abbrev pub is_refused : Reply → Bool
+is_refused Done = false
+is_refused (DoneAs x) = false
+is_refused (Refused refusal) = true
+
+-- one mark fewer, if there is one
+abbrev pub lower : ℕ → Option ℕ
+lower zero = None
+lower (suc n) = Some n
+
+-- how many marks are open after a call was accepted, where n were before it, and it closed none but these
+abbrev pub level_after : Call → ℕ → Option ℕ
+level_after (Do e) n = Some n
+level_after Mark n = Some (suc n)
+level_after Step n = Some (suc n)
+level_after Commit n = lower n
+level_after Rollback n = lower n
+level_after (Attach a) n = Some n
+level_after (Detach kind) n = Some n
+level_after (Resync kind) n = Some n
+level_after (Report kind) n = Some n
+level_after Print n = Some n
+
+abbrev pub level_answered : Call → Reply → ℕ → Option ℕ
+level_answered call Done n = level_after call n
+level_answered call (DoneAs x) n = level_after call n
+level_answered call (Refused refusal) n = Some n
+
+-- and after a list of them: none, where a mark from before it was closed
+abbrev pub level : List Answered → ℕ → Option ℕ
+level [] n = Some n
+level (a ∷ more) n = option_and_then (level more) (level_answered a.call a.reply n)
+
+-- the calls close each mark that they make, and no other
+abbrev pub IsNested : List Answered → Type 0
+IsNested answered = level answered 0 ≡ Some 0

@@ -1,0 +1,2 @@
+//! What each call of a bench makes of a module, of its marks and of the attached analyses.
+#![tactic(auto)]
