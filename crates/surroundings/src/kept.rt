@@ -4,17 +4,14 @@ ghost use Rattle.std.specs.Ordering.{nat_cmp};
 ghost use Rattle.std.specs.BTreeMap.{get};
 ghost use Rattle.ir_event.specs.Modules.{Module, things_in, module_in};
 ghost use Rattle.ir_event.specs.Step.{Step};
-ghost use Rattle.ir_tree.specs.Ids.{ids};
 ghost use Rattle.ir_tree.specs.Meaning.{Operation};
 ghost use Rattle.surroundings.specs.Facts.{Keeps, Renewed, kept_facts, kept_of, most_looks};
-ghost use Rattle.surroundings.specs.Gathered.{tree_in};
 
 use crate::fact::{Fact, follow, renew};
 use ir_event::event::Event;
 use ir_event::row::Memory;
 use ir_event::view::View;
 use ir_event::world::World;
-use ir_tree::find::list_ids;
 use ir_types::ids::OpId;
 use std::alloc::{AllocError, Global};
 use std::collections::BTreeMap;
@@ -44,19 +41,11 @@ fn renew_all<F: Fact>(
     Ok(())
 }
 
-/// The ids of the operations of a module.
-fn ids_of(alloc: Global, world: &World) -> Result<Vec<OpId>, AllocError>
-    ensures { IfOk result (λ v. v.items ≡ ids (tree_in world.now)) }
-{
-    let tree = world.store.tree()?;
-    list_ids(alloc, &tree)
-}
-
 /// What is kept about the operations of a module.
 fn tabulate<F: Fact>(alloc: Global, world: &World) -> Result<BTreeMap<u32, F>, AllocError>
     ensures { IfOk result (λ t. Keeps F.fact F.kept (module_in world.now).tree (get nat_cmp t)) }
 {
-    let ops = ids_of(alloc, world)?;
+    let ops = world.store.operations()?;
     let mut table = BTreeMap::new(alloc);
     let mut view = View::new(world);
     renew_all(alloc, &mut table, &mut view, &ops)?;
