@@ -40,64 +40,70 @@ TEXT = '''"builtin.module"() ({
 }) : () -> ()
 '''
 TEXTS = [TEXT % '%arg0', TEXT % '%0']
-EDIT, USES, PRINT, BAD = 'set-operand #3 0 %v2.0', 'report uses', 'print', 'jump'
-SCRIPT = [USES, EDIT, USES, PRINT, BAD]
+# Nothing is wrong with either.
+KINDS = {'uses': ROWS, 'diagnostics': ['', '']}
+REPORTS = {'report ' + kind: kind for kind in KINDS}
+FRESH = {kind: 'fresh' for kind in KINDS}
+EDIT, PRINT, BAD = 'set-operand #3 0 %v2.0', 'print', 'jump'
+SCRIPT = [*REPORTS, EDIT, *REPORTS, PRINT, BAD]
 
 
-def replies(command, box, edited, left):
-    """Each reply, whether it accepts, what it shows, the box, the module, and the refusals left."""
+def replies(command, boxes, edited, left):
+    """Each reply, whether it accepts, what it shows, the boxes, the module, and the refusals left."""
+    kind = REPORTS.get(command)
+    box = boxes.get(kind)
     if left:
-        if command == EDIT or command == PRINT or command == USES and box == 'fresh':
-            yield 'refused 36 Memory', False, '', box, edited, left - 1
-    if command == USES:
-        if box == 'none':
-            yield 'refused 41 NoSuchKind', False, '', box, edited, left
+        if command == EDIT or command == PRINT or box == 'fresh':
+            yield 'refused 36 Memory', False, '', boxes, edited, left - 1
+    if kind:
+        if box is None:
+            yield 'refused 41 NoSuchKind', False, '', boxes, edited, left
         elif box == 'stale':
-            yield 'refused 40 Stale', False, '', box, edited, left
+            yield 'refused 40 Stale', False, '', boxes, edited, left
         else:
-            yield 'ok', True, ROWS[edited], box, edited, left
+            yield 'ok', True, KINDS[kind][edited], boxes, edited, left
     elif command == PRINT:
-        yield 'ok', True, TEXTS[edited], box, edited, left
+        yield 'ok', True, TEXTS[edited], boxes, edited, left
     elif command == BAD:
-        yield 'refused 60 BadCommand', False, '', box, edited, left
+        yield 'refused 60 BadCommand', False, '', boxes, edited, left
     else:
-        yield 'ok', True, '', box, 1, left
-        if left and box == 'fresh':
-            yield 'ok', True, '', 'stale', 1, left - 1
+        yield 'ok', True, '', boxes, 1, left
+        for kind, box in boxes.items():
+            if left and box == 'fresh':
+                yield 'ok', True, '', boxes | {kind: 'stale'}, 1, left - 1
 
 
-def listings(box, edited, left):
+def listings(boxes, edited, left):
     texts = [(TEXTS[edited], left)] + [('-- module memory\n', left - 1)] * (left > 0)
-    for text, rest in texts:
-        if box == 'none':
-            yield text, rest
-        elif box == 'stale':
-            yield text + '-- uses stale\n', rest
+    for kind, box in boxes.items():
+        if box == 'stale':
+            texts = [(f'{text}-- {kind} stale\n', rest) for text, rest in texts]
         else:
-            yield text + '-- uses\n' + ROWS[edited], rest
-            if rest:
-                yield text + '-- uses memory\n', rest - 1
+            texts = ([(f'{text}-- {kind}\n{KINDS[kind][edited]}', rest) for text, rest in texts]
+                     + [(f'{text}-- {kind} memory\n', rest - 1) for text, rest in texts if rest])
+    return texts
 
 
-def runs(brief, n, box, edited, left):
+def runs(brief, n, boxes, edited, left):
     """Each status and output from the command with a number on."""
     if n > len(SCRIPT):
         yield 0, ''
         return
     command = SCRIPT[n - 1]
-    for reply, accepts, shows, box2, edited2, left2 in replies(command, box, edited, left):
+    for reply, accepts, shows, boxes2, edited2, left2 in replies(command, boxes, edited, left):
         front = '%d %s\n%s' % (n, reply, shows)
-        listed = [('', left2)] if brief or command in (USES, PRINT) else listings(box2, edited2, left2)
+        listed = [('', left2)] if brief or command in REPORTS or command == PRINT else listings(boxes2, edited2, left2)
         for text, left3 in listed:
-            for status, rest in runs(brief, n + 1, box2, edited2, left3):
+            for status, rest in runs(brief, n + 1, boxes2, edited2, left3):
                 yield status if accepts else 1, front + text + rest
 
 
 def explained(brief):
     found = {(2, '', 'no memory\n'): 'no memory in main', (3, 'module refused 36 Memory\n', ''): 'module refused'}
-    for status, out in runs(brief, 1, 'none', 0, 0):
-        found[1, 'attach uses refused 36 Memory\n' + out, ''] = 'box refused'
-    for status, out in runs(brief, 1, 'fresh', 0, 1):
+    for kind in KINDS:
+        for status, out in runs(brief, 1, {it: box for it, box in FRESH.items() if it != kind}, 0, 0):
+            found[1, f'attach {kind} refused 36 Memory\n' + out, ''] = 'box refused'
+    for status, out in runs(brief, 1, FRESH, 0, 1):
         words = [w for w in ('36 Memory', 'stale', 'Stale', ' memory') if w in out]
         found[status, out, ''] = {'36 Memory': 'command refused', ' memory': 'memory in a listing'}.get(
             words[0], 'listener stale') if words else 'as the whole run'

@@ -1,11 +1,16 @@
 #!/usr/bin/env python3
 """Writes stdin and stdout of crates/mlir_work_cases: each case is a line, and its answer worked out here from the
-rules of scripts, inputs and replies by regular expressions and Python's own cuts. Run it at the top of the repository."""
+rules of scripts, inputs and replies by regular expressions and Python's own cuts. Run it at the top of the repository. The
+whole runs are compared with what the rules of bench/reference give for them."""
 import itertools
 import pathlib
 import re
+import sys
 
-import refusals
+sys.dont_write_bytecode = True
+
+import refusals  # noqa: E402
+from reference import script  # noqa: E402
 
 cases = []
 seen = set()
@@ -292,16 +297,21 @@ PRINTED, EDITED = printed(b"%arg0"), printed(b"%0")
 EMPTY = b"\"builtin.module\"() ({\n^bb0:\n}) : () -> ()\n"
 
 
+BOXES = ("uses", "diagnostics")
+
+
 def run(how, text, status, out):
+    if how in ("brief", "full"):
+        assert script.run(text, how == "brief", BOXES, script.FIRST) == (status, out), text
     case(f"run {how} {given(text)}", f"{status} {told(out)}")
 
 
 def runs():
     """Whole runs: the status and all bytes of the output."""
     over = TEXT + DIVIDER
-    script = b"set-operand #3 2 %v2.0\nset-operand #3 0 %v9.0\nset-operand #3 0 %v3.0\njump\nreport symbols\nreport uses\nprint\n"
+    commands = b"set-operand #3 2 %v2.0\nset-operand #3 0 %v9.0\nset-operand #3 0 %v3.0\njump\nreport symbols\nreport uses\nprint\n"
     replies = b"1 refused 25 NoSuchIndex\n2 refused 21 NoSuchValue\n3 refused 23 NotVisible\n4 refused 60 BadCommand\n5 refused 41 NoSuchKind\n6 ok\n"
-    run("brief", over + script, 1, replies + USES + b"7 ok\n" + PRINTED)
+    run("brief", over + commands, 1, replies + USES + b"7 ok\n" + PRINTED)
     wrong = b"\"test.a\"() {a = 256 : i8} : () -> ()\n"
     for how in ("brief", "full"):
         run(how, wrong + DIVIDER + b"print\n", 3, b"module refused 7 BadValue at 16\n")
@@ -320,10 +330,27 @@ def runs():
     bad = b"print \xff\nreport \xc3\x28uses\nreport uses\n"
     run("brief", over + bad, 1, b"1 refused 60 BadCommand\n2 refused 60 BadCommand\n3 ok\n" + USES)
     # The module and the listing follow each command but `report` and `print`, also a refused one.
-    listed, edited = PRINTED + b"-- uses\n" + USES, EDITED + b"-- uses\n" + EDITED_USES
-    script = b"jump\nreport uses\nset-operand #3 0 %v2.0\nset-operand #0 0 %v2.0\nprint\n"
-    run("full", over + script, 1,
+    listed, edited = PRINTED + b"-- uses\n" + USES + b"-- diagnostics\n", EDITED + b"-- uses\n" + EDITED_USES + b"-- diagnostics\n"
+    commands = b"jump\nreport uses\nset-operand #3 0 %v2.0\nset-operand #0 0 %v2.0\nprint\n"
+    run("full", over + commands, 1,
         b"1 refused 60 BadCommand\n" + listed + b"2 ok\n" + USES + b"3 ok\n" + edited + b"4 refused 25 NoSuchIndex\n" + edited + b"5 ok\n" + EDITED)
+    # What is wrong with a module follows its edits.
+    wrong = b"""\"func.func\"() <{function_type = (i32, i64) -> i32, sym_name = \"g\"}> ({
+^bb0(%a: i32, %b: i64):
+  \"func.return\"(%a) : (i32) -> ()
+}) : () -> ()
+""" + DIVIDER + b"report diagnostics\nset-operand #2 0 %a1.0.1\nreport diagnostics\nset-operand #2 0 %a1.0.0\nreport diagnostics\n"
+    run("brief", wrong, 0, b"1 ok\n2 ok\n3 ok\n#2 V15\n4 ok\n5 ok\n")
+    returned = b"""\"builtin.module\"() ({
+  \"func.func\"() <{function_type = (i32, i64) -> i32, sym_name = \"g\"}> ({
+  ^bb0(%arg0: i32, %arg1: i64):
+    \"func.return\"(VALUE) -> ()
+  }) : () -> ()
+}) : () -> ()
+"""
+    other, same = returned.replace(b"VALUE", b"%arg1) : (i64"), returned.replace(b"VALUE", b"%arg0) : (i32")
+    listed = b"-- uses\n%%a1.0.%d #2 0\n-- diagnostics\n"
+    run("full", wrong, 0, b"1 ok\n2 ok\n" + other + listed % 1 + b"#2 V15\n3 ok\n#2 V15\n4 ok\n" + same + listed % 0 + b"5 ok\n")
     for count, want in ((0, b"1 refused 41 NoSuchKind\n"), (1, b"1 ok\n"), (2, b"attach uses refused 42 KindTaken\n1 ok\n")):
         run(f"boxes {count}", DIVIDER + b"report uses\n", int(count != 1), want)
     again = b"attach uses refused 42 KindTaken\n" * 2

@@ -4,9 +4,11 @@
 use clap::Error;
 use clap::error::ErrorKind;
 use ir_event::analysis::Analysis;
+use ir_verify::diagnostics::Diagnostics;
 use listeners::uses::Uses;
 use mlir_work_options::options_of;
-use mlir_work_run::run::run;
+use mlir_work_run::run::{Options, run};
+use std::alloc::AllocError;
 use std::io::BufWriter;
 use std::process::ExitCode;
 use std::random::RandomSource;
@@ -53,6 +55,18 @@ fn answer_words(rt: &HostRuntime, error: &Error) -> u8 {
     if printed.is_ok() { 0 } else { 4 }
 }
 
+/// Runs with the analyses of the program, in the order of their kinds, and gives the status.
+fn run_all(rt: &HostRuntime, options: Options) -> Result<u8, AllocError> {
+    let mut boxes: Vec<Box<dyn Analysis>> = Vec::new(rt.alloc());
+    boxes.push(Box::new(rt.alloc(), Uses::new(rt.alloc()))?)?;
+    boxes.push(Box::new(rt.alloc(), Diagnostics::new(rt.alloc()))?)?;
+    let mut reader = rt.stdin();
+    let Ok(mut writer) = BufWriter::new(rt.alloc(), io::writer(rt)) else {
+        return Err(AllocError);
+    };
+    Ok(run(rt.alloc(), options, &mut reader, &mut writer, boxes))
+}
+
 fn main(rt: HostRuntime) -> ExitCode {
     let words = match words_of(&rt) {
         Ok(words) => words,
@@ -63,16 +77,8 @@ fn main(rt: HostRuntime) -> ExitCode {
         Err(error) => return ExitCode::from(answer_words(&rt, &error)),
     };
     options.key = key_of(&rt);
-    let mut boxes: Vec<Box<dyn Analysis>> = Vec::new(rt.alloc());
-    let Ok(uses) = Box::new(rt.alloc(), Uses::new(rt.alloc())) else {
-        return ExitCode::from(no_memory(&rt));
-    };
-    if boxes.push(uses).is_err() {
-        return ExitCode::from(no_memory(&rt));
+    match run_all(&rt, options) {
+        Ok(status) => ExitCode::from(status),
+        Err(_) => ExitCode::from(no_memory(&rt)),
     }
-    let mut reader = rt.stdin();
-    let Ok(mut writer) = BufWriter::new(rt.alloc(), io::writer(&rt)) else {
-        return ExitCode::from(no_memory(&rt));
-    };
-    ExitCode::from(run(rt.alloc(), options, &mut reader, &mut writer, boxes))
 }

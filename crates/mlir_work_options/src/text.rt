@@ -23,7 +23,8 @@ then the module is as it was. Operations are numbered in the order of the text, 
 #0. A VALUE is %vN.K, result K of #N, or %aN.R.K, argument K of the block of region R of #N.
 
 Kinds:
-  uses  the uses of each value: the value, the operation that uses it, and the number of the operand
+  uses         the uses of each value: the value, the operation that uses it, and the number of the operand
+  diagnostics  what the verifier finds wrong: the operation, and the number of the rule that it breaks
 
 Exit status:
   0  each command was accepted; also of --help and --version
