@@ -30,7 +30,7 @@ use Rattle.ir_tree_laws.specs.Reasons.{unless, has_place, fits_around, with_id, 
 use Rattle.ir_tree_laws.proofs.Contents.{same_id, map_has_id, map_has_place, map_has_value, map_type_of_value, map_around, map_op_fits, map_with_id, map_entry_at, map_set_entry_reason, map_set_operand_reason, map_put_reason, map_shift_reason}
 use Rattle.ir_event.specs.Modules.{Module, module_meaning}
 use Rattle.machine.specs.Types.{same_type}
-use Rattle.machine.specs.Edits.{Insert, Make, Erase, Move, SetOperand, Replace, SetAttr, DropAttr, part_in, part_for, tree_edited, ids_given, edited_by, insert_reason, leaves_within, unused_outside, erase_reason, users_see, replace_reason, tree_reason, reason_by}
+use Rattle.machine.specs.Edits.{Insert, Make, Erase, Move, SetOperand, Replace, SetAttr, DropAttr, part_in, part_for, tree_edited, next_edited, edited_by, insert_reason, leaves_within, unused_outside, erase_reason, users_see, replace_reason, tree_reason, reason_by}
 use Rattle.machine.specs.Contents.{tests, tests_in, NumberedEdit, edit_meaning, edited, edit_reason}
 
 some_kept : {X Y : Type 0} (g : X → Y) (o : Option X) → is_some (option_map g o) ≡ is_some o
@@ -73,18 +73,18 @@ module _ (c : Things) where
   tree_kept (SetAttr x k a) free t = entry_kept x k (Some a) t
   tree_kept (DropAttr x k) free t = entry_kept x k None t
 
-  ids_kept : (e : NumberedEdit) → ids_given (edit_meaning c e) ≡ ids_given e
-  ids_kept (Insert place o) = count_kept o
-  ids_kept (Make place o) = refl
-  ids_kept (Erase x) = refl
-  ids_kept (Move x place) = refl
-  ids_kept (SetOperand x k v) = refl
-  ids_kept (Replace old new) = refl
-  ids_kept (SetAttr x k a) = refl
-  ids_kept (DropAttr x k) = refl
+  next_kept : (e : NumberedEdit) (n : ℕ) → next_edited (edit_meaning c e) n ≡ next_edited e n
+  next_kept (Insert place o) n = ap (λ k. n + k) (count_kept o)
+  next_kept (Make place o) n = refl
+  next_kept (Erase x) n = refl
+  next_kept (Move x place) n = refl
+  next_kept (SetOperand x k v) n = refl
+  next_kept (Replace old new) n = refl
+  next_kept (SetAttr x k a) n = refl
+  next_kept (DropAttr x k) n = refl
 
   pub edited_meaning : (e : NumberedEdit) (m : Numbered) → edited (edit_meaning c e) (module_meaning c m) ≡ module_meaning c (edited_by (tests_in c) e m)
-  edited_meaning e m = λ i. record { tree = tree_kept e m.next m.tree i; next = m.next + ids_kept e i }
+  edited_meaning e m = λ i. record { tree = tree_kept e m.next m.tree i; next = next_kept e m.next i }
 
   -- ---- reasons
 
