@@ -76,20 +76,20 @@ tree_edited w (Replace old new) free t = with_value_replaced old new t
 tree_edited w (SetAttr x k a) free t = with_entry w.before x (part_for w x k t) k (Some a) t
 tree_edited w (DropAttr x k) free t = with_entry w.before x (part_for w x k t) k None t
 
--- how many ids an edit gives out
-abbrev pub ids_given : {N T A : Type 0} → EditOf N T A → ℕ
-ids_given (Insert place o) = op_count o
-ids_given (Make place o) = 1
-ids_given (Erase x) = 0
-ids_given (Move x place) = 0
-ids_given (SetOperand x k v) = 0
-ids_given (Replace old new) = 0
-ids_given (SetAttr x k a) = 0
-ids_given (DropAttr x k) = 0
+-- the next free id after an edit: what is put in takes one for each operation
+abbrev pub next_edited : {N T A : Type 0} → EditOf N T A → ℕ → ℕ
+next_edited (Insert place o) n = n + op_count o
+next_edited (Make place o) n = n + 1
+next_edited (Erase x) n = n
+next_edited (Move x place) n = n
+next_edited (SetOperand x k v) n = n
+next_edited (Replace old new) n = n
+next_edited (SetAttr x k a) n = n
+next_edited (DropAttr x k) n = n
 
 -- the module after an edit
 abbrev pub edited_by : {N T A : Type 0} → TestsOf N T → EditOf N T A → ModuleOf N T A → ModuleOf N T A
-edited_by w e m = record { tree = tree_edited w e m.next m.tree; next = m.next + ids_given e }
+edited_by w e m = record { tree = tree_edited w e m.next m.tree; next = next_edited e m.next }
 
 -- ---- why an edit is refused: the first reason in this order, if there is one
 

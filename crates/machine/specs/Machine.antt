@@ -169,10 +169,9 @@ IsAnswer s call a = (a ≡ due s call) ⊎ (IsTrue (takes_memory s call) × (a �
 
 -- ---- the analyses
 
--- the analyses after a resync that was refused: without memory it leaves the analysis stale, if there is one
+-- the analyses after a resync that was refused: without memory it may leave the analysis stale
 abbrev pub NotResynced : ℕ → Refusal → List Shown → List Shown → Type 0
-NotResynced kind Memory old new = BegunAgain kind true old new ⊎ (new ≡ old)
-NotResynced kind _ old new = new ≡ old
+NotResynced kind refusal old new = (new ≡ old) ⊎ ((refusal ≡ Memory) × BegunAgain kind true old new)
 
 -- the analyses after a call and its reply: an edit, accepted or not, and a rollback may leave some stale
 abbrev pub PanelGoes : Call → Reply → List Shown → List Shown → Type 0

@@ -1,6 +1,8 @@
 -- Lists of calls, with their replies.
 use Rattle.std.specs.Prelude.{◌≡◌, ℕ, zero, suc, List, [], ◌∷◌, Bool, true, false, Option, Some, None, option_and_then}
-use Rattle.machine.specs.Machine.{State, Call, Do, Mark, Step, Commit, Rollback, Attach, Detach, Resync, Report, Print, Reply, Done, DoneAs, Refused, Shows, Goes}
+use Rattle.ir_event.specs.Modules.{Module}
+use Rattle.machine.specs.Contents.{edited, edit_reason}
+use Rattle.machine.specs.Machine.{OpenMark, State, Call, Do, Mark, Step, Commit, Rollback, Attach, Detach, Resync, Report, Print, Reply, Done, DoneAs, Refused, Shows, Goes}
 
 -- a call and how it was answered
 pub record Answered : Type 0 where
@@ -12,6 +14,19 @@ pub record Answered : Type 0 where
 abbrev pub Runs : State → List Answered → State → Type 0
 Runs s [] t = t ≡ s
 Runs s (a ∷ more) t = (u : State) × Goes s a.call a.reply a.shows u × Runs u more t
+
+-- what an accepted call makes of a module and of the marks
+abbrev pub Gives : Call → Module → List OpenMark → Module → List OpenMark → Type 0
+Gives (Do e) m marks n after = (edit_reason e m ≡ None) × (n ≡ edited e m) × (after ≡ marks)
+Gives Mark m marks n after = (n ≡ m) × (after ≡ record { marked = m; counted = true } ∷ marks)
+Gives Step m marks n after = (n ≡ m) × (after ≡ record { marked = m; counted = false } ∷ marks)
+Gives Commit m marks n after = (n ≡ m) × ((k : OpenMark) × (marks ≡ k ∷ after))
+Gives Rollback m marks n after = (k : OpenMark) × (marks ≡ k ∷ after) × (n ≡ k.marked)
+Gives (Attach a) m marks n after = (n ≡ m) × (after ≡ marks)
+Gives (Detach kind) m marks n after = (n ≡ m) × (after ≡ marks)
+Gives (Resync kind) m marks n after = (n ≡ m) × (after ≡ marks)
+Gives (Report kind) m marks n after = (n ≡ m) × (after ≡ marks)
+Gives Print m marks n after = (n ≡ m) × (after ≡ marks)
 
 abbrev pub is_refused : Reply → Bool
 is_refused Done = false
@@ -49,3 +64,16 @@ level (a ∷ more) n = option_and_then (level more) (level_answered a.call a.rep
 -- the calls close each mark that they make, and no other
 abbrev pub IsNested : List Answered → Type 0
 IsNested answered = level answered 0 ≡ Some 0
+
+-- a call that makes a mark
+abbrev pub IsMarking : Call → Type 0
+IsMarking (Do e) = ⊥
+IsMarking Mark = Unit {0}
+IsMarking Step = Unit {0}
+IsMarking Commit = ⊥
+IsMarking Rollback = ⊥
+IsMarking (Attach a) = ⊥
+IsMarking (Detach kind) = ⊥
+IsMarking (Resync kind) = ⊥
+IsMarking (Report kind) = ⊥
+IsMarking Print = ⊥
