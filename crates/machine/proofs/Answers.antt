@@ -78,8 +78,9 @@ due_leaves s Print = λ h. (refl, refl)
 -- a refused call leaves the module and the marks
 pub refused_leaves : (s t : State) (call : Call) (reply : Reply) (shows : Shows) → Goes s call reply shows t → is_refused reply ≡ true → (t.held ≡ s.held) × (t.marks ≡ s.marks)
 refused_leaves s t call reply shows g h = elim g.answer [
-  inl e ↦ (let k = due_leaves s call (ap (λ (a : Answer). is_refused a.reply) (sym e) ∙ h) in (ap (λ (a : Answer). a.held) e ∙ k.0, ap (λ (a : Answer). a.marks) e ∙ k.1))
-  | inr e ↦ (ap (λ (a : Answer). a.held) e.1, ap (λ (a : Answer). a.marks) e.1) ]
+  | inl e ↦ (let k = due_leaves s call (ap (λ (a : Answer). is_refused a.reply) (sym e) ∙ h) in (ap (λ (a : Answer). a.held) e ∙ k.0, ap (λ (a : Answer). a.marks) e ∙ k.1))
+  | inr e ↦ (ap (λ (a : Answer). a.held) e.1, ap (λ (a : Answer). a.marks) e.1)
+]
 
 -- what an accepted answer gives
 abbrev Gave : State → Call → Answer → Type 0
@@ -136,8 +137,9 @@ due_gives s Print = λ h. (refl, refl)
 -- an accepted call
 pub accepted_gives : (s t : State) (call : Call) (reply : Reply) (shows : Shows) → Goes s call reply shows t → is_refused reply ≡ false → Gives call s.held s.marks t.held t.marks
 accepted_gives s t call reply shows g h = elim g.answer [
-  inl e ↦ subst (λ (a : Answer). Gives call s.held s.marks a.held a.marks) (sym e) (due_gives s call (ap (λ (a : Answer). is_refused a.reply) (sym e) ∙ h))
-  | inr e ↦ (let bad : true ≡ false = ap (λ (a : Answer). is_refused a.reply) (sym e.1) ∙ h in absurd cc) ]
+  | inl e ↦ subst (λ (a : Answer). Gives call s.held s.marks a.held a.marks) (sym e) (due_gives s call (ap (λ (a : Answer). is_refused a.reply) (sym e) ∙ h))
+  | inr e ↦ (let bad : true ≡ false = ap (λ (a : Answer). is_refused a.reply) (sym e.1) ∙ h in absurd cc)
+]
 
 -- ---- the analyses
 

@@ -71,9 +71,10 @@ nested_leaves s t calls r nested = go (runs_above calls s t 0 0 s.marks r nested
 -- where a mark is open a rollback is accepted, and gives the marked module
 pub rollback_gives : (s t : State) (reply : Reply) (shows : Shows) (k : OpenMark) (ks : List OpenMark) → Goes s Rollback reply shows t → s.marks ≡ k ∷ ks → (reply ≡ Done) × (t.held ≡ k.marked) × (t.marks ≡ ks)
 rollback_gives s t reply shows k ks g e = elim g.answer [
-  inl is ↦ (let is2 : record { reply = reply; shows = shows; held = t.held; marks = t.marks } ≡ due_rollback (k ∷ ks) s = is ∙ ap (λ l. due_rollback l s) e in
+  | inl is ↦ (let is2 : record { reply = reply; shows = shows; held = t.held; marks = t.marks } ≡ due_rollback (k ∷ ks) s = is ∙ ap (λ l. due_rollback l s) e in
       (ap (λ (a : Answer). a.reply) is2, ap (λ (a : Answer). a.held) is2, ap (λ (a : Answer). a.marks) is2))
-  | inr is ↦ (let bad : false ≡ true = is.0 in absurd cc) ]
+  | inr is ↦ (let bad : false ≡ true = is.0 in absurd cc)
+]
 
 -- a mark, calls that close the marks that they make and no others, and a rollback: the module that was held, its
 -- ids and its next id, and the marks are back
