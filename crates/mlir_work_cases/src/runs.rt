@@ -3,13 +3,14 @@ use crate::readers::Slow;
 use crate::writers::Narrow;
 use case_texts::texts::{bytes, first, number, put_all_shown};
 use ir_event::analysis::Analysis;
+use ir_verify::diagnostics::Diagnostics;
 use listeners::uses::Uses;
 use mlir_work_run::run::{Options, run};
 use std::alloc::{AllocError, Global};
 use std::fmt::Write as _;
 use std::io::{Read, Write};
 
-/// Runs with one box, that of uses.
+/// Runs with the boxes of the program.
 fn status_of<R: Read, W: Write>(
     alloc: Global,
     brief: bool,
@@ -17,8 +18,8 @@ fn status_of<R: Read, W: Write>(
     writer: &mut W,
 ) -> Result<u8, AllocError> {
     let mut boxes: Vec<Box<dyn Analysis>> = Vec::new(alloc);
-    let uses = Box::new(alloc, Uses::new(alloc))?;
-    boxes.push(uses)?;
+    boxes.push(Box::new(alloc, Uses::new(alloc))?)?;
+    boxes.push(Box::new(alloc, Diagnostics::new(alloc))?)?;
     Ok(run(alloc, Options { brief, key: 7 }, reader, writer, boxes))
 }
 
