@@ -1,15 +1,15 @@
 -- A refusal leaves the module and the marks, and what an accepted call makes of them.
 use Rattle.std.proofs.Common.{◌≡◌, refl, ap, sym, ◌∙◌, subst, ℕ, zero, suc, Bool, true, false, cond, List, [], ◌∷◌, Option, Some, None, inl, inr, slice_get}
 use Rattle.std.specs.Prelude.{nat_lt, slice_set}
-use Rattle.std.specs.List.{AllZip, find}
+use Rattle.std.specs.List.{find}
 use Rattle.ir_types.specs.declared.refusal.Refusal.{Refusal}
-use Rattle.ir_types.specs.declared.refusal.Refusal.TheVariants.{Memory, Stale, NoSuchKind, KindTaken, TooManyMarks}
+use Rattle.ir_types.specs.declared.refusal.Refusal.TheVariants.{Stale, NoSuchKind, KindTaken, TooManyMarks}
 use Rattle.ir_event.specs.Modules.{Module}
 use Rattle.ir_event.proofs.Follows.{zip_self}
 use Rattle.machine.specs.Edits.{Insert, Make, Erase, Move, SetOperand, Replace, SetAttr, DropAttr}
-use Rattle.machine.specs.Contents.{Edit, edited, edit_reason}
-use Rattle.machine.specs.Machine.{OpenMark, State, Call, Do, Mark, Step, Commit, Rollback, Attach, Detach, Resync, Report, Print, Reply, Done, DoneAs, Refused, Shows, Nothing, Rows, Answer, due, refused, done, showing, marked, due_edit, due_commit, due_rollback, due_report, most_marks, counted_marks, Goes, accepted}
-use Rattle.machine.specs.Panels.{Shown, IsSame, Ages, AllAge, BegunAgain, has_kind, is_kind}
+use Rattle.machine.specs.Contents.{Edit, edit_reason}
+use Rattle.machine.specs.Machine.{OpenMark, State, Call, Do, Mark, Step, Commit, Rollback, Attach, Detach, Resync, Report, Print, Reply, Refused, Shows, Nothing, Rows, Answer, due, refused, showing, marked, due_edit, due_commit, due_rollback, due_report, most_marks, counted_marks, Goes, accepted}
+use Rattle.machine.specs.Panels.{Shown, Ages, AllAge, BegunAgain, has_kind, is_kind}
 use Rattle.machine.specs.Runs.{Gives, is_refused}
 
 -- an edit is accepted as such
@@ -78,8 +78,9 @@ due_leaves s Print = λ h. (refl, refl)
 -- a refused call leaves the module and the marks
 pub refused_leaves : (s t : State) (call : Call) (reply : Reply) (shows : Shows) → Goes s call reply shows t → is_refused reply ≡ true → (t.held ≡ s.held) × (t.marks ≡ s.marks)
 refused_leaves s t call reply shows g h = elim g.answer [
-  inl e ↦ (let k = due_leaves s call (ap (λ (a : Answer). is_refused a.reply) (sym e) ∙ h) in (ap (λ (a : Answer). a.held) e ∙ k.0, ap (λ (a : Answer). a.marks) e ∙ k.1))
-  | inr e ↦ (ap (λ (a : Answer). a.held) e.1, ap (λ (a : Answer). a.marks) e.1) ]
+  | inl e ↦ (let k = due_leaves s call (ap (λ (a : Answer). is_refused a.reply) (sym e) ∙ h) in (ap (λ (a : Answer). a.held) e ∙ k.0, ap (λ (a : Answer). a.marks) e ∙ k.1))
+  | inr e ↦ (ap (λ (a : Answer). a.held) e.1, ap (λ (a : Answer). a.marks) e.1)
+]
 
 -- what an accepted answer gives
 abbrev Gave : State → Call → Answer → Type 0
@@ -136,8 +137,9 @@ due_gives s Print = λ h. (refl, refl)
 -- an accepted call
 pub accepted_gives : (s t : State) (call : Call) (reply : Reply) (shows : Shows) → Goes s call reply shows t → is_refused reply ≡ false → Gives call s.held s.marks t.held t.marks
 accepted_gives s t call reply shows g h = elim g.answer [
-  inl e ↦ subst (λ (a : Answer). Gives call s.held s.marks a.held a.marks) (sym e) (due_gives s call (ap (λ (a : Answer). is_refused a.reply) (sym e) ∙ h))
-  | inr e ↦ (let bad : true ≡ false = ap (λ (a : Answer). is_refused a.reply) (sym e.1) ∙ h in absurd cc) ]
+  | inl e ↦ subst (λ (a : Answer). Gives call s.held s.marks a.held a.marks) (sym e) (due_gives s call (ap (λ (a : Answer). is_refused a.reply) (sym e) ∙ h))
+  | inr e ↦ (let bad : true ≡ false = ap (λ (a : Answer). is_refused a.reply) (sym e.1) ∙ h in absurd cc)
+]
 
 -- ---- the analyses
 

@@ -1,11 +1,10 @@
 -- Calls that close the marks that they make, and no others, leave the marks from before; so a rollback behind them
 -- gives the module back that was held when its mark was made.
-use Rattle.std.proofs.Common.{◌≡◌, refl, ap, sym, ◌∙◌, subst, ℕ, zero, suc, Bool, true, false, cond, List, [], ◌∷◌, ◌++◌, length, Option, Some, None, inl, inr}
-use Rattle.std.specs.Prelude.{option_and_then, IsTrue}
-use Rattle.ir_types.specs.declared.refusal.Refusal.{Refusal}
+use Rattle.std.proofs.Common.{◌≡◌, refl, ap, sym, ◌∙◌, subst, ℕ, zero, suc, true, false, List, [], ◌∷◌, ◌++◌, length, Option, Some, None, inl, inr}
+use Rattle.std.specs.Prelude.{option_and_then}
 use Rattle.ir_event.specs.Modules.{Module}
 use Rattle.machine.specs.Machine.{OpenMark, State, Call, Do, Mark, Step, Commit, Rollback, Attach, Detach, Resync, Report, Print, Reply, Done, DoneAs, Refused, Shows, Answer, due_rollback, Goes}
-use Rattle.machine.specs.Runs.{Answered, Runs, Gives, is_refused, level, level_after, level_answered, lower, IsNested, IsMarking}
+use Rattle.machine.specs.Runs.{Answered, Runs, Gives, level, level_after, level_answered, lower, IsNested, IsMarking}
 use Rattle.machine.proofs.Answers.{refused_leaves, accepted_gives}
 
 -- so many marks are open above some others
@@ -71,9 +70,10 @@ nested_leaves s t calls r nested = go (runs_above calls s t 0 0 s.marks r nested
 -- where a mark is open a rollback is accepted, and gives the marked module
 pub rollback_gives : (s t : State) (reply : Reply) (shows : Shows) (k : OpenMark) (ks : List OpenMark) → Goes s Rollback reply shows t → s.marks ≡ k ∷ ks → (reply ≡ Done) × (t.held ≡ k.marked) × (t.marks ≡ ks)
 rollback_gives s t reply shows k ks g e = elim g.answer [
-  inl is ↦ (let is2 : record { reply = reply; shows = shows; held = t.held; marks = t.marks } ≡ due_rollback (k ∷ ks) s = is ∙ ap (λ l. due_rollback l s) e in
+  | inl is ↦ (let is2 : record { reply = reply; shows = shows; held = t.held; marks = t.marks } ≡ due_rollback (k ∷ ks) s = is ∙ ap (λ l. due_rollback l s) e in
       (ap (λ (a : Answer). a.reply) is2, ap (λ (a : Answer). a.held) is2, ap (λ (a : Answer). a.marks) is2))
-  | inr is ↦ (let bad : false ≡ true = is.0 in absurd cc) ]
+  | inr is ↦ (let bad : false ≡ true = is.0 in absurd cc)
+]
 
 -- a mark, calls that close the marks that they make and no others, and a rollback: the module that was held, its
 -- ids and its next id, and the marks are back
