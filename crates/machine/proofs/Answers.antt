@@ -1,15 +1,15 @@
 -- A refusal leaves the module and the marks, and what an accepted call makes of them.
 use Rattle.std.proofs.Common.{◌≡◌, refl, ap, sym, ◌∙◌, subst, ℕ, zero, suc, Bool, true, false, cond, List, [], ◌∷◌, Option, Some, None, inl, inr, slice_get}
 use Rattle.std.specs.Prelude.{nat_lt, slice_set}
-use Rattle.std.specs.List.{AllZip, find}
+use Rattle.std.specs.List.{find}
 use Rattle.ir_types.specs.declared.refusal.Refusal.{Refusal}
-use Rattle.ir_types.specs.declared.refusal.Refusal.TheVariants.{Memory, Stale, NoSuchKind, KindTaken, TooManyMarks}
+use Rattle.ir_types.specs.declared.refusal.Refusal.TheVariants.{Stale, NoSuchKind, KindTaken, TooManyMarks}
 use Rattle.ir_event.specs.Modules.{Module}
 use Rattle.ir_event.proofs.Follows.{zip_self}
 use Rattle.machine.specs.Edits.{Insert, Make, Erase, Move, SetOperand, Replace, SetAttr, DropAttr}
-use Rattle.machine.specs.Contents.{Edit, edited, edit_reason}
-use Rattle.machine.specs.Machine.{OpenMark, State, Call, Do, Mark, Step, Commit, Rollback, Attach, Detach, Resync, Report, Print, Reply, Done, DoneAs, Refused, Shows, Nothing, Rows, Answer, due, refused, done, showing, marked, due_edit, due_commit, due_rollback, due_report, most_marks, counted_marks, Goes, accepted}
-use Rattle.machine.specs.Panels.{Shown, IsSame, Ages, AllAge, BegunAgain, has_kind, is_kind}
+use Rattle.machine.specs.Contents.{Edit, edit_reason}
+use Rattle.machine.specs.Machine.{OpenMark, State, Call, Do, Mark, Step, Commit, Rollback, Attach, Detach, Resync, Report, Print, Reply, Refused, Shows, Nothing, Rows, Answer, due, refused, showing, marked, due_edit, due_commit, due_rollback, due_report, most_marks, counted_marks, Goes, accepted}
+use Rattle.machine.specs.Panels.{Shown, Ages, AllAge, BegunAgain, has_kind, is_kind}
 use Rattle.machine.specs.Runs.{Gives, is_refused}
 
 -- an edit is accepted as such

@@ -1,11 +1,10 @@
 -- Calls that close the marks that they make, and no others, leave the marks from before; so a rollback behind them
 -- gives the module back that was held when its mark was made.
-use Rattle.std.proofs.Common.{◌≡◌, refl, ap, sym, ◌∙◌, subst, ℕ, zero, suc, Bool, true, false, cond, List, [], ◌∷◌, ◌++◌, length, Option, Some, None, inl, inr}
-use Rattle.std.specs.Prelude.{option_and_then, IsTrue}
-use Rattle.ir_types.specs.declared.refusal.Refusal.{Refusal}
+use Rattle.std.proofs.Common.{◌≡◌, refl, ap, sym, ◌∙◌, subst, ℕ, zero, suc, true, false, List, [], ◌∷◌, ◌++◌, length, Option, Some, None, inl, inr}
+use Rattle.std.specs.Prelude.{option_and_then}
 use Rattle.ir_event.specs.Modules.{Module}
 use Rattle.machine.specs.Machine.{OpenMark, State, Call, Do, Mark, Step, Commit, Rollback, Attach, Detach, Resync, Report, Print, Reply, Done, DoneAs, Refused, Shows, Answer, due_rollback, Goes}
-use Rattle.machine.specs.Runs.{Answered, Runs, Gives, is_refused, level, level_after, level_answered, lower, IsNested, IsMarking}
+use Rattle.machine.specs.Runs.{Answered, Runs, Gives, level, level_after, level_answered, lower, IsNested, IsMarking}
 use Rattle.machine.proofs.Answers.{refused_leaves, accepted_gives}
 
 -- so many marks are open above some others

@@ -1,34 +1,32 @@
 -- An edit of numbers of a context stands for one of contents: what it makes of a module, and why it is refused.
-use Rattle.std.proofs.Common.{◌≡◌, refl, ap, sym, ◌∙◌, ℕ, ◌+◌, Bool, cond, not, ◌&&◌, ◌||◌, eqb, List, [], ◌∷◌, length, map, Option, Some, None, option_map}
+use Rattle.std.proofs.Common.{◌≡◌, refl, ap, ◌∙◌, ℕ, ◌+◌, Bool, cond, not, ◌&&◌, ◌||◌, eqb, List, [], ◌∷◌, length, Option, Some, None, option_map}
 use Rattle.std.specs.Prelude.{nat_le, is_some}
 use Rattle.std.specs.List.{list_all}
 use Rattle.std.specs.Option.{option_eq}
 use Rattle.ir_types.specs.Things.{Things}
-use Rattle.ir_types.specs.Terms.{TypeTerm, name_term, type_term, attr_term}
+use Rattle.ir_types.specs.Terms.{name_term, type_term, attr_term}
 use Rattle.ir_types.specs.Words.{is_isolated, is_table, is_inherent}
-use Rattle.ir_types.specs.declared.refusal.Refusal.{Refusal}
 use Rattle.ir_types.specs.declared.refusal.Refusal.TheVariants.{NoSuchOp, NoSuchValue, HasUses, NotVisible, TypeDiffers, NoSuchIndex, IsRoot, Full, IdsExhausted, TooDeepHere}
 use Rattle.ir_tree.specs.declared.value.Value.{Value}
 use Rattle.ir_tree.specs.declared.place.Place.{Place}
-use Rattle.ir_tree.specs.declared.place.Part.{Part}
 use Rattle.ir_tree.specs.declared.place.Part.TheVariants.{Props, Attrs}
 use Rattle.ir_tree.specs.Tree.{op, Op, head}
-use Rattle.ir_tree.specs.Ids.{find, has_id, op_count}
+use Rattle.ir_tree.specs.Ids.{find, op_count}
 use Rattle.ir_tree.specs.Sites.{visible, operands_visible}
 use Rattle.ir_tree.specs.Frames.{owner_of}
 use Rattle.ir_tree.specs.Uses.{uses_of}
-use Rattle.ir_tree.specs.Limits.{depth, every, most_ops, most_next, op_fits}
+use Rattle.ir_tree.specs.Limits.{every, most_ops, most_next, op_fits}
 use Rattle.ir_tree.specs.Edits.{entry_at, with_entry}
-use Rattle.ir_tree.specs.Meaning.{Operation, isolated_in, key_before, key_before_in, meaning}
+use Rattle.ir_tree.specs.Meaning.{isolated_in, key_before, key_before_in, meaning}
 use Rattle.ir_tree.specs.Places.{put, without}
 use Rattle.ir_tree.specs.WellFormed.{Module as Numbered}
 use Rattle.ir_tree.proofs.Mapped.{map_ids, map_find, map_every, map_depth, map_uses, map_visible, map_operands_visible}
 use Rattle.ir_tree.proofs.MappedEdits.{map_put, map_shifted, map_without, map_with_operand, map_with_value_replaced, map_with_entry}
-use Rattle.ir_tree_laws.specs.Values.{type_of_value, has_value}
-use Rattle.ir_tree_laws.specs.Reads.{is_within, around}
-use Rattle.ir_tree_laws.specs.Reasons.{unless, has_place, fits_around, with_id, set_entry_reason}
+use Rattle.ir_tree_laws.specs.Values.{type_of_value}
+use Rattle.ir_tree_laws.specs.Reads.{is_within}
+use Rattle.ir_tree_laws.specs.Reasons.{unless, fits_around, with_id, set_entry_reason}
 use Rattle.ir_tree_laws.proofs.Contents.{same_id, map_has_id, map_has_place, map_has_value, map_type_of_value, map_around, map_op_fits, map_with_id, map_entry_at, map_set_entry_reason, map_set_operand_reason, map_put_reason, map_shift_reason}
-use Rattle.ir_event.specs.Modules.{Module, module_meaning}
+use Rattle.ir_event.specs.Modules.{module_meaning}
 use Rattle.machine.specs.Types.{same_type}
 use Rattle.machine.specs.Edits.{Insert, Make, Erase, Move, SetOperand, Replace, SetAttr, DropAttr, part_in, part_for, tree_edited, next_edited, edited_by, insert_reason, leaves_within, unused_outside, erase_reason, users_see, replace_reason, tree_reason, reason_by}
 use Rattle.machine.specs.Contents.{tests, tests_in, NumberedEdit, edit_meaning, edited, edit_reason}

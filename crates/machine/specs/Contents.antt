@@ -71,3 +71,14 @@ EditIsOf c m (SetOperand x k v) = Unit {0}
 EditIsOf c m (Replace old new) = Unit {0}
 EditIsOf c m (SetAttr x k a) = IsName c k × IsAttr c a
 EditIsOf c m (DropAttr x k) = IsName c k
+
+-- an edit that is one event
+abbrev pub IsElementary : NumberedEdit → Type 0
+IsElementary (Insert place o) = ⊥
+IsElementary (Make place o) = Unit {0}
+IsElementary (Erase x) = ⊥
+IsElementary (Move x place) = Unit {0}
+IsElementary (SetOperand x k v) = Unit {0}
+IsElementary (Replace old new) = ⊥
+IsElementary (SetAttr x k a) = Unit {0}
+IsElementary (DropAttr x k) = Unit {0}
