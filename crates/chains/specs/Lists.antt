@@ -4,7 +4,7 @@ use Rattle.std.specs.Coded.{Coded, code_by, coded×, coded_ℕ, coded_list}
 
 -- a node in no list has this home
 abbrev pub free : ℕ
-free = 18446744073709551615
+free = 4294967295
 
 -- the list of each node that is a head (an empty one for the others), the head of each node's list,
 -- and for how many further nodes there is room

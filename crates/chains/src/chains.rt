@@ -41,6 +41,16 @@ impl Chains {
         }
     }
 
+    /// No nodes. The first `count` ones come without moving the others, but not without a refusal.
+    pub fn with_capacity(alloc: Global, count: usize) -> Result<Chains, AllocError>
+        ensures { IfOk result (λ c. c ≡ record { lists = []; homes = []; room = 0 }) }
+    {
+        Ok(Chains {
+            links: Vec::with_capacity(alloc, count)?,
+            room: 0,
+        })
+    }
+
     /// Takes a node out of its list. It is free then.
     pub fn remove(&mut self, node: usize)
         requires { IsItem self.old.homes node }
@@ -73,7 +83,7 @@ impl Chains {
         ensures homes { self.new.homes ≡ slice_set self.old.homes node head }
         ensures room { self.new.room ≡ self.old.room }
     {
-        link_in(&mut self.links, node, head, head);
+        link_in(&mut self.links, node, head, head as u32);
     }
 
     /// The head of a node's list, or the node itself where it is a head.
@@ -82,7 +92,11 @@ impl Chains {
         ensures { MatchOption result (home_at self.now.homes node ≡ free) (λ h. (h ≡ home_at self.now.homes node) × (h ≡ free → ⊥)) }
     {
         let home = self.links[node].home;
-        if home == FREE { None } else { Some(home) }
+        if home == FREE {
+            None
+        } else {
+            Some(home as usize)
+        }
     }
 
     /// The first node of a head's list.
@@ -90,7 +104,7 @@ impl Chains {
         requires { IsHead self.now.homes head }
         ensures { result ≡ slice_get (list_at self.now.lists head) 0 }
     {
-        let node = self.links[head].next;
+        let node = self.links[head].next as usize;
         if node == head { None } else { Some(node) }
     }
 
@@ -99,7 +113,7 @@ impl Chains {
         requires { IsHead self.now.homes head }
         ensures { result ≡ last_of None (list_at self.now.lists head) }
     {
-        let node = self.links[head].prev;
+        let node = self.links[head].prev as usize;
         if node == head { None } else { Some(node) }
     }
 
@@ -112,7 +126,7 @@ impl Chains {
         if link.next == link.home {
             None
         } else {
-            Some(link.next)
+            Some(link.next as usize)
         }
     }
 
@@ -125,7 +139,7 @@ impl Chains {
         if link.prev == link.home {
             None
         } else {
-            Some(link.prev)
+            Some(link.prev as usize)
         }
     }
 }
@@ -173,7 +187,7 @@ impl Chains {
         if count <= self.room {
             return Ok(());
         }
-        if self.links.len() >= FREE - count {
+        if count >= FREE as usize - self.links.len() {
             return Err(AllocError);
         }
         match self.links.reserve(count) {
@@ -204,7 +218,7 @@ impl Chains {
         ensures added { self.new ≡ with_node result self.old }
     {
         let node = self.links.len();
-        grow(&mut self.links, node);
+        grow(&mut self.links, node as u32);
         self.room -= 1;
         node
     }
@@ -239,10 +253,10 @@ impl Chains {
         ensures { OnOk result (out.new.items ≡ out.old.items ++ list_at self.now.lists head) }
     {
         let links = &self.links;
-        let mut node = links[head].next;
+        let mut node = links[head].next as usize;
         while node != head {
             out.push(node)?;
-            node = links[node].next;
+            node = links[node].next as usize;
         }
         Ok(())
     }

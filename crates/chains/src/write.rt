@@ -6,9 +6,9 @@ ghost use Rattle.chains.specs.Lists.{free};
 use crate::link::Link;
 use std::alloc::AllocError;
 
-pub(crate) const FREE: usize = usize::MAX;
+pub(crate) const FREE: u32 = u32::MAX;
 
-fn set_next(links: &mut Vec<Link>, node: usize, to: usize)
+fn set_next(links: &mut Vec<Link>, node: usize, to: u32)
     requires { node < length links.old.items }
     ensures next { nexts links.new.items ≡ slice_set (nexts links.old.items) node to }
     ensures prev { prevs links.new.items ≡ prevs links.old.items }
@@ -19,7 +19,7 @@ fn set_next(links: &mut Vec<Link>, node: usize, to: usize)
     link.next = to;
 }
 
-fn set_prev(links: &mut Vec<Link>, node: usize, to: usize)
+fn set_prev(links: &mut Vec<Link>, node: usize, to: u32)
     requires { node < length links.old.items }
     ensures next { nexts links.new.items ≡ nexts links.old.items }
     ensures prev { prevs links.new.items ≡ slice_set (prevs links.old.items) node to }
@@ -30,7 +30,7 @@ fn set_prev(links: &mut Vec<Link>, node: usize, to: usize)
     link.prev = to;
 }
 
-fn set_home(links: &mut Vec<Link>, node: usize, to: usize)
+fn set_home(links: &mut Vec<Link>, node: usize, to: u32)
     requires { node < length links.old.items }
     ensures next { nexts links.new.items ≡ nexts links.old.items }
     ensures prev { prevs links.new.items ≡ prevs links.old.items }
@@ -52,13 +52,14 @@ pub(crate) fn unlink(links: &mut Vec<Link>, node: usize)
     ensures capacity { vec_capacity links.new ≡ vec_capacity links.old }
 {
     let link = links[node];
-    set_next(links, link.prev, link.next);
-    set_prev(links, link.next, link.prev);
+    set_next(links, link.prev as usize, link.next);
+    set_prev(links, link.next as usize, link.prev);
     set_home(links, node, FREE);
 }
 
 /// Puts a node before `at`, into the list of `home`.
-pub(crate) fn link_in(links: &mut Vec<Link>, node: usize, at: usize, home: usize)
+pub(crate) fn link_in(links: &mut Vec<Link>, node: usize, at: usize, home: u32)
+    requires few { length links.old.items < free }
     requires inside { node < length links.old.items }
     requires at { at < length links.old.items }
     requires prev { at_node (prevs links.old.items) at < length links.old.items }
@@ -68,24 +69,26 @@ pub(crate) fn link_in(links: &mut Vec<Link>, node: usize, at: usize, home: usize
     ensures capacity { vec_capacity links.new ≡ vec_capacity links.old }
 {
     let prev = links[at].prev;
-    set_next(links, prev, node);
-    set_prev(links, at, node);
-    set_next(links, node, at);
+    set_next(links, prev as usize, node as u32);
+    set_prev(links, at, node as u32);
+    set_next(links, node, at as u32);
     set_prev(links, node, prev);
     set_home(links, node, home);
 }
 
 /// Makes a free node the head of an empty list.
 pub(crate) fn close(links: &mut Vec<Link>, node: usize)
-    requires { node < length links.old.items }
+    requires few { length links.old.items < free }
+    requires inside { node < length links.old.items }
     ensures next { nexts links.new.items ≡ slice_set (nexts links.old.items) node node }
     ensures prev { prevs links.new.items ≡ slice_set (prevs links.old.items) node node }
     ensures home { homes links.new.items ≡ slice_set (homes links.old.items) node node }
     ensures capacity { vec_capacity links.new ≡ vec_capacity links.old }
 {
-    set_next(links, node, node);
-    set_prev(links, node, node);
-    set_home(links, node, node);
+    let own = node as u32;
+    set_next(links, node, own);
+    set_prev(links, node, own);
+    set_home(links, node, own);
 }
 
 /// Frees the head of an empty list.
@@ -100,12 +103,13 @@ pub(crate) fn open(links: &mut Vec<Link>, node: usize)
 }
 
 /// A node that no other leads to, in the list of `home`. There is room for it.
-pub(crate) fn grow(links: &mut Vec<Link>, home: usize)
-    requires { vec_len links.old < vec_capacity links.old }
+pub(crate) fn grow(links: &mut Vec<Link>, home: u32)
+    requires few { length links.old.items < free }
+    requires room { vec_len links.old < vec_capacity links.old }
     ensures items { links.new.items ≡ links.old.items ++ record { prev = length links.old.items; next = length links.old.items; home = home } ∷ [] }
     ensures capacity { vec_capacity links.old ≤ vec_capacity links.new }
 {
-    let node = links.len();
+    let node = links.len() as u32;
     match links.push(Link {
         prev: node,
         next: node,

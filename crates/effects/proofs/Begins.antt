@@ -1,19 +1,16 @@
 -- A table that is made by putting in each operation of a tree.
-use Rattle.std.proofs.Common.{◌≡◌, ℕ, List, [], ◌∷◌, ◌++◌, false, true≢false, Option, Some, None, refl, map, sym, ap, ◌∙◌, subst, eqb, ◌||◌}
+use Rattle.std.proofs.Common.{◌≡◌, ℕ, List, [], ◌∷◌, ◌++◌, false, true≢false, Option, Some, None, refl, sym, ap, ◌∙◌, subst, eqb, ◌||◌}
 use Rattle.std.proofs.lemmas.Bool.{eq-eqb}
 use Rattle.std.proofs.lemmas.Map.Keys.{IsDistinct-tail}
 use Rattle.std.specs.List.{IsDistinct, list_any}
-use Rattle.ir_tree.specs.Tree.{HeadOf, OpOf, op, RegionsOf, no_regions, region, RegionOf, empty, block, OpsOf, no_ops, next, head}
+use Rattle.ir_tree.specs.Tree.{HeadOf, OpOf, op, RegionsOf, no_regions, region, RegionOf, empty, block, OpsOf, no_ops, next}
 use Rattle.ir_tree.specs.Ids.{ids, regions_ids, region_ids, ops_ids, HasDistinctIds}
 use Rattle.ir_tree.proofs.Moves.{Absent, absent_parts}
 use Rattle.ir_tree.proofs.Returns.{Present, halves, differ, absent_first}
 use Rattle.op_registry.specs.declared.own.Own.{Own}
 use Rattle.effects.specs.Effects.{none}
 use Rattle.effects.specs.Spots.{Spot, spots, regions_spots, region_spots, ops_spots, is_in, Lacks, Childless, Apart, Rows}
-use Rattle.effects.specs.Following.{Whole, PutIn, PutAll}
-use Rattle.ir_tree.specs.Tree.{Op, regions_of}
-use Rattle.ir_tree.specs.View.{region_view, op_view}
-use Rattle.ir_tree.specs.declared.tree.TreeOp.TheInside.{Inside}
+use Rattle.effects.specs.Following.{Whole, PutAll}
 use Rattle.ir_tree_laws.proofs.Listed.{or_right}
 use Rattle.effects.proofs.Spotted.{present_left, present_right, flipped, lacks_absent, spots_ids, region_spots_ids, childless_op, childless_region}
 use Rattle.effects.proofs.Events.{Alike, holds_alike, alike_join, alike_moved}
@@ -126,10 +123,3 @@ module _ {N T A : Type 0} (own : N → Own) where
   begun t a b d vacant p =
       let start : Whole a [] = record { known = λ n k. absurd k; only = λ x l. vacant x; counts = λ e n k. absurd k; each = λ e n k. absurd k } in
       subst (Whole b) (append_nothing (spots own None t)) (holds_alike b _ _ None none none (alike_onto (spots own None t) []) (all_put (spots own None t) [] a b p (grow t d) start))
-
--- an operation that was put in, and then what is inside it
-pub put_whole : (own : ℕ → Own) (p : Option ℕ) (i : Inside) (t : Op) (o : Own) (a m b : Rows) → op_view i ≡ t → o ≡ own i.name → PutIn i.id p o a m
-    → PutAll (regions_spots own (head t).id (regions_of (map region_view i.regions.items))) m b → PutAll (spots own p t) a b
-put_whole own p i t o a m b is row put rest =
-    subst (λ z. PutAll (spots own p z) a b) is
-    (m, subst (λ z. PutIn i.id p z a m) row put, subst (λ (z : Op). PutAll (regions_spots own (head z).id (regions_of (map region_view i.regions.items))) m b) (sym is) rest)

@@ -28,15 +28,15 @@ pub record Cut {N T A : Type 0} (own : N → Own) (x : ℕ) (place : Place) (fou
 
 module _ {N T A : Type 0} (own : N → Own) where
   -- the operation that a path leads into
-  abbrev around : List (StepOf N T A) → Option ℕ
+  abbrev pub around : List (StepOf N T A) → Option ℕ
   around [] = None
   around (a ∷ path) = Some (head a.parent).id
 
-  abbrev spot_in : StandOf N T A → Spot
+  abbrev pub spot_in : StandOf N T A → Spot
   spot_in s = record { id = stand_id s; parent = around s.path; own = own (head s.here).name }
 
   mutual
-    stand_spots : (path : List (StepOf N T A)) (t : OpOf N T A) → map spot_in (stands path t) ≡ spots own (around path) t
+    pub stand_spots : (path : List (StepOf N T A)) (t : OpOf N T A) → map spot_in (stands path t) ≡ spots own (around path) t
     stand_spots path (op h rs) = ap (λ l. record { id = h.id; parent = around path; own = own h.name } ∷ l) (regions_stand_spots (op h rs) path 0 rs)
 
     regions_stand_spots : (p : OpOf N T A) (path : List (StepOf N T A)) (r : ℕ) (rs : RegionsOf N T A) → map spot_in (regions_stands p path r rs) ≡ regions_spots own (head p).id rs

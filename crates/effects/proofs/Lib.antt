@@ -14,5 +14,6 @@ pub mod Headed
 pub mod Tallies
 pub mod Followed
 pub mod Raising
+pub mod Finding
 pub mod Names
 pub mod Judging

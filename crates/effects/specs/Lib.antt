@@ -5,6 +5,7 @@ pub mod Spots
 pub mod Walks
 pub mod Following
 pub mod Heads
+pub mod Found
 pub mod Counts
 pub mod Listed
 pub mod Listeners

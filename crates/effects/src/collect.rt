@@ -1,61 +1,48 @@
-//! The table of a tree, by one walk that puts in each operation.
-ghost use Rattle.std.specs.Prelude.{◌≡◌};
+//! The table of a module, by one walk that puts in each operation.
+ghost use Rattle.std.specs.Prelude.{◌≡◌, None, []};
 ghost use Rattle.std.specs.Bool.{OnTrue};
-ghost use Rattle.ir_tree.specs.View.{region_view};
-ghost use Rattle.effects.specs.Spots.{spots, region_spots};
+ghost use Rattle.effects.specs.Spots.{spots};
 ghost use Rattle.effects.specs.Walks.{row_at};
 ghost use Rattle.effects.specs.Effects.{own_by};
 ghost use Rattle.effects.specs.Following.{PutAll};
+ghost use Rattle.effects.specs.Found.{head_at, parent_at, spots_by, with_spot};
 
 use crate::own::own;
 use crate::row::Row;
 use crate::table::put;
-use ir_tree::tree::{TreeOp, TreeRegion};
-use ir_types::context::Context;
+use ir_event::world::World;
 use ir_types::ids::OpId;
-use op_registry::registry::Registry;
 use std::collections::BTreeMap;
 
-/// Puts in an operation and what is inside it. It is false where memory was refused.
-#[cycle(collect)]
-pub(crate) fn put_tree(
-    ctx: &Context,
-    registry: &Registry,
-    root: &TreeOp,
-    parent: Option<OpId>,
-    rows: &mut BTreeMap<OpId, Row>,
-) -> bool
-    ensures { OnTrue result (PutAll (spots (own_by ctx.now) parent root.now) (row_at rows.old) (row_at rows.new)) }
+/// Puts in the operations of a world's module. It is false where memory was refused.
+pub(crate) fn put_module(world: &World, rows: &mut BTreeMap<OpId, Row>) -> bool
+    ensures { OnTrue result (PutAll (spots (own_by world.now.ctx) None world.now.store.module_of.tree) (row_at rows.old) (row_at rows.new)) }
 {
-    let own = own(ctx, registry, root.name);
-    if !put(rows, root.id, parent, &own) {
+    let Ok(ops) = world.store.operations() else {
         return false;
-    }
-    for region in &root.regions {
-        if !put_region(ctx, registry, region, root.id, rows) {
+    };
+    put_all(world, &ops, rows)
+}
+
+/// Puts in operations, each behind the one that it stands in.
+fn put_all(world: &World, ops: &[OpId], rows: &mut BTreeMap<OpId, Row>) -> bool
+    ensures { OnTrue result (PutAll (spots_by (own_by world.now.ctx) (parent_at world.now.store) (head_at world.now.store) ops.now) (row_at rows.old) (row_at rows.new)) }
+{
+    for op in ops {
+        if !put_found(world, *op, rows) {
             return false;
         }
     }
     true
 }
 
-/// Puts in the operations of a region.
-#[cycle(collect)]
-fn put_region(
-    ctx: &Context,
-    registry: &Registry,
-    region: &TreeRegion,
-    parent: OpId,
-    rows: &mut BTreeMap<OpId, Row>,
-) -> bool
-    ensures { OnTrue result (PutAll (region_spots (own_by ctx.now) parent (region_view region.now)) (row_at rows.old) (row_at rows.new)) }
+/// Puts in an operation, if it is there.
+fn put_found(world: &World, op: OpId, rows: &mut BTreeMap<OpId, Row>) -> bool
+    ensures { OnTrue result (PutAll (with_spot (own_by world.now.ctx) op (parent_at world.now.store op) (head_at world.now.store op) []) (row_at rows.old) (row_at rows.new)) }
 {
-    if let TreeRegion::Block { ops, .. } = region {
-        for op in ops {
-            if !put_tree(ctx, registry, op, Some(parent), rows) {
-                return false;
-            }
-        }
-    }
-    true
+    let Some(node) = world.store.node(op) else {
+        return true;
+    };
+    let own = own(&world.ctx, &world.registry, node.name());
+    put(rows, op, world.store.parent(op), &own)
 }

@@ -9,7 +9,7 @@ ghost use Rattle.effects.specs.Counts.{counts_in, Counted};
 use crate::counting::follow_counts;
 use crate::effects::Effects;
 use crate::report::dead_lines;
-use crate::tally::{enter_tree, raise_tree};
+use crate::tally::{enter_all, raise_each};
 use ir_event::analysis::Analysis;
 use ir_event::event::Event;
 use ir_event::row as report;
@@ -52,13 +52,13 @@ impl Dead {
 fn tally(world: &World, counts: &mut BTreeMap<OpId, u32>) -> bool
     ensures { ((y : ℕ) → counts_in counts.old y ≡ None) → OnTrue result (Counted (counts_in counts.new) (module_in world.now).tree) }
 {
-    let Ok(tree) = world.store.tree() else {
+    let Ok(ops) = world.store.operations() else {
         return false;
     };
-    if !enter_tree(&world.ctx, &world.registry, &tree, counts) {
+    if !enter_all(world, &ops, counts) {
         return false;
     }
-    raise_tree(&tree, counts)
+    raise_each(&world.store, &ops, counts)
 }
 
 impl Analysis for Dead {

@@ -4,7 +4,7 @@ ghost use Rattle.ir_event.specs.Modules.{Module, things_in, module_in, shown_in}
 ghost use Rattle.ir_event.specs.Listener.{Told, ShowsTaken, is_take};
 ghost use Rattle.ir_event.specs.Step.{Step};
 
-use crate::collect::put_tree;
+use crate::collect::put_module;
 use crate::follow::follow;
 use crate::report::lines;
 use crate::row::Row;
@@ -64,10 +64,7 @@ impl Analysis for Effects {
         // What was kept goes first, so that there is room for what is kept now.
         self.rows = BTreeMap::new(self.alloc);
         self.stale = true;
-        let Ok(tree) = world.store.tree() else {
-            return Err(Memory);
-        };
-        if !put_tree(&world.ctx, &world.registry, &tree, None, &mut self.rows) {
+        if !put_module(world, &mut self.rows) {
             return Err(Memory);
         }
         self.stale = false;

@@ -9,7 +9,7 @@ use mathlib.Core.HLevel.{Σ_prop_path}
 
 -- what stands for no slot
 abbrev pub no_slot : ℕ
-no_slot = 18446744073709551615
+no_slot = 4294967295
 
 -- the slot that a number stands for
 abbrev pub slot_of : ℕ → Option ℕ

@@ -8,13 +8,13 @@ use std::alloc::{AllocError, Global};
 use std::collections::BTreeMap;
 use std::marker::Model;
 
-const NO_SLOT: usize = usize::MAX;
+const NO_SLOT: u32 = u32::MAX;
 
 /// The slots of ids.
 #[derive(Drop)]
 pub struct IdTable {
-    near: Vec<usize>,
-    far: BTreeMap<u32, usize>,
+    near: Vec<u32>,
+    far: BTreeMap<u32, u32>,
     ghost known: { MapOf (slot_in near.items (sorted.get nat_cmp far)) } by { MapOf-prop (slot_in near.items (sorted.get nat_cmp far)) },
 }
 
@@ -44,16 +44,34 @@ impl IdTable {
         })
     }
 
+    /// No ids. The first `count` ones, where they are 0, 1 and so on, come without moving the others.
+    pub fn with_capacity(alloc: Global, count: usize) -> Result<IdTable, AllocError>
+        ensures { IfOk result (λ t. t ≡ map.empty) }
+    {
+        let near = Vec::with_capacity(alloc, count)?;
+        Ok(IdTable {
+            near,
+            far: BTreeMap::new(alloc),
+        })
+    }
+
     /// The slot of an id, if it has one.
     pub fn get(&self, id: u32) -> Option<usize>
         ensures { result ≡ map.get self.now id }
     {
         let place = id as usize;
         if place >= self.near.len() {
-            return self.far.get(&id).copied();
+            return match self.far.get(&id) {
+                Some(slot) => Some(*slot as usize),
+                None => None,
+            };
         }
         let slot = self.near[place];
-        if slot == NO_SLOT { None } else { Some(slot) }
+        if slot == NO_SLOT {
+            None
+        } else {
+            Some(slot as usize)
+        }
     }
 
     /// Gives an id a slot, in place of the one that it had, if any.
@@ -64,13 +82,13 @@ impl IdTable {
     {
         let place = id as usize;
         if place < self.near.len() {
-            self.near[place] = slot;
+            self.near[place] = slot as u32;
             return Ok(());
         }
         if place == self.near.len() {
-            return add(&mut self.near, slot);
+            return add(&mut self.near, slot as u32);
         }
-        put(&mut self.far, id, slot)
+        put(&mut self.far, id, slot as u32)
     }
 
     /// Takes the slot of an id from it, if it has one. It wants no memory.
@@ -87,7 +105,7 @@ impl IdTable {
 }
 
 /// Gives the next id of a list a slot.
-fn add(near: &mut Vec<usize>, slot: usize) -> Result<(), AllocError>
+fn add(near: &mut Vec<u32>, slot: u32) -> Result<(), AllocError>
     ensures { MatchResult result (λ _. near.new.items ≡ near.old.items ++ slot ∷ []) (λ _. near.new.items ≡ near.old.items) }
 {
     match near.push(slot) {
@@ -97,7 +115,7 @@ fn add(near: &mut Vec<usize>, slot: usize) -> Result<(), AllocError>
 }
 
 /// Gives an id a slot in a map.
-fn put(far: &mut BTreeMap<u32, usize>, id: u32, slot: usize) -> Result<(), AllocError>
+fn put(far: &mut BTreeMap<u32, u32>, id: u32, slot: u32) -> Result<(), AllocError>
     ensures { MatchResult result
         (λ _. (x : ℕ) → sorted.get nat_cmp far.new x ≡ (if eqb x id then Some slot else sorted.get nat_cmp far.old x))
         (λ _. (x : ℕ) → sorted.get nat_cmp far.new x ≡ sorted.get nat_cmp far.old x) }
@@ -109,7 +127,7 @@ fn put(far: &mut BTreeMap<u32, usize>, id: u32, slot: usize) -> Result<(), Alloc
 }
 
 /// Takes the slot of an id from it in a map.
-fn drop_id(far: &mut BTreeMap<u32, usize>, id: u32)
+fn drop_id(far: &mut BTreeMap<u32, u32>, id: u32)
     ensures { (x : ℕ) → sorted.get nat_cmp far.new x ≡ (if eqb x id then None else sorted.get nat_cmp far.old x) }
 {
     let _slot = far.remove(&id);

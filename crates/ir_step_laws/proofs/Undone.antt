@@ -22,9 +22,11 @@ use Rattle.ir_tree_laws.specs.Reasons.{set_operand_reason, shift_reason, take_re
 use Rattle.ir_tree_laws.specs.Restores.{MayRestore, MayRetract}
 use Rattle.ir_tree_laws.proofs.Changed.{may_restore, may_retract, take_changes}
 use Rattle.ir_tree_laws.proofs.Contents.{from_restore, from_retract, map_set_operand_reason, map_shift_reason}
+use Rattle.ir_tree_laws.proofs.Reasoned.{no_shift_reason}
 use Rattle.ir_tree_laws.proofs.Reverted.{operand_reverts, shift_reverts}
 use Rattle.ir_tree_laws.proofs.Undone.{shifted_back, taken_back}
 use Rattle.ir_tree_laws.proofs.WellKept.{retract_keeps}
+use Rattle.ir_store.specs.Shifting.{CanRelink}
 use Rattle.ir_event.specs.declared.event.Event.TheVariants.{Put, Take, SetOperand, SetEntry, Shift}
 use Rattle.ir_event.specs.Modules.{Module, module_meaning}
 use Rattle.ir_event.specs.Step.{Step}
@@ -95,3 +97,9 @@ shift_undone c x old new p m s = (
   sym (map_shift_reason (name_term c) (type_term c) (attr_term c) is_isolated is_table x old m.tree) ∙ shift_reverts is_isolated is_table x old new p (module_meaning c m) s.before s.after s.changes,
   λ i. record { tree = (sym (map_shifted (name_term c) (type_term c) (attr_term c) x old m.tree) ∙ shifted_back is_table x old new p (module_meaning c m) s.before.distinct s.changes) i; next = s.changes.next i },
 )
+
+-- what moving it back asks, where no more is looked at
+pub relink_undone : (c : Things) (x : ℕ) (old new : Place) (p : Module) (m : Numbered) → Step c (Shift x old new) p (module_meaning c m) → CanRelink x old m.tree
+relink_undone c x old new p m s =
+    let r = no_shift_reason (isolated_in c) (λ n. is_table (name_term c n)) x old m.tree (shift_undone c x old new p m s).0 in
+    record { there = r.there; inner = r.inner; spot = r.spot; outside = r.outside }

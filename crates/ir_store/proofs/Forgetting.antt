@@ -31,13 +31,13 @@ use Rattle.ir_store.proofs.Tally.{live_stays, some_live}
 use Rattle.ir_store.proofs.Whole.{Whole}
 use Rattle.ir_store.proofs.Wide.{same_spells}
 
-some_same : {X : Type 0} (x y : X) → Some x ≡ Some y → x ≡ y
+pub some_same : {X : Type 0} (x y : X) → Some x ≡ Some y → x ≡ y
 some_same x y e = cc
 
-abbrev result_with : ℕ → Head → ℕ → Option ℕ
+abbrev pub result_with : ℕ → Head → ℕ → Option ℕ
 result_with i h b = if nat_lt i (length h.results) then Some (b + i) else None
 
-abbrev argument_with : ℕ → ℕ → List ℕ × ℕ → Option ℕ
+abbrev pub argument_with : ℕ → ℕ → List ℕ × ℕ → Option ℕ
 argument_with b i a = if nat_lt i (length a.0) then Some (b + i) else None
 
 -- the held operation x, in slot k, is given up

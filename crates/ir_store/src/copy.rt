@@ -83,7 +83,7 @@ fn copy_regions(
     requires heads { AllHeads sibs.now.homes (map shape_of areas.now) }
     ensures { IfOk result (λ gs. SpellsRegions (rows_of rows.now.items) sibs.now.lists (map shape_of areas.now) (regions_of (map region_view gs.items))) }
 {
-    let mut regions = Vec::new(alloc);
+    let mut regions = Vec::with_capacity(alloc, areas.len())?;
     for area in areas {
         let region = copy_region(alloc, rows, sibs, area, levels)?;
         regions.push(region)?;
@@ -108,7 +108,7 @@ fn copy_region(
         Area::Empty => Ok(TreeRegion::Empty),
         Area::Block { args, head } => {
             let keys = list_of(alloc, sibs, *head)?;
-            let mut ops = Vec::new(alloc);
+            let mut ops = Vec::with_capacity(alloc, keys.len())?;
             for key in &keys {
                 let op = copy_op(alloc, rows, sibs, key, levels)?;
                 ops.push(op)?;

@@ -1,5 +1,5 @@
 //! Slots and nodes that are added.
-ghost use Rattle.std.specs.Prelude.{◌≡◌, ℕ, ◌+◌, ◌≤◌, ◌++◌, ◌∷◌, [], length, map, IfOk, MatchResult, IfSome};
+ghost use Rattle.std.specs.Prelude.{◌≡◌, ℕ, ◌+◌, ◌<◌, ◌≤◌, ◌++◌, ◌∷◌, [], length, map, IfOk, MatchResult, IfSome};
 ghost use Rattle.ir_tree.specs.View.{region_view};
 ghost use Rattle.ir_tree.specs.Tree.{block, no_ops, head};
 ghost use Rattle.ir_store.specs.Rows.{row_of, rows_of, shape_of};
@@ -128,7 +128,8 @@ fn add_run(
     count: usize,
     heads: bool,
 ) -> Result<usize, AllocError>
-    requires { length uses.old.homes ≡ length cells.old.items }
+    requires even { length uses.old.homes ≡ length cells.old.items }
+    requires row { row < free }
     ensures { MatchResult result
         (λ base. (base ≡ length uses.old.homes) × Runs heads row count uses.old.homes uses.new.homes (cells_of cells.old.items) (cells_of cells.new.items))
         (λ _. (n : ℕ) × Runs heads row n uses.old.homes uses.new.homes (cells_of cells.old.items) (cells_of cells.new.items)) }
@@ -136,7 +137,12 @@ fn add_run(
     let base = cells.len();
     let mut place = 0;
     'nodes: while place < count {
-        match add_use(uses, cells, Cell { row, place }, heads) {
+        uses.laws();
+        let cell = Cell {
+            row: row as u32,
+            place: place as u32,
+        };
+        match add_use(uses, cells, cell, heads) {
             Ok(()) => {}
             Err(e) => return Err(e),
         }
@@ -210,6 +216,7 @@ fn add_block(
     ensures area { IfOk result (λ a. (bare_region (shape_of a) ≡ block args.items no_ops)
         × IsBlock (parts_of rows.new.items sibs.new uses.new cells.new.items) (length uses.old.homes) owner number (shape_of a)) }
 {
+    sibs.laws();
     let head = row_count(rows);
     let count = type_count(&args);
     let values = match add_run(uses, cells, head, count, true) {
@@ -237,7 +244,7 @@ fn add_areas(
     ensures areas { IfOk result (λ a. AreEmptied (map shape_of a.items) (map region_view regions.now)
         × AreBlocks (parts_of rows.new.items sibs.new uses.new cells.new.items) (length uses.old.homes) owner (map shape_of a.items)) }
 {
-    let mut areas = Vec::new(alloc);
+    let mut areas = Vec::with_capacity(alloc, regions.len())?;
     let mut number = 0;
     let mut rest = regions;
     'regions: while let [region, tail @ ..] = rest {
@@ -300,6 +307,7 @@ pub(crate) fn grow_slot(
     ensures wider { Wider (parts_of rows.old.items sibs.old uses.old cells.old.items) (parts_of rows.new.items sibs.new uses.new cells.new.items) }
     ensures grown { IfOk result (λ p. Grown (parts_of rows.old.items sibs.old uses.old cells.old.items) (parts_of rows.new.items sibs.new uses.new cells.new.items) op header.now p.0 (row_of p.1)) }
 {
+    sibs.laws();
     let slot = row_count(rows);
     match add_slot(rows, sibs, spare_row(alloc, 0, 0, 0), false) {
         Ok(()) => {}

@@ -14,6 +14,7 @@ ghost use Rattle.ir_store.specs.Calls.{Loaded};
 ghost use Rattle.ir_store.specs.Emptied.{emptied};
 ghost use Rattle.ir_store.specs.Loads.{end_of, put_region, put_regions, MayRegion, MayRegions, Adds, AreBelow};
 
+use crate::room::room_for;
 use crate::store::Store;
 use ir_tree::check::check;
 use ir_tree::place::Place;
@@ -126,7 +127,8 @@ fn spread(alloc: Global, tree: &TreeOp, next: u32) -> Result<Store, AllocError>
     requires root { (head tree.now).operands ≡ [] }
     ensures { IfOk result (λ s. Loaded tree.now next s) }
 {
-    let mut store = Store::seed(alloc, tree, next)?;
+    let room = room_for(tree);
+    let mut store = Store::seed(alloc, tree, next, &room)?;
     load_regions(&mut store, tree.id, &tree.regions)?;
     Ok(store)
 }

@@ -16,6 +16,8 @@ pub struct Row {
     pub live: bool,
     pub id: OpId,
     pub name: NameId,
+    /// Of a block's head: the number of the region.
+    pub region: u32,
     pub operands: Vec<Value>,
     pub results: Vec<TypeId>,
     /// The properties, and the slots of those that were taken out.
@@ -23,9 +25,8 @@ pub struct Row {
     /// The discardable attributes, in the same way.
     pub attrs: Dictionary,
     pub areas: Vec<Area>,
-    /// Of a block's head: the slot of the operation around it, and the number of the region.
+    /// Of a block's head: the slot of the operation around it.
     pub owner: usize,
-    pub region: u32,
     /// The node of the first operand, among the uses of values; the others' nodes come after it.
     pub uses: usize,
     /// The head of the uses of the first result, or of a block's first argument; the others' heads come after it.
@@ -35,8 +36,8 @@ pub struct Row {
 /// A node among the uses of values: the slot of the operation, and the place of the operand.
 #[derive(Clone, Copy, Drop)]
 pub struct Cell {
-    pub row: usize,
-    pub place: usize,
+    pub row: u32,
+    pub place: u32,
 }
 
 /// A region of an operation in a slot: a block's operations stand in the list of its head.

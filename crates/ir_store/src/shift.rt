@@ -1,5 +1,5 @@
 //! Operations, with what stands in them, moved to other places.
-ghost use Rattle.std.specs.Prelude.{◌≡◌, ◌-◌, eqb, length, MatchOption, Some, is_some, ◌&&◌, true, false};
+ghost use Rattle.std.specs.Prelude.{◌≡◌, ◌-◌, eqb, length, MatchOption, Some, is_some, ◌&&◌, true, false, None, MatchResult};
 ghost use Rattle.std.specs.FinMap as finmap;
 ghost use Rattle.std.specs.Ordering.{nat_cmp};
 ghost use Rattle.ir_types.specs.Terms.{name_term};
@@ -9,8 +9,10 @@ ghost use Rattle.ir_tree.specs.Places.{shifted};
 ghost use Rattle.ir_tree_laws.specs.Tables.{table_of};
 ghost use Rattle.ir_tree.specs.Ids.{find as the_first, has_id};
 ghost use Rattle.ir_tree.specs.Limits.{most_around};
+ghost use Rattle.ir_tree.specs.Meaning.{isolated_in};
+ghost use Rattle.ir_tree.specs.WellFormed.{IsWellFormed};
 ghost use Rattle.ir_tree_laws.specs.Reads.{around, is_within};
-ghost use Rattle.ir_tree_laws.specs.Reasons.{fits_around, has_place, leads_inside, levels_in, same_table};
+ghost use Rattle.ir_tree_laws.specs.Reasons.{fits_around, has_place, leads_inside, levels_in, same_table, shift_reason};
 ghost use Rattle.ir_store.specs.Calls.{after_shift};
 ghost use Rattle.ir_store.specs.Rows.{rows_of, live_slot};
 ghost use Rattle.ir_store.specs.Spots.{spot_in};
@@ -29,9 +31,10 @@ use ir_types::refusal::Refusal;
 use order::Ordered;
 
 impl Store {
-    /// Moves an operation of the module, with what stands in it, to a place outside of it. Whether its table stays,
-    /// how deep it comes to stand and what is seen then isn't looked at.
-    pub(crate) fn relink(&mut self, op: OpId, place: Place)
+    /// Moves an operation of the module other than the root, with what stands in it, to a place outside of it. Whether
+    /// its nearest table stays, how deep it comes to stand and what is seen then isn't looked at, so this is for going
+    /// back to where it stood. It takes no memory, and refuses nothing.
+    pub fn relink(&mut self, op: OpId, place: Place)
         requires { CanRelink op place self.old.module_of.tree }
         ensures { self.new ≡ after_shift op place self.old }
     {
@@ -43,6 +46,38 @@ impl Store {
         self.sibs.remove(key);
         self.sibs.laws();
         link(&mut self.sibs, key, head, before);
+    }
+}
+
+impl Store {
+    /// Shifts an operation, with what stands in it, to a place of the module.
+    ///
+    /// Refusals, in order: `NoSuchOp` where it, or the place's parent, isn't in the module; `IsRoot`; `NoSuchIndex`
+    /// where there is no such place; `IntoItself` where the place is in the operation, or before it; `OtherTable`
+    /// where another nearest symbol table is around the place; `TooDeepHere`; `NotVisible` where an operand of the
+    /// module wouldn't be visible any more (Language Reference, "Regions", on value scoping). A refused shift leaves
+    /// the store as it was. It takes no memory.
+    pub fn shift(&mut self, ctx: &Context, op: OpId, place: Place) -> Result<(), Refusal>
+        requires { IsWellFormed (isolated_in ctx.now) self.old.module_of }
+        ensures done { MatchResult result
+            (λ _. (shift_reason (isolated_in ctx.now) (λ n. is_table (name_term ctx.now n)) op place self.old.module_of.tree ≡ None) × (self.new ≡ after_shift op place self.old))
+            (λ e. (shift_reason (isolated_in ctx.now) (λ n. is_table (name_term ctx.now n)) op place self.old.module_of.tree ≡ Some e) × (self.new ≡ self.old)) }
+        ensures formed { IsWellFormed (isolated_in ctx.now) self.new.module_of }
+    {
+        self.distinct();
+        match self.unseen_fault(ctx, op, &place) {
+            Some(refusal) => return Err(refusal),
+            None => {}
+        }
+        let Some(old) = self.place(op) else {
+            return Err(Refusal::NoSuchOp);
+        };
+        self.relink(op, place);
+        if self.is_seen(ctx, op) {
+            return Ok(());
+        }
+        self.relink(op, old);
+        Err(Refusal::NotVisible)
     }
 }
 

@@ -20,6 +20,7 @@ ghost use Rattle.ir_store.specs.Holds.{HoldsOf, HoldsOf-prop, GoneOf, GoneOf-pro
 use crate::find::{Keys, find, slot};
 use crate::grow::grow_slot;
 use crate::node::Node;
+use crate::room::Room;
 use crate::row::{Cell, Row, put_operand, put_row};
 use crate::spot::{find_joint, link};
 use crate::uses::{
@@ -249,16 +250,51 @@ impl Store {
 }
 
 impl Store {
-    /// A module of one operation without operands: one like a header, without the operations in its blocks.
-    pub(crate) fn seed(alloc: Global, header: &TreeOp, next: u32) -> Result<Store, AllocError>
+    /// A module of one operation without operands: one like a header, without the operations in its blocks. It has
+    /// room for others, and is moved where there are more.
+    pub(crate) fn seed(
+        alloc: Global,
+        header: &TreeOp,
+        next: u32,
+        room: &Room,
+    ) -> Result<Store, AllocError>
         requires bare { (head header.now).operands ≡ [] }
         requires below { (head header.now).id < next }
         ensures { IfOk result (λ s. s ≡ seeded header.now next) }
     {
-        let mut rows = Vec::new(alloc);
-        let mut sibs = Ordered::new(alloc);
-        let mut uses = Chains::new(alloc);
-        let mut cells = Vec::new(alloc);
+        let rows = Vec::with_capacity(alloc, room.slots)?;
+        let sibs = Ordered::with_capacity(alloc, room.slots)?;
+        let uses = Chains::with_capacity(alloc, room.uses)?;
+        let cells = Vec::with_capacity(alloc, room.uses)?;
+        let keys = IdTable::with_capacity(alloc, room.ops)?;
+        Store::seed_in(alloc, rows, sibs, uses, cells, keys, header, next)
+    }
+
+    /// The same in what was made for it.
+    fn seed_in(
+        alloc: Global,
+        rows: Vec<Row>,
+        sibs: Ordered,
+        uses: Chains,
+        cells: Vec<Cell>,
+        keys: Keys,
+        header: &TreeOp,
+        next: u32,
+    ) -> Result<Store, AllocError>
+        requires bare { (head header.now).operands ≡ [] }
+        requires below { (head header.now).id < next }
+        requires rows { rows.items ≡ [] }
+        requires sibs { sibs ≡ record { lists = []; homes = []; room = 0 } }
+        requires uses { uses ≡ record { lists = []; homes = []; room = 0 } }
+        requires cells { cells.items ≡ [] }
+        requires keys { keys ≡ finmap.empty }
+        ensures { IfOk result (λ s. s ≡ seeded header.now next) }
+    {
+        let mut rows = rows;
+        let mut sibs = sibs;
+        let mut uses = uses;
+        let mut cells = cells;
+        let mut keys = keys;
         let (root, row) = match grow_slot(
             alloc, &mut rows, &mut sibs, &mut uses, &mut cells, header.id, header,
         ) {
@@ -267,10 +303,6 @@ impl Store {
         };
         sibs.laws();
         uses.laws();
-        let mut keys = match IdTable::new(alloc, 0) {
-            Ok(keys) => keys,
-            Err(e) => return Err(e),
-        };
         match keys.insert(header.id.number(), root) {
             Ok(()) => {}
             Err(e) => return Err(e),

@@ -285,12 +285,12 @@ pub(crate) fn id_at(rows: &Vec<Row>, key: usize) -> OpId
 }
 
 /// The operation and the operand of a node.
-fn use_in(rows: &Vec<Row>, cells: &Vec<Cell>, node: usize) -> (OpId, usize)
+pub(crate) fn use_in(rows: &Vec<Row>, cells: &Vec<Cell>, node: usize) -> (OpId, usize)
     ensures { result ≡ use_in (rows_of rows.now.items) (cells_of cells.now.items) node }
 {
     match cells.get(node) {
         None => (id_at(rows, 0), 0),
-        Some(cell) => (id_at(rows, cell.row), cell.place),
+        Some(cell) => (id_at(rows, cell.row as usize), cell.place as usize),
     }
 }
 

@@ -2,3 +2,4 @@ pub mod Sets
 pub mod Gathering
 pub mod Telling
 pub mod Presence
+pub mod Pairs

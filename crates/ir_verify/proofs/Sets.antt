@@ -31,7 +31,7 @@ high : (b : Bool) (n : ℕ) → with_bit b n / 2 ≡ n
 high true n = omega arith
 high false n = omega arith
 
-none : (k m : ℕ) → numbers_from m (bits_of k 0) ≡ []
+pub none : (k m : ℕ) → numbers_from m (bits_of k 0) ≡ []
 none zero m = refl
 none (suc k) m = none k (m + 1)
 

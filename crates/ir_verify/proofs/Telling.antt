@@ -1,7 +1,7 @@
 -- The rules in the set of an operation are those that it breaks, and the rows of a table of such sets are those of the tree.
-use Rattle.std.proofs.Common.{◌≡◌, refl, sym, ap, ◌∙◌, subst, ℕ, ◌≤◌, List, [], ◌∷◌, ◌++◌, length, map, Option, Some, None, arith}
-use Rattle.std.specs.Prelude.{option_map}
-use Rattle.std.specs.List.{All}
+use Rattle.std.proofs.Common.{◌≡◌, refl, sym, ap, ◌∙◌, subst, ℕ, ◌≤◌, List, [], ◌∷◌, ◌++◌, length, map, cond, Bool, true, false, true≢false, eqb-true, inl, inr, not, Option, Some, None, arith}
+use Rattle.std.specs.Prelude.{option_map, ◌==◌}
+use Rattle.std.specs.List.{All, filter}
 use Rattle.std.specs.Ordering.{nat_cmp}
 use Rattle.std.specs.declared.cmp.Ordering.TheVariants.{Less, Equal, Greater}
 use Rattle.std.specs.FinMap.Entries.{put, by_order}
@@ -10,6 +10,7 @@ use Rattle.std.proofs.lemmas.List.Elements.{All-nil, All-cons, All-head, All-tai
 use Rattle.ir_types.specs.Things.{Things}
 use Rattle.ir_tree.specs.Meaning.{Operation}
 use Rattle.ir_tree_laws.specs.Stands.{StandOf, stand_id, stands}
+use Rattle.ir_tree_laws.proofs.Listed.{bool_cases}
 use Rattle.op_registry.specs.Rows.{Row}
 use Rattle.op_registry.specs.Registry.{row_of}
 use Rattle.ir_event.specs.declared.row.Cell.{Cell}
@@ -17,14 +18,14 @@ use Rattle.ir_event.specs.declared.row.Cell.TheVariants.{Op, Rule}
 use Rattle.ir_event.specs.declared.row.Row.{Row as Line}
 use Rattle.ir_event.specs.Rows.{cell_meaning, rows_meaning, CellIsOf, RowIsOf, Shows}
 use Rattle.surroundings.specs.Surroundings.{surround, surroundings}
-use Rattle.surroundings.specs.Facts.{fact_of, sorted_in, sorted_facts}
+use Rattle.surroundings.specs.Facts.{fact_of, sorted_in, sorted_facts, kept_facts}
 use Rattle.ir_verify_base.specs.Fits.{Surroundings}
 use Rattle.ir_verify.specs.declared.rules.RuleSet.{RuleSet}
-use Rattle.ir_verify.specs.Breaks.{told_in, broken}
-use Rattle.ir_verify.specs.Sets.{rules_in, set_of}
+use Rattle.ir_verify.specs.Breaks.{told_in, broken, numbers_from}
+use Rattle.ir_verify.specs.Sets.{bits_of, rules_in, has_any, set_of}
 use Rattle.ir_verify.specs.Diagnostics.{broken_at, rule_rows, rows_of, diagnostics_of}
 use Rattle.ir_verify.specs.Reports.{rule_cells, rules_cells, all_cells}
-use Rattle.ir_verify.proofs.Sets.{unpacked}
+use Rattle.ir_verify.proofs.Sets.{unpacked, none}
 
 few : (row : Option Row) (s : Surroundings) → length (told_in row s) ≤ 24
 few None s = omega arith
@@ -58,6 +59,23 @@ facts_read : (t : Operation) (ss : List (StandOf (List ℕ) _ _)) → map read (
 facts_read t [] = refl
 facts_read t (s ∷ ss) = put_read (stand_id s) (set_of (surround t s)) (sorted_in set_of t ss) ∙ λ i. put nat_cmp (stand_id s) (rules_broken (surround t s) i) (facts_read t ss i)
 
+-- an operation that breaks no rule has no row
+no_bits : (n : ℕ) → not (n == 0) ≡ false → n ≡ 0
+no_bits n e = elim (bool_cases (n == 0)) [ inl k ↦ eqb-true n 0 k | inr k ↦ absurd (true≢false (sym (ap not k) ∙ e)) ]
+
+no_rules : (set : RuleSet) → has_any set ≡ false → rules_in set ≡ []
+unfolding rules_in
+no_rules set e = ap (λ n. numbers_from 1 (bits_of 24 n)) (no_bits set.bits e) ∙ none 24 1
+
+all_rows : (es : List (ℕ × RuleSet)) → rows_of (map read (filter (λ (e : ℕ × RuleSet). has_any e.1) es)) ≡ rows_of (map read es)
+all_rows [] = refl
+all_rows (e ∷ es) =
+    let rest = filter (λ (e : ℕ × RuleSet). has_any e.1) es in
+    elim (bool_cases (has_any e.1)) [
+      | inl k ↦ ap (λ b. rows_of (map read (cond b (e ∷ rest) rest))) k ∙ ap (λ l. rule_rows e.0 (rules_in e.1) ++ l) (all_rows es)
+      | inr k ↦ ap (λ b. rows_of (map read (cond b (e ∷ rest) rest))) k ∙ all_rows es ∙ sym (ap (λ l. rule_rows e.0 l ++ rows_of (map read es)) (no_rules e.1 k))
+    ]
+
 -- ---- rows
 module _ (c : Things) where
   cells_say : (x : ℕ) (rs : List ℕ) → map (map (cell_meaning c)) (rules_cells x rs) ≡ rule_rows x rs
@@ -89,8 +107,8 @@ module _ (c : Things) where
   lines_known [] a = All-nil (RowIsOf c)
   lines_known (r ∷ rows) a = All-cons (RowIsOf c) r rows (All-head (λ cells. All (CellIsOf c) cells) r.cells.items _ a) (lines_known rows (All-tail (λ cells. All (CellIsOf c) cells) r.cells.items _ a))
 
-  pub shows_diagnostics : (t : Operation) (es : List (ℕ × RuleSet)) (rows : List Line) → es ≡ sorted_facts set_of t → map (λ (r : Line). r.cells.items) rows ≡ all_cells es → Shows c rows (diagnostics_of t)
+  pub shows_diagnostics : (t : Operation) (es : List (ℕ × RuleSet)) (rows : List Line) → es ≡ kept_facts set_of has_any t → map (λ (r : Line). r.cells.items) rows ≡ all_cells es → Shows c rows (diagnostics_of t)
   shows_diagnostics t es rows e is = record {
-    says = lines_say rows ∙ ap (map (map (cell_meaning c))) is ∙ all_say es ∙ ap (λ l. rows_of (map read l)) e ∙ ap rows_of (facts_read t (stands [] t));
+    says = lines_say rows ∙ ap (map (map (cell_meaning c))) is ∙ all_say es ∙ ap (λ l. rows_of (map read l)) e ∙ all_rows (sorted_facts set_of t) ∙ ap rows_of (facts_read t (stands [] t));
     known = lines_known rows (subst AreOf (sym is) (all_known es));
   }

@@ -1,5 +1,5 @@
 -- Sets of rules, as numbers of 24 bits.
-use Rattle.std.specs.Prelude.{ℕ, zero, suc, ◌+◌, ◌*◌, ◌/◌, ◌%◌, List, [], ◌∷◌, Bool, true, false, ◌==◌}
+use Rattle.std.specs.Prelude.{ℕ, zero, suc, ◌+◌, ◌*◌, ◌/◌, ◌%◌, List, [], ◌∷◌, Bool, true, false, not, ◌==◌}
 use Rattle.op_registry.specs.Registry.{row_of}
 use Rattle.ir_verify.specs.declared.rules.RuleSet.{RuleSet}
 use Rattle.ir_verify_base.specs.Fits.{Surroundings}
@@ -23,6 +23,10 @@ bits_of (suc k) n = (n % 2 == 1) ∷ bits_of k (n / 2)
 -- the numbers of the rules in a set, rising
 unfoldable pub rules_in : RuleSet → List ℕ
 rules_in set = numbers_from 1 (bits_of 24 set.bits)
+
+-- whether a rule is in a set
+abbrev pub has_any : RuleSet → Bool
+has_any set = not (set.bits == 0)
 
 -- the set of the rules that an operation breaks
 abbrev pub set_of : Surroundings → RuleSet

@@ -13,8 +13,8 @@ use surroundings::kept::Kept;
 
 /// The analysis `diagnostics`: which operations break which rules.
 ///
-/// It keeps of each operation the rules that it breaks. After an event it looks again at the operations near it, which
-/// alone can break other rules than before.
+/// It keeps of each operation that breaks rules which they are. After an event it looks again at the operations near it,
+/// which alone can break other rules than before.
 #[derive(Drop)]
 pub struct Diagnostics {
     kept: Kept<RuleSet>,

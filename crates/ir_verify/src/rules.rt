@@ -59,13 +59,19 @@ impl RuleSet {
 }
 
 impl Fact for RuleSet {
-    ghost use Rattle.ir_verify.specs.Sets.{set_of};
+    ghost use Rattle.ir_verify.specs.Sets.{has_any, set_of};
 
     ghost fact = { set_of };
+
+    ghost kept = { has_any };
 
     #[tactic(auto, using(crate::proofs::Gathering::gathered_told))]
     fn of(ctx: &Context, registry: &Registry, around: &Around<'_>) -> RuleSet {
         told(ctx, registry, around)
+    }
+
+    fn is_kept(&self) -> bool {
+        self.bits != 0
     }
 }
 

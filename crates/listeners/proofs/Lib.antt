@@ -9,3 +9,4 @@ pub mod Places
 pub mod Apart
 pub mod Changing
 pub mod Following
+pub mod Collecting

@@ -5,3 +5,4 @@ pub mod Listings
 pub mod Tables
 pub mod Listeners
 pub mod Following
+pub mod Collected

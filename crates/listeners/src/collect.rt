@@ -1,10 +1,13 @@
-//! The uses of a tree, by one walk that counts them, and one that lists them.
+//! The uses of a module, by one walk over its operations that counts them, and one that lists them.
 ghost use Rattle.std.specs.Prelude.{◌≡◌, ◌++◌, IfOk, OnOk};
-ghost use Rattle.ir_tree.specs.View.{region_view};
-ghost use Rattle.listeners.specs.Uses.{uses_in, region_uses};
+ghost use Rattle.listeners.specs.Uses.{operand_uses, uses_in};
+ghost use Rattle.listeners.specs.Following.{operands_in};
+ghost use Rattle.listeners.specs.Collected.{if_any, uses_by};
 
 use crate::listing::Listing;
-use ir_tree::tree::{TreeOp, TreeRegion};
+use ir_event::world::World;
+use ir_store::store::Store;
+use ir_types::ids::OpId;
 use std::alloc::{AllocError, Global};
 
 /// How many operations have operands, and how many operands there are.
@@ -14,60 +17,55 @@ struct Counts {
     operands: usize,
 }
 
-/// The uses of a tree: users in pre-order, the operands of each in order.
-pub(crate) fn collect(alloc: Global, root: &TreeOp) -> Result<Listing, AllocError>
-    ensures { IfOk result (λ uses. uses ≡ uses_in root.now) }
+/// The uses of a world's module: users in pre-order, the operands of each in order.
+pub(crate) fn collect(alloc: Global, world: &World) -> Result<Listing, AllocError>
+    ensures { IfOk result (λ uses. uses ≡ uses_in world.now.store.module_of.tree) }
 {
-    let mut counts = Counts {
-        users: 0,
-        operands: 0,
-    };
-    count(root, &mut counts);
+    let ops = world.store.operations()?;
+    let counts = count(&world.store, &ops);
     let mut out = Listing::with_room(alloc, counts.users, counts.operands)?;
-    push_uses(root, &mut out)?;
+    push_all(&world.store, &ops, &mut out)?;
     Ok(out)
 }
 
 /// Counts, so that room is taken once. Nothing follows from the counts but how much that is.
-#[cycle(count)]
-fn count(root: &TreeOp, counts: &mut Counts) {
-    if !root.operands.is_empty() {
-        counts.users = counts.users.saturating_add(1);
-        counts.operands = counts.operands.saturating_add(root.operands.len());
-    }
-    for region in &root.regions {
-        count_region(region, counts);
-    }
-}
-
-#[cycle(count)]
-fn count_region(region: &TreeRegion, counts: &mut Counts) {
-    if let TreeRegion::Block { ops, .. } = region {
-        for op in ops {
-            count(op, counts);
+fn count(store: &Store, ops: &[OpId]) -> Counts {
+    let mut users: usize = 0;
+    let mut operands: usize = 0;
+    for op in ops {
+        let found = operand_count(store, *op);
+        if found > 0 {
+            users = users.saturating_add(1);
+            operands = operands.saturating_add(found);
         }
     }
+    Counts { users, operands }
 }
 
-#[cycle(collect)]
-fn push_uses(root: &TreeOp, out: &mut Listing) -> Result<(), AllocError>
-    ensures { OnOk result (out.new ≡ out.old ++ uses_in root.now) }
+/// How many operands an operation has.
+fn operand_count(store: &Store, op: OpId) -> usize {
+    match store.node(op) {
+        None => 0,
+        Some(node) => node.operands().len(),
+    }
+}
+
+/// Adds the uses of operations, one after another.
+fn push_all(store: &Store, ops: &[OpId], out: &mut Listing) -> Result<(), AllocError>
+    ensures { OnOk result (out.new ≡ out.old ++ uses_by (operands_in store.now) ops.now) }
 {
-    out.push(root.id, &root.operands)?;
-    for region in &root.regions {
-        push_region_uses(region, out)?;
+    for op in ops {
+        push_uses(store, *op, out)?;
     }
     Ok(())
 }
 
-#[cycle(collect)]
-fn push_region_uses(region: &TreeRegion, out: &mut Listing) -> Result<(), AllocError>
-    ensures { OnOk result (out.new ≡ out.old ++ region_uses (region_view region.now)) }
+/// Adds the uses of an operation.
+fn push_uses(store: &Store, op: OpId, out: &mut Listing) -> Result<(), AllocError>
+    ensures { OnOk result (out.new ≡ out.old ++ operand_uses op 0 (if_any (operands_in store.now op))) }
 {
-    if let TreeRegion::Block { ops, .. } = region {
-        for op in ops {
-            push_uses(op, out)?;
-        }
-    }
-    Ok(())
+    let Some(node) = store.node(op) else {
+        return Ok(());
+    };
+    out.push(op, node.operands())
 }

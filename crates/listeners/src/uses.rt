@@ -16,7 +16,6 @@ use ir_event::event::Event;
 use ir_event::row::{Kind, Memory, ReportFault, Row};
 use ir_event::view::View;
 use ir_event::world::World;
-use ir_store::store::Store;
 use std::alloc::{AllocError, Global};
 
 /// The analysis `uses`: each use of each value, in order.
@@ -44,12 +43,11 @@ impl Uses {
     }
 }
 
-/// The table of the uses of a store's module.
-fn table_in(alloc: Global, store: &Store) -> Result<Table, AllocError>
-    ensures { IfOk result (λ table. in_order (table_uses table) ≡ all_uses store.now.module_of.tree) }
+/// The table of the uses of a world's module.
+fn table_in(alloc: Global, world: &World) -> Result<Table, AllocError>
+    ensures { IfOk result (λ table. in_order (table_uses table) ≡ all_uses world.now.store.module_of.tree) }
 {
-    let tree = store.tree()?;
-    let listed = collect(alloc, &tree)?;
+    let listed = collect(alloc, world)?;
     Ok(Table::new(alloc, listed))
 }
 
@@ -66,7 +64,7 @@ impl Analysis for Uses {
         // What was kept goes first, so that there is room for what is kept now.
         self.table = Table::new(self.alloc, Listing::new(self.alloc));
         self.stale = true;
-        match table_in(self.alloc, &world.store) {
+        match table_in(self.alloc, world) {
             Ok(table) => {
                 self.table = table;
                 self.stale = false;

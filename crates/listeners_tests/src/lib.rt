@@ -3,6 +3,8 @@
 #![tactic(auto)]
 
 #[cfg(test)]
+mod additions_tests;
+#[cfg(test)]
 mod uses_tests;
 #[cfg(test)]
 mod worlds;

@@ -43,6 +43,16 @@ impl Ordered {
         }
     }
 
+    /// No nodes, as `Chains::with_capacity` makes none.
+    pub fn with_capacity(alloc: Global, count: usize) -> Result<Ordered, AllocError>
+        ensures { IfOk result (λ c. c ≡ record { lists = []; homes = []; room = 0 }) }
+    {
+        Ok(Ordered {
+            chains: Chains::with_capacity(alloc, count)?,
+            labels: Vec::with_capacity(alloc, count)?,
+        })
+    }
+
     /// Whether `a` stands before `b` in their list.
     pub fn is_before(&self, a: usize, b: usize) -> bool
         requires a { IsItem self.now.homes a }

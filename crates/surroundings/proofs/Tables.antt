@@ -1,7 +1,7 @@
 -- A table whose facts about the operations near an event were renewed keeps the facts of the module after it.
 use Rattle.std.proofs.Common.{◌≡◌, refl, ap, sym, ◌∙◌, subst, ℕ, zero, suc, ◌+◌, ◌<◌, ◌≤◌, Bool, true, false, true≢false, cond, ◌||◌, eqb, eq-eqb, eqb-true, List, [], ◌∷◌, ◌++◌, map, drop, length, get_or, Option, Some, None, inl, inr, arith}
 use Rattle.std.proofs.lemmas.List.Folds.{list_any-append}
-use Rattle.std.specs.Prelude.{option_map}
+use Rattle.std.specs.Prelude.{option_map, option_and_then}
 use Rattle.ir_types.specs.Things.{Things}
 use Rattle.ir_types.specs.Terms.{TypeTerm, AttrTerm}
 use Rattle.ir_tree.specs.Tree.{OpOf}
@@ -16,7 +16,7 @@ use Rattle.ir_event.specs.declared.world.World.{World}
 use Rattle.ir_event.specs.Step.{Step}
 use Rattle.surroundings.specs.Surroundings.{SurroundingsOf, surround, surroundings}
 use Rattle.surroundings.specs.Near.{near, if_any}
-use Rattle.surroundings.specs.Facts.{is_one_of, fact_of, Keeps, Renewed}
+use Rattle.surroundings.specs.Facts.{is_one_of, if_kept, kept_of, Keeps, Renewed}
 use Rattle.surroundings.proofs.Near.{far_same}
 
 among_in : (y : ℕ) (ys : List ℕ) → In y ys → is_one_of y ys ≡ true
@@ -32,13 +32,13 @@ pub far_keeps : (c : Things) (e : Event) (m n : Module) → Step c e m n → (y 
 far_keeps c e m n s y far = far_same c e m n s y (far_apart y (near e n.tree) far)
 
 -- the law of tables, whatever the facts are
-pub renewed_keeps : {F : Type 0} (fact : SurroundingsOf (List ℕ) TypeTerm AttrTerm → F) (c : Things) (e : Event) (m n : Module) (before after : ℕ → Option F)
-    → Step c e m n → Keeps fact m.tree before → Renewed (fact_of fact n.tree) (near e n.tree) before after → Keeps fact n.tree after
-renewed_keeps fact c e m n before after s kept renewed y = go (is_one_of y (near e n.tree)) refl
+pub renewed_keeps : {F : Type 0} (fact : SurroundingsOf (List ℕ) TypeTerm AttrTerm → F) (is_kept : F → Bool) (c : Things) (e : Event) (m n : Module) (before after : ℕ → Option F)
+    → Step c e m n → Keeps fact is_kept m.tree before → Renewed (kept_of fact is_kept n.tree) (near e n.tree) before after → Keeps fact is_kept n.tree after
+renewed_keeps fact is_kept c e m n before after s kept renewed y = go (is_one_of y (near e n.tree)) refl
   where
-    go : (b : Bool) → is_one_of y (near e n.tree) ≡ b → after y ≡ fact_of fact n.tree y
-    go true is = renewed y ∙ ap (λ b. cond b (fact_of fact n.tree y) (before y)) is
-    go false is = renewed y ∙ ap (λ b. cond b (fact_of fact n.tree y) (before y)) is ∙ kept y ∙ ap (option_map fact) (sym (far_keeps c e m n s y is))
+    go : (b : Bool) → is_one_of y (near e n.tree) ≡ b → after y ≡ kept_of fact is_kept n.tree y
+    go true is = renewed y ∙ ap (λ b. cond b (kept_of fact is_kept n.tree y) (before y)) is
+    go false is = renewed y ∙ ap (λ b. cond b (kept_of fact is_kept n.tree y) (before y)) is ∙ kept y ∙ ap (λ s. option_and_then (if_kept is_kept) (option_map fact s)) (sym (far_keeps c e m n s y is))
 
 -- renewing some, and then others
 pub renewed_more : {F : Type 0} (facts : ℕ → Option F) (xs ys : List ℕ) (f g h : ℕ → Option F) → Renewed facts xs f g → Renewed facts ys g h → Renewed facts (xs ++ ys) f h
@@ -80,15 +80,15 @@ absent_stand y (s ∷ ss) e =
     let b = neither _ _ e in
     ap (λ c. cond c (Some s) (stand_in y ss)) b.0 ∙ absent_stand y ss b.1
 
-pub all_renewed : {N T A F : Type 0} (fact : SurroundingsOf N T A → F) (t : OpOf N T A) (ops : List ℕ) (f g : ℕ → Option F) → ops ≡ ids t → ((y : ℕ) → f y ≡ None) → Renewed (fact_of fact t) ops f g → Keeps fact t g
-all_renewed {N} {T} {A} {F} fact t ops f g e empty r y = go (is_one_of y ops) refl
+pub all_renewed : {N T A F : Type 0} (fact : SurroundingsOf N T A → F) (is_kept : F → Bool) (t : OpOf N T A) (ops : List ℕ) (f g : ℕ → Option F) → ops ≡ ids t → ((y : ℕ) → f y ≡ None) → Renewed (kept_of fact is_kept t) ops f g → Keeps fact is_kept t g
+all_renewed {N} {T} {A} {F} fact is_kept t ops f g e empty r y = go (is_one_of y ops) refl
   where
     all : map (λ (s : StandOf N T A). stand_id s) (stands [] t) ≡ ops
     all = stands_ids [] t ∙ sym e
 
-    go : (b : Bool) → is_one_of y ops ≡ b → g y ≡ fact_of fact t y
-    go true is = r y ∙ ap (λ b. cond b (fact_of fact t y) (f y)) is
-    go false is = r y ∙ ap (λ b. cond b (fact_of fact t y) (f y)) is ∙ empty y ∙ sym (ap (λ o. option_map fact (option_map (surround t) o)) (absent_stand y (stands [] t) (ap (is_one_of y) all ∙ is)))
+    go : (b : Bool) → is_one_of y ops ≡ b → g y ≡ kept_of fact is_kept t y
+    go true is = r y ∙ ap (λ b. cond b (kept_of fact is_kept t y) (f y)) is
+    go false is = r y ∙ ap (λ b. cond b (kept_of fact is_kept t y) (f y)) is ∙ empty y ∙ sym (ap (λ o. option_and_then (if_kept is_kept) (option_map fact (option_map (surround t) o))) (absent_stand y (stands [] t) (ap (is_one_of y) all ∙ is)))
 
 -- a list from a place on
 pub drop_next : (xs : List ℕ) (i x : ℕ) → i < length xs → x ≡ get_or xs i x → drop i xs ≡ x ∷ drop (i + 1) xs
@@ -106,5 +106,6 @@ drop_end (y ∷ xs) zero l = absurd (omega arith)
 drop_end (y ∷ xs) (suc i) l = let m : length xs ≤ i = omega arith in drop_end xs i m
 
 -- the same in a world that is equal
-pub renewed_in : {F : Type 0} (fact : SurroundingsOf (List ℕ) TypeTerm AttrTerm → F) (u w : World) → u ≡ w → (xs : List ℕ) (f g : ℕ → Option F) → Renewed (fact_of fact (module_in u).tree) xs f g → Renewed (fact_of fact (module_in w).tree) xs f g
-renewed_in fact u w e xs f g r = subst (λ z. Renewed (fact_of fact (module_in z).tree) xs f g) e r
+pub renewed_in : {F : Type 0} (fact : SurroundingsOf (List ℕ) TypeTerm AttrTerm → F) (is_kept : F → Bool) (u w : World) → u ≡ w → (xs : List ℕ) (f g : ℕ → Option F)
+    → Renewed (kept_of fact is_kept (module_in u).tree) xs f g → Renewed (kept_of fact is_kept (module_in w).tree) xs f g
+renewed_in fact is_kept u w e xs f g r = subst (λ z. Renewed (kept_of fact is_kept (module_in z).tree) xs f g) e r

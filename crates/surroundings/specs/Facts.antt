@@ -1,6 +1,6 @@
--- Facts about operations, kept for each operation of a tree.
-use Rattle.std.specs.Prelude.{◌≡◌, ℕ, ◌+◌, ◌*◌, List, [], ◌∷◌, length, eqb, Bool, if◌then◌else◌, Option, Some, None, option_map}
-use Rattle.std.specs.List.{list_any}
+-- Facts about the operations of a tree, where those that a test holds of are kept.
+use Rattle.std.specs.Prelude.{◌≡◌, ℕ, ◌+◌, ◌*◌, List, [], ◌∷◌, length, eqb, Bool, if◌then◌else◌, Option, Some, None, option_map, option_and_then}
+use Rattle.std.specs.List.{list_any, filter}
 use Rattle.std.specs.Ordering.{nat_cmp}
 use Rattle.std.specs.FinMap.Entries.{put}
 use Rattle.ir_tree.specs.Tree.{OpOf, head, regions, region_count}
@@ -18,9 +18,17 @@ is_one_of y ys = list_any (λ x. eqb x y) ys
 abbrev pub fact_of : {N T A F : Type 0} → (SurroundingsOf N T A → F) → OpOf N T A → ℕ → Option F
 fact_of fact t x = option_map fact (surroundings x t)
 
--- a table keeps the facts of a tree: that about each operation, and no others
-abbrev pub Keeps : {N T A F : Type 0} → (SurroundingsOf N T A → F) → OpOf N T A → (ℕ → Option F) → Type 0
-Keeps fact t table = (y : ℕ) → table y ≡ fact_of fact t y
+-- a fact where the test holds of it
+abbrev pub if_kept : {F : Type 0} → (F → Bool) → F → Option F
+if_kept is_kept f = if is_kept f then Some f else None
+
+-- what is kept about operation x of a tree: the fact about it, where the test holds of that
+abbrev pub kept_of : {N T A F : Type 0} → (SurroundingsOf N T A → F) → (F → Bool) → OpOf N T A → ℕ → Option F
+kept_of fact is_kept t x = option_and_then (if_kept is_kept) (fact_of fact t x)
+
+-- a table keeps the facts of a tree: of each operation what is kept about it, and no others
+abbrev pub Keeps : {N T A F : Type 0} → (SurroundingsOf N T A → F) → (F → Bool) → OpOf N T A → (ℕ → Option F) → Type 0
+Keeps fact is_kept t table = (y : ℕ) → table y ≡ kept_of fact is_kept t y
 
 -- a table where the facts about some operations were renewed
 abbrev pub Renewed : {F : Type 0} → (ℕ → Option F) → List ℕ → (ℕ → Option F) → (ℕ → Option F) → Type 0
@@ -33,6 +41,10 @@ sorted_in fact t (s ∷ ss) = put nat_cmp (stand_id s) (fact (surround t s)) (so
 
 abbrev pub sorted_facts : {N T A F : Type 0} → (SurroundingsOf N T A → F) → OpOf N T A → List (ℕ × F)
 sorted_facts fact t = sorted_in fact t (stands [] t)
+
+-- those that are kept
+abbrev pub kept_facts : {N T A F : Type 0} → (SurroundingsOf N T A → F) → (F → Bool) → OpOf N T A → List (ℕ × F)
+kept_facts {N} {T} {A} {F} fact is_kept t = filter (λ (e : ℕ × F). is_kept e.1) (sorted_facts fact t)
 
 -- how often an operation that there may be is looked at for its fact: six times, once for each operand, and three
 -- times for each region

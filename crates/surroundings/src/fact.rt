@@ -1,5 +1,5 @@
-//! Facts about operations, kept in a table.
-ghost use Rattle.std.specs.Prelude.{◌≡◌, ◌≤◌, ◌+◌, [], ◌∷◌, List, Option, ℕ, IfOk, OnOk, OnErr, true};
+//! Facts about operations, and those of them that a table keeps.
+ghost use Rattle.std.specs.Prelude.{◌≡◌, ◌≤◌, ◌+◌, [], ◌∷◌, List, Option, Bool, ℕ, IfOk, OnOk, OnErr, true};
 ghost use Rattle.std.specs.Ordering.{nat_cmp};
 ghost use Rattle.std.specs.BTreeMap.{get};
 ghost use Rattle.ir_types.specs.Terms.{TypeTerm, AttrTerm};
@@ -7,7 +7,7 @@ ghost use Rattle.ir_tree.specs.Ids.{find, has_id};
 ghost use Rattle.ir_event.specs.Modules.{module_in};
 ghost use Rattle.surroundings.specs.Surroundings.{SurroundingsOf};
 ghost use Rattle.surroundings.specs.Near.{near, somes, if_any, lasts_in};
-ghost use Rattle.surroundings.specs.Facts.{is_one_of, fact_of, Renewed, most_looks};
+ghost use Rattle.surroundings.specs.Facts.{is_one_of, fact_of, if_kept, kept_of, Renewed, most_looks};
 ghost use Rattle.surroundings.specs.Gathered.{AroundIsOf, gathered_in, gather_looks, gathers_for, near_looks, regions_found, tree_in};
 
 use crate::around::Around;
@@ -25,10 +25,17 @@ pub trait Fact: Drop {
     /// The fact, as a function of the surroundings.
     ghost fact: { SurroundingsOf (List ℕ) TypeTerm AttrTerm → Self };
 
+    /// Whether a table keeps it. A fact that says nothing needs no entry.
+    ghost kept: { Self → Bool };
+
     /// The fact about an operation, from what is around it.
     fn of(ctx: &Context, registry: &Registry, around: &Around<'_>) -> Self
         requires { AroundIsOf ctx.now around.now }
         ensures { result ≡ fact (gathered_in ctx.now around.now) };
+
+    /// Whether a table keeps it.
+    fn is_kept(&self) -> bool
+        ensures { result ≡ kept self.now };
 }
 
 /// The fact about an operation of the module that the view shows, or none where it isn't there. Memory is asked for
@@ -49,18 +56,37 @@ pub fn fact_at<F: Fact>(
     }
 }
 
-/// Makes the fact about an operation what it is in the module that the view shows.
+/// What a table keeps about an operation of the module that the view shows: the fact about it, where that is kept.
+fn kept_at<F: Fact>(alloc: Global, view: &mut View<'_>, op: OpId) -> Result<Option<F>, AllocError>
+    ensures kept { IfOk result (λ f. f ≡ kept_of F.fact F.kept (module_in view.old.world.now).tree op) }
+    ensures looks { view.new.looks ≤ view.old.looks + gather_looks (find op (tree_in view.old.world.now)) }
+    ensures world { view.new.world.now ≡ view.old.world.now }
+{
+    let Some(fact) = fact_at::<F>(alloc, view, op)? else {
+        return Ok(None);
+    };
+    Ok(if_kept(fact))
+}
+
+/// A fact, where it is one that a table keeps.
+fn if_kept<F: Fact>(fact: F) -> Option<F>
+    ensures { result ≡ if_kept F.kept fact }
+{
+    if fact.is_kept() { Some(fact) } else { None }
+}
+
+/// Makes what is kept about an operation what it is in the module that the view shows.
 pub(crate) fn renew<F: Fact>(
     alloc: Global,
     table: &mut BTreeMap<u32, F>,
     view: &mut View<'_>,
     op: OpId,
 ) -> Result<(), AllocError>
-    ensures renewed { OnOk result (Renewed (fact_of F.fact (module_in view.old.world.now).tree) (op ∷ []) (get nat_cmp table.old) (get nat_cmp table.new)) }
+    ensures renewed { OnOk result (Renewed (kept_of F.fact F.kept (module_in view.old.world.now).tree) (op ∷ []) (get nat_cmp table.old) (get nat_cmp table.new)) }
     ensures looks { view.new.looks ≤ view.old.looks + gather_looks (find op (tree_in view.old.world.now)) }
     ensures world { view.new.world.now ≡ view.old.world.now }
 {
-    match fact_at::<F>(alloc, view, op)? {
+    match kept_at::<F>(alloc, view, op)? {
         Some(fact) => {
             table.insert(op.number(), fact)?;
         }
@@ -79,8 +105,8 @@ fn renew_first<F: Fact>(
     op: &Option<OpId>,
     later: &[Option<OpId>],
 ) -> Result<(), AllocError>
-    ensures renewed { OnOk result ((final : ℕ → Option F) → Renewed (fact_of F.fact (module_in view.old.world.now).tree) (somes later.now) (get nat_cmp table.new) final
-        → Renewed (fact_of F.fact (module_in view.old.world.now).tree) (if_any op.now (somes later.now)) (get nat_cmp table.old) final) }
+    ensures renewed { OnOk result ((final : ℕ → Option F) → Renewed (kept_of F.fact F.kept (module_in view.old.world.now).tree) (somes later.now) (get nat_cmp table.new) final
+        → Renewed (kept_of F.fact F.kept (module_in view.old.world.now).tree) (if_any op.now (somes later.now)) (get nat_cmp table.old) final) }
     ensures looks { view.new.looks + gathers_for (tree_in view.old.world.now) (somes later.now) ≤ view.old.looks + gathers_for (tree_in view.old.world.now) (if_any op.now (somes later.now)) }
     ensures world { view.new.world.now ≡ view.old.world.now }
 {
@@ -116,14 +142,14 @@ fn is_it(one: &Option<OpId>, op: OpId) -> bool
     }
 }
 
-/// Makes the facts about operations what they are in the module that the view shows.
+/// Makes what is kept about operations what it is in the module that the view shows.
 fn renew_each<F: Fact>(
     alloc: Global,
     table: &mut BTreeMap<u32, F>,
     view: &mut View<'_>,
     ops: &[Option<OpId>],
 ) -> Result<(), AllocError>
-    ensures renewed { OnOk result (Renewed (fact_of F.fact (module_in view.old.world.now).tree) (somes ops.now) (get nat_cmp table.old) (get nat_cmp table.new)) }
+    ensures renewed { OnOk result (Renewed (kept_of F.fact F.kept (module_in view.old.world.now).tree) (somes ops.now) (get nat_cmp table.old) (get nat_cmp table.new)) }
     ensures looks { view.new.looks ≤ view.old.looks + gathers_for (tree_in view.old.world.now) (somes ops.now) }
     ensures world { view.new.world.now ≡ view.old.world.now }
 {
@@ -194,7 +220,7 @@ fn near_ops(
     }
 }
 
-/// Makes the facts about all operations near an event what they are in the module that the view shows, the
+/// Makes what is kept about all operations near an event what it is in the module that the view shows, the
 /// one after the event.
 pub fn follow<F: Fact>(
     alloc: Global,
@@ -202,7 +228,7 @@ pub fn follow<F: Fact>(
     view: &mut View<'_>,
     event: &Event,
 ) -> Result<(), AllocError>
-    ensures renewed { OnOk result (Renewed (fact_of F.fact (module_in view.old.world.now).tree) (near event.now (module_in view.old.world.now).tree) (get nat_cmp table.old) (get nat_cmp table.new)) }
+    ensures renewed { OnOk result (Renewed (kept_of F.fact F.kept (module_in view.old.world.now).tree) (near event.now (module_in view.old.world.now).tree) (get nat_cmp table.old) (get nat_cmp table.new)) }
     ensures looks { view.new.looks ≤ view.old.looks + most_looks event.now (module_in view.old.world.now).tree }
     ensures world { view.new.world.now ≡ view.old.world.now }
 {

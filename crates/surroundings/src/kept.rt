@@ -1,4 +1,4 @@
-//! Facts about all operations that follow a module.
+//! Facts about the operations of a module that follow it.
 ghost use Rattle.std.specs.Prelude.{◌≡◌, ◌≤◌, ◌+◌, ◌⊎◌, true, false, Option, OnOk, OnErr, IfOk};
 ghost use Rattle.std.specs.Ordering.{nat_cmp};
 ghost use Rattle.std.specs.BTreeMap.{get};
@@ -6,7 +6,7 @@ ghost use Rattle.ir_event.specs.Modules.{Module, things_in, module_in};
 ghost use Rattle.ir_event.specs.Step.{Step};
 ghost use Rattle.ir_tree.specs.Ids.{ids};
 ghost use Rattle.ir_tree.specs.Meaning.{Operation};
-ghost use Rattle.surroundings.specs.Facts.{Keeps, Renewed, fact_of, most_looks, sorted_facts};
+ghost use Rattle.surroundings.specs.Facts.{Keeps, Renewed, kept_facts, kept_of, most_looks};
 ghost use Rattle.surroundings.specs.Gathered.{tree_in};
 
 use crate::fact::{Fact, follow, renew};
@@ -19,8 +19,8 @@ use ir_types::ids::OpId;
 use std::alloc::{AllocError, Global};
 use std::collections::BTreeMap;
 
-/// A fact about each operation of a module, that follows it; stale from the first refused growth on until it
-/// begins again.
+/// The facts about operations of a module that are kept, which follow it; stale from the first refused growth on
+/// until it begins again. An operation whose fact isn't kept has no entry.
 #[derive(Drop)]
 pub struct Kept<F> {
     alloc: Global,
@@ -28,14 +28,14 @@ pub struct Kept<F> {
     stale: bool,
 }
 
-/// Makes the facts about operations what they are in the module that the view shows.
+/// Makes what is kept about operations what it is in the module that the view shows.
 fn renew_all<F: Fact>(
     alloc: Global,
     table: &mut BTreeMap<u32, F>,
     view: &mut View<'_>,
     ops: &[OpId],
 ) -> Result<(), AllocError>
-    ensures renewed { OnOk result (Renewed (fact_of F.fact (module_in view.old.world.now).tree) ops.now (get nat_cmp table.old) (get nat_cmp table.new)) }
+    ensures renewed { OnOk result (Renewed (kept_of F.fact F.kept (module_in view.old.world.now).tree) ops.now (get nat_cmp table.old) (get nat_cmp table.new)) }
     ensures world { view.new.world.now ≡ view.old.world.now }
 {
     for op in ops {
@@ -52,9 +52,9 @@ fn ids_of(alloc: Global, world: &World) -> Result<Vec<OpId>, AllocError>
     list_ids(alloc, &tree)
 }
 
-/// The facts about all operations of a module.
+/// What is kept about the operations of a module.
 fn tabulate<F: Fact>(alloc: Global, world: &World) -> Result<BTreeMap<u32, F>, AllocError>
-    ensures { IfOk result (λ t. Keeps F.fact (module_in world.now).tree (get nat_cmp t)) }
+    ensures { IfOk result (λ t. Keeps F.fact F.kept (module_in world.now).tree (get nat_cmp t)) }
 {
     let ops = ids_of(alloc, world)?;
     let mut table = BTreeMap::new(alloc);
@@ -77,7 +77,7 @@ impl<F: Fact> Kept<F> {
 
     /// Begins anew with a module. Refused for want of memory, it is stale.
     pub fn begin(&mut self, world: &World) -> Result<(), Memory>
-        ensures ok { OnOk result ((self.new.stale ≡ false) × Keeps F.fact (module_in world.now).tree (get nat_cmp self.new.table)) }
+        ensures ok { OnOk result ((self.new.stale ≡ false) × Keeps F.fact F.kept (module_in world.now).tree (get nat_cmp self.new.table)) }
         ensures err { OnErr result (self.new.stale ≡ true) }
     {
         // What was kept goes first, so that there is room for what is kept now.
@@ -94,8 +94,8 @@ impl<F: Fact> Kept<F> {
     /// Hears of an event that was just made. The view shows the module after it, and is given back.
     pub fn told<'a>(&mut self, view: View<'a>, event: Event) -> View<'a>
         ensures agrees { (m : Module) → Step (things_in view.entry.world.now) event m (module_in view.entry.world.now)
-            → (self.old.stale ≡ false) × Keeps F.fact m.tree (get nat_cmp self.old.table)
-            → ((self.new.stale ≡ false) × Keeps F.fact (module_in view.entry.world.now).tree (get nat_cmp self.new.table)) ⊎ (self.new.stale ≡ true) }
+            → (self.old.stale ≡ false) × Keeps F.fact F.kept m.tree (get nat_cmp self.old.table)
+            → ((self.new.stale ≡ false) × Keeps F.fact F.kept (module_in view.entry.world.now).tree (get nat_cmp self.new.table)) ⊎ (self.new.stale ≡ true) }
         ensures stale { self.old.stale ≡ true → self.new.stale ≡ true }
         ensures looks { result.looks ≤ view.entry.looks + most_looks event (module_in view.entry.world.now).tree }
         ensures world { result.world.now ≡ view.entry.world.now }
@@ -113,10 +113,10 @@ impl<F: Fact> Kept<F> {
         }
     }
 
-    /// The facts, by the numbers of the operations: where they are those of a module, each operation of it in order.
+    /// The facts, by the numbers of the operations: where they are those of a module, those of it that are kept, in order.
     pub fn facts(&self) -> &BTreeMap<u32, F>
         ensures is { result.now ≡ self.now.table }
-        ensures in_order { (t : Operation) → Keeps F.fact t (get nat_cmp self.now.table) → result.now.entries ≡ sorted_facts F.fact t }
+        ensures in_order { (t : Operation) → Keeps F.fact F.kept t (get nat_cmp self.now.table) → result.now.entries ≡ kept_facts F.fact F.kept t }
     {
         // By its length the prover knows that the keys rise.
         let _ = self.table.len();

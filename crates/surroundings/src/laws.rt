@@ -1,5 +1,5 @@
 //! Laws of what is around operations. Each is a function that does nothing: its contract is the law.
-ghost use Rattle.std.specs.Prelude.{◌≡◌, ℕ, List, Option, option_map, false, IsTrue};
+ghost use Rattle.std.specs.Prelude.{◌≡◌, Bool, ℕ, List, Option, option_map, false, IsTrue};
 ghost use Rattle.std.specs.Ordering.{nat_cmp};
 ghost use Rattle.std.specs.FinMap.Entries.{is_sorted, find as look_up};
 ghost use Rattle.ir_types.specs.Things.{Things};
@@ -11,7 +11,7 @@ ghost use Rattle.ir_event.specs.Modules.{Module};
 ghost use Rattle.ir_event.specs.Step.{Step};
 ghost use Rattle.surroundings.specs.Surroundings.{SurroundingsOf, surroundings};
 ghost use Rattle.surroundings.specs.Near.{near};
-ghost use Rattle.surroundings.specs.Facts.{is_one_of, fact_of, Keeps, Renewed, sorted_facts};
+ghost use Rattle.surroundings.specs.Facts.{is_one_of, kept_of, Keeps, Renewed, kept_facts};
 ghost use Rattle.surroundings.specs.Mapped.{map_surroundings};
 
 /// An event that leads from one module to another leaves the surroundings of each operation that isn't near it.
@@ -19,17 +19,17 @@ pub fn far_operations_keep_their_surroundings()
     ensures { (c : Things) (e : Edit) (m n : Module) → Step c e m n → (y : ℕ) → is_one_of y (near e n.tree) ≡ false → surroundings y n.tree ≡ surroundings y m.tree }
 {}
 
-/// A table of facts that are read off surroundings, where those about the operations near an event were renewed,
+/// A table of facts that are read off surroundings, where what is kept about the operations near an event was renewed,
 /// keeps the facts of the module after it.
 pub fn renewed_tables_keep<F>()
-    ensures { (fact : SurroundingsOf (List ℕ) TypeTerm AttrTerm → F) (c : Things) (e : Edit) (m n : Module) (before after : ℕ → Option F)
-        → Step c e m n → Keeps fact m.tree before → Renewed (fact_of fact n.tree) (near e n.tree) before after → Keeps fact n.tree after }
+    ensures { (fact : SurroundingsOf (List ℕ) TypeTerm AttrTerm → F) (is_kept : F → Bool) (c : Things) (e : Edit) (m n : Module) (before after : ℕ → Option F)
+        → Step c e m n → Keeps fact is_kept m.tree before → Renewed (kept_of fact is_kept n.tree) (near e n.tree) before after → Keeps fact is_kept n.tree after }
 {}
 
 /// A table in the order of ids that keeps the facts of a tree has them in that order, so its rows are those of
 /// the tree.
 pub fn kept_facts_are_in_order<F>()
-    ensures { (fact : SurroundingsOf (List ℕ) TypeTerm AttrTerm → F) (t : Operation) (es : List (ℕ × F)) → IsTrue (is_sorted nat_cmp es) → Keeps fact t (λ q. look_up nat_cmp q es) → es ≡ sorted_facts fact t }
+    ensures { (fact : SurroundingsOf (List ℕ) TypeTerm AttrTerm → F) (is_kept : F → Bool) (t : Operation) (es : List (ℕ × F)) → IsTrue (is_sorted nat_cmp es) → Keeps fact is_kept t (λ q. look_up nat_cmp q es) → es ≡ kept_facts fact is_kept t }
 {}
 
 /// The surroundings in what a tree of numbers stands for are what those in the tree stand for, and the operations

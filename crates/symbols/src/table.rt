@@ -1,19 +1,17 @@
 //! The table of roles follows a module.
 ghost use Rattle.std.specs.Prelude.{◌≡◌, ◌≤◌, ◌+◌, true, OnOk, IfOk};
-ghost use Rattle.ir_tree.specs.Ids.{ids};
 ghost use Rattle.ir_store.specs.Stored.{known};
 ghost use Rattle.ir_event.specs.Bounds.{op_of, operand_count};
 ghost use Rattle.ir_event.specs.Listener.{is_take};
 ghost use Rattle.ir_event.specs.Modules.{module_in};
 ghost use Rattle.symbols.specs.Listeners.{kept_at};
-ghost use Rattle.symbols.specs.Table.{Added, Followed, Keeps, Renewed, tree_in};
+ghost use Rattle.symbols.specs.Table.{Added, Followed, Keeps, Renewed};
 
 use crate::gather::gather;
 use crate::role::Role;
 use ir_event::event::Event;
 use ir_event::view::View;
 use ir_event::world::World;
-use ir_tree::find::list_ids;
 use ir_types::ids::OpId;
 use std::alloc::{AllocError, Global};
 use std::collections::BTreeMap;
@@ -74,19 +72,11 @@ fn renew_all(
     Ok(())
 }
 
-/// The ids of the operations of a module, each behind that of the one that it stands in.
-fn ids_of(alloc: Global, world: &World) -> Result<Vec<OpId>, AllocError>
-    ensures { IfOk result (λ v. v.items ≡ ids (tree_in world.now)) }
-{
-    let tree = world.store.tree()?;
-    list_ids(alloc, &tree)
-}
-
 /// The roles of the operations of a module.
 pub(crate) fn tabulate(alloc: Global, world: &World) -> Result<BTreeMap<OpId, Role>, AllocError>
     ensures { IfOk result (λ roles. Keeps world.now.ctx (module_in world.now).tree (kept_at roles)) }
 {
-    let ops = ids_of(alloc, world)?;
+    let ops = world.store.operations()?;
     let mut roles = BTreeMap::new(alloc);
     let mut view = View::new(world);
     renew_all(alloc, &mut roles, &mut view, &ops)?;

@@ -1,5 +1,5 @@
 use Rattle.ir_event.proofs.Steps.{formed_numbers}
-use Rattle.ir_step_laws.proofs.Undone.{put_undone, take_undone, operand_undone, entry_undone, shift_undone}
+use Rattle.ir_step_laws.proofs.Undone.{put_undone, take_undone, operand_undone, entry_undone, shift_undone, relink_undone}
 use Rattle.ir_step_laws.proofs.laws.undoing_leads_back.Goals as goal
 
 pub returns-clause-put : goal.returns-clause-put
@@ -16,6 +16,9 @@ returns-clause-entry _ c x part k old new p m s = entry_undone c x part k old ne
 
 pub returns-clause-shift : goal.returns-clause-shift
 returns-clause-shift _ c x old new p m s = shift_undone c x old new p m s
+
+pub returns-clause-relink : goal.returns-clause-relink
+returns-clause-relink _ c x old new p m s = relink_undone c x old new p m s
 
 pub returns-clause-formed : goal.returns-clause-formed
 returns-clause-formed _ c m w = formed_numbers c m w

@@ -1,7 +1,12 @@
 use Rattle.std.proofs.Common.{arith}
 use Rattle.ir_store.specs.Index.{cells_of}
-use Rattle.ir_store.proofs.Runs.{run_step, cells_push}
+use Rattle.ir_store.proofs.Runs.{run_length, run_step, cells_push}
 use Rattle.ir_store.proofs.grow.add_run.Goals as goal
+
+pub overflow_cast-cell-in-nodes : goal.overflow_cast-cell-in-nodes
+overflow_cast-cell-in-nodes c =
+    let long = run_length c.args.heads c.args.row c.nodes.place c.args.uses.now.homes c.nodes.uses.homes (cells_of c.args.cells.now.items) (cells_of c.nodes.cells.items) c.nodes.invariant.1.1 in
+    omega (arith, long, c.laws.ensures.few)
 
 pub nodes-preserved : goal.nodes-preserved
 nodes-preserved c =

@@ -20,8 +20,8 @@ returns-in-Err-add_run-clause-wider c =
     let q = parts_of c.add_areas.new.rows.items c.add_areas.new.sibs c.add_areas.new.uses c.add_areas.new.cells.items in
     third_wide p c.requires c.row_count-slot.result c.row_count-slot.ensures _ c.spare_row.ensures _ _ c.in-Ok.ensures q c.in-Ok-add_areas.ensures.wider c.in-Err-add_run.ensures.0 _ _ c.in-Err-add_run.ensures.1
 
-pub add_run-requires-2 : goal.add_run-requires-2
-add_run-requires-2 c =
+pub add_run-requires-2-clause-even : goal.add_run-requires-2-clause-even
+add_run-requires-2-clause-even c =
     let p = parts_of c.args.rows.now.items c.args.sibs.now c.args.uses.now c.args.cells.now.items in
     let q = parts_of c.add_areas.new.rows.items c.add_areas.new.sibs c.add_areas.new.uses c.add_areas.new.cells.items in
     let w = third_wide p c.requires c.row_count-slot.result c.row_count-slot.ensures _ c.spare_row.ensures _ _ c.in-Ok.ensures q c.in-Ok-add_areas.ensures.wider c.type_count.result _ _ c.in-Ok-add_run.ensures.1 in

@@ -6,7 +6,7 @@ use Rattle.ir_types.specs.Terms.{name_term, type_term, attr_term}
 use Rattle.ir_event.specs.Modules.{module_in}
 use Rattle.ir_event.specs.declared.world.World.{World}
 use Rattle.surroundings.specs.Near.{near, somes}
-use Rattle.surroundings.specs.Facts.{fact_of, Renewed}
+use Rattle.surroundings.specs.Facts.{kept_of, Renewed}
 use Rattle.surroundings.specs.Gathered.{gathers_for, tree_in}
 use Rattle.surroundings.proofs.Meanings.{map_near}
 use Rattle.surroundings.proofs.Following.{within, near_within, map_most}
@@ -24,12 +24,13 @@ pub returns-clause-renewed : goal.returns-clause-renewed
 returns-clause-renewed g c =
     let w = c.args.view.now.world.now in
     let fact = g.F.Fact.fact in
+    let kept = g.F.Fact.kept in
     let e = c.args.event.now in
     let t0 = get nat_cmp c.args.table.now in
     let t1 = get nat_cmp c.renew_each.new.table in
     let ops = ap somes c.deref.ensures.value ∙ c.in_ok-ops.ensures.ops ∙ sym (map_near (name_term w.ctx) (type_term w.ctx) (attr_term w.ctx) e (tree_in w)) in
-    subst (λ l. OnOk c.renew_each.result (Renewed (fact_of fact (module_in w).tree) l t0 t1)) ops
-    (subst (λ (u : World). OnOk c.renew_each.result (Renewed (fact_of fact (module_in u).tree) (somes c.deref.result.now) t0 t1)) c.near_ops.ensures.world c.renew_each.ensures.renewed)
+    subst (λ l. OnOk c.renew_each.result (Renewed (kept_of fact kept (module_in w).tree) l t0 t1)) ops
+    (subst (λ (u : World). OnOk c.renew_each.result (Renewed (kept_of fact kept (module_in u).tree) (somes c.deref.result.now) t0 t1)) c.near_ops.ensures.world c.renew_each.ensures.renewed)
 
 pub returns-clause-looks : goal.returns-clause-looks
 returns-clause-looks g c =

@@ -4,7 +4,7 @@ use Rattle.std.specs.BTreeMap.{get}
 use Rattle.ir_event.specs.Modules.{module_in}
 use Rattle.ir_event.specs.declared.world.World.{World}
 use Rattle.surroundings.specs.Near.{if_any, somes}
-use Rattle.surroundings.specs.Facts.{fact_of, Renewed}
+use Rattle.surroundings.specs.Facts.{kept_of, Renewed}
 use Rattle.surroundings.specs.Gathered.{gathers_for, tree_in}
 use Rattle.surroundings.proofs.Tables.{renewed_as, renewed_none}
 use Rattle.surroundings.proofs.Following.{somes_drop, rest_all, drop_all}
@@ -15,6 +15,7 @@ loop-place-preserved g c =
     let inv = c.loop-place.invariant in
     let w = c.args.view.now.world.now in
     let fact = g.F.Fact.fact in
+    let kept = g.F.Fact.kept in
     let ops = c.args.ops.now in
     let place = c.loop-place.place in
     let one = c.index-ops-place.result in
@@ -30,8 +31,8 @@ loop-place-preserved g c =
     record {
       world = c.renew_first.ensures.world ∙ inv.world;
       looks = omega arith;
-      renewed = λ final r. inv.renewed final (renewed_as (fact_of fact (module_in w).tree) (if_any one later) (somes (drop place ops)) t0 final (sym is)
-          (subst (λ (u : World). Renewed (fact_of fact (module_in u).tree) later t1 final → Renewed (fact_of fact (module_in u).tree) (if_any one later) t0 final) inv.world (c.in_ok-renew_first.ensures.renewed final) (renewed_as (fact_of fact (module_in w).tree) (somes (drop (place + 1) ops)) later t1 final (sym rest) r)));
+      renewed = λ final r. inv.renewed final (renewed_as (kept_of fact kept (module_in w).tree) (if_any one later) (somes (drop place ops)) t0 final (sym is)
+          (subst (λ (u : World). Renewed (kept_of fact kept (module_in u).tree) later t1 final → Renewed (kept_of fact kept (module_in u).tree) (if_any one later) t0 final) inv.world (c.in_ok-renew_first.ensures.renewed final) (renewed_as (kept_of fact kept (module_in w).tree) (somes (drop (place + 1) ops)) later t1 final (sym rest) r)));
     }
 
 pub returns-clause-renewed : goal.returns-clause-renewed

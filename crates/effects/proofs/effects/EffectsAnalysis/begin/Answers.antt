@@ -1,11 +1,8 @@
-use Rattle.std.proofs.Common.{◌≡◌, true, None, refl, ap, subst, rules}
+use Rattle.std.proofs.Common.{◌≡◌, true, refl, ap, rules}
 use Rattle.std.specs.Ordering.{nat_cmp}
 use Rattle.std.specs.Map.{lookup}
 use Rattle.std.specs.BTreeMap.{is_at}
-use Rattle.effects.specs.Spots.{spots}
 use Rattle.effects.specs.Walks.{row_at}
-use Rattle.effects.specs.Effects.{own_by}
-use Rattle.effects.specs.Following.{PutAll}
 use Rattle.effects.proofs.Changes.{on_true_is}
 use Rattle.effects.proofs.Agreed.{begun_agrees, meaning_distinct}
 use Rattle.effects.proofs.effects.EffectsAnalysis.begin.Goals as goal
@@ -14,12 +11,12 @@ pub returns-clause-ok : goal.returns-clause-ok
 returns-clause-ok c =
     let ctx = c.args.world.now.ctx in
     let t = c.args.world.now.store.module_of.tree in
-    let yes : c.put_tree.result ≡ true = search rules in
+    let yes : c.put_module.result ≡ true = search rules in
     let distinct = c.args.world.now.formed.distinct in (
       refl,
       (
         meaning_distinct ctx t distinct,
-        begun_agrees ctx t (row_at c.new.result) (row_at c.put_tree.new.rows) distinct (λ x. ap (lookup (is_at (nat_cmp x))) c.new.ensures.empty)
-            (subst (λ z. PutAll (spots (own_by ctx) None z) (row_at c.new.result) (row_at c.put_tree.new.rows)) c.in-Ok.ensures (on_true_is c.put_tree.result _ yes c.put_tree.ensures)),
+        begun_agrees ctx t (row_at c.new.result) (row_at c.put_module.new.rows) distinct (λ x. ap (lookup (is_at (nat_cmp x))) c.new.ensures.empty)
+            (on_true_is c.put_module.result _ yes c.put_module.ensures),
       ),
     )

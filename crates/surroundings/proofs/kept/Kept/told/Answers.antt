@@ -8,4 +8,4 @@ use Rattle.surroundings.proofs.kept.Kept.told.Goals as goal
 pub returns-in-Ok-clause-agrees : goal.returns-in-Ok-clause-agrees
 returns-in-Ok-clause-agrees g c m step held =
     let w = c.args.view.world.now in
-    inl (held.0, renewed_keeps g.F.Fact.fact (things_in w) c.args.event m (module_in w) (get nat_cmp c.args.self.now.table) (get nat_cmp c.follow.new.table) step held.1 c.in-Ok.ensures.renewed)
+    inl (held.0, renewed_keeps g.F.Fact.fact g.F.Fact.kept (things_in w) c.args.event m (module_in w) (get nat_cmp c.args.self.now.table) (get nat_cmp c.follow.new.table) step held.1 c.in-Ok.ensures.renewed)

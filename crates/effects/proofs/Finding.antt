@@ -1,0 +1,101 @@
+-- The operations of a store's module are found by their ids.
+use Rattle.std.proofs.Common.{◌≡◌, ℕ, List, [], ◌∷◌, ◌++◌, Option, Some, None, refl, sym, ap, ◌∙◌, subst, map, inl, inr}
+use Rattle.std.specs.Prelude.{option_map}
+use Rattle.std.specs.FinMap as finmap
+use Rattle.ir_tree.specs.declared.place.Place.{Place}
+use Rattle.ir_tree.specs.Tree.{Head, Op, OpOf, op, head}
+use Rattle.ir_tree.specs.Ids.{ids, find, first_of, HasDistinctIds}
+use Rattle.ir_tree.specs.Places.{place_of}
+use Rattle.ir_tree_laws.specs.Members.{In}
+use Rattle.ir_tree_laws.specs.Reads.{parent_of}
+use Rattle.ir_tree_laws.specs.Stands.{StepOf, StandOf, stand_id, stands, place_in}
+use Rattle.ir_tree_laws.proofs.Around.{member_of_place, place_of_member}
+use Rattle.ir_tree_laws.proofs.Listed.{in_mapped}
+use Rattle.ir_tree_laws.proofs.Members.{same_stand, stand, stand_found}
+use Rattle.ir_store.specs.Nodes.{Node, node_of}
+use Rattle.ir_store.specs.Stored.{Stored}
+use Rattle.op_registry.specs.declared.own.Own.{Own}
+use Rattle.effects.specs.Spots.{Spot, spots}
+use Rattle.effects.specs.Heads.{heads}
+use Rattle.effects.specs.Found.{head_at, parent_at, with_head, heads_by, with_spot, spots_by}
+use Rattle.effects.proofs.Cuts.{around, spot_in, stand_spots}
+use Rattle.effects.proofs.Headed.{head_in, stand_heads, heads_ids}
+use Rattle.effects.proofs.Spotted.{spots_ids}
+
+-- ---- one in front of others
+
+pub head_joined : (x : ℕ) (o : Option Head) (hs : List Head) → with_head x o hs ≡ with_head x o [] ++ hs
+head_joined x None hs = refl
+head_joined x (Some h) hs = refl
+
+pub spot_joined : (own : ℕ → Own) (x : ℕ) (p : Option ℕ) (o : Option Head) (ns : List Spot) → with_spot own x p o ns ≡ with_spot own x p o [] ++ ns
+spot_joined own x p None ns = refl
+spot_joined own x p (Some h) ns = refl
+
+-- ---- what stands in a tree
+
+-- what is around an operation is what it stands in
+module _ {N T A : Type 0} (own : N → Own) where
+  pub around_is : (t : OpOf N T A) → HasDistinctIds t → (s : StandOf N T A) → In s (stands [] t) → parent_of (stand_id s) t ≡ around own s.path
+  around_is t d s m = go s.here s.path m
+    where
+      go : (o : OpOf N T A) (path : List (StepOf N T A)) → In (stand o path) (stands [] t) → parent_of (head o).id t ≡ around own path
+      go o (a ∷ q) m = ap (option_map (λ (p : Place). p.parent)) (place_of_member t d o a q m)
+      go o [] m = rest (place_of (head o).id t) refl
+        where
+          rest : (q : Option Place) → place_of (head o).id t ≡ q → option_map (λ (p : Place). p.parent) (place_of (head o).id t) ≡ None
+          rest None e = ap (option_map (λ (p : Place). p.parent)) e
+          rest (Some place) e =
+              let u = member_of_place (head o).id place t e in
+              let same : u.0 ≡ stand o [] = same_stand t d u.0 (stand o []) u.1 m u.2 in
+              let bad : None ≡ Some place = sym (ap (λ (s : StandOf N T A). place_in s.path) same) ∙ u.3 in
+              absurd cc
+
+-- an operation that is found in a store's module has its head
+shown : (s : Stored) (x : ℕ) (o : Op) → find x s.module_of.tree ≡ Some o → head_at s x ≡ Some (head o)
+shown s x o e = ap (λ q. option_map (λ (n : Node). n.head) (option_map node_of (first_of q (finmap.get s.held x)))) e ∙ own_head o
+  where
+    own_head : (o : Op) → Some (node_of o).head ≡ Some (head o)
+    own_head (op h rs) = refl
+
+-- ---- heads
+
+along : (f : ℕ → Option Head) (hs : List Head) → ((h : Head) → In h hs → f h.id ≡ Some h) → heads_by f (map (λ (h : Head). h.id) hs) ≡ hs
+along f [] k = refl
+along f (h ∷ hs) k = λ i. with_head h.id (k h (inl refl) i) (along f hs (λ g m. k g (inr m)) i)
+
+-- those of a store's module
+pub heads_found : (s : Stored) (xs : List ℕ) → HasDistinctIds s.module_of.tree → xs ≡ ids s.module_of.tree → heads_by (head_at s) xs ≡ heads s.module_of.tree
+heads_found s xs d e = ap (heads_by (head_at s)) (e ∙ sym (heads_ids s.module_of.tree)) ∙ along (head_at s) (heads s.module_of.tree) there
+  where
+    there : (h : Head) → In h (heads s.module_of.tree) → head_at s h.id ≡ Some h
+    there h m =
+        let t = s.module_of.tree in
+        let w = in_mapped head_in h (stands [] t) (subst (In h) (sym (stand_heads [] t)) m) in
+        subst (λ (g : Head). head_at s g.id ≡ Some g) (sym w.2) (shown s (stand_id w.0) w.0.here (stand_found t d w.0 w.1))
+
+-- ---- operations with what they stand in
+
+record Found (own : ℕ → Own) (p : ℕ → Option ℕ) (f : ℕ → Option Head) (n : Spot) : Type 0 where
+  here : Head
+  is : f n.id ≡ Some here
+  owns : own here.name ≡ n.own
+  parent : p n.id ≡ n.parent
+
+along_spots : (own : ℕ → Own) (p : ℕ → Option ℕ) (f : ℕ → Option Head) (ns : List Spot) → ((n : Spot) → In n ns → Found own p f n) → spots_by own p f (map (λ (n : Spot). n.id) ns) ≡ ns
+along_spots own p f [] k = refl
+along_spots own p f (n ∷ ns) k =
+    let w = k n (inl refl) in
+    (λ i. with_spot own n.id (w.parent i) (w.is i) (along_spots own p f ns (λ m h. k m (inr h)) i)) ∙ ap (λ o. record { id = n.id; parent = n.parent; own = o } ∷ ns) w.owns
+
+-- those of a store's module
+pub spots_found : (own : ℕ → Own) (s : Stored) (xs : List ℕ) → HasDistinctIds s.module_of.tree → xs ≡ ids s.module_of.tree → spots_by own (parent_at s) (head_at s) xs ≡ spots own None s.module_of.tree
+spots_found own s xs d e =
+    ap (spots_by own (parent_at s) (head_at s)) (e ∙ sym (spots_ids own None s.module_of.tree)) ∙ along_spots own (parent_at s) (head_at s) (spots own None s.module_of.tree) there
+  where
+    there : (n : Spot) → In n (spots own None s.module_of.tree) → Found own (parent_at s) (head_at s) n
+    there n m =
+        let t = s.module_of.tree in
+        let w = in_mapped (spot_in own) n (stands [] t) (subst (In n) (sym (stand_spots own [] t)) m) in
+        subst (Found own (parent_at s) (head_at s)) (sym w.2)
+        record { here = head w.0.here; is = shown s (stand_id w.0) w.0.here (stand_found t d w.0 w.1); owns = refl; parent = around_is own t d w.0 w.1 }
