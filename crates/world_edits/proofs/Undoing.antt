@@ -39,11 +39,11 @@ use Rattle.ir_event.specs.Listener.{ShowsTaken}
 use Rattle.ir_event.specs.Modules.{Module, module_meaning}
 use Rattle.ir_event.specs.Step.{Changes, EventIsOf, IsAttrOrNone, Step, inverse_of}
 use Rattle.ir_event.proofs.Nodes.{node_known}
-use Rattle.ir_event.proofs.Sounds.{found_sound}
+use Rattle.ir_event.proofs.Sounds.{found_sound, shifted_sound}
 use Rattle.ir_event.proofs.Steps.{formed_numbers}
 use Rattle.world_edits.proofs.Maps.{eq_nat}
 use Rattle.world_edits.proofs.Taking.{hold_sound, still_shown}
-use Rattle.ir_step_laws.proofs.Undone.{put_undone, take_undone, operand_undone, entry_undone}
+use Rattle.ir_step_laws.proofs.Undone.{put_undone, take_undone, operand_undone, entry_undone, shift_undone, relink_undone}
 use Rattle.world_edits.specs.Undoing.{CameFrom, Keeps, MayUndo, undone}
 
 -- a key that a dictionary of the context has an attribute at is one of its keys
@@ -140,7 +140,7 @@ module _ (c : Things) (s : Stored) where
   may_undo (Take x place fresh) p sound own f = restore_can x place fresh f.keeps.0 f.keeps.1 (take_undone c x place fresh p s.module_of f.step f.keeps.0 f.keeps.2).0
   may_undo (SetOperand x k old new) p sound own f = (operand_undone c x k old new p s.module_of f.step).0
   may_undo (SetEntry x part k old new) p sound own f = (entry_can x part k old new p sound own f.step f.keeps.0 f.keeps.1, (f.step.numbers.0, (attr_if c old f.step.numbers.1.0, own)))
-  may_undo (Shift x old new) p sound own f = absurd f.keeps
+  may_undo (Shift x old new) p sound own f = relink_undone c x old new p s.module_of f.step
 
   lowered_is : (fresh : Bool) (x n : ℕ) → lowered fresh x n ≡ cond fresh x n
   lowered_is true x n = refl
@@ -158,7 +158,7 @@ module _ (c : Things) (s : Stored) where
       (λ i. module_meaning c (record { tree = put_held place (f.keeps.1 i) s.module_of.tree; next = raised_is fresh x s.module_of.next i })) ∙ (take_undone c x place fresh p s.module_of f.step f.keeps.0 f.keeps.2).1
   led_back (SetOperand x k old new) p f = (operand_undone c x k old new p s.module_of f.step).1
   led_back (SetEntry x part k old new) p f = entry_undone c x part k old new p s.module_of f.step
-  led_back (Shift x old new) p f = absurd f.keeps
+  led_back (Shift x old new) p f = (shift_undone c x old new p s.module_of f.step).1
 
   -- well-formed modules stay so
   pub undone_formed : (e : Event) (p : Module) → CameFrom c e p s → IsWellFormed (isolated_in c) (undone c e s).module_of
@@ -174,7 +174,7 @@ module _ (c : Things) (s : Stored) where
   undone_sound (Take x place fresh) p f own held = subst (λ q. IsSoundIn c (put_held place q s.module_of.tree)) (sym f.keeps.1) (put_sound c place f.keeps.0 s.module_of.tree (held x f.keeps.0 f.keeps.1) own)
   undone_sound (SetOperand x k old new) p f own held = operand_sound c x k old s.module_of.tree own
   undone_sound (SetEntry x part k old new) p f own held = entry_sound c x part k old s.module_of.tree (lt-ltb k (length c.names) f.step.numbers.0) (attr_is old f.step.numbers.1.0) own
-  undone_sound (Shift x old new) p f own held = absurd f.keeps
+  undone_sound (Shift x old new) p f own held = shifted_sound c x old s.module_of.tree own
 
   removed : (x y : ℕ) (o : Op) → finmap.get (finmap.remove s.held x) y ≡ Some o → finmap.get s.held y ≡ Some o
   removed x y o e = ⊎_elim
@@ -191,7 +191,7 @@ module _ (c : Things) (s : Stored) where
   undone_held (Take x place fresh) p f own held = λ y o e. held y o (removed x y o e)
   undone_held (SetOperand x k old new) p f own held = held
   undone_held (SetEntry x part k old new) p f own held = held
-  undone_held (Shift x old new) p f own held = absurd f.keeps
+  undone_held (Shift x old new) p f own held = held
 
   -- what is taken by it is shown as it was
   pub undone_shown : (e : Event) (p : Module) → CameFrom c e p s → ShowsTaken (inverse_of e) (module_meaning c s.module_of) (λ x. option_map (λ o. node_of (meaning c o)) (known x (undone c e s)))

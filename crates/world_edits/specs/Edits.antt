@@ -4,9 +4,10 @@ use Rattle.ir_types.specs.Things.{Things}
 use Rattle.ir_tree.specs.declared.place.Place.{Place}
 use Rattle.ir_tree.specs.declared.place.Part.{Part}
 use Rattle.ir_tree.specs.Tree.{Op}
+use Rattle.ir_tree.specs.Places.{place_of}
 use Rattle.ir_tree_laws.specs.Changes.{entry_in}
 use Rattle.ir_event.specs.declared.event.Event.{Event}
-use Rattle.ir_event.specs.declared.event.Event.TheVariants.{Put, Take, SetEntry}
+use Rattle.ir_event.specs.declared.event.Event.TheVariants.{Put, Take, SetEntry, Shift}
 use Rattle.ir_event.specs.Modules.{Module}
 use Rattle.ir_event.specs.Step.{Step}
 
@@ -25,3 +26,11 @@ IsEntryEvent before x part k a t e = (old : Option ℕ) × (e ≡ SetEntry x par
 -- the event sets key k of one dictionary of operation x, and leads from one module to the other
 abbrev pub IsEntryStep : ℕ → Part → ℕ → Option ℕ → Event → Things → Module → Module → Type 0
 IsEntryStep x part k a e c m n = (old : Option ℕ) × (e ≡ SetEntry x part k old a) × Step c e m n
+
+-- the event says that operation x stood at one place of a tree and now stands at another
+abbrev pub IsShiftEvent : ℕ → Place → Op → Event → Type 0
+IsShiftEvent x place t e = (old : Place) × (e ≡ Shift x old place) × (place_of x t ≡ Some old)
+
+-- the event shifts operation x to a place, and leads from one module to the other
+abbrev pub IsShiftStep : ℕ → Place → Event → Things → Module → Module → Type 0
+IsShiftStep x place e c m n = (old : Place) × (e ≡ Shift x old place) × Step c e m n

@@ -8,6 +8,7 @@ use Rattle.ir_tree.specs.Meaning.{IsSoundIn, isolated_in, key_before_in, meaning
 use Rattle.ir_tree_laws.specs.Reasons.{set_operand_reason}
 use Rattle.ir_store.specs.Stored.{Stored, has_slot}
 use Rattle.ir_store.specs.Calls.{after_entry, after_operand, after_restore, after_retract, after_shift, CanRestore, CanRetract, CanRevert}
+use Rattle.ir_store.specs.Shifting.{CanRelink}
 use Rattle.ir_event.specs.declared.event.Event.{Event}
 use Rattle.ir_event.specs.declared.event.Event.TheVariants.{Put, Take, SetOperand, SetEntry, Shift}
 use Rattle.ir_event.specs.Modules.{Module, module_meaning}
@@ -27,7 +28,7 @@ MayUndo c (Put x place fresh) s = CanRetract x fresh s
 MayUndo c (Take x place fresh) s = CanRestore x place fresh s
 MayUndo c (SetOperand x k old new) s = set_operand_reason (isolated_in c) x k old s.module_of.tree ≡ None
 MayUndo c (SetEntry x part k old new) s = CanRevert x part k old s × (IsName c k × (IfSome old (λ a. IsAttr c a) × IsSoundIn c s.module_of.tree))
-MayUndo c (Shift x old new) s = ⊥
+MayUndo c (Shift x old new) s = CanRelink x old s.module_of.tree
 
 -- a store still holds what an event took from a module p, and still has the slot of an entry that it changed; an entry
 -- that wasn't there was set
@@ -36,7 +37,7 @@ Keeps c (Put x place fresh) p s = Unit {0}
 Keeps c (Take x place fresh) p s = (o : Op) × (map.get s.held x ≡ Some o) × (find x p.tree ≡ Some (meaning c o))
 Keeps c (SetOperand x k old new) p s = Unit {0}
 Keeps c (SetEntry x part k old new) p s = (has_slot x part k s ≡ true) × (old ≡ None → is_some new ≡ true)
-Keeps c (Shift x old new) p s = ⊥
+Keeps c (Shift x old new) p s = Unit {0}
 
 -- the event led from p to the module of a store, which keeps what undoing it needs
 pub record CameFrom (c : Things) (e : Event) (p : Module) (s : Stored) : Type 0 where

@@ -2,18 +2,19 @@
 ghost use Rattle.std.specs.Prelude.{◌≡◌, Some, None, true, IfOk, OnOk, OnErr, IfSome, MatchResult, Err};
 ghost use Rattle.std.specs.FinMap as finmap;
 ghost use Rattle.ir_types.specs.Reasons.{IsRefusedFor};
+ghost use Rattle.ir_types.specs.Terms.{name_term};
 ghost use Rattle.ir_types.specs.Things.{IsName, IsAttr};
+ghost use Rattle.ir_types.specs.Words.{is_table};
 ghost use Rattle.ir_tree.specs.Edits.{entry_at};
 ghost use Rattle.ir_tree.specs.Meaning.{IsSoundIn, isolated_in, key_before_in};
 ghost use Rattle.ir_tree.specs.WellFormed.{IsWellFormed};
 ghost use Rattle.ir_tree_laws.specs.Changes.{entry_in};
-ghost use Rattle.ir_tree_laws.specs.Reasons.{holds_none, put_reason, set_entry_reason, set_operand_reason, take_reason};
-ghost use Rattle.ir_store.specs.Calls.{after_entry, after_operand, after_put, after_take};
+ghost use Rattle.ir_tree_laws.specs.Reasons.{holds_none, put_reason, set_entry_reason, shift_reason, take_reason};
+ghost use Rattle.ir_store.specs.Calls.{after_entry, after_put, after_shift, after_take};
 ghost use Rattle.ir_event.specs.declared.event.Event.TheVariants.{Put};
 ghost use Rattle.ir_event.specs.Modules.{things_in, module_in, shown_in};
 ghost use Rattle.ir_event.specs.Listener.{ShowsTaken};
-ghost use Rattle.ir_event.specs.Step.{IsOperandStep, Step};
-ghost use Rattle.world_edits.specs.Edits.{IsEntryEvent, IsEntryStep, IsPutStep, IsTakeStep};
+ghost use Rattle.world_edits.specs.Edits.{IsEntryEvent, IsEntryStep, IsPutStep, IsShiftEvent, IsShiftStep, IsTakeStep};
 
 use ir_event::event::Event;
 use ir_event::world::World;
@@ -154,6 +155,47 @@ fn enter_in(
         key,
         old,
         new: *value,
+    })
+}
+
+/// Shifts an operation, with what is inside it, to a place of the module, and gives the event. It takes no memory.
+///
+/// Refusals, in order: `NoSuchOp` where it, or the place's parent, isn't in the module; `IsRoot`; `NoSuchIndex` where
+/// there is no such place; `IntoItself`; `OtherTable` where another nearest symbol table is around the place;
+/// `TooDeepHere`; `NotVisible` where an operand wouldn't be visible any more.
+pub fn shift(world: &mut World, op: OpId, place: Place) -> Result<Event, Refusal>
+    ensures step { IfOk result (λ e. IsShiftStep op place e (things_in world.old) (module_in world.old) (module_in world.new)) }
+    ensures store { OnOk result (world.new.store ≡ after_shift op place world.old.store) }
+    ensures ctx { world.new.ctx ≡ world.old.ctx }
+    ensures refused { MatchResult result (λ _. shift_reason (isolated_in world.old.ctx) (λ n. is_table (name_term world.old.ctx n)) op place world.old.store.module_of.tree ≡ None)
+        (λ e. shift_reason (isolated_in world.old.ctx) (λ n. is_table (name_term world.old.ctx n)) op place world.old.store.module_of.tree ≡ Some e) }
+    ensures err { OnErr result (world.new.store ≡ world.old.store) }
+{
+    shift_in(&world.ctx, &mut world.store, op, &place)
+}
+
+/// Shifts an operation in a store's module.
+fn shift_in(ctx: &Context, store: &mut Store, op: OpId, place: &Place) -> Result<Event, Refusal>
+    requires { IsWellFormed (isolated_in ctx.now) store.old.module_of }
+    ensures event { IfOk result (λ e. IsShiftEvent op place.now store.old.module_of.tree e) }
+    ensures store { OnOk result (store.new ≡ after_shift op place.now store.old) }
+    ensures refused { MatchResult result (λ _. shift_reason (isolated_in ctx.now) (λ n. is_table (name_term ctx.now n)) op place.now store.old.module_of.tree ≡ None)
+        (λ e. shift_reason (isolated_in ctx.now) (λ n. is_table (name_term ctx.now n)) op place.now store.old.module_of.tree ≡ Some e) }
+    ensures formed { IsWellFormed (isolated_in ctx.now) store.new.module_of }
+    ensures err { OnErr result (store.new ≡ store.old) }
+{
+    let old = store.place(op);
+    match store.shift(ctx, op, *place) {
+        Ok(()) => {}
+        Err(refusal) => return Err(refusal),
+    }
+    let Some(old) = old else {
+        return Err(Refusal::NoSuchOp);
+    };
+    Ok(Event::Shift {
+        op,
+        old,
+        new: *place,
     })
 }
 

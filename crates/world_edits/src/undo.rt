@@ -11,7 +11,7 @@ use ir_store::store::Store;
 use ir_types::context::Context;
 
 /// Undoes an event that led to the module, by a step back: what was put is taken, what was taken is put back with its
-/// id, and an operand or entry is set back. It takes no memory.
+/// id, an operand or entry is set back, and what was shifted is moved back. It takes no memory.
 pub fn undo(world: &mut World, event: &Event)
     requires { (p : Module) × CameFrom (things_in world.old) event.now p world.old.store }
     ensures back { (p : Module) → CameFrom (things_in world.old) event.now p world.old.store → module_in world.new ≡ p }
@@ -48,6 +48,6 @@ fn undo_in(ctx: &Context, store: &mut Store, event: &Event)
             old,
             ..
         } => store.revert_entry(ctx, op, part, key, old),
-        Event::Shift { .. } => {}
+        Event::Shift { op, old, .. } => store.relink(op, old),
     }
 }
