@@ -2,12 +2,13 @@
 ghost use Rattle.std.specs.Prelude.{◌≡◌, List, ◌∷◌, None, true, false};
 ghost use Rattle.ir_types.specs.Things.{Things};
 ghost use Rattle.ir_types.specs.declared.refusal.Refusal.{Refusal as Reason};
+ghost use Rattle.ir_tree.specs.declared.value.Value.{Value as TreeValue};
 ghost use Rattle.ir_tree.specs.Meaning.{IsSoundIn, isolated_in};
 ghost use Rattle.ir_tree.specs.WellFormed.{IsWellFormed, Module as Numbered};
 ghost use Rattle.ir_event.specs.declared.event.Event.{Event as Change};
 ghost use Rattle.ir_event.specs.Modules.{module_meaning};
 ghost use Rattle.ir_event.specs.Step.{Step as StepOf};
-ghost use Rattle.machine.specs.Edits.{edited_by, reason_by};
+ghost use Rattle.machine.specs.Edits.{Replace, edited_by, reason_by};
 ghost use Rattle.machine.specs.Contents.{NumberedEdit, EditIsOf, IsElementary, edit_meaning, edit_reason, edited, tests_in};
 ghost use Rattle.machine.specs.Machine.{State, Call, Done, Goes, OpenMark, Refused, Reply, Rollback, Shows};
 ghost use Rattle.machine.specs.Panels.{AllAge};
@@ -24,6 +25,11 @@ pub fn edits_have_contents()
 pub fn elementary_edits_are_steps()
     ensures { (c : Things) (e : NumberedEdit) (m : Numbered) → IsElementary e → IsWellFormed (isolated_in c) m → IsSoundIn c m.tree → EditIsOf c m e → reason_by (tests_in c) e m ≡ None
         → (what : Change) × StepOf c what (module_meaning c m) (edited (edit_meaning c e) (module_meaning c m)) }
+{}
+
+/// Replacing a value, where no reason stands against it, leaves a module well-formed.
+pub fn replacing_keeps_form()
+    ensures { (c : Things) (old new : TreeValue) (m : Numbered) → IsWellFormed (isolated_in c) m → reason_by (tests_in c) (Replace old new) m ≡ None → IsWellFormed (isolated_in c) (edited_by (tests_in c) (Replace old new) m) }
 {}
 
 /// A refused call leaves the module and the marks, and adds, drops, moves and mends no analysis.
