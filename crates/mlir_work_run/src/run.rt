@@ -97,7 +97,10 @@ fn hold(alloc: Global, ctx: Context, tree: TreeOp) -> Option<World>
     let Ok(registry) = registry(&ctx) else {
         return None;
     };
-    World::hold(alloc, ctx, registry, tree, next).ok()
+    match World::hold(alloc, ctx, registry, tree, next) {
+        Ok(world) => Some(world),
+        Err(_) => None,
+    }
 }
 
 /// Why there is no memory.

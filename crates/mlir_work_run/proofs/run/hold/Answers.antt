@@ -1,3 +1,11 @@
+use Rattle.std.proofs.Common.{◌≡◌, ◌∙◌, ap, ℕ}
+use Rattle.ir_types.specs.Things.{Things}
+use Rattle.ir_tree.specs.Tree.{Op}
+use Rattle.ir_tree.specs.Ids.{op_count}
+use Rattle.ir_tree.specs.Meaning.{meaning}
+use Rattle.ir_store.specs.Calls.{Loaded}
+use Rattle.ir_event.specs.declared.world.World.{World}
+use Rattle.ir_event.specs.Modules.{Module, module_in, module_meaning}
 use Rattle.mlir_work_run.proofs.Numbered.{numbered_distinct, numbered_below}
 use Rattle.mlir_work_run.proofs.run.hold.Goals as goal
 
@@ -6,3 +14,10 @@ hold-requires-clause-distinct c = numbered_distinct c.args.tree c.requires.numbe
 
 pub hold-requires-clause-below : goal.hold-requires-clause-below
 hold-requires-clause-below c = numbered_below c.args.tree c.in-Some.next c.in-Some.ensures c.requires.numbered
+
+-- a world that holds a tree of a context has that module
+loaded_module : (w : World) (c : Things) (t : Op) (next count : ℕ) → w.ctx ≡ c → Loaded t next w.store → next ≡ count → ◌≡◌ {A = Module} (module_in w) (record { tree = meaning c t; next = count })
+loaded_module w c t next count e l n = ap (λ x. module_meaning x w.store.module_of) e ∙ ap (module_meaning c) l.module_of ∙ ap (λ k. module_meaning c (record { tree = t; next = k })) n
+
+pub returns-in-Ok-hold : goal.returns-in-Ok-hold
+returns-in-Ok-hold c = loaded_module c.in-Ok-hold.world c.args.ctx c.args.tree c.in-Some.next (op_count c.args.tree) c.in-Ok-hold.ensures.ctx c.in-Ok-hold.ensures.store c.in-Some.ensures
