@@ -2,13 +2,10 @@
 //! a line.
 #![tactic(auto)]
 
-mod build;
 mod calls;
 mod edits;
 mod state;
 mod stored;
-mod words;
-mod written;
 
 use crate::state::State;
 use ir_types::refusal::Refusal;

@@ -12,12 +12,12 @@ pub fn put_number(out: &mut String, before: &str, number: u64) -> Result<(), All
 }
 
 /// Writes a number that stands in a name, behind a text.
-fn put_id(out: &mut String, before: &str, id: u32) -> Result<(), AllocError> {
+pub fn put_id(out: &mut String, before: &str, id: u32) -> Result<(), AllocError> {
     put_number(out, before, u64::from(id))
 }
 
 /// Writes a value.
-fn put_value(out: &mut String, value: &Value) -> Result<(), AllocError> {
+pub fn put_value(out: &mut String, value: &Value) -> Result<(), AllocError> {
     match value {
         Value::Result(op, place) => {
             put_id(out, " use:", op.number())?;
@@ -77,7 +77,7 @@ fn put_head(out: &mut String, op: &TreeOp) -> Result<(), AllocError> {
 
 /// Writes a tree.
 #[cycle(put)]
-fn put_op(out: &mut String, op: &TreeOp) -> Result<(), AllocError> {
+pub fn put_op(out: &mut String, op: &TreeOp) -> Result<(), AllocError> {
     put_head(out, op)?;
     for region in &op.regions {
         put_region(out, region)?;

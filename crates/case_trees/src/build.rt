@@ -134,11 +134,6 @@ impl Reading {
         }
     }
 
-    /// Gives an operation another name.
-    fn rename(op: &mut TreeOp, name: NameId) -> Result<(), AllocError> {
-        op.name = name;
-        Ok(())
-    }
 
     /// Adds what a word says to the last operation that has begun.
     fn say(&mut self, kind: &str, rest: &str) -> Result<(), AllocError> {

@@ -1,0 +1,176 @@
+//! The answer to a line.
+ghost use Rattle.std.specs.Prelude.{◌<◌, IsTrue, IfOk, OnOk};
+ghost use Rattle.std.specs.List.{All};
+ghost use Rattle.ir_tree.specs.Ids.{HasDistinctIds, ids};
+ghost use Rattle.ir_tree.specs.Meaning.{IsSoundIn};
+
+use crate::edits::{Told, entry_line, put_line, set_line, take_line, unasked};
+use crate::reads::{put_reads, sum};
+use crate::state::{Show, State};
+use crate::undone::{restore_line, retract_line, revert_line};
+use case_trees::build::bare;
+use case_trees::words::{first, number};
+use case_trees::{build, written};
+use ir_store::store::Store;
+use ir_tree::find::list_ids;
+use ir_tree::numbered::distinct;
+use ir_tree::sound::sound;
+use ir_tree::tree::TreeOp;
+use ir_types::context::Context;
+use ir_types::refusal::Refusal;
+use std::alloc::{AllocError, Global};
+
+/// Whether the ids of a tree are below a number.
+fn are_below(alloc: Global, tree: &TreeOp, next: u32) -> Result<bool, AllocError>
+    ensures { IfOk result (λ b. IsTrue b → All (λ x. x < next) (ids tree.now)) }
+{
+    let ids = list_ids(alloc, tree)?;
+    Ok(ids.iter().all(|id| id.number() < next))
+}
+
+/// Whether what a module asks of a tree is so; else `NoSuchIndex`.
+fn suit(alloc: Global, context: &Context, tree: &TreeOp, next: u32) -> Result<(), Refusal>
+    ensures sound { OnOk result (IsSoundIn context.now tree.now) }
+    ensures distinct { OnOk result (HasDistinctIds tree.now) }
+    ensures below { OnOk result (All (λ x. x < next) (ids tree.now)) }
+{
+    if !sound(context, tree) || !distinct(alloc, tree)? || !are_below(alloc, tree, next)? {
+        return Err(Refusal::NoSuchIndex);
+    }
+    Ok(())
+}
+
+/// A module with a copy of a tree.
+fn load(alloc: Global, context: &Context, tree: &TreeOp, next: u32) -> Result<Store, Refusal> {
+    suit(alloc, context, tree, next)?;
+    Store::load(alloc, context, tree, next)
+}
+
+/// `9 : op block end end`: the next free id, and the tree.
+fn load_line(alloc: Global, state: &mut State, text: &str) -> Result<String, AllocError> {
+    let (next, words) = text.split_once(" : ").unwrap_or((text, ""));
+    let tree = build::tree(alloc, words)?;
+    match load(alloc, &state.context, &tree, number(next)) {
+        Ok(store) => {
+            state.hold(store);
+            written::word(alloc, "ok")
+        }
+        Err(refusal) => written::refusal(alloc, refusal),
+    }
+}
+
+/// `tree`, `sum`, or nothing for anything else.
+fn show_line(alloc: Global, state: &mut State, text: &str) -> Result<String, AllocError> {
+    state.show = match text {
+        "tree" => Show::Tree,
+        "sum" => Show::Sum,
+        _ => Show::Nothing,
+    };
+    written::word(alloc, "ok")
+}
+
+/// Makes an edit.
+fn edit(
+    alloc: Global,
+    ctx: &Context,
+    store: &mut Store,
+    taken: &mut Vec<TreeOp>,
+    tree: &TreeOp,
+    line: &str,
+) -> Result<Told, AllocError> {
+    let (call, rest) = first(line);
+    match call {
+        "put" => put_line(alloc, ctx, store, tree, rest),
+        "take" => take_line(alloc, store, taken, tree, rest),
+        "set" => set_line(alloc, ctx, store, tree, rest),
+        "entry" => entry_line(alloc, ctx, store, tree, rest),
+        "restore" => restore_line(alloc, store, taken, tree, rest),
+        "retract" => retract_line(alloc, store, taken, tree, rest),
+        "revert" => revert_line(alloc, ctx, store, tree, rest),
+        _ => unasked(alloc, tree),
+    }
+}
+
+/// Writes what a module is behind an answer.
+fn put_shown(
+    alloc: Global,
+    out: &mut String,
+    ctx: &Context,
+    store: &Store,
+    show: Show,
+    words: &str,
+) -> Result<(), AllocError> {
+    match show {
+        Show::Tree => {
+            written::put_number(out, " ", u64::from(store.next_id()))?;
+            out.push_str(" : ")?;
+            out.push_str(words)
+        }
+        _ => {
+            let mut text = String::from_str(alloc, words)?;
+            put_reads(&mut text, ctx, store)?;
+            written::put_number(out, " ", u64::from(sum(text.as_bytes())))
+        }
+    }
+}
+
+/// Makes an edit, and tells what it answers and what the module is then.
+fn edited(
+    alloc: Global,
+    ctx: &Context,
+    store: &mut Store,
+    taken: &mut Vec<TreeOp>,
+    show: Show,
+    line: &str,
+) -> Result<String, AllocError> {
+    let tree = store.tree()?;
+    let told = edit(alloc, ctx, store, taken, &tree, line)?;
+    let after = store.tree()?;
+    let words = written::tree(alloc, &after)?;
+    let want = written::tree(alloc, &told.tree)?;
+    let mut out = told.answer;
+    if words.as_str() != want.as_str() {
+        out.push_str(" differs")?;
+    }
+    put_shown(alloc, &mut out, ctx, store, show, words.as_str())?;
+    Ok(out)
+}
+
+/// Makes an edit, and tells what it answers alone.
+fn edited_briefly(
+    alloc: Global,
+    ctx: &Context,
+    store: &mut Store,
+    taken: &mut Vec<TreeOp>,
+    line: &str,
+) -> Result<String, AllocError> {
+    let told = edit(alloc, ctx, store, taken, &bare(alloc, 0), line)?;
+    Ok(told.answer)
+}
+
+/// Makes an edit of the module, if there is one.
+fn edit_line(alloc: Global, state: &mut State, line: &str) -> Result<String, AllocError> {
+    let State {
+        context,
+        store,
+        taken,
+        show,
+    } = state;
+    let Some(store) = store else {
+        return written::word(alloc, "no module");
+    };
+    match show {
+        Show::Nothing => edited_briefly(alloc, context, store, taken, line),
+        _ => edited(alloc, context, store, taken, *show, line),
+    }
+}
+
+/// The answer to a line.
+pub fn answer(alloc: Global, state: &mut State, line: &str) -> Result<String, AllocError> {
+    let (call, rest) = first(line);
+    match call {
+        "load" => load_line(alloc, state, rest),
+        "show" => show_line(alloc, state, rest),
+        _ => edit_line(alloc, state, line),
+    }
+}

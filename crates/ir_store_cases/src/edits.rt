@@ -1,0 +1,148 @@
+//! The edits of a module, each beside what the plain program makes of its tree.
+use crate::may::{may_put, may_set};
+use case_trees::words::{first, name_id, number, op_id, part, place, some_attr, value};
+use case_trees::{build, written};
+use ir_store::store::Store;
+use ir_tree::changes::{put, with_operand_set, without};
+use ir_tree::copy::copy;
+use ir_tree::entries::with_entry_set;
+use ir_tree::find::find;
+use ir_tree::place::Place;
+use ir_tree::tree::TreeOp;
+use ir_types::context::Context;
+use ir_types::ids::OpId;
+use ir_types::refusal::Refusal;
+use std::alloc::{AllocError, Global};
+
+/// An answer, and the tree that the module should have then.
+#[derive(Drop)]
+pub struct Told {
+    pub answer: String,
+    pub tree: TreeOp,
+}
+
+/// What an accepted edit tells.
+pub fn accepted(alloc: Global, answer: &str, tree: TreeOp) -> Result<Told, AllocError> {
+    Ok(Told {
+        answer: written::word(alloc, answer)?,
+        tree,
+    })
+}
+
+/// What a refused edit tells: the tree stays.
+pub fn refused(alloc: Global, refusal: Refusal, tree: &TreeOp) -> Result<Told, AllocError> {
+    Ok(Told {
+        answer: written::refusal(alloc, refusal)?,
+        tree: copy(tree)?,
+    })
+}
+
+/// What is told where the module isn't asked.
+pub fn unasked(alloc: Global, tree: &TreeOp) -> Result<Told, AllocError> {
+    accepted(alloc, "unasked", copy(tree)?)
+}
+
+/// The tree with a header at a place, under an id.
+fn with_header(
+    alloc: Global,
+    tree: &TreeOp,
+    place: &Place,
+    header: TreeOp,
+    id: OpId,
+) -> Result<TreeOp, AllocError> {
+    let mut op = header;
+    op.id = id;
+    put(alloc, tree, place, &op)
+}
+
+/// `2 0 4 : op use:1.0 end`: the place, and the header that is put there.
+pub fn put_line(
+    alloc: Global,
+    ctx: &Context,
+    store: &mut Store,
+    tree: &TreeOp,
+    text: &str,
+) -> Result<Told, AllocError> {
+    let (at, words) = text.split_once(" : ").unwrap_or((text, ""));
+    let header = build::tree(alloc, words)?;
+    let place = place(at);
+    if !may_put(ctx, store, &header) {
+        return unasked(alloc, tree);
+    }
+    match store.put(ctx, place, &header) {
+        Ok(id) => accepted(alloc, "ok", with_header(alloc, tree, &place, header, id)?),
+        Err(refusal) => refused(alloc, refusal, tree),
+    }
+}
+
+/// Keeps a copy of an operation that is taken.
+fn keep(taken: &mut Vec<TreeOp>, tree: &TreeOp, op: OpId) -> Result<(), AllocError> {
+    match find(tree, op) {
+        Some(found) => Ok(taken.push(copy(found)?)?),
+        None => Ok(()),
+    }
+}
+
+/// `3`: the operation.
+pub fn take_line(
+    alloc: Global,
+    store: &mut Store,
+    taken: &mut Vec<TreeOp>,
+    tree: &TreeOp,
+    text: &str,
+) -> Result<Told, AllocError> {
+    let op = op_id(text);
+    match store.take(op) {
+        Ok(()) => {
+            keep(taken, tree, op)?;
+            accepted(alloc, "ok", without(alloc, tree, op)?)
+        }
+        Err(refusal) => refused(alloc, refusal, tree),
+    }
+}
+
+/// `3 0 2.0`: the operation, the number of the operand, the value.
+pub fn set_line(
+    alloc: Global,
+    ctx: &Context,
+    store: &mut Store,
+    tree: &TreeOp,
+    text: &str,
+) -> Result<Told, AllocError> {
+    let (op, rest) = first(text);
+    let (operand, word) = first(rest);
+    let (op, operand, value) = (op_id(op), number(operand), value(word));
+    match store.set_operand(ctx, op, operand, value) {
+        Ok(()) => accepted(
+            alloc,
+            "ok",
+            with_operand_set(alloc, tree, op, operand as usize, &value)?,
+        ),
+        Err(refusal) => refused(alloc, refusal, tree),
+    }
+}
+
+/// `1 props 39 0`: the operation, the dictionary, the key, the attribute, or `-` for none.
+pub fn entry_line(
+    alloc: Global,
+    ctx: &Context,
+    store: &mut Store,
+    tree: &TreeOp,
+    text: &str,
+) -> Result<Told, AllocError> {
+    let (op, rest) = first(text);
+    let (dictionary, rest) = first(rest);
+    let (key, attr) = first(rest);
+    let (op, part, key, attr) = (op_id(op), part(dictionary), name_id(key), some_attr(attr));
+    if !may_set(ctx, store, key, attr)? {
+        return unasked(alloc, tree);
+    }
+    match store.set_entry(ctx, op, part, key, attr) {
+        Ok(()) => accepted(
+            alloc,
+            "ok",
+            with_entry_set(alloc, ctx, tree, op, part, key, attr)?,
+        ),
+        Err(refusal) => refused(alloc, refusal, tree),
+    }
+}

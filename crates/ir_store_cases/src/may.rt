@@ -1,0 +1,206 @@
+//! What calls ask of a module, looked at before.
+ghost use Rattle.std.specs.Prelude.{◌≡◌, ◌<◌, ℕ, true, false, None, Some, IfOk, IfSome, is_some, map, eqb, option_and_then};
+ghost use Rattle.std.specs.FinMap as finmap;
+ghost use Rattle.std.specs.List.{list_all, list_any};
+ghost use Rattle.ir_types.specs.Things.{IsName, IsAttr};
+ghost use Rattle.ir_tree.specs.Tree.{Op, head, regions_of, ops_of};
+ghost use Rattle.ir_tree.specs.View.{region_view};
+ghost use Rattle.ir_tree.specs.Limits.{most_next};
+ghost use Rattle.ir_tree.specs.Meaning.{IsSoundIn};
+ghost use Rattle.ir_tree_laws.specs.Reads.{ops_in};
+ghost use Rattle.ir_tree_laws.specs.Reasons.{has_place, holds_none, is_in_list};
+ghost use Rattle.ir_tree_laws.specs.Values.{has_value, region_at};
+ghost use Rattle.entries.specs.Slots.{has_key};
+ghost use Rattle.ir_store.specs.Stored.{has_entry};
+ghost use Rattle.ir_store.specs.Calls.{CanRestore, CanRevert};
+
+use ir_store::store::Store;
+use ir_tree::count::op_count;
+use ir_tree::find::find;
+use ir_tree::place::{Part, Place};
+use ir_tree::sound::sound;
+use ir_tree::tree::{TreeOp, TreeRegion};
+use ir_tree::value::Value;
+use ir_types::context::Context;
+use ir_types::ids::{AttrId, NameId, OpId};
+use std::alloc::AllocError;
+
+/// Whether nothing stands in an operation.
+fn is_bare(header: &TreeOp) -> bool
+    ensures { result ≡ true → holds_none (Some header.now) ≡ true }
+{
+    op_count(header) == 1
+}
+
+/// Whether nothing is held under the next free id.
+fn is_free(store: &Store) -> bool
+    ensures { result ≡ true → finmap.get store.now.held store.now.module_of.next ≡ None }
+{
+    store.node(OpId::new(store.next_id())).is_none()
+}
+
+/// Whether a header may be put into a module: it is sound, nothing stands in it, and nothing is held under the next id.
+pub fn may_put(ctx: &Context, store: &Store, header: &TreeOp) -> bool
+    ensures sound { result ≡ true → IsSoundIn ctx.now header.now }
+    ensures bare { result ≡ true → holds_none (Some header.now) ≡ true }
+    ensures unheld { result ≡ true → finmap.get store.now.held store.now.module_of.next ≡ None }
+{
+    sound(ctx, header) && is_bare(header) && is_free(store)
+}
+
+/// Whether a tree has a place.
+fn has_spot(tree: &TreeOp, place: &Place) -> bool
+    ensures { result ≡ has_place place.now tree.now }
+{
+    match find(tree, place.parent) {
+        Some(parent) => holds_spot(&parent.regions, place.region as usize, place.before),
+        None => false,
+    }
+}
+
+/// Whether one of some regions has a block, and in it the operation that comes next at a place, if one is named.
+fn holds_spot(regions: &Vec<TreeRegion>, number: usize, before: Option<OpId>) -> bool
+    ensures { result ≡ is_in_list before (option_and_then ops_in (region_at number (regions_of (map region_view regions.now.items)))) }
+{
+    let Some(region) = regions.get(number) else {
+        return false;
+    };
+    region_holds(region, before)
+}
+
+/// Whether a region has a block, and in it the operation that comes next at a place, if one is named.
+fn region_holds(region: &TreeRegion, before: Option<OpId>) -> bool
+    ensures { result ≡ is_in_list before (ops_in (region_view region.now)) }
+{
+    match region {
+        TreeRegion::Empty => false,
+        TreeRegion::Block { ops, .. } => is_among(ops, before),
+    }
+}
+
+/// Whether the operation that comes next at a place, if one is named, is one of a list.
+#[tactic(auto, using(crate::proofs::Spots::among_of))]
+fn is_among(ops: &Vec<TreeOp>, before: Option<OpId>) -> bool
+    ensures { result ≡ is_in_list before (Some (ops_of ops.now.items)) }
+{
+    match before {
+        None => true,
+        Some(id) => has_op(ops, id),
+    }
+}
+
+/// Whether a list has an operation with an id.
+fn has_op(ops: &Vec<TreeOp>, id: OpId) -> bool
+    ensures { result ≡ list_any (λ o. eqb (head o).id id) ops.now.items }
+{
+    ops.iter().any(|op| op.id == id)
+}
+
+/// Whether a module has each of some values.
+fn has_values(store: &Store, values: &[Value]) -> bool
+    ensures { result ≡ list_all (λ v. has_value v store.now.module_of.tree) values.now }
+{
+    let mut rest = values;
+    'values: while let [value, tail @ ..] = rest {
+        if store.value_type(value).is_none() {
+            return false;
+        }
+        rest = tail;
+    }
+    true
+}
+
+/// Whether an operation is held, and a module has what it uses.
+fn is_ready(store: &Store, op: OpId) -> bool
+    ensures held { result ≡ true → is_some (finmap.get store.now.held op) ≡ true }
+    ensures values { result ≡ true → (o : Op) → finmap.get store.now.held op ≡ Some o → list_all (λ v. has_value v store.now.module_of.tree) (head o).operands ≡ true }
+{
+    if store.in_tree(op) {
+        return false;
+    }
+    match store.node(op) {
+        None => false,
+        Some(node) => has_values(store, node.operands()),
+    }
+}
+
+/// Whether an id is the next free one and can be given out, or is below it.
+fn fits_next(store: &Store, op: OpId, fresh: bool) -> bool
+    ensures newest { result ≡ true → fresh ≡ true → store.now.module_of.next ≡ op }
+    ensures room { result ≡ true → fresh ≡ true → op < most_next }
+    ensures below { result ≡ true → fresh ≡ false → op < store.now.module_of.next }
+{
+    let next = store.next_id();
+    if fresh {
+        op.number() == next && next < u32::MAX
+    } else {
+        op.number() < next
+    }
+}
+
+/// Whether a held operation may be put back at a place of a module.
+pub fn may_restore(
+    store: &Store,
+    op: OpId,
+    place: &Place,
+    fresh: bool,
+) -> Result<bool, AllocError>
+    ensures { IfOk result (λ b. b ≡ true → CanRestore op place.now fresh store.now) }
+{
+    let tree = store.tree()?;
+    Ok(is_ready(store, op) && has_spot(&tree, place) && fits_next(store, op, fresh))
+}
+
+/// Whether a key and an attribute are of a context, and a module is sound in it.
+pub fn may_set(
+    ctx: &Context,
+    store: &Store,
+    key: NameId,
+    value: Option<AttrId>,
+) -> Result<bool, AllocError>
+    ensures key { IfOk result (λ b. b ≡ true → IsName ctx.now key) }
+    ensures value { IfOk result (λ b. b ≡ true → IfSome value (λ a. IsAttr ctx.now a)) }
+    ensures sound { IfOk result (λ b. b ≡ true → IsSoundIn ctx.now store.now.module_of.tree) }
+{
+    let tree = store.tree()?;
+    Ok(ctx.has_name(key) && has_some(ctx, value) && sound(ctx, &tree))
+}
+
+/// Whether an attribute, if there is one, is of a context.
+fn has_some(ctx: &Context, value: Option<AttrId>) -> bool
+    ensures { result ≡ true → IfSome value (λ a. IsAttr ctx.now a) }
+{
+    match value {
+        None => true,
+        Some(attr) => ctx.has_attr(attr),
+    }
+}
+
+/// Whether one dictionary of an operation has a key.
+fn has_entry(store: &Store, op: OpId, part: Part, key: NameId) -> bool
+    ensures { result ≡ has_entry op part key store.now }
+{
+    match store.node(op) {
+        None => false,
+        Some(node) => match part {
+            Part::Props => has_key(node.properties(), key),
+            Part::Attrs => has_key(node.attributes(), key),
+        },
+    }
+}
+
+/// Whether a dictionary has a key.
+fn has_key(entries: &[(NameId, AttrId)], key: NameId) -> bool
+    ensures { result ≡ has_key key entries.now }
+{
+    entries.iter().any(|entry| entry.0 == key)
+}
+
+/// Whether a key of a dictionary may be set back, or taken out again.
+pub fn may_revert(store: &Store, op: OpId, part: Part, key: NameId, value: Option<AttrId>) -> bool
+    ensures { result ≡ true → CanRevert op part key value store.now }
+{
+    store.in_tree(op)
+        && store.has_slot(op, part, key)
+        && (value.is_some() || has_entry(store, op, part, key))
+}

@@ -1,0 +1,86 @@
+//! What lines speak of: a context, a module, the operations that were taken out of it, and what is shown of it.
+use case_trees::build::bare;
+use ir_store::store::Store;
+use ir_tree::tree::TreeOp;
+use ir_types::context::Context;
+use ir_types::node::{AttrNode, Sign, TypeNode};
+use ir_types::refusal::Refusal;
+use std::alloc::Global;
+
+/// What is shown of a module behind an answer.
+#[derive(Clone, Copy)]
+pub enum Show {
+    /// Its tree, and its next free id.
+    Tree,
+    /// A sum over its tree and all that is read of it.
+    Sum,
+    /// Nothing.
+    Nothing,
+}
+
+/// A context, a module if one was loaded, and the operations that were taken.
+#[derive(Drop)]
+pub struct State {
+    pub context: Context,
+    pub store: Option<Store>,
+    pub taken: Vec<TreeOp>,
+    pub show: Show,
+}
+
+impl State {
+    /// A context with four names and 300 more, two types and four attributes, and no module.
+    pub fn new(alloc: Global) -> Result<State, Refusal> {
+        let mut context = Context::new(alloc)?;
+        fill(&mut context)?;
+        add_names(alloc, &mut context)?;
+        Ok(State {
+            context,
+            store: None,
+            taken: Vec::new(alloc),
+            show: Show::Tree,
+        })
+    }
+
+    /// Takes a module in place of the one that there was.
+    pub fn hold(&mut self, store: Store) {
+        self.store = Some(store);
+        self.taken.clear();
+    }
+}
+
+/// Adds names, types and attributes to a context.
+fn fill(context: &mut Context) -> Result<(), Refusal> {
+    for text in ["a", "Z", "ab", "\u{e9}"] {
+        context.name(text.as_bytes())?;
+    }
+    add_type(context, 1)?;
+    add_type(context, 2)?;
+    add_attrs(context)
+}
+
+/// Adds the names `n0`, `n1`, .. to a context.
+fn add_names(alloc: Global, context: &mut Context) -> Result<(), Refusal> {
+    for number in 0..300u32 {
+        let text = format!(in alloc; "n{number}")?;
+        context.name(text.as_bytes())?;
+    }
+    Ok(())
+}
+
+/// Adds a type of integers to a context.
+fn add_type(context: &mut Context, width: u32) -> Result<(), Refusal> {
+    context.ty(TypeNode::Int {
+        sign: Sign::Signless,
+        width,
+    })?;
+    Ok(())
+}
+
+/// Adds an attribute for each two flags to a context.
+fn add_attrs(context: &mut Context) -> Result<(), Refusal> {
+    for nsw in [false, true] {
+        context.attr(AttrNode::Overflow { nsw, nuw: false })?;
+        context.attr(AttrNode::Overflow { nsw, nuw: true })?;
+    }
+    Ok(())
+}
