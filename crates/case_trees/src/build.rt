@@ -134,7 +134,6 @@ impl Reading {
         }
     }
 
-
     /// Adds what a word says to the last operation that has begun.
     fn say(&mut self, kind: &str, rest: &str) -> Result<(), AllocError> {
         match self.open.last_mut() {

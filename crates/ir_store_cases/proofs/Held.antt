@@ -1,10 +1,10 @@
 -- Held operations, known by what is read of them.
-use Rattle.std.proofs.Common.{◌≡◌, refl, ap, sym, ◌∙◌, ℕ, eqb, eq-eqb, cond, Bool, true, false, true≢false, Option, Some, None}
+use Rattle.std.proofs.Common.{◌≡◌, refl, ap, sym, ◌∙◌, ℕ, eqb, eq-eqb, cond, false, true≢false, Option, Some, None}
 use Rattle.std.specs.Prelude.{option_map, unwrap_or}
 use Rattle.std.specs.Cmp.{nat_cmp_total}
 use Rattle.std.specs.FinMap as finmap
 use Rattle.ir_tree.specs.declared.place.Place.{Place}
-use Rattle.ir_tree.specs.Tree.{Op, op, Head, head}
+use Rattle.ir_tree.specs.Tree.{Op, op, head}
 use Rattle.ir_tree.specs.Ids.{HasDistinctIds, has_id, find, first_of}
 use Rattle.ir_tree.specs.Places.{place_of, without}
 use Rattle.ir_tree.proofs.Returns.{put_take}
@@ -40,7 +40,7 @@ taken_back x place s u d p r e =
     let o = m.0.here in
     let found : find x t ≡ Some o = ap (λ z. find z t) (sym m.2) ∙ stand_found t d m.0 m.1 in
     let held : finmap.get (hold x (find x t) s.held) x ≡ Some o =
-      ap (λ z. finmap.get (hold x z s.held) x) found ∙ finmap.get-insert nat_cmp_total s.held x o x ∙ ap (λ b. cond b (Some o) (finmap.get s.held x)) (eq_nat x x ∙ eq-eqb x x refl) in
+    ap (λ z. finmap.get (hold x z s.held) x) found ∙ finmap.get-insert nat_cmp_total s.held x o x ∙ ap (λ b. cond b (Some o) (finmap.get s.held x)) (eq_nat x x ∙ eq-eqb x x refl) in
     let same : u.module_of.tree ≡ t = ap (λ (z : Stored). z.module_of.tree) e ∙ ap (λ z. put_held place z (without x t)) held ∙ put_take x place o t d p found in
     record {
       there = ap (has_id x) same ∙ n.there;

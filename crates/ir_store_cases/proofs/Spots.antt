@@ -1,5 +1,5 @@
 -- Places in the lists of a tree.
-use Rattle.std.proofs.Common.{◌≡◌, refl, ap, eqb, ◌||◌, ℕ, zero, suc, List, [], ◌∷◌, map, length, Bool, true, Option, Some, None, arith}
+use Rattle.std.proofs.Common.{◌≡◌, refl, ap, eqb, ◌||◌, ℕ, zero, suc, List, [], ◌∷◌, map, length, true, arith}
 use Rattle.std.specs.Prelude.{slice_get, option_map}
 use Rattle.std.specs.List.{list_any}
 use Rattle.ir_tree.specs.Tree.{OpOf, op, RegionOf, RegionsOf, no_regions, region, empty, block, no_ops, next, head, regions, regions_of, ops_of}

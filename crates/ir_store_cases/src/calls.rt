@@ -5,6 +5,7 @@ ghost use Rattle.ir_tree.specs.Ids.{HasDistinctIds, ids};
 ghost use Rattle.ir_tree.specs.Meaning.{IsSoundIn};
 
 use crate::edits::{Told, entry_line, put_line, set_line, take_line, unasked};
+use crate::moves::{release_line, shift_line};
 use crate::reads::{put_reads, sum};
 use crate::state::{Show, State};
 use crate::undone::{restore_line, retract_line, revert_line};
@@ -21,7 +22,7 @@ use ir_types::refusal::Refusal;
 use std::alloc::{AllocError, Global};
 
 /// Whether the ids of a tree are below a number.
-fn are_below(alloc: Global, tree: &TreeOp, next: u32) -> Result<bool, AllocError>
+pub fn are_below(alloc: Global, tree: &TreeOp, next: u32) -> Result<bool, AllocError>
     ensures { IfOk result (λ b. IsTrue b → All (λ x. x < next) (ids tree.now)) }
 {
     let ids = list_ids(alloc, tree)?;
@@ -87,6 +88,8 @@ fn edit(
         "restore" => restore_line(alloc, store, taken, tree, rest),
         "retract" => retract_line(alloc, store, taken, tree, rest),
         "revert" => revert_line(alloc, ctx, store, tree, rest),
+        "shift" => shift_line(alloc, ctx, store, tree, rest),
+        "release" => release_line(alloc, store, tree, rest),
         _ => unasked(alloc, tree),
     }
 }

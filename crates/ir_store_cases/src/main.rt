@@ -5,6 +5,7 @@
 mod calls;
 mod edits;
 mod may;
+mod moves;
 mod reads;
 mod state;
 mod undone;

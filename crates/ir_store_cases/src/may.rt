@@ -139,12 +139,7 @@ fn fits_next(store: &Store, op: OpId, fresh: bool) -> bool
 }
 
 /// Whether a held operation may be put back at a place of a module.
-pub fn may_restore(
-    store: &Store,
-    op: OpId,
-    place: &Place,
-    fresh: bool,
-) -> Result<bool, AllocError>
+pub fn may_restore(store: &Store, op: OpId, place: &Place, fresh: bool) -> Result<bool, AllocError>
     ensures { IfOk result (λ b. b ≡ true → CanRestore op place.now fresh store.now) }
 {
     let tree = store.tree()?;

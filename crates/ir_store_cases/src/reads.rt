@@ -106,7 +106,9 @@ fn put_slots(out: &mut String, store: &Store, op: OpId) -> Result<(), AllocError
 fn sum_of_uses(uses: &[(OpId, usize)]) -> u64 {
     let mut sum: u64 = 0;
     for user in uses {
-        let one = u64::from(user.0.number()).wrapping_mul(256).wrapping_add(user.1 as u64);
+        let one = u64::from(user.0.number())
+            .wrapping_mul(256)
+            .wrapping_add(user.1 as u64);
         sum = sum.wrapping_add(one.wrapping_mul(one));
     }
     sum

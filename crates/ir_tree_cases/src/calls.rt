@@ -1,7 +1,7 @@
 //! The answer to a line.
 use crate::state::{State, add_attrs, add_name, add_types, renew};
-use case_trees::words::{first, number, op_id, value};
 use crate::{edits, stored};
+use case_trees::words::{first, number, op_id, value};
 use case_trees::{build, written};
 use ir_tree::check::check;
 use ir_tree::copy::copy;

@@ -23,8 +23,8 @@ returns-in-Some-clause-values c =
     let there : Some c.in-Some.node ≡ option_map node_of (known c.args.op s) = search rules in
     let k = held_known c.args.op s c.in-Some.node out there in
     λ b o f.
-      ap (λ (z : Op). list_all (λ v. has_value v s.module_of.tree) (head z).operands) (same_held o k.0 _ f k.1)
-      ∙ ap (λ (h : Head). list_all (λ v. has_value v s.module_of.tree) h.operands) (sym k.2)
-      ∙ sym (ap (list_all (λ v. has_value v s.module_of.tree)) c.operands.ensures)
-      ∙ sym c.has_values.ensures
-      ∙ b
+    ap (λ (z : Op). list_all (λ v. has_value v s.module_of.tree) (head z).operands) (same_held o k.0 _ f k.1)
+    ∙ ap (λ (h : Head). list_all (λ v. has_value v s.module_of.tree) h.operands) (sym k.2)
+    ∙ sym (ap (list_all (λ v. has_value v s.module_of.tree)) c.operands.ensures)
+    ∙ sym c.has_values.ensures
+    ∙ b

@@ -1,4 +1,4 @@
-use Rattle.std.proofs.Common.{rules, ◌≡◌, ap, ◌∙◌, Some, None, false}
+use Rattle.std.proofs.Common.{rules, ◌≡◌, Some, None, false}
 use Rattle.ir_tree.specs.Ids.{HasDistinctIds}
 use Rattle.ir_tree.specs.Places.{place_of}
 use Rattle.ir_tree_laws.specs.Reasons.{take_reason}

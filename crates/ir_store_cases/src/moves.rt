@@ -1,0 +1,70 @@
+//! Shifts, and what is held given up, each beside what the plain program makes of the tree.
+ghost use Rattle.std.specs.Prelude.{◌≡◌, true, IfOk};
+ghost use Rattle.ir_tree.specs.Meaning.{isolated_in};
+ghost use Rattle.ir_tree.specs.WellFormed.{IsWellFormed};
+
+use crate::calls::are_below;
+use crate::edits::{Told, accepted, refused, unasked};
+use case_trees::words::{first, number, op_id, place};
+use ir_store::store::Store;
+use ir_tree::changes::shifted;
+use ir_tree::check::check;
+use ir_tree::copy::copy;
+use ir_tree::numbered::distinct;
+use ir_tree::tree::TreeOp;
+use ir_types::context::Context;
+use std::alloc::{AllocError, Global};
+
+/// Whether a tree with a next free id is a well-formed module.
+fn is_formed(alloc: Global, ctx: &Context, tree: &TreeOp, next: u32) -> Result<bool, AllocError>
+    ensures { IfOk result (λ b. b ≡ true → IsWellFormed (isolated_in ctx.now) (record { tree = tree.now; next = next })) }
+{
+    if !distinct(alloc, tree)? {
+        return Ok(false);
+    }
+    if !are_below(alloc, tree, next)? {
+        return Ok(false);
+    }
+    match check(alloc, ctx, tree) {
+        Ok(()) => Ok(true),
+        Err(_) => Ok(false),
+    }
+}
+
+/// Whether a module may be asked to shift an operation: it is well-formed.
+fn may_shift(alloc: Global, ctx: &Context, store: &Store) -> Result<bool, AllocError>
+    ensures { IfOk result (λ b. b ≡ true → IsWellFormed (isolated_in ctx.now) store.now.module_of) }
+{
+    let tree = store.tree()?;
+    is_formed(alloc, ctx, &tree, store.next_id())
+}
+
+/// `3 2 0 4`: the operation, and the place that it is shifted to.
+pub fn shift_line(
+    alloc: Global,
+    ctx: &Context,
+    store: &mut Store,
+    tree: &TreeOp,
+    text: &str,
+) -> Result<Told, AllocError> {
+    let (op, at) = first(text);
+    let (op, place) = (op_id(op), place(at));
+    if !may_shift(alloc, ctx, store)? {
+        return unasked(alloc, tree);
+    }
+    match store.shift(ctx, op, place) {
+        Ok(()) => accepted(alloc, "ok", shifted(alloc, tree, op, &place)?),
+        Err(refusal) => refused(alloc, refusal, tree),
+    }
+}
+
+/// `5`: the id from which on what is held is given up.
+pub fn release_line(
+    alloc: Global,
+    store: &mut Store,
+    tree: &TreeOp,
+    text: &str,
+) -> Result<Told, AllocError> {
+    store.release(number(text));
+    accepted(alloc, "ok", copy(tree)?)
+}
