@@ -1,0 +1,1 @@
+//! Laws of journals. Each is a function that does nothing: its contract is the law.
