@@ -4,3 +4,4 @@ pub mod Trees
 pub mod Stores
 pub mod Carries
 pub mod Entered
+pub mod Undoings
