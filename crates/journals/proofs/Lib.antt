@@ -5,3 +5,5 @@ pub mod Stores
 pub mod Carries
 pub mod Entered
 pub mod Undoings
+pub mod Ended
+pub mod Noting
