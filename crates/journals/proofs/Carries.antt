@@ -30,7 +30,7 @@ pub known_same : (y : ℕ) (s u : Stored) → u.module_of ≡ s.module_of → (h
 known_same y s u e h = ⊎_elim
     (λ k. known_both y s u e k)
     (λ n. (λ i. first_of (find y (e i).tree) (finmap.get u.held y)) ∙ ap (λ q. first_of q (finmap.get u.held y)) (absent_find y s.module_of.tree n) ∙ h n
-      ∙ sym (ap (λ q. first_of q (finmap.get s.held y)) (absent_find y s.module_of.tree n)))
+    ∙ sym (ap (λ q. first_of q (finmap.get s.held y)) (absent_find y s.module_of.tree n)))
     (cases_Bool (has_id y s.module_of.tree))
 
 -- what is the same is carried
@@ -49,7 +49,7 @@ carries_taken n x s u s' u' t v e c = record {
   module_of = e;
   held = λ y lt k o f. ⊎_elim
       (λ same. (let one : Some t.here ≡ Some o = sym t.now ∙ ap (finmap.get s'.held) (sym same) ∙ f in
-        ap (finmap.get u'.held) same ∙ v.now ∙ (sym v.found ∙ ap (λ (m : Numbered). find x m.tree) c.module_of ∙ t.found) ∙ one))
+      ap (finmap.get u'.held) same ∙ v.now ∙ (sym v.found ∙ ap (λ (m : Numbered). find x m.tree) c.module_of ∙ t.found) ∙ one))
       (λ other. v.others y other ∙ c.held y lt (taken_back x s s' t y other k) o (sym (t.others y other) ∙ f))
       (cases_eq y x);
   gone = λ y lt k. ap (λ m. is_some (finmap.get m y)) v.gone ∙ c.gone y lt (sym (ap (λ m. is_some (finmap.get m y)) t.gone) ∙ k);

@@ -228,10 +228,10 @@ module _ (before : ℕ → ℕ → Bool) (x : ℕ) (part : Part) (k : ℕ) (a ol
   key h = ⊎_elim
       (λ i. or_left (has_entry x part k w) _ (entry_same x part k w s (back x part) ∙ i))
       (λ i. ⊎_elim
-        (λ none. or_right (has_entry x part k w) _ (stands_here before x part k old t part k ∙ ap (λ b. stands part k (option_map (change_gone part (gone_after k b)) (finmap.get t.gone x))) none
-          ∙ now_stands part k (finmap.get t.gone x) (gone_some before x part k a s x ∙ stands_some part k (finmap.get s.gone x) i)))
-        (λ there. or_left (has_entry x part k w) _ (entry_same x part k w s (back x part) ∙ entry_before before x part k a s o f k ∙ there))
-        was)
+      (λ none. or_right (has_entry x part k w) _ (stands_here before x part k old t part k ∙ ap (λ b. stands part k (option_map (change_gone part (gone_after k b)) (finmap.get t.gone x))) none
+      ∙ now_stands part k (finmap.get t.gone x) (gone_some before x part k a s x ∙ stands_some part k (finmap.get s.gone x) i)))
+      (λ there. or_left (has_entry x part k w) _ (entry_same x part k w s (back x part) ∙ entry_before before x part k a s o f k ∙ there))
+      was)
       (either (has_entry x part k s) _ h)
 
   kept : (y : ℕ) (p : Part) (l : ℕ) → has_slot y p l s ≡ true → has_slot y p l w ≡ true

@@ -48,9 +48,9 @@ has_put before k a [] = or_left (eqb k k) false (eq-eqb k k refl)
 has_put before k a (e ∷ es) = ⊎_elim
     (λ y. ap (λ b. has_key k (cond b ((k, a) ∷ e ∷ es) (cond (before e.0 k) (e ∷ put_entry before k a es) ((k, a) ∷ es)))) y ∙ or_left (eqb k k) _ (eq-eqb k k refl))
     (λ n. ap (λ b. has_key k (cond b ((k, a) ∷ e ∷ es) (cond (before e.0 k) (e ∷ put_entry before k a es) ((k, a) ∷ es)))) n ∙ ⊎_elim
-      (λ y. ap (λ b. has_key k (cond b (e ∷ put_entry before k a es) ((k, a) ∷ es))) y ∙ or_right (eqb e.0 k) _ (has_put before k a es))
-      (λ m. ap (λ b. has_key k (cond b (e ∷ put_entry before k a es) ((k, a) ∷ es))) m ∙ or_left (eqb k k) _ (eq-eqb k k refl))
-      (cases_Bool (before e.0 k)))
+    (λ y. ap (λ b. has_key k (cond b (e ∷ put_entry before k a es) ((k, a) ∷ es))) y ∙ or_right (eqb e.0 k) _ (has_put before k a es))
+    (λ m. ap (λ b. has_key k (cond b (e ∷ put_entry before k a es) ((k, a) ∷ es))) m ∙ or_left (eqb k k) _ (eq-eqb k k refl))
+    (cases_Bool (before e.0 k)))
     (cases_Bool (before k e.0))
 
 module _ (c : Things) (sound : IsSound c) (k : ℕ) (key : IsName c k) where
@@ -65,20 +65,20 @@ module _ (c : Things) (sound : IsSound c) (k : ℕ) (key : IsName c k) where
   put_keeps a l (e ∷ es) all h = ⊎_elim
       (λ y. ap (λ b. has_key l (cond b ((k, a) ∷ e ∷ es) (cond (key_before_in c e.0 k) (e ∷ put_entry (key_before_in c) k a es) ((k, a) ∷ es)))) y ∙ or_right (eqb k l) _ h)
       (λ n. ap (λ b. has_key l (cond b ((k, a) ∷ e ∷ es) (cond (key_before_in c e.0 k) (e ∷ put_entry (key_before_in c) k a es) ((k, a) ∷ es)))) n ∙ ⊎_elim
-        (λ y. ap (λ b. has_key l (cond b (e ∷ put_entry (key_before_in c) k a es) ((k, a) ∷ es))) y
-          ∙ ⊎_elim (λ p. or_left (eqb e.0 l) _ p) (λ q. or_right (eqb e.0 l) _ (put_keeps a l es all.1 q)) (either (eqb e.0 l) (has_key l es) h))
-        (λ m. ap (λ b. has_key l (cond b (e ∷ put_entry (key_before_in c) k a es) ((k, a) ∷ es))) m ∙ ap (λ z. eqb z l || has_key l es) (same_is e.0 all.0.0 n m) ∙ h)
-        (cases_Bool (key_before_in c e.0 k)))
+      (λ y. ap (λ b. has_key l (cond b (e ∷ put_entry (key_before_in c) k a es) ((k, a) ∷ es))) y
+      ∙ ⊎_elim (λ p. or_left (eqb e.0 l) _ p) (λ q. or_right (eqb e.0 l) _ (put_keeps a l es all.1 q)) (either (eqb e.0 l) (has_key l es) h))
+      (λ m. ap (λ b. has_key l (cond b (e ∷ put_entry (key_before_in c) k a es) ((k, a) ∷ es))) m ∙ ap (λ z. eqb z l || has_key l es) (same_is e.0 all.0.0 n m) ∙ h)
+      (cases_Bool (key_before_in c e.0 k)))
       (cases_Bool (key_before_in c k e.0))
 
   drop_keeps : (l : ℕ) → (l ≡ k → ⊥) → (es : List (ℕ × ℕ)) → AllByRecursion Known es → has_key l es ≡ true → has_key l (drop_entry (key_before_in c) k es) ≡ true
   drop_keeps l other [] all h = absurd (true≢false (sym h))
   drop_keeps l other (e ∷ es) all h = ⊎_elim
       (λ y. ap (λ b. has_key l (cond b es (e ∷ drop_entry (key_before_in c) k es))) y ∙ (let t = neither_test (key_before_in c k e.0) (key_before_in c e.0 k) y in
-        let one : k ≡ e.0 = same_is e.0 all.0.0 t.0 t.1 in
-        ⊎_elim (λ p. absurd (other (sym (eqb-true e.0 l p) ∙ sym one))) (λ q. q) (either (eqb e.0 l) (has_key l es) h)))
+      let one : k ≡ e.0 = same_is e.0 all.0.0 t.0 t.1 in
+      ⊎_elim (λ p. absurd (other (sym (eqb-true e.0 l p) ∙ sym one))) (λ q. q) (either (eqb e.0 l) (has_key l es) h)))
       (λ n. ap (λ b. has_key l (cond b es (e ∷ drop_entry (key_before_in c) k es))) n
-        ∙ ⊎_elim (λ p. or_left (eqb e.0 l) _ p) (λ q. or_right (eqb e.0 l) _ (drop_keeps l other es all.1 q)) (either (eqb e.0 l) (has_key l es) h))
+      ∙ ⊎_elim (λ p. or_left (eqb e.0 l) _ p) (λ q. or_right (eqb e.0 l) _ (drop_keeps l other es all.1 q)) (either (eqb e.0 l) (has_key l es) h))
       (cases_Bool (same_key (key_before_in c) k e.0))
 
   change_keeps : (a : Option ℕ) (l : ℕ) → (l ≡ k → ⊥) → (es : List (ℕ × ℕ)) → AllByRecursion Known es → has_key l es ≡ true → has_key l (change_entry (key_before_in c) k a es) ≡ true

@@ -7,3 +7,6 @@ pub mod Entered
 pub mod Undoings
 pub mod Ended
 pub mod Noting
+pub mod Grown
+pub mod Released
+pub mod Kept

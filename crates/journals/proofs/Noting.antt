@@ -40,7 +40,7 @@ use Rattle.journals.proofs.Entered.{carries_reverted, slot_after}
 use Rattle.journals.proofs.Undoings.{entry_there, retract_of}
 use Rattle.journals.proofs.Ended.{noted_from}
 
-attr_is : (c : Things) (a : Option ℕ) → IsAttrOrNone c a → (b : ℕ) → a ≡ Some b → is_attr c b ≡ true
+pub attr_is : (c : Things) (a : Option ℕ) → IsAttrOrNone c a → (b : ℕ) → a ≡ Some b → is_attr c b ≡ true
 attr_is c None h b e = absurd cc
 attr_is c (Some a) h b e = (let one : a ≡ b = cc in subst (λ d. is_attr c d ≡ true) one (lt-ltb a (length c.attrs) h))
 
