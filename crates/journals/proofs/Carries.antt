@@ -1,17 +1,15 @@
 -- Stores that hold all that another one does, as far as undoing goes.
-use Rattle.std.proofs.Common.{◌≡◌, refl, ap, sym, ◌∙◌, subst, ℕ, ◌<◌, ◌≤◌, Bool, true, false, true≢false, cond, eqb, ◌||◌, ⊎_elim, Option, Some, None, List, arith}
+use Rattle.std.proofs.Common.{◌≡◌, ap, sym, ◌∙◌, ℕ, ◌<◌, true, false, true≢false, ⊎_elim, Some}
 use Rattle.std.proofs.lemmas.Bool.{cases_Bool, cases_eq}
 use Rattle.std.specs.Prelude.{option_map, is_some}
-use Rattle.std.specs.Ordering.{nat_cmp}
 use Rattle.std.specs.FinMap as finmap
 use Rattle.ir_tree.specs.declared.place.Part.{Part}
-use Rattle.ir_tree.specs.Tree.{Head, Op, head}
+use Rattle.ir_tree.specs.Tree.{Op}
 use Rattle.ir_tree.specs.Ids.{find, first_of, has_id}
 use Rattle.ir_tree.specs.WellFormed.{Module as Numbered}
 use Rattle.ir_tree_laws.proofs.Around.{absent_find}
-use Rattle.ir_event.proofs.Shown.{known_there, none_found}
+use Rattle.ir_event.proofs.Shown.{known_there}
 use Rattle.ir_store.specs.Stored.{Stored, has_slot, known}
-use Rattle.journals.proofs.Trees.{found_op}
 use Rattle.journals.proofs.Stores.{IsTaken, dictionary, dictionary_seen, slot_same, taken_back, taken_on, taken_seen, taken_there}
 
 -- of what has an id below n, u holds what s does outside the module, and has each slot that s has

@@ -1,6 +1,6 @@
 -- Slots where an operand or an entry is set.
-use Rattle.std.proofs.Common.{◌≡◌, refl, ap, sym, ◌∙◌, subst, ℕ, ◌<◌, Bool, true, false, true≢false, cond, eqb, ◌||◌, ⊎_elim, ◌⊎◌, inl, inr, Option, Some, None, List}
-use Rattle.std.proofs.lemmas.Bool.{cases_Bool, cases_eq, eq-eqb, ne_eqb}
+use Rattle.std.proofs.Common.{◌≡◌, refl, ap, sym, ◌∙◌, subst, ℕ, ◌<◌, Bool, true, false, true≢false, cond, eqb, ⊎_elim, ◌⊎◌, inl, inr, Option, Some, None, List}
+use Rattle.std.proofs.lemmas.Bool.{cases_eq, eq-eqb, ne_eqb}
 use Rattle.std.specs.Prelude.{option_map, is_some}
 use Rattle.std.specs.List.{list_any}
 use Rattle.std.specs.FinMap as finmap
@@ -18,13 +18,13 @@ use Rattle.ir_tree.proofs.Heads.{Alike, alike_entry, alike_operand, head_find, h
 use Rattle.ir_tree_laws.proofs.Listed.{either, or_left, or_right}
 use Rattle.ir_event.proofs.Sounds.{found_sound}
 use Rattle.entries.specs.Slots.{gone_after, has_key}
-use Rattle.ir_store.specs.Stored.{Gone, Stored, change_gone, has_entry, has_slot, is_some_with, known, stands}
-use Rattle.ir_store.specs.Calls.{after_entry, after_operand, with_tree}
+use Rattle.ir_store.specs.Stored.{Gone, Stored, change_gone, has_entry, has_slot, is_some_with, stands}
+use Rattle.ir_store.specs.Calls.{after_entry, after_operand}
 use Rattle.journals.proofs.Maps.{gone_here, gone_other, mapped_is}
 use Rattle.journals.proofs.Keys.{after_none, after_other, has_put, part_keeps}
-use Rattle.journals.proofs.Trees.{found_id, found_present}
+use Rattle.journals.proofs.Trees.{found_id}
 use Rattle.journals.proofs.Stores.{dictionary, entry_same, slot_like}
-use Rattle.journals.proofs.Carries.{Carries, known_both}
+use Rattle.journals.proofs.Carries.{Carries}
 
 head_each : (f : Head → Head) (o : Op) → head (each_head f o) ≡ f (head o)
 head_each f (op h rs) = refl

@@ -1,17 +1,14 @@
 -- Journals in a context that has more.
-use Rattle.std.proofs.Common.{◌≡◌, refl, ap, sym, ◌∙◌, subst, ℕ, ◌<◌, Bool, true, List, [], ◌∷◌, length, drop, Option, Some, None}
+use Rattle.std.proofs.Common.{◌≡◌, refl, ap, sym, ◌∙◌, subst, ℕ, List, [], ◌∷◌, length, Option, Some, None}
 use Rattle.std.proofs.lemmas.Bool.{lt-ltb}
 use Rattle.std.specs.Prelude.{option_map}
-use Rattle.std.specs.FinMap as finmap
-use Rattle.ir_types.specs.Things.{Things, Grows, IsName}
+use Rattle.ir_types.specs.Things.{Things, Grows}
 use Rattle.ir_types.specs.Sound.{IsSound}
 use Rattle.ir_types.specs.Terms.{name_term, type_term, attr_term}
 use Rattle.ir_types.proofs.Terms.{attr_stays, name_stays}
 use Rattle.ir_tree.specs.declared.place.Part.{Part}
-use Rattle.ir_tree.specs.Tree.{Op}
-use Rattle.ir_tree.specs.Ids.{find}
 use Rattle.ir_tree.specs.Edits.{with_entry}
-use Rattle.ir_tree.specs.Meaning.{IsSoundIn, is_attr, key_before, key_before_in, meaning}
+use Rattle.ir_tree.specs.Meaning.{IsSoundIn, key_before, key_before_in}
 use Rattle.ir_tree.proofs.MappedEdits.{map_with_entry}
 use Rattle.ir_tree.proofs.Meanings.{apart, stable, stays_sound}
 use Rattle.ir_tree.proofs.SoundEdits.{entry_sound}
@@ -25,7 +22,7 @@ use Rattle.ir_event.proofs.Growing.{formed_stays, held_stays, module_stays}
 use Rattle.ir_event.proofs.Steps.{step_stays}
 use Rattle.world_edits.specs.Undoing.{CameFrom, Keeps, undone}
 use Rattle.journals.specs.Journals.{IsJournal, IsStoreOf, before, undone_all}
-use Rattle.journals.proofs.Ended.{journal_drop, store_behind}
+use Rattle.journals.proofs.Ended.{store_behind}
 use Rattle.journals.proofs.Noting.{attr_is}
 
 module _ (c d : Things) (g : Grows c d) (rich : IsSound d) where

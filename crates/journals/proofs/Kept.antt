@@ -1,6 +1,6 @@
 -- Edits that leave a store tidy, and with a list of gone keys for each operation.
-use Rattle.std.proofs.Common.{◌≡◌, refl, ap, sym, ◌∙◌, subst, ℕ, ◌+◌, ◌<◌, ◌≤◌, Bool, true, false, true≢false, cond, eqb, ⊎_elim, Option, Some, None, arith}
-use Rattle.std.proofs.lemmas.Bool.{cases_Bool, cases_eq, cond-false, cond-true}
+use Rattle.std.proofs.Common.{◌≡◌, refl, ap, sym, ◌∙◌, subst, ℕ, Bool, true, false, true≢false, ⊎_elim, Option, Some, None, arith}
+use Rattle.std.proofs.lemmas.Bool.{cases_Bool, cases_eq, cond-true}
 use Rattle.std.specs.Prelude.{option_map, is_some}
 use Rattle.std.specs.Ordering.{nat_cmp}
 use Rattle.std.specs.FinMap as finmap
@@ -8,11 +8,11 @@ use Rattle.ir_types.specs.Things.{Things}
 use Rattle.ir_tree.specs.declared.value.Value.{Value}
 use Rattle.ir_tree.specs.declared.place.Place.{Place}
 use Rattle.ir_tree.specs.declared.place.Part.{Part}
-use Rattle.ir_tree.specs.Tree.{Head, Op, head}
+use Rattle.ir_tree.specs.Tree.{Head, Op}
 use Rattle.ir_tree.specs.Ids.{find, first_of, has_id}
 use Rattle.ir_tree.specs.Edits.{at, change_entry, change_part, each_head, put_operand}
-use Rattle.ir_tree.specs.Meaning.{IsSoundIn, isolated_in, key_before_in}
-use Rattle.ir_tree.specs.WellFormed.{IsWellFormed, Module as Numbered}
+use Rattle.ir_tree.specs.Meaning.{IsSoundIn, key_before_in}
+use Rattle.ir_tree.specs.WellFormed.{IsWellFormed}
 use Rattle.ir_tree.proofs.Heads.{Alike, alike_entry, alike_operand, head_find}
 use Rattle.ir_tree.proofs.SoundEdits.{put_sound}
 use Rattle.ir_tree_laws.specs.Reasons.{with_id}
@@ -23,7 +23,6 @@ use Rattle.ir_event.specs.declared.event.Event.{Event}
 use Rattle.ir_event.specs.declared.event.Event.TheVariants.{Put, Take, SetOperand, SetEntry, Shift}
 use Rattle.ir_event.specs.Modules.{Module, module_meaning}
 use Rattle.ir_event.specs.Step.{Step}
-use Rattle.ir_event.proofs.Shown.{known_there, none_found}
 use Rattle.ir_event.proofs.Sounds.{renamed_sound, shifted_sound}
 use Rattle.ir_event.proofs.Steps.{formed_numbers}
 use Rattle.ir_step_laws.proofs.Undone.{relink_undone}

@@ -1,9 +1,9 @@
 -- Each edit is noted.
-use Rattle.std.proofs.Common.{◌≡◌, refl, ap, sym, ◌∙◌, subst, ℕ, ◌+◌, ◌<◌, Bool, true, false, true≢false, eqb, List, [], ◌∷◌, length, ◌⊎◌, inl, inr, Option, Some, None, arith}
+use Rattle.std.proofs.Common.{◌≡◌, refl, ap, sym, ◌∙◌, subst, ℕ, Bool, true, false, true≢false, List, length, ◌⊎◌, inl, inr, Option, Some, None, arith}
 use Rattle.std.proofs.lemmas.Bool.{lt-ltb}
 use Rattle.std.specs.Prelude.{option_map, is_some}
 use Rattle.std.specs.FinMap as finmap
-use Rattle.ir_types.specs.Things.{Things, IsName, IsAttr}
+use Rattle.ir_types.specs.Things.{Things}
 use Rattle.ir_types.specs.Terms.{name_term, type_term, attr_term}
 use Rattle.ir_types.specs.declared.refusal.Refusal.TheVariants.{NoSuchKey}
 use Rattle.ir_tree.specs.declared.value.Value.{Value}
@@ -16,10 +16,9 @@ use Rattle.ir_tree.specs.Meaning.{IsSoundIn, is_attr, key_before, key_before_in,
 use Rattle.ir_tree.proofs.Mapped.{map_find}
 use Rattle.ir_tree.proofs.SoundEdits.{entry_sound, operand_sound, put_sound, without_sound}
 use Rattle.ir_tree_laws.specs.Reasons.{entry_reason, found_entry_reason, set_entry_reason, unless, with_id}
-use Rattle.ir_tree_laws.specs.Changes.{entry_in}
 use Rattle.ir_tree_laws.proofs.Contents.{map_entry_in}
 use Rattle.entries.specs.Slots.{has_key}
-use Rattle.ir_store.specs.Stored.{Stored, known, none_gone}
+use Rattle.ir_store.specs.Stored.{Stored, none_gone}
 use Rattle.ir_store.specs.Calls.{after_entry, after_operand, after_put, after_shift, after_take, hold}
 use Rattle.ir_event.specs.declared.event.Event.{Event}
 use Rattle.ir_event.specs.declared.event.Event.TheVariants.{Put, Take, SetOperand, SetEntry, Shift}
@@ -29,13 +28,13 @@ use Rattle.ir_event.proofs.Shown.{known_there}
 use Rattle.ir_event.proofs.Sounds.{found_sound, renamed_sound, shifted_sound}
 use Rattle.ir_event.proofs.Steps.{formed_numbers}
 use Rattle.world_edits.specs.Edits.{IsEntryStep, IsPutStep, IsShiftStep, IsTakeStep}
-use Rattle.world_edits.specs.Undoing.{CameFrom, undone}
+use Rattle.world_edits.specs.Undoing.{undone}
 use Rattle.world_edits.proofs.Taking.{held_now, hold_sound}
 use Rattle.journals.specs.Journals.{IsJournal, IsSlotted, IsStoreOf, Noted}
 use Rattle.journals.proofs.Maps.{cut_other, hold_other, mapped_is, set_other}
 use Rattle.journals.proofs.Keys.{part_key}
 use Rattle.journals.proofs.Trees.{found_op, found_present}
-use Rattle.journals.proofs.Carries.{Carries, carries_same}
+use Rattle.journals.proofs.Carries.{carries_same}
 use Rattle.journals.proofs.Entered.{carries_reverted, slot_after}
 use Rattle.journals.proofs.Undoings.{entry_there, retract_of}
 use Rattle.journals.proofs.Ended.{noted_from}

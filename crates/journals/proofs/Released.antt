@@ -1,8 +1,7 @@
 -- Journals where what is held is given up.
-use Rattle.std.proofs.Common.{◌≡◌, refl, ap, sym, ◌∙◌, subst, ℕ, ◌<◌, ◌≤◌, Bool, true, false, true≢false, cond, eqb, ⊎_elim, List, Option, Some, None, arith}
+use Rattle.std.proofs.Common.{◌≡◌, refl, ap, sym, ◌∙◌, subst, ℕ, ◌<◌, ◌≤◌, true, false, true≢false, cond, eqb, ⊎_elim, List, Option, Some, None, arith}
 use Rattle.std.proofs.lemmas.Bool.{cases_Bool, cond-false, cond-true, le-ltb, lt-ltb, ne_eqb}
 use Rattle.std.specs.Prelude.{nat_lt, is_some}
-use Rattle.std.specs.Ordering.{nat_cmp}
 use Rattle.std.specs.FinMap as finmap
 use Rattle.ir_types.specs.Things.{Things}
 use Rattle.ir_tree.specs.Tree.{Op}
@@ -10,7 +9,7 @@ use Rattle.ir_tree.specs.Ids.{find, first_of, has_id}
 use Rattle.ir_tree.specs.Meaning.{IsSoundIn, isolated_in}
 use Rattle.ir_tree.specs.WellFormed.{IsWellFormed, Module as Numbered}
 use Rattle.ir_tree_laws.proofs.Around.{absent_find}
-use Rattle.ir_store.specs.Stored.{Gone, Stored, known}
+use Rattle.ir_store.specs.Stored.{Gone, Stored}
 use Rattle.ir_store.specs.Calls.{Releases, gone_left}
 use Rattle.ir_event.specs.declared.event.Event.{Event}
 use Rattle.journals.specs.Journals.{IsJournal, IsSlotted, IsStoreOf, IsTidy, before}

@@ -1,8 +1,7 @@
 -- What a store knows of its operations, and which slots it has.
-use Rattle.std.proofs.Common.{◌≡◌, refl, ap, sym, ◌∙◌, subst, ℕ, Bool, true, false, true≢false, cond, eqb, ◌||◌, ⊎_elim, Option, Some, None, List}
-use Rattle.std.proofs.lemmas.Bool.{cases_Bool, cases_eq}
+use Rattle.std.proofs.Common.{◌≡◌, refl, ap, sym, ◌∙◌, ℕ, true, false, true≢false, eqb, ◌||◌, ⊎_elim, Option, Some, None, List}
+use Rattle.std.proofs.lemmas.Bool.{cases_eq}
 use Rattle.std.specs.Prelude.{option_map, is_some}
-use Rattle.std.specs.Ordering.{nat_cmp}
 use Rattle.std.specs.FinMap as finmap
 use Rattle.ir_tree.specs.declared.place.Part.{Part}
 use Rattle.ir_tree.specs.Tree.{Head, Op, head, regions}
@@ -13,9 +12,8 @@ use Rattle.ir_tree.proofs.Left.{gone}
 use Rattle.ir_tree_laws.specs.Reasons.{hold_none}
 use Rattle.ir_tree_laws.proofs.Around.{absent_find}
 use Rattle.ir_tree_laws.proofs.Readings.{option_first}
-use Rattle.ir_event.proofs.Shown.{none_found}
 use Rattle.entries.specs.Slots.{has_key}
-use Rattle.ir_store.specs.Stored.{Gone, Stored, gone_of, has_entry, has_slot, is_some_with, known, stands}
+use Rattle.ir_store.specs.Stored.{Stored, has_entry, has_slot, is_some_with, known, stands}
 use Rattle.journals.specs.Journals.{IsSlotted}
 use Rattle.journals.proofs.Trees.{absent_too, found_present, taken_head}
 

@@ -1,9 +1,8 @@
 -- What taking an operation, or shifting it, leaves of what the operations of a tree have.
-use Rattle.std.proofs.Common.{◌≡◌, refl, ap, sym, ◌∙◌, subst, ℕ, Bool, true, false, true≢false, cond, eqb, ⊎_elim, List, [], ◌∷◌, ◌++◌, Option, Some, None}
+use Rattle.std.proofs.Common.{◌≡◌, refl, ap, sym, ◌∙◌, subst, ℕ, Bool, true, false, true≢false, cond, eqb, ⊎_elim, List, [], ◌++◌, Option, Some, None}
 use Rattle.std.proofs.lemmas.Bool.{cases_Bool, ne_eqb}
 use Rattle.std.specs.Prelude.{option_map}
 use Rattle.std.specs.List.{list_any}
-use Rattle.ir_tree.specs.declared.place.Place.{Place}
 use Rattle.ir_tree.specs.Tree.{OpOf, op, RegionsOf, no_regions, region, empty, block, no_ops, next, head, regions}
 use Rattle.ir_tree.specs.Ids.{HasDistinctIds, ids, has_id, find, regions_find, first_of}
 use Rattle.ir_tree.specs.Places.{without}

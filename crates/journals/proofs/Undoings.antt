@@ -1,8 +1,7 @@
 -- Undoing an event in two stores of which one carries what the other holds.
 use Rattle.std.proofs.Common.{◌≡◌, refl, ap, sym, ◌∙◌, subst, ℕ, ◌<◌, ◌≤◌, Bool, true, false, true≢false, eqb, List, [], ◌+◌, Option, Some, None, arith}
-use Rattle.std.specs.Prelude.{option_map, is_some}
+use Rattle.std.specs.Prelude.{option_map}
 use Rattle.std.specs.List.{All, list_any}
-use Rattle.std.specs.Ordering.{nat_cmp}
 use Rattle.std.specs.FinMap as finmap
 use Rattle.ir_types.specs.Things.{Things}
 use Rattle.ir_types.specs.Terms.{name_term, type_term, attr_term}
@@ -11,9 +10,9 @@ use Rattle.ir_tree.specs.declared.place.Part.{Part}
 use Rattle.ir_tree.specs.Tree.{Head, Op, OpOf, head}
 use Rattle.ir_tree.specs.Ids.{HasDistinctIds, find, has_id, ids}
 use Rattle.ir_tree.specs.Edits.{at, put_operand}
-use Rattle.ir_tree.specs.Meaning.{isolated_in, key_before, key_before_in, meaning}
+use Rattle.ir_tree.specs.Meaning.{key_before, meaning}
 use Rattle.ir_tree.specs.Places.{put, put_here, shifted, without}
-use Rattle.ir_tree.specs.WellFormed.{IsWellFormed, Module as Numbered}
+use Rattle.ir_tree.specs.WellFormed.{Module as Numbered}
 use Rattle.ir_tree.proofs.Heads.{alike_operand, head_ids}
 use Rattle.ir_tree.proofs.Mapped.{map_find}
 use Rattle.ir_tree.proofs.MappedEdits.{map_without}
@@ -30,7 +29,7 @@ use Rattle.ir_tree_laws.proofs.Formed.{ids_below}
 use Rattle.ir_tree_laws.proofs.Shift.{is_put, shift_distinct, shift_found, shift_rest}
 use Rattle.ir_tree_laws.proofs.Without.{same_head}
 use Rattle.ir_store.specs.Shifting.{CanRelink}
-use Rattle.ir_store.specs.Stored.{Stored, has_slot}
+use Rattle.ir_store.specs.Stored.{Stored}
 use Rattle.ir_store.specs.Calls.{after_operand, after_shift, hold}
 use Rattle.ir_event.specs.declared.event.Event.{Event}
 use Rattle.ir_event.specs.declared.event.Event.TheVariants.{Put, Take, SetOperand, SetEntry, Shift}
@@ -44,7 +43,7 @@ use Rattle.world_edits.proofs.Undoing.{led_back, undone_formed, undone_held, und
 use Rattle.journals.specs.Journals.{IsForward, IsStoreOf}
 use Rattle.journals.proofs.Maps.{cut_other, hold_other}
 use Rattle.journals.proofs.Trees.{absent_too, found_op, found_present, moved_head}
-use Rattle.journals.proofs.Stores.{IsTaken, dictionary_seen, seen, seen_same, taken_gone, taken_there}
+use Rattle.journals.proofs.Stores.{IsTaken, dictionary_seen, seen_same, taken_gone, taken_there}
 use Rattle.journals.proofs.Carries.{Carries, carries_edited, carries_restored, carries_taken}
 use Rattle.journals.proofs.Entered.{carries_entry, operand_dictionary}
 

@@ -1,5 +1,5 @@
 -- Journals: the events that led to what a store holds, so that each can be undone in its turn.
-use Rattle.std.specs.Prelude.{◌≡◌, ℕ, ◌≤◌, Bool, true, false, List, [], ◌∷◌, ◌++◌, length, drop, None, is_some}
+use Rattle.std.specs.Prelude.{◌≡◌, ℕ, ◌≤◌, true, false, List, [], ◌∷◌, ◌++◌, length, drop, None, is_some}
 use Rattle.std.specs.FinMap as map
 use Rattle.ir_types.specs.Things.{Things}
 use Rattle.ir_types.specs.Sound.{IsSound}
