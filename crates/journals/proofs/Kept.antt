@@ -1,6 +1,6 @@
 -- Edits that leave a store tidy, and with a list of gone keys for each operation.
 use Rattle.std.proofs.Common.{◌≡◌, refl, ap, sym, ◌∙◌, subst, ℕ, Bool, true, false, true≢false, ⊎_elim, Option, Some, None, arith}
-use Rattle.std.proofs.lemmas.Bool.{cases_Bool, cases_eq, cond-true}
+use Rattle.std.proofs.lemmas.Bool.{ne_eqb, cases_Bool, cases_eq, cond-true}
 use Rattle.std.specs.Prelude.{option_map, is_some}
 use Rattle.std.specs.Ordering.{nat_cmp}
 use Rattle.std.specs.FinMap as finmap
@@ -8,34 +8,31 @@ use Rattle.ir_types.specs.Things.{Things}
 use Rattle.ir_tree.specs.declared.value.Value.{Value}
 use Rattle.ir_tree.specs.declared.place.Place.{Place}
 use Rattle.ir_tree.specs.declared.place.Part.{Part}
-use Rattle.ir_tree.specs.Tree.{Head, Op}
+use Rattle.ir_tree.specs.Tree.{Head, Op, op, regions}
 use Rattle.ir_tree.specs.Ids.{find, first_of, has_id}
 use Rattle.ir_tree.specs.Edits.{at, change_entry, change_part, each_head, put_operand}
-use Rattle.ir_tree.specs.Meaning.{IsSoundIn, key_before_in}
+use Rattle.ir_tree.specs.Meaning.{key_before_in}
+use Rattle.ir_tree.specs.Places.{put_found, without}
 use Rattle.ir_tree.specs.WellFormed.{IsWellFormed}
+use Rattle.ir_tree.proofs.Gained.{gained_ids}
+use Rattle.ir_tree.proofs.Left.{left_ids}
 use Rattle.ir_tree.proofs.Heads.{Alike, alike_entry, alike_operand, head_find}
-use Rattle.ir_tree.proofs.SoundEdits.{put_sound}
-use Rattle.ir_tree_laws.specs.Reasons.{with_id}
+use Rattle.ir_tree_laws.specs.Reasons.{hold_none, with_id}
 use Rattle.ir_tree_laws.proofs.Around.{absent_find}
 use Rattle.ir_store.specs.Stored.{Stored, known, none_gone}
 use Rattle.ir_store.specs.Calls.{Loaded, after_entry, after_operand, after_put, after_shift, after_take, hold}
 use Rattle.ir_event.specs.declared.event.Event.{Event}
 use Rattle.ir_event.specs.declared.event.Event.TheVariants.{Put, Take, SetOperand, SetEntry, Shift}
-use Rattle.ir_event.specs.Modules.{Module, module_meaning}
-use Rattle.ir_event.specs.Step.{Step}
-use Rattle.ir_event.proofs.Sounds.{renamed_sound, shifted_sound}
-use Rattle.ir_event.proofs.Steps.{formed_numbers}
-use Rattle.ir_step_laws.proofs.Undone.{relink_undone}
-use Rattle.world_edits.specs.Edits.{IsPutStep, IsShiftStep, IsTakeStep}
+use Rattle.ir_event.proofs.Shown.{known_there, none_found}
+use Rattle.ir_event.specs.Modules.{Module}
 use Rattle.world_edits.specs.Undoing.{CameFrom, undone}
 use Rattle.world_edits.proofs.Undoing.{led_back}
 use Rattle.journals.specs.Journals.{IsSlotted, IsStoreOf, IsTidy}
-use Rattle.journals.proofs.Maps.{hold_other, set_here, set_other}
-use Rattle.journals.proofs.Trees.{found_present}
-use Rattle.journals.proofs.Stores.{IsTaken, known_seen, seen_same, slotted_same, taken_seen}
-use Rattle.journals.proofs.Carries.{known_same}
+use Rattle.journals.proofs.Maps.{set_here, set_other}
+use Rattle.journals.proofs.Trees.{bare, found_op, found_present, present_inside}
+use Rattle.journals.proofs.Stores.{known_seen, slotted_same, taken_seen}
 use Rattle.journals.proofs.Entered.{gone_some}
-use Rattle.journals.proofs.Undoings.{present_below, put_taken, retract_of, same_module, shifted_heads, store_undone, take_taken, taken_from}
+use Rattle.journals.proofs.Undoings.{present_below, take_taken}
 
 -- nothing is held under ids that are still to be given out
 pub tidy_put : (place : Place) (o : Op) (s : Stored) → IsTidy s → IsTidy (after_put place o s)
@@ -75,85 +72,60 @@ slotted_entry before x part k a s =
     (λ y i. sym (known_each (at x (change_part part (change_entry before k a))) (alike_entry before x part k a) y s (after_entry before x part k a s) refl refl) ∙ i)
     (λ y i. gone_some before x part k a s y ∙ i)
 
-module _ (c : Things) where
-  shift_known : (x : ℕ) (old new : Place) (p : Module) (s : Stored) → IsStoreOf c s → CameFrom c (Shift x old new) p s → (y : ℕ) → is_some (known y s) ≡ is_some (known y (after_shift x old s))
-  shift_known x old new p s w f y = known_seen y (after_shift x old s) s (seen_same y (after_shift x old s) s (shifted_heads x old s.module_of.tree w.formed.distinct (relink_undone c x old new p s.module_of f.step) y) refl)
+-- an operation that is held, or of the module, is known
+held_known : (y : ℕ) (s : Stored) (o : Op) → finmap.get s.held y ≡ Some o → is_some (known y s) ≡ true
+held_known y s o e = go (find y s.module_of.tree)
+  where
+    go : (q : Option Op) → is_some (first_of q (finmap.get s.held y)) ≡ true
+    go None = ap is_some e
+    go (Some b) = refl
 
-  pub slotted_undone : (e : Event) (p : Module) (s : Stored) → IsStoreOf c s → CameFrom c e p s → IsSlotted s → IsSlotted (undone c e s)
-  slotted_undone (Put x place fresh) p s w f =
-      let t = undone c (Put x place fresh) s in
-      slotted_same s t (λ y i. sym (known_seen y s t (taken_seen x s t (put_taken c x place fresh p s w f) y)) ∙ i) (λ y i. i)
-  slotted_undone (Take x place fresh) p s w f =
-      let t = undone c (Take x place fresh) s in
-      slotted_same s t (λ y i. known_seen y t s (taken_seen x t s (take_taken c x place fresh s w (subst (λ q. CameFrom c (Take x place fresh) q s) (sym (led_back c s (Take x place fresh) p f)) f)) y) ∙ i) (λ y i. i)
-  slotted_undone (SetOperand x k old new) p s w f = slotted_operand x k old s
-  slotted_undone (SetEntry x part k old new) p s w f = slotted_entry (key_before_in c) x part k old s
-  slotted_undone (Shift x old new) p s w f = slotted_same s (after_shift x old s) (λ y i. shift_known x old new p s w f y ∙ i) (λ y i. i)
+there_known : (y : ℕ) (s : Stored) → has_id y s.module_of.tree ≡ true → is_some (known y s) ≡ true
+there_known y s k = ap is_some (known_there y s k ∙ (found_op y s.module_of.tree k).1)
 
-  module _ (s : Stored) (w : IsStoreOf c s) where
-    after_put_slotted : (place : Place) (o : Op) → IsSoundIn c o → Step c (Put s.module_of.next place true) (module_meaning c s.module_of) (module_meaning c (after_put place o s).module_of) → IsSlotted s → IsSlotted (after_put place o s)
-    after_put_slotted place o own step h y k = ⊎_elim
-        (λ e. ap (λ z. is_some (finmap.get u.gone z)) e ∙ ap is_some (set_here s.gone x none_gone))
-        (λ n. ap is_some (set_other s.gone x none_gone y n) ∙ h y (sym (ap is_some (known_same y s t one (λ i. hold_other x (find x u.module_of.tree) s.held y n))) ∙ sym (known_seen y t u (sym (taken_seen x u t taken y))) ∙ k))
+known_from : (y : ℕ) (s u : Stored) → (has_id y s.module_of.tree ≡ false → has_id y u.module_of.tree ≡ false) → ((o : Op) → finmap.get u.held y ≡ Some o → is_some (known y s) ≡ true) → is_some (known y u) ≡ true → is_some (known y s) ≡ true
+known_from y s u f g k = ⊎_elim (λ i. there_known y s i) (λ n. go (f n) (finmap.get u.held y) refl) (cases_Bool (has_id y s.module_of.tree))
+  where
+    go : has_id y u.module_of.tree ≡ false → (q : Option Op) → finmap.get u.held y ≡ q → is_some (known y s) ≡ true
+    go n None e = absurd (true≢false (sym k ∙ ap is_some (λ i. first_of (absent_find y u.module_of.tree n i) (e i))))
+    go n (Some o) e = g o e
+
+pub slotted_put : (place : Place) (o : Op) (s : Stored) → hold_none (regions o) ≡ true → IsSlotted s → IsSlotted (after_put place o s)
+slotted_put place o s leaf h y k = ⊎_elim
+    (λ e. ap (λ z. is_some (finmap.get (after_put place o s).gone z)) e ∙ ap is_some (set_here s.gone s.module_of.next none_gone))
+    (λ n. ap is_some (set_other s.gone s.module_of.next none_gone y n)
+      ∙ h y (known_from y s (after_put place o s) (λ a. gained_ids place (with_id s.module_of.next o) y s.module_of.tree (none_found y (with_id s.module_of.next o) (other o leaf n)) a) (λ b e. held_known y s b e) k))
+    (cases_eq y s.module_of.next)
+  where
+    other : (o : Op) → hold_none (regions o) ≡ true → (y ≡ s.module_of.next → ⊥) → find y (with_id s.module_of.next o) ≡ None
+    other (op g rs) leaf n = bare y (with_id s.module_of.next (op g rs)) leaf (ne_eqb s.module_of.next y (λ e. n (sym e)))
+
+pub slotted_take : (x : ℕ) (s : Stored) → IsSlotted s → IsSlotted (after_take x s)
+slotted_take x s h y k = h y (known_from y s (after_take x s) (λ a. left_ids x y s.module_of.tree a) (λ o e. go o (find x s.module_of.tree) refl e) k)
+  where
+    go : (o : Op) (q : Option Op) → find x s.module_of.tree ≡ q → finmap.get (hold x q s.held) y ≡ Some o → is_some (known y s) ≡ true
+    go o None f e = held_known y s o e
+    go o (Some b) f e = ⊎_elim
+        (λ same. there_known y s (ap (λ z. has_id z s.module_of.tree) same ∙ found_present x s.module_of.tree b f))
+        (λ n. held_known y s o (sym (set_other s.held x b y n) ∙ e))
         (cases_eq y x)
-      where
-        x : ℕ
-        x = s.module_of.next
 
-        u : Stored
-        u = after_put place o s
+pub slotted_shift : (x : ℕ) (place : Place) (s : Stored) → IsSlotted s → IsSlotted (after_shift x place s)
+slotted_shift x place s h y k = h y (known_from y s (after_shift x place s) (λ a. go (find x s.module_of.tree) refl a) (λ o e. held_known y s o e) k)
+  where
+    absent : (o : Op) → find x s.module_of.tree ≡ Some o → has_id y s.module_of.tree ≡ false → has_id y o ≡ false
+    absent o f a = ⊎_elim (λ i. absurd (true≢false (sym (present_inside x s.module_of.tree o f y i) ∙ a))) (λ n. n) (cases_Bool (has_id y o))
 
-        v : IsStoreOf c (after_put place o s)
-        v = record {
-          context = w.context;
-          sound = put_sound c place (with_id s.module_of.next o) s.module_of.tree (renamed_sound c s.module_of.next o own) w.sound;
-          formed = formed_numbers c (after_put place o s).module_of step.after;
-          held = w.held;
-        }
+    go : (q : Option Op) → find x s.module_of.tree ≡ q → has_id y s.module_of.tree ≡ false → has_id y (put_found place q (without x s.module_of.tree)) ≡ false
+    go None f a = left_ids x y s.module_of.tree a
+    go (Some o) f a = gained_ids place o y (without x s.module_of.tree) (absent o f a) (left_ids x y s.module_of.tree a)
 
-        f : CameFrom c (Put s.module_of.next place true) (module_meaning c s.module_of) (after_put place o s)
-        f = record { step = step; keeps = tt }
-
-        t : Stored
-        t = undone c (Put s.module_of.next place true) (after_put place o s)
-
-        taken : IsTaken s.module_of.next (after_put place o s) (undone c (Put s.module_of.next place true) (after_put place o s))
-        taken = put_taken c s.module_of.next place true (module_meaning c s.module_of) (after_put place o s) v f
-
-        one : (undone c (Put s.module_of.next place true) (after_put place o s)).module_of ≡ s.module_of
-        one = same_module c s (undone c (Put s.module_of.next place true) (after_put place o s)) w (store_undone c (Put s.module_of.next place true) (module_meaning c s.module_of) (after_put place o s) v f)
-            (led_back c (after_put place o s) (Put s.module_of.next place true) (module_meaning c s.module_of) f)
-
-    after_take_slotted : (x : ℕ) (place : Place) → Step c (Take x place false) (module_meaning c s.module_of) (module_meaning c (after_take x s).module_of) → IsSlotted s → IsSlotted (after_take x s)
-    after_take_slotted x place step =
-        let t = taken_from x false s (after_take x s) w.formed.distinct (retract_of c x place false s.module_of (module_meaning c (after_take x s).module_of) step.changes) refl refl refl in
-        slotted_same s (after_take x s) (λ y i. sym (known_seen y s (after_take x s) (taken_seen x s (after_take x s) t y)) ∙ i) (λ y i. i)
-
-    after_shift_slotted : (x : ℕ) (old place : Place) → Step c (Shift x old place) (module_meaning c s.module_of) (module_meaning c (after_shift x place s).module_of) → IsSlotted s → IsSlotted (after_shift x place s)
-    after_shift_slotted x old place step =
-        slotted_same s u (λ y i. sym (ap is_some (known_same y s (after_shift x old (after_shift x place s)) one (λ z. refl))) ∙ sym (shift_known x old place (module_meaning c s.module_of) (after_shift x place s) v f y) ∙ i) (λ y i. i)
-      where
-        u : Stored
-        u = after_shift x place s
-
-        v : IsStoreOf c (after_shift x place s)
-        v = record { context = w.context; sound = shifted_sound c x place s.module_of.tree w.sound; formed = formed_numbers c (after_shift x place s).module_of step.after; held = w.held }
-
-        f : CameFrom c (Shift x old place) (module_meaning c s.module_of) (after_shift x place s)
-        f = record { step = step; keeps = tt }
-
-        one : (after_shift x old (after_shift x place s)).module_of ≡ s.module_of
-        one = same_module c s (after_shift x old (after_shift x place s)) w (store_undone c (Shift x old place) (module_meaning c s.module_of) (after_shift x place s) v f)
-            (led_back c (after_shift x place s) (Shift x old place) (module_meaning c s.module_of) f)
-
-    pub put_slotted : (e : Event) (u : Stored) (place : Place) (o : Op) → IsSoundIn c o → u ≡ after_put place o s → IsPutStep place e c (module_meaning c s.module_of) (module_meaning c u.module_of) → IsSlotted s → IsSlotted u
-    put_slotted e u place o own is step =
-        subst (λ (p : Event × Stored). Step c p.0 (module_meaning c s.module_of) (module_meaning c p.1.module_of) → IsSlotted s → IsSlotted p.1) (λ i. (sym step.0 i, sym is i)) (after_put_slotted place o own) step.1
-
-    pub take_slotted : (e : Event) (u : Stored) (x : ℕ) → u ≡ after_take x s → IsTakeStep x e c (module_meaning c s.module_of) (module_meaning c u.module_of) → IsSlotted s → IsSlotted u
-    take_slotted e u x is step =
-        subst (λ (p : Event × Stored). Step c p.0 (module_meaning c s.module_of) (module_meaning c p.1.module_of) → IsSlotted s → IsSlotted p.1) (λ i. (sym step.1 i, sym is i)) (after_take_slotted x step.0) step.2
-
-    pub shift_slotted : (e : Event) (u : Stored) (x : ℕ) (place : Place) → u ≡ after_shift x place s → IsShiftStep x place e c (module_meaning c s.module_of) (module_meaning c u.module_of) → IsSlotted s → IsSlotted u
-    shift_slotted e u x place is step =
-        subst (λ (p : Event × Stored). Step c p.0 (module_meaning c s.module_of) (module_meaning c p.1.module_of) → IsSlotted s → IsSlotted p.1) (λ i. (sym step.1 i, sym is i)) (after_shift_slotted x step.0 place) step.2
+module _ (c : Things) where
+  pub slotted_undone : (e : Event) (p : Module) (s : Stored) → IsStoreOf c s → CameFrom c e p s → IsSlotted s → IsSlotted (undone c e s)
+  slotted_undone (Put x place fresh) p s w f h = slotted_take x s h
+  slotted_undone (Take x place fresh) p s w f h =
+      let t = undone c (Take x place fresh) s in
+      slotted_same s t (λ y i. known_seen y t s (taken_seen x t s (take_taken c x place fresh s w (subst (λ q. CameFrom c (Take x place fresh) q s) (sym (led_back c s (Take x place fresh) p f)) f)) y) ∙ i) (λ y i. i) h
+  slotted_undone (SetOperand x k old new) p s w f h = slotted_operand x k old s h
+  slotted_undone (SetEntry x part k old new) p s w f h = slotted_entry (key_before_in c) x part k old s h
+  slotted_undone (Shift x old new) p s w f h = slotted_shift x old s h

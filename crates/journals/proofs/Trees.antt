@@ -11,7 +11,7 @@ use Rattle.ir_tree.proofs.Returns.{absent_join}
 use Rattle.ir_tree_laws.specs.Members.{In}
 use Rattle.ir_tree_laws.specs.Reasons.{hold_none}
 use Rattle.ir_tree_laws.specs.Stands.{StepOf, StandOf, stand_id, stand_in, stands}
-use Rattle.ir_tree_laws.proofs.Around.{absent_find}
+use Rattle.ir_tree_laws.proofs.Around.{absent_find, present_stand, stand_present}
 use Rattle.ir_tree_laws.proofs.Edited.{head_stays, taken_order}
 use Rattle.ir_tree_laws.proofs.Members.{stand, within, member, found_stands, stand_found}
 use Rattle.ir_tree_laws.proofs.Readings.{stands_find}
@@ -35,6 +35,13 @@ module _ {N T A : Type 0} where
 
   pub found_present : (y : ℕ) (t o : OpOf N T A) → find y t ≡ Some o → has_id y t ≡ true
   found_present y t o f = ⊎_elim (λ k. k) (λ n. (let bad : None ≡ Some o = sym (absent_find y t n) ∙ f in absurd cc)) (cases_Bool (has_id y t))
+
+  -- what is in an operation of a tree is in the tree
+  pub present_inside : (x : ℕ) (t o : OpOf N T A) → find x t ≡ Some o → (y : ℕ) → has_id y o ≡ true → has_id y t ≡ true
+  present_inside x t o f y k =
+      let w = found_stands x t o f in
+      let z = present_stand w.0.path o y k in
+      subst (λ i. has_id i t ≡ true) z.2 (stand_present [] t z.0 (within o w.0.path z.0 z.1 [] t (subst (λ (q : OpOf N T A). In (stand q w.0.path) (stands [] t)) w.3 w.1)))
 
   -- a tree lacks an id where one with the same head there does
   pub absent_too : (y : ℕ) (t u : OpOf N T A) → option_map head (find y t) ≡ option_map head (find y u) → has_id y t ≡ false → has_id y u ≡ false
@@ -89,7 +96,7 @@ module _ {N T A : Type 0} where
   bare_regions y (region (block args no_ops) rs) h = bare_regions y rs h
   bare_regions y (region (block args (next o os)) rs) h = absurd (true≢false (sym h))
 
-  bare : (y : ℕ) (o : OpOf N T A) → hold_none (regions o) ≡ true → eqb (head o).id y ≡ false → find y o ≡ None
+  pub bare : (y : ℕ) (o : OpOf N T A) → hold_none (regions o) ≡ true → eqb (head o).id y ≡ false → find y o ≡ None
   bare y (op h rs) k n = ap (λ b. cond b (Some (op h rs)) (regions_find y rs)) n ∙ bare_regions y rs k
 
   pub taken_head : (x : ℕ) (t o : OpOf N T A) → HasDistinctIds t → find x t ≡ Some o → eqb (head t).id x ≡ false → hold_none (regions o) ≡ true → (y : ℕ) → (y ≡ x → ⊥) → option_map head (find y t) ≡ option_map head (find y (without x t))

@@ -8,7 +8,7 @@ ghost use Rattle.ir_tree.specs.declared.value.Value.{Value as TreeValue};
 ghost use Rattle.ir_tree.specs.Tree.{Op};
 ghost use Rattle.ir_tree.specs.Meaning.{IsSoundIn, key_before_in};
 ghost use Rattle.ir_tree.specs.WellFormed.{IsWellFormed};
-ghost use Rattle.ir_tree_laws.specs.Reasons.{set_entry_reason};
+ghost use Rattle.ir_tree_laws.specs.Reasons.{holds_none, set_entry_reason};
 ghost use Rattle.ir_store.specs.Stored.{Stored};
 ghost use Rattle.ir_store.specs.Calls.{Loaded, Releases, after_entry, after_operand, after_put, after_shift, after_take};
 ghost use Rattle.ir_event.specs.declared.event.Event.{Event as Edit};
@@ -91,12 +91,11 @@ pub fn stores_stay_tidy()
 /// held leave one to each that is known.
 pub fn stores_stay_slotted()
     ensures loaded { (t : Op) (free : ℕ) (s : Stored) → Loaded t free s → IsSlotted s }
-    ensures put { (c : Things) (place : Spot) (o : Op) (e : Edit) (s u : Stored) → IsStoreOf c s → IsSoundIn c o → u ≡ after_put place o s
-        → IsPutStep place e c (module_meaning c s.module_of) (module_meaning c u.module_of) → IsSlotted s → IsSlotted u }
-    ensures take { (c : Things) (x : ℕ) (e : Edit) (s u : Stored) → IsStoreOf c s → u ≡ after_take x s → IsTakeStep x e c (module_meaning c s.module_of) (module_meaning c u.module_of) → IsSlotted s → IsSlotted u }
+    ensures put { (place : Spot) (o : Op) (s : Stored) → holds_none (Some o) ≡ true → IsSlotted s → IsSlotted (after_put place o s) }
+    ensures take { (x : ℕ) (s : Stored) → IsSlotted s → IsSlotted (after_take x s) }
     ensures operand { (x k : ℕ) (v : TreeValue) (s : Stored) → IsSlotted s → IsSlotted (after_operand x k v s) }
     ensures entry { (order : ℕ → ℕ → Bool) (x : ℕ) (part : Dictionary) (k : ℕ) (a : Option ℕ) (s : Stored) → IsSlotted s → IsSlotted (after_entry order x part k a s) }
-    ensures shift { (c : Things) (x : ℕ) (place : Spot) (e : Edit) (s u : Stored) → IsStoreOf c s → u ≡ after_shift x place s → IsShiftStep x place e c (module_meaning c s.module_of) (module_meaning c u.module_of) → IsSlotted s → IsSlotted u }
+    ensures shift { (x : ℕ) (place : Spot) (s : Stored) → IsSlotted s → IsSlotted (after_shift x place s) }
     ensures undone { (c : Things) (e : Edit) (p : Module) (s : Stored) → IsStoreOf c s → CameFrom c e p s → IsSlotted s → IsSlotted (undone c e s) }
     ensures released { (from : ℕ) (s u : Stored) → Releases from s u → IsSlotted s → IsSlotted u }
 {}
