@@ -32,6 +32,16 @@ module _ (c : Things) where
   journal_more (g ∷ es) e s h forward f =
       (journal_more es e s h.0 forward f, (h.1.0, subst (λ (u : Stored). CameFrom c g (module_meaning c (undone c g u).module_of) u) (sym (undone_last es e s)) h.1.1))
 
+  -- the store behind newer events
+  pub undone_both : (es fs : List Event) (s : Stored) → undone_all c (es ++ fs) s ≡ undone_all c es (undone_all c fs s)
+  undone_both [] fs s = refl
+  undone_both (e ∷ es) fs s = ap (undone c e) (undone_both es fs s)
+
+  -- and the older events are its journal
+  pub journal_older : (es fs : List Event) (s : Stored) → IsJournal c (es ++ fs) s → IsJournal c es (undone_all c fs s)
+  journal_older [] fs s h = tt
+  journal_older (e ∷ es) fs s h = (journal_older es fs s h.0, (h.1.0, subst (λ (u : Stored). CameFrom c e (module_meaning c (undone c e u).module_of) u) (undone_both es fs s) h.1.1))
+
   -- the newer events of a journal are one
   pub journal_drop : (k : ℕ) (es : List Event) (s : Stored) → IsJournal c es s → IsJournal c (drop k es) s
   journal_drop zero es s h = h
@@ -93,3 +103,8 @@ module _ (c : Things) where
       let back = led_back c u e (module_meaning c s.module_of) f in
       let z = store_undone c e (module_meaning c s.module_of) u v f in
       noted es e s u w z h forward (subst (λ p. CameFrom c e p u) (sym back) f) (r (same_module c s (undone c e u) w z back))
+
+-- the inverse of the last event comes first
+pub inverses_last : (es : List Event) (e : Event) → inverses (es ++ e ∷ []) ≡ inverse_of e ∷ inverses es
+inverses_last [] e = refl
+inverses_last (f ∷ es) e = ap (λ l. l ++ inverse_of f ∷ []) (inverses_last es e)

@@ -94,7 +94,7 @@ pub slotted_put : (place : Place) (o : Op) (s : Stored) → hold_none (regions o
 slotted_put place o s leaf h y k = ⊎_elim
     (λ e. ap (λ z. is_some (finmap.get (after_put place o s).gone z)) e ∙ ap is_some (set_here s.gone s.module_of.next none_gone))
     (λ n. ap is_some (set_other s.gone s.module_of.next none_gone y n)
-      ∙ h y (known_from y s (after_put place o s) (λ a. gained_ids place (with_id s.module_of.next o) y s.module_of.tree (none_found y (with_id s.module_of.next o) (other o leaf n)) a) (λ b e. held_known y s b e) k))
+    ∙ h y (known_from y s (after_put place o s) (λ a. gained_ids place (with_id s.module_of.next o) y s.module_of.tree (none_found y (with_id s.module_of.next o) (other o leaf n)) a) (λ b e. held_known y s b e) k))
     (cases_eq y s.module_of.next)
   where
     other : (o : Op) → hold_none (regions o) ≡ true → (y ≡ s.module_of.next → ⊥) → find y (with_id s.module_of.next o) ≡ None

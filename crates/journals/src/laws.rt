@@ -14,10 +14,10 @@ ghost use Rattle.ir_store.specs.Calls.{Loaded, Releases, after_entry, after_oper
 ghost use Rattle.ir_event.specs.declared.event.Event.{Event as Edit};
 ghost use Rattle.ir_event.specs.declared.world.World.{World as Whole};
 ghost use Rattle.ir_event.specs.Modules.{Module, module_meaning};
-ghost use Rattle.ir_event.specs.Step.{IsOperandStep, Steps};
+ghost use Rattle.ir_event.specs.Step.{IsOperandStep, Steps, inverse_of};
 ghost use Rattle.world_edits.specs.Edits.{IsEntryStep, IsPutStep, IsShiftStep, IsTakeStep};
 ghost use Rattle.world_edits.specs.Undoing.{CameFrom, undone};
-ghost use Rattle.journals.specs.Journals.{IsForward, IsJournal, IsSlotted, IsStoreOf, IsTidy, Noted, before, inverses};
+ghost use Rattle.journals.specs.Journals.{IsForward, IsJournal, IsSlotted, IsStoreOf, IsTidy, Noted, before, inverses, undone_all};
 
 /// What is true of a store in its context is true of that of a world, and stays so where an event is undone, where the
 /// context grows, and where what is held is given up.
@@ -67,12 +67,14 @@ pub fn newest_is_undone()
     ensures next { (c : Things) (es : List Edit) (e : Edit) (s : Stored) → IsJournal c (es ++ e ∷ []) s → (undone c e s).module_of.next ≤ s.module_of.next }
 {}
 
-/// The newest events of a journal are one. The events of a journal lead from the module behind them to the module, and
-/// their inverses, the newest first, lead back.
+/// The newest events of a journal are one, and the older events are one of the store behind the newer. The events of a
+/// journal lead from the module behind them to the module, and their inverses, the newest first, lead back.
 pub fn journals_are_steps()
     ensures newer { (c : Things) (es : List Edit) (s : Stored) → IsJournal c es s → (k : ℕ) → IsJournal c (drop k es) s }
+    ensures older { (c : Things) (es fs : List Edit) (s : Stored) → IsJournal c (es ++ fs) s → IsJournal c es (undone_all c fs s) }
     ensures steps { (c : Things) (es : List Edit) (s : Stored) → IsJournal c es s → Steps c es (before c es s) (module_meaning c s.module_of) }
     ensures back { (c : Things) (es : List Edit) (s : Stored) → IsJournal c es s → Steps c (inverses es) (module_meaning c s.module_of) (before c es s) }
+    ensures first { (es : List Edit) (e : Edit) → inverses (es ++ e ∷ []) ≡ inverse_of e ∷ inverses es }
 {}
 
 /// Where nothing is held under ids that are still to be given out, that stays so with each edit; giving up what is held
