@@ -1,3 +1,6 @@
 pub mod Setting
 pub mod Left
 pub mod Allowed
+pub mod Earlier
+pub mod Taken
+pub mod Erased
