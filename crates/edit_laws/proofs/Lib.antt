@@ -4,3 +4,4 @@ pub mod Allowed
 pub mod Earlier
 pub mod Taken
 pub mod Erased
+pub mod Built
