@@ -5,3 +5,5 @@ pub mod Earlier
 pub mod Taken
 pub mod Erased
 pub mod Built
+pub mod Inserted
+pub mod Bare

@@ -1,15 +1,19 @@
 //! Laws of edits that are several events. Each is a function that does nothing: its contract is the law.
-ghost use Rattle.std.specs.Prelude.{◌≡◌, ℕ, false, List, [], ◌∷◌, ◌++◌, None};
+ghost use Rattle.std.specs.Prelude.{◌≡◌, ℕ, true, false, List, [], ◌∷◌, ◌++◌, length, None};
+ghost use Rattle.ir_types.specs.Things.{Things};
+ghost use Rattle.ir_tree.specs.declared.place.Place.{Place as Spot};
 ghost use Rattle.ir_tree.specs.declared.value.Value.{Value as TreeValue};
-ghost use Rattle.ir_tree.specs.Tree.{OpOf};
-ghost use Rattle.ir_tree.specs.Ids.{HasDistinctIds};
+ghost use Rattle.ir_tree.specs.Tree.{Op, OpOf, head, regions};
+ghost use Rattle.ir_tree.specs.Ids.{HasDistinctIds, IsNumberedFrom, op_count};
 ghost use Rattle.ir_tree.specs.Uses.{same_value, uses_of};
 ghost use Rattle.ir_tree.specs.Edits.{with_operand};
 ghost use Rattle.ir_tree.specs.Places.{without};
+ghost use Rattle.ir_tree.specs.Meaning.{IsSoundIn};
 ghost use Rattle.ir_tree.specs.WellFormed.{IsWellFormed, ModuleOf};
-ghost use Rattle.ir_tree_laws.specs.Reasons.{set_operand_reason, take_reason};
-ghost use Rattle.machine.specs.Edits.{Erase, Replace, TestsOf, edited_by, reason_by};
+ghost use Rattle.ir_tree_laws.specs.Reasons.{hold_none, put_reason, set_operand_reason, take_reason};
+ghost use Rattle.machine.specs.Edits.{Erase, Insert, Make, Replace, TestsOf, edited_by, reason_by};
 ghost use Rattle.edit_laws.specs.Erasing.{all_taken, erase_order};
+ghost use Rattle.edit_laws.specs.Inserting.{all_made, headers};
 ghost use Rattle.edit_laws.specs.Replacing.{all_set};
 
 /// Replacing a value is setting the other as each of its uses, in their order. After the uses us, where vs are left, vs
@@ -34,4 +38,26 @@ pub fn erasing_is_taking<N, T, A>()
     ensures left { (w : TestsOf N T) (x : ℕ) (ys zs : List ℕ) (m : ModuleOf N T A) → IsWellFormed w.isolated m → reason_by w (Erase x) m ≡ None → ys ++ zs ≡ erase_order x m.tree → erase_order x (all_taken ys m.tree) ≡ zs }
     ensures formed { (w : TestsOf N T) (x : ℕ) (ys zs : List ℕ) (m : ModuleOf N T A) → IsWellFormed w.isolated m → reason_by w (Erase x) m ≡ None → ys ++ zs ≡ erase_order x m.tree → IsWellFormed w.isolated (record m { tree = all_taken ys m.tree }) }
     ensures reason { (w : TestsOf N T) (x : ℕ) (ys zs : List ℕ) (y : ℕ) (m : ModuleOf N T A) → IsWellFormed w.isolated m → reason_by w (Erase x) m ≡ None → ys ++ y ∷ zs ≡ erase_order x m.tree → take_reason y (all_taken ys m.tree) ≡ None }
+{}
+
+/// Inserting an operation whose ids are the next free ones, where no reason stands against it, is making the header of
+/// it and of each one inside it, in pre-order, those inside at the ends of their blocks. After the headers us, where vs
+/// are left, the module is well-formed, no reason stands against the next one, and its id is the next free one.
+pub fn inserting_is_making<N, T, A>()
+    ensures step { (w : TestsOf N T) (us : List (Spot × OpOf N T A)) (u : Spot × OpOf N T A) (m : ModuleOf N T A) → all_made w (us ++ u ∷ []) m ≡ edited_by w (Make u.0 u.1) (all_made w us m) }
+    ensures whole { (w : TestsOf N T) (place : Spot) (o : OpOf N T A) (m : ModuleOf N T A) → IsWellFormed w.isolated m → IsNumberedFrom m.next o → reason_by w (Insert place o) m ≡ None → all_made w (headers place o) m ≡ edited_by w (Insert place o) m }
+    ensures formed { (w : TestsOf N T) (place : Spot) (o : OpOf N T A) (us vs : List (Spot × OpOf N T A)) (m : ModuleOf N T A) → IsWellFormed w.isolated m → IsNumberedFrom m.next o → reason_by w (Insert place o) m ≡ None → us ++ vs ≡ headers place o
+        → IsWellFormed w.isolated (all_made w us m) }
+    ensures reason { (w : TestsOf N T) (place : Spot) (o : OpOf N T A) (us vs : List (Spot × OpOf N T A)) (u : Spot × OpOf N T A) (m : ModuleOf N T A) → IsWellFormed w.isolated m → IsNumberedFrom m.next o → reason_by w (Insert place o) m ≡ None
+        → us ++ u ∷ vs ≡ headers place o → put_reason w.isolated u.0 u.1 (all_made w us m).next (all_made w us m).tree ≡ None }
+    ensures id { (w : TestsOf N T) (place : Spot) (o : OpOf N T A) (us vs : List (Spot × OpOf N T A)) (u : Spot × OpOf N T A) (m : ModuleOf N T A) → IsWellFormed w.isolated m → IsNumberedFrom m.next o → reason_by w (Insert place o) m ≡ None
+        → us ++ u ∷ vs ≡ headers place o → (head u.1).id ≡ (all_made w us m).next }
+{}
+
+/// The headers of an operation are as many as the operations, hold none in their blocks, and are a context's where that
+/// is.
+pub fn headers_are_bare()
+    ensures count { (place : Spot) (o : Op) → length (headers place o) ≡ op_count o }
+    ensures empty { (place : Spot) (o : Op) (us vs : List (Spot × Op)) (u : Spot × Op) → us ++ u ∷ vs ≡ headers place o → hold_none (regions u.1) ≡ true }
+    ensures sound { (c : Things) (place : Spot) (o : Op) (us vs : List (Spot × Op)) (u : Spot × Op) → IsSoundIn c o → us ++ u ∷ vs ≡ headers place o → IsSoundIn c u.1 }
 {}
