@@ -1,13 +1,12 @@
 -- No reason stands against an operand that is set on the way to a value replaced.
-use Rattle.std.proofs.Common.{◌≡◌, refl, ap, sym, ◌∙◌, subst, ℕ, zero, suc, ◌+◌, ◌<◌, Bool, true, false, true≢false, cond, eqb, List, [], ◌∷◌, ◌++◌, length, None, Some, option_map, inl, inr, arith}
-use Rattle.std.specs.Prelude.{nat_lt, slice_set}
-use Rattle.std.specs.List.{list_all}
+use Rattle.std.proofs.Common.{◌≡◌, refl, ap, sym, ◌∙◌, subst, ℕ, ◌+◌, ◌<◌, Bool, true, false, cond, eqb, List, [], ◌∷◌, ◌++◌, length, None, Some, option_map, inl, inr, arith}
+use Rattle.std.specs.Prelude.{nat_lt}
 use Rattle.std.specs.Option.{option_eq}
 use Rattle.std.proofs.lemmas.Bool.{lt-ltb}
 use Rattle.std.proofs.lemmas.List.{length-set}
 use Rattle.ir_types.specs.declared.refusal.Refusal.TheVariants.{NoSuchValue, NotVisible, NoSuchIndex, TypeDiffers}
 use Rattle.ir_tree.specs.declared.value.Value.{Value}
-use Rattle.ir_tree.specs.Tree.{HeadOf, OpOf, op, head}
+use Rattle.ir_tree.specs.Tree.{HeadOf, OpOf, head}
 use Rattle.ir_tree.specs.Ids.{HasDistinctIds, find}
 use Rattle.ir_tree.specs.Uses.{same_value, operand_uses, uses_of}
 use Rattle.ir_tree.specs.Sites.{visible}
@@ -15,10 +14,10 @@ use Rattle.ir_tree.specs.Edits.{each_head, at, put_operand, with_operand}
 use Rattle.ir_tree.specs.WellFormed.{ModuleOf, IsWellFormed}
 use Rattle.ir_tree.proofs.Heads.{head_find, head_visible, alike_operand}
 use Rattle.ir_tree_laws.specs.Members.{In}
-use Rattle.ir_tree_laws.specs.Stands.{StandOf, stand_id, stands, gather, sees}
+use Rattle.ir_tree_laws.specs.Stands.{StandOf, stand_id, stands, sees}
 use Rattle.ir_tree_laws.specs.Values.{has_value, type_of_value}
 use Rattle.ir_tree_laws.specs.Reasons.{value_reason, operand_reason, set_operand_reason}
-use Rattle.ir_tree_laws.proofs.Listed.{all_each}
+use Rattle.ir_tree_laws.proofs.Listed.{all_each, in_left}
 use Rattle.ir_tree_laws.proofs.Readings.{stands_uses}
 use Rattle.ir_tree_laws.proofs.Members.{found_stands, stand_found}
 use Rattle.ir_tree_laws.proofs.Sees.{visible_there}
@@ -27,7 +26,8 @@ use Rattle.ir_tree_laws.proofs.Reasoned.{no_unless}
 use Rattle.ir_tree_laws.proofs.HeadForm.{operand_keeps}
 use Rattle.machine.specs.Edits.{TestsOf, Replace, reason_by, users_see}
 use Rattle.edit_laws.specs.Replacing.{all_set}
-use Rattle.edit_laws.proofs.Left.{of_gather, user}
+use Rattle.edit_laws.proofs.Left.{of_gather, user, head_each}
+use Rattle.edit_laws.proofs.Parts.{in_middle}
 
 -- the place of a use
 below : (v : Value) (x k : ℕ) (ws : List Value) (u : ℕ × ℕ) → In u (operand_uses v x k ws) → u.1 < k + length ws
@@ -56,9 +56,6 @@ module _ {N T A : Type 0} (isolated : N → Bool) (new : Value) where
       ∙ ap (λ e. cond e (cond (visible isolated t u.0 new) None (Some NotVisible)) (Some NoSuchValue)) (seen_by isolated t d z.0 z.1 new there).is
       ∙ ap (λ e. cond e None (Some NotVisible)) a.sees_it
 
-  head_each : (f : HeadOf N T A → HeadOf N T A) (o : OpOf N T A) → head (each_head f o) ≡ f (head o)
-  head_each f (op h rs) = refl
-
   as_many : (u : ℕ × ℕ) (h : HeadOf N T A) → length (at u.0 (put_operand u.1 new) h).operands ≡ length h.operands
   as_many u h = elim (eqb h.id u.0) as (λ b. length (cond b (put_operand u.1 new h) h).operands ≡ length h.operands) [ true ↦ length-set h.operands u.1 new | false ↦ refl ]
 
@@ -80,15 +77,6 @@ module _ {N T A : Type 0} (isolated : N → Bool) (new : Value) where
   all_still [] z t a = a
   all_still (u ∷ us) z t a = all_still us z (with_operand u.0 u.1 new t) (still u z t a)
 
-in_first : (us vs : List (ℕ × ℕ)) (z : ℕ × ℕ) → In z us → In z (us ++ vs)
-in_first [] vs z h = absurd h
-in_first (u ∷ us) vs z (inl e) = inl e
-in_first (u ∷ us) vs z (inr h) = inr (in_first us vs z h)
-
-in_middle : (us vs : List (ℕ × ℕ)) (z : ℕ × ℕ) → In z (us ++ z ∷ vs)
-in_middle [] vs z = inl refl
-in_middle (u ∷ us) vs z = inr (in_middle us vs z)
-
 module _ {N T A : Type 0} (w : TestsOf N T) (old new : Value) (m : ModuleOf N T A) (f : IsWellFormed w.isolated m) (e : reason_by w (Replace old new) m ≡ None) where
   uses_see : users_see w.isolated old new m.tree ≡ true
   uses_see =
@@ -108,7 +96,7 @@ module _ {N T A : Type 0} (w : TestsOf N T) (old new : Value) (m : ModuleOf N T 
       }
 
   pub set_formed : (us vs : List (ℕ × ℕ)) → us ++ vs ≡ uses_of old m.tree → IsWellFormed w.isolated (record m { tree = all_set new us m.tree })
-  set_formed us vs is = all_formed w.isolated new us m f (λ z h. each_takes z (subst (In z) is (in_first us vs z h)))
+  set_formed us vs is = all_formed w.isolated new us m f (λ z h. each_takes z (subst (In z) is (in_left z us vs h)))
 
   pub set_allowed : (us vs : List (ℕ × ℕ)) (u : ℕ × ℕ) → us ++ u ∷ vs ≡ uses_of old m.tree → set_operand_reason w.isolated u.0 u.1 new (all_set new us m.tree) ≡ None
   set_allowed us vs u is =

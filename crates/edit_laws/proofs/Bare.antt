@@ -1,30 +1,19 @@
 -- What is true of each header of a tree.
-use Rattle.std.proofs.Common.{◌≡◌, refl, ap, sym, ◌∙◌, subst, ℕ, Bool, true, ◌&&◌, List, [], ◌∷◌, ◌++◌, length, inl, inr}
-use Rattle.std.specs.Prelude.{nat_le}
+use Rattle.std.proofs.Common.{◌≡◌, refl, ap, ◌∙◌, Bool, true, ◌&&◌, List, []}
 use Rattle.std.specs.List.{list_all}
-use Rattle.std.proofs.lemmas.List.{length-map}
 use Rattle.ir_types.specs.Things.{Things}
 use Rattle.ir_tree.specs.declared.place.Place.{Place}
-use Rattle.ir_tree.specs.Tree.{OpOf, Op, op, RegionsOf, no_regions, region, empty, block, head, regions}
-use Rattle.ir_tree.specs.Ids.{op_count}
+use Rattle.ir_tree.specs.Tree.{OpOf, Op, op, RegionsOf, no_regions, region, empty, block}
 use Rattle.ir_tree.specs.Limits.{every, regions_every, all_arguments_pass}
 use Rattle.ir_tree.specs.Meaning.{IsSoundIn, is_name, is_type, is_attr, dictionaries_rise, key_before_in}
 use Rattle.ir_tree.specs.Passing.{head_passes, op_passes}
 use Rattle.ir_tree_laws.specs.Members.{In}
 use Rattle.ir_tree_laws.specs.Stands.{StandOf, stands}
-use Rattle.ir_tree_laws.specs.Reasons.{hold_none}
 use Rattle.ir_tree_laws.proofs.Listed.{all_each, both_hold}
 use Rattle.ir_tree_laws.proofs.Readings.{stands_every}
 use Rattle.ir_tree_laws.proofs.Reasoned.{none_every}
 use Rattle.edit_laws.specs.Inserting.{bare, bare_regions, headers}
-use Rattle.edit_laws.proofs.Built.{header_id, header_ids, header_of, bare_holds}
-
-pub header_count : {N T A : Type 0} (place : Place) (o : OpOf N T A) → length (headers place o) ≡ op_count o
-header_count place o = sym (length-map (headers place o) header_id) ∙ ap length (header_ids place o)
-
-pub in_middle : {X : Type 0} (us vs : List X) (u : X) → In u (us ++ u ∷ vs)
-in_middle [] vs u = inl refl
-in_middle (x ∷ us) vs u = inr (in_middle us vs u)
+use Rattle.edit_laws.proofs.Built.{header_of, bare_holds}
 
 module _ {N T A : Type 0} where
   -- what each operation passes, and its header with it, each header passes

@@ -1,13 +1,12 @@
 -- A tree that is put at a place header by header.
-use Rattle.std.proofs.Common.{◌≡◌, refl, ap, sym, ◌∙◌, subst, ℕ, zero, suc, ◌+◌, Bool, true, false, true≢false, cond, ◌||◌, eqb, eq-eqb, eqb-true, List, [], ◌∷◌, ◌++◌, length, map, append_assoc, append-nil, length-append, Some, inl, inr, arith}
+use Rattle.std.proofs.Common.{◌≡◌, refl, ap, sym, ◌∙◌, subst, ℕ, ◌+◌, true, false, true≢false, cond, eqb, eq-eqb, eqb-true, List, [], ◌∷◌, ◌++◌, length, map, append_assoc, append-nil, length-append, Some, inl, inr, arith}
 use Rattle.std.specs.List.{list_any, IsDistinct}
-use Rattle.std.proofs.lemmas.List.{map-append}
+use Rattle.std.proofs.lemmas.List.{length-map, map-append}
 use Rattle.ir_tree.specs.declared.place.Place.{Place}
 use Rattle.ir_tree.specs.Tree.{HeadOf, OpOf, op, RegionsOf, no_regions, region, RegionOf, empty, block, OpsOf, no_ops, next, head, regions}
-use Rattle.ir_tree.specs.Ids.{ids, regions_ids, region_ids, ops_ids, has_id, regions_find}
+use Rattle.ir_tree.specs.Ids.{ids, regions_ids, region_ids, ops_ids, has_id, op_count, regions_find}
 use Rattle.ir_tree.specs.Places.{put, put_last}
 use Rattle.ir_tree.proofs.Gained.{gained_ids}
-use Rattle.ir_tree.proofs.Moves.{Absent}
 use Rattle.ir_tree.proofs.Returns.{Present, halves, absent_first, cons_distinct, nil_distinct}
 use Rattle.ir_tree_laws.specs.Members.{In}
 use Rattle.ir_tree_laws.specs.Nested.{with_last}
@@ -68,6 +67,9 @@ module _ {N T A : Type 0} where
     ops_header_ids : (p r : ℕ) (os : OpsOf N T A) → map header_id (ops_headers p r os) ≡ ops_ids os
     ops_header_ids p r no_ops = refl
     ops_header_ids p r (next o os) = map-append header_id (headers (end_of p r) o) (ops_headers p r os) ∙ λ i. header_ids (end_of p r) o i ++ ops_header_ids p r os i
+
+  pub header_count : (place : Place) (o : OpOf N T A) → length (headers place o) ≡ op_count o
+  header_count place o = sym (length-map (headers place o) header_id) ∙ ap length (header_ids place o)
 
   -- each is the header of an operation that stands in the tree
   abbrev pub HeaderIn : Place × OpOf N T A → List (StandOf N T A) → Type 0

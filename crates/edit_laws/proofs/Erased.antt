@@ -1,11 +1,9 @@
 -- An operation that is erased against which no reason stands goes operation by operation.
-use Rattle.std.proofs.Common.{◌≡◌, refl, ap, sym, ◌∙◌, subst, ℕ, ◌+◌, Bool, true, false, true≢false, not, eqb, eqb-true, List, [], ◌∷◌, ◌++◌, reverse, append-nil, Option, Some, None, inl, inr}
-use Rattle.std.specs.List.{list_any, list_all}
+use Rattle.std.proofs.Common.{◌≡◌, refl, ap, sym, ◌∙◌, subst, ℕ, true, false, true≢false, not, eqb, eqb-true, List, [], ◌∷◌, ◌++◌, reverse, append-nil, Some, None, inl, inr}
 use Rattle.ir_types.specs.declared.refusal.Refusal.TheVariants.{NoSuchOp, HasUses, IsRoot}
-use Rattle.ir_tree.specs.declared.value.Value.{Value}
 use Rattle.ir_tree.specs.declared.place.Place.{Place}
 use Rattle.ir_tree.specs.Tree.{OpOf, head}
-use Rattle.ir_tree.specs.Ids.{ids, HasDistinctIds, has_id, find}
+use Rattle.ir_tree.specs.Ids.{ids, has_id, find}
 use Rattle.ir_tree.specs.Limits.{every}
 use Rattle.ir_tree.specs.Frames.{owner_of}
 use Rattle.ir_tree.specs.Places.{first_id, put, without}
@@ -131,7 +129,3 @@ module _ {N T A : Type 0} (w : TestsOf N T) (x : ℕ) (m : ModuleOf N T A) (f : 
       ap (erase_order x) (taken_is ys ∙ r.is)
       ∙ ap (λ q. reverse (ids_in q)) (ap (λ y. find y (put erased.place r.here (without x m.tree))) (sym (r.same ∙ erased.id)) ∙ put_found erased.place r.here (without x m.tree) r.goes_on.may)
       ∙ r.order
-
-pub taken_more : {N T A : Type 0} (xs ys : List ℕ) (t : OpOf N T A) → all_taken (xs ++ ys) t ≡ all_taken ys (all_taken xs t)
-taken_more [] ys t = refl
-taken_more (x ∷ xs) ys t = taken_more xs ys (without x t)

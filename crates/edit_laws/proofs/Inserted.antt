@@ -1,15 +1,13 @@
 -- No reason stands against a header on the way to a tree inserted.
-use Rattle.std.proofs.Common.{◌≡◌, refl, ap, sym, ◌∙◌, subst, ℕ, zero, suc, ◌+◌, ◌<◌, ◌≤◌, Bool, true, false, true≢false, not, eqb, List, [], ◌∷◌, ◌++◌, length, map, reverse, append_assoc, append-nil, length-append, Option, Some, None, inl, inr, arith}
+use Rattle.std.proofs.Common.{◌≡◌, refl, ap, sym, ◌∙◌, subst, ℕ, zero, suc, ◌+◌, ◌<◌, ◌≤◌, Bool, true, false, true≢false, not, eqb, List, [], ◌∷◌, ◌++◌, length, map, reverse, append_assoc, append-nil, length-append, None, arith}
 use Rattle.std.specs.Prelude.{nat_le, nat_lt}
 use Rattle.std.specs.List.{list_all, range_with_len}
 use Rattle.std.proofs.lemmas.Bool.{leb-true, le-leb, lt-ltb}
 use Rattle.std.proofs.lemmas.List.{length-map, map-append, reverse-append}
-use Rattle.ir_types.specs.declared.refusal.Refusal.{Refusal}
 use Rattle.ir_types.specs.declared.refusal.Refusal.TheVariants.{NoSuchOp, NoSuchValue, NotVisible, NoSuchIndex, Full, IdsExhausted, TooDeepHere}
-use Rattle.ir_tree.specs.declared.value.Value.{Value}
 use Rattle.ir_tree.specs.declared.place.Place.{Place}
-use Rattle.ir_tree.specs.Tree.{HeadOf, OpOf, op, head, regions}
-use Rattle.ir_tree.specs.Ids.{ids, regions_ids, has_id, op_count, IsNumberedFrom}
+use Rattle.ir_tree.specs.Tree.{OpOf, op, head, regions}
+use Rattle.ir_tree.specs.Ids.{ids, has_id, op_count, IsNumberedFrom}
 use Rattle.ir_tree.specs.Limits.{depth, every, op_fits, most_ops, most_around, most_next}
 use Rattle.ir_tree.specs.Frames.{owner_of}
 use Rattle.ir_tree.specs.Sites.{visible, operands_visible}
@@ -19,17 +17,16 @@ use Rattle.ir_tree.proofs.Moves.{take_put}
 use Rattle.ir_tree.proofs.Returns.{not_equal}
 use Rattle.ir_tree_laws.specs.Members.{In}
 use Rattle.ir_tree_laws.specs.Reads.{around}
-use Rattle.ir_tree_laws.specs.Reasons.{unless, has_place, fits_around, hold_none, leaves, put_reason, take_reason, with_id}
+use Rattle.ir_tree_laws.specs.Reasons.{has_place, fits_around, hold_none, leaves, put_reason, take_reason, with_id}
 use Rattle.ir_tree_laws.specs.Restores.{MayPut}
 use Rattle.ir_tree_laws.specs.Values.{has_value}
-use Rattle.ir_tree_laws.specs.Stands.{StepOf, StandOf, stand_id, stands, sees}
+use Rattle.ir_tree_laws.specs.Stands.{StepOf, StandOf, stands, sees}
 use Rattle.ir_tree_laws.proofs.Listed.{all_each, each_all, both_hold}
 use Rattle.ir_tree_laws.proofs.Readings.{stands_every}
 use Rattle.ir_tree_laws.proofs.Members.{stand, within}
 use Rattle.ir_tree_laws.proofs.Around.{stand_present}
 use Rattle.ir_tree_laws.proofs.Sees.{visible_there, all_same, operands_visible_each}
 use Rattle.ir_tree_laws.proofs.Formed.{FormedEach, from_formed}
-use Rattle.ir_tree_laws.proofs.Put.{Landed}
 use Rattle.ir_tree_laws.proofs.PutForm.{landed, put_distinct, put_found, put_around}
 use Rattle.ir_tree_laws.proofs.Reasoned.{no_unless}
 use Rattle.ir_tree_laws.proofs.Values.{seen_by}
@@ -40,13 +37,9 @@ use Rattle.ir_tree_laws.proofs.WellKept.{may_put_tree, insert_keeps, put_keeps}
 use Rattle.machine.specs.Edits.{TestsOf, Insert, Make, edited_by, reason_by}
 use Rattle.edit_laws.specs.Erasing.{all_taken}
 use Rattle.edit_laws.specs.Inserting.{headers, all_made}
-use Rattle.edit_laws.proofs.Earlier.{first_there}
-use Rattle.edit_laws.proofs.Erased.{taken_more}
-use Rattle.edit_laws.proofs.Taken.{Erasing, each_may, each_formed}
-use Rattle.edit_laws.proofs.Built.{header_id, header_ids, header_of, bare_holds, all_put, Lands, put_more, lands_rest, Builds, build}
-
-passed : (b : Bool) (r : Refusal) (rest : Option Refusal) → b ≡ true → rest ≡ None → unless b r rest ≡ None
-passed b r rest h k = ap (λ c. unless c r rest) h ∙ k
+use Rattle.edit_laws.proofs.Parts.{in_middle, passed}
+use Rattle.edit_laws.proofs.Taken.{own_there, taken_more, Erasing, each_may, each_formed}
+use Rattle.edit_laws.proofs.Built.{header_id, header_ids, header_of, header_count, bare_holds, all_put, Lands, put_more, lands_rest, Builds, build}
 
 -- consecutive numbers, cut in two
 cut_range : (xs ys : List ℕ) (n k : ℕ) → xs ++ ys ≡ range_with_len n k → (xs ≡ range_with_len n (length xs)) × ((y : ℕ) (zs : List ℕ) → ys ≡ y ∷ zs → y ≡ n + length xs)
@@ -65,9 +58,6 @@ cut_range (x ∷ xs) ys n (suc k) e =
 module _ {N T A : Type 0} where
   with_own : (x : ℕ) (o : OpOf N T A) → (head o).id ≡ x → with_id x o ≡ o
   with_own x (op h rs) e = λ i. op (record h { id = sym e i }) rs
-
-  own_there : (o : OpOf N T A) → has_id (head o).id o ≡ true
-  own_there (op h rs) = first_there h.id h.id (regions_ids rs) refl
 
   some_ops : (o : OpOf N T A) → 1 ≤ op_count o
   some_ops (op h rs) = omega arith
@@ -120,15 +110,15 @@ module _ {N T A : Type 0} where
         passed _ NoSuchOp _ (spot_parent u.0 t may.spot)
         (passed _ NoSuchIndex _ may.spot
         (passed _ Full _ (both_hold (nat_lt (op_count t) most_ops) (op_fits u.1)
-            (lt-ltb (op_count t) most_ops (let a = each.count in let b = put_op_count u.0 u.1 t may in let c = some_ops u.1 in omega (arith, a, b, c)))
-            (each.fits (stand u.1 path) there))
+        (lt-ltb (op_count t) most_ops (let a = each.count in let b = put_op_count u.0 u.1 t may in let c = some_ops u.1 in omega (arith, a, b, c)))
+        (each.fits (stand u.1 path) there))
         (passed _ IdsExhausted _ (lt-ltb (header_id u) most_next low)
         (passed _ TooDeepHere _ (ap (fits_around 0) (put_around u.0 u.1 t may)
-            ∙ le-leb (length (landed u.0 u.1 t may).path + 1 + 0) most_around (let a = each.shallow (stand u.1 path) there in omega (arith, a)))
+        ∙ le-leb (length (landed u.0 u.1 t may).path + 1 + 0) most_around (let a = each.shallow (stand u.1 path) there in omega (arith, a)))
         (passed _ NoSuchValue _ values
         (passed _ NotVisible None (ap (λ c. list_all (visible isolated (put u.0 c t) (header_id u)) (head u.1).operands) (with_own (header_id u) u.1 refl)
-            ∙ all_same _ _ (head u.1).operands (λ v n. visible_there isolated now formed.distinct (stand u.1 path) there v)
-            ∙ each.sees_own (stand u.1 path) there) refl))))))
+        ∙ all_same _ _ (head u.1).operands (λ v n. visible_there isolated now formed.distinct (stand u.1 path) there v)
+        ∙ each.sees_own (stand u.1 path) there) refl))))))
 
 module _ {N T A : Type 0} (w : TestsOf N T) (place : Place) (o : OpOf N T A) (m : ModuleOf N T A) (f : IsWellFormed w.isolated m) (numbered : IsNumberedFrom m.next o) (e : reason_by w (Insert place o) m ≡ None) where
   record Free : Type 0 where
@@ -184,9 +174,6 @@ module _ {N T A : Type 0} (w : TestsOf N T) (place : Place) (o : OpOf N T A) (m 
   built : Builds (headers place o) m.tree (put place o m.tree)
   built = build place o m.tree may
 
-  many : length (headers place o) ≡ op_count o
-  many = sym (length-map (headers place o) header_id) ∙ ap length (header_ids place o)
-
   -- what was made so far
   module _ (us vs : List (Place × OpOf N T A)) (k : us ++ vs ≡ headers place o) where
     numbers : map header_id us ++ map header_id vs ≡ range_with_len m.next (op_count o)
@@ -219,7 +206,7 @@ module _ {N T A : Type 0} (w : TestsOf N T) (place : Place) (o : OpOf N T A) (m 
     low =
         let a = next_id in
         let b = leb-true (m.next + op_count o) most_next free.next in
-        let c = many in
+        let c = header_count place o in
         let d = ap length k in
         let g = length-append us (u ∷ vs) in
         omega (arith, a, b, c, d, g)
@@ -239,15 +226,11 @@ module _ {N T A : Type 0} (w : TestsOf N T) (place : Place) (o : OpOf N T A) (m 
         ∙ ap (λ n. put_reason w.isolated u.0 u.1 n (all_put us m.tree)) (sym next_id)
         ∙ allowed
 
-    in_middle : (xs : List (Place × OpOf N T A)) → In u (xs ++ u ∷ vs)
-    in_middle [] = inl refl
-    in_middle (x ∷ xs) = inr (in_middle xs)
-
     pub header_in : In u (headers place o)
-    header_in = subst (In u) k (in_middle us)
+    header_in = subst (In u) k (in_middle us vs u)
 
   pub all_made_whole : all_made w (headers place o) m ≡ edited_by w (Insert place o) m
-  all_made_whole = made_so_far (headers place o) [] (append-nil (headers place o)) ∙ λ i. record { tree = built.is i; next = m.next + many i }
+  all_made_whole = made_so_far (headers place o) [] (append-nil (headers place o)) ∙ λ i. record { tree = built.is i; next = m.next + header_count place o i }
 
 pub header_bare : {N T A : Type 0} (place : Place) (o : OpOf N T A) (u : Place × OpOf N T A) → In u (headers place o) → hold_none (regions u.1) ≡ true
 header_bare place o u h = let s = header_of [] place o u h in ap (λ z. hold_none (regions z)) s.2 ∙ bare_holds s.0.here

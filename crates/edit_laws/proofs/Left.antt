@@ -1,11 +1,11 @@
 -- The uses of a value that are left where another was set as some of them.
-use Rattle.std.proofs.Common.{◌≡◌, refl, ap, sym, ◌∙◌, subst, ℕ, zero, suc, ◌+◌, Bool, true, false, true≢false, cond, eqb, eq-eqb, List, [], ◌∷◌, ◌++◌, map, inl, inr, arith}
+use Rattle.std.proofs.Common.{◌≡◌, refl, ap, sym, ◌∙◌, subst, ℕ, suc, ◌+◌, Bool, true, false, cond, eqb, eq-eqb, List, [], ◌∷◌, ◌++◌, map, inl, inr, arith}
 use Rattle.std.specs.Prelude.{slice_set}
 use Rattle.std.specs.List.{IsDistinct}
 use Rattle.std.proofs.lemmas.Map.Keys.{IsDistinct-tail}
 use Rattle.ir_tree.specs.declared.value.Value.{Value}
 use Rattle.ir_tree.specs.Tree.{HeadOf, OpOf, op, head}
-use Rattle.ir_tree.specs.Ids.{ids, HasDistinctIds}
+use Rattle.ir_tree.specs.Ids.{HasDistinctIds}
 use Rattle.ir_tree.specs.Uses.{same_value, operand_uses, uses_of}
 use Rattle.ir_tree.specs.Edits.{each_head, at, put_operand, with_operand}
 use Rattle.ir_tree.proofs.Heads.{head_ids, alike_operand}
@@ -34,6 +34,9 @@ of_gather f y (x ∷ xs) h = elim (in_parts y (f x) (gather f xs) h) [
 
 one_first : (a b : ℕ × ℕ) (xs ys : List (ℕ × ℕ)) → a ∷ xs ≡ b ∷ ys → (a ≡ b) × (xs ≡ ys)
 one_first a b xs ys e = (cc, cc)
+
+pub head_each : {N T A : Type 0} (f : HeadOf N T A → HeadOf N T A) (o : OpOf N T A) → head (each_head f o) ≡ f (head o)
+head_each f (op h rs) = refl
 
 module _ (old : Value) where
   -- who uses it
@@ -95,9 +98,6 @@ module _ (old : Value) where
               ∙ ap (λ k. operand_uses old (stand_id s) 0 (slice_set (head s.here).operands k new)) there ∙ r.2 in
               let others : gather (uses_then v) ss ≡ gather uses_here ss = gather_same (uses_then v) uses_here ss (λ z m. elsewhere v z (ap (eqb (stand_id z)) id ∙ apart (stand_id s) ss d z m)) in
               subst (λ z. gather (uses_then z) (s ∷ ss) ≡ vs) b.0 ((λ i. here i ++ others i) ∙ b.1)
-
-      head_each : (f : HeadOf N T A → HeadOf N T A) (o : OpOf N T A) → head (each_head f o) ≡ f (head o)
-      head_each f (op h rs) = refl
 
       same_id : (u : ℕ × ℕ) (h : HeadOf N T A) → (at u.0 (put_operand u.1 new) h).id ≡ h.id
       same_id u h = elim (eqb h.id u.0) as (λ b. (cond b (put_operand u.1 new h) h).id ≡ h.id) [ true ↦ refl | false ↦ refl ]

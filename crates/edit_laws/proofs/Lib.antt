@@ -1,3 +1,4 @@
+pub mod Parts
 pub mod Setting
 pub mod Left
 pub mod Allowed

@@ -1,8 +1,7 @@
 -- An operation that was put at a place, taken again operation by operation, the last in pre-order first.
-use Rattle.std.proofs.Common.{◌≡◌, refl, ap, sym, ◌∙◌, subst, ℕ, ◌+◌, Bool, true, false, true≢false, cond, not, eqb, eq-eqb, eqb-true, List, [], ◌∷◌, ◌++◌, reverse, append_assoc, append-nil, Option, Some, None, inl, inr}
-use Rattle.std.specs.List.{list_any, list_all, IsDistinct}
+use Rattle.std.proofs.Common.{◌≡◌, refl, ap, sym, ◌∙◌, subst, ℕ, Bool, true, false, true≢false, not, eqb, eqb-true, List, [], ◌∷◌, ◌++◌, reverse, append_assoc, append-nil, Some, None, inl, inr}
+use Rattle.std.specs.List.{list_any, IsDistinct}
 use Rattle.std.proofs.lemmas.List.{append_cancel_left, reverse-reverse, reverse-append}
-use Rattle.ir_types.specs.declared.refusal.Refusal.{Refusal}
 use Rattle.ir_types.specs.declared.refusal.Refusal.TheVariants.{NoSuchOp, HasUses, IsRoot, NotEmpty}
 use Rattle.ir_tree.specs.declared.value.Value.{Value}
 use Rattle.ir_tree.specs.declared.place.Place.{Place}
@@ -10,14 +9,14 @@ use Rattle.ir_tree.specs.Tree.{HeadOf, OpOf, op, RegionsOf, no_regions, region, 
 use Rattle.ir_tree.specs.Ids.{ids, regions_ids, HasDistinctIds, has_id, find}
 use Rattle.ir_tree.specs.Frames.{owner_of}
 use Rattle.ir_tree.specs.Places.{put, put_here, without}
-use Rattle.ir_tree.specs.WellFormed.{ModuleOf, IsWellFormed}
-use Rattle.ir_tree.proofs.Moves.{Absent, take_put}
+use Rattle.ir_tree.specs.WellFormed.{IsWellFormed}
+use Rattle.ir_tree.proofs.Moves.{take_put}
 use Rattle.ir_tree.proofs.Left.{left_ids, left_distinct}
 use Rattle.ir_tree.proofs.Returns.{Present, halves, absent_first, not_equal}
 use Rattle.ir_tree_laws.specs.Members.{In}
-use Rattle.ir_tree_laws.specs.Reasons.{unless, hold_none, holds_none, leaves, unused, take_reason}
+use Rattle.ir_tree_laws.specs.Reasons.{hold_none, holds_none, leaves, unused, take_reason}
 use Rattle.ir_tree_laws.specs.Restores.{MayPut}
-use Rattle.ir_tree_laws.specs.Stands.{StepOf, StandOf, stand_id, stands, sees, is_gone, left_stand, dropping}
+use Rattle.ir_tree_laws.specs.Stands.{StandOf, stand_id, stands, sees, left_stand, dropping}
 use Rattle.ir_tree_laws.proofs.Listed.{bool_cases, either, all_each, each_all}
 use Rattle.ir_tree_laws.proofs.Readings.{stands_every}
 use Rattle.ir_tree_laws.proofs.Members.{found_stands, stand_found}
@@ -30,10 +29,8 @@ use Rattle.ir_tree_laws.proofs.Edited.{put_order, taken_order}
 use Rattle.ir_tree_laws.proofs.Nested.{without_along, found_along}
 use Rattle.ir_tree_laws.proofs.WellKept.{take_keeps}
 use Rattle.edit_laws.specs.Erasing.{all_taken}
+use Rattle.edit_laws.proofs.Parts.{passed}
 use Rattle.edit_laws.proofs.Earlier.{present_left, present_right, present_cases, first_there, crossed, op_cut, seen_earlier}
-
-passed : (b : Bool) (r : Refusal) (rest : Option Refusal) → b ≡ true → rest ≡ None → unless b r rest ≡ None
-passed b r rest h k = ap (λ c. unless c r rest) h ∙ k
 
 no_parts : (xs ys : List ℕ) → xs ++ ys ≡ [] → (xs ≡ []) × (ys ≡ [])
 no_parts [] ys e = (refl, e)
@@ -59,6 +56,13 @@ module _ {N T A : Type 0} where
   none_held (region empty rs) e = none_held rs e
   none_held (region (block args no_ops) rs) e = none_held rs e
   none_held (region (block args (next (op h is) os)) rs) e = absurd cc
+
+  pub own_there : (o : OpOf N T A) → has_id (head o).id o ≡ true
+  own_there (op h rs) = first_there h.id h.id (regions_ids rs) refl
+
+  pub taken_more : (xs ys : List ℕ) (t : OpOf N T A) → all_taken (xs ++ ys) t ≡ all_taken ys (all_taken xs t)
+  taken_more [] ys t = refl
+  taken_more (x ∷ xs) ys t = taken_more xs ys (without x t)
 
   -- the last operation of a tree has none inside it
   module _ (q : OpOf N T A) (d : HasDistinctIds q) (ys : List ℕ) (y : ℕ) (is : ids q ≡ ys ++ y ∷ []) where
@@ -117,10 +121,7 @@ module _ {N T A : Type 0} where
       inner : eqb (head (put place q rest)).id y ≡ false
       inner =
           ap (λ (h : HeadOf N T A). eqb h.id y) (same_head y (put_here place q) rest)
-          ∙ not_equal (head rest).id y (λ e. true≢false (sym (subst (λ z. has_id z rest ≡ true) e (root rest)) ∙ i.may.apart y (last_there q i.may.own ys y is)))
-        where
-          root : (t : OpOf N T A) → has_id (head t).id t ≡ true
-          root (op h rs) = first_there h.id h.id (regions_ids rs) refl
+          ∙ not_equal (head rest).id y (λ e. true≢false (sym (subst (λ z. has_id z rest ≡ true) e (own_there rest)) ∙ i.may.apart y (last_there q i.may.own ys y is)))
 
       -- those that stand in it come no later, and so see none of its values
       unseen : (s : StandOf N T A) → In s (stands [] (put place q rest)) → has_id (stand_id s) q ≡ true → (v : Value) → sees isolated s.path v ≡ true → (owner_of v).0 ≡ y → ⊥
@@ -129,7 +130,7 @@ module _ {N T A : Type 0} where
           let o = put_order place q rest i.may in
           let d = put_distinct place q rest i.may in
           let early : Present y c.front = subst (λ z. Present z c.front) own (seen_earlier isolated (put place q rest) s h v e) in
-          let late : Present (stand_id s) (ids s.here ++ c.back) = present_left (stand_id s) (ids s.here) c.back (root s.here) in
+          let late : Present (stand_id s) (ids s.here ++ c.back) = present_left (stand_id s) (ids s.here) c.back (own_there s.here) in
           elim (present_cases (stand_id s) ys (y ∷ []) (sym (ap (list_any (λ z. eqb z (stand_id s))) is) ∙ k)) [
             | inr a ↦ (let same : stand_id s ≡ y = one a in
                 true≢false (sym (subst (λ z. Present z (ids s.here ++ c.back)) same late) ∙ (halves c.front (ids s.here ++ c.back) (subst (IsDistinct eqb) c.is d)).disjoint y early))
@@ -138,9 +139,6 @@ module _ {N T A : Type 0} where
                 early late (present_right (stand_id s) o.0 ys a) (first_there y y o.1 refl)
           ]
         where
-          root : (t : OpOf N T A) → has_id (head t).id t ≡ true
-          root (op h rs) = first_there h.id h.id (regions_ids rs) refl
-
           one : Present (stand_id s) (y ∷ []) → stand_id s ≡ y
           one a = elim (either (eqb y (stand_id s)) false a) [ inl b ↦ sym (eqb-true y (stand_id s) b) | inr b ↦ absurd (true≢false (sym b)) ]
 
@@ -229,10 +227,6 @@ module _ {N T A : Type 0} where
         let r = reach ys y zs q i e in
         ap (take_reason y) r.is ∙ may_take r.here r.goes_on (reverse zs) y (last_of y zs (ids r.here) (sym r.order))
 
-    all_more : (xs ys : List ℕ) (t : OpOf N T A) → all_taken (xs ++ ys) t ≡ all_taken ys (all_taken xs t)
-    all_more [] ys t = refl
-    all_more (x ∷ xs) ys t = all_more xs ys (without x t)
-
     -- the last one is the root of q
     order_ends : (q : OpOf N T A) → reverse (ids q) ≡ reverse (regions_ids (regions q)) ++ (head q).id ∷ []
     order_ends q = ap reverse (own_ids q) ∙ reverse-append ((head q).id ∷ []) (regions_ids (regions q))
@@ -242,19 +236,16 @@ module _ {N T A : Type 0} where
         let xs = reverse (regions_ids (regions q)) in
         let r = reach xs (head q).id [] q i (sym (order_ends q)) in
         ap (λ l. all_taken l (put place q rest)) (order_ends q)
-        ∙ all_more xs ((head q).id ∷ []) (put place q rest)
+        ∙ taken_more xs ((head q).id ∷ []) (put place q rest)
         ∙ ap (without (head q).id) r.is
         ∙ ap (λ z. without z (put place r.here rest)) (sym r.same)
-        ∙ take_put place r.here rest (r.goes_on.may.apart (head r.here).id (root r.here))
-      where
-        root : (t : OpOf N T A) → has_id (head t).id t ≡ true
-        root (op h rs) = first_there h.id h.id (regions_ids rs) refl
+        ∙ take_put place r.here rest (r.goes_on.may.apart (head r.here).id (own_there r.here))
 
     pub rest_formed : (q : OpOf N T A) → Erasing q → IsWellFormed isolated (record { tree = rest; next = free })
     rest_formed q i =
         let xs = reverse (regions_ids (regions q)) in
         let r = reach xs (head q).id [] q i (sym (order_ends q)) in
-        let e = sym (ap (λ l. all_taken l (put place q rest)) (order_ends q) ∙ all_more xs ((head q).id ∷ []) (put place q rest) ∙ ap (without (head q).id) r.is) ∙ all_gone q i in
+        let e = sym (ap (λ l. all_taken l (put place q rest)) (order_ends q) ∙ taken_more xs ((head q).id ∷ []) (put place q rest) ∙ ap (without (head q).id) r.is) ∙ all_gone q i in
         subst (λ (t : OpOf N T A). IsWellFormed isolated (record { tree = t; next = free })) e
         (take_keeps isolated (head q).id (record { tree = put place r.here rest; next = free }) r.goes_on.formed
         (may_take r.here r.goes_on [] (head q).id (last_of (head q).id [] (ids r.here) (sym r.order))))

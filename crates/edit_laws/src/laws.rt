@@ -1,17 +1,15 @@
 //! Laws of edits that are several events. Each is a function that does nothing: its contract is the law.
-ghost use Rattle.std.specs.Prelude.{◌≡◌, ℕ, true, false, List, [], ◌∷◌, ◌++◌, length, None};
+ghost use Rattle.std.specs.Prelude.{◌≡◌, ℕ, true, false, List, ◌∷◌, ◌++◌, length, None};
 ghost use Rattle.ir_types.specs.Things.{Things};
 ghost use Rattle.ir_tree.specs.declared.place.Place.{Place as Spot};
 ghost use Rattle.ir_tree.specs.declared.value.Value.{Value as TreeValue};
 ghost use Rattle.ir_tree.specs.Tree.{Op, OpOf, head, regions};
 ghost use Rattle.ir_tree.specs.Ids.{HasDistinctIds, IsNumberedFrom, op_count};
 ghost use Rattle.ir_tree.specs.Uses.{same_value, uses_of};
-ghost use Rattle.ir_tree.specs.Edits.{with_operand};
-ghost use Rattle.ir_tree.specs.Places.{without};
 ghost use Rattle.ir_tree.specs.Meaning.{IsSoundIn};
 ghost use Rattle.ir_tree.specs.WellFormed.{IsWellFormed, ModuleOf};
 ghost use Rattle.ir_tree_laws.specs.Reasons.{hold_none, put_reason, set_operand_reason, take_reason};
-ghost use Rattle.machine.specs.Edits.{Erase, Insert, Make, Replace, TestsOf, edited_by, reason_by};
+ghost use Rattle.machine.specs.Edits.{Erase, Insert, Replace, TestsOf, edited_by, reason_by};
 ghost use Rattle.edit_laws.specs.Erasing.{all_taken, erase_order};
 ghost use Rattle.edit_laws.specs.Inserting.{all_made, headers};
 ghost use Rattle.edit_laws.specs.Replacing.{all_set};
@@ -20,7 +18,7 @@ ghost use Rattle.edit_laws.specs.Replacing.{all_set};
 /// are the uses that the old value has, if the two differ; where no reason stands against replacing it, the module is
 /// well-formed there, and no reason stands against the next one.
 pub fn replacing_is_setting<N, T, A>()
-    ensures step { (v : TreeValue) (us : List (ℕ × ℕ)) (u : ℕ × ℕ) (t : OpOf N T A) → all_set v (us ++ u ∷ []) t ≡ with_operand u.0 u.1 v (all_set v us t) }
+    ensures parts { (v : TreeValue) (us vs : List (ℕ × ℕ)) (t : OpOf N T A) → all_set v (us ++ vs) t ≡ all_set v vs (all_set v us t) }
     ensures whole { (w : TestsOf N T) (old new : TreeValue) (m : ModuleOf N T A) → HasDistinctIds m.tree → record m { tree = all_set new (uses_of old m.tree) m.tree } ≡ edited_by w (Replace old new) m }
     ensures left { (old new : TreeValue) (us vs : List (ℕ × ℕ)) (t : OpOf N T A) → HasDistinctIds t → same_value old new ≡ false → us ++ vs ≡ uses_of old t → uses_of old (all_set new us t) ≡ vs }
     ensures formed { (w : TestsOf N T) (old new : TreeValue) (us vs : List (ℕ × ℕ)) (m : ModuleOf N T A) → IsWellFormed w.isolated m → reason_by w (Replace old new) m ≡ None → us ++ vs ≡ uses_of old m.tree
@@ -33,7 +31,7 @@ pub fn replacing_is_setting<N, T, A>()
 /// first. After the operations ys, where zs are left, zs are those that are left of it in the tree; the module is
 /// well-formed there, and no reason stands against taking the next one.
 pub fn erasing_is_taking<N, T, A>()
-    ensures step { (ys : List ℕ) (y : ℕ) (t : OpOf N T A) → all_taken (ys ++ y ∷ []) t ≡ without y (all_taken ys t) }
+    ensures parts { (ys zs : List ℕ) (t : OpOf N T A) → all_taken (ys ++ zs) t ≡ all_taken zs (all_taken ys t) }
     ensures whole { (w : TestsOf N T) (x : ℕ) (m : ModuleOf N T A) → IsWellFormed w.isolated m → reason_by w (Erase x) m ≡ None → record m { tree = all_taken (erase_order x m.tree) m.tree } ≡ edited_by w (Erase x) m }
     ensures left { (w : TestsOf N T) (x : ℕ) (ys zs : List ℕ) (m : ModuleOf N T A) → IsWellFormed w.isolated m → reason_by w (Erase x) m ≡ None → ys ++ zs ≡ erase_order x m.tree → erase_order x (all_taken ys m.tree) ≡ zs }
     ensures formed { (w : TestsOf N T) (x : ℕ) (ys zs : List ℕ) (m : ModuleOf N T A) → IsWellFormed w.isolated m → reason_by w (Erase x) m ≡ None → ys ++ zs ≡ erase_order x m.tree → IsWellFormed w.isolated (record m { tree = all_taken ys m.tree }) }
@@ -44,7 +42,7 @@ pub fn erasing_is_taking<N, T, A>()
 /// it and of each one inside it, in pre-order, those inside at the ends of their blocks. After the headers us, where vs
 /// are left, the module is well-formed, no reason stands against the next one, and its id is the next free one.
 pub fn inserting_is_making<N, T, A>()
-    ensures step { (w : TestsOf N T) (us : List (Spot × OpOf N T A)) (u : Spot × OpOf N T A) (m : ModuleOf N T A) → all_made w (us ++ u ∷ []) m ≡ edited_by w (Make u.0 u.1) (all_made w us m) }
+    ensures parts { (w : TestsOf N T) (us vs : List (Spot × OpOf N T A)) (m : ModuleOf N T A) → all_made w (us ++ vs) m ≡ all_made w vs (all_made w us m) }
     ensures whole { (w : TestsOf N T) (place : Spot) (o : OpOf N T A) (m : ModuleOf N T A) → IsWellFormed w.isolated m → IsNumberedFrom m.next o → reason_by w (Insert place o) m ≡ None → all_made w (headers place o) m ≡ edited_by w (Insert place o) m }
     ensures formed { (w : TestsOf N T) (place : Spot) (o : OpOf N T A) (us vs : List (Spot × OpOf N T A)) (m : ModuleOf N T A) → IsWellFormed w.isolated m → IsNumberedFrom m.next o → reason_by w (Insert place o) m ≡ None → us ++ vs ≡ headers place o
         → IsWellFormed w.isolated (all_made w us m) }

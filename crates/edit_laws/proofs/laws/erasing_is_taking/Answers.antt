@@ -1,9 +1,10 @@
-use Rattle.std.proofs.Common.{ap, ◌∷◌, []}
-use Rattle.edit_laws.proofs.Erased.{taken_more, erased_whole, erased_left, erased_formed, erased_may}
+use Rattle.std.proofs.Common.{ap}
+use Rattle.edit_laws.proofs.Erased.{erased_whole, erased_left, erased_formed, erased_may}
+use Rattle.edit_laws.proofs.Taken.{taken_more}
 use Rattle.edit_laws.proofs.laws.erasing_is_taking.Goals as goal
 
-pub returns-clause-step : goal.returns-clause-step
-returns-clause-step g _ ys y t = taken_more ys (y ∷ []) t
+pub returns-clause-parts : goal.returns-clause-parts
+returns-clause-parts g _ ys zs t = taken_more ys zs t
 
 pub returns-clause-whole : goal.returns-clause-whole
 returns-clause-whole g _ w x m f e = ap (λ t. record m { tree = t }) (erased_whole w x m f e)

@@ -1,7 +1,9 @@
 use Rattle.std.proofs.Common.{subst}
 use Rattle.ir_tree_laws.specs.Members.{In}
-use Rattle.edit_laws.proofs.Bare.{header_count, header_sound, in_middle}
+use Rattle.edit_laws.proofs.Bare.{header_sound}
+use Rattle.edit_laws.proofs.Built.{header_count}
 use Rattle.edit_laws.proofs.Inserted.{header_bare}
+use Rattle.edit_laws.proofs.Parts.{in_middle}
 use Rattle.edit_laws.proofs.laws.headers_are_bare.Goals as goal
 
 pub returns-clause-count : goal.returns-clause-count

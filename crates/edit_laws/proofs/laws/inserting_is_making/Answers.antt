@@ -1,9 +1,8 @@
-use Rattle.std.proofs.Common.{◌∷◌, []}
 use Rattle.edit_laws.proofs.Inserted.{made_more, all_made_whole, made_formed, header_allowed, header_next}
 use Rattle.edit_laws.proofs.laws.inserting_is_making.Goals as goal
 
-pub returns-clause-step : goal.returns-clause-step
-returns-clause-step g _ w us u m = made_more w us (u ∷ []) m
+pub returns-clause-parts : goal.returns-clause-parts
+returns-clause-parts g _ w us vs m = made_more w us vs m
 
 pub returns-clause-whole : goal.returns-clause-whole
 returns-clause-whole g _ w place o m f numbered e = all_made_whole w place o m f numbered e

@@ -1,14 +1,11 @@
 use Rattle.std.proofs.Common.{ap}
-use Rattle.std.specs.Prelude.{◌∷◌, []}
-use Rattle.ir_tree.specs.Uses.{uses_of}
-use Rattle.ir_tree.specs.Tree.{OpOf}
 use Rattle.edit_laws.proofs.Setting.{all_set_more, all_replaced}
 use Rattle.edit_laws.proofs.Left.{some_left}
 use Rattle.edit_laws.proofs.Allowed.{set_formed, set_allowed}
 use Rattle.edit_laws.proofs.laws.replacing_is_setting.Goals as goal
 
-pub returns-clause-step : goal.returns-clause-step
-returns-clause-step g _ v us u t = all_set_more v us (u ∷ []) t
+pub returns-clause-parts : goal.returns-clause-parts
+returns-clause-parts g _ v us vs t = all_set_more v us vs t
 
 pub returns-clause-whole : goal.returns-clause-whole
 returns-clause-whole g _ w old new m d = ap (λ t. record m { tree = t }) (all_replaced old new m.tree d)
