@@ -183,6 +183,9 @@ module _ {N T A : Type 0} (w : TestsOf N T) (place : Place) (o : OpOf N T A) (m 
     made_so_far =
         made_is w us m ((cut_range (map header_id us) (map header_id vs) m.next (op_count o) numbers).0 ∙ ap (range_with_len m.next) (length-map us header_id))
 
+    pub made_tree : (all_made w us m).tree ≡ all_put us m.tree
+    made_tree = ap (λ (n : ModuleOf N T A). n.tree) made_so_far
+
   module _ (us vs : List (Place × OpOf N T A)) (u : Place × OpOf N T A) (k : us ++ u ∷ vs ≡ headers place o) where
     next_id : header_id u ≡ m.next + length us
     next_id = (cut_range (map header_id us) (map header_id (u ∷ vs)) m.next (op_count o) (numbers us (u ∷ vs) k)).1 (header_id u) (map header_id vs) refl ∙ ap (λ n. m.next + n) (length-map us header_id)

@@ -8,3 +8,4 @@ pub mod Erased
 pub mod Built
 pub mod Inserted
 pub mod Bare
+pub mod Stepped

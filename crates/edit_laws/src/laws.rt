@@ -6,11 +6,16 @@ ghost use Rattle.ir_tree.specs.declared.value.Value.{Value as TreeValue};
 ghost use Rattle.ir_tree.specs.Tree.{Op, OpOf, head, regions};
 ghost use Rattle.ir_tree.specs.Ids.{HasDistinctIds, IsNumberedFrom, op_count};
 ghost use Rattle.ir_tree.specs.Uses.{same_value, uses_of};
-ghost use Rattle.ir_tree.specs.Meaning.{IsSoundIn};
-ghost use Rattle.ir_tree.specs.WellFormed.{IsWellFormed, ModuleOf};
+ghost use Rattle.ir_tree.specs.Meaning.{IsSoundIn, isolated_in};
+ghost use Rattle.ir_tree.specs.WellFormed.{IsWellFormed, Module as Numbered, ModuleOf};
 ghost use Rattle.ir_tree_laws.specs.Reasons.{hold_none, put_reason, set_operand_reason, take_reason};
+ghost use Rattle.ir_event.specs.declared.event.Event.{Event as Change};
+ghost use Rattle.ir_event.specs.Modules.{module_meaning};
+ghost use Rattle.ir_event.specs.Step.{Steps};
+ghost use Rattle.machine.specs.Contents.{EditIsOf, NumberedEdit, edit_meaning, edited, tests_in};
 ghost use Rattle.machine.specs.Edits.{Erase, Insert, Replace, TestsOf, edited_by, reason_by};
 ghost use Rattle.edit_laws.specs.Erasing.{all_taken, erase_order};
+ghost use Rattle.edit_laws.specs.Events.{event_count};
 ghost use Rattle.edit_laws.specs.Inserting.{all_made, headers};
 ghost use Rattle.edit_laws.specs.Replacing.{all_set};
 
@@ -58,4 +63,11 @@ pub fn headers_are_bare()
     ensures count { (place : Spot) (o : Op) → length (headers place o) ≡ op_count o }
     ensures empty { (place : Spot) (o : Op) (us vs : List (Spot × Op)) (u : Spot × Op) → us ++ u ∷ vs ≡ headers place o → hold_none (regions u.1) ≡ true }
     ensures sound { (c : Things) (place : Spot) (o : Op) (us vs : List (Spot × Op)) (u : Spot × Op) → IsSoundIn c o → us ++ u ∷ vs ≡ headers place o → IsSoundIn c u.1 }
+{}
+
+/// An edit of a module of a context, against which no reason stands, is a list of steps, one after another: one for each
+/// operation that is inserted or erased, one for each use that is replaced, and one for an edit of another kind.
+pub fn edits_are_lists_of_steps()
+    ensures { (c : Things) (e : NumberedEdit) (m : Numbered) → IsWellFormed (isolated_in c) m → IsSoundIn c m.tree → EditIsOf c m e → reason_by (tests_in c) e m ≡ None
+        → (what : List Change) × (length what ≡ event_count e m) × Steps c what (module_meaning c m) (edited (edit_meaning c e) (module_meaning c m)) }
 {}
