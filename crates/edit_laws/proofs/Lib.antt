@@ -1,0 +1,11 @@
+pub mod Parts
+pub mod Setting
+pub mod Left
+pub mod Allowed
+pub mod Earlier
+pub mod Taken
+pub mod Erased
+pub mod Built
+pub mod Inserted
+pub mod Bare
+pub mod Stepped

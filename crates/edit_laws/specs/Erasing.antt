@@ -1,0 +1,19 @@
+-- Erasing an operation, one operation at a time.
+use Rattle.std.specs.Prelude.{ℕ, List, [], ◌∷◌, reverse, Option, Some, None}
+use Rattle.ir_tree.specs.Tree.{OpOf}
+use Rattle.ir_tree.specs.Ids.{ids, find}
+use Rattle.ir_tree.specs.Places.{without}
+
+-- the ids in an operation that may be there, in pre-order
+abbrev pub ids_in : {N T A : Type 0} → Option (OpOf N T A) → List ℕ
+ids_in None = []
+ids_in (Some o) = ids o
+
+-- operation x and those inside it, the last in pre-order first
+abbrev pub erase_order : {N T A : Type 0} → ℕ → OpOf N T A → List ℕ
+erase_order x t = reverse (ids_in (find x t))
+
+-- a tree without some operations, taken one after another
+abbrev pub all_taken : {N T A : Type 0} → List ℕ → OpOf N T A → OpOf N T A
+all_taken [] t = t
+all_taken (y ∷ ys) t = all_taken ys (without y t)

@@ -1,0 +1,4 @@
+pub mod Replacing
+pub mod Erasing
+pub mod Inserting
+pub mod Events

@@ -1,0 +1,4 @@
+//! Replacing a value, erasing an operation and inserting one are lists of edits that are one event each.
+#![tactic(auto)]
+
+pub mod laws;
