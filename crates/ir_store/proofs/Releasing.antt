@@ -27,6 +27,7 @@ use Rattle.ir_store_base.specs.Marks.{Marked}
 use Rattle.ir_store_base.proofs.Slots.{in_tree_is}
 use Rattle.ir_store.proofs.Tally.{live_stays, some_live}
 use Rattle.ir_store.proofs.Whole.{Whole}
+use Rattle.ir_store_base.proofs.Items.{some_same}
 
 abbrev result_with : ℕ → Head → ℕ → Option ℕ
 result_with i h b = if nat_lt i (length h.results) then Some (b + i) else None

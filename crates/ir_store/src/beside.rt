@@ -8,10 +8,10 @@ ghost use Rattle.ir_store_base.specs.Rows.{rows_of, live_slot};
 ghost use Rattle.ir_store_base.specs.Spots.{id_in};
 ghost use Rattle.ir_store.specs.Heading.{block_in, CanStand};
 
+use crate::store::Store;
 use ir_store_base::find::{Keys, find};
 use ir_store_base::row::Row;
 use ir_store_base::spot::block_head;
-use crate::store::Store;
 use ir_store_base::uses::id_at;
 use ir_types::ids::OpId;
 use order::Ordered;

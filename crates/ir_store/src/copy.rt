@@ -1,8 +1,8 @@
 //! The tree of a store.
 ghost use Rattle.std.specs.Prelude.{◌≡◌, IfOk};
 
-use ir_store_reads::copy::copy_op;
 use crate::store::Store;
+use ir_store_reads::copy::copy_op;
 use ir_tree::tree::TreeOp;
 use std::alloc::AllocError;
 

@@ -14,8 +14,8 @@ ghost use Rattle.ir_store.specs.Calls.{Loaded};
 ghost use Rattle.ir_store_base.specs.Emptied.{emptied};
 ghost use Rattle.ir_store.specs.Loads.{end_of, put_region, put_regions, MayRegion, MayRegions, Adds, AreBelow};
 
-use ir_store_base::room::room_for;
 use crate::store::Store;
+use ir_store_base::room::room_for;
 use ir_tree::check::check;
 use ir_tree::place::Place;
 use ir_tree::tree::{TreeOp, TreeRegion};

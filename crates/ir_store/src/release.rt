@@ -1,8 +1,8 @@
 //! Held operations are given up.
 ghost use Rattle.ir_store.specs.Calls.{Releases};
 
-use ir_store_base::release::release_slots;
 use crate::store::Store;
+use ir_store_base::release::release_slots;
 
 impl Store {
     /// Gives up the held operations with an id from `from` on. From 0 on, the slots of the keys that were taken out of

@@ -18,12 +18,12 @@ ghost use Rattle.ir_store_base.specs.Rows.{rows_of, live_slot};
 ghost use Rattle.ir_store_base.specs.Spots.{spot_in};
 ghost use Rattle.ir_store.specs.Shifting.{CanRelink, level, relink_reason, table_at, unseen_reason};
 
-use ir_store_reads::depth::op_fits;
+use crate::store::Store;
 use ir_store_base::find::{Keys, find};
 use ir_store_base::row::Row;
 use ir_store_base::spot::{find_spot, link};
-use crate::store::Store;
 use ir_store_base::uses::id_at;
+use ir_store_reads::depth::op_fits;
 use ir_tree::place::Place;
 use ir_types::context::Context;
 use ir_types::ids::OpId;

@@ -17,10 +17,11 @@ ghost use Rattle.ir_store.specs.Calls.{after_take, after_restore, after_retract,
 ghost use Rattle.ir_store_base.specs.Emptied.{after_grow, seeded};
 ghost use Rattle.ir_store.specs.Holds.{HoldsOf, HoldsOf-prop, GoneOf, GoneOf-prop};
 
+use chains::Chains;
+use id_table::IdTable;
 use ir_store_base::find::{Keys, find, slot};
 use ir_store_base::grow::grow_slot;
 use ir_store_base::marks::{new_marks, put_mark, reach};
-use ir_store_reads::node::Node;
 use ir_store_base::room::Room;
 use ir_store_base::row::{Cell, Row, put_operand, put_row};
 use ir_store_base::spot::{find_joint, link};
@@ -28,8 +29,7 @@ use ir_store_base::uses::{
     find_idle, find_rewire, free_uses, lead_row, list_uses, live_type, use_node, use_run,
     value_head,
 };
-use chains::Chains;
-use id_table::IdTable;
+use ir_store_reads::node::Node;
 use ir_tree::place::Place;
 use ir_tree::tree::TreeOp;
 use ir_tree::value::Value;

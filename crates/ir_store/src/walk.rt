@@ -2,8 +2,8 @@
 ghost use Rattle.std.specs.Prelude.{◌≡◌, IfOk};
 ghost use Rattle.ir_tree.specs.Ids.{ids};
 
-use ir_store_reads::walk::push_op;
 use crate::store::Store;
+use ir_store_reads::walk::push_op;
 use ir_types::ids::OpId;
 use std::alloc::AllocError;
 

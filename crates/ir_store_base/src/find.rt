@@ -76,12 +76,7 @@ pub fn find_leaf(
 }
 
 /// The slot of an operation of the module that has this operand.
-pub fn find_operand(
-    rows: &Vec<Row>,
-    keys: &Keys,
-    op: OpId,
-    place: usize,
-) -> Result<usize, Refusal>
+pub fn find_operand(rows: &Vec<Row>, keys: &Keys, op: OpId, place: usize) -> Result<usize, Refusal>
     ensures { result ≡ operand_in (rows_of rows.now.items) place (live_slot (rows_of rows.now.items) (finmap.get keys.now) op) }
 {
     let Some(key) = find(rows, keys, op) else {

@@ -141,12 +141,7 @@ pub fn slot_head(rows: &Vec<Row>, key: usize, value: &Value) -> Option<usize>
 }
 
 /// The head of the uses of a value of an operation that has a slot.
-pub fn value_head(
-    rows: &Vec<Row>,
-    keys: &Keys,
-    uses: &Chains,
-    value: &Value,
-) -> Option<usize>
+pub fn value_head(rows: &Vec<Row>, keys: &Keys, uses: &Chains, value: &Value) -> Option<usize>
     requires head { (h : ℕ) → value_head (rows_of rows.now.items) (finmap.get keys.now) value.now ≡ Some h → IsHead uses.now.homes h }
     requires few { length uses.now.homes < free }
     ensures { result ≡ value_head (rows_of rows.now.items) (finmap.get keys.now) value.now }
@@ -166,13 +161,7 @@ pub fn owner(value: &Value) -> OpId
 }
 
 /// Puts nodes into the lists of the heads of operands.
-pub fn lead_uses(
-    uses: &mut Chains,
-    rows: &Vec<Row>,
-    keys: &Keys,
-    base: usize,
-    operands: &[Value],
-)
+pub fn lead_uses(uses: &mut Chains, rows: &Vec<Row>, keys: &Keys, base: usize, operands: &[Value])
     requires { CanLead (value_head (rows_of rows.now.items) (finmap.get keys.now)) base operands.now uses.old.homes }
     ensures { uses.new.homes ≡ all_led (value_head (rows_of rows.now.items) (finmap.get keys.now)) base operands.now uses.old.homes }
 {
