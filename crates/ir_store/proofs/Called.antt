@@ -6,34 +6,26 @@ use Rattle.chains.specs.Lists.{Lists, free, without as drop_node, IsItem}
 use Rattle.ir_tree.specs.Tree.{Op}
 use Rattle.ir_tree.specs.Ids.{find}
 use Rattle.ir_tree.specs.Places.{without}
-use Rattle.ir_store.specs.declared.row.Row.{Row as Kept}
+use Rattle.ir_store_base.specs.declared.row.Row.{Row as Kept}
 use Rattle.ir_store.specs.declared.store.Store.TheInside.{Inside}
-use Rattle.ir_store.specs.Stored.{Stored}
+use Rattle.ir_store_base.specs.Stored.{Stored}
 use Rattle.ir_store.specs.Calls.{after_take, hold}
-use Rattle.ir_store.specs.Rows.{Row, row_at, row_of, rows_of, no_row, held_in, gone_in}
-use Rattle.ir_store.specs.Spells.{SpellsOp, Spelled, Spelled-prop, spelled_is}
+use Rattle.ir_store_base.specs.Rows.{Row, row_at, row_of, rows_of, no_row, held_in, gone_in}
+use Rattle.ir_store_base.specs.Spells.{SpellsOp, Spelled, Spelled-prop, spelled_is}
 use Rattle.ir_store.specs.Holds.{HoldsOf, HoldsOf-prop, GoneOf, GoneOf-prop, map_is}
-use Rattle.ir_store.specs.Right.{Right}
-use Rattle.ir_store.proofs.Slots.{found_op, node_known, used_inside}
+use Rattle.ir_store_base.specs.Right.{Right}
+use Rattle.ir_store_base.proofs.Slots.{found_op, node_known, used_inside}
 use Rattle.std.specs.Prelude.{option_map}
-use Rattle.ir_store.specs.Nodes.{node_of}
-use Rattle.ir_store.specs.Stored.{known}
-use Rattle.ir_store.specs.Rows.{node_row, row_with_operand, live_slot}
+use Rattle.ir_store_base.specs.Nodes.{node_of}
+use Rattle.ir_store_base.specs.Stored.{known}
+use Rattle.ir_store_base.specs.Rows.{node_row, row_with_operand, live_slot}
 use Rattle.ir_tree.specs.declared.value.Value.{Value}
 use Rattle.ir_tree.specs.Edits.{with_operand}
 use Rattle.ir_store.specs.Calls.{after_operand}
-use Rattle.ir_store.proofs.Slots.{Found, found}
+use Rattle.ir_store_base.proofs.Slots.{Found, found}
 use Rattle.ir_store.proofs.Writing.{write_spells, write_right, write_holds, write_gone}
 use Rattle.ir_store.proofs.Taking.{IsLeaf, cut_spells, cut_right, cut_holds, cut_gone}
-
-pub read_row : (items : List Kept) (k : ℕ) (n : Kept) → k < length items → n ≡ get_or items k n → row_at (rows_of items) k ≡ row_of n
-read_row items k n l e = get_or-map row_of items k n no_row l ∙ ap row_of (sym e)
-
-pub other_row : (items : List Kept) (k : ℕ) (n : Kept) (q : ℕ) → (q ≡ k → ⊥) → row_at (rows_of (set items k n)) q ≡ row_at (rows_of items) q
-other_row items k n q ne = ap (λ z. row_at z q) (map-set row_of items k n) ∙ get_or-set_other (rows_of items) k q (row_of n) no_row ne
-
-pub own_row : (items : List Kept) (k : ℕ) (n : Kept) → k < length items → row_at (rows_of (set items k n)) k ≡ row_of n
-own_row items k n l = ap (λ z. row_at z k) (map-set row_of items k n) ∙ get_or-set_same (rows_of items) k (row_of n) no_row (omega (arith, l, length-map items row_of))
+use Rattle.ir_store_base.proofs.Items.{read_row, other_row, own_row}
 
 abbrev pub rows_in : Inside → List Row
 rows_in a = rows_of a.rows.items

@@ -18,13 +18,13 @@ use Rattle.std.proofs.lemmas.List.Elements.{recursion_from_All}
 use Rattle.ir_tree_laws.specs.Reasons.{with_id}
 use Rattle.ir_tree_laws.specs.Restores.{MayPut}
 use Rattle.ir_tree_laws.specs.Values.{has_value}
-use Rattle.ir_store.specs.Stored.{Stored, Gone, none_gone, known}
-use Rattle.ir_store.specs.Emptied.{seeded, emptied_regions, emptied, after_grow}
+use Rattle.ir_store_base.specs.Stored.{Stored, Gone, none_gone, known}
+use Rattle.ir_store_base.specs.Emptied.{seeded, emptied_regions, emptied, after_grow}
 use Rattle.ir_store.specs.Calls.{Loaded, CanRestore, after_restore, put_held}
 use Rattle.ir_store.specs.Loads.{end_of, put_ops, put_region, put_regions, MayOps, MayRegion, MayRegions, gone_with, Adds, AreBelow, RegionsLeft, OpsLeft}
-use Rattle.ir_store.proofs.Founds.{has_is, not_found}
-use Rattle.ir_store.proofs.Taking.{eq_nat}
-use Rattle.ir_store.proofs.Grown.{take_all}
+use Rattle.ir_store_base.proofs.Founds.{has_is, not_found}
+use Rattle.ir_store_base.proofs.Items.{eq_nat}
+use Rattle.ir_store_base.proofs.Grown.{take_all}
 use Rattle.ir_store.proofs.Loaded.{may_inside, put_inside, whole_inside}
 
 any_parts : (p : ℕ → Bool) (xs ys : List ℕ) → list_any p (xs ++ ys) ≡ (list_any p xs || list_any p ys)
@@ -212,10 +212,6 @@ none_at ys xs e n l = subst (λ z. drop n z ≡ []) e (go ys n l)
     go [] (suc n) l = refl
     go (y ∷ ys) zero l = absurd (omega (arith, l))
     go (y ∷ ys) (suc n) l = go ys n (omega (arith, l))
-
-pub on_ok : {X Y A B : Type 0} (r : Result X Y) → (A → B) → OnOk r A → OnOk r B
-on_ok (Ok x) f a = f a
-on_ok (Err e) f a = tt
 
 pub ops_start : (p n : ℕ) (g : Region) (args : List ℕ) (os : Ops) (s : Stored) → g ≡ block args os → MayRegion p n g s.module_of.tree → s.held ≡ finmap.empty → AreBelow s.module_of.next (region_ids g)
     → OpsLeft p n os (put_region p n g s.module_of.tree) (region_ids g) s s

@@ -12,24 +12,22 @@ use Rattle.ir_tree.specs.declared.value.Value.TheVariants.{Result, Arg}
 use Rattle.ir_tree.specs.Frames.{owner_of}
 use Rattle.ir_tree.specs.Tree.{Head, Op, op, Regions, no_regions, region, Region, empty, block, Ops, no_ops, next}
 use Rattle.ir_tree.specs.Ids.{has_id, op_count, HasDistinctIds}
-use Rattle.ir_store.specs.declared.row.Row.{Row as Kept}
+use Rattle.ir_store_base.specs.declared.row.Row.{Row as Kept}
 use Rattle.ir_store.specs.declared.store.Store.TheInside.{Inside}
-use Rattle.ir_store.specs.Stored.{Stored, Gone, none_gone}
+use Rattle.ir_store_base.specs.Stored.{Stored, Gone, none_gone}
 use Rattle.ir_store.specs.Calls.{Releases, gone_left}
-use Rattle.ir_store.specs.Releases.{is_given, released, key_left}
-use Rattle.ir_store.specs.Rows.{Row, Shape, row_at, rows_of, held_in, gone_in, bare, if_live}
-use Rattle.ir_store.specs.Spells.{SpellsOp, SpellsRegions, SpellsRegion, SpellsOps, Spelled, spelled_is}
+use Rattle.ir_store_base.specs.Releases.{is_given, released, key_left}
+use Rattle.ir_store_base.specs.Rows.{Row, Shape, row_at, rows_of, held_in, gone_in, bare, if_live}
+use Rattle.ir_store_base.specs.Spells.{SpellsOp, SpellsRegions, SpellsRegion, SpellsOps, Spelled, spelled_is}
 use Rattle.ir_store.specs.Holds.{HoldsOf, GoneOf, map_is}
-use Rattle.ir_store.specs.Right.{Live, Used, Right}
-use Rattle.ir_store.specs.Index.{operand_at, cell_at, LinkedTo, argument_head, slot_head, value_head, Index, Fits, lives, HasOwners, HasIdsBelow, cells_of}
+use Rattle.ir_store_base.specs.Right.{Live, Used, Right}
+use Rattle.ir_store_base.specs.Index.{operand_at, cell_at, LinkedTo, argument_head, slot_head, value_head, Index, Fits, lives, HasOwners, HasIdsBelow, cells_of}
 use Rattle.ir_store.proofs.Called.{rows_in, keys_in, stored}
-use Rattle.ir_store.specs.Marks.{Marked}
-use Rattle.ir_store.proofs.Slots.{in_tree_is}
+use Rattle.ir_store_base.specs.Marks.{Marked}
+use Rattle.ir_store_base.proofs.Slots.{in_tree_is}
 use Rattle.ir_store.proofs.Tally.{live_stays, some_live}
 use Rattle.ir_store.proofs.Whole.{Whole}
-
-pub some_same : {X : Type 0} (x y : X) → Some x ≡ Some y → x ≡ y
-some_same x y e = cc
+use Rattle.ir_store_base.proofs.Items.{some_same}
 
 abbrev result_with : ℕ → Head → ℕ → Option ℕ
 result_with i h b = if nat_lt i (length h.results) then Some (b + i) else None

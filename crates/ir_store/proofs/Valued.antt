@@ -12,12 +12,12 @@ use Rattle.ir_tree.specs.Tree.{Op, op, Regions, no_regions, region, empty, block
 use Rattle.ir_tree_laws.specs.Values.{region_at, arguments_of, arguments_at, type_of_value, has_value}
 use Rattle.ir_tree_laws.specs.Reads.{ops_in, is_among}
 use Rattle.ir_tree_laws.specs.Reasons.{is_in_list, has_place}
-use Rattle.ir_store.specs.Rows.{Row, Shape, row_at, live_slot, if_live, head_in}
-use Rattle.ir_store.specs.Spells.{SpellsOp, SpellsRegions, SpellsOps}
-use Rattle.ir_store.specs.Spots.{spot_in, before_in, at_slot, stands}
-use Rattle.ir_store.specs.Right.{Live, Right}
-use Rattle.ir_store.specs.Index.{slot_head, result_head, argument_head, value_head, shape_type, slot_type, type_in}
-use Rattle.ir_store.proofs.Slots.{found, found_op, none_found, slot_of_live}
+use Rattle.ir_store_base.specs.Rows.{Row, Shape, row_at, live_slot, if_live, head_in}
+use Rattle.ir_store_base.specs.Spells.{SpellsOp, SpellsRegions, SpellsOps}
+use Rattle.ir_store_base.specs.Spots.{spot_in, before_in, at_slot, stands}
+use Rattle.ir_store_base.specs.Right.{Live, Right}
+use Rattle.ir_store_base.specs.Index.{slot_head, result_head, argument_head, value_head, shape_type, slot_type, type_in}
+use Rattle.ir_store_base.proofs.Slots.{found, found_op, none_found, slot_of_live}
 use Rattle.ir_store.proofs.Cut.{head_id, live_of}
 use Rattle.ir_store.proofs.Spotted.{item_of}
 
@@ -38,18 +38,6 @@ some_get (x ∷ xs) (suc i) = some_get xs i ∙ sym (both i (length xs))
   where
     both : (i n : ℕ) → nat_lt (suc i) (suc n) ≡ nat_lt i n
     both i n = grind (arith, nat_tests)
-
--- a value of an operation that has a live slot has one
-pub live_head : (rows : List Row) (keys : ℕ → Option ℕ) (v : Value) (h : ℕ) → value_head rows (live_slot rows keys) v ≡ Some h → value_head rows keys v ≡ Some h
-live_head rows keys v h e = go (keys (owner_of v).0) e
-  where
-    go : (o : Option ℕ) → option_and_then (slot_head rows v) (if_live rows o) ≡ Some h → option_and_then (slot_head rows v) o ≡ Some h
-    go None f = absurd cc
-    go (Some q) f = test (row_at rows q).live f
-      where
-        test : (b : Bool) → option_and_then (slot_head rows v) (if b then Some q else None) ≡ Some h → slot_head rows v q ≡ Some h
-        test true g = g
-        test false g = absurd cc
 
 module _ (rows : List Row) (keys : ℕ → Option ℕ) (sibs : Lists) (root : ℕ) (t : Op) (r : Right rows keys sibs root t) (s : SpellsOp rows sibs.lists root t) where
   args_are : (i n : ℕ) (xs : List Shape) (rs : Regions) → SpellsRegions rows sibs.lists xs rs → is_some (option_and_then (argument_head rows i) (slice_get xs n)) ≡ is_some (option_and_then (λ args. slice_get args i) (option_and_then arguments_of (region_at n rs)))

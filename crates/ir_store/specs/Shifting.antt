@@ -12,7 +12,7 @@ use Rattle.ir_tree.specs.Places.{shifted}
 use Rattle.ir_tree_laws.specs.Reads.{around}
 use Rattle.ir_tree_laws.specs.Tables.{table_of}
 use Rattle.ir_tree_laws.specs.Reasons.{unless, has_place, leads_inside, same_table, fits_around, levels_in}
-use Rattle.ir_store.specs.Rows.{Row, Shape, row_at}
+use Rattle.ir_store_base.specs.Rows.{Row, Shape, row_at}
 
 -- operation x is there and not the root, and the place is there and not within it
 pub record CanRelink (x : ℕ) (place : Place) (t : Op) : Type 0 where
@@ -37,23 +37,6 @@ near_table is_table near h = option_and_then (λ h. if is_table h.name then Some
 -- from operation x up
 abbrev pub table_at : {N T A : Type 0} → (N → Bool) → ℕ → OpOf N T A → Option ℕ
 table_at is_table x t = near_table is_table (table_of is_table x t) (option_map head (find x t))
-
--- the lists of the blocks hold only slots that pass a test
-abbrev pub shapes_pass : List (List ℕ) → (ℕ → Bool) → List Shape → Bool
-shapes_pass lists p [] = true
-shapes_pass lists p (None ∷ xs) = shapes_pass lists p xs
-shapes_pass lists p (Some a ∷ xs) = list_all p (list_at lists a.1) && shapes_pass lists p xs
-
--- whether the operation of slot k has fewer levels inside it than n
-abbrev pub slot_fits : List Row → List (List ℕ) → ℕ → ℕ → Bool
-slot_fits rows lists zero k = false
-slot_fits rows lists (suc n) k = (row_at rows k).live && shapes_pass lists (slot_fits rows lists n) (row_at rows k).shapes
-
--- a list from a slot on
-abbrev pub from_slot : Option ℕ → List ℕ → List ℕ
-from_slot None ks = []
-from_slot (Some k) [] = []
-from_slot (Some k) (q ∷ ks) = if eqb q k then q ∷ ks else from_slot (Some k) ks
 
 -- how many operations stand around one that may be there
 abbrev pub level : Option ℕ → ℕ

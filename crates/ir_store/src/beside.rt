@@ -4,15 +4,15 @@ ghost use Rattle.std.specs.FinMap as finmap;
 ghost use Rattle.chains.specs.Lists.{home_at, list_at};
 ghost use Rattle.order.specs.Labels.{goes_before};
 ghost use Rattle.ir_tree_laws.specs.Reads.{first_at, last_at, prev_of, is_before};
-ghost use Rattle.ir_store.specs.Rows.{rows_of, live_slot};
-ghost use Rattle.ir_store.specs.Spots.{id_in};
+ghost use Rattle.ir_store_base.specs.Rows.{rows_of, live_slot};
+ghost use Rattle.ir_store_base.specs.Spots.{id_in};
 ghost use Rattle.ir_store.specs.Heading.{block_in, CanStand};
 
-use crate::find::{Keys, find};
-use crate::row::Row;
-use crate::spot::block_head;
 use crate::store::Store;
-use crate::uses::id_at;
+use ir_store_base::find::{Keys, find};
+use ir_store_base::row::Row;
+use ir_store_base::spot::block_head;
+use ir_store_base::uses::id_at;
 use ir_types::ids::OpId;
 use order::Ordered;
 

@@ -5,23 +5,17 @@
 
 mod beside;
 mod copy;
-mod depth;
 mod entry;
-mod find;
-mod grow;
 mod load;
 mod look;
-mod marks;
-pub mod node;
 mod preorder;
 mod put;
 mod release;
-mod room;
-pub mod row;
 mod shift;
 mod sight;
-mod spot;
 mod stand;
 pub mod store;
-mod uses;
 mod walk;
+
+pub use ir_store_base::row;
+pub use ir_store_reads::node;

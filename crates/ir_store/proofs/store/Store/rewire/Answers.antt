@@ -1,7 +1,7 @@
 use Rattle.std.proofs.Common.{refl, ◌∙◌, sym, ap, subst, length, ◌<◌, set, arith}
 use Rattle.std.specs.Prelude.{Ok, Err}
 use Rattle.ir_store.specs.Calls.{after_operand}
-use Rattle.ir_store.specs.Reasoned.{rewire_reason}
+use Rattle.ir_store_base.specs.Reasoned.{rewire_reason}
 use Rattle.ir_store.proofs.Called.{same_inside, operands_of, write_given, write_done}
 use Rattle.ir_store.proofs.Whole.{rewire_head, rewired, rewire_item, rewire_free, rewire_headed, rewire_fits}
 use Rattle.chains.specs.Lists.{IsItem, free}

@@ -1,8 +1,8 @@
 use Rattle.std.proofs.Common.{sym, ap, ◌∙◌}
-use Rattle.ir_store.specs.Spells.{spelled_is}
+use Rattle.ir_store_base.specs.Spells.{spelled_is}
 use Rattle.ir_store.proofs.Called.{rows_in, keys_in}
 use Rattle.ir_store.proofs.Taking.{heads_of}
-use Rattle.ir_store.proofs.Copied.{if_ok}
+use Rattle.ir_store_reads.proofs.Copied.{if_ok}
 use Rattle.ir_store.proofs.store.Store.tree.Goals as goal
 
 pub copy_op-requires : goal.copy_op-requires

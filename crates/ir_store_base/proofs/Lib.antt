@@ -1,0 +1,14 @@
+pub mod Mapped
+pub mod Founds
+pub mod Slots
+pub mod Idle
+pub mod Wide
+pub mod Runs
+pub mod Blocks
+pub mod Grown
+pub mod Marking
+pub mod Sweeping
+pub mod Listed
+pub mod Walked
+pub mod Items
+pub mod Heads

@@ -1,0 +1,14 @@
+use Rattle.std.proofs.Common.{◌∙◌, sym, refl, true, false}
+use Rattle.ir_store_base.specs.Rows.{rows_of}
+use Rattle.ir_store_base.proofs.Listed.{node_marked}
+use Rattle.ir_store_base.proofs.release.release_node.Goals as goal
+
+pub returns-then-release_slot-clause-marked : goal.returns-then-release_slot-clause-marked
+returns-then-release_slot-clause-marked c =
+    node_marked c.args.from (rows_of c.args.rows.now.items) (rows_of c.release_slot.new.rows.items) c.args.keys.now c.release_slot.new.keys c.args.marks.now.lists c.args.marks.now.homes c.remove.new.self.homes c.laws.ensures c.requires.marked c.args.node c.requires.there
+    c.release_slot.ensures.slot true (sym c.release_slot.ensures.given ∙ c.if-release_slot.true) c.remove.ensures.homes
+
+pub returns-else-release_slot-clause-marked : goal.returns-else-release_slot-clause-marked
+returns-else-release_slot-clause-marked c =
+    node_marked c.args.from (rows_of c.args.rows.now.items) (rows_of c.release_slot.new.rows.items) c.args.keys.now c.release_slot.new.keys c.args.marks.now.lists c.args.marks.now.homes c.args.marks.now.homes c.laws.ensures c.requires.marked c.args.node c.requires.there
+    c.release_slot.ensures.slot false (sym c.release_slot.ensures.given ∙ c.if-release_slot.false) refl

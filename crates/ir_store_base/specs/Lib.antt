@@ -1,0 +1,16 @@
+pub mod Nodes
+pub mod Stored
+pub mod Emptied
+pub mod Rows
+pub mod Spells
+pub mod Right
+pub mod Marks
+pub mod Plans
+pub mod Spots
+pub mod Index
+pub mod Reasoned
+pub mod Using
+pub mod Grows
+pub mod Releases
+pub mod Entered
+pub mod Walks

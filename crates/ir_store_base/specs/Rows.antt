@@ -1,0 +1,108 @@
+-- What the slots hold, as plain data.
+use Rattle.std.specs.Prelude.{ℕ, List, [], ◌∷◌, map, Bool, false, get_or, not, ◌&&◌, if◌then◌else◌, option_map, Option, Some, None}
+use Rattle.ir_tree.specs.Tree.{Head, Op, op, Regions, no_regions, region, empty, block, no_ops}
+use Rattle.ir_store_base.specs.Stored.{Gone, none_gone}
+use Rattle.ir_store_base.specs.Nodes.{Node}
+use Rattle.ir_tree.specs.declared.value.Value.{Value}
+use Rattle.ir_tree.specs.Edits.{put_operand}
+use Rattle.ir_store_base.specs.declared.row.Row.{Row as Kept}
+use Rattle.ir_store_base.specs.declared.row.Area.{Area}
+use Rattle.ir_store_base.specs.declared.row.Area.TheVariants.{Empty, Block}
+
+-- a region's arguments, and the head of the list of its operations
+abbrev pub Shape : Type 0
+Shape = Option (List ℕ × ℕ)
+
+abbrev pub shape_of : Area → Shape
+shape_of Empty = None
+shape_of (Block args node) = Some (args.items, node)
+
+pub record Row : Type 0 where
+  pub used : Bool
+  pub live : Bool
+  pub head : Head
+  pub gone : Gone
+  pub shapes : List Shape
+  pub owner : ℕ
+  pub region : ℕ
+  -- the node of its first operand
+  pub uses : ℕ
+  -- the head of the uses of its first result, or of a block's first argument
+  pub values : ℕ
+
+abbrev pub no_head : Head
+no_head = record { id = 0; name = 0; operands = []; results = []; properties = []; attributes = [] }
+
+abbrev pub no_row : Row
+no_row = record { used = false; live = false; head = no_head; gone = none_gone; shapes = []; owner = 0; region = 0; uses = 0; values = 0 }
+
+abbrev pub row_of : Kept → Row
+row_of n = record {
+  used = n.used;
+  live = n.live;
+  head = record { id = n.id; name = n.name; operands = n.operands.items; results = n.results.items; properties = n.props.present; attributes = n.attrs.present };
+  gone = record { properties = n.props.gone; attributes = n.attrs.gone };
+  shapes = map shape_of n.areas.items;
+  owner = n.owner;
+  region = n.region;
+  uses = n.uses;
+  values = n.values;
+}
+
+abbrev pub rows_of : List Kept → List Row
+rows_of = map row_of
+
+abbrev pub row_at : List Row → ℕ → Row
+row_at rows k = get_or rows k no_row
+
+-- where an operation of the tree stands: `keys` tells the slots of operations
+abbrev pub if_live : List Row → Option ℕ → Option ℕ
+if_live rows None = None
+if_live rows (Some k) = if (row_at rows k).live then Some k else None
+
+abbrev pub live_slot : List Row → (ℕ → Option ℕ) → ℕ → Option ℕ
+live_slot rows keys x = if_live rows (keys x)
+
+-- the operation of a slot, with nothing in its blocks
+abbrev pub bare_regions : List Shape → Regions
+bare_regions [] = no_regions
+bare_regions (None ∷ xs) = region empty (bare_regions xs)
+bare_regions (Some a ∷ xs) = region (block a.0 no_ops) (bare_regions xs)
+
+abbrev pub bare : Row → Op
+bare r = op r.head (bare_regions r.shapes)
+
+-- what is held, and what is gone, as the slots tell
+abbrev pub held_in : List Row → Option ℕ → Option Op
+held_in rows None = None
+held_in rows (Some k) = if (row_at rows k).live then None else Some (bare (row_at rows k))
+
+abbrev pub gone_in : List Row → Option ℕ → Option Gone
+gone_in rows None = None
+gone_in rows (Some k) = Some (row_at rows k).gone
+
+-- the slot of a held operation
+abbrev pub if_held : List Row → Option ℕ → Option ℕ
+if_held rows None = None
+if_held rows (Some k) = if (row_at rows k).used && not (row_at rows k).live then Some k else None
+
+abbrev pub held_slot : List Row → (ℕ → Option ℕ) → ℕ → Option ℕ
+held_slot rows keys x = if_held rows (keys x)
+
+-- the head of a region's list
+abbrev pub head_in : Shape → Option ℕ
+head_in None = None
+head_in (Some a) = Some a.1
+
+-- the types of a block's arguments
+abbrev pub shape_arguments : Shape → Option (List ℕ)
+shape_arguments None = None
+shape_arguments (Some a) = Some a.0
+
+-- what a slot tells of its operation
+abbrev pub node_row : Row → Node
+node_row r = record { head = r.head; arguments = map (option_map (λ a. a.0)) r.shapes }
+
+-- a row with v as operand j
+abbrev pub row_with_operand : ℕ → Value → Row → Row
+row_with_operand j v r = record r { head = put_operand j v r.head }

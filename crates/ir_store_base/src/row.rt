@@ -1,0 +1,75 @@
+//! What the slots of a store hold.
+ghost use Rattle.std.specs.Prelude.{◌≡◌, ◌<◌, ◌++◌, ◌∷◌, [], OnOk, OnErr, length, slice_set};
+ghost use Rattle.ir_store_base.specs.Rows.{row_of, rows_of, row_with_operand};
+
+use entries::Dictionary;
+use ir_tree::value::Value;
+use ir_types::ids::{NameId, OpId, TypeId};
+use std::alloc::AllocError;
+
+/// A slot: an operation of the module or a held one, or a block's head, or nothing.
+#[derive(Drop)]
+pub struct Row {
+    /// Whether an operation stands in the slot.
+    pub used: bool,
+    /// Whether it is in the module.
+    pub live: bool,
+    pub id: OpId,
+    pub name: NameId,
+    /// Of a block's head: the number of the region.
+    pub region: u32,
+    pub operands: Vec<Value>,
+    pub results: Vec<TypeId>,
+    /// The properties, and the slots of those that were taken out.
+    pub props: Dictionary,
+    /// The discardable attributes, in the same way.
+    pub attrs: Dictionary,
+    pub areas: Vec<Area>,
+    /// Of a block's head: the slot of the operation around it.
+    pub owner: usize,
+    /// The node of the first operand, among the uses of values; the others' nodes come after it.
+    pub uses: usize,
+    /// The head of the uses of the first result, or of a block's first argument; the others' heads come after it.
+    pub values: usize,
+}
+
+/// A node among the uses of values: the slot of the operation, and the place of the operand.
+#[derive(Clone, Copy, Drop)]
+pub struct Cell {
+    pub row: u32,
+    pub place: u32,
+}
+
+/// A region of an operation in a slot: a block's operations stand in the list of its head.
+#[derive(Drop)]
+pub enum Area {
+    Empty,
+    Block { args: Vec<TypeId>, head: usize },
+}
+
+/// Makes a value an operand.
+pub fn put_operand(row: &mut Row, place: usize, value: Value)
+    requires { place < length row.old.operands.items }
+    ensures { row_of row.new ≡ row_with_operand place value (row_of row.old) }
+{
+    row.operands[place] = value;
+}
+
+/// One more row.
+pub fn push_row(rows: &mut Vec<Row>, row: Row) -> Result<(), AllocError>
+    ensures ok { OnOk result (rows.new.items ≡ rows.old.items ++ row ∷ []) }
+    ensures err { OnErr result (rows.new.items ≡ rows.old.items) }
+{
+    match rows.push(row) {
+        Ok(()) => Ok(()),
+        Err(_) => Err(AllocError),
+    }
+}
+
+/// Writes a row in place of another.
+pub fn put_row(rows: &mut Vec<Row>, key: usize, row: Row)
+    requires { key < length (rows_of rows.old.items) }
+    ensures { rows.new.items ≡ slice_set rows.old.items key row }
+{
+    rows[key] = row;
+}

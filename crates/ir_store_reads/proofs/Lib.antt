@@ -1,0 +1,3 @@
+pub mod Arguments
+pub mod Copied
+pub mod Adding

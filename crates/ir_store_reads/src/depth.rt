@@ -1,0 +1,77 @@
+//! How deep operations of the module are.
+ghost use Rattle.std.specs.Prelude.{◌≡◌, ℕ, ◌∷◌, [], map};
+ghost use Rattle.std.specs.List.{list_all};
+ghost use Rattle.chains.specs.Lists.{IsHead, Laws, list_at};
+ghost use Rattle.ir_store_base.specs.Rows.{rows_of, row_at, shape_of};
+ghost use Rattle.ir_store_base.specs.Plans.{AllHeads};
+ghost use Rattle.ir_store_base.specs.Right.{Live};
+ghost use Rattle.ir_store_base.specs.Walks.{slot_fits, shapes_pass};
+
+use ir_store_base::row::{Area, Row};
+use order::Ordered;
+
+/// Whether the operation of a slot has fewer levels inside it than there is room for.
+#[cycle(fit)]
+pub fn op_fits(rows: &Vec<Row>, sibs: &Ordered, key: usize, room: u32) -> bool
+    requires rows { (k : ℕ) → Live (rows_of rows.now.items) k → AllHeads sibs.now.homes (row_at (rows_of rows.now.items) k).shapes }
+    requires laws { Laws sibs.now.lists sibs.now.homes }
+    ensures { result ≡ slot_fits (rows_of rows.now.items) sibs.now.lists room key }
+{
+    let Some(row) = rows.get(key) else {
+        return false;
+    };
+    if room == 0 || !row.live {
+        return false;
+    }
+    areas_fit(rows, sibs, &row.areas, room - 1)
+}
+
+/// Whether each operation in some regions has fewer levels inside it than there is room for.
+#[cycle(fit)]
+fn areas_fit(rows: &Vec<Row>, sibs: &Ordered, areas: &[Area], room: u32) -> bool
+    requires rows { (k : ℕ) → Live (rows_of rows.now.items) k → AllHeads sibs.now.homes (row_at (rows_of rows.now.items) k).shapes }
+    requires laws { Laws sibs.now.lists sibs.now.homes }
+    requires heads { AllHeads sibs.now.homes (map shape_of areas.now) }
+    ensures { result ≡ shapes_pass sibs.now.lists (slot_fits (rows_of rows.now.items) sibs.now.lists room) (map shape_of areas.now) }
+{
+    let mut rest = areas;
+    'areas: while let [area, tail @ ..] = rest {
+        if !area_fits(rows, sibs, area, room) {
+            return false;
+        }
+        rest = tail;
+    }
+    true
+}
+
+/// Whether each operation in a region has fewer levels inside it than there is room for.
+#[cycle(fit)]
+fn area_fits(rows: &Vec<Row>, sibs: &Ordered, area: &Area, room: u32) -> bool
+    requires rows { (k : ℕ) → Live (rows_of rows.now.items) k → AllHeads sibs.now.homes (row_at (rows_of rows.now.items) k).shapes }
+    requires laws { Laws sibs.now.lists sibs.now.homes }
+    requires heads { AllHeads sibs.now.homes (shape_of area.now ∷ []) }
+    ensures { result ≡ shapes_pass sibs.now.lists (slot_fits (rows_of rows.now.items) sibs.now.lists room) (shape_of area.now ∷ []) }
+{
+    match area {
+        Area::Empty => true,
+        Area::Block { head, .. } => list_fits(rows, sibs, *head, room),
+    }
+}
+
+/// Whether each operation in the list of a head has fewer levels inside it than there is room for.
+#[cycle(fit)]
+fn list_fits(rows: &Vec<Row>, sibs: &Ordered, head: usize, room: u32) -> bool
+    requires rows { (k : ℕ) → Live (rows_of rows.now.items) k → AllHeads sibs.now.homes (row_at (rows_of rows.now.items) k).shapes }
+    requires laws { Laws sibs.now.lists sibs.now.homes }
+    requires head { IsHead sibs.now.homes head }
+    ensures { result ≡ list_all (slot_fits (rows_of rows.now.items) sibs.now.lists room) (list_at sibs.now.lists head) }
+{
+    let mut at = sibs.first(head);
+    'ops: while let Some(key) = at {
+        if !op_fits(rows, sibs, key, room) {
+            return false;
+        }
+        at = sibs.next(key);
+    }
+    true
+}

@@ -1,0 +1,8 @@
+//! What is read of the slots of a module under edits.
+#![tactic(auto)]
+
+pub mod copy;
+pub mod depth;
+pub mod node;
+pub mod stand;
+pub mod walk;

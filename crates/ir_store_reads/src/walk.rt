@@ -1,0 +1,106 @@
+//! The operations of the module, one after another.
+ghost use Rattle.std.specs.Prelude.{◌≡◌, ℕ, ◌∷◌, [], map, IfSome, OnOk};
+ghost use Rattle.chains.specs.Lists.{IsHead, Laws, list_at};
+ghost use Rattle.ir_store_base.specs.Rows.{row_of as the_row, rows_of, row_at, shape_of};
+ghost use Rattle.ir_store_base.specs.Plans.{AllHeads};
+ghost use Rattle.ir_store_base.specs.Right.{Live};
+ghost use Rattle.ir_store_reads.specs.Added.{AddsOp, AddsOps, AddsRegions};
+
+use ir_store_base::row::{Area, Row};
+use ir_types::ids::OpId;
+use order::Ordered;
+use std::alloc::AllocError;
+
+/// Adds the operation of a slot and those inside it, where that is at most so many levels deep.
+#[cycle(push)]
+pub fn push_op(
+    rows: &Vec<Row>,
+    sibs: &Ordered,
+    key: usize,
+    levels: u32,
+    out: &mut Vec<OpId>,
+) -> Result<(), AllocError>
+    requires rows { (k : ℕ) → Live (rows_of rows.now.items) k → AllHeads sibs.now.homes (row_at (rows_of rows.now.items) k).shapes }
+    requires laws { Laws sibs.now.lists sibs.now.homes }
+    ensures { OnOk result (AddsOp (rows_of rows.now.items) sibs.now.lists key out.old.items out.new.items) }
+{
+    let Some(row) = row_in(rows, key) else {
+        return Err(AllocError);
+    };
+    if levels == 0 || !row.live {
+        return Err(AllocError);
+    }
+    out.push(row.id)?;
+    push_areas(rows, sibs, &row.areas, levels - 1, out)
+}
+
+/// The row of a slot.
+fn row_in(rows: &Vec<Row>, key: usize) -> Option<&Row>
+    ensures { IfSome result (λ r. the_row r.now ≡ row_at (rows_of rows.now.items) key) }
+{
+    rows.get(key)
+}
+
+/// Adds the operations in some regions.
+#[cycle(push)]
+fn push_areas(
+    rows: &Vec<Row>,
+    sibs: &Ordered,
+    areas: &[Area],
+    levels: u32,
+    out: &mut Vec<OpId>,
+) -> Result<(), AllocError>
+    requires rows { (k : ℕ) → Live (rows_of rows.now.items) k → AllHeads sibs.now.homes (row_at (rows_of rows.now.items) k).shapes }
+    requires laws { Laws sibs.now.lists sibs.now.homes }
+    requires heads { AllHeads sibs.now.homes (map shape_of areas.now) }
+    ensures { OnOk result (AddsRegions (rows_of rows.now.items) sibs.now.lists (map shape_of areas.now) out.old.items out.new.items) }
+{
+    let mut rest = areas;
+    'areas: while let [area, tail @ ..] = rest {
+        push_area(rows, sibs, area, levels, out)?;
+        rest = tail;
+    }
+    Ok(())
+}
+
+/// Adds the operations in a region.
+#[cycle(push)]
+fn push_area(
+    rows: &Vec<Row>,
+    sibs: &Ordered,
+    area: &Area,
+    levels: u32,
+    out: &mut Vec<OpId>,
+) -> Result<(), AllocError>
+    requires rows { (k : ℕ) → Live (rows_of rows.now.items) k → AllHeads sibs.now.homes (row_at (rows_of rows.now.items) k).shapes }
+    requires laws { Laws sibs.now.lists sibs.now.homes }
+    requires heads { AllHeads sibs.now.homes (shape_of area.now ∷ []) }
+    ensures { OnOk result (AddsRegions (rows_of rows.now.items) sibs.now.lists (shape_of area.now ∷ []) out.old.items out.new.items) }
+{
+    match area {
+        Area::Empty => Ok(()),
+        Area::Block { head, .. } => push_list(rows, sibs, *head, levels, out),
+    }
+}
+
+/// Adds the operations in the list of a head, and those inside them.
+#[cycle(push)]
+fn push_list(
+    rows: &Vec<Row>,
+    sibs: &Ordered,
+    head: usize,
+    levels: u32,
+    out: &mut Vec<OpId>,
+) -> Result<(), AllocError>
+    requires rows { (k : ℕ) → Live (rows_of rows.now.items) k → AllHeads sibs.now.homes (row_at (rows_of rows.now.items) k).shapes }
+    requires laws { Laws sibs.now.lists sibs.now.homes }
+    requires head { IsHead sibs.now.homes head }
+    ensures { OnOk result (AddsOps (rows_of rows.now.items) sibs.now.lists (list_at sibs.now.lists head) out.old.items out.new.items) }
+{
+    let mut at = sibs.first(head);
+    'ops: while let Some(key) = at {
+        push_op(rows, sibs, key, levels, out)?;
+        at = sibs.next(key);
+    }
+    Ok(())
+}
