@@ -1,24 +1,18 @@
 -- Laws of journals.
-use Rattle.std.proofs.Common.{◌≡◌, ℕ, ◌≤◌, List, [], ◌∷◌, ◌++◌, length, drop, Option, Some, None, true, sym, refl, ap}
-use Rattle.std.specs.Prelude.{IfSome}
-use Rattle.std.specs.FinMap as map
+use Rattle.std.proofs.Common.{◌≡◌, ℕ, ◌≤◌, List, [], ◌∷◌, ◌++◌, drop, Option, Some, None, true}
 use Rattle.ir_types.specs.Sound.{IsSound}
-use Rattle.ir_types.specs.Things.{Things, Grows, IsName, IsAttr}
-use Rattle.ir_types.specs.Terms.{name_term}
-use Rattle.ir_types.specs.Words.{is_table}
+use Rattle.ir_types.specs.Things.{Things, Grows}
 use Rattle.ir_tree.specs.declared.place.Part.{Part}
 use Rattle.ir_tree.specs.declared.place.Place.{Place}
 use Rattle.ir_tree.specs.declared.value.Value.{Value}
 use Rattle.ir_tree.specs.Tree.{Op}
 use Rattle.ir_tree.specs.Meaning.{IsSoundIn, isolated_in, key_before_in}
-use Rattle.ir_tree.specs.WellFormed.{IsWellFormed}
-use Rattle.ir_tree_laws.specs.Reasons.{holds_none, put_reason, set_entry_reason, set_operand_reason, shift_reason, take_reason}
+use Rattle.ir_tree_laws.specs.Reasons.{holds_none, set_entry_reason}
 use Rattle.ir_store.specs.Calls.{Releases, after_entry, after_operand, after_put, after_shift, after_take}
 use Rattle.ir_store.specs.Stored.{Stored}
 use Rattle.ir_event.specs.declared.event.Event.{Event}
-use Rattle.ir_event.specs.Facts.{HeldIsSound}
 use Rattle.ir_event.specs.Modules.{Module, module_meaning}
-use Rattle.ir_event.specs.Step.{IsOperandStep, Step}
+use Rattle.ir_event.specs.Step.{IsOperandStep}
 use Rattle.world_edits.specs.Edits.{IsEntryStep, IsPutStep, IsShiftStep, IsTakeStep}
 use Rattle.world_edits.specs.Undoing.{CameFrom, undone}
 use Rattle.journals.specs.Journals.{IsJournal, IsSlotted, IsStoreOf, IsTidy, Noted, before}

@@ -1,8 +1,7 @@
 -- Edits that were made or refused.
-use Rattle.std.proofs.Common.{◌≡◌, ℕ, List, refl, sym, subst, ap, Option, Some, None, true, inl, inr}
-use Rattle.std.specs.Prelude.{Result, Ok, Err, IfOk, OnOk, OnErr, MatchResult, ◌⊎◌}
+use Rattle.std.proofs.Common.{◌≡◌, ℕ, List, sym, subst, ap, Option, Some, None, true, inl, inr}
+use Rattle.std.specs.Prelude.{Result, Ok, Err, IfOk, OnOk, OnErr, MatchResult}
 use Rattle.ir_types.specs.declared.refusal.Refusal.{Refusal}
-use Rattle.ir_types.specs.declared.refusal.Refusal.TheVariants.{Memory}
 use Rattle.ir_types.specs.Reasons.{IsRefusedFor}
 use Rattle.ir_types.specs.Things.{Things}
 use Rattle.ir_tree.specs.declared.place.Part.{Part}
@@ -14,7 +13,6 @@ use Rattle.ir_tree_laws.specs.Reasons.{holds_none, set_entry_reason}
 use Rattle.ir_store.specs.Calls.{after_entry, after_operand, after_put, after_shift, after_take}
 use Rattle.ir_store.specs.Stored.{Stored}
 use Rattle.ir_event.specs.declared.event.Event.{Event}
-use Rattle.ir_event.specs.declared.event.Event.TheVariants.{Put, SetOperand, SetEntry, Shift}
 use Rattle.ir_event.specs.Listener.{ShowsTaken}
 use Rattle.ir_event.specs.Modules.{Module, Node}
 use Rattle.ir_event.specs.Step.{IsOperandStep, Step}

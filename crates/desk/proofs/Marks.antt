@@ -1,17 +1,15 @@
 -- Marks that lie in a journal.
-use Rattle.std.proofs.Common.{◌≡◌, Bool, ℕ, suc, ◌+◌, ◌-◌, ◌<◌, ◌≤◌, List, [], ◌∷◌, ◌++◌, length, take, drop, get_or, map, refl, sym, ap, ◌∙◌, arith, length-append}
+use Rattle.std.proofs.Common.{◌≡◌, Bool, ℕ, ◌+◌, ◌-◌, ◌≤◌, List, [], ◌∷◌, ◌++◌, length, take, drop, get_or, map, refl, sym, ap, ◌∙◌, arith}
 use Rattle.std.specs.Prelude.{reverse}
 use Rattle.std.proofs.lemmas.List.{map-append, reverse-append, take_more, take_all}
 use Rattle.ir_types.specs.Things.{Things}
 use Rattle.ir_store.specs.Stored.{Stored}
 use Rattle.ir_event.specs.declared.event.Event.{Event}
 use Rattle.machine.specs.Machine.{OpenMark}
-use Rattle.world_edits.specs.Undoing.{undone}
-use Rattle.journals.specs.Journals.{IsJournal, Noted, before, undone_all}
+use Rattle.journals.specs.Journals.{IsJournal, before}
 use Rattle.desk.specs.declared.mark.Mark.{Mark}
 use Rattle.desk.specs.Held.{Held, IsGood, Rising, Within, module_held, open_mark, open_marks}
 use Rattle.desk.specs.Marked.{Closed, IsNewest, kept, with_mark}
-use Rattle.desk.specs.Moves.{noted}
 
 pub within-more : (n p : ℕ) (ks : List Mark) → n ≤ p → Within n ks → Within p ks
 within-more n p [] le h = tt

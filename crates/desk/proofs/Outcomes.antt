@@ -1,5 +1,5 @@
 -- What edits, undone events and other calls leave of a desk.
-use Rattle.std.proofs.Common.{◌≡◌, false, None, ℕ, ◌+◌, ◌-◌, ◌<◌, ◌≤◌, List, [], ◌∷◌, ◌++◌, length, drop, map, refl, sym, subst, ap, ◌∙◌, arith, length-append}
+use Rattle.std.proofs.Common.{◌≡◌, false, None, ℕ, ◌+◌, ◌-◌, ◌≤◌, List, [], ◌∷◌, ◌++◌, length, drop, map, refl, sym, subst, ap, ◌∙◌, arith, length-append}
 use Rattle.std.specs.FinMap as finmap
 use Rattle.std.specs.Prelude.{nat_lt, reverse, Result, Ok, Err, IfOk, OnOk, OnErr}
 use Rattle.std.proofs.lemmas.Bool.{cond-false}
@@ -12,13 +12,13 @@ use Rattle.ir_store.specs.Calls.{Releases}
 use Rattle.ir_store.specs.Stored.{Stored}
 use Rattle.ir_event.specs.declared.event.Event.{Event}
 use Rattle.ir_event.specs.Listener.{ShowsTaken}
-use Rattle.ir_event.specs.Modules.{Module, module_meaning}
+use Rattle.ir_event.specs.Modules.{module_meaning}
 use Rattle.ir_event.specs.Step.{Step, inverse_of}
 use Rattle.world_edits.specs.Undoing.{CameFrom, undone}
-use Rattle.journals.specs.Journals.{IsJournal, IsSlotted, IsStoreOf, IsTidy, Noted, before, undone_all}
+use Rattle.journals.specs.Journals.{IsJournal, IsSlotted, IsStoreOf, Noted, before, undone_all}
 use Rattle.desk.specs.declared.mark.Mark.{Mark}
-use Rattle.desk.specs.Held.{Held, IsGood, Rising, Within, module_held, open_mark, open_marks, shown_of}
-use Rattle.desk.specs.Moves.{Edited, Grown, HoldsNone, Tidied, Undone, noted, noted_as, written}
+use Rattle.desk.specs.Held.{Held, IsGood, Within, module_held, open_mark, open_marks, shown_of}
+use Rattle.desk.specs.Moves.{Edited, Grown, HoldsNone, Tidied, Undone, noted, noted_as}
 use Rattle.desk.proofs.Laws.{newest_undone, grown_journal, grown_before, released_journal, released_before, slotted_undone, slotted_released, tidy_released}
 use Rattle.desk.proofs.Marks.{opens_same, push-none, within-more}
 

@@ -1,5 +1,5 @@
 -- What a desk holds.
-use Rattle.std.specs.Prelude.{◌≡◌, ℕ, ◌≤◌, List, [], ◌∷◌, ◌++◌, length, drop, map, reverse, Option, option_map}
+use Rattle.std.specs.Prelude.{◌≡◌, ℕ, ◌≤◌, List, [], ◌∷◌, length, drop, map, reverse, Option, option_map}
 use Rattle.ir_types.specs.Things.{Things}
 use Rattle.ir_tree.specs.Meaning.{meaning}
 use Rattle.ir_store.specs.Nodes.{node_of}

@@ -1,4 +1,3 @@
-use Rattle.std.proofs.Common.{refl}
 use Rattle.journals.specs.Journals.{IsStoreOf}
 use Rattle.desk.specs.Held.{Held}
 use Rattle.desk.proofs.Outcomes.{came_from, undo_done, undo_good}
