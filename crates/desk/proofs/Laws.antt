@@ -1,0 +1,88 @@
+-- Laws of journals.
+use Rattle.std.proofs.Common.{◌≡◌, ℕ, ◌≤◌, List, [], ◌∷◌, ◌++◌, drop, Option, Some, None, true}
+use Rattle.ir_types.specs.Sound.{IsSound}
+use Rattle.ir_types.specs.Things.{Things, Grows}
+use Rattle.ir_tree.specs.declared.place.Part.{Part}
+use Rattle.ir_tree.specs.declared.place.Place.{Place}
+use Rattle.ir_tree.specs.declared.value.Value.{Value}
+use Rattle.ir_tree.specs.Tree.{Op}
+use Rattle.ir_tree.specs.Meaning.{IsSoundIn, isolated_in, key_before_in}
+use Rattle.ir_tree_laws.specs.Reasons.{holds_none, set_entry_reason}
+use Rattle.ir_store.specs.Calls.{Releases, after_entry, after_operand, after_put, after_shift, after_take}
+use Rattle.ir_store.specs.Stored.{Stored}
+use Rattle.ir_event.specs.declared.event.Event.{Event}
+use Rattle.ir_event.specs.Modules.{Module, module_meaning}
+use Rattle.ir_event.specs.Step.{IsOperandStep}
+use Rattle.world_edits.specs.Edits.{IsEntryStep, IsPutStep, IsShiftStep, IsTakeStep}
+use Rattle.world_edits.specs.Undoing.{CameFrom, undone}
+use Rattle.journals.specs.Journals.{IsJournal, IsSlotted, IsStoreOf, IsTidy, Noted, before}
+use Rattle.journals.proofs.Noting as noting
+use Rattle.journals.proofs.Ended as ended
+use Rattle.journals.proofs.Grown as grown
+use Rattle.journals.proofs.Released as released
+use Rattle.journals.proofs.Kept as kept
+
+abbrev pub then : Things → Stored → Module
+then c u = module_meaning c u.module_of
+
+module _ (c : Things) where
+  pub put_noted : (place : Place) (o : Op) (e : Event) (es : List Event) (s u : Stored) → IsStoreOf c s → IsJournal c es s → IsSoundIn c o → u ≡ after_put place o s → IsPutStep place e c (then c s) (then c u) → Noted c es e s u
+  put_noted place o e es s u w h own is step = noting.put_noted c es s w h e u place o own is step
+
+  pub take_noted : (x : ℕ) (e : Event) (es : List Event) (s u : Stored) → IsStoreOf c s → IsJournal c es s → u ≡ after_take x s → IsTakeStep x e c (then c s) (then c u) → Noted c es e s u
+  take_noted x e es s u w h is step = noting.take_noted c es s w h e u x is step
+
+  pub operand_noted : (x k : ℕ) (v : Value) (e : Event) (es : List Event) (s u : Stored) → IsStoreOf c s → IsJournal c es s → u ≡ after_operand x k v s → IsOperandStep x k v e c (then c s) (then c u) → Noted c es e s u
+  operand_noted x k v e es s u w h is step = noting.operand_noted c es s w h e u x k v is step
+
+  pub entry_noted : (x : ℕ) (part : Part) (k : ℕ) (a : Option ℕ) (e : Event) (es : List Event) (s u : Stored) → IsStoreOf c s → IsJournal c es s → IsSlotted s
+      → set_entry_reason (key_before_in c) x part k a s.module_of.tree ≡ None → u ≡ after_entry (key_before_in c) x part k a s → IsEntryStep x part k a e c (then c s) (then c u) → Noted c es e s u
+  entry_noted x part k a e es s u w h slotted reason is step = noting.entry_noted c es s w h e u x part k a slotted reason is step
+
+  pub shift_noted : (x : ℕ) (place : Place) (e : Event) (es : List Event) (s u : Stored) → IsStoreOf c s → IsJournal c es s → u ≡ after_shift x place s → IsShiftStep x place e c (then c s) (then c u) → Noted c es e s u
+  shift_noted x place e es s u w h is step = noting.shift_noted c es s w h e u x place is step
+
+  pub grown_journal : (d : Things) (es : List Event) (s : Stored) → IsStoreOf c s → IsSound d → Grows c d → IsJournal c es s → IsJournal d es s
+  grown_journal d es s w sound g h = grown.journal_stays c d g sound es s w h
+
+  pub grown_before : (d : Things) (es : List Event) (s : Stored) → IsStoreOf c s → IsSound d → Grows c d → IsJournal c es s → (k : ℕ) → before d (drop k es) s ≡ before c (drop k es) s
+  grown_before d es s w sound g h k = grown.before_stays c d g sound (drop k es) s w (ended.journal_drop c k es s h)
+
+  pub released_journal : (from : ℕ) (es : List Event) (s u : Stored) → IsStoreOf c s → IsJournal c es s → Releases from s u → s.module_of.next ≤ from → 1 ≤ from → IsJournal c es u
+  released_journal from es s u w h r most le = released.journal_released from s u r c w most le es h
+
+  pub released_before : (from : ℕ) (es : List Event) (s u : Stored) → IsStoreOf c s → IsJournal c es s → Releases from s u → s.module_of.next ≤ from → 1 ≤ from → (k : ℕ) → before c (drop k es) u ≡ before c (drop k es) s
+  released_before from es s u w h r most le k = released.before_released from s u r c w most le (drop k es) (ended.journal_drop c k es s h)
+
+  pub newest_undone : (es : List Event) (e : Event) (s : Stored) → IsJournal c (es ++ e ∷ []) s → CameFrom c e (before c (e ∷ []) s) s × IsJournal c es (undone c e s)
+  newest_undone es e s h = (let l = ended.journal_last c es e s h in (l.1.1, l.0))
+
+  pub slotted_undone : (e : Event) (p : Module) (s : Stored) → IsStoreOf c s → CameFrom c e p s → IsSlotted s → IsSlotted (undone c e s)
+  slotted_undone e p s w f h = kept.slotted_undone c e p s w f h
+
+pub slotted_put : (place : Place) (o : Op) (s : Stored) → holds_none (Some o) ≡ true → IsSlotted s → IsSlotted (after_put place o s)
+slotted_put place o s leaf h = kept.slotted_put place o s leaf h
+
+pub slotted_take : (x : ℕ) (s : Stored) → IsSlotted s → IsSlotted (after_take x s)
+slotted_take x s h = kept.slotted_take x s h
+
+pub slotted_operand : (x k : ℕ) (v : Value) (s : Stored) → IsSlotted s → IsSlotted (after_operand x k v s)
+slotted_operand x k v s h = kept.slotted_operand x k v s h
+
+pub slotted_entry : (c : Things) (x : ℕ) (part : Part) (k : ℕ) (a : Option ℕ) (s : Stored) → IsSlotted s → IsSlotted (after_entry (key_before_in c) x part k a s)
+slotted_entry c x part k a s h = kept.slotted_entry (key_before_in c) x part k a s h
+
+pub slotted_shift : (x : ℕ) (place : Place) (s : Stored) → IsSlotted s → IsSlotted (after_shift x place s)
+slotted_shift x place s h = kept.slotted_shift x place s h
+
+pub slotted_released : (from : ℕ) (s u : Stored) → Releases from s u → IsSlotted s → IsSlotted u
+slotted_released from s u r h = released.slotted_released from s u r h
+
+pub tidy_put : (place : Place) (o : Op) (s : Stored) → IsTidy s → IsTidy (after_put place o s)
+tidy_put place o s h = kept.tidy_put place o s h
+
+pub tidy_take : (c : Things) (x : ℕ) (s : Stored) → IsStoreOf c s → IsTidy s → IsTidy (after_take x s)
+tidy_take c x s w h = kept.tidy_taken (isolated_in c) x s w.formed h
+
+pub tidy_released : (from : ℕ) (s u : Stored) → Releases from s u → from ≤ s.module_of.next → IsTidy u
+tidy_released from s u r le = released.tidy_released from s u r le

@@ -1,0 +1,5 @@
+pub mod Laws
+pub mod Made
+pub mod Marks
+pub mod Outcomes
+pub mod Released
