@@ -1,5 +1,5 @@
 -- An operation whose name says that nothing is kept about it.
-use Rattle.std.proofs.Common.{◌≡◌, ap, sym, ◌∙◌, ℕ, List, Bool, true, false, cond, Option, Some, None}
+use Rattle.std.proofs.Common.{◌≡◌, ap, sym, ◌∙◌, ℕ, List, Bool, true, false, cond, Some, None}
 use Rattle.std.specs.Prelude.{option_map, option_and_then}
 use Rattle.ir_types.specs.Things.{Things}
 use Rattle.ir_types.specs.Terms.{TypeTerm, AttrTerm, name_term, type_term, attr_term}
@@ -11,7 +11,7 @@ use Rattle.surroundings.specs.Surroundings.{SurroundingsOf, surround, surroundin
 use Rattle.surroundings.specs.Mapped.{map_surroundings}
 use Rattle.surroundings.specs.Facts.{if_kept, kept_of}
 use Rattle.surroundings.proofs.Meanings.{mapped_surroundings}
-use Rattle.surroundings.proofs.Reading.{Present, present}
+use Rattle.surroundings.proofs.Reading.{present}
 
 pub unkept : {F : Type 0} (fact : SurroundingsOf (List ℕ) TypeTerm AttrTerm → F) (is_kept : F → Bool) (c : Things) (s : Stored) → HasDistinctIds s.module_of.tree → (x : ℕ) (n : Node)
     → has_id x s.module_of.tree ≡ true → option_map node_of (known x s) ≡ Some n

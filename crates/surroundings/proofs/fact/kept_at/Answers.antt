@@ -1,14 +1,12 @@
-use Rattle.std.proofs.Common.{◌≡◌, ◌∙◌, sym, ap, subst, refl, ℕ, List, false, None, Some, arith}
+use Rattle.std.proofs.Common.{◌∙◌, sym, ap, refl, None, Some, arith}
 use Rattle.std.specs.Prelude.{option_map, option_and_then}
-use Rattle.ir_types.specs.Things.{Things}
-use Rattle.ir_types.specs.Terms.{TypeTerm, AttrTerm, name_term}
-use Rattle.ir_tree.specs.Ids.{find, has_id}
+use Rattle.ir_types.specs.Terms.{name_term}
+use Rattle.ir_tree.specs.Ids.{has_id}
 use Rattle.ir_store.specs.Nodes.{node_of}
 use Rattle.ir_store.specs.Stored.{known}
 use Rattle.ir_event.specs.declared.world.World.{World}
-use Rattle.surroundings.specs.declared.around.Around.{Around}
-use Rattle.surroundings.specs.Surroundings.{SurroundingsOf, surroundings}
-use Rattle.surroundings.specs.Facts.{if_kept, kept_of}
+use Rattle.surroundings.specs.Surroundings.{surroundings}
+use Rattle.surroundings.specs.Facts.{if_kept}
 use Rattle.surroundings.specs.Gathered.{gather_looks, gathered_in, tree_in}
 use Rattle.surroundings.proofs.Reading.{nothing_around, present, looks_counted}
 use Rattle.surroundings.proofs.Following.{fact_gathered}

@@ -1,7 +1,6 @@
 use Rattle.std.proofs.Common.{◌≡◌, ◌∙◌, sym, ap, subst, true, map, length, arith}
 use Rattle.std.specs.Prelude.{option_map, option_and_then, IfSome}
 use Rattle.std.specs.List.{All}
-use Rattle.ir_types.specs.Things.{IsType}
 use Rattle.ir_event.specs.Modules.{NodeIsOf}
 use Rattle.surroundings.specs.declared.around.Outer.{Outer}
 use Rattle.ir_tree_laws.specs.Values.{type_of_value, has_value}

@@ -1,10 +1,9 @@
-use Rattle.std.proofs.Common.{◌≡◌, ◌∙◌, sym, ap, subst, refl, Some, arith}
+use Rattle.std.proofs.Common.{◌∙◌, sym, ap, refl, arith}
 use Rattle.std.specs.Prelude.{option_map}
-use Rattle.ir_tree.specs.Ids.{find, has_id}
+use Rattle.ir_tree.specs.Ids.{has_id}
 use Rattle.ir_store.specs.Nodes.{node_of}
 use Rattle.ir_store.specs.Stored.{known}
 use Rattle.ir_event.specs.declared.world.World.{World}
-use Rattle.surroundings.specs.Surroundings.{surroundings}
 use Rattle.surroundings.specs.Gathered.{tree_in, gather_looks}
 use Rattle.surroundings.proofs.Reading.{nothing_around}
 use Rattle.surroundings.proofs.gather.gather.Goals as goal
