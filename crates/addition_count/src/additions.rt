@@ -10,7 +10,7 @@ use ir_event::view::View;
 use ir_event::world::World;
 use ir_tree::value::Value;
 use ir_types::context::Context;
-use ir_types::ids::OpId;
+use ir_types::ids::{NameId, OpId};
 use ir_types::word::Word;
 use op_registry::registry::Registry;
 use std::alloc::{AllocError, Global};
@@ -30,6 +30,10 @@ impl Fact for IsAddition {
     ghost fact = { is_addition };
 
     ghost kept = { holds };
+
+    fn concerns(_ctx: &Context, _name: NameId) -> bool {
+        true
+    }
 
     fn of(ctx: &Context, _registry: &Registry, around: &Around<'_>) -> IsAddition {
         IsAddition {

@@ -3,3 +3,4 @@ pub mod Gathering
 pub mod Telling
 pub mod Presence
 pub mod Pairs
+pub mod Silent

@@ -1,9 +1,11 @@
 //! The rules that an operation breaks.
 ghost use Rattle.std.specs.Prelude.{◌≡◌, ◌≤◌, ◌<◌, ◌^◌, [], ◌∷◌, ◌++◌, IfOk, OnOk, length, true, false};
+ghost use Rattle.ir_types.specs.Terms.{name_term};
 ghost use Rattle.surroundings.specs.Gathered.{AroundIsOf};
 ghost use Rattle.ir_verify.specs.Breaks.{told_of, numbers_from};
+ghost use Rattle.ir_verify_base.specs.Fits.{Surroundings};
 ghost use Rattle.ir_verify_base.specs.Numbers.{around_in, node_in, row_in};
-ghost use Rattle.ir_verify.specs.Sets.{packed, rules_in, set_of, with_bit};
+ghost use Rattle.ir_verify.specs.Sets.{has_any, packed, rules_in, set_of, with_bit};
 ghost use Rattle.ir_verify_base.specs.Shapes as shapes;
 
 use crate::block_rules::{breaks_6, breaks_8, breaks_9, breaks_21, breaks_22};
@@ -11,12 +13,14 @@ use crate::place_rules::{
     breaks_10, breaks_11, breaks_15, breaks_16, breaks_17, breaks_23, definition, ended,
 };
 use ir_types::context::Context;
+use ir_types::ids::NameId;
 use ir_verify_base::memref_rules::{breaks_20, breaks_24};
 use ir_verify_base::shapes::{breaks_1, breaks_3, breaks_5, breaks_12, breaks_13, is_well_shaped};
 use ir_verify_base::type_rules::{
     breaks_2, breaks_4, breaks_7, breaks_14, breaks_18, breaks_19, known_of,
 };
 use op_registry::definition::OpDef;
+use op_registry::laws::listed_has_row;
 use op_registry::registry::Registry;
 use std::alloc::{AllocError, Global};
 use surroundings::around::Around;
@@ -65,6 +69,10 @@ impl Fact for RuleSet {
 
     ghost kept = { has_any };
 
+    fn concerns(ctx: &Context, name: NameId) -> bool {
+        may_break(ctx, name)
+    }
+
     #[tactic(auto, using(crate::proofs::Gathering::gathered_told))]
     fn of(ctx: &Context, registry: &Registry, around: &Around<'_>) -> RuleSet {
         told(ctx, registry, around)
@@ -73,6 +81,14 @@ impl Fact for RuleSet {
     fn is_kept(&self) -> bool {
         self.bits != 0
     }
+}
+
+/// Whether an operation with a name may break rules: no other than a listed one does.
+fn may_break(ctx: &Context, name: NameId) -> bool
+    ensures { result ≡ false → (s : Surroundings) → s.node.head.name ≡ name_term ctx.now name → has_any (set_of s) ≡ false }
+{
+    listed_has_row();
+    ctx.listed(name)
 }
 
 /// Adds a number where it is in the set.

@@ -10,3 +10,4 @@ pub mod SortedFacts
 pub mod Reading
 pub mod Meanings
 pub mod Following
+pub mod Silent

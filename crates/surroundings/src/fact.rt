@@ -1,8 +1,8 @@
 //! Facts about operations, and those of them that a table keeps.
-ghost use Rattle.std.specs.Prelude.{◌≡◌, ◌≤◌, ◌+◌, [], ◌∷◌, List, Option, Bool, ℕ, IfOk, OnOk, OnErr, true};
+ghost use Rattle.std.specs.Prelude.{◌≡◌, ◌≤◌, ◌+◌, [], ◌∷◌, List, Option, Bool, ℕ, IfOk, OnOk, OnErr, true, false};
 ghost use Rattle.std.specs.Ordering.{nat_cmp};
 ghost use Rattle.std.specs.BTreeMap.{get};
-ghost use Rattle.ir_types.specs.Terms.{TypeTerm, AttrTerm};
+ghost use Rattle.ir_types.specs.Terms.{TypeTerm, AttrTerm, name_term};
 ghost use Rattle.ir_tree.specs.Ids.{find, has_id};
 ghost use Rattle.ir_event.specs.Modules.{module_in};
 ghost use Rattle.surroundings.specs.Surroundings.{SurroundingsOf};
@@ -11,11 +11,11 @@ ghost use Rattle.surroundings.specs.Facts.{is_one_of, fact_of, if_kept, kept_of,
 ghost use Rattle.surroundings.specs.Gathered.{AroundIsOf, gathered_in, gather_looks, gathers_for, near_looks, regions_found, tree_in};
 
 use crate::around::Around;
-use crate::gather::gather;
+use crate::gather::{around_of, gather, shown};
 use ir_event::event::Event;
 use ir_event::view::View;
 use ir_types::context::Context;
-use ir_types::ids::OpId;
+use ir_types::ids::{NameId, OpId};
 use op_registry::registry::Registry;
 use std::alloc::{AllocError, Global};
 use std::collections::BTreeMap;
@@ -32,6 +32,10 @@ pub trait Fact: Drop {
     fn of(ctx: &Context, registry: &Registry, around: &Around<'_>) -> Self
         requires { AroundIsOf ctx.now around.now }
         ensures { result ≡ fact (gathered_in ctx.now around.now) };
+
+    /// Whether a table may keep the fact about an operation with a name, whatever there is around it.
+    fn concerns(ctx: &Context, name: NameId) -> bool
+        ensures { result ≡ false → (s : SurroundingsOf (List ℕ) TypeTerm AttrTerm) → s.node.head.name ≡ name_term ctx.now name → kept (fact s) ≡ false };
 
     /// Whether a table keeps it.
     fn is_kept(&self) -> bool
@@ -62,10 +66,14 @@ fn kept_at<F: Fact>(alloc: Global, view: &mut View<'_>, op: OpId) -> Result<Opti
     ensures looks { view.new.looks ≤ view.old.looks + gather_looks (find op (tree_in view.old.world.now)) }
     ensures world { view.new.world.now ≡ view.old.world.now }
 {
-    let Some(fact) = fact_at::<F>(alloc, view, op)? else {
+    let Some(node) = shown(view, op) else {
         return Ok(None);
     };
-    Ok(if_kept(fact))
+    if !F::concerns(view.context(), node.name()) {
+        return Ok(None);
+    }
+    let around = around_of(alloc, view, op, node)?;
+    Ok(if_kept(F::of(view.context(), view.registry(), &around)))
 }
 
 /// A fact, where it is one that a table keeps.

@@ -1,8 +1,10 @@
 //! What an operation is and has around it is gathered from a view.
-ghost use Rattle.std.specs.Prelude.{◌≡◌, ◌≤◌, ◌<◌, ◌+◌, ◌*◌, ◌^◌, true, Some, IfOk, OnErr, IfSome, length, map, option_map, option_and_then};
+ghost use Rattle.std.specs.Prelude.{◌≡◌, ◌≤◌, ◌<◌, ◌+◌, ◌*◌, ◌^◌, true, Some, None, IfOk, OnErr, IfSome, length, map, option_map, option_and_then};
 ghost use Rattle.std.specs.List.{All};
 ghost use Rattle.ir_types.specs.Things.{IsType};
 ghost use Rattle.ir_tree.specs.Ids.{find, has_id};
+ghost use Rattle.ir_store.specs.Nodes.{node_of};
+ghost use Rattle.ir_store.specs.Stored.{known};
 ghost use Rattle.ir_tree_laws.specs.Values.{type_of_value, has_value};
 ghost use Rattle.ir_event.specs.Modules.{NodeIsOf};
 ghost use Rattle.surroundings.specs.Surroundings.{surroundings};
@@ -11,6 +13,7 @@ ghost use Rattle.surroundings.specs.declared.around.Outer.{Outer as GatheredOute
 
 use crate::around::{Around, Outer};
 use ir_event::view::View;
+use ir_store::node::Node;
 use ir_tree::value::Value;
 use ir_types::ids::{NameId, OpId, TypeId};
 use std::alloc::{AllocError, Global};
@@ -28,21 +31,54 @@ pub fn gather<'a>(
     ensures looks { view.new.looks ≤ view.old.looks + gather_looks (find op (tree_in view.old.world.now)) }
     ensures world { view.new.world.now ≡ view.old.world.now }
 {
-    if !view.in_tree(op) {
-        return Ok(None);
-    }
-    let Some(node) = view.node(op) else {
+    let Some(node) = shown(view, op) else {
         return Ok(None);
     };
+    let around = around_of(alloc, view, op, node)?;
+    Ok(Some(around))
+}
+
+/// An operation of the module that the view shows, or none where it isn't there.
+pub(crate) fn shown<'a>(view: &mut View<'a>, op: OpId) -> Option<Node<'a>>
+    ensures there { IfSome result (λ _. has_id op (tree_in view.old.world.now) ≡ true) }
+    ensures shown { IfSome result (λ n. option_map node_of (known op view.old.world.now.store) ≡ Some n) }
+    ensures none { result ≡ None → find op (tree_in view.old.world.now) ≡ None }
+    ensures looks { view.new.looks ≤ view.old.looks + 2 }
+    ensures absent { result ≡ None → view.new.looks ≤ view.old.looks + 1 }
+    ensures world { view.new.world.now ≡ view.old.world.now }
+{
+    if !view.in_tree(op) {
+        return None;
+    }
+    let Some(node) = view.node(op) else {
+        return None;
+    };
+    Some(node)
+}
+
+/// What such an operation has around it.
+pub(crate) fn around_of<'a>(
+    alloc: Global,
+    view: &mut View<'a>,
+    op: OpId,
+    node: Node<'a>,
+) -> Result<Around<'a>, AllocError>
+    requires there { has_id op (tree_in view.old.world.now) ≡ true }
+    requires shown { option_map node_of (known op view.old.world.now.store) ≡ Some node }
+    ensures around { IfOk result (λ a. Some (gathered a) ≡ surroundings op (tree_in view.old.world.now)) }
+    ensures known { IfOk result (λ a. AroundIsOf view.old.world.now.ctx a) }
+    ensures looks { view.new.looks + 2 ≤ view.old.looks + gather_looks (find op (tree_in view.old.world.now)) }
+    ensures world { view.new.world.now ≡ view.old.world.now }
+{
     let types = types_of(alloc, view, node.operands())?;
     let lasts = lasts_of(alloc, view, op, node.region_count())?;
     let outer = outer_of(view, op);
-    Ok(Some(Around {
+    Ok(Around {
         node,
         types,
         lasts,
         outer,
-    }))
+    })
 }
 
 /// The types of the operands of an operation of the module.

@@ -1,0 +1,16 @@
+-- An operation that isn't listed breaks no rule.
+use Rattle.std.proofs.Common.{◌≡◌, ap, Bool, true, false, Option, Some, None}
+use Rattle.std.specs.Prelude.{is_some}
+use Rattle.op_registry.specs.Rows.{Row}
+use Rattle.op_registry.specs.Registry.{row_of}
+use Rattle.ir_verify_base.specs.Fits.{Surroundings}
+use Rattle.ir_verify.specs.declared.rules.RuleSet.{RuleSet}
+use Rattle.ir_verify.specs.Breaks.{told_in}
+use Rattle.ir_verify.specs.Sets.{has_any, packed, set_of}
+
+abbrev told_by : Surroundings → Option Row → RuleSet
+told_by s r = record { bits = packed (told_in r s) }
+
+pub silent : (s : Surroundings) (r : Option Row) → row_of s.node.head.name ≡ r → is_some r ≡ false → has_any (set_of s) ≡ false
+silent s None e f = ap (λ r. has_any (told_by s r)) e
+silent s (Some r) e f = absurd cc
