@@ -4,4 +4,5 @@ pub mod Putting
 pub mod Taking
 pub mod Entering
 pub mod Shifting
+pub mod Setting
 pub mod Undoing

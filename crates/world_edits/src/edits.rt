@@ -1,5 +1,5 @@
 //! Operations are put and taken, operands and entries are set, each with its event.
-ghost use Rattle.std.specs.Prelude.{◌≡◌, Some, None, true, IfOk, OnOk, OnErr, IfSome, MatchResult, Err};
+ghost use Rattle.std.specs.Prelude.{◌≡◌, Some, None, true, IfOk, OnOk, OnErr, IfSome, MatchResult, Err, slice_get};
 ghost use Rattle.std.specs.FinMap as finmap;
 ghost use Rattle.ir_types.specs.Reasons.{IsRefusedFor};
 ghost use Rattle.ir_types.specs.Terms.{name_term};
@@ -8,12 +8,13 @@ ghost use Rattle.ir_types.specs.Words.{is_table};
 ghost use Rattle.ir_tree.specs.Edits.{entry_at};
 ghost use Rattle.ir_tree.specs.Meaning.{IsSoundIn, isolated_in, key_before_in};
 ghost use Rattle.ir_tree.specs.WellFormed.{IsWellFormed};
-ghost use Rattle.ir_tree_laws.specs.Changes.{entry_in};
-ghost use Rattle.ir_tree_laws.specs.Reasons.{holds_none, put_reason, set_entry_reason, shift_reason, take_reason};
-ghost use Rattle.ir_store.specs.Calls.{after_entry, after_put, after_shift, after_take};
+ghost use Rattle.ir_tree_laws.specs.Changes.{entry_in, operand_at};
+ghost use Rattle.ir_tree_laws.specs.Reasons.{holds_none, put_reason, set_entry_reason, set_operand_reason, shift_reason, take_reason};
+ghost use Rattle.ir_store.specs.Calls.{after_entry, after_operand, after_put, after_shift, after_take};
 ghost use Rattle.ir_event.specs.declared.event.Event.TheVariants.{Put};
 ghost use Rattle.ir_event.specs.Modules.{things_in, module_in, shown_in};
 ghost use Rattle.ir_event.specs.Listener.{ShowsTaken};
+ghost use Rattle.ir_event.specs.Step.{IsOperandEvent, IsOperandStep};
 ghost use Rattle.world_edits.specs.Edits.{IsEntryEvent, IsEntryStep, IsPutStep, IsShiftEvent, IsShiftStep, IsTakeStep};
 
 use ir_event::event::Event;
@@ -22,6 +23,7 @@ use ir_store::store::Store;
 use ir_tree::place::{Part, Place};
 use ir_tree::sound::comes_before;
 use ir_tree::tree::TreeOp;
+use ir_tree::value::Value;
 use ir_types::context::Context;
 use ir_types::ids::{AttrId, NameId, OpId};
 use ir_types::refusal::Refusal;
@@ -158,6 +160,58 @@ fn enter_in(
     })
 }
 
+/// Makes a value an operand of an operation, in place of the one that was there, and gives the event. It takes no
+/// memory.
+///
+/// Refusals, in order: `NoSuchOp`; `NoSuchIndex` where it has no such operand; `NoSuchValue`; `NotVisible` where the
+/// operation doesn't see the value.
+pub fn set_operand(
+    world: &mut World,
+    op: OpId,
+    operand: u32,
+    value: Value,
+) -> Result<Event, Refusal>
+    ensures step { IfOk result (λ e. IsOperandStep op operand value e (things_in world.old) (module_in world.old) (module_in world.new)) }
+    ensures store { OnOk result (world.new.store ≡ after_operand op operand value world.old.store) }
+    ensures ctx { world.new.ctx ≡ world.old.ctx }
+    ensures refused { MatchResult result (λ _. set_operand_reason (isolated_in world.old.ctx) op operand value world.old.store.module_of.tree ≡ None)
+        (λ e. set_operand_reason (isolated_in world.old.ctx) op operand value world.old.store.module_of.tree ≡ Some e) }
+    ensures err { OnErr result (world.new.store ≡ world.old.store) }
+{
+    set_in(&world.ctx, &mut world.store, op, operand, &value)
+}
+
+/// Sets an operand of a store's module.
+fn set_in(
+    ctx: &Context,
+    store: &mut Store,
+    op: OpId,
+    operand: u32,
+    value: &Value,
+) -> Result<Event, Refusal>
+    ensures event { IfOk result (λ e. IsOperandEvent op operand value.now store.old.module_of.tree e) }
+    ensures store { OnOk result (store.new ≡ after_operand op operand value.now store.old) }
+    ensures refused { MatchResult result (λ _. set_operand_reason (isolated_in ctx.now) op operand value.now store.old.module_of.tree ≡ None)
+        (λ e. set_operand_reason (isolated_in ctx.now) op operand value.now store.old.module_of.tree ≡ Some e) }
+    ensures formed { IsWellFormed (isolated_in ctx.now) store.old.module_of → IsWellFormed (isolated_in ctx.now) store.new.module_of }
+    ensures err { OnErr result (store.new ≡ store.old) }
+{
+    let old = operand_of(store, op, operand);
+    match store.set_operand(ctx, op, operand, *value) {
+        Ok(()) => {}
+        Err(refusal) => return Err(refusal),
+    }
+    let Some(old) = old else {
+        return Err(Refusal::NoSuchIndex);
+    };
+    Ok(Event::SetOperand {
+        op,
+        operand,
+        old,
+        new: *value,
+    })
+}
+
 /// Shifts an operation, with what is inside it, to a place of the module, and gives the event. It takes no memory.
 ///
 /// Refusals, in order: `NoSuchOp` where it, or the place's parent, isn't in the module; `IsRoot`; `NoSuchIndex` where
@@ -231,4 +285,22 @@ fn entry_of(
         Part::Props => Some(entry_among(ctx, node.properties(), key)),
         Part::Attrs => Some(entry_among(ctx, node.attributes(), key)),
     }
+}
+
+/// An operand of an operation by its number, or none where it has no such operand or isn't in the module.
+fn operand_of(store: &Store, op: OpId, operand: u32) -> Option<Value>
+    ensures { result ≡ operand_at op operand store.now.module_of.tree }
+{
+    if !store.in_tree(op) {
+        return None;
+    }
+    let node = store.node(op)?;
+    operand_among(node.operands(), operand)
+}
+
+/// An operand by its number.
+fn operand_among(operands: &[Value], operand: u32) -> Option<Value>
+    ensures { result ≡ slice_get operands.now operand }
+{
+    operands.get(operand as usize).copied()
 }
