@@ -6,7 +6,7 @@ ghost use Rattle.ir_event.specs.Modules.{things_in, module_in};
 ghost use Rattle.machine.specs.Edits.{SetOperand, Move};
 ghost use Rattle.mlir_work_session.specs.Edits.{Made, NotMade, entry_edit};
 
-use crate::entries::part_for;
+use crate::attributes::part_for;
 use ir_event::event::Event;
 use ir_event::world::World;
 use ir_tree::place::Place;

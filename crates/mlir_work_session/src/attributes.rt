@@ -1,5 +1,5 @@
 //! Entries as a command names them: the text of an attribute is read, and a key is interned.
-ghost use Rattle.std.specs.Prelude.{◌≡◌, ℕ, None, Some, Err, IfOk, IfErr, IfSome, is_some};
+ghost use Rattle.std.specs.Prelude.{◌≡◌, ℕ, List, None, Some, Err, IfOk, IfErr, IfSome, is_some};
 ghost use Rattle.ir_types.specs.Things.{Grows, IsName, IsAttr};
 ghost use Rattle.ir_types.specs.Terms.{name_term, attr_term};
 ghost use Rattle.ir_tree.specs.Edits.{entry_at};
@@ -26,7 +26,7 @@ use mlir_work_script::keys::{Key, bytes_of};
 use std::alloc::Global;
 
 /// The greatest number of a refusal of a text.
-const LAST_OF_TEXTS: u8 = 14;
+const LAST_OF_TEXTS: u32 = 14;
 
 /// The attribute that a text spells, in the context of a world, whose module stays.
 fn parse(alloc: Global, world: &mut World, text: &[u8]) -> Result<AttrId, ReadError>
