@@ -23,8 +23,8 @@ low_worse false later h = inr refl
 
 low_line : (Rest : ℕ → State → ℕ → List ℕ → Type 0) (brief : Bool) (n : ℕ) (s : State) (spoken : Spoken) (status : ℕ) (out : List ℕ) → ((m : ℕ) (t : State) (st : ℕ) (o : List ℕ) → Rest m t st o → IsLow st) → Line Rest brief n s spoken status out → IsLow status
 low_line Rest brief n s Nothing status out f h = f n s status out h
-low_line Rest brief n s Bad status out f h = rw h.status_is (low_worse (is_accepted h.reply) h.later (f (n + 1) h.after h.later h.rest h.goes_on))
-low_line Rest brief n s (Obey said) status out f h = rw h.status_is (low_worse (is_accepted h.reply) h.later (f (n + 1) h.after h.later h.rest h.goes_on))
+low_line Rest brief n s Bad status out f h = rw h.status_is (low_worse (is_accepted h.response) h.later (f (n + 1) h.after h.later h.rest h.goes_on))
+low_line Rest brief n s (Obey said) status out f h = rw h.status_is (low_worse (is_accepted h.response) h.later (f (n + 1) h.after h.later h.rest h.goes_on))
 
 low_runs : (brief : Bool) (lines : List (List ℕ)) (n : ℕ) (s : State) (status : ℕ) (out : List ℕ) → Runs brief n s lines status out → IsLow status
 low_runs brief [] n s status out h = inl h.0

@@ -37,7 +37,7 @@ obeys_call s t c call reply shows asks goes = record { asked = Ask call; shows =
 
 -- an edit that was made, and of which the analyses were told
 edit_goes : (e : Edit) (m n : Module) (ks ls : List Shown) → accepted e m ≡ Done → edit_reason e m ≡ None → n ≡ edited e m → AllAge ks ls → Goes (at m ks) (Do e) Done Nothing (at n ls)
-edit_goes e m n ks ls is free after ages = record { answer = inl (rw (free, after, as) refl); panel = ages }
+edit_goes e m n ks ls is free after ages = record { answer = inl (rw (free, after, is) refl); panel = ages }
 
 pub obeys_made : (c : Things) (e : Edit) (what : Event) (m n : Module) (ks ls : List Shown) (said : Command) → accepted e m ≡ Done → Asks SpellsBeside SpellsAttr said m (Ask (Do e)) → Made c e m n what → AllAge ks ls → Obeys (at m ks) said (Replied Done) [] (at n ls)
 obeys_made c e what m n ks ls said is asks made ages = obeys_call (at m ks) (at n ls) said (Do e) Done Nothing asks (edit_goes e m n ks ls is made.free made.after ages)

@@ -6,6 +6,7 @@ use Rattle.ir_types.specs.Refusals.{number_of}
 use Rattle.ir_types.specs.Sound.{Holds}
 use Rattle.ir_types.specs.Terms.{name_term, attr_term, AttrTerm}
 use Rattle.ir_types.specs.Things.{Things, Grows, IsName, IsAttr}
+use Rattle.ir_types.specs.Words.{is_inherent}
 use Rattle.ir_types.specs.declared.refusal.Refusal.{Refusal}
 use Rattle.ir_types.specs.declared.refusal.Refusal.TheVariants.{Memory, TooMany}
 use Rattle.ir_types.proofs.CallNumbers.{new_name, name_stands}
@@ -65,13 +66,18 @@ attr_kept c d text a holds g (is, spelled) = (longer, subst (SpellsAttr text) (s
 pub absent_part : (c : Things) (x k : ℕ) (t : Op) → has_id x t ≡ false → part_for (tests_in c) x k t ≡ Attrs
 absent_part c x k t absent = ap (part_in (tests_in c) k) (absent_find x t absent)
 
-pub node_part : (c : Things) (x k : ℕ) (s : Stored) (n : Node) → has_id x s.module_of.tree ≡ true → option_map node_of (known x s) ≡ Some n
+node_part : (c : Things) (x k : ℕ) (s : Stored) (n : Node) → has_id x s.module_of.tree ≡ true → option_map node_of (known x s) ≡ Some n
     → part_for (tests_in c) x k s.module_of.tree ≡ cond ((tests_in c).inherent n.head.name k || is_some (entry_at (key_before_in c) k n.head.properties)) Props Attrs
 node_part c x k s n there e = go (find x s.module_of.tree) (ap (option_map node_of) (sym (known_there x s there)) ∙ e)
   where
     go : (o : Option Op) → option_map node_of o ≡ Some n → part_in (tests_in c) k o ≡ cond ((tests_in c).inherent n.head.name k || is_some (entry_at (key_before_in c) k n.head.properties)) Props Attrs
     go None f = absurd cc
     go (Some (op h rs)) f = (let same : node_of (op h rs) ≡ n = cc in ap (λ (m : Node). cond ((tests_in c).inherent m.head.name k || is_some (entry_at (key_before_in c) k m.head.properties)) Props Attrs) same)
+
+-- for each outcome of the two tests
+pub part_by : (c : Things) (x k : ℕ) (s : Stored) (n : Node) (inherent held : Bool) → has_id x s.module_of.tree ≡ true → option_map node_of (known x s) ≡ Some n
+    → is_inherent (name_term c n.head.name) (name_term c k) ≡ inherent → is_some (entry_at (key_before_in c) k n.head.properties) ≡ held → part_for (tests_in c) x k s.module_of.tree ≡ cond (inherent || held) Props Attrs
+part_by c x k s n inherent held there e a b = node_part c x k s n there e ∙ (λ i. cond (a i || b i) Props Attrs)
 
 pub named_as : (bytes key : List ℕ) (c d : Things) (n : ℕ) → (n, d) ≡ with_name bytes c → bytes ≡ key → IsName d n × (name_term d n ≡ key)
 named_as bytes key c d n e same = let h = named_so bytes c d n e in (h.0, h.1 ∙ same)

@@ -93,3 +93,7 @@ block_told x r s n there e = go (find x s.module_of.tree) (ap (option_map node_o
 
 pub no_block : (x r : ℕ) (t : Op) → has_id x t ≡ false → is_some (ops_at x r t) ≡ false
 no_block x r t absent = ap (λ o. is_some (option_and_then (λ (o : Op). option_and_then ops_in (region_at r (regions o))) o)) (absent_find x t absent)
+
+pub some_kept : {X Y : Type 0} (f : X → Y) (o : Option X) → is_some (option_map f o) ≡ is_some o
+some_kept f None = refl
+some_kept f (Some x) = refl

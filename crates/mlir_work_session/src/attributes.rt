@@ -133,9 +133,11 @@ pub(crate) fn part_for(ctx: &Context, store: &Store, op: OpId, key: NameId) -> P
     let Some(node) = store.node(op) else {
         return Part::Attrs;
     };
-    if ctx.inherent(node.name(), key) || has_entry(ctx, node.properties(), key) {
-        Part::Props
-    } else {
-        Part::Attrs
+    if ctx.inherent(node.name(), key) {
+        return Part::Props;
     }
+    if has_entry(ctx, node.properties(), key) {
+        return Part::Props;
+    }
+    Part::Attrs
 }
