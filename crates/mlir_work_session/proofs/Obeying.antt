@@ -1,5 +1,5 @@
 -- How commands are answered.
-use Rattle.std.proofs.Common.{◌≡◌, ◌∙◌, sym, ap, subst, refl, inl, inr, ℕ, List, [], ◌∷◌, Bool, true, false, cond, Option, Some, None, Result, Ok, Err, IsTrue, arith}
+use Rattle.std.proofs.Common.{◌≡◌, ◌∙◌, sym, ap, subst, refl, inl, inr, ◌⊎◌, ℕ, List, [], ◌∷◌, Bool, true, false, cond, Option, Some, None, Result, Ok, Err, IsTrue, arith}
 use Rattle.std.specs.Prelude.{position, remove, is_some, option_map}
 use Rattle.std.specs.List.{AllZip, find}
 use Rattle.ir_types.specs.declared.refusal.Refusal.{Refusal}
@@ -46,7 +46,7 @@ obeys_made c e what m n ks ls said is asks made ages = obeys_call (at m ks) (at 
 refused_goes : (e : Edit) (m n : Module) (ks : List Shown) (refusal : Refusal) → NotMade e m n refusal → Goes (at m ks) (Do e) (Refused refusal) Nothing (at n ks)
 refused_goes e m n ks refusal h = record { answer = go h.why; panel = all_stay ks }
   where
-    go : _ → IsAnswer (at m ks) (Do e) (record { reply = Refused refusal; shows = Nothing; held = n; marks = [] })
+    go : (edit_reason e m ≡ Some refusal) ⊎ (IsTrue (grows e) × (refusal ≡ Memory)) → IsAnswer (at m ks) (Do e) (record { reply = Refused refusal; shows = Nothing; held = n; marks = [] })
     go (inl why) = inl (rw (why, h.left) refl)
     go (inr (grow, memory)) = inr (grow, rw (memory, h.left) refl)
 
@@ -185,12 +185,12 @@ obeys_unentered m p n ks refusal x key name text a same named spelled left =
 pub obeys_dropped : (c : Things) (what : Event) (m p n : Module) (ks ls : List Shown) (x : ℕ) (key name : List ℕ) → p ≡ m → name ≡ key → Made c (edit.DropAttr x name) p n what → AllAge ks ls → Obeys (at m ks) (command.DropAttr x key) (Replied Done) [] (at n ls)
 obeys_dropped c what m p n ks ls x key name same named made ages =
     subst (λ (q : Module). Obeys (at q ks) (command.DropAttr x key) (Replied Done) [] (at n ls)) same
-    (obeys_made c (edit.DropAttr x name) what p n ks ls (command.DropAttr x key) refl (ap (λ k. Ask (Do (edit.DropAttr x k))) (sym named)) made ages)
+    (obeys_made c (edit.DropAttr x name) what p n ks ls (command.DropAttr x key) refl (ap (λ k. Ask (Do (edit.DropAttr x k))) named) made ages)
 
 pub obeys_undropped : (m p n : Module) (ks : List Shown) (refusal : Refusal) (x : ℕ) (key name : List ℕ) → p ≡ m → name ≡ key → NotMade (edit.DropAttr x name) p n refusal → Obeys (at m ks) (command.DropAttr x key) (Replied (Refused refusal)) [] (at n ks)
 obeys_undropped m p n ks refusal x key name same named left =
     subst (λ (q : Module). Obeys (at q ks) (command.DropAttr x key) (Replied (Refused refusal)) [] (at n ks)) same
-    (obeys_refused (edit.DropAttr x name) p n ks refusal (command.DropAttr x key) (ap (λ k. Ask (Do (edit.DropAttr x k))) (sym named)) left)
+    (obeys_refused (edit.DropAttr x name) p n ks refusal (command.DropAttr x key) (ap (λ k. Ask (Do (edit.DropAttr x k))) named) left)
 
 -- ---- listeners
 

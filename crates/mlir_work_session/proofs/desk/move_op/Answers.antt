@@ -1,4 +1,4 @@
-use Rattle.std.proofs.Common.{refl, ◌∙◌}
+use Rattle.std.proofs.Common.{refl, sym, ◌∙◌}
 use Rattle.machine.specs.Commands as command
 use Rattle.machine.specs.Edits as edit
 use Rattle.mlir_work_script.specs.Spots.{spot_of}
@@ -11,13 +11,13 @@ use Rattle.mlir_work_session.proofs.desk.move_op.Goals as goal
 pub returns-in-Err-clause-obeys : goal.returns-in-Err-clause-obeys
 returns-in-Err-clause-obeys g c =
     let w = c.args.world.now in
-    obeys_misplaced c.args.op (spot_of c.args.spot.now) _ _ c.in-Err.refusal (spot_means w.ctx c.args.op (spot_of c.args.spot.now) w.store.module_of.tree ∙ c.in-Err.ensures)
+    obeys_misplaced c.args.op (spot_of c.args.spot.now) _ _ c.in-Err.refusal (spot_means w.ctx c.args.op (spot_of c.args.spot.now) w.store.module_of.tree ∙ sym c.in-Err.ensures)
 
 pub returns-in-Ok-move_op-clause-obeys : goal.returns-in-Ok-move_op-clause-obeys
 returns-in-Ok-move_op-clause-obeys g c =
     let w = c.args.world.now in
     let place = c.in-Ok.place in
-    obeys_made _ (edit.Move c.args.op place) c.in-Ok-move_op.event _ _ _ _ (command.Move c.args.op (spot_of c.args.spot.now)) refl (place, spot_means w.ctx c.args.op (spot_of c.args.spot.now) w.store.module_of.tree ∙ c.in-Ok.ensures, refl)
+    obeys_made _ (edit.Move c.args.op place) c.in-Ok-move_op.event _ _ _ _ (command.Move c.args.op (spot_of c.args.spot.now)) refl (place, spot_means w.ctx c.args.op (spot_of c.args.spot.now) w.store.module_of.tree ∙ sym c.in-Ok.ensures, refl)
     c.in-Ok-move_op.ensures.edit (ages_told g.L.Analysis.meaning _ _ _ _ _ _ c.tell.ensures)
 
 pub returns-in-Ok-move_op-clause-kept : goal.returns-in-Ok-move_op-clause-kept
@@ -27,4 +27,4 @@ pub returns-in-Err-move_op-clause-obeys : goal.returns-in-Err-move_op-clause-obe
 returns-in-Err-move_op-clause-obeys g c =
     let w = c.args.world.now in
     let place = c.in-Ok.place in
-    obeys_refused (edit.Move c.args.op place) _ _ _ c.in-Err-move_op.refusal (command.Move c.args.op (spot_of c.args.spot.now)) (place, spot_means w.ctx c.args.op (spot_of c.args.spot.now) w.store.module_of.tree ∙ c.in-Ok.ensures, refl) c.in-Err-move_op.ensures.edit
+    obeys_refused (edit.Move c.args.op place) _ _ _ c.in-Err-move_op.refusal (command.Move c.args.op (spot_of c.args.spot.now)) (place, spot_means w.ctx c.args.op (spot_of c.args.spot.now) w.store.module_of.tree ∙ sym c.in-Ok.ensures, refl) c.in-Err-move_op.ensures.edit
