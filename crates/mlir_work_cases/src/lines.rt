@@ -27,7 +27,7 @@ fn told_set(alloc: Global, op: OpId, operand: u32, value: Value) -> Result<Strin
 }
 
 /// A place.
-fn told_spot(alloc: Global, spot: Spot) -> Result<String, AllocError> {
+fn told_spot(alloc: Global, spot: &Spot) -> Result<String, AllocError> {
     match spot {
         Spot::Before(op) => format!(in alloc; "before {}", op.number()),
         Spot::After(op) => format!(in alloc; "after {}", op.number()),
@@ -37,14 +37,14 @@ fn told_spot(alloc: Global, spot: Spot) -> Result<String, AllocError> {
 }
 
 /// A line that moves an operation.
-fn told_move(alloc: Global, op: OpId, spot: Spot) -> Result<String, AllocError> {
+fn told_move(alloc: Global, op: OpId, spot: &Spot) -> Result<String, AllocError> {
     let place = told_spot(alloc, spot)?;
     format!(in alloc; "move {} {place}", op.number())
 }
 
 /// The bytes that a key stands for.
-fn told_key(alloc: Global, key: Key<'_>) -> Result<String, AllocError> {
-    let bytes = bytes_of(alloc, &key)?;
+fn told_key(alloc: Global, key: &Key<'_>) -> Result<String, AllocError> {
+    let bytes = bytes_of(alloc, key)?;
     shown(alloc, &bytes)
 }
 
@@ -52,7 +52,7 @@ fn told_key(alloc: Global, key: Key<'_>) -> Result<String, AllocError> {
 fn told_set_attr(
     alloc: Global,
     op: OpId,
-    key: Key<'_>,
+    key: &Key<'_>,
     attribute: &[u8],
 ) -> Result<String, AllocError> {
     let key = told_key(alloc, key)?;
@@ -61,28 +61,29 @@ fn told_set_attr(
 }
 
 /// A line that takes an entry out.
-fn told_drop_attr(alloc: Global, op: OpId, key: Key<'_>) -> Result<String, AllocError> {
+fn told_drop_attr(alloc: Global, op: OpId, key: &Key<'_>) -> Result<String, AllocError> {
     let key = told_key(alloc, key)?;
     format!(in alloc; "drop-attr {} {key}", op.number())
 }
 
 /// A command.
-fn told_command(alloc: Global, command: Command<'_>) -> Result<String, AllocError> {
+fn told_command(alloc: Global, command: &Command<'_>) -> Result<String, AllocError> {
     match command {
         Command::Report(kind) => format!(in alloc; "report {}", kind.number()),
         Command::Print => String::from_str(alloc, "print"),
-        Command::SetOperand { op, operand, value } => told_set(alloc, op, operand, value),
-        Command::Move { op, spot } => told_move(alloc, op, spot),
-        Command::SetAttr { op, key, attribute } => told_set_attr(alloc, op, key, attribute),
-        Command::DropAttr { op, key } => told_drop_attr(alloc, op, key),
+        Command::SetOperand { op, operand, value } => told_set(alloc, *op, *operand, *value),
+        Command::Move { op, spot } => told_move(alloc, *op, spot),
+        Command::SetAttr { op, key, attribute } => told_set_attr(alloc, *op, key, attribute),
+        Command::DropAttr { op, key } => told_drop_attr(alloc, *op, key),
         Command::Detach(kind) => format!(in alloc; "detach {}", kind.number()),
         Command::Resync(kind) => format!(in alloc; "resync {}", kind.number()),
     }
 }
 
 /// A line.
-fn told_line(alloc: Global, line: Line<'_>) -> Result<String, AllocError> {
-    match line {
+fn told_line(alloc: Global, text: &[u8]) -> Result<String, AllocError> {
+    let line = read_line(text);
+    match &line {
         Line::Nothing => String::from_str(alloc, "nothing"),
         Line::Bad => String::from_str(alloc, "bad"),
         Line::Obey(command) => told_command(alloc, command),
@@ -116,7 +117,7 @@ fn told_some_value(alloc: Global, value: Option<Value>) -> Result<String, AllocE
 /// What is said of bytes.
 fn told(alloc: Global, call: &str, bytes: &[u8]) -> Result<String, AllocError> {
     match call {
-        "line" => told_line(alloc, read_line(bytes)),
+        "line" => told_line(alloc, bytes),
         "split" => both_shown(alloc, split(bytes)),
         "first" => both_shown(alloc, split_line(bytes)),
         "word" => both_shown(alloc, split_word(bytes)),
