@@ -80,6 +80,38 @@ def dotted(numbers):
     return ".".join(map(str, numbers))
 
 
+def spot_of(words):
+    """A place from its words, and the words behind it."""
+    if len(words) >= 2 and words[0] in (b"before", b"after") and op_of(words[1]):
+        return f"{words[0].decode()} {op_of(words[1])[0]}", words[2:]
+    if len(words) >= 3 and words[0] in (b"start", b"end") and op_of(words[1]) and number_of(words[2]) is not None:
+        return f"{words[0].decode()} {op_of(words[1])[0]} {number_of(words[2])}", words[3:]
+    return None, words
+
+
+ESCAPES = {b"n": b"\n", b"t": b"\t", b"\\": b"\\", b'"': b'"'}
+
+
+def key_of(text):
+    """The bytes of the key in front of a text, and what stands behind it; none where it is none."""
+    found = re.match(rb'"((?:[^"\\\n\x0b\x0c\r]|\\[nt\\"]|\\[0-9a-fA-F]{2})*)"(?=[ \t]|\Z)', text)
+    if text.startswith(b'"'):
+        if not found:
+            return None, text
+        raw = re.sub(rb"\\([nt\\\"]|[0-9a-fA-F]{2})", lambda e: ESCAPES.get(e[1]) or bytes([int(e[1], 16)]), found[1])
+        return raw, text[found.end():].lstrip(b" \t")
+    word, rest = re.fullmatch(rb"([^ \t]*)[ \t]*(.*)", text, re.S).groups()
+    return (word if re.fullmatch(rb"[A-Za-z_][A-Za-z0-9_$.]*", word) else None), rest
+
+
+def entry_says(name, rest):
+    op, rest = re.fullmatch(rb"([^ \t]*)[ \t]*(.*)", rest, re.S).groups()
+    key, rest = key_of(rest)
+    if not op_of(op) or key is None or (rest != b"") != (name == b"set-attr"):
+        return "bad"
+    return f"{name.decode()} {op_of(op)[0]} {told(key)}" + (told(rest) if rest else "")
+
+
 def line_says(line):
     try:
         line.decode()
@@ -91,12 +123,19 @@ def line_says(line):
     words = re.split(rb"[ \t]+", text)
     if words == [b"print"]:
         return "print"
-    if len(words) == 2 and words[0] == b"report" and kind_of(words[1]) is not None:
-        return f"report {kind_of(words[1])}"
+    if len(words) == 2 and words[0] in (b"report", b"detach", b"resync") and kind_of(words[1]) is not None:
+        return f"{words[0].decode()} {kind_of(words[1])}"
     if len(words) == 4 and words[0] == b"set-operand":
         op, operand, value = op_of(words[1]), number_of(words[2]), value_of(words[3])
         if op and operand is not None and value:
             return f"set {op[0]} {operand} {dotted(value)}"
+    if len(words) >= 2 and words[0] == b"move" and op_of(words[1]):
+        spot, more = spot_of(words[2:])
+        if spot and not more:
+            return f"move {op_of(words[1])[0]} {spot}"
+    name, rest = re.fullmatch(rb"([^ \t]*)[ \t]*(.*)", text, re.S).groups()
+    if name in (b"set-attr", b"drop-attr"):
+        return entry_says(name, rest)
     return "bad"
 
 
@@ -115,7 +154,21 @@ SETS = {"set-operand #3 0 %v2.0": "3 0 2.0", "set-operand\t#3\t\t0 %v2.1\r": "3 
         "set-operand #4294967295 4294967295 %v4294967295.4294967295": "4294967295 4294967295 4294967295.4294967295",
         "set-operand #3 0 %a1.0.0": "3 0 1.0.0", "set-operand #3 1 %a1.2.3": "3 1 1.2.3",
         "set-operand #0 00 %a001.000.4294967295": "0 0 1.0.4294967295"}
-BAD = """report|report nonsense|report Uses|report use|report uses uses|report uses \r x|reportuses|Report uses|report kind|report kind1
+MOVES = {"move #3 before #2": "3 before 2", "move\t#3  after\t#002\r": "3 after 2", "move #3 start #1 0": "3 start 1 0", "move #3 end #1 00": "3 end 1 0",
+         "move #4294967295 end #4294967295 4294967295": "4294967295 end 4294967295 4294967295"}
+KINDS_ALONE = {"detach uses": "detach 1", "resync uses": "resync 1", "detach kind9": "detach 9", "\tresync  kind255 \r": "resync 255", "detach constants": "detach 6"}
+ENTRIES = {"set-attr #3 k 1 : i32": "set-attr 3 [k][1 : i32]", "set-attr\t#03\t k.a$_9\t\t unit ": "set-attr 3 [k.a$_9][unit]", "drop-attr #3 k": "drop-attr 3 [k]",
+           'set-attr #3 "a b" 1': "set-attr 3 [a b][1]", 'drop-attr #3 ""': "drop-attr 3 []", 'drop-attr #3 "\\n\\t\\\\\\"\\4aZ"': 'drop-attr 3 [\\n\\t\\"JZ]',
+           'set-attr #0 "" unit': "set-attr 0 [][unit]", "set-attr #3 _ // x": "set-attr 3 [_][// x]", "set-attr #3 k =": "set-attr 3 [k][=]",
+           'set-attr #3 "k"\t"v"': 'set-attr 3 [k]["v"]', "set-attr #3 k a\rb": "set-attr 3 [k][a\\rb]"}
+BAD = """move|move #3|move #3 before|move 3 before #2|move #3 before 2|move #3 before #2 x|move #3 start #1|move #3 start #1 0 0|move #3 end #1 x|move #3 under #1
+move #3 Before #2|move #3 before# 2|move #3 start#1 0|move #4294967296 before #2|move #3 before #4294967296|move #3 end #1 4294967296|moves #3 before #2
+set-attr|set-attr #3|set-attr #3 k|set-attr #3 k \t|set-attr 3 k 1|set-attr #3 9k 1|set-attr #3 k-a 1|set-attr #3 "k 1|set-attr #3 "k"1|set-attr #3 "k"" 1
+set-attr #3 "\\q" 1|set-attr #3 "\\4" 1|set-attr #3 "k"\r 1|set-attr #3 \r"k" 1|set-attr #3 k\r 1|set-attr #3 \xe9 1|set-attr # k 1|set_attr #3 k 1
+set-attr #3 "a\rb" 1|set-attr #3 "a\x0bb" 1|set-attr #3 @k 1|set-attr #3 = 1|set-attr #3 // 1
+drop-attr|drop-attr #3|drop-attr #3 k x|drop-attr #3 "k" x|drop-attr #3 "k|drop-attr 3 k|drop-attr #3 9|drop-attr #3 k k|drop-attr #3 //
+detach|detach uses uses|detach Uses|detach kind1|detachuses|resync|resync uses x|resync use|resync kind256|erase #1|insert end #0 0 x|begin|commit|rollback|canon
+report|report nonsense|report Uses|report use|report uses uses|report uses \r x|reportuses|Report uses|report kind|report kind1
 report kind6|report kind07|report kind00|report kind256|report kind4294967305|report kind-1|report kind9x|report 1|report unreached
 print x|print //|Print|prin|prints|/print|print\x0b|\x0cprint|jump|set-operand|set-operand #3|set-operand #3 0|set-operand #3 0 %v2.0 x
 set-operand 3 0 %v2.0|set-operand # 0 %v2.0|set-operand ##3 0 %v2.0|set-operand # 3 0 %v2.0|set-operand #3 x %v2.0|set-operand #3 -1 %v2.0
@@ -136,6 +189,11 @@ def lines():
         line(text, "print")
     for text, want in SETS.items():
         line(text, "set " + want)
+    for text, want in MOVES.items():
+        line(text, "move " + want)
+    for table in (KINDS_ALONE, ENTRIES):
+        for text, want in table.items():
+            line(text, want)
     for text in BAD:
         line(text, "bad")
     for text, want in ((b"// \xff", "bad"), (b"\xc3", "bad"), (b"print\xff", "bad"), (b"// \xc3\xa9", "nothing"), (b"print \xc3\xa9", "bad"),
@@ -144,11 +202,12 @@ def lines():
     for number in range(260):
         line(f"report kind{number}")
     # Near misses: a byte that is left out, put in, or another.
-    for text in ("report uses", "report kind10", "print", "// x", "set-operand #3 10 %v2.0", "set-operand #3 0 %a1.0.2"):
+    for text in ("report uses", "report kind10", "print", "// x", "set-operand #3 10 %v2.0", "set-operand #3 0 %a1.0.2", "move #3 after #2", "move #3 end #1 0", "set-attr #3 k.a 1",
+                 "set-attr #3 \"a\\n\" 1", "drop-attr #3 k", "detach uses", "resync kind10"):
         text = text.encode()
         for place in range(len(text) + 1):
             line(text[:place] + text[place + 1:])
-            for byte in b" \t\r/x0#.%":
+            for byte in b" \t\r/x0#.%\"\\":
                 line(text[:place] + bytes([byte]) + text[place:])
                 line(text[:place] + bytes([byte]) + text[place + 1:])
 
@@ -220,10 +279,11 @@ def replies():
         out += [(f"ok {n}", f"{n} ok\n"), (f"number {n}", f"{n}"), (f"refused {n} HasUses", f"{n} refused 22 HasUses\n")]
     for refusal in REFUSALS:
         word = refusal.split()[1]
-        out += [(f"refused 1 {word}", f"1 refused {refusal}\n"), (f"module {word}", f"module refused {refusal}\n"), (f"module {word} 16", f"module refused {refusal} at 16\n"),
+        out += [(f"refused 1 {word}", f"1 refused {refusal}\n"), (f"module {word}", f"module refused {refusal}\n"), (f"module {word} 16", f"module refused {refusal} at 16\n"), (f"refused-at 9 {word} 17", f"9 refused {refusal} at 17\n"),
                 (f"attach 9 {word}", f"attach kind9 refused {refusal}\n"), (f"attach 1 {word}", f"attach uses refused {refusal}\n")]
     for offset in (0, 9, 10, 33554431, 33554432):
         out.append((f"module TooMany {offset}", f"module refused 11 TooMany at {offset}\n"))
+        out.append((f"refused-at 4294967296 TooMany {offset}", f"4294967296 refused 11 TooMany at {offset}\n"))
     for number in range(256):
         word = kind_word(number).decode()
         out += [(f"rows {number}", f"-- {word}\n"), (f"stale {number}", f"-- {word} stale\n"), (f"memory {number}", f"-- {word} memory\n")]
@@ -231,7 +291,7 @@ def replies():
     out.append(("module-memory", "-- module memory\n"))
     for op, place in itertools.product((0, 3, 10, 4294967295), repeat=2):
         out += [(f"op {op}", f"#{op}"), (f"value {op}.{place}", f"%v{op}.{place}"), (f"value {op}.{place}.7", f"%a{op}.{place}.7"), (f"value {op}.2.{place}", f"%a{op}.2.{place}")]
-    out += [("refused 7 NotVisible", "7 refused 23 NotVisible\n"), ("value 2.0", "%v2.0"), ("value 1.2.3", "%a1.2.3"), ("value 2.7", "%v2.7"), ("value 1.0.3", "%a1.0.3")]
+    out += [("refused 7 NotVisible", "7 refused 23 NotVisible\n"), ("refused-at 1 LeftOut 10", "1 refused 13 LeftOut at 10\n"), ("value 2.0", "%v2.0"), ("value 1.2.3", "%a1.2.3"), ("value 2.7", "%v2.7"), ("value 1.0.3", "%a1.0.3")]
     return out + [("ab cd", "abcd"), ("", "")]
 
 
@@ -241,7 +301,7 @@ def writes():
     for call, text in replies():
         case("write " + call, told(text.encode()))
     samples = dict(replies())
-    for call in ("ab cd", "ok 12", "refused 7 NotVisible", "module BadValue 16", "module Memory", "attach 1 Memory", "attach 200 KindTaken", "rows 3", "stale 9",
+    for call in ("ab cd", "ok 12", "refused 7 NotVisible", "refused-at 1 LeftOut 10", "module BadValue 16", "module Memory", "attach 1 Memory", "attach 200 KindTaken", "rows 3", "stale 9",
                  "memory 1", "module-memory", "number 4294967295", "op 10", "value 2.0", "value 1.0.3", ""):
         text = samples[call].encode()
         for fault in ("fails", "interrupted", "nothing"):
@@ -369,6 +429,78 @@ def runs():
             run(f"narrow {fault} {at}", text, 4 if at else 1, taken)
 
 
+def due(text, refusals=()):
+    """A run in both forms, with what is due by the rules; these refusals are among its replies, and no others."""
+    for how in ("brief", "full"):
+        status, out = script.run(text, how == "brief", BOXES, script.FIRST)
+        seen = set(re.findall(rb"(?m)^[0-9]+ refused ([0-9]+) ", out))
+        assert seen == {str(number).encode() for number in refusals}, (text, seen)
+        run(how, text, status, out)
+
+
+BLOCKS = b"""%a = "t.a"() : () -> i1
+"t.b"() ({
+^b0(%x: i1):
+  %c = "t.c"(%x) : (i1) -> i1
+  "t.d"(%c) : (i1) -> ()
+}, {}, {
+^b1:
+}) : () -> ()
+"t.e"(%a) <{p = 1 : i32}> {q} : (i1) -> ()
+"""
+
+
+def nested(depth):
+    return b'"t.n"() ({' * depth + b"^a:" + b"}) : () -> ()" * depth
+
+
+def moves():
+    """Operations are moved."""
+    listed = b"report uses\nprint\n"
+    for words in ("#2 after #2", "#2 before #3", "#3 after #2", "#3 before #4", "#2 start #1 0"):
+        due(TEXT + DIVIDER + b"move %s\n" % words.encode() + listed)
+    for words, number in {"#9 end #1 0": 20, "#2 before #9": 20, "#2 after #9": 20, "#2 start #9 0": 20, "#9 before #8": 20, "#2 before #0": 29, "#2 after #0": 29,
+                          "#0 end #1 0": 29, "#0 before #0": 29, "#2 end #1 1": 25, "#2 start #2 0": 25, "#9 end #1 7": 25, "#1 end #1 0": 27, "#1 before #3": 27, "#2 before #2": 27,
+                          "#4 start #1 0": 23, "#3 start #1 0": 23, "#2 end #1 0": 23, "#3 before #2": 23, "#2 end #0 0": 23, "#3 after #1": 23}.items():
+        due(TEXT + DIVIDER + b"move %s\n" % words.encode() + listed, [number])
+    over = BLOCKS + DIVIDER
+    due(over + b"move #5 end #2 2\nmove #4 end #2 2\nmove #4 start #2 0\nmove #2 before #1\nmove #1 start #2 2\nmove #5 before #2\nmove #5 start #2 2\n" + listed, [23])
+    due(over + b"move #5 start #2 1\nmove #5 start #2 3\nmove #5 end #2 0\nmove #5 after #3\nmove #5 after #5\nmove #5 start #0 0\n" + listed, [25, 23])
+    tables = b"\"builtin.module\"() ({^a:}) : () -> ()\n\"b\"() : () -> ()\n\"builtin.module\"() ({}) : () -> ()\n" + DIVIDER
+    due(tables + b"move #2 end #1 0\nmove #3 end #1 0\nmove #1 after #3\nmove #2 end #3 0\nprint\n", [28, 25])
+    deep = nested(128) + b"\n" + nested(1) + b"\n" + DIVIDER
+    due(deep + b"move #129 end #127 0\nmove #129 end #128 0\nmove #129 end #0 0\n", [33])
+
+
+def entries():
+    """Entries are set and taken out."""
+    over = TEXT + DIVIDER
+    shown = b"print\nreport diagnostics\n"
+    for words in ('#3 k 1 : i32', '#3 overflowFlags #arith.overflow<nsw>', '#3 "a b" "x"', '#3 "" unit', '#3 "\\4aZ" [1, @a::@b]', "#1 function_type (i32) -> i64",
+                  "#1 sym_name true", "#2 value 7 : i32", "#2 value 7 : i64", "#2 extra {a = unit, b = 2 : i8}", "#0 k array<i32: 1>", "#3 k 1 : i32 // x"):
+        due(over + b"set-attr %s\n" % words.encode() + shown)
+    for words in ("#3 k 256 : i8", "#3 k $", "#9 k $", "#3 k 1 : i32 x", "#3 k f32", "#3 k {a, a}", "#3 k (i32", "#3 k 1 : i129", "#3 k " + "[" * 33 + "]" * 33, "#3 k \"x\ty", "#3 k // x"):
+        status, out = script.run(over + b"set-attr %s\n" % words.encode(), True, BOXES, script.FIRST)
+        assert re.fullmatch(rb"1 refused ([1-9]|1[0-4]) [A-Za-z0-9]+ at [0-9]+\n", out), (words, out)
+        due(over + b"set-attr %s\n" % words.encode() + shown, [int(out.split()[2])])
+    due(over + b"set-attr #9 k 1 : i32\ndrop-attr #9 k\ndrop-attr #3 nope\ndrop-attr #3 \"over flow\"\n" + shown, [20, 26])
+    due(over + b"drop-attr #3 overflowFlags\ndrop-attr #3 overflowFlags\nset-attr #3 overflowFlags #arith.overflow<none>\n" + shown, [26])
+    due(over + b"set-attr #1 function_type (i32) -> i64\nreport diagnostics\nset-attr #1 function_type (i32) -> i32\n" + shown)
+    # A key belongs where it stands, or among the properties where it is inherent.
+    due(BLOCKS + DIVIDER + b"set-attr #5 p 2 : i32\nset-attr #5 q 2 : i32\nset-attr #5 r 2 : i32\ndrop-attr #5 p\nset-attr #5 p 3 : i32\ndrop-attr #5 q\ndrop-attr #5 \"r\"\n" + shown)
+    due(over + b"drop-attr #2 value\nset-attr #2 value 3 : i32\nset-attr #2 values 3 : i32\ndrop-attr #2 values\n" + shown)
+    many = b"\"t.a\"() {" + b", ".join(b"k%d" % n for n in range(256)) + b"} : () -> ()\n"
+    due(many + DIVIDER + b"set-attr #1 k unit\nset-attr #1 k7 1 : i8\ndrop-attr #1 k9\nset-attr #1 k unit\nset-attr #1 l unit\n", [31])
+
+
+def panels():
+    """Analyses are dropped and begun again."""
+    over = TEXT + DIVIDER
+    due(over + b"detach uses\nreport uses\nresync uses\ndetach uses\nset-operand #3 0 %v2.0\nresync diagnostics\nreport diagnostics\n", [41])
+    due(over + b"resync uses\nset-operand #3 0 %v2.0\nresync uses\nreport uses\ndetach diagnostics\nreport diagnostics\nprint\n", [41])
+    due(over + b"detach kind9\nresync effects\ndetach uses\ndetach diagnostics\nmove #2 start #1 0\nprint\n", [41])
+
+
 def command_lines():
     """What the words of a command line ask for, or what is printed of them, and whether that is a fault."""
     help_text = pathlib.Path("bench/help.txt").read_bytes()
@@ -399,6 +531,9 @@ cuts()
 writes()
 reads()
 runs()
+moves()
+entries()
+panels()
 command_lines()
 refused()
 

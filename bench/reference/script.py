@@ -11,8 +11,8 @@ WORDS = {20: "NoSuchOp", 21: "NoSuchValue", 22: "HasUses", 23: "NotVisible", 24:
          54: "BadTarget", 60: "BadCommand"}
 BOXES = tuple(KINDS.values())
 MOST_MARKS = 16
-FIRST = {"report", "print", "set-operand"}
-EDITS = FIRST | {"erase", "move", "insert", "replace", "set-attr", "drop-attr", "resync", "detach"}
+FIRST = {"report", "print", "set-operand", "move", "set-attr", "drop-attr", "resync", "detach"}
+EDITS = FIRST | {"erase", "insert", "replace"}
 ALL = EDITS | {"begin", "commit", "rollback"}
 REWRITES = ALL | {"canon", "convert"}
 LAST = REWRITES | {"sweep"}

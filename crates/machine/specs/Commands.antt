@@ -3,7 +3,7 @@ use Rattle.std.specs.Prelude.{◌≡◌, ℕ, ◌≤◌, List, ◌⊎◌, Option
 use Rattle.ir_types.specs.Terms.{AttrTerm}
 use Rattle.ir_types.specs.Refusals.{number_of}
 use Rattle.ir_types.specs.declared.refusal.Refusal.{Refusal}
-use Rattle.ir_types.specs.declared.refusal.Refusal.TheVariants.{TooMany, IdsExhausted}
+use Rattle.ir_types.specs.declared.refusal.Refusal.TheVariants.{TooMany, IdsExhausted, Memory}
 use Rattle.ir_tree.specs.declared.value.Value.{Value}
 use Rattle.ir_tree.specs.declared.place.Place.{Place}
 use Rattle.ir_tree.specs.Meaning.{Operation}
@@ -37,14 +37,14 @@ pub data Asked : Type 0 where
   Misplaced : Refusal → Asked
   Unread : Refusal → Option ℕ → Asked
 
--- a text is refused with an offset for what is wrong with it, or without one for want of ids
+-- a text is refused with an offset for what is wrong with it, or without one for want of ids or of memory
 abbrev pub IsTextRefusal : Refusal → Option ℕ → Type 0
 IsTextRefusal refusal (Some offset) = number_of refusal ≤ 14
-IsTextRefusal refusal None = refusal ≡ IdsExhausted
+IsTextRefusal refusal None = (refusal ≡ IdsExhausted) ⊎ (refusal ≡ Memory)
 
--- a text was refused: nothing is spelled, or no room is left for what it names
+-- a text was refused: nothing is spelled, or no room is left for what it names, or no memory
 abbrev pub TextRefused : {X : Type 0} → (X → Type 0) → Refusal → Option ℕ → Type 0
-TextRefused Spelled refusal offset = IsTextRefusal refusal offset × (((x : _) → Spelled x → ⊥) ⊎ (refusal ≡ TooMany))
+TextRefused Spelled refusal offset = IsTextRefusal refusal offset × (((x : _) → Spelled x → ⊥) ⊎ ((refusal ≡ TooMany) ⊎ (refusal ≡ Memory)))
 
 -- `SpellsOp` tells which operation bytes spell beside a module, and `SpellsAttr` which attribute
 module _ (SpellsOp : Module → List ℕ → Operation → Type 0) (SpellsAttr : List ℕ → AttrTerm → Type 0) where

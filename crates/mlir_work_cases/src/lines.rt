@@ -4,9 +4,11 @@ use ir_tree::value::Value;
 use ir_types::ids::OpId;
 use mlir_work_script::command::{Command, Line, read_line};
 use mlir_work_script::input::{script_is_too_long, split};
-use mlir_work_script::kind::{Kind, kind_named};
+use mlir_work_script::keys::{Key, bytes_of};
+use mlir_work_script::kind::kind_named;
 use mlir_work_script::lines::split_line;
 use mlir_work_script::numbers;
+use mlir_work_script::spots::Spot;
 use mlir_work_script::values::{op_named, value_named};
 use mlir_work_script::words::{split_word, trim};
 use std::alloc::{AllocError, Global};
@@ -24,18 +26,64 @@ fn told_set(alloc: Global, op: OpId, operand: u32, value: Value) -> Result<Strin
     }
 }
 
+/// A place.
+fn told_spot(alloc: Global, spot: &Spot) -> Result<String, AllocError> {
+    match spot {
+        Spot::Before(op) => format!(in alloc; "before {}", op.number()),
+        Spot::After(op) => format!(in alloc; "after {}", op.number()),
+        Spot::Start(op, region) => format!(in alloc; "start {} {region}", op.number()),
+        Spot::End(op, region) => format!(in alloc; "end {} {region}", op.number()),
+    }
+}
+
+/// A line that moves an operation.
+fn told_move(alloc: Global, op: OpId, spot: &Spot) -> Result<String, AllocError> {
+    let place = told_spot(alloc, spot)?;
+    format!(in alloc; "move {} {place}", op.number())
+}
+
+/// The bytes that a key stands for.
+fn told_key(alloc: Global, key: &Key<'_>) -> Result<String, AllocError> {
+    let bytes = bytes_of(alloc, key)?;
+    shown(alloc, &bytes)
+}
+
+/// A line that sets an entry.
+fn told_set_attr(
+    alloc: Global,
+    op: OpId,
+    key: &Key<'_>,
+    attribute: &[u8],
+) -> Result<String, AllocError> {
+    let key = told_key(alloc, key)?;
+    let attribute = shown(alloc, attribute)?;
+    format!(in alloc; "set-attr {} {key}{attribute}", op.number())
+}
+
+/// A line that takes an entry out.
+fn told_drop_attr(alloc: Global, op: OpId, key: &Key<'_>) -> Result<String, AllocError> {
+    let key = told_key(alloc, key)?;
+    format!(in alloc; "drop-attr {} {key}", op.number())
+}
+
 /// A command.
-fn told_command(alloc: Global, command: Command) -> Result<String, AllocError> {
+fn told_command(alloc: Global, command: &Command<'_>) -> Result<String, AllocError> {
     match command {
         Command::Report(kind) => format!(in alloc; "report {}", kind.number()),
         Command::Print => String::from_str(alloc, "print"),
-        Command::SetOperand { op, operand, value } => told_set(alloc, op, operand, value),
+        Command::SetOperand { op, operand, value } => told_set(alloc, *op, *operand, *value),
+        Command::Move { op, spot } => told_move(alloc, *op, spot),
+        Command::SetAttr { op, key, attribute } => told_set_attr(alloc, *op, key, attribute),
+        Command::DropAttr { op, key } => told_drop_attr(alloc, *op, key),
+        Command::Detach(kind) => format!(in alloc; "detach {}", kind.number()),
+        Command::Resync(kind) => format!(in alloc; "resync {}", kind.number()),
     }
 }
 
 /// A line.
-fn told_line(alloc: Global, line: Line) -> Result<String, AllocError> {
-    match line {
+fn told_line(alloc: Global, text: &[u8]) -> Result<String, AllocError> {
+    let line = read_line(text);
+    match &line {
         Line::Nothing => String::from_str(alloc, "nothing"),
         Line::Bad => String::from_str(alloc, "bad"),
         Line::Obey(command) => told_command(alloc, command),
@@ -69,7 +117,7 @@ fn told_some_value(alloc: Global, value: Option<Value>) -> Result<String, AllocE
 /// What is said of bytes.
 fn told(alloc: Global, call: &str, bytes: &[u8]) -> Result<String, AllocError> {
     match call {
-        "line" => told_line(alloc, read_line(bytes)),
+        "line" => told_line(alloc, bytes),
         "split" => both_shown(alloc, split(bytes)),
         "first" => both_shown(alloc, split_line(bytes)),
         "word" => both_shown(alloc, split_word(bytes)),

@@ -7,7 +7,7 @@ use mlir_work_script::cells::{put_number, put_op_id, put_value};
 use mlir_work_script::kind::Kind;
 use mlir_work_script::replies::{
     put_attach_refused, put_kind, put_kind_memory, put_module_memory, put_module_refused, put_ok,
-    put_refused, put_stale,
+    put_refused, put_refused_at, put_stale,
 };
 use mlir_work_script::writing::{WriteFault, put_all};
 use std::alloc::{AllocError, Global};
@@ -98,6 +98,12 @@ fn put_refused_command<W: Write>(writer: &mut W, text: &str) -> Result<(), Write
     put_refused(writer, number(n), refusal(word))
 }
 
+fn put_refused_text<W: Write>(writer: &mut W, text: &str) -> Result<(), WriteFault> {
+    let (n, rest) = first(text);
+    let (word, offset) = first(rest);
+    put_refused_at(writer, number(n), refusal(word), number(offset) as usize)
+}
+
 fn put_box<W: Write>(writer: &mut W, text: &str) -> Result<(), WriteFault> {
     let (number, word) = first(text);
     put_attach_refused(writer, kind(number), refusal(word))
@@ -108,6 +114,7 @@ pub fn put_reply<W: Write>(writer: &mut W, call: &str, text: &str) -> Result<(),
     match call {
         "ok" => put_ok(writer, number(text)),
         "refused" => put_refused_command(writer, text),
+        "refused-at" => put_refused_text(writer, text),
         "module" => put_module(writer, text),
         "attach" => put_box(writer, text),
         "rows" => put_kind(writer, kind(text)),

@@ -14,13 +14,21 @@ pub(crate) const BRIEF: &str =
 /// What stands below the options.
 pub(crate) const AFTER: &str = "\
 Commands, one a line; an empty line and a line that begins with `//` say nothing:
-  print                   the module
-  report KIND             the rows of an analysis
-  set-operand #N K VALUE  VALUE becomes operand K of operation #N
+  print                      the module
+  report KIND                the rows of an analysis
+  set-operand #N K VALUE     VALUE becomes operand K of operation #N
+  set-attr #N KEY ATTRIBUTE  ATTRIBUTE, the rest of the line, becomes the entry KEY of operation #N
+  drop-attr #N KEY           the entry KEY of operation #N is taken out
+  move #N PLACE              operation #N, with what is inside it, is moved
+  detach KIND                an analysis is dropped
+  resync KIND                an analysis begins again
 
 Each command is replied to by a line that begins with its number: `1 ok`, or `1 refused 23 NotVisible`, and
-then the module is as it was. Operations are numbered in the order of the text, and the module around them is
-#0. A VALUE is %vN.K, result K of #N, or %aN.R.K, argument K of the block of region R of #N.
+then the module is as it was; `1 refused 2 Unexpected at 4` says where the ATTRIBUTE is wrong. Operations are
+numbered in the order of the text, and the module around them is #0. A VALUE is %vN.K, result K of #N, or
+%aN.R.K, argument K of the block of region R of #N. A PLACE is `before #N`, `after #N`, or `start #N R` or
+`end #N R`, of the block of region R of #N. A KEY is a bare identifier or a string literal; it is one of the
+properties where it is inherent to the operation or they have it, else one of the attributes.
 
 Kinds:
   uses         the uses of each value: the value, the operation that uses it, and the number of the operand

@@ -5,7 +5,8 @@ use Rattle.ir_event.specs.Modules.{Module}
 use Rattle.mlir_work_script.specs.Commands.{Spoken, Nothing, Bad, Obey, line_says}
 use Rattle.mlir_work_script.specs.Lines.{lines_of}
 use Rattle.mlir_work_script.specs.Parts.{script_text}
-use Rattle.mlir_work_session.specs.Machine.{Shown, State}
+use Rattle.machine.specs.Machine.{State}
+use Rattle.machine.specs.Panels.{Shown}
 use Rattle.mlir_work_session.specs.Output.{Line, Runs, IsSession, worse, is_accepted}
 use Rattle.mlir_work_run.specs.Ends.{EndedSo, HasStatus, IsFinal, status_of}
 use Rattle.mlir_work_run.specs.Whole.{IsOutput}
@@ -22,8 +23,8 @@ low_worse false later h = inr refl
 
 low_line : (Rest : ℕ → State → ℕ → List ℕ → Type 0) (brief : Bool) (n : ℕ) (s : State) (spoken : Spoken) (status : ℕ) (out : List ℕ) → ((m : ℕ) (t : State) (st : ℕ) (o : List ℕ) → Rest m t st o → IsLow st) → Line Rest brief n s spoken status out → IsLow status
 low_line Rest brief n s Nothing status out f h = f n s status out h
-low_line Rest brief n s Bad status out f h = rw h.status_is (low_worse (is_accepted h.reply) h.later (f (n + 1) h.after h.later h.rest h.goes_on))
-low_line Rest brief n s (Obey said) status out f h = rw h.status_is (low_worse (is_accepted h.reply) h.later (f (n + 1) h.after h.later h.rest h.goes_on))
+low_line Rest brief n s Bad status out f h = rw h.status_is (low_worse (is_accepted h.response) h.later (f (n + 1) h.after h.later h.rest h.goes_on))
+low_line Rest brief n s (Obey said) status out f h = rw h.status_is (low_worse (is_accepted h.response) h.later (f (n + 1) h.after h.later h.rest h.goes_on))
 
 low_runs : (brief : Bool) (lines : List (List ℕ)) (n : ℕ) (s : State) (status : ℕ) (out : List ℕ) → Runs brief n s lines status out → IsLow status
 low_runs brief [] n s status out h = inl h.0
@@ -31,7 +32,7 @@ low_runs brief (line ∷ lines) n s status out h = low_line (λ m t st o. Runs b
 
 low_session : (brief : Bool) (boxes : List Shown) (m : Module) (script : List ℕ) (status : ℕ) (out : List ℕ) → IsSession brief boxes m script status out → IsLow status
 low_session brief boxes m script status out (inl h) = inr h.1.0
-low_session brief boxes m script status out (inr h) = rw h.1.status_is (low_worse h.1.accepted h.1.later (low_runs brief (lines_of script) 1 (record { held = m; panel = h.1.panel }) h.1.later h.1.rest h.1.runs))
+low_session brief boxes m script status out (inr h) = rw h.1.status_is (low_worse h.1.accepted h.1.later (low_runs brief (lines_of script) 1 (record { held = m; marks = []; panel = h.1.panel }) h.1.later h.1.rest h.1.runs))
 
 final_low : (status : ℕ) → IsLow status → IsFinal status
 final_low status (inl e) = inl e

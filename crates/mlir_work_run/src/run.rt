@@ -7,7 +7,7 @@ ghost use Rattle.ir_tree.specs.WellFormed.{IsFormed};
 ghost use Rattle.ir_event.specs.Modules.{module_in};
 ghost use Rattle.ir_text.specs.Public.{IsOnly, Spells};
 ghost use Rattle.mlir_work_script.specs.Parts.{module_text, script_text};
-ghost use Rattle.mlir_work_session.specs.Machine.{all_shown};
+ghost use Rattle.machine.specs.Panels.{all_shown};
 ghost use Rattle.mlir_work_session.specs.Ran.{RanOut};
 ghost use Rattle.mlir_work_run.specs.Ends.{EndedSo, HasStatus, ended_of, status_of};
 ghost use Rattle.mlir_work_run.specs.Whole.{IsOutput, IsRefusal, WhyNot, IsWorldOf};

@@ -7,3 +7,4 @@ pub mod KindWords
 pub mod Dividing
 pub mod Dividers
 pub mod Spanning
+pub mod Quotes

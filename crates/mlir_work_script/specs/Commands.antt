@@ -4,20 +4,19 @@ use Rattle.std.specs.List.{starts_with}
 use Rattle.std.specs.Option.{option_map}
 use Rattle.std.specs.Str.{bytes_eq, is_utf8}
 use Rattle.ir_tree.specs.declared.value.Value.{Value}
+use Rattle.machine.specs.Commands as said
+use Rattle.machine.specs.Commands.{Command as Said}
+use Rattle.machine.specs.Spots.{Spot}
 use Rattle.mlir_work_script.specs.declared.command.Command.{Command}
 use Rattle.mlir_work_script.specs.declared.command.Command.TheVariants as code
 use Rattle.mlir_work_script.specs.declared.command.Line.{Line}
 use Rattle.mlir_work_script.specs.declared.command.Line.TheVariants as line
+use Rattle.mlir_work_script.specs.Keys.{key_bytes, key_in}
 use Rattle.mlir_work_script.specs.Kinds.{kind_of}
 use Rattle.mlir_work_script.specs.Numbers.{number_of}
+use Rattle.mlir_work_script.specs.Spots.{spot_of, spot_in}
 use Rattle.mlir_work_script.specs.Values.{op_of, value_of}
 use Rattle.mlir_work_script.specs.Words.{trim, word_of, after_word}
-
--- a command, wherever its text lies in memory
-pub data Said : Type 0 where
-  Report : (kind : ℕ) → Said
-  Print : Said
-  SetOperand : (op operand : ℕ) (value : Value) → Said
 
 -- what a line says: nothing, no command, or a command
 pub data Spoken : Type 0 where
@@ -25,10 +24,16 @@ pub data Spoken : Type 0 where
   Bad : Spoken
   Obey : (said : Said) → Spoken
 
+-- a command, wherever its text lies in memory
 abbrev pub said_of : Command → Said
-said_of (code.Report kind) = Report kind
-said_of code.Print = Print
-said_of (code.SetOperand op operand value) = SetOperand op operand value
+said_of (code.Report kind) = said.Report kind
+said_of code.Print = said.Print
+said_of (code.SetOperand op operand value) = said.SetOperand op operand value
+said_of (code.Move op spot) = said.Move op (spot_of spot)
+said_of (code.SetAttr op key attribute) = said.SetAttr op (key_bytes key) attribute.now
+said_of (code.DropAttr op key) = said.DropAttr op (key_bytes key)
+said_of (code.Detach kind) = said.Detach kind
+said_of (code.Resync kind) = said.Resync kind
 
 abbrev pub spoken_of : Line → Spoken
 spoken_of line.Nothing = Nothing
@@ -40,15 +45,15 @@ abbrev pub alone : List ℕ → Option Said → Option Said
 alone [] said = said
 alone (b ∷ bs) said = None
 
+-- report KIND, and the others that have a kind alone
+abbrev pub with_kind : (ℕ → Said) → List ℕ → Option Said
+with_kind make rest = alone (after_word rest) (option_map make (kind_of (word_of rest)))
+
 abbrev pub set_operand_from : Option ℕ → Option ℕ → Option Value → Option Said
-set_operand_from (Some op) (Some operand) (Some value) = Some (SetOperand op operand value)
+set_operand_from (Some op) (Some operand) (Some value) = Some (said.SetOperand op operand value)
 set_operand_from (Some op) (Some operand) None = None
 set_operand_from (Some op) None value = None
 set_operand_from None operand value = None
-
--- report KIND
-abbrev pub report_in : List ℕ → Option Said
-report_in rest = alone (after_word rest) (option_map Report (kind_of (word_of rest)))
 
 -- set-operand #N K VALUE
 abbrev pub set_operand_in : List ℕ → Option Said
@@ -56,13 +61,50 @@ set_operand_in rest =
     alone (after_word (after_word (after_word rest)))
     (set_operand_from (op_of (word_of rest)) (number_of (word_of (after_word rest))) (value_of (word_of (after_word (after_word rest)))))
 
+abbrev pub move_from : Option ℕ → Option (Spot × List ℕ) → Option Said
+move_from (Some op) (Some p) = alone p.1 (Some (said.Move op p.0))
+move_from (Some op) None = None
+move_from None p = None
+
+-- move #N PLACE
+abbrev pub move_in : List ℕ → Option Said
+move_in rest = move_from (op_of (word_of rest)) (spot_in (after_word rest))
+
+abbrev pub set_attr_from : Option ℕ → Option (List ℕ × List ℕ) → Option Said
+set_attr_from (Some op) (Some p) = if length p.1 == 0 then None else Some (said.SetAttr op p.0 p.1)
+set_attr_from (Some op) None = None
+set_attr_from None p = None
+
+-- set-attr #N KEY ATTRIBUTE, where the attribute is the rest of the line
+abbrev pub set_attr_in : List ℕ → Option Said
+set_attr_in rest = set_attr_from (op_of (word_of rest)) (key_in (after_word rest))
+
+abbrev pub drop_attr_from : Option ℕ → Option (List ℕ × List ℕ) → Option Said
+drop_attr_from (Some op) (Some p) = alone p.1 (Some (said.DropAttr op p.0))
+drop_attr_from (Some op) None = None
+drop_attr_from None p = None
+
+-- drop-attr #N KEY
+abbrev pub drop_attr_in : List ℕ → Option Said
+drop_attr_in rest = drop_attr_from (op_of (word_of rest)) (key_in (after_word rest))
+
+-- the command of this name, with the text behind the name: one that shows or follows
+abbrev pub panel_command : List ℕ → List ℕ → Option Said
+panel_command name rest =
+    if bytes_eq name (codes "report") then with_kind said.Report rest
+    else if bytes_eq name (codes "print") then alone rest (Some said.Print)
+    else if bytes_eq name (codes "detach") then with_kind said.Detach rest
+    else if bytes_eq name (codes "resync") then with_kind said.Resync rest
+    else None
+
 -- the command of this name, with the text behind the name
 abbrev pub named : List ℕ → List ℕ → Option Said
 named name rest =
-    if bytes_eq name (codes "report") then report_in rest
-    else if bytes_eq name (codes "print") then alone rest (Some Print)
-    else if bytes_eq name (codes "set-operand") then set_operand_in rest
-    else None
+    if bytes_eq name (codes "set-operand") then set_operand_in rest
+    else if bytes_eq name (codes "move") then move_in rest
+    else if bytes_eq name (codes "set-attr") then set_attr_in rest
+    else if bytes_eq name (codes "drop-attr") then drop_attr_in rest
+    else panel_command name rest
 
 -- the command that a trimmed line is
 abbrev pub command_of : List ℕ → Option Said

@@ -5,6 +5,8 @@ pub mod Words
 pub mod Numbers
 pub mod Values
 pub mod Kinds
+pub mod Spots
+pub mod Keys
 pub mod Commands
 pub mod Writes
 pub mod Replies

@@ -4,10 +4,15 @@ use Rattle.std.specs.Fmt.{decimal}
 use Rattle.ir_types.specs.Refusals.{text_of}
 use Rattle.ir_types.specs.declared.refusal.Refusal.{Refusal}
 use Rattle.mlir_work_script.specs.Kinds.{kind_word}
+use Rattle.mlir_work_script.specs.Values.{op_text}
 
 -- `1 ok`
 abbrev pub ok_line : ℕ → List ℕ
 ok_line n = decimal n ++ codes " ok\n"
+
+-- `1 ok #12`
+abbrev pub made_line : ℕ → ℕ → List ℕ
+made_line n op = decimal n ++ (codes " ok " ++ (op_text op ++ codes "\n"))
 
 -- `1 refused 22 HasUses`
 abbrev pub refused_line : ℕ → Refusal → List ℕ
@@ -17,6 +22,10 @@ refused_line n refusal = decimal n ++ (codes " refused " ++ (text_of refusal ++ 
 abbrev pub at_offset : Option ℕ → List ℕ
 at_offset (Some offset) = codes " at " ++ (decimal offset ++ codes "\n")
 at_offset None = codes "\n"
+
+-- `1 refused 3 UnknownValue at 17`
+abbrev pub refused_at_line : ℕ → Refusal → ℕ → List ℕ
+refused_at_line n refusal offset = decimal n ++ (codes " refused " ++ (text_of refusal ++ at_offset (Some offset)))
 
 -- `module refused 7 BadValue at 16`, or without an offset
 abbrev pub module_refused_line : Refusal → Option ℕ → List ℕ

@@ -2,18 +2,21 @@
 ghost use Rattle.std.specs.Prelude.{◌≡◌, Some};
 ghost use Rattle.std.specs.Option.{option_map};
 ghost use Rattle.std.specs.Str.{is_utf8};
-ghost use Rattle.mlir_work_script.specs.Commands.{said_of, spoken_of, report_in, set_operand_in, alone, Print, command_of, line_says};
+ghost use Rattle.machine.specs.Commands as said;
+ghost use Rattle.mlir_work_script.specs.Commands.{said_of, spoken_of, with_kind, set_operand_in, move_in, set_attr_in, drop_attr_in, alone, panel_command, command_of, line_says};
 
+use crate::keys::{Key, split_key};
 use crate::kind::{Kind, kind_named};
 use crate::numbers::number;
+use crate::spots::{Spot, split_spot};
 use crate::values::{op_named, value_named};
 use crate::words::{split_word, trim};
 use ir_tree::value::Value;
 use ir_types::ids::OpId;
 
 /// A command of a script.
-#[derive(Clone, Copy, Debug, PartialEq, Eq)]
-pub enum Command {
+#[derive(Clone, Copy)]
+pub enum Command<'a> {
     /// `report KIND` prints the rows of an analysis.
     Report(Kind),
     /// `print` prints the module.
@@ -27,17 +30,44 @@ pub enum Command {
         /// What the operand is to be.
         value: Value,
     },
+    /// `move #N PLACE` moves an operation, with what is inside it.
+    Move {
+        /// The operation.
+        op: OpId,
+        /// Where it is to stand.
+        spot: Spot,
+    },
+    /// `set-attr #N KEY ATTRIBUTE` sets an entry of an operation.
+    SetAttr {
+        /// The operation.
+        op: OpId,
+        /// The entry's key.
+        key: Key<'a>,
+        /// The text of the attribute.
+        attribute: &'a [u8],
+    },
+    /// `drop-attr #N KEY` takes an entry out.
+    DropAttr {
+        /// The operation.
+        op: OpId,
+        /// The entry's key.
+        key: Key<'a>,
+    },
+    /// `detach KIND` drops an analysis.
+    Detach(Kind),
+    /// `resync KIND` begins an analysis again.
+    Resync(Kind),
 }
 
 /// What a line of a script says.
-#[derive(Clone, Copy, Debug, PartialEq, Eq)]
-pub enum Line {
+#[derive(Clone, Copy)]
+pub enum Line<'a> {
     /// Nothing: an empty line or a comment.
     Nothing,
     /// No command, though it should be one.
     Bad,
     /// A command.
-    Obey(Command),
+    Obey(Command<'a>),
 }
 
 fn is_text(line: &[u8]) -> bool
@@ -47,8 +77,8 @@ fn is_text(line: &[u8]) -> bool
 }
 
 /// `report KIND`, behind its name.
-fn report(rest: &[u8]) -> Option<Command>
-    ensures { option_map said_of result ≡ report_in rest.now }
+fn report(rest: &[u8]) -> Option<Command<'_>>
+    ensures { option_map said_of result ≡ with_kind said.Report rest.now }
 {
     let (kind, left) = split_word(rest);
     if !left.is_empty() {
@@ -58,9 +88,33 @@ fn report(rest: &[u8]) -> Option<Command>
     Some(Command::Report(kind))
 }
 
+/// `detach KIND`, behind its name.
+fn detach(rest: &[u8]) -> Option<Command<'_>>
+    ensures { option_map said_of result ≡ with_kind said.Detach rest.now }
+{
+    let (kind, left) = split_word(rest);
+    if !left.is_empty() {
+        return None;
+    }
+    let kind = kind_named(kind)?;
+    Some(Command::Detach(kind))
+}
+
+/// `resync KIND`, behind its name.
+fn resync(rest: &[u8]) -> Option<Command<'_>>
+    ensures { option_map said_of result ≡ with_kind said.Resync rest.now }
+{
+    let (kind, left) = split_word(rest);
+    if !left.is_empty() {
+        return None;
+    }
+    let kind = kind_named(kind)?;
+    Some(Command::Resync(kind))
+}
+
 /// `print`, behind its name.
-fn print(rest: &[u8]) -> Option<Command>
-    ensures { option_map said_of result ≡ alone rest.now (Some Print) }
+fn print(rest: &[u8]) -> Option<Command<'_>>
+    ensures { option_map said_of result ≡ alone rest.now (Some said.Print) }
 {
     if !rest.is_empty() {
         return None;
@@ -69,7 +123,7 @@ fn print(rest: &[u8]) -> Option<Command>
 }
 
 /// `set-operand #N K VALUE`, behind its name.
-fn set_operand(rest: &[u8]) -> Option<Command>
+fn set_operand(rest: &[u8]) -> Option<Command<'_>>
     ensures { option_map said_of result ≡ set_operand_in rest.now }
 {
     let (op, rest) = split_word(rest);
@@ -84,26 +138,89 @@ fn set_operand(rest: &[u8]) -> Option<Command>
     Some(Command::SetOperand { op, operand, value })
 }
 
-/// The command that a trimmed line is.
-fn command_in(text: &[u8]) -> Option<Command>
-    ensures { option_map said_of result ≡ command_of text.now }
+/// `move #N PLACE`, behind its name.
+fn move_op(rest: &[u8]) -> Option<Command<'_>>
+    ensures { option_map said_of result ≡ move_in rest.now }
 {
-    let (name, rest) = split_word(text);
+    let (op, rest) = split_word(rest);
+    let op = op_named(op)?;
+    let Some((spot, left)) = split_spot(rest) else {
+        return None;
+    };
+    if !left.is_empty() {
+        return None;
+    }
+    Some(Command::Move { op, spot })
+}
+
+/// `set-attr #N KEY ATTRIBUTE`, behind its name.
+fn set_attr(rest: &[u8]) -> Option<Command<'_>>
+    ensures { option_map said_of result ≡ set_attr_in rest.now }
+{
+    let (op, rest) = split_word(rest);
+    let op = op_named(op)?;
+    let (key, attribute) = split_key(rest)?;
+    if attribute.is_empty() {
+        return None;
+    }
+    Some(Command::SetAttr { op, key, attribute })
+}
+
+/// `drop-attr #N KEY`, behind its name.
+fn drop_attr(rest: &[u8]) -> Option<Command<'_>>
+    ensures { option_map said_of result ≡ drop_attr_in rest.now }
+{
+    let (op, rest) = split_word(rest);
+    let op = op_named(op)?;
+    let (key, left) = split_key(rest)?;
+    if !left.is_empty() {
+        return None;
+    }
+    Some(Command::DropAttr { op, key })
+}
+
+/// The command of a name that shows something or is of an analysis.
+fn panel_command<'a>(name: &[u8], rest: &'a [u8]) -> Option<Command<'a>>
+    ensures { option_map said_of result ≡ panel_command name.now rest.now }
+{
     if name == b"report".as_slice() {
         return report(rest);
     }
     if name == b"print".as_slice() {
         return print(rest);
     }
-    if name == b"set-operand".as_slice() {
-        return set_operand(rest);
+    if name == b"detach".as_slice() {
+        return detach(rest);
+    }
+    if name == b"resync".as_slice() {
+        return resync(rest);
     }
     None
 }
 
+/// The command that a trimmed line is.
+fn command_in(text: &[u8]) -> Option<Command<'_>>
+    ensures { option_map said_of result ≡ command_of text.now }
+{
+    let (name, rest) = split_word(text);
+    if name == b"set-operand".as_slice() {
+        return set_operand(rest);
+    }
+    if name == b"move".as_slice() {
+        return move_op(rest);
+    }
+    if name == b"set-attr".as_slice() {
+        return set_attr(rest);
+    }
+    if name == b"drop-attr".as_slice() {
+        return drop_attr(rest);
+    }
+    panel_command(name, rest)
+}
+
 /// What a line says. Spaces, tabs and carriage returns at its ends don't count; words are separated by
 /// spaces or tabs. A line that isn't UTF-8 is bad, also where it is a comment.
-pub fn read_line(line: &[u8]) -> Line
+pub fn read_line(line: &[u8]) -> Line<'_>
     ensures { spoken_of result ≡ line_says line.now }
 {
     if !is_text(line) {

@@ -2,7 +2,7 @@
 ghost use Rattle.std.specs.Prelude.{◌++◌, Some, None, codes};
 ghost use Rattle.ir_types.specs.Refusals.{text_of};
 ghost use Rattle.mlir_work_script.specs.Kinds.{kind_word};
-ghost use Rattle.mlir_work_script.specs.Replies.{ok_line, refused_line, module_refused_line, attach_refused_line, kind_line, stale_line, kind_memory_line, module_memory_line};
+ghost use Rattle.mlir_work_script.specs.Replies.{ok_line, refused_line, refused_at_line, module_refused_line, attach_refused_line, kind_line, stale_line, kind_memory_line, module_memory_line};
 ghost use Rattle.mlir_work_script.specs.Writes.{Puts};
 
 use crate::kind::{Kind, name_of};
@@ -33,6 +33,34 @@ pub fn put_refused<W: Write>(writer: &mut W, n: u64, refusal: Refusal) -> Result
             number.format(refusal.number()).as_bytes(),
             b" ",
             refusal.word().as_bytes(),
+            b"\n",
+        ],
+    )
+}
+
+/// Writes that a text of a command is refused: `1 refused 3 UnknownValue at 17`. The offset counts in bytes from
+/// the first of that text.
+pub fn put_refused_at<W: Write>(
+    writer: &mut W,
+    n: u64,
+    refusal: Refusal,
+    offset: usize,
+) -> Result<(), WriteFault>
+    ensures { Puts (W.contents writer.old) (W.contents writer.new) (refused_at_line n refusal offset) result }
+{
+    let mut command = Buffer::new();
+    let mut number = Buffer::new();
+    let mut place = Buffer::new();
+    put_all(
+        writer,
+        &[
+            command.format(n).as_bytes(),
+            b" refused ",
+            number.format(refusal.number()).as_bytes(),
+            b" ",
+            refusal.word().as_bytes(),
+            b" at ",
+            place.format(offset).as_bytes(),
             b"\n",
         ],
     )

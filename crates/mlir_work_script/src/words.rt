@@ -3,7 +3,7 @@ ghost use Rattle.std.specs.Prelude.{◌≡◌, position};
 ghost use Rattle.mlir_work_script.specs.Words.{is_blank, is_edge, trim_front, trim_back, trim, skip_blanks, word_of, after_word};
 
 /// A space or a tab.
-fn is_blank(b: u8) -> bool
+pub(crate) fn is_blank(b: u8) -> bool
     ensures { result ≡ is_blank b }
 {
     b == b' ' || b == b'\t'
@@ -49,7 +49,7 @@ pub fn trim(line: &[u8]) -> &[u8]
     trim_back(trim_front(line))
 }
 
-fn skip_blanks(text: &[u8]) -> &[u8]
+pub(crate) fn skip_blanks(text: &[u8]) -> &[u8]
     ensures { result.now ≡ skip_blanks text.now }
 {
     let mut rest = text;

@@ -1,34 +1,26 @@
 -- Boxes that are attached.
 use Rattle.std.proofs.Common.{◌≡◌, ◌∙◌, ap, refl, ℕ, ◌+◌, List, [], ◌∷◌, ◌++◌, length, arith, Bool, true, false, ◌&&◌, Option, Some, None, is_none}
-use Rattle.std.specs.List.{position_or_len}
-use Rattle.std.proofs.lemmas.List.{length-map}
 use Rattle.ir_types.specs.Things.{Things}
 use Rattle.ir_types.specs.declared.refusal.Refusal.{Refusal}
 use Rattle.ir_types.specs.declared.refusal.Refusal.TheVariants.{KindTaken, Memory}
 use Rattle.ir_event.specs.Modules.{Module}
 use Rattle.ir_event.specs.Listener.{Listener}
-use Rattle.ir_event.specs.Panels.{AttachedLast, HandedBack, is_kind as has_this_kind, has_kind as panel_has}
-use Rattle.mlir_work_session.specs.Machine.{Shown, shown, all_shown, has_kind, is_kind}
+use Rattle.ir_event.specs.Panels.{AttachedLast, HandedBack}
+use Rattle.machine.specs.Panels.{Shown, shown, all_shown, has_kind, is_kind}
 use Rattle.mlir_work_session.specs.Output.{BoxTried, Attaches, box_line}
+use Rattle.mlir_work_session.proofs.Panels.{kind_shown}
 
 module _ {B : Type 0} (meaning : B → Listener) where
-  found_shown : (kind : ℕ) (bs : List B) → position_or_len (is_kind kind) (all_shown meaning bs) ≡ position_or_len (has_this_kind meaning kind) bs
-  found_shown kind [] = refl
-  found_shown kind (b ∷ bs) = rw (found_shown kind bs) refl
-
-  place_shown : (kind : ℕ) (bs : List B) → has_kind kind (all_shown meaning bs) ≡ panel_has meaning kind bs
-  place_shown kind bs = rw (found_shown kind bs, length-map) refl
-
   shown_last : (xs : List B) (b : B) → all_shown meaning (xs ++ b ∷ []) ≡ all_shown meaning xs ++ shown (meaning b) ∷ []
   shown_last [] b = refl
   shown_last (x ∷ xs) b = ap (λ ys. shown (meaning x) ∷ ys) (shown_last xs b)
 
   pub tried_added : (c : Things) (m : Module) (b : B) (xs ys : List B) → AttachedLast meaning c m b xs ys → BoxTried (shown (meaning b)) (all_shown meaning xs) (all_shown meaning ys) None
-  tried_added c m b xs ys h = (place_shown (meaning b).kind xs ∙ h.free, (shown (meaning h.begun), record { kind = h.same.kind; analysis = h.same.analysis; fresh = (meaning h.begun).fresh c m h.agrees }, ap (all_shown meaning) h.last ∙ shown_last xs h.begun))
+  tried_added c m b xs ys h = (kind_shown meaning (meaning b).kind xs ∙ h.free, record { begun = shown (meaning h.begun); same = record { kind = h.same.kind; analysis = h.same.analysis }; stale = (meaning h.begun).fresh c m h.agrees; last = ap (all_shown meaning) h.last ∙ shown_last xs h.begun })
 
   pub tried_back : (b back : B) (xs ys : List B) (refusal : Refusal) → HandedBack meaning xs b refusal back → ys ≡ xs → BoxTried (shown (meaning b)) (all_shown meaning xs) (all_shown meaning ys) (Some refusal)
-  tried_back b back xs ys KindTaken h e = (place_shown (meaning b).kind xs ∙ h.1, ap (all_shown meaning) e)
-  tried_back b back xs ys Memory h e = (place_shown (meaning b).kind xs ∙ h.1, ap (all_shown meaning) e)
+  tried_back b back xs ys KindTaken h e = (kind_shown meaning (meaning b).kind xs ∙ h.1, ap (all_shown meaning) e)
+  tried_back b back xs ys Memory h e = (kind_shown meaning (meaning b).kind xs ∙ h.1, ap (all_shown meaning) e)
   tried_back b back xs ys _ h e = absurd h
 
   -- a box is tried, and then what the boxes that are left may give is what all may give

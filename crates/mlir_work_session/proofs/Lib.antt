@@ -1,6 +1,9 @@
-pub mod Edits
+pub mod Editing
+pub mod Spots
 pub mod Panels
 pub mod Follow
+pub mod Reading
+pub mod Obeying
 pub mod Listings
 pub mod Runs
 pub mod Attaching

@@ -1,18 +1,38 @@
 -- Listeners, and what is shown of them.
-use Rattle.std.proofs.Common.{◌≡◌, ℕ, suc, List, [], ◌∷◌, Bool, true, false, cond, Option, Some, None, refl, arith, subst}
+use Rattle.std.proofs.Common.{◌≡◌, ◌∙◌, ap, sym, ℕ, zero, suc, List, [], ◌∷◌, ◌++◌, take, drop, Bool, true, false, cond, Option, Some, None, refl, arith, subst, length, slice_get}
+use Rattle.std.specs.Prelude.{remove, slice_set, position, is_some}
 use Rattle.std.specs.Option.{option_map}
-use Rattle.std.specs.List.{AllZip, find, All}
+use Rattle.std.specs.List.{AllZip, find, All, position_or_len}
+use Rattle.std.proofs.lemmas.List.{length-map, map-append, take-map, drop-map}
 use Rattle.ir_types.specs.Things.{Things}
-use Rattle.ir_types.specs.declared.refusal.Refusal.TheVariants.{NoSuchKind}
+use Rattle.ir_types.specs.declared.refusal.Refusal.{Refusal}
+use Rattle.ir_types.specs.declared.refusal.Refusal.TheVariants.{NoSuchKind, Memory}
 use Rattle.ir_event.specs.declared.event.Event.{Event}
 use Rattle.ir_event.specs.Modules.{Module, Node}
 use Rattle.ir_event.specs.Listener.{Listener}
-use Rattle.ir_event.specs.Panels.{AllTold, is_kind as has_this_kind}
-use Rattle.mlir_work_session.specs.RowText.{rows_text}
-use Rattle.mlir_work_session.specs.Machine.{Ages, shown, all_shown, reported, same_with, is_kind}
-use Rattle.mlir_work_session.specs.declared.desk.Reply.TheVariants.{Refused, Done}
+use Rattle.ir_event.specs.Panels.{AllTold, is_kind as has_this_kind, has_kind as panel_has, Detached, BegunAgain, NotBegunAgain}
+use Rattle.machine.specs.Panels.{Shown, IsSame, Ages, shown, all_shown, is_kind, has_kind, Detached as DetachedShown, BegunAgain as BegunShown}
+
+same_self : (a : Shown) → IsSame a a
+same_self a = record { kind = refl; analysis = λ t. refl }
+
+-- analyses stay what they are
+pub all_stay : (ks : List Shown) → AllZip Ages ks ks
+all_stay [] = tt
+all_stay (k ∷ ks) = (record { same = same_self k; stale = λ h. h }, all_stay ks)
 
 module _ {B : Type 0} (meaning : B → Listener) where
+  found_shown : (kind : ℕ) (bs : List B) → position_or_len (is_kind kind) (all_shown meaning bs) ≡ position_or_len (has_this_kind meaning kind) bs
+  found_shown kind [] = refl
+  found_shown kind (b ∷ bs) = rw (found_shown kind bs) refl
+
+  -- where the listener of a kind stands, among what is shown
+  pub position_shown : (kind : ℕ) (bs : List B) → position (is_kind kind) (all_shown meaning bs) ≡ position (has_this_kind meaning kind) bs
+  position_shown kind bs = rw (found_shown kind bs, length-map) refl
+
+  pub kind_shown : (kind : ℕ) (bs : List B) → has_kind kind (all_shown meaning bs) ≡ panel_has meaning kind bs
+  kind_shown kind bs = ap is_some (position_shown kind bs)
+
   -- the listener of a kind, among what is shown
   pub find_shown : (kind : ℕ) (bs : List B) → find (is_kind kind) (all_shown meaning bs) ≡ option_map (λ b. shown (meaning b)) (find (has_this_kind meaning kind) bs)
   find_shown kind [] = refl
@@ -28,14 +48,39 @@ module _ {B : Type 0} (meaning : B → Listener) where
   ages_told e c n see [] [] h = tt
   ages_told e c n see [] (y ∷ ys) h = absurd h
   ages_told e c n see (x ∷ xs) [] h = absurd h
-  ages_told e c n see (x ∷ xs) (y ∷ ys) h = (record { kind = h.0.same.kind; analysis = h.0.same.analysis; stale = h.0.stale }, ages_told e c n see xs ys h.1)
+  ages_told e c n see (x ∷ xs) (y ∷ ys) h = (record { same = record { kind = h.0.same.kind; analysis = h.0.same.analysis }; stale = h.0.stale }, ages_told e c n see xs ys h.1)
 
-  -- the rows of a kind that isn't there, and of one that is
-  pub missing_rows : (kind : ℕ) (bs : List B) (m : Module) → None ≡ find (has_this_kind meaning kind) bs → reported (find (is_kind kind) (all_shown meaning bs)) m ≡ same_with (Refused NoSuchKind) m
-  missing_rows kind bs m e = rw (find_shown kind bs, ← e) refl
+  removed_shown : (bs : List B) (i : ℕ) → all_shown meaning (remove bs i) ≡ remove (all_shown meaning bs) i
+  removed_shown bs i = map-append (λ b. shown (meaning b)) (take i bs) (drop (suc i) bs) ∙ (λ j. sym (take-map (λ b. shown (meaning b)) i bs) j ++ sym (drop-map (λ b. shown (meaning b)) (suc i) bs) j)
 
-  pub found_rows : (kind : ℕ) (bs : List B) (m : Module) (b : B) → Some b ≡ find (has_this_kind meaning kind) bs → reported (find (is_kind kind) (all_shown meaning bs)) m ≡ reported (Some (shown (meaning b))) m
-  found_rows kind bs m b e = rw (find_shown kind bs, ← e) refl
+  set_shown : (bs : List B) (i : ℕ) (a : B) → all_shown meaning (slice_set bs i a) ≡ slice_set (all_shown meaning bs) i (shown (meaning a))
+  set_shown [] i a = refl
+  set_shown (b ∷ bs) zero a = refl
+  set_shown (b ∷ bs) (suc i) a = ap (λ ks. shown (meaning b) ∷ ks) (set_shown bs i a)
 
-  pub found_done : (kind : ℕ) (bs : List B) (m : Module) (b : B) (shows : List ℕ) → Some b ≡ find (has_this_kind meaning kind) bs → (meaning b).stale ≡ false → shows ≡ rows_text ((meaning b).analysis m.tree) → record { reply = Done; shows = shows; held = m } ≡ reported (find (is_kind kind) (all_shown meaning bs)) m
-  found_done kind bs m b shows e fresh s = rw (s, found_rows kind bs m b e, fresh) refl
+  got_shown : (bs : List B) (i : ℕ) (a : B) → slice_get bs i ≡ Some a → slice_get (all_shown meaning bs) i ≡ Some (shown (meaning a))
+  got_shown [] zero a e = absurd cc
+  got_shown [] (suc i) a e = absurd cc
+  got_shown (b ∷ bs) zero a e = (let same : b ≡ a = cc in ap (λ x. Some (shown (meaning x))) same)
+  got_shown (b ∷ bs) (suc i) a e = got_shown bs i a e
+
+  -- a listener that is dropped, and one that is begun again
+  pub detached_shown : (kind : ℕ) (xs ys : List B) → Detached meaning kind xs ys → DetachedShown kind (all_shown meaning xs) (all_shown meaning ys)
+  detached_shown kind xs ys h = record { place = h.place; is = position_shown kind xs ∙ h.is; rest = ap (all_shown meaning) h.rest ∙ removed_shown xs h.place }
+
+  pub begun_shown : (kind : ℕ) (P : Listener → Type 0) (stale : Bool) (xs ys : List B) → ((b : B) → P (meaning b) → (meaning b).stale ≡ stale) → BegunAgain meaning kind P xs ys → BegunShown kind stale (all_shown meaning xs) (all_shown meaning ys)
+  begun_shown kind P stale xs ys f h =
+      record {
+        place = h.place;
+        before = shown (meaning h.before);
+        after = shown (meaning h.after);
+        is = position_shown kind xs ∙ h.is;
+        was = got_shown xs h.place h.before h.was;
+        same = record { kind = h.same.kind; analysis = h.same.analysis };
+        gives = f h.after h.gives;
+        rest = ap (all_shown meaning) h.rest ∙ set_shown xs h.place h.after;
+      }
+
+  -- a kind that stands somewhere is there
+  pub has_placed : (kind place : ℕ) (xs : List B) → position (has_this_kind meaning kind) xs ≡ Some place → has_kind kind (all_shown meaning xs) ≡ true
+  has_placed kind place xs e = kind_shown kind xs ∙ ap is_some e

@@ -2,15 +2,16 @@
 use Rattle.std.proofs.Common.{◌≡◌, ℕ, ◌+◌, ◌&&◌, List, [], ◌∷◌, ◌++◌, Bool, true, false, not, refl, sym, ◌∙◌, inr, length, ◌≤◌, ◌<◌, ◌==◌, arith, Option, Result, Ok, Err}
 use Rattle.std.proofs.lemmas.Bool.Decides.{nat_tests}
 use Rattle.ir_types.specs.declared.refusal.Refusal.{Refusal}
-use Rattle.ir_types.specs.declared.refusal.Refusal.TheVariants.{BadCommand, Memory}
-use Rattle.mlir_work_script.specs.Commands.{Said, Report, Print, SetOperand, Spoken, Nothing, Bad, Obey, line_says}
+use Rattle.ir_types.specs.declared.refusal.Refusal.TheVariants.{BadCommand}
+use Rattle.machine.specs.Commands.{Response, Replied as Says}
+use Rattle.machine.specs.Machine.{Refused}
+use Rattle.mlir_work_script.specs.Commands.{Spoken, Nothing, Bad, Obey, line_says}
 use Rattle.mlir_work_script.specs.Lines.{lines_of}
-use Rattle.mlir_work_session.specs.Machine.{State, Shown, AgesIf, tells}
+use Rattle.machine.specs.Machine.{State}
 use Rattle.mlir_work_session.specs.Output.{Line, Replied, Replies, IsReplied, Runs, worse, says_nothing, asks, reply_line, is_accepted}
 use Rattle.mlir_work_session.specs.Ran.{RanOut}
-use Rattle.mlir_work_session.specs.declared.desk.Reply.{Reply}
-use Rattle.mlir_work_session.specs.declared.desk.Reply.TheVariants.{Refused}
 use Rattle.mlir_work_session.proofs.Listings.{some_listing_if}
+use Rattle.mlir_work_session.proofs.Obeying.{some_answer}
 
 pub worse_both : (a b : Bool) (later : ℕ) → worse a (worse b later) ≡ worse (a && b) later
 worse_both true b later = refl
@@ -20,12 +21,12 @@ worse_both false b later = refl
 pub line_skipped : (Rest : ℕ → State → ℕ → List ℕ → Type 0) (brief : Bool) (n : ℕ) (s : State) (spoken : Spoken) (status : ℕ) (out : List ℕ) → says_nothing spoken ≡ true → Rest n s status out → Line Rest brief n s spoken status out
 line_skipped Rest brief n s Nothing status out e h = h
 line_skipped Rest brief n s Bad status out e h = absurd (let f : false ≡ true = e in cc)
-line_skipped Rest brief n s (Obey said) status out e h = absurd (let f : false ≡ true = e in cc)
+line_skipped Rest brief n s (Obey command) status out e h = absurd (let f : false ≡ true = e in cc)
 
 pub line_replied : (Rest : ℕ → State → ℕ → List ℕ → Type 0) (brief : Bool) (n : ℕ) (s : State) (spoken : Spoken) (status : ℕ) (out : List ℕ) → says_nothing spoken ≡ false → Replied Rest brief n s spoken status out → Line Rest brief n s spoken status out
 line_replied Rest brief n s Nothing status out e h = absurd (let f : true ≡ false = e in cc)
 line_replied Rest brief n s Bad status out e h = h
-line_replied Rest brief n s (Obey said) status out e h = h
+line_replied Rest brief n s (Obey command) status out e h = h
 
 pub runs_skipped : (brief : Bool) (n : ℕ) (s : State) (text : List ℕ) (line : List ℕ) (more : List ℕ) (status : ℕ) (out : List ℕ) → lines_of text ≡ line ∷ lines_of more → says_nothing (line_says line) ≡ true → Runs brief n s (lines_of more) status out → Runs brief n s (lines_of text) status out
 runs_skipped brief n s text line more status out e f h = rw e (line_skipped (λ m t st o. Runs brief m t (lines_of more) st o) brief n s (line_says line) status out f h)
@@ -34,12 +35,12 @@ pub runs_replied : (brief : Bool) (n : ℕ) (s : State) (text : List ℕ) (line 
 runs_replied brief n s text line more status out e f h = rw e (line_replied (λ m t st o. Runs brief m t (lines_of more) st o) brief n s (line_says line) status out f h)
 
 -- a reply, and then what may follow, is what may be from here
-pub run_step : (brief : Bool) (n : ℕ) (s : State) (text line more : List ℕ) (spoken : Spoken) (reply : Reply) (shows : List ℕ) (t : State) (told : List ℕ) →
+pub run_step : (brief : Bool) (n : ℕ) (s : State) (text line more : List ℕ) (spoken : Spoken) (reply : Response) (shows : List ℕ) (t : State) (told : List ℕ) →
     lines_of text ≡ line ∷ lines_of more → spoken ≡ line_says line → false ≡ says_nothing spoken → Replies s spoken reply shows t → IsReplied (not brief && not (asks spoken)) t n reply shows told →
     (later : ℕ) (rest : List ℕ) → Runs brief (n + 1) t (lines_of more) later rest → Runs brief n s (lines_of text) (worse (is_accepted reply) later) (told ++ rest)
 run_step brief n s text line more spoken reply shows t told e is f r told_is later rest h =
     rw e (line_replied (λ m t st o. Runs brief m t (lines_of more) st o) brief n s (line_says line) _ _ (rw (← is) (sym f)) (record {
-      reply = reply;
+      response = reply;
       shows = shows;
       after = t;
       text = told;
@@ -52,23 +53,17 @@ run_step brief n s text line more spoken reply shows t told e is f r told_is lat
       out_is = refl;
     }))
 
--- a command that is refused leaves the analyses
-stays_refused : (said : Said) (refusal : Refusal) (ks : List Shown) → AgesIf (tells said (Refused refusal)) ks ks
-stays_refused (Report kind) refusal ks = refl
-stays_refused Print refusal ks = refl
-stays_refused (SetOperand x k v) refusal ks = refl
-
-some_replied : (Rest : ℕ → State → ℕ → List ℕ → Type 0) (brief : Bool) (n : ℕ) (s : State) (spoken : Spoken) (reply : Reply) → Replies s spoken reply [] s → ((m : ℕ) (t : State) → (st : ℕ) × (o : List ℕ) × Rest m t st o) → (st : ℕ) × (o : List ℕ) × Replied Rest brief n s spoken st o
-some_replied Rest brief n s spoken reply r some =
-    let more = some_listing_if (not brief && not (asks spoken)) s in
-    let rest = some (n + 1) s in
-    let told = reply_line n reply ++ ([] ++ more.0) in (
+some_replied : (Rest : ℕ → State → ℕ → List ℕ → Type 0) (brief : Bool) (n : ℕ) (s : State) (spoken : Spoken) (reply : Response) (shows : List ℕ) (t : State) → Replies s spoken reply shows t → ((m : ℕ) (t : State) → (st : ℕ) × (o : List ℕ) × Rest m t st o) → (st : ℕ) × (o : List ℕ) × Replied Rest brief n s spoken st o
+some_replied Rest brief n s spoken reply shows t r some =
+    let more = some_listing_if (not brief && not (asks spoken)) t in
+    let rest = some (n + 1) t in
+    let told = reply_line n reply ++ (shows ++ more.0) in (
       worse (is_accepted reply) rest.0,
       told ++ rest.1,
       record {
-        reply = reply;
-        shows = [];
-        after = s;
+        response = reply;
+        shows = shows;
+        after = t;
         text = told;
         later = rest.0;
         rest = rest.1;
@@ -82,10 +77,10 @@ some_replied Rest brief n s spoken reply r some =
 
 some_line : (Rest : ℕ → State → ℕ → List ℕ → Type 0) (brief : Bool) (n : ℕ) (s : State) (spoken : Spoken) → ((m : ℕ) (t : State) → (st : ℕ) × (o : List ℕ) × Rest m t st o) → (st : ℕ) × (o : List ℕ) × Line Rest brief n s spoken st o
 some_line Rest brief n s Nothing some = some n s
-some_line Rest brief n s Bad some = some_replied Rest brief n s Bad (Refused BadCommand) (refl, refl, refl) some
-some_line Rest brief n s (Obey said) some = some_replied Rest brief n s (Obey said) (Refused Memory) (record { answer = inr refl; panel = stays_refused said Memory s.panel }) some
+some_line Rest brief n s Bad some = some_replied Rest brief n s Bad (Says (Refused BadCommand)) [] s (refl, refl, refl) some
+some_line Rest brief n s (Obey command) some = let a = some_answer s command in some_replied Rest brief n s (Obey command) a.0 a.1 a.2 a.3 some
 
--- from each state each script has an output: each command may be refused for memory
+-- from each state each script has an output, as each command has an answer
 pub some_runs : (brief : Bool) (lines : List (List ℕ)) (n : ℕ) (s : State) → (st : ℕ) × (o : List ℕ) × Runs brief n s lines st o
 some_runs brief [] n s = (0, [], (refl, refl))
 some_runs brief (line ∷ lines) n s = some_line (λ m t st o. Runs brief m t lines st o) brief n s (line_says line) (λ m t. some_runs brief lines m t)

@@ -1,4 +1,5 @@
 pub mod RowText
+pub mod Edits
 pub mod Machine
 pub mod Output
 pub mod Ran

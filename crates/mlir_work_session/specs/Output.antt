@@ -7,26 +7,31 @@ use Rattle.ir_event.specs.Modules.{Module}
 use Rattle.ir_event.specs.Rows.{RowTerm}
 use Rattle.ir_tree.specs.Meaning.{Operation}
 use Rattle.ir_text.specs.Printing.{text_of}
-use Rattle.mlir_work_script.specs.Commands.{Report, Print, SetOperand, Spoken, Nothing, Bad, Obey, line_says}
+use Rattle.machine.specs.Commands.{Command, Report, Print, Response, Replied as Says, TextRefusedAt}
+use Rattle.machine.specs.Machine.{State, Done, DoneAs, Refused}
+use Rattle.machine.specs.Panels.{Shown, Attached, has_kind}
+use Rattle.mlir_work_script.specs.Commands.{Spoken, Nothing, Bad, Obey, line_says}
 use Rattle.mlir_work_script.specs.Lines.{lines_of}
 use Rattle.mlir_work_script.specs.declared.input.TheConstants.{MAX_SCRIPT_BYTES}
-use Rattle.mlir_work_script.specs.Replies.{ok_line, refused_line, attach_refused_line, kind_line, stale_line, kind_memory_line, module_memory_line}
+use Rattle.mlir_work_script.specs.Replies.{ok_line, made_line, refused_line, refused_at_line, attach_refused_line, kind_line, stale_line, kind_memory_line, module_memory_line}
 use Rattle.mlir_work_session.specs.RowText.{rows_text}
-use Rattle.mlir_work_session.specs.Machine.{Shown, State, Goes, Begins, has_kind}
-use Rattle.mlir_work_session.specs.declared.desk.Reply.{Reply}
-use Rattle.mlir_work_session.specs.declared.desk.Reply.TheVariants.{Done, Refused}
+use Rattle.mlir_work_session.specs.Machine.{Obeys}
 
 -- ---- replies
 
 -- the line of the reply to command n
-abbrev pub reply_line : ℕ → Reply → List ℕ
-reply_line n Done = ok_line n
-reply_line n (Refused refusal) = refused_line n refusal
+abbrev pub reply_line : ℕ → Response → List ℕ
+reply_line n (Says Done) = ok_line n
+reply_line n (Says (DoneAs x)) = made_line n x
+reply_line n (Says (Refused refusal)) = refused_line n refusal
+reply_line n (TextRefusedAt refusal offset) = refused_at_line n refusal offset
 
 -- whether the command was accepted
-abbrev pub is_accepted : Reply → Bool
-is_accepted Done = true
-is_accepted (Refused refusal) = false
+abbrev pub is_accepted : Response → Bool
+is_accepted (Says Done) = true
+is_accepted (Says (DoneAs x)) = true
+is_accepted (Says (Refused refusal)) = false
+is_accepted (TextRefusedAt refusal offset) = false
 
 -- the status is 1 where something was refused
 abbrev pub worse : Bool → ℕ → ℕ
@@ -65,44 +70,47 @@ IsListingIf false s out = out ≡ []
 abbrev pub says_nothing : Spoken → Bool
 says_nothing Nothing = true
 says_nothing Bad = false
-says_nothing (Obey said) = false
+says_nothing (Obey command) = false
 
--- whether a line asks to be shown something, and so gets no listing
+-- whether a command asks to be shown something, and so gets no listing
+abbrev pub shows_alone : Command → Bool
+shows_alone (Report kind) = true
+shows_alone Print = true
+shows_alone _ = false
+
 abbrev pub asks : Spoken → Bool
 asks Nothing = false
 asks Bad = false
-asks (Obey (Report kind)) = true
-asks (Obey Print) = true
-asks (Obey (SetOperand x k v)) = false
+asks (Obey command) = shows_alone command
 
 -- the reply to a line that isn't nothing
-abbrev pub Replies : State → Spoken → Reply → List ℕ → State → Type 0
-Replies s Nothing reply shows t = ⊥
-Replies s Bad reply shows t = (reply ≡ Refused BadCommand) × (shows ≡ []) × (t ≡ s)
-Replies s (Obey said) reply shows t = Goes s said reply shows t
+abbrev pub Replies : State → Spoken → Response → List ℕ → State → Type 0
+Replies s Nothing response shows t = ⊥
+Replies s Bad response shows t = (response ≡ Says (Refused BadCommand)) × (shows ≡ []) × (t ≡ s)
+Replies s (Obey command) response shows t = Obeys s command response shows t
 
 -- a reply, what it shows, and a listing where one is due
-abbrev pub IsReplied : Bool → State → ℕ → Reply → List ℕ → List ℕ → Type 0
-IsReplied listed t n reply shows out = (more : List ℕ) × IsListingIf listed t more × (out ≡ reply_line n reply ++ (shows ++ more))
+abbrev pub IsReplied : Bool → State → ℕ → Response → List ℕ → List ℕ → Type 0
+IsReplied listed t n response shows out = (more : List ℕ) × IsListingIf listed t more × (out ≡ reply_line n response ++ (shows ++ more))
 
 -- a line is replied to, and the rest follows
 pub record Replied (Rest : ℕ → State → ℕ → List ℕ → Type 0) (brief : Bool) (n : ℕ) (s : State) (spoken : Spoken) (status : ℕ) (out : List ℕ) : Type 0 where
-  pub reply : Reply
+  pub response : Response
   pub shows : List ℕ
   pub after : State
   pub text : List ℕ
   pub later : ℕ
   pub rest : List ℕ
-  pub replies : Replies s spoken reply shows after
-  pub replied : IsReplied (not brief && not (asks spoken)) after n reply shows text
+  pub replies : Replies s spoken response shows after
+  pub replied : IsReplied (not brief && not (asks spoken)) after n response shows text
   pub goes_on : Rest (n + 1) after later rest
-  pub status_is : status ≡ worse (is_accepted reply) later
+  pub status_is : status ≡ worse (is_accepted response) later
   pub out_is : out ≡ text ++ rest
 
 abbrev pub Line : (ℕ → State → ℕ → List ℕ → Type 0) → Bool → ℕ → State → Spoken → ℕ → List ℕ → Type 0
 Line Rest brief n s Nothing status out = Rest n s status out
 Line Rest brief n s Bad status out = Replied Rest brief n s Bad status out
-Line Rest brief n s (Obey said) status out = Replied Rest brief n s (Obey said) status out
+Line Rest brief n s (Obey command) status out = Replied Rest brief n s (Obey command) status out
 
 -- from s, with n the next number, these lines may give this status and this output
 abbrev pub Runs : Bool → ℕ → State → List (List ℕ) → ℕ → List ℕ → Type 0
@@ -113,7 +121,7 @@ Runs brief n s (line ∷ lines) status out = Line (λ m t st o. Runs brief m t l
 
 -- a box is added last, begun; or refused, since one of its kind is attached, or for want of memory
 abbrev pub BoxTried : Shown → List Shown → List Shown → Option Refusal → Type 0
-BoxTried b old new None = (has_kind b.kind old ≡ false) × ((begun : Shown) × Begins b begun × (new ≡ old ++ begun ∷ []))
+BoxTried b old new None = (has_kind b.kind old ≡ false) × Attached b old new
 BoxTried b old new (Some KindTaken) = (has_kind b.kind old ≡ true) × (new ≡ old)
 BoxTried b old new (Some Memory) = (has_kind b.kind old ≡ false) × (new ≡ old)
 BoxTried b old new (Some _) = ⊥
@@ -140,7 +148,7 @@ pub record Session (brief : Bool) (boxes : List Shown) (m : Module) (script : Li
   pub later : ℕ
   pub rest : List ℕ
   pub attached : Attaches boxes [] panel accepted front
-  pub runs : Runs brief 1 (record { held = m; panel = panel }) (lines_of script) later rest
+  pub runs : Runs brief 1 (record { held = m; marks = []; panel = panel }) (lines_of script) later rest
   pub status_is : status ≡ worse accepted later
   pub out_is : out ≡ front ++ rest
 

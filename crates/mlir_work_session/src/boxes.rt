@@ -3,7 +3,7 @@ ghost use Rattle.std.specs.Prelude.{◌≡◌, ◌&&◌, is_none};
 ghost use Rattle.ir_event.specs.Modules.{things_in, module_in};
 ghost use Rattle.ir_event.specs.Panels.{AllKept};
 ghost use Rattle.mlir_work_script.specs.Writes.{Puts};
-ghost use Rattle.mlir_work_session.specs.Machine.{shown, all_shown};
+ghost use Rattle.machine.specs.Panels.{shown, all_shown};
 ghost use Rattle.mlir_work_session.specs.Output.{Attaches, BoxTried, box_line};
 ghost use Rattle.mlir_work_session.specs.Ran.{AttachedOut};
 

@@ -1,28 +1,26 @@
 //! The commands of a script, over a module and its listeners.
-ghost use Rattle.std.specs.Prelude.{◌≡◌, ◌⊎◌, [], true, false, None, Some, All, IfOk, IfErr, MatchResult, OnOk, OnErr};
-ghost use Rattle.std.specs.List.{find, AllZip};
+ghost use Rattle.std.specs.Prelude.{◌≡◌, ◌⊎◌, [], true, false, All, IfOk, IfErr};
+ghost use Rattle.std.specs.List.{find};
 ghost use Rattle.std.specs.Option.{option_map};
-ghost use Rattle.ir_types.specs.Words.{is_isolated};
-ghost use Rattle.ir_types.specs.declared.refusal.Refusal.{Refusal as Reason};
-ghost use Rattle.ir_types.specs.declared.refusal.Refusal.TheVariants.{Memory};
-ghost use Rattle.ir_tree.specs.Edits.{with_operand};
-ghost use Rattle.ir_tree_laws.specs.Reasons.{set_operand_reason};
-ghost use Rattle.ir_event.specs.Listener.{Listener};
 ghost use Rattle.ir_event.specs.Modules.{things_in, module_in};
-ghost use Rattle.ir_event.specs.Panels.{AllKept, AllTold, is_kind as has_this_kind};
+ghost use Rattle.ir_event.specs.Panels.{AllKept, is_kind as has_this_kind};
 ghost use Rattle.ir_event.specs.Rows.{RowIsOf, rows_meaning};
-ghost use Rattle.ir_event.specs.Step.{IsOperandStep};
 ghost use Rattle.ir_text.specs.Printing.{text_of};
-ghost use Rattle.mlir_work_script.specs.Commands.{said_of, SetOperand};
+ghost use Rattle.machine.specs.Commands.{SetOperand, Move, SetAttr, DropAttr, Detach, Resync, Report, Print};
+ghost use Rattle.mlir_work_script.specs.Commands.{said_of};
+ghost use Rattle.mlir_work_script.specs.Keys.{key_bytes};
+ghost use Rattle.mlir_work_script.specs.Spots.{spot_of};
 ghost use Rattle.mlir_work_session.specs.RowText.{rows_text};
-ghost use Rattle.mlir_work_session.specs.Machine.{State, Shown, shown, Ages, all_shown, state_of, Goes, answer_of, edited, reported, same_with, showing, is_kind, IsOrMemory, AgesIf, tells};
-ghost use Rattle.mlir_work_session.specs.Output.{is_accepted as accepts};
-ghost use Rattle.mlir_work_session.specs.declared.desk.Reply.TheVariants.{Done, Refused};
+ghost use Rattle.mlir_work_session.specs.Machine.{Obeys, response_of, state_of};
+ghost use Rattle.mlir_work_session.specs.declared.reply.Reply.TheVariants.{Refused};
 
+use crate::edits;
+use crate::attributes::{entry_of, name_of};
+use crate::places::place_for;
+use crate::reply::Reply;
 use crate::rows::text_of_rows;
 use ir_event::analysis::Analysis;
-use ir_event::event::Event;
-use ir_event::laws::told_listeners_follow;
+use ir_event::laws::{kept_listeners_stay_kept, told_listeners_follow};
 use ir_event::panel::Panel;
 use ir_event::row::{ReportFault, Row};
 use ir_event::world::World;
@@ -31,29 +29,10 @@ use ir_tree::value::Value;
 use ir_types::ids::OpId;
 use ir_types::refusal::Refusal;
 use mlir_work_script::command::Command;
+use mlir_work_script::keys::Key;
 use mlir_work_script::kind::Kind;
+use mlir_work_script::spots::Spot;
 use std::alloc::Global;
-
-/// The reply to a command.
-#[derive(Clone, Copy, Debug, PartialEq, Eq)]
-pub enum Reply {
-    /// It was accepted.
-    Done,
-    /// It was refused, and the module is as it was.
-    Refused(Refusal),
-}
-
-impl Reply {
-    /// Whether the command was accepted.
-    pub fn is_accepted(self) -> bool
-        ensures { result ≡ accepts self }
-    {
-        match self {
-            Reply::Done => true,
-            Reply::Refused(_) => false,
-        }
-    }
-}
 
 /// A reply, and the bytes that are shown below it.
 #[derive(Drop)]
@@ -62,14 +41,12 @@ pub struct Answered {
     pub shows: Vec<u8>,
 }
 
+/// A refusal below which nothing is shown.
 fn refused(alloc: Global, refusal: Refusal) -> Answered
     ensures reply { result.reply ≡ Refused refusal }
     ensures shows { result.shows.items ≡ [] }
 {
-    Answered {
-        reply: Reply::Refused(refusal),
-        shows: Vec::new(alloc),
-    }
+    plain(alloc, Reply::Refused(refusal))
 }
 
 /// The text of a world's module.
@@ -85,8 +62,8 @@ pub(crate) fn text_of_module(alloc: Global, world: &World) -> Result<Vec<u8>, Re
     }
 }
 
-fn show_module(alloc: Global, world: &World) -> Answered
-    ensures { IsOrMemory (showing (text_of (module_in world.now).tree) (module_in world.now)) (module_in world.now) (record { reply = result.reply; shows = result.shows.items; held = module_in world.now }) }
+fn show_module<L: Analysis>(alloc: Global, world: &World, panel: &Panel<L>) -> Answered
+    ensures { Obeys (state_of L.meaning world.now panel.now) Print (response_of result.reply) result.shows.items (state_of L.meaning world.now panel.now) }
 {
     let Ok(shows) = text_of_module(alloc, world) else {
         return refused(alloc, Refusal::Memory);
@@ -141,11 +118,11 @@ pub(crate) fn text_of_report<L: Analysis>(
     Ok(text)
 }
 
-fn show_rows<L: Analysis>(alloc: Global, world: &World, listeners: &[L], kind: Kind) -> Answered
-    requires { AllKept L.meaning (things_in world.now) (module_in world.now) listeners.now }
-    ensures { IsOrMemory (reported (find (is_kind kind) (all_shown L.meaning listeners.now)) (module_in world.now)) (module_in world.now) (record { reply = result.reply; shows = result.shows.items; held = module_in world.now }) }
+fn show_rows<L: Analysis>(alloc: Global, world: &World, panel: &Panel<L>, kind: Kind) -> Answered
+    requires { AllKept L.meaning (things_in world.now) (module_in world.now) panel.now }
+    ensures { Obeys (state_of L.meaning world.now panel.now) (Report kind) (response_of result.reply) result.shows.items (state_of L.meaning world.now panel.now) }
 {
-    let Some(listener) = listener_of(listeners, kind) else {
+    let Some(listener) = listener_of(panel.listeners(), kind) else {
         return refused(alloc, Refusal::NoSuchKind);
     };
     let shows = match text_of_report(alloc, listener, world) {
@@ -159,17 +136,6 @@ fn show_rows<L: Analysis>(alloc: Global, world: &World, listeners: &[L], kind: K
     }
 }
 
-/// Sets an operand, and gives the event.
-fn edit(world: &mut World, op: OpId, operand: u32, value: Value) -> Result<Event, Refusal>
-    ensures ctx { things_in world.new ≡ things_in world.old }
-    ensures step { IfOk result (λ e. IsOperandStep op operand value e (things_in world.old) (module_in world.old) (module_in world.new)) }
-    ensures done { OnOk result (same_with Done (module_in world.new) ≡ edited (set_operand_reason is_isolated op operand value (module_in world.old).tree) (record (module_in world.old) { tree = with_operand op operand value (module_in world.old).tree }) (module_in world.old)) }
-    ensures left { OnErr result (module_in world.new ≡ module_in world.old) }
-    ensures refused { IfErr result (λ refusal. IsOrMemory (edited (set_operand_reason is_isolated op operand value (module_in world.old).tree) (record (module_in world.old) { tree = with_operand op operand value (module_in world.old).tree }) (module_in world.old)) (module_in world.old) (same_with (Refused refusal) (module_in world.old))) }
-{
-    world.set_operand(op, operand, value)
-}
-
 /// Sets an operand, and tells the listeners of it.
 fn set_operand<L: Analysis>(
     world: &mut World,
@@ -179,12 +145,11 @@ fn set_operand<L: Analysis>(
     value: Value,
 ) -> Reply
     requires { AllKept L.meaning (things_in world.old) (module_in world.old) panel.old }
-    ensures answer { let s : State = state_of L.meaning world.old panel.old in IsOrMemory (answer_of s (SetOperand op operand value)) s.held (same_with result (module_in world.new)) }
-    ensures ages { AgesIf (tells (SetOperand op operand value) result) (all_shown L.meaning panel.old) (all_shown L.meaning panel.new) }
+    ensures obeys { Obeys (state_of L.meaning world.old panel.old) (SetOperand op operand value) (response_of result) [] (state_of L.meaning world.new panel.new) }
     ensures kept { AllKept L.meaning (things_in world.new) (module_in world.new) panel.new }
 {
     told_listeners_follow::<L>();
-    match edit(world, op, operand, value) {
+    match edits::set_operand(world, op, operand, value) {
         Ok(event) => {
             panel.tell(world, event);
             Reply::Done
@@ -193,23 +158,145 @@ fn set_operand<L: Analysis>(
     }
 }
 
+/// Moves an operation to the place that is named, and tells the listeners of it.
+fn move_op<L: Analysis>(
+    world: &mut World,
+    panel: &mut Panel<L>,
+    op: OpId,
+    spot: &Spot,
+) -> Reply
+    requires { AllKept L.meaning (things_in world.old) (module_in world.old) panel.old }
+    ensures obeys { Obeys (state_of L.meaning world.old panel.old) (Move op (spot_of spot.now)) (response_of result) [] (state_of L.meaning world.new panel.new) }
+    ensures kept { AllKept L.meaning (things_in world.new) (module_in world.new) panel.new }
+{
+    told_listeners_follow::<L>();
+    let place = match place_for(&world.store, op, spot) {
+        Ok(place) => place,
+        Err(refusal) => return Reply::Refused(refusal),
+    };
+    match edits::move_op(world, op, place) {
+        Ok(event) => {
+            panel.tell(world, event);
+            Reply::Done
+        }
+        Err(refusal) => Reply::Refused(refusal),
+    }
+}
+
+/// Sets an entry of an operation to the attribute that a text spells, and tells the listeners of it.
+fn set_attr<L: Analysis>(
+    alloc: Global,
+    world: &mut World,
+    panel: &mut Panel<L>,
+    op: OpId,
+    key: &Key<'_>,
+    text: &[u8],
+) -> Reply
+    requires { AllKept L.meaning (things_in world.old) (module_in world.old) panel.old }
+    ensures obeys { Obeys (state_of L.meaning world.old panel.old) (SetAttr op (key_bytes key.now) text.now) (response_of result) [] (state_of L.meaning world.new panel.new) }
+    ensures kept { AllKept L.meaning (things_in world.new) (module_in world.new) panel.new }
+{
+    told_listeners_follow::<L>();
+    kept_listeners_stay_kept::<L>();
+    let (key, attribute) = match entry_of(alloc, world, key, text) {
+        Ok(entry) => entry,
+        Err(reply) => return reply,
+    };
+    match edits::set_entry(world, op, key, Some(attribute)) {
+        Ok(event) => {
+            panel.tell(world, event);
+            Reply::Done
+        }
+        Err(refusal) => Reply::Refused(refusal),
+    }
+}
+
+/// Takes an entry of an operation out, and tells the listeners of it.
+fn drop_attr<L: Analysis>(
+    alloc: Global,
+    world: &mut World,
+    panel: &mut Panel<L>,
+    op: OpId,
+    key: &Key<'_>,
+) -> Reply
+    requires { AllKept L.meaning (things_in world.old) (module_in world.old) panel.old }
+    ensures obeys { Obeys (state_of L.meaning world.old panel.old) (DropAttr op (key_bytes key.now)) (response_of result) [] (state_of L.meaning world.new panel.new) }
+    ensures kept { AllKept L.meaning (things_in world.new) (module_in world.new) panel.new }
+{
+    told_listeners_follow::<L>();
+    kept_listeners_stay_kept::<L>();
+    let Some(key) = name_of(alloc, world, key) else {
+        return Reply::Refused(Refusal::Memory);
+    };
+    match edits::set_entry(world, op, key, None) {
+        Ok(event) => {
+            panel.tell(world, event);
+            Reply::Done
+        }
+        Err(refusal) => Reply::Refused(refusal),
+    }
+}
+
+/// Drops the listener of a kind.
+fn detach<L: Analysis>(world: &World, panel: &mut Panel<L>, kind: Kind) -> Reply
+    requires { AllKept L.meaning (things_in world.now) (module_in world.now) panel.old }
+    ensures obeys { Obeys (state_of L.meaning world.now panel.old) (Detach kind) (response_of result) [] (state_of L.meaning world.now panel.new) }
+    ensures kept { AllKept L.meaning (things_in world.now) (module_in world.now) panel.new }
+{
+    kept_listeners_stay_kept::<L>();
+    match panel.detach(kind) {
+        Ok(()) => Reply::Done,
+        Err(refusal) => Reply::Refused(refusal),
+    }
+}
+
+/// Begins the listener of a kind again.
+fn resync<L: Analysis>(world: &World, panel: &mut Panel<L>, kind: Kind) -> Reply
+    requires { AllKept L.meaning (things_in world.now) (module_in world.now) panel.old }
+    ensures obeys { Obeys (state_of L.meaning world.now panel.old) (Resync kind) (response_of result) [] (state_of L.meaning world.now panel.new) }
+    ensures kept { AllKept L.meaning (things_in world.now) (module_in world.now) panel.new }
+{
+    kept_listeners_stay_kept::<L>();
+    match panel.resync(world, kind) {
+        Ok(()) => Reply::Done,
+        Err(refusal) => Reply::Refused(refusal),
+    }
+}
+
+/// A reply below which nothing is shown.
+fn plain(alloc: Global, reply: Reply) -> Answered
+    ensures reply { result.reply ≡ reply }
+    ensures shows { result.shows.items ≡ [] }
+{
+    Answered {
+        reply,
+        shows: Vec::new(alloc),
+    }
+}
+
 /// Obeys a command, or leaves the module as it is.
 pub fn obey<L: Analysis>(
     alloc: Global,
     world: &mut World,
     panel: &mut Panel<L>,
-    command: Command,
+    command: &Command<'_>,
 ) -> Answered
     requires { AllKept L.meaning (things_in world.old) (module_in world.old) panel.old }
-    ensures goes { Goes (state_of L.meaning world.old panel.old) (said_of command) result.reply result.shows.items (state_of L.meaning world.new panel.new) }
+    ensures obeys { Obeys (state_of L.meaning world.old panel.old) (said_of command.now) (response_of result.reply) result.shows.items (state_of L.meaning world.new panel.new) }
     ensures kept { AllKept L.meaning (things_in world.new) (module_in world.new) panel.new }
 {
     match command {
-        Command::Report(kind) => show_rows(alloc, world, panel.listeners(), kind),
-        Command::Print => show_module(alloc, world),
-        Command::SetOperand { op, operand, value } => Answered {
-            reply: set_operand(world, panel, op, operand, value),
-            shows: Vec::new(alloc),
-        },
+        Command::Report(kind) => show_rows(alloc, world, panel, *kind),
+        Command::Print => show_module(alloc, world, panel),
+        Command::SetOperand { op, operand, value } => {
+            plain(alloc, set_operand(world, panel, *op, *operand, *value))
+        }
+        Command::Move { op, spot } => plain(alloc, move_op(world, panel, *op, spot)),
+        Command::SetAttr { op, key, attribute } => {
+            plain(alloc, set_attr(alloc, world, panel, *op, key, attribute))
+        }
+        Command::DropAttr { op, key } => plain(alloc, drop_attr(alloc, world, panel, *op, key)),
+        Command::Detach(kind) => plain(alloc, detach(world, panel, *kind)),
+        Command::Resync(kind) => plain(alloc, resync(world, panel, *kind)),
     }
 }

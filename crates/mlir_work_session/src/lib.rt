@@ -2,9 +2,13 @@
 //! command, what it shows, and the module and the rows of each listener after it.
 #![tactic(auto)]
 
+mod attributes;
 pub mod boxes;
 pub mod desk;
+mod edits;
 pub mod listing;
+mod places;
+pub mod reply;
 mod rows;
 pub mod script;
 pub mod session;

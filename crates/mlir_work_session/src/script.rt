@@ -2,41 +2,51 @@
 ghost use Rattle.std.specs.Prelude.{◌≡◌, false, ◌&&◌, not};
 ghost use Rattle.ir_event.specs.Modules.{things_in, module_in};
 ghost use Rattle.ir_event.specs.Panels.{AllKept};
-ghost use Rattle.mlir_work_script.specs.Commands.{spoken_of};
+ghost use Rattle.mlir_work_script.specs.Commands.{said_of, spoken_of};
 ghost use Rattle.mlir_work_script.specs.Lines.{lines_of};
 ghost use Rattle.mlir_work_script.specs.Writes.{Puts, PutsSome};
-ghost use Rattle.mlir_work_session.specs.Machine.{state_of};
-ghost use Rattle.mlir_work_session.specs.Output.{Runs, Replies, IsReplied, asks as asks_to, says_nothing, reply_line};
+ghost use Rattle.mlir_work_session.specs.Machine.{response_of, state_of};
+ghost use Rattle.mlir_work_session.specs.Output.{Runs, Replies, IsReplied, asks as asks_to, says_nothing, shows_alone, reply_line};
 ghost use Rattle.mlir_work_session.specs.Ran.{RanOut};
 
-use crate::desk::{Answered, Reply, obey};
+use crate::desk::{Answered, obey};
 use crate::listing::put_listing;
+use crate::reply::Reply;
 use ir_event::analysis::Analysis;
 use ir_event::panel::Panel;
 use ir_event::world::World;
 use ir_types::refusal::Refusal;
 use mlir_work_script::command::{Command, Line, read_line};
 use mlir_work_script::lines::split_line;
-use mlir_work_script::replies::{put_ok, put_refused};
+use mlir_work_script::replies::{put_ok, put_refused, put_refused_at};
 use mlir_work_script::writing::{WriteFault, put};
 use std::alloc::Global;
 use std::io::Write;
 
-/// Whether a line asks to be shown something, and so gets no listing.
-fn asks(line: Line) -> bool
-    ensures { result ≡ asks_to (spoken_of line) }
+/// Whether a command asks to be shown something, and so gets no listing.
+fn shows_alone(command: &Command<'_>) -> bool
+    ensures { result ≡ shows_alone (said_of command.now) }
+{
+    match command {
+        Command::Report(_) => true,
+        Command::Print => true,
+        _ => false,
+    }
+}
+
+/// Whether a line asks to be shown something.
+fn asks(line: &Line<'_>) -> bool
+    ensures { result ≡ asks_to (spoken_of line.now) }
 {
     match line {
         Line::Nothing => false,
         Line::Bad => false,
-        Line::Obey(Command::Report(_)) => true,
-        Line::Obey(Command::Print) => true,
-        Line::Obey(Command::SetOperand { .. }) => false,
+        Line::Obey(command) => shows_alone(command),
     }
 }
 
-fn is_nothing(line: Line) -> bool
-    ensures { result ≡ says_nothing (spoken_of line) }
+fn is_nothing(line: &Line<'_>) -> bool
+    ensures { result ≡ says_nothing (spoken_of line.now) }
 {
     match line {
         Line::Nothing => true,
@@ -45,8 +55,8 @@ fn is_nothing(line: Line) -> bool
     }
 }
 
-fn is_listed(brief: bool, line: Line) -> bool
-    ensures { result ≡ (not brief && not (asks_to (spoken_of line))) }
+fn is_listed(brief: bool, line: &Line<'_>) -> bool
+    ensures { result ≡ (not brief && not (asks_to (spoken_of line.now))) }
 {
     !brief && !asks(line)
 }
@@ -62,11 +72,11 @@ fn answer<L: Analysis>(
     alloc: Global,
     world: &mut World,
     panel: &mut Panel<L>,
-    line: Line,
+    line: &Line<'_>,
 ) -> Answered
     requires kept { AllKept L.meaning (things_in world.old) (module_in world.old) panel.old }
-    requires something { says_nothing (spoken_of line) ≡ false }
-    ensures replies { Replies (state_of L.meaning world.old panel.old) (spoken_of line) result.reply result.shows.items (state_of L.meaning world.new panel.new) }
+    requires something { says_nothing (spoken_of line.now) ≡ false }
+    ensures replies { Replies (state_of L.meaning world.old panel.old) (spoken_of line.now) (response_of result.reply) result.shows.items (state_of L.meaning world.new panel.new) }
     ensures kept { AllKept L.meaning (things_in world.new) (module_in world.new) panel.new }
 {
     match line {
@@ -80,11 +90,12 @@ fn answer<L: Analysis>(
 
 /// Writes the line of a reply.
 fn put_reply<W: Write>(writer: &mut W, n: u64, reply: Reply) -> Result<(), WriteFault>
-    ensures { Puts (W.contents writer.old) (W.contents writer.new) (reply_line n reply) result }
+    ensures { Puts (W.contents writer.old) (W.contents writer.new) (reply_line n (response_of reply)) result }
 {
     match reply {
         Reply::Done => put_ok(writer, n),
         Reply::Refused(refusal) => put_refused(writer, n, refusal),
+        Reply::RefusedAt(refusal, offset) => put_refused_at(writer, n, refusal, offset),
     }
 }
 
@@ -99,7 +110,7 @@ fn put_answer<L: Analysis, W: Write>(
     writer: &mut W,
 ) -> Result<(), WriteFault>
     requires { AllKept L.meaning (things_in world.now) (module_in world.now) panel.now }
-    ensures { PutsSome (IsReplied listed (state_of L.meaning world.now panel.now) n answered.now.reply answered.now.shows.items) (W.contents writer.old) (W.contents writer.new) result }
+    ensures { PutsSome (IsReplied listed (state_of L.meaning world.now panel.now) n (response_of answered.now.reply) answered.now.shows.items) (W.contents writer.old) (W.contents writer.new) result }
 {
     match put_reply(writer, n, answered.reply) {
         Ok(()) => {}
@@ -135,11 +146,11 @@ pub fn run_script<L: Analysis, W: Write>(
         let (first, rest) = split_line(text);
         text = rest;
         let line = read_line(first);
-        if is_nothing(line) {
+        if is_nothing(&line) {
             continue;
         }
-        let answered = answer(alloc, world, panel, line);
-        let listed = is_listed(brief, line);
+        let answered = answer(alloc, world, panel, &line);
+        let listed = is_listed(brief, &line);
         match put_answer(alloc, listed, world, panel, n, &answered, writer) {
             Ok(()) => {}
             Err(fault) => return Err(fault),

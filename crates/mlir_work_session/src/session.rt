@@ -1,7 +1,7 @@
 //! A module that was read: listeners are attached to it, and a script is run over it.
 ghost use Rattle.std.specs.Prelude.{◌≡◌, [], if◌then◌else◌};
 ghost use Rattle.ir_event.specs.Modules.{module_in};
-ghost use Rattle.mlir_work_session.specs.Machine.{all_shown};
+ghost use Rattle.machine.specs.Panels.{all_shown};
 ghost use Rattle.mlir_work_session.specs.Output.{IsSession, IsBadScript, Session, worse as worst};
 ghost use Rattle.mlir_work_session.specs.Ran.{RanOut};
 

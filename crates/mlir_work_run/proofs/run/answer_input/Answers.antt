@@ -1,6 +1,6 @@
 use Rattle.std.proofs.Common.{inl, inr}
 use Rattle.ir_event.specs.Modules.{module_in}
-use Rattle.mlir_work_session.specs.Machine.{all_shown}
+use Rattle.machine.specs.Panels.{all_shown}
 use Rattle.mlir_work_run.specs.Whole.{IsOutput, IsRefusal}
 use Rattle.mlir_work_run.proofs.Ended.{ran_so, finished}
 use Rattle.mlir_work_run.proofs.run.answer_input.Goals as goal

@@ -3,7 +3,7 @@ use Rattle.std.specs.Vec.Iter.{into_iter_items, into_iter_len}
 use Rattle.std.specs.Io.KnownBytes.{Appends}
 use Rattle.ir_event.specs.Modules.{things_in, module_in}
 use Rattle.ir_event.specs.Panels.{AllKept}
-use Rattle.mlir_work_session.specs.Machine.{Shown, all_shown}
+use Rattle.machine.specs.Panels.{Shown, all_shown}
 use Rattle.mlir_work_session.specs.Output.{Attaches}
 use Rattle.mlir_work_session.proofs.boxes.attach_all.Given as goal
 

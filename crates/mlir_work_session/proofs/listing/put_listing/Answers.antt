@@ -1,7 +1,8 @@
 use Rattle.std.proofs.Common.{refl}
 use Rattle.ir_event.specs.Modules.{module_in}
 use Rattle.mlir_work_script.proofs.Joins.{then_put, then_none}
-use Rattle.mlir_work_session.specs.Machine.{all_shown, state_of}
+use Rattle.machine.specs.Panels.{all_shown}
+use Rattle.mlir_work_session.specs.Machine.{state_of}
 use Rattle.mlir_work_session.specs.Output.{IsModule, AreKinds, IsListing}
 use Rattle.mlir_work_session.proofs.Listings.{some_kinds}
 use Rattle.mlir_work_session.proofs.listing.put_listing.Goals as goal

@@ -1,7 +1,7 @@
 use Rattle.std.proofs.Common.{inl, inr, refl}
 use Rattle.std.specs.Prelude.{length}
 use Rattle.ir_event.specs.Modules.{module_in}
-use Rattle.mlir_work_session.specs.Machine.{all_shown}
+use Rattle.machine.specs.Panels.{all_shown}
 use Rattle.mlir_work_session.specs.Output.{IsSession, IsBadScript, Session}
 use Rattle.mlir_work_session.proofs.Sessions.{short, ran_weaker}
 use Rattle.mlir_work_session.proofs.session.answer_script.Goals as goal

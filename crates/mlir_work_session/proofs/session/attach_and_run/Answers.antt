@@ -1,5 +1,5 @@
 use Rattle.ir_event.specs.Modules.{module_in}
-use Rattle.mlir_work_session.specs.Machine.{all_shown}
+use Rattle.machine.specs.Panels.{all_shown}
 use Rattle.mlir_work_session.proofs.Sessions.{session_ran, session_cut, session_begun}
 use Rattle.mlir_work_session.proofs.session.attach_and_run.Goals as goal
 

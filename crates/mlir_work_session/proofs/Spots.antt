@@ -1,0 +1,99 @@
+-- The place that a command names is the same in a tree of numbers and in what it stands for.
+use Rattle.std.proofs.Common.{◌≡◌, ◌∙◌, ap, sym, refl, ℕ, zero, suc, eqb, Bool, true, false, Option, Some, None, cond}
+use Rattle.std.specs.Prelude.{is_some, option_map, option_and_then, Result, slice_get}
+use Rattle.std.specs.Option.{option_eq}
+use Rattle.ir_types.specs.Things.{Things}
+use Rattle.ir_types.specs.Terms.{name_term, type_term, attr_term}
+use Rattle.ir_types.specs.declared.refusal.Refusal.{Refusal}
+use Rattle.ir_tree.specs.declared.place.Place.{Place}
+use Rattle.ir_tree.specs.Tree.{OpOf, Op, op, Regions, RegionsOf, no_regions, region, RegionOf, empty, block, OpsOf, no_ops, next, regions}
+use Rattle.ir_tree.specs.Ids.{find, has_id}
+use Rattle.ir_tree.specs.Maps.{map_tree, map_region, map_regions, map_ops}
+use Rattle.ir_tree.specs.Meaning.{meaning}
+use Rattle.ir_tree.specs.Places.{place_of, first_id}
+use Rattle.ir_tree.proofs.Mapped.{map_find, map_place}
+use Rattle.ir_tree_laws.specs.Values.{region_at, arguments_of}
+use Rattle.ir_tree_laws.specs.Reads.{next_of, first_at, ops_in, ops_at}
+use Rattle.ir_tree_laws.proofs.Around.{absent_find}
+use Rattle.ir_tree_laws.proofs.Contents.{map_has_id, same_id}
+use Rattle.ir_store.specs.Nodes.{Node, node_of, regions_arguments}
+use Rattle.ir_store.specs.Stored.{Stored, known}
+use Rattle.ir_event.proofs.Shown.{known_there}
+use Rattle.machine.specs.Spots.{Spot, Before, After, Start, End, passing, coming, behind, beside, in_block, spot_place}
+
+module _ {N T A M U B : Type 0} (f : N → M) (g : T → U) (h : A → B) where
+  map_region_at : (r : ℕ) (rs : RegionsOf N T A) → region_at r (map_regions f g h rs) ≡ option_map (map_region f g h) (region_at r rs)
+  map_region_at r no_regions = refl
+  map_region_at zero (region a rs) = refl
+  map_region_at (suc r) (region a rs) = map_region_at r rs
+
+  map_ops_at : (p r : ℕ) (t : OpOf N T A) → ops_at p r (map_tree f g h t) ≡ option_map (map_ops f g h) (ops_at p r t)
+  map_ops_at p r t = ap (option_and_then (λ (o : OpOf M U B). option_and_then ops_in (region_at r (regions o)))) (map_find f g h p t) ∙ go (find p t)
+    where
+      inside : (o : Option (RegionOf N T A)) → option_and_then ops_in (option_map (map_region f g h) o) ≡ option_map (map_ops f g h) (option_and_then ops_in o)
+      inside None = refl
+      inside (Some empty) = refl
+      inside (Some (block args os)) = refl
+
+      go : (o : Option (OpOf N T A)) → option_and_then (λ (o : OpOf M U B). option_and_then ops_in (region_at r (regions o))) (option_map (map_tree f g h) o) ≡ option_map (map_ops f g h) (option_and_then (λ (o : OpOf N T A). option_and_then ops_in (region_at r (regions o))) o)
+      go None = refl
+      go (Some (op y rs)) = ap (option_and_then ops_in) (map_region_at r rs) ∙ inside (region_at r rs)
+
+  map_has_block : (p r : ℕ) (t : OpOf N T A) → is_some (ops_at p r (map_tree f g h t)) ≡ is_some (ops_at p r t)
+  map_has_block p r t = ap is_some (map_ops_at p r t) ∙ go (ops_at p r t)
+    where
+      go : (o : Option (OpsOf N T A)) → is_some (option_map (map_ops f g h) o) ≡ is_some o
+      go None = refl
+      go (Some os) = refl
+
+  map_first_at : (p r : ℕ) (t : OpOf N T A) → first_at p r (map_tree f g h t) ≡ first_at p r t
+  map_first_at p r t = ap (option_and_then first_id) (map_ops_at p r t) ∙ go (ops_at p r t)
+    where
+      go : (o : Option (OpsOf N T A)) → option_and_then first_id (option_map (map_ops f g h) o) ≡ option_and_then first_id o
+      go None = refl
+      go (Some no_ops) = refl
+      go (Some (next o os)) = ap Some (same_id f g h o)
+
+  map_next_of : (x : ℕ) (t : OpOf N T A) → next_of x (map_tree f g h t) ≡ next_of x t
+  map_next_of x t = ap (option_and_then (λ p. p.before)) (map_place f g h x t)
+
+  map_passing : (x : ℕ) (b : Option ℕ) (t : OpOf N T A) → passing (Some x) b (map_tree f g h t) ≡ passing (Some x) b t
+  map_passing x b t = ap (λ o. cond (option_eq eqb b (Some x)) o b) (map_next_of x t)
+
+  map_behind : (x : ℕ) (t : OpOf N T A) (p : Option Place) → option_map (behind (Some x) (map_tree f g h t)) p ≡ option_map (behind (Some x) t) p
+  map_behind x t None = refl
+  map_behind x t (Some p) = ap (λ b. Some (coming b p)) (map_passing x p.before t)
+
+  pub map_spot : (x : ℕ) (spot : Spot) (t : OpOf N T A) → spot_place (Some x) spot (map_tree f g h t) ≡ spot_place (Some x) spot t
+  map_spot x (Before y) t = λ i. beside (map_has_id f g h y t i) (option_map (coming (Some y)) (map_place f g h y t i))
+  map_spot x (After y) t =
+      (λ i. beside (map_has_id f g h y t i) (option_map (behind (Some x) (map_tree f g h t)) (map_place f g h y t i)))
+      ∙ ap (beside (has_id y t)) (map_behind x t (place_of y t))
+  map_spot x (Start y r) t =
+      (λ i. in_block (map_has_id f g h y t i) (map_has_block y r t i) (record { parent = y; region = r; before = passing (Some x) (map_first_at y r t i) (map_tree f g h t) }))
+      ∙ ap (λ b. in_block (has_id y t) (is_some (ops_at y r t)) (record { parent = y; region = r; before = b })) (map_passing x (first_at y r t) t)
+  map_spot x (End y r) t = λ i. in_block (map_has_id f g h y t i) (map_has_block y r t i) (record { parent = y; region = r; before = None })
+
+pub spot_means : (c : Things) (x : ℕ) (spot : Spot) (t : Op) → spot_place (Some x) spot (meaning c t) ≡ spot_place (Some x) spot t
+spot_means c x spot t = map_spot (name_term c) (type_term c) (attr_term c) x spot t
+
+-- whether a region has a block, read off the node
+blocks_told : (r : ℕ) (rs : Regions) → is_some (option_and_then (λ a. a) (slice_get (regions_arguments rs) r)) ≡ is_some (option_and_then ops_in (region_at r rs))
+blocks_told r no_regions = refl
+blocks_told zero (region empty rs) = refl
+blocks_told zero (region (block args os) rs) = refl
+blocks_told (suc r) (region a rs) = blocks_told r rs
+
+pub block_told : (x r : ℕ) (s : Stored) (n : Node) → has_id x s.module_of.tree ≡ true → option_map node_of (known x s) ≡ Some n → is_some (option_and_then (λ a. a) (slice_get n.arguments r)) ≡ is_some (ops_at x r s.module_of.tree)
+block_told x r s n there e = go (find x s.module_of.tree) (ap (option_map node_of) (sym (known_there x s there)) ∙ e)
+  where
+    go : (o : Option Op) → option_map node_of o ≡ Some n → is_some (option_and_then (λ a. a) (slice_get n.arguments r)) ≡ is_some (option_and_then (λ (o : Op). option_and_then ops_in (region_at r (regions o))) o)
+    go None f = absurd cc
+    go (Some (op h rs)) f = (let same : node_of (op h rs) ≡ n = cc in ap (λ (m : Node). is_some (option_and_then (λ a. a) (slice_get m.arguments r))) (sym same) ∙ blocks_told r rs)
+
+pub no_block : (x r : ℕ) (t : Op) → has_id x t ≡ false → is_some (ops_at x r t) ≡ false
+no_block x r t absent = ap (λ o. is_some (option_and_then (λ (o : Op). option_and_then ops_in (region_at r (regions o))) o)) (absent_find x t absent)
+
+pub some_kept : {X Y : Type 0} (f : X → Y) (o : Option X) → is_some (option_map f o) ≡ is_some o
+some_kept f None = refl
+some_kept f (Some x) = refl

@@ -1,0 +1,30 @@
+//! Replies to commands.
+ghost use Rattle.std.specs.Prelude.{◌≡◌};
+ghost use Rattle.mlir_work_session.specs.Machine.{response_of};
+ghost use Rattle.mlir_work_session.specs.Output.{is_accepted as accepts};
+
+use ir_types::refusal::Refusal;
+
+/// The reply to a command.
+#[derive(Clone, Copy)]
+pub enum Reply {
+    /// It was accepted.
+    Done,
+    /// It was refused, and the module is as it was.
+    Refused(Refusal),
+    /// Its text was refused, so many bytes behind its first, and the module is as it was.
+    RefusedAt(Refusal, usize),
+}
+
+impl Reply {
+    /// Whether the command was accepted.
+    pub fn is_accepted(self) -> bool
+        ensures { result ≡ accepts (response_of self) }
+    {
+        match self {
+            Reply::Done => true,
+            Reply::Refused(_) => false,
+            Reply::RefusedAt(_, _) => false,
+        }
+    }
+}
