@@ -1,6 +1,6 @@
 -- How runs end.
-use Rattle.std.proofs.Common.{◌≡◌, sym, subst, ℕ, List, [], append-nil, Option, Some, None, Result, Ok, Err, IfOk}
-use Rattle.std.specs.Prelude.{IfSome}
+use Rattle.std.proofs.Common.{◌≡◌, refl, sym, subst, Bool, true, false, true≢false, ◌&&◌, ℕ, List, [], append-nil, Option, Some, None, Result, Ok, Err, IfOk}
+use Rattle.std.specs.Prelude.{IfSome, IsTrue}
 use Rattle.std.specs.Io.KnownBytes.{Appends, Keeps}
 use Rattle.mlir_work_script.specs.declared.writing.WriteFault.{WriteFault}
 use Rattle.mlir_work_script.proofs.Joins.{appends_join, appends_none}
@@ -27,3 +27,8 @@ ended_so P Q a b (Err w) q e f (st, o, p, h) = rw e (st, o, f st o p, h)
 pub if_some : (o : Option (List ℕ)) (A B : List ℕ → Type 0) → ((x : List ℕ) → A x → B x) → IfSome o A → IfSome o B
 if_some None A B f h = tt
 if_some (Some x) A B f h = f x h
+
+pub both_true : (a b : Bool) → IsTrue (a && b) → (a ≡ true) × (b ≡ true)
+both_true true true h = (refl, refl)
+both_true true false h = absurd (true≢false (sym h))
+both_true false b h = absurd (true≢false (sym h))

@@ -1,16 +1,20 @@
 //! A whole run, from bytes to bytes.
-ghost use Rattle.std.specs.Prelude.{◌≡◌, ◌≤◌, length, IfOk, IfErr, IfSome, None, Some};
+ghost use Rattle.std.specs.Prelude.{◌≡◌, ◌≤◌, ℕ, Bool, IsTrue, length, IfOk, IfErr, IfSome, None, Some, true};
 ghost use Rattle.std.specs.Io.KnownBytes.{Keeps};
 ghost use Rattle.ir_tree.specs.Ids.{IsNumberedFrom, op_count};
 ghost use Rattle.ir_tree.specs.Meaning.{meaning, isolated_in, IsSoundIn};
 ghost use Rattle.ir_tree.specs.WellFormed.{IsFormed};
 ghost use Rattle.ir_event.specs.Modules.{module_in};
 ghost use Rattle.ir_text.specs.Public.{IsOnly, Spells};
-ghost use Rattle.mlir_work_script.specs.Parts.{module_text, script_text};
 ghost use Rattle.machine.specs.Panels.{all_shown};
+ghost use Rattle.mlir_work_script.specs.Lines.{lines_of};
+ghost use Rattle.mlir_work_script.specs.Parts.{module_text, script_text};
+ghost use Rattle.mlir_work_script.specs.declared.input.TheConstants.{MAX_SCRIPT_BYTES};
+ghost use Rattle.mlir_work_session.specs.Output.{IsSession};
+ghost use Rattle.mlir_work_session.specs.PrintsAlone.{all_print, kinds_apart};
 ghost use Rattle.mlir_work_session.specs.Ran.{RanOut};
 ghost use Rattle.mlir_work_run.specs.Ends.{EndedSo, HasStatus, ended_of, status_of};
-ghost use Rattle.mlir_work_run.specs.Whole.{IsOutput, IsRefusal, WhyNot, IsWorldOf};
+ghost use Rattle.mlir_work_run.specs.Whole.{IsOutput, IsRefusal, WhyNot};
 
 use dialects_int::tables::registry;
 use ir_event::analysis::Analysis;
@@ -21,9 +25,10 @@ use ir_tree::count::op_count;
 use ir_tree::tree::TreeOp;
 use ir_types::context::Context;
 use ir_types::refusal::Refusal;
-use mlir_work_script::input::{MAX_INPUT_BYTES, ReadFault, read_all, split};
+use mlir_work_script::input::{MAX_INPUT_BYTES, ReadFault, read_all, script_is_too_long, split};
 use mlir_work_script::replies::put_module_refused;
 use mlir_work_script::writing::{WriteFault, flush};
+use mlir_work_session::prints::{only_prints, print_session};
 use mlir_work_session::session::run_session;
 use std::alloc::Global;
 use std::io::{Read, Write};
@@ -114,21 +119,6 @@ fn no_memory() -> Unread
     }
 }
 
-/// The world of the tree that a text spells.
-fn world_of(alloc: Global, key: u64, text: &[u8]) -> Result<World, Unread>
-    ensures read { IfOk result (λ w. IsWorldOf text.now (module_in w)) }
-    ensures unread { IfErr result (λ e. WhyNot text.now e.refusal e.offset) }
-{
-    let (ctx, tree) = match tree_of(alloc, key, text) {
-        Ok(found) => found,
-        Err(unread) => return Err(unread),
-    };
-    let Some(world) = hold(alloc, ctx, tree) else {
-        return Err(no_memory());
-    };
-    Ok(world)
-}
-
 /// Hands on what a buffering writer still holds, and gives the status.
 fn finish<W: Write>(writer: &mut W, status: u8) -> Result<u8, WriteFault>
     ensures keeps { Keeps (W.contents writer.old) (W.contents writer.new) }
@@ -150,25 +140,80 @@ fn refuse<W: Write>(writer: &mut W, unread: Unread) -> Result<u8, WriteFault>
     }
 }
 
-/// The world of the tree that the module of an input spells, and the script. The input is given back to the
+/// The tree that the module of an input spells, with its context, and the script. The input is given back to the
 /// allocator, since its text may be as large as the module.
-fn taken_apart(alloc: Global, key: u64, input: Vec<u8>) -> Result<(World, Vec<u8>), Unread>
-    ensures read { IfOk result (λ x. IsWorldOf (module_text input.items) (module_in x.0)) }
+fn taken_apart(
+    alloc: Global,
+    key: u64,
+    input: Vec<u8>,
+) -> Result<((Context, TreeOp), Vec<u8>), Unread>
+    ensures read { IfOk result (λ x. IsOnly (Spells (module_text input.items)) x.0.0 x.0.1) }
+    ensures sound { IfOk result (λ x. IsSoundIn x.0.0 x.0.1) }
     ensures script { IfOk result (λ x. x.1.items ≡ script_text input.items) }
     ensures unread { IfErr result (λ e. WhyNot (module_text input.items) e.refusal e.offset) }
 {
     let (module, script) = split(&input);
-    let world = match world_of(alloc, key, module) {
-        Ok(world) => world,
+    let found = match tree_of(alloc, key, module) {
+        Ok(found) => found,
         Err(unread) => return Err(unread),
     };
     let Ok(script) = Vec::from_slice(alloc, script) else {
         return Err(no_memory());
     };
-    Ok((world, script))
+    Ok((found, script))
 }
 
-/// Runs an input that was read.
+/// Whether a script only prints, and no two listeners have one kind: then no line asks for what a listener keeps.
+fn asks_for_prints<L: Analysis>(script: &[u8], boxes: &[L]) -> bool
+    ensures short { IsTrue result → length script.now ≤ MAX_SCRIPT_BYTES }
+    ensures prints { IsTrue result → all_print (lines_of script.now) ≡ true }
+    ensures apart { IsTrue result → kinds_apart L.meaning boxes.now ≡ true }
+{
+    if script_is_too_long(script) {
+        return false;
+    }
+    only_prints(script, boxes)
+}
+
+/// Runs a script that only prints over a tree that was read.
+fn answer_prints<W: Write, L: Analysis>(
+    alloc: Global,
+    ctx: &Context,
+    tree: &TreeOp,
+    script: &[u8],
+    writer: &mut W,
+    boxes: &[L],
+) -> Result<u8, WriteFault>
+    requires sound { IsSoundIn ctx.now tree.now }
+    requires short { length script.now ≤ MAX_SCRIPT_BYTES }
+    requires prints { all_print (lines_of script.now) ≡ true }
+    requires apart { kinds_apart L.meaning boxes.now ≡ true }
+    ensures { (brief : Bool) (next : ℕ) → RanOut (IsSession brief (all_shown L.meaning boxes.now) (record { tree = meaning ctx.now tree.now; next = next }) script.now) (W.contents writer.old) (W.contents writer.new) result }
+{
+    match print_session(alloc, ctx, tree, script, writer, boxes) {
+        Ok(status) => finish(writer, status),
+        Err(fault) => Err(fault),
+    }
+}
+
+/// Makes a world of a tree that was read, and runs a script over it.
+fn answer_script<W: Write, L: Analysis>(
+    alloc: Global,
+    brief: bool,
+    world: World,
+    script: &[u8],
+    writer: &mut W,
+    boxes: Vec<L>,
+) -> Result<u8, WriteFault>
+    ensures { RanOut (IsSession brief (all_shown L.meaning boxes.items) (module_in world) script.now) (W.contents writer.old) (W.contents writer.new) result }
+{
+    match run_session(alloc, brief, world, script, writer, boxes) {
+        Ok(status) => finish(writer, status),
+        Err(fault) => Err(fault),
+    }
+}
+
+/// Runs an input that was read. A script that only prints is answered from the tree, without a world.
 fn answer_input<W: Write, L: Analysis>(
     alloc: Global,
     options: Options,
@@ -179,14 +224,17 @@ fn answer_input<W: Write, L: Analysis>(
     requires { length input.items ≤ MAX_INPUT_BYTES }
     ensures { RanOut (IsOutput options.brief (all_shown L.meaning boxes.items) input.items) (W.contents writer.old) (W.contents writer.new) result }
 {
-    let (world, script) = match taken_apart(alloc, options.key, input) {
+    let ((ctx, tree), script) = match taken_apart(alloc, options.key, input) {
         Ok(parts) => parts,
         Err(unread) => return refuse(writer, unread),
     };
-    match run_session(alloc, options.brief, world, &script, writer, boxes) {
-        Ok(status) => finish(writer, status),
-        Err(fault) => Err(fault),
+    if asks_for_prints(&script, &boxes) {
+        return answer_prints(alloc, &ctx, &tree, &script, writer, &boxes);
     }
+    let Some(world) = hold(alloc, ctx, tree) else {
+        return refuse(writer, no_memory());
+    };
+    answer_script(alloc, options.brief, world, &script, writer, boxes)
 }
 
 fn ended(ran: Result<u8, WriteFault>) -> Result<u8, Fault>

@@ -8,4 +8,5 @@ pub mod Listings
 pub mod Runs
 pub mod Attaching
 pub mod Sessions
+pub mod Printing
 pub mod RowWalks

@@ -3,3 +3,4 @@ pub mod Edits
 pub mod Machine
 pub mod Output
 pub mod Ran
+pub mod PrintsAlone

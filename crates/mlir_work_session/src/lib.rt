@@ -9,6 +9,7 @@ mod edits;
 pub mod listing;
 mod places;
 pub mod reply;
+pub mod prints;
 mod rows;
 pub mod script;
 pub mod session;

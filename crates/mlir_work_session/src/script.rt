@@ -45,7 +45,7 @@ fn asks(line: &Line<'_>) -> bool
     }
 }
 
-fn is_nothing(line: &Line<'_>) -> bool
+pub(crate) fn is_nothing(line: &Line<'_>) -> bool
     ensures { result ≡ says_nothing (spoken_of line.now) }
 {
     match line {
@@ -61,7 +61,7 @@ fn is_listed(brief: bool, line: &Line<'_>) -> bool
     !brief && !asks(line)
 }
 
-fn both(a: bool, b: bool) -> bool
+pub(crate) fn both(a: bool, b: bool) -> bool
     ensures { result ≡ (a && b) }
 {
     a && b
@@ -89,7 +89,7 @@ fn answer<L: Analysis>(
 }
 
 /// Writes the line of a reply.
-fn put_reply<W: Write>(writer: &mut W, n: u64, reply: Reply) -> Result<(), WriteFault>
+pub(crate) fn put_reply<W: Write>(writer: &mut W, n: u64, reply: Reply) -> Result<(), WriteFault>
     ensures { Puts (W.contents writer.old) (W.contents writer.new) (reply_line n (response_of reply)) result }
 {
     match reply {

@@ -1,0 +1,207 @@
+-- Scripts that only print.
+use Rattle.std.proofs.Common.{◌≡◌, ◌∙◌, ap, sym, subst, refl, ℕ, ◌+◌, ◌==◌, ◌≤◌, List, [], ◌∷◌, ◌++◌, length, arith, Bool, true, false, true≢false, not, ◌&&◌, ◌||◌, cond, eqb, nat_lt, inl, inr, append-nil, append_assoc, map, Option, Some, None, is_some, Result, Ok, Err}
+use Rattle.std.specs.List.{list_any, list_all}
+use Rattle.std.proofs.lemmas.Bool.{eq-eqb, eqb-true, lt-ltb, ltb-false, ltb-true}
+use Rattle.std.proofs.lemmas.List.Recursion.{is_position_or_len}
+use Rattle.ir_types.specs.declared.refusal.Refusal.TheVariants.{Memory}
+use Rattle.ir_event.specs.Modules.{Module}
+use Rattle.ir_event.specs.Listener.{Listener}
+use Rattle.ir_text.specs.Printing.{text_of}
+use Rattle.machine.specs.Commands as said
+use Rattle.machine.specs.Commands.{Command, Ask, Replied}
+use Rattle.machine.specs.Machine as call
+use Rattle.machine.specs.Machine.{State, Done, Refused, Tree, Nothing as NoRows}
+use Rattle.machine.specs.Panels.{Shown, all_shown, has_kind, is_kind}
+use Rattle.mlir_work_script.specs.Commands.{Spoken, Nothing, Bad, Obey, line_says}
+use Rattle.mlir_work_script.specs.Lines.{lines_of}
+use Rattle.mlir_work_script.specs.declared.input.TheConstants.{MAX_SCRIPT_BYTES}
+use Rattle.mlir_work_session.specs.Machine.{Obeys, response_of}
+use Rattle.mlir_work_session.specs.Output.{Attaches, IsReplied, IsSession, Replies, Runs, asks, is_accepted, reply_line, says_nothing, shows_alone, worse}
+use Rattle.mlir_work_session.specs.PrintsAlone.{IsPrinted, all_print, is_print, kinds_apart, prints_alone}
+use Rattle.mlir_work_session.specs.Ran.{RanOut}
+use Rattle.mlir_work_session.specs.declared.reply.Reply.{Reply}
+use Rattle.mlir_work_session.proofs.Panels.{kind_shown}
+use Rattle.mlir_work_session.proofs.Runs.{run_step}
+use Rattle.mlir_work_session.proofs.Sessions.{ran_weaker}
+
+-- ---- kinds
+
+some_if : {X : Type 0} (b : Bool) (x : X) → is_some (cond b (Some x) None) ≡ b
+some_if true x = refl
+some_if false x = refl
+
+one_more : (m n k : ℕ) → k ≡ 1 + n → nat_lt (1 + m) k ≡ nat_lt m n
+one_more m n k is = same (nat_lt (1 + m) k) (nat_lt m n) refl refl
+  where
+    same : (s t : Bool) → nat_lt (1 + m) k ≡ s → nat_lt m n ≡ t → s ≡ t
+    same true true e f = refl
+    same true false e f = absurd (let a = ltb-true (1 + m) k e in let b = ltb-false m n f in omega (arith, a, b, is))
+    same false true e f = absurd (let a = ltb-false (1 + m) k e in let b = ltb-true m n f in omega (arith, a, b, is))
+    same false false e f = refl
+
+-- the place of the first that passes, or the length
+abbrev first_place : {X : Type 0} → (X → Bool) → List X → ℕ
+first_place p [] = 0
+first_place p (x ∷ xs) = cond (p x) 0 (1 + first_place p xs)
+
+-- it is below the length where one passes
+place_any : {X : Type 0} (p : X → Bool) (xs : List X) → nat_lt (first_place p xs) (length xs) ≡ list_any p xs
+place_any p [] = refl
+place_any p (x ∷ xs) = go (place_any p xs) (p x)
+  where
+    go : nat_lt (first_place p xs) (length xs) ≡ list_any p xs → (t : Bool) → nat_lt (cond t 0 (1 + first_place p xs)) (length (x ∷ xs)) ≡ (t || list_any p xs)
+    go ih true = lt-ltb 0 (length (x ∷ xs)) (omega arith)
+    go ih false = one_more (first_place p xs) (length xs) (length (x ∷ xs)) (omega arith) ∙ ih
+
+pub kind_any : (k : ℕ) (bs : List Shown) → has_kind k bs ≡ list_any (is_kind k) bs
+kind_any k bs = some_if _ _ ∙ ap (λ n. nat_lt n (length bs)) (sym (is_position_or_len (first_place (is_kind k)) (is_kind k) refl (λ x xs. refl) bs)) ∙ place_any (is_kind k) bs
+
+any_last : (k : ℕ) (bs : List Shown) (b : Shown) → list_any (is_kind k) (bs ++ b ∷ []) ≡ (list_any (is_kind k) bs || (b.kind == k))
+any_last k [] b = elim (b.kind == k) as (λ t. (t || false) ≡ t) [ true ↦ refl | false ↦ refl ]
+any_last k (x ∷ bs) b = rw (any_last k bs b) (or_assoc (x.kind == k) (list_any (is_kind k) bs) (b.kind == k))
+  where
+    or_assoc : (a b c : Bool) → (a || (b || c)) ≡ ((a || b) || c)
+    or_assoc true b c = refl
+    or_assoc false b c = refl
+
+-- whether no two of some analyses have one kind
+abbrev are_apart : List Shown → Bool
+are_apart [] = true
+are_apart (b ∷ bs) = not (has_kind b.kind bs) && are_apart bs
+
+apart_shown : {B : Type 0} (meaning : B → Listener) (bs : List B) → are_apart (all_shown meaning bs) ≡ kinds_apart meaning bs
+apart_shown meaning [] = refl
+apart_shown meaning (b ∷ bs) = rw (kind_shown meaning (meaning b).kind bs, apart_shown meaning bs) refl
+
+-- an analysis that has begun
+abbrev begun : Shown → Shown
+begun b = record b { stale = false }
+
+-- none of these has a kind of those
+abbrev are_new : List Shown → List Shown → Bool
+are_new old bs = list_all (λ b. not (list_any (is_kind b.kind) old)) bs
+
+both : (a b : Bool) → (a && b) ≡ true → (a ≡ true) × (b ≡ true)
+both true true e = (refl, refl)
+both true false e = absurd (true≢false (sym e))
+both false b e = absurd (true≢false (sym e))
+
+is_false : (a : Bool) → not a ≡ true → a ≡ false
+is_false true e = absurd (true≢false (sym e))
+is_false false e = refl
+
+swapped : (m n : ℕ) → (m == n) ≡ false → (n == m) ≡ false
+swapped m n e = not_same (n == m) refl
+  where
+    not_same : (t : Bool) → (n == m) ≡ t → t ≡ false
+    not_same true f = absurd (true≢false (sym (eq-eqb m n (sym (eqb-true n m f))) ∙ e))
+    not_same false f = refl
+
+-- those that are new and of another kind than b are new beside b
+still_new : (old : List Shown) (b : Shown) (bs : List Shown) → are_new old bs ≡ true → list_any (is_kind b.kind) bs ≡ false → are_new (old ++ begun b ∷ []) bs ≡ true
+still_new old b [] n f = refl
+still_new old b (x ∷ bs) n f =
+    let h = both _ _ n in
+    let other = neither (x.kind == b.kind) (list_any (is_kind b.kind) bs) f in
+    rw (any_last x.kind old (begun b), is_false (list_any (is_kind x.kind) old) h.0, swapped x.kind b.kind other.0) (still_new old b bs h.1 other.1)
+  where
+    neither : (a b : Bool) → (a || b) ≡ false → (a ≡ false) × (b ≡ false)
+    neither true b e = absurd (true≢false e)
+    neither false b e = (refl, e)
+
+-- boxes of different kinds are all attached, where memory isn't refused
+pub apart_attach : (bs old : List Shown) → are_new old bs ≡ true → are_apart bs ≡ true → Attaches bs old (old ++ map begun bs) true []
+apart_attach [] old n h = (append-nil old, refl, refl)
+apart_attach (b ∷ bs) old n h =
+    let new = both _ _ n in
+    let apart = both _ _ h in
+    let free : has_kind b.kind old ≡ false = kind_any b.kind old ∙ is_false _ new.0 in
+    let others : list_any (is_kind b.kind) bs ≡ false = sym (kind_any b.kind bs) ∙ is_false _ apart.0 in
+    let rest = apart_attach bs (old ++ begun b ∷ []) (still_new old b bs new.1 others) apart.1 in
+    (old ++ begun b ∷ [], None, true, [], (free, record { begun = begun b; same = record { kind = refl; analysis = λ t. refl }; stale = refl; last = refl }), rw (append_assoc old (begun b ∷ []) (map begun bs)) at rest, refl, refl)
+
+all_new : (bs : List Shown) → are_new [] bs ≡ true
+all_new [] = refl
+all_new (b ∷ bs) = all_new bs
+
+-- ---- lines
+
+-- a command that asks for the module is the one that does
+the_print : (command : Command) → is_print command ≡ true → command ≡ said.Print
+the_print (said.Erase x) e = absurd (true≢false (sym e))
+the_print (said.Move x spot) e = absurd (true≢false (sym e))
+the_print (said.Insert spot text) e = absurd (true≢false (sym e))
+the_print (said.SetOperand x k v) e = absurd (true≢false (sym e))
+the_print (said.Replace old new) e = absurd (true≢false (sym e))
+the_print (said.SetAttr x key text) e = absurd (true≢false (sym e))
+the_print (said.DropAttr x key) e = absurd (true≢false (sym e))
+the_print said.Begin e = absurd (true≢false (sym e))
+the_print said.Commit e = absurd (true≢false (sym e))
+the_print said.Rollback e = absurd (true≢false (sym e))
+the_print (said.Detach kind) e = absurd (true≢false (sym e))
+the_print (said.Resync kind) e = absurd (true≢false (sym e))
+the_print (said.Report kind) e = absurd (true≢false (sym e))
+the_print said.Print e = refl
+
+-- the module is shown, or memory is refused
+shown_text : (s : State) → Obeys s said.Print (Replied Done) (text_of s.held.tree) s
+shown_text s = record { asked = Ask call.Print; shows = Tree s.held.tree; asks = refl; follows = record { answer = inl refl; panel = refl }; text = refl }
+
+shown_none : (s : State) → Obeys s said.Print (Replied (Refused Memory)) [] s
+shown_none s = record { asked = Ask call.Print; shows = NoRows; asks = refl; follows = record { answer = inr (refl, refl); panel = refl }; text = refl }
+
+answered : (s : State) (reply : Reply) (shows : List ℕ) → IsPrinted s.held.tree reply shows → Obeys s said.Print (response_of reply) shows s
+answered s reply shows (inl p) = subst (λ (r : Reply). Obeys s said.Print (response_of r) shows s) (sym p.0) (subst (λ (o : List ℕ). Obeys s said.Print (Replied Done) o s) (sym p.1) (shown_text s))
+answered s reply shows (inr p) = subst (λ (r : Reply). Obeys s said.Print (response_of r) shows s) (sym p.0) (subst (λ (o : List ℕ). Obeys s said.Print (Replied (Refused Memory)) o s) (sym p.1) (shown_none s))
+
+-- a line that asks for the module is answered with its text, or for want of memory
+printed : (s : State) (spoken : Spoken) (reply : Reply) (shows : List ℕ) → prints_alone spoken ≡ true → says_nothing spoken ≡ false → IsPrinted s.held.tree reply shows → Replies s spoken (response_of reply) shows s
+printed s Nothing reply shows e f p = absurd (true≢false f)
+printed s Bad reply shows e f p = absurd (true≢false (sym e))
+printed s (Obey command) reply shows e f p = subst (λ (k : Command). Obeys s k (response_of reply) shows s) (sym (the_print command e)) (answered s reply shows p)
+
+-- and has no listing
+bare : (brief : Bool) (s : State) (n : ℕ) (reply : Reply) (shows : List ℕ) → IsReplied (not brief && false) s n (response_of reply) shows (reply_line n (response_of reply) ++ shows)
+bare true s n reply shows = ([], refl, ap (λ (out : List ℕ). reply_line n (response_of reply) ++ out) (sym (append-nil shows)))
+bare false s n reply shows = ([], refl, ap (λ (out : List ℕ). reply_line n (response_of reply) ++ out) (sym (append-nil shows)))
+
+unlisted : (brief : Bool) (s : State) (n : ℕ) (spoken : Spoken) (reply : Reply) (shows : List ℕ) → prints_alone spoken ≡ true → says_nothing spoken ≡ false → IsReplied (not brief && not (asks spoken)) s n (response_of reply) shows (reply_line n (response_of reply) ++ shows)
+unlisted brief s n Nothing reply shows e f = absurd (true≢false f)
+unlisted brief s n Bad reply shows e f = absurd (true≢false (sym e))
+unlisted brief s n (Obey command) reply shows e f = subst (λ (k : Command). IsReplied (not brief && not (shows_alone k)) s n (response_of reply) shows (reply_line n (response_of reply) ++ shows)) (sym (the_print command e)) (bare brief s n reply shows)
+
+-- the first line, and the others
+pub first_prints : (text line more : List ℕ) → lines_of text ≡ line ∷ lines_of more → all_print (lines_of text) ≡ (prints_alone (line_says line) && all_print (lines_of more))
+first_prints text line more e = ap all_print e
+
+pub more_print : (text line more : List ℕ) → lines_of text ≡ line ∷ lines_of more → all_print (lines_of text) ≡ true → (prints_alone (line_says line) ≡ true) × (all_print (lines_of more) ≡ true)
+more_print text line more e h = both _ _ (sym (first_prints text line more e) ∙ h)
+
+-- a line that asks for the module is replied to, and then what may follow
+pub print_step : (brief : Bool) (n : ℕ) (s : State) (text line more : List ℕ) (reply : Reply) (shows : List ℕ) → lines_of text ≡ line ∷ lines_of more → prints_alone (line_says line) ≡ true → false ≡ says_nothing (line_says line) → IsPrinted s.held.tree reply shows →
+    (later : ℕ) (rest : List ℕ) → Runs brief (n + 1) s (lines_of more) later rest → Runs brief n s (lines_of text) (worse (is_accepted (response_of reply)) later) ((reply_line n (response_of reply) ++ shows) ++ rest)
+print_step brief n s text line more reply shows e is f p later rest h =
+    run_step brief n s text line more (line_says line) (response_of reply) shows s (reply_line n (response_of reply) ++ shows) e refl f (printed s (line_says line) reply shows is (sym f) p) (unlisted brief s n (line_says line) reply shows is (sym f)) later rest h
+
+-- ---- sessions
+
+-- what the lines may give is what a session may give whose boxes have different kinds
+print_ran : {E : Type 0} (brief : Bool) (boxes : List Shown) (m : Module) (script : List ℕ) (a b : Option (List ℕ)) (r : Result ℕ E) → length script ≤ MAX_SCRIPT_BYTES → are_apart boxes ≡ true →
+    RanOut (Runs brief 1 (record { held = m; marks = []; panel = map begun boxes }) (lines_of script)) a b r → RanOut (IsSession brief boxes m script) a b r
+print_ran brief boxes m script a b r short apart ran =
+    ran_weaker (Runs brief 1 (record { held = m; marks = []; panel = map begun boxes }) (lines_of script)) (IsSession brief boxes m script) a b r
+    (λ st o h. inr (short, record {
+      panel = map begun boxes;
+      accepted = true;
+      front = [];
+      later = st;
+      rest = o;
+      attached = apart_attach boxes [] (all_new boxes) apart;
+      runs = h;
+      status_is = refl;
+      out_is = refl;
+    })) ran
+
+pub prints_ran : {B E : Type 0} (meaning : B → Listener) (brief : Bool) (bs : List B) (m : Module) (script : List ℕ) (a b : Option (List ℕ)) (r : Result ℕ E) → length script ≤ MAX_SCRIPT_BYTES → kinds_apart meaning bs ≡ true →
+    ((panel : List Shown) → RanOut (Runs brief 1 (record { held = m; marks = []; panel = panel }) (lines_of script)) a b r) → RanOut (IsSession brief (all_shown meaning bs) m script) a b r
+prints_ran meaning brief bs m script a b r short apart ran = print_ran brief (all_shown meaning bs) m script a b r short (apart_shown meaning bs ∙ apart) (ran _)

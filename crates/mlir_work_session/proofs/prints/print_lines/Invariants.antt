@@ -1,0 +1,21 @@
+use Rattle.std.proofs.Common.{◌≡◌, ◌++◌, ◌+◌, ◌≤◌, List, [], ℕ, Bool, true, length}
+use Rattle.std.specs.Io.KnownBytes.{Appends}
+use Rattle.ir_tree.specs.Meaning.{meaning}
+use Rattle.mlir_work_script.specs.Lines.{lines_of}
+use Rattle.machine.specs.Panels.{Shown}
+use Rattle.mlir_work_session.specs.Output.{Runs, worse}
+use Rattle.mlir_work_session.specs.PrintsAlone.{all_print}
+use Rattle.mlir_work_session.proofs.prints.print_lines.Given as goal
+
+-- what was written, and whatever the lines that are left may give, is what the script may give
+abbrev pub invariant-loop-text : goal.invariant-loop-text
+invariant-loop-text g l = record {
+  prints : all_print (lines_of l.text) ≡ true;
+  count : l.n + length l.text ≤ 1 + length l.script;
+  front : List ℕ;
+  wrote : Appends (g.W.Write.contents l.initial.writer) (g.W.Write.contents l.writer) front;
+  whole : (brief : Bool) (next : ℕ) (panel : List Shown) (later : ℕ) (rest : List ℕ) → Runs brief l.n (record { held = record { tree = meaning l.ctx l.tree; next = next }; marks = []; panel = panel }) (lines_of l.text) later rest → Runs brief 1 (record { held = record { tree = meaning l.ctx l.tree; next = next }; marks = []; panel = panel }) (lines_of l.script) (worse l.accepted later) (front ++ rest);
+}
+
+abbrev pub decreases-loop-text : goal.decreases-loop-text
+decreases-loop-text g l = length l.text

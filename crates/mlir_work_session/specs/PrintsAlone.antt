@@ -1,0 +1,37 @@
+-- Scripts that only ask for the module, and so need no analysis.
+use Rattle.std.specs.Prelude.{◌≡◌, ℕ, List, [], ◌∷◌, Bool, true, false, not, ◌&&◌, ◌⊎◌}
+use Rattle.std.specs.List.{list_all}
+use Rattle.ir_types.specs.declared.refusal.Refusal.TheVariants.{Memory}
+use Rattle.ir_tree.specs.Meaning.{Operation}
+use Rattle.ir_event.specs.Listener.{Listener}
+use Rattle.ir_event.specs.Panels.{has_kind}
+use Rattle.ir_text.specs.Printing.{text_of}
+use Rattle.machine.specs.Commands.{Command, Print}
+use Rattle.mlir_work_script.specs.Commands.{Spoken, Nothing, Bad, Obey, line_says}
+use Rattle.mlir_work_script.specs.Lines.{lines_of}
+use Rattle.mlir_work_session.specs.declared.reply.Reply.{Reply}
+use Rattle.mlir_work_session.specs.declared.reply.Reply.TheVariants.{Done, Refused}
+
+-- whether a command asks for the module
+abbrev pub is_print : Command → Bool
+is_print Print = true
+is_print _ = false
+
+-- whether a line says nothing, or asks for the module
+abbrev pub prints_alone : Spoken → Bool
+prints_alone Nothing = true
+prints_alone Bad = false
+prints_alone (Obey command) = is_print command
+
+-- whether each of some lines does
+abbrev pub all_print : List (List ℕ) → Bool
+all_print lines = list_all (λ line. prints_alone (line_says line)) lines
+
+-- whether no two of some listeners have one kind; `B` is a type of listeners, and `meaning` what each of them means
+abbrev pub kinds_apart : {B : Type 0} → (B → Listener) → List B → Bool
+kinds_apart meaning [] = true
+kinds_apart meaning (b ∷ bs) = not (has_kind meaning (meaning b).kind bs) && kinds_apart meaning bs
+
+-- the module's text is shown, or there is no memory for it
+abbrev pub IsPrinted : Operation → Reply → List ℕ → Type 0
+IsPrinted t reply shows = ((reply ≡ Done) × (shows ≡ text_of t)) ⊎ ((reply ≡ Refused Memory) × (shows ≡ []))
