@@ -93,7 +93,7 @@ module _ (c d : Things) (ctx : d ≡ c) where
       → OnOk r (u ≡ after_entry (key_before_in c) x part k a s)
       → MatchResult r (λ _. set_entry_reason (key_before_in c) x part k a s.module_of.tree ≡ None) (λ e. IsRefusedFor {A = Unit {0}} (set_entry_reason (key_before_in c) x part k a s.module_of.tree) (Err e)) → OnErr r (u ≡ s)
       → MatchResult r (λ what. Made c (entry_edit x (name_term c k) (option_map (attr_term c) a)) (module_meaning c s.module_of) (module_meaning d u.module_of) what)
-          (λ refusal. NotMade (entry_edit x (name_term c k) (option_map (attr_term c) a)) (module_meaning c s.module_of) (module_meaning d u.module_of) refusal)
+      (λ refusal. NotMade (entry_edit x (name_term c k) (option_map (attr_term c) a)) (module_meaning c s.module_of) (module_meaning d u.module_of) refusal)
   entry_set x k a part s u (Ok e) belongs step is none err =
       let there : n_is = ap (λ (t : Stored). t.module_of) is ∙ ap (λ (p : Part). (after_entry (key_before_in c) x p k a s).module_of) belongs ∙ entry_after x k a s in
       subst (λ (f : Things). Made c (entry_edit x (name_term c k) (option_map (attr_term c) a)) (module_meaning c s.module_of) (module_meaning f u.module_of) e) (sym ctx)

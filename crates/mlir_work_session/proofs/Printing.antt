@@ -190,17 +190,20 @@ print_ran : {E : Type 0} (brief : Bool) (boxes : List Shown) (m : Module) (scrip
     RanOut (Runs brief 1 (record { held = m; marks = []; panel = map begun boxes }) (lines_of script)) a b r → RanOut (IsSession brief boxes m script) a b r
 print_ran brief boxes m script a b r short apart ran =
     ran_weaker (Runs brief 1 (record { held = m; marks = []; panel = map begun boxes }) (lines_of script)) (IsSession brief boxes m script) a b r
-    (λ st o h. inr (short, record {
-      panel = map begun boxes;
-      accepted = true;
-      front = [];
-      later = st;
-      rest = o;
-      attached = apart_attach boxes [] (all_new boxes) apart;
-      runs = h;
-      status_is = refl;
-      out_is = refl;
-    })) ran
+    (λ st o h. inr (
+      short,
+      record {
+        panel = map begun boxes;
+        accepted = true;
+        front = [];
+        later = st;
+        rest = o;
+        attached = apart_attach boxes [] (all_new boxes) apart;
+        runs = h;
+        status_is = refl;
+        out_is = refl;
+      },
+    )) ran
 
 pub prints_ran : {B E : Type 0} (meaning : B → Listener) (brief : Bool) (bs : List B) (m : Module) (script : List ℕ) (a b : Option (List ℕ)) (r : Result ℕ E) → length script ≤ MAX_SCRIPT_BYTES → kinds_apart meaning bs ≡ true →
     ((panel : List Shown) → RanOut (Runs brief 1 (record { held = m; marks = []; panel = panel }) (lines_of script)) a b r) → RanOut (IsSession brief (all_shown meaning bs) m script) a b r

@@ -14,8 +14,8 @@ ghost use Rattle.mlir_work_session.specs.RowText.{rows_text};
 ghost use Rattle.mlir_work_session.specs.Machine.{Obeys, response_of, state_of};
 ghost use Rattle.mlir_work_session.specs.declared.reply.Reply.TheVariants.{Refused};
 
-use crate::edits;
 use crate::attributes::{entry_of, name_of};
+use crate::edits;
 use crate::places::place_for;
 use crate::reply::Reply;
 use crate::rows::text_of_rows;
@@ -159,12 +159,7 @@ fn set_operand<L: Analysis>(
 }
 
 /// Moves an operation to the place that is named, and tells the listeners of it.
-fn move_op<L: Analysis>(
-    world: &mut World,
-    panel: &mut Panel<L>,
-    op: OpId,
-    spot: &Spot,
-) -> Reply
+fn move_op<L: Analysis>(world: &mut World, panel: &mut Panel<L>, op: OpId, spot: &Spot) -> Reply
     requires { AllKept L.meaning (things_in world.old) (module_in world.old) panel.old }
     ensures obeys { Obeys (state_of L.meaning world.old panel.old) (Move op (spot_of spot.now)) (response_of result) [] (state_of L.meaning world.new panel.new) }
     ensures kept { AllKept L.meaning (things_in world.new) (module_in world.new) panel.new }
