@@ -39,7 +39,7 @@ heading() {
 
 # The most memory of a run, in bytes.
 most() {
-    echo $(($(/usr/bin/time -f %M "$program" "$@" 0 2>&1 >/dev/null | tail -1) * 1024))
+    echo $(($(/usr/bin/time -f %M "$program" "$1" "$2" 0 0 "$3" 2>&1 >/dev/null | tail -1) * 1024))
 }
 
 nproc | sed 's/^/processors: /'
@@ -48,20 +48,20 @@ for shape in block functions; do
     heading "$shape"
     for listeners in none "$two" "$six"; do
         for count in 1000 10000 100000 1000000; do
-            row "$count, $listeners" "$shape" "$count" "$listeners" "$calls" "$rounds"
+            row "$count, $listeners" "$shape" "$count" "$calls" "$rounds" "$listeners"
         done
     done
 done
 heading 'each alone, functions'
 for count in 10000 1000000; do
     for listener in ${six//,/ }; do
-        row "$count, $listener" functions "$count" "$listener" "$calls" "$rounds"
+        row "$count, $listener" functions "$count" "$calls" "$rounds" "$listener"
     done
 done
 echo '| chain of 1,000 | set-operand | and undone |'
 echo '|---|---|---|'
 for listeners in none constants "$six"; do
-    row "$listeners" chain 1000 "$listeners" 20 "$rounds"
+    row "$listeners" chain 1000 20 "$rounds" "$listeners"
 done
 echo '| bytes for an operation | tree | module | two listeners | six |'
 echo '|---|---|---|---|---|'

@@ -1,10 +1,8 @@
 //! Calls, each with the events that it tells.
-ghost use Rattle.std.specs.Prelude.{◌≡◌, true, None, Some, IfOk};
+ghost use Rattle.std.specs.Prelude.{◌≡◌, true, None, IfOk};
 ghost use Rattle.std.specs.FinMap as finmap;
 ghost use Rattle.ir_types.specs.Things.{Things};
-ghost use Rattle.ir_tree.specs.Meaning.{IsSoundIn};
-ghost use Rattle.ir_tree_laws.specs.Reasons.{holds_none};
-ghost use Rattle.ir_event.specs.Modules.{Module, things_in, module_in};
+ghost use Rattle.ir_event.specs.Modules.{Module, things_in};
 ghost use Rattle.world_edits.specs.Undoing.{CameFrom};
 ghost use Rattle.edit_bench.specs.Headers.{IsHeader};
 
@@ -14,6 +12,7 @@ use ir_event::event::{Event, inverse};
 use ir_event::panel::Panel;
 use ir_event::world::World;
 use ir_store::store::Store;
+use ir_tree::place::Place;
 use ir_tree::tree::TreeOp;
 use ir_tree::value::Value;
 use ir_types::ids::OpId;
@@ -42,33 +41,54 @@ pub enum Call {
     EraseUndone,
 }
 
-/// Undoes an event, and tells of it.
-fn undo_and_tell<L: Analysis>(world: &mut World, panel: &mut Panel<L>, event: &Event)
-    requires { (p : Module) × CameFrom (things_in world.old) event.now p world.old.store }
-    ensures { world.new.ctx ≡ world.old.ctx }
-{
-    undo(world, event);
-    panel.tell(world, inverse(*event));
-}
-
-/// Sets an operand.
-fn set<L: Analysis>(
+/// Tells of an event, and undoes it where that is asked for, which is told too.
+fn finish<L: Analysis>(
     world: &mut World,
     panel: &mut Panel<L>,
-    target: &Target,
+    made: Result<Event, Refusal>,
     undone: bool,
 ) -> Result<(), Refusal>
+    requires { IfOk made (λ e. (p : Module) × CameFrom (things_in world.old) e p world.old.store) }
     ensures { world.new.ctx ≡ world.old.ctx }
 {
-    let event = match world.set_operand(target.op(), 0, target.value()) {
+    let event = match made {
         Ok(event) => event,
         Err(refusal) => return Err(refusal),
     };
     panel.tell(world, event);
     if undone {
-        undo_and_tell(world, panel, &event);
+        undo(world, &event);
+        panel.tell(world, inverse(event));
     }
     Ok(())
+}
+
+/// Sets the first operand of an operation.
+fn set<L: Analysis>(
+    world: &mut World,
+    panel: &mut Panel<L>,
+    op: OpId,
+    value: Value,
+    undone: bool,
+) -> Result<(), Refusal>
+    ensures { world.new.ctx ≡ world.old.ctx }
+{
+    let made = world.set_operand(op, 0, value);
+    finish(world, panel, made, undone)
+}
+
+/// Moves an operation.
+fn shift_to<L: Analysis>(
+    world: &mut World,
+    panel: &mut Panel<L>,
+    op: OpId,
+    place: Place,
+    undone: bool,
+) -> Result<(), Refusal>
+    ensures { world.new.ctx ≡ world.old.ctx }
+{
+    let made = shift(world, op, place);
+    finish(world, panel, made, undone)
 }
 
 /// Moves an operation ahead, and back.
@@ -76,25 +96,11 @@ fn shift_twice<L: Analysis>(
     world: &mut World,
     panel: &mut Panel<L>,
     target: &Target,
-    undone: bool,
 ) -> Result<(), Refusal>
     ensures { world.new.ctx ≡ world.old.ctx }
 {
-    let event = match shift(world, target.op(), target.ahead()) {
-        Ok(event) => event,
-        Err(refusal) => return Err(refusal),
-    };
-    panel.tell(world, event);
-    if undone {
-        undo_and_tell(world, panel, &event);
-        return Ok(());
-    }
-    let event = match shift(world, target.op(), target.behind()) {
-        Ok(event) => event,
-        Err(refusal) => return Err(refusal),
-    };
-    panel.tell(world, event);
-    Ok(())
+    shift_to(world, panel, target.op(), target.ahead(), false)?;
+    shift_to(world, panel, target.op(), target.behind(), false)
 }
 
 /// Whether nothing is held under the next free id.
@@ -120,22 +126,31 @@ fn erase<L: Analysis>(
 ) -> Result<(), Refusal>
     ensures { world.new.ctx ≡ world.old.ctx }
 {
-    let event = match take(world, op) {
-        Ok(event) => event,
-        Err(refusal) => return Err(refusal),
-    };
-    panel.tell(world, event);
-    if undone {
-        undo_and_tell(world, panel, &event);
-    }
-    Ok(())
+    let made = take(world, op);
+    finish(world, panel, made, undone)
+}
+
+/// Puts an operation.
+fn put_at<L: Analysis>(
+    world: &mut World,
+    panel: &mut Panel<L>,
+    place: Place,
+    header: &TreeOp,
+    undone: bool,
+) -> Result<(), Refusal>
+    requires header { IsHeader world.old.ctx header.now }
+    requires unheld { finmap.get world.old.store.held world.old.store.module_of.next ≡ None }
+    ensures { world.new.ctx ≡ world.old.ctx }
+{
+    let made = put(world, place, header);
+    finish(world, panel, made, undone)
 }
 
 /// Puts an operation, and takes it again or undoes that. It is given up then.
 fn insert<L: Analysis>(
     world: &mut World,
     panel: &mut Panel<L>,
-    target: &Target,
+    place: Place,
     header: &TreeOp,
     undone: bool,
 ) -> Result<(), Refusal>
@@ -146,14 +161,8 @@ fn insert<L: Analysis>(
         return Err(Refusal::NoSuchOp);
     }
     let op = OpId::new(world.store.next_id());
-    let event = match put(world, target.behind(), header) {
-        Ok(event) => event,
-        Err(refusal) => return Err(refusal),
-    };
-    panel.tell(world, event);
-    if undone {
-        undo_and_tell(world, panel, &event);
-    } else {
+    put_at(world, panel, place, header, undone)?;
+    if !undone {
         erase(world, panel, op, false)?;
     }
     release(world, op);
@@ -188,17 +197,17 @@ pub fn make<L: Analysis>(
 {
     match kind {
         Call::Nothing => Ok(()),
-        Call::SetOperand => set(world, panel, target, false),
-        Call::SetOperandUndone => set(world, panel, target, true),
-        Call::Move => shift_twice(world, panel, target, false),
-        Call::MoveUndone => shift_twice(world, panel, target, true),
+        Call::SetOperand => set(world, panel, target.op(), target.value(), false),
+        Call::SetOperandUndone => set(world, panel, target.op(), target.value(), true),
+        Call::Move => shift_twice(world, panel, target),
+        Call::MoveUndone => shift_to(world, panel, target.op(), target.ahead(), true),
         Call::Insert => {
             aim(header, &target.seen());
-            insert(world, panel, target, header, false)
+            insert(world, panel, target.behind(), header, false)
         }
         Call::InsertUndone => {
             aim(header, &target.seen());
-            insert(world, panel, target, header, true)
+            insert(world, panel, target.behind(), header, true)
         }
         Call::EraseUndone => erase(world, panel, target.unused(), true),
     }

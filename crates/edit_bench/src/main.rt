@@ -1,7 +1,7 @@
-//! Edits a module with listeners, by one kind of call after another, and prints how many calls were made. Arguments: the
-//! shape of the module (`block`, `functions`, `chain`), how many operations it has, the listeners (`uses,diagnostics`,
-//! `none`, or `tree` to stop where its tree is built), how many calls a round has, and how many rounds, if calls are to be
-//! timed: then the least nanoseconds of a call stand behind.
+//! Edits a module with listeners attached, by one kind of call after another, and prints how many calls were made.
+//! Arguments: the shape of the module (`block`, `functions`, `chain`), how many operations it has, how many calls a round
+//! has, how many rounds are timed, and the listeners (`uses,diagnostics`, `none`, or `tree` to stop where the tree is
+//! built). Where rounds are timed, it prints the least nanoseconds of a call instead; with 0, one round is made untimed.
 #![tactic(auto)]
 
 ghost use Rattle.std.specs.Prelude.{◌≡◌, ◌<◌, true, IsTrue, IfOk, OnOk};
@@ -44,12 +44,13 @@ use symbols::symbols::Symbols;
 const MOST: u32 = 16_000_000;
 
 /// What a run is asked for.
-#[derive(Clone, Copy)]
+#[derive(Drop)]
 struct Asked {
     shape: Shape,
     count: u32,
     calls: u32,
-    rounds: Option<u32>,
+    rounds: u32,
+    listeners: String,
 }
 
 /// Whether the ids of a tree are below a number.
@@ -138,12 +139,12 @@ fn rounds<R: Clock, L: Analysis>(
     requires { IsHeader world.old.ctx header.old }
     ensures { IsHeader world.new.ctx header.new }
 {
-    let Some(count) = asked.rounds else {
+    if asked.rounds == 0 {
         round(world, panel, header, asked, kind, 0)?;
         return Ok(None);
-    };
+    }
     let mut least = u128::MAX;
-    for number in 0..count {
+    for number in 0..asked.rounds {
         least = least.min(timed(rt, world, panel, header, asked, kind, number)?);
     }
     Ok(Some(least))
@@ -184,7 +185,7 @@ fn try_kinds<R: Print + Clock, L: Analysis>(
     requires { IsHeader world.old.ctx header.old }
 {
     for (index, (name, kind)) in KINDS.iter().enumerate() {
-        if asked.shape == Shape::Chain && index > 2 {
+        if asked.shape.is_chain() && index > 2 {
             return Ok(());
         }
         let least = rounds(rt, world, panel, header, asked, *kind)?;
@@ -211,20 +212,15 @@ fn attach_all<L: Analysis>(
 /// Makes the calls of each kind, with listeners that are told, and prints how many of these are stale then.
 fn run<R: Print + Clock, L: Analysis>(
     rt: &R,
-    world: World,
-    header: TreeOp,
-    boxes: Vec<L>,
-    panel: Panel<L>,
+    world: &mut World,
+    panel: &mut Panel<L>,
+    header: &mut TreeOp,
     asked: &Asked,
 ) -> Result<()> {
-    let mut world = world;
-    let mut panel = panel;
-    let mut header = header;
-    attach_all(&world, &mut panel, boxes)?;
-    if !is_header(&world.ctx, &header) {
+    if !is_header(&world.ctx, header) {
         bail!("no header");
     }
-    try_kinds(rt, &mut world, &mut panel, &mut header, asked)?;
+    try_kinds(rt, world, panel, header, asked)?;
     let listeners = panel.listeners();
     let count = listeners.len();
     let stale = listeners
@@ -238,14 +234,13 @@ fn run<R: Print + Clock, L: Analysis>(
 /// Makes the calls with a listener for each word of a list.
 fn run_with(
     rt: &HostRuntime,
-    world: World,
-    header: TreeOp,
-    listeners: &str,
+    world: &mut World,
+    header: &mut TreeOp,
     asked: &Asked,
 ) -> Result<()> {
     let alloc = rt.alloc();
     let mut boxes: Vec<Box<dyn Analysis>> = Vec::new(alloc);
-    for word in listeners.split(',') {
+    for word in asked.listeners.as_str().split(',') {
         match word {
             "uses" => boxes.push(Box::new(alloc, Uses::new(alloc))?)?,
             "symbols" => boxes.push(Box::new(alloc, Symbols::new(alloc))?)?,
@@ -256,22 +251,36 @@ fn run_with(
             _ => {}
         }
     }
-    run(rt, world, header, boxes, Panel::new(alloc), asked)
+    let mut panel = Panel::new(alloc);
+    attach_all(world, &mut panel, boxes)?;
+    run(rt, world, &mut panel, header, asked)
+}
+
+/// Makes the calls in the module of a tree.
+fn edit(
+    rt: &HostRuntime,
+    ctx: Context,
+    numbers: &Numbers,
+    tree: TreeOp,
+    asked: &Asked,
+) -> Result<()> {
+    let alloc = rt.alloc();
+    let mut world = load(alloc, ctx, tree)?;
+    let mut header = sum(alloc, 0, numbers, result(1), result(2))?;
+    run_with(rt, &mut world, &mut header, asked)
 }
 
 /// Builds a module, and makes the calls, unless its tree alone is asked for.
-fn build_and_run(rt: &HostRuntime, asked: &Asked, listeners: &str) -> Result<()> {
+fn build_and_run(rt: &HostRuntime, asked: &Asked) -> Result<()> {
     let alloc = rt.alloc();
     let mut ctx = Context::new(alloc)?;
     let numbers = Numbers::new(alloc, &mut ctx)?;
     let tree = module(alloc, &mut ctx, &numbers, asked.shape, asked.count)?;
     println!(rt; "operations: {}", op_count(&tree))?;
-    if listeners == "tree" {
+    if asked.listeners.as_str() == "tree" {
         return Ok(());
     }
-    let world = load(alloc, ctx, tree)?;
-    let header = sum(alloc, 0, &numbers, result(1), result(2))?;
-    run_with(rt, world, header, listeners, asked)
+    edit(rt, ctx, &numbers, tree, asked)
 }
 
 /// The shape that a word names.
@@ -284,33 +293,32 @@ fn shape_of(word: &str) -> Result<Shape> {
     }
 }
 
-/// What a run is asked for, and the list of listeners.
-fn wanted(rt: &HostRuntime) -> Result<(Asked, String)> {
-    let mut args = env::args(rt)?;
-    args.next();
-    let shape = args.next().context("which shape?")?;
-    let count = args.next().context("how many operations?")?;
-    let listeners = args.next().context("which listeners?")?;
-    let calls = args.next().context("how many calls?")?;
-    let count = count
-        .as_str()
-        .parse::<u32>()
-        .context("how many operations?")?;
+/// The next word, as a number.
+fn number<I: Iterator<Item = String>>(args: &mut I) -> Result<u32> {
+    let word = args.next().context("which number?")?;
+    word.as_str().parse::<u32>().context("which number?")
+}
+
+/// What the words of the command line ask for.
+fn wanted<I: Iterator<Item = String>>(args: &mut I) -> Result<Asked> {
+    let shape = shape_of(args.next().context("which shape?")?.as_str())?;
+    let count = number(args)?;
     ensure!(count <= MOST, "at most {MOST}");
-    let rounds = match args.next() {
-        Some(word) => Some(word.as_str().parse::<u32>().context("how many rounds?")?),
-        None => None,
-    };
-    let asked = Asked {
-        shape: shape_of(shape.as_str())?,
+    let calls = number(args)?;
+    let rounds = number(args)?;
+    let listeners = args.next().context("which listeners?")?;
+    Ok(Asked {
+        shape,
         count,
-        calls: calls.as_str().parse::<u32>().context("how many calls?")?,
+        calls,
         rounds,
-    };
-    Ok((asked, listeners))
+        listeners,
+    })
 }
 
 fn main(rt: HostRuntime) -> Result<()> {
-    let (asked, listeners) = wanted(&rt)?;
-    build_and_run(&rt, &asked, listeners.as_str())
+    let mut args = env::args(&rt)?;
+    args.next();
+    let asked = wanted(&mut args)?;
+    build_and_run(&rt, &asked)
 }

@@ -14,7 +14,7 @@ use std::alloc::{AllocError, Global};
 pub const INSIDE: u32 = 20;
 
 /// Which module is made.
-#[derive(Clone, Copy, PartialEq, Eq)]
+#[derive(Clone, Copy)]
 pub enum Shape {
     /// One block, in which nearly nothing is known.
     Block,
@@ -22,6 +22,13 @@ pub enum Shape {
     Functions,
     /// One block, in which each operation is known by the one before it.
     Chain,
+}
+
+impl Shape {
+    /// Whether this is a chain.
+    pub fn is_chain(self) -> bool {
+        matches!(self, Shape::Chain)
+    }
 }
 
 /// The numbers of a context that operations are made with.

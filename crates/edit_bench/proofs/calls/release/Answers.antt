@@ -12,5 +12,5 @@ invariant_of-world c =
     record {
       sound = subst (λ (m : Numbered). IsSoundIn w.ctx m.tree) (sym r.module_of) w.sound;
       formed = subst (IsWellFormed (isolated_in w.ctx)) (sym r.module_of) w.formed;
-      held = subst (HeldIsSound w.ctx) (sym r.held) (retained_sound w.ctx w.store.held (λ x. nat_lt x c.args.from) w.held);
+      held = subst (HeldIsSound w.ctx) (sym r.held) (retained_sound w.ctx w.store.held (λ x. nat_lt x c.number.result) w.held);
     }
