@@ -15,7 +15,7 @@ use Rattle.ir_tree.proofs.Mapped.{map_find}
 use Rattle.ir_tree_laws.proofs.Around.{member_of_place}
 use Rattle.ir_tree_laws.proofs.Members.{stand_found}
 use Rattle.ir_store.specs.Stored.{Stored}
-use Rattle.ir_store.specs.Calls.{after_take, hold}
+use Rattle.ir_store.specs.Calls.{after_take}
 use Rattle.ir_event.specs.declared.event.Event.{Event}
 use Rattle.ir_event.specs.declared.event.Event.TheVariants.{Put, Take, SetOperand, Shift}
 use Rattle.ir_event.specs.Facts.{HeldIsSound}

@@ -35,7 +35,7 @@ use ir_types::refusal::Refusal;
 use ir_verify::diagnostics::Diagnostics;
 use listeners::uses::Uses;
 use std::alloc::{AllocError, Global};
-use std::env;
+use std::env::{self, Args};
 use std::rt::Clock;
 use std::time::Instant;
 use symbols::symbols::Symbols;
@@ -232,12 +232,7 @@ fn run<R: Print + Clock, L: Analysis>(
 }
 
 /// Makes the calls with a listener for each word of a list.
-fn run_with(
-    rt: &HostRuntime,
-    world: &mut World,
-    header: &mut TreeOp,
-    asked: &Asked,
-) -> Result<()> {
+fn run_with(rt: &HostRuntime, world: &mut World, header: &mut TreeOp, asked: &Asked) -> Result<()> {
     let alloc = rt.alloc();
     let mut boxes: Vec<Box<dyn Analysis>> = Vec::new(alloc);
     for word in asked.listeners.as_str().split(',') {
@@ -294,13 +289,13 @@ fn shape_of(word: &str) -> Result<Shape> {
 }
 
 /// The next word, as a number.
-fn number<I: Iterator<Item = String>>(args: &mut I) -> Result<u32> {
+fn number(args: &mut Args) -> Result<u32> {
     let word = args.next().context("which number?")?;
     word.as_str().parse::<u32>().context("which number?")
 }
 
 /// What the words of the command line ask for.
-fn wanted<I: Iterator<Item = String>>(args: &mut I) -> Result<Asked> {
+fn wanted(args: &mut Args) -> Result<Asked> {
     let shape = shape_of(args.next().context("which shape?")?.as_str())?;
     let count = number(args)?;
     ensure!(count <= MOST, "at most {MOST}");

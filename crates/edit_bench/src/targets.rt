@@ -100,5 +100,5 @@ pub fn target_of(shape: Shape, count: u32, turn: u64) -> Target {
     let all = targets(shape, count).max(1);
     let index = turn.wrapping_mul(STRIDE) % all;
     let pass = turn / all;
-    at(shape, index as u32, pass % 2 == 0)
+    at(shape, u32::try_from(index).unwrap_or(0), pass % 2 == 0)
 }

@@ -1,4 +1,3 @@
-use Rattle.ir_event.specs.Modules.{module_meaning}
 use Rattle.edit_bench.proofs.Coming.{take_came}
 use Rattle.edit_bench.proofs.calls.erase.Goals as goal
 
