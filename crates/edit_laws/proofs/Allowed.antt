@@ -16,7 +16,7 @@ use Rattle.ir_tree.proofs.Heads.{head_find, head_visible, alike_operand}
 use Rattle.ir_tree_laws.specs.Members.{In}
 use Rattle.ir_tree_laws.specs.Stands.{StandOf, stand_id, stands, sees}
 use Rattle.ir_tree_laws.specs.Values.{has_value, type_of_value}
-use Rattle.ir_tree_laws.specs.Reasons.{value_reason, operand_reason, set_operand_reason}
+use Rattle.ir_tree_laws.specs.Reasons.{value_reason, operand_reason, set_operand_reason, users_see}
 use Rattle.ir_tree_laws.proofs.Listed.{all_each, in_left}
 use Rattle.ir_tree_laws.proofs.Readings.{stands_uses}
 use Rattle.ir_tree_laws.proofs.Members.{found_stands, stand_found}
@@ -24,7 +24,7 @@ use Rattle.ir_tree_laws.proofs.Sees.{visible_there}
 use Rattle.ir_tree_laws.proofs.Values.{seen_by}
 use Rattle.ir_tree_laws.proofs.Reasoned.{no_unless}
 use Rattle.ir_tree_laws.proofs.HeadForm.{operand_keeps}
-use Rattle.machine.specs.Edits.{TestsOf, Replace, reason_by, users_see}
+use Rattle.machine.specs.Edits.{TestsOf, Replace, reason_by}
 use Rattle.edit_laws.specs.Replacing.{all_set}
 use Rattle.edit_laws.proofs.Left.{of_gather, user, head_each}
 use Rattle.edit_laws.proofs.Parts.{in_middle}

@@ -12,7 +12,7 @@ use Rattle.ir_tree.proofs.Left.{left_distinct, gone}
 use Rattle.ir_tree.proofs.Returns.{put_take}
 use Rattle.ir_tree_laws.specs.Members.{In}
 use Rattle.ir_tree_laws.specs.Reads.{is_within}
-use Rattle.ir_tree_laws.specs.Reasons.{leaves, take_reason}
+use Rattle.ir_tree_laws.specs.Reasons.{leaves, take_reason, leaves_within, unused_outside}
 use Rattle.ir_tree_laws.specs.Stands.{StandOf, stands}
 use Rattle.ir_tree_laws.proofs.Listed.{bool_cases, all_each, each_all, not_false}
 use Rattle.ir_tree_laws.proofs.Readings.{stands_every}
@@ -23,7 +23,7 @@ use Rattle.ir_tree_laws.proofs.Reasoned.{no_unless}
 use Rattle.ir_tree_laws.proofs.Reverted.{inside_goes}
 use Rattle.ir_tree_laws.proofs.PutForm.{put_found}
 use Rattle.ir_tree_laws.proofs.Shift.{Inner, inner_of, inner_place, own_distinct}
-use Rattle.machine.specs.Edits.{TestsOf, Erase, reason_by, leaves_within, unused_outside}
+use Rattle.machine.specs.Edits.{TestsOf, Erase, reason_by}
 use Rattle.edit_laws.specs.Erasing.{ids_in, erase_order, all_taken}
 use Rattle.edit_laws.proofs.Taken.{Erasing, reach, each_may, all_gone, each_formed}
 

@@ -13,7 +13,8 @@ use Rattle.ir_tree.specs.Sites.{visible, operands_visible}
 use Rattle.ir_tree.specs.Frames.{owner_of}
 use Rattle.ir_tree.specs.Limits.{depth, every, most_ops, most_around, most_items, most_next, op_fits}
 use Rattle.ir_tree.specs.Edits.{part_of, with_head, entry_at}
-use Rattle.ir_tree.specs.Places.{put, shifted}
+use Rattle.ir_tree.specs.Places.{put, without, shifted}
+use Rattle.ir_tree.specs.Uses.{uses_of}
 use Rattle.ir_tree_laws.specs.Tables.{table_of}
 use Rattle.ir_tree_laws.specs.Values.{has_value}
 use Rattle.ir_tree_laws.specs.Reads.{ops_at, is_among, is_within, around}
@@ -98,6 +99,18 @@ take_reason x t =
     (unless (not (eqb (head t).id x)) IsRoot
     (unless (holds_none (find x t)) NotEmpty
     (unless (unused x t) HasUses None)))
+
+-- whether no operand of a head is a value of an operation that may be there, or of one within it
+abbrev pub leaves_within : {N T A : Type 0} → Option (OpOf N T A) → HeadOf N T A → Bool
+leaves_within o h = list_all (λ v. not (is_within (owner_of v).0 o)) h.operands
+
+-- whether no operation that stands neither at x nor within it uses a value from there
+abbrev pub unused_outside : {N T A : Type 0} → ℕ → OpOf N T A → Bool
+unused_outside x t = every (λ o. leaves_within (find x t) (head o)) (without x t)
+
+-- whether each operation that uses the first value sees the second
+abbrev pub users_see : {N T A : Type 0} → (N → Bool) → Value → Value → OpOf N T A → Bool
+users_see isolated old new t = list_all (λ u. visible isolated t u.0 new) (uses_of old t)
 
 -- whether a dictionary has room for one more entry, or has the key already
 abbrev pub has_room : {N A : Type 0} → (N → N → Bool) → N → List (N × A) → Bool

@@ -9,7 +9,8 @@ use Rattle.ir_tree.specs.WellFormed.{IsWellFormed, Module as Numbered}
 use Rattle.ir_tree_laws.specs.Values.{has_value, type_of_value}
 use Rattle.ir_tree_laws.proofs.Reasoned.{no_unless}
 use Rattle.ir_tree_laws.proofs.HeadForm.{replaced_keeps}
-use Rattle.machine.specs.Edits.{Replace, edited_by, reason_by, users_see}
+use Rattle.ir_tree_laws.specs.Reasons.{users_see}
+use Rattle.machine.specs.Edits.{Replace, edited_by, reason_by}
 use Rattle.machine.specs.Contents.{tests_in}
 
 pub replace_keeps : (c : Things) (old new : Value) (m : Numbered) → IsWellFormed (isolated_in c) m → reason_by (tests_in c) (Replace old new) m ≡ None → IsWellFormed (isolated_in c) (edited_by (tests_in c) (Replace old new) m)

@@ -1,6 +1,5 @@
 -- Edits of a module as data: what each makes of a module, and why one is refused.
 use Rattle.std.specs.Prelude.{ℕ, ◌+◌, nat_le, eqb, Bool, not, ◌||◌, Option, Some, None, is_some, if◌then◌else◌}
-use Rattle.std.specs.List.{list_all}
 use Rattle.std.specs.Option.{option_eq}
 use Rattle.ir_types.specs.declared.refusal.Refusal.{Refusal}
 use Rattle.ir_types.specs.declared.refusal.Refusal.TheVariants.{NoSuchOp, NoSuchValue, HasUses, NotVisible, TypeDiffers, NoSuchIndex, IsRoot, Full, IdsExhausted, TooDeepHere}
@@ -10,16 +9,14 @@ use Rattle.ir_tree.specs.declared.place.Part.{Part}
 use Rattle.ir_tree.specs.declared.place.Part.TheVariants.{Props, Attrs}
 use Rattle.ir_tree.specs.Tree.{HeadOf, OpOf, head}
 use Rattle.ir_tree.specs.Ids.{find, has_id, op_count}
-use Rattle.ir_tree.specs.Sites.{visible, operands_visible}
-use Rattle.ir_tree.specs.Frames.{owner_of}
+use Rattle.ir_tree.specs.Sites.{operands_visible}
 use Rattle.ir_tree.specs.Limits.{depth, every, most_ops, most_next, op_fits}
-use Rattle.ir_tree.specs.Uses.{uses_of}
 use Rattle.ir_tree.specs.Edits.{with_operand, with_value_replaced, with_entry, entry_at}
 use Rattle.ir_tree.specs.Places.{put, without, shifted}
 use Rattle.ir_tree.specs.WellFormed.{ModuleOf}
 use Rattle.ir_tree_laws.specs.Values.{type_of_value, has_value}
-use Rattle.ir_tree_laws.specs.Reads.{is_within, around}
-use Rattle.ir_tree_laws.specs.Reasons.{unless, has_place, fits_around, with_id, put_reason, set_operand_reason, set_entry_reason, shift_reason}
+use Rattle.ir_tree_laws.specs.Reads.{around}
+use Rattle.ir_tree_laws.specs.Reasons.{unless, has_place, fits_around, with_id, put_reason, unused_outside, users_see, set_operand_reason, set_entry_reason, shift_reason}
 
 -- the tests of names, keys and types by which modules are edited
 pub record TestsOf (N T : Type 0) : Type 0 where
@@ -106,24 +103,12 @@ insert_reason isolated place o free t =
     (unless (fits_around (depth o) (around place.parent t)) TooDeepHere
     (unless (operands_visible isolated (put place o t)) NotVisible None))))))
 
--- whether no operand of a head is a value of an operation that may be there, or of one within it
-abbrev pub leaves_within : {N T A : Type 0} → Option (OpOf N T A) → HeadOf N T A → Bool
-leaves_within o h = list_all (λ v. not (is_within (owner_of v).0 o)) h.operands
-
--- whether no operation that stands neither at x nor within it uses a value from there
-abbrev pub unused_outside : {N T A : Type 0} → ℕ → OpOf N T A → Bool
-unused_outside x t = every (λ o. leaves_within (find x t) (head o)) (without x t)
-
 -- to erase operation x: it isn't there; it is the root; a value from there is used outside it
 abbrev pub erase_reason : {N T A : Type 0} → ℕ → OpOf N T A → Option Refusal
 erase_reason x t =
     unless (has_id x t) NoSuchOp
     (unless (not (eqb (head t).id x)) IsRoot
     (unless (unused_outside x t) HasUses None))
-
--- whether each operation that uses the first value sees the second
-abbrev pub users_see : {N T A : Type 0} → (N → Bool) → Value → Value → OpOf N T A → Bool
-users_see isolated old new t = list_all (λ u. visible isolated t u.0 new) (uses_of old t)
 
 -- to replace a value by another: the first isn't there; the second isn't; their types differ; a user of the first
 -- doesn't see the second
