@@ -1,0 +1,2 @@
+pub mod Benched
+pub mod Rolling
