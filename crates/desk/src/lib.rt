@@ -7,3 +7,4 @@ pub mod desk;
 mod edits;
 pub mod mark;
 mod release;
+mod texts;

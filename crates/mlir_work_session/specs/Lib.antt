@@ -1,5 +1,5 @@
 pub mod RowText
-pub mod Edits
+pub mod Texts
 pub mod Machine
 pub mod Output
 pub mod Ran

@@ -1,31 +1,28 @@
 //! Listeners are attached, in the order in which they are handed in.
 ghost use Rattle.std.specs.Prelude.{◌≡◌, ◌&&◌, is_none};
-ghost use Rattle.ir_event.specs.Modules.{things_in, module_in};
-ghost use Rattle.ir_event.specs.Panels.{AllKept};
 ghost use Rattle.mlir_work_script.specs.Writes.{Puts};
 ghost use Rattle.machine.specs.Panels.{shown, all_shown};
+ghost use Rattle.rewriter_base.specs.Benched.{IsKept};
 ghost use Rattle.mlir_work_session.specs.Output.{Attaches, BoxTried, box_line};
 ghost use Rattle.mlir_work_session.specs.Ran.{AttachedOut};
 
 use crate::listing::kind_of;
 use ir_event::analysis::Analysis;
-use ir_event::laws::kept_listeners_stay_kept;
-use ir_event::panel::Panel;
-use ir_event::world::World;
 use ir_types::refusal::Refusal;
 use mlir_work_script::kind::Kind;
 use mlir_work_script::replies::put_attach_refused;
 use mlir_work_script::writing::WriteFault;
+use rewriter_base::bench::Bench;
 use std::io::Write;
 
 /// Attaches a listener, or answers why not.
-fn attach<L: Analysis>(world: &World, panel: &mut Panel<L>, listener: L) -> Option<Refusal>
-    requires { AllKept L.meaning (things_in world.now) (module_in world.now) panel.old }
-    ensures tried { BoxTried (shown (L.meaning listener)) (all_shown L.meaning panel.old) (all_shown L.meaning panel.new) result }
-    ensures kept { AllKept L.meaning (things_in world.now) (module_in world.now) panel.new }
+fn attach<L: Analysis>(bench: &mut Bench<L>, listener: L) -> Option<Refusal>
+    requires { IsKept L.meaning bench.old }
+    ensures tried { BoxTried (shown (L.meaning listener)) (all_shown L.meaning bench.old.listeners) (all_shown L.meaning bench.new.listeners) result }
+    ensures desk { bench.new.desk ≡ bench.old.desk }
+    ensures kept { IsKept L.meaning bench.new }
 {
-    kept_listeners_stay_kept::<L>();
-    match panel.attach(world, listener) {
+    match bench.attach(listener) {
         Ok(()) => {}
         Err((refusal, _)) => return Some(refusal),
     }
@@ -50,19 +47,19 @@ fn both(accepted: bool, tried: Option<Refusal>) -> bool
 
 /// Attaches listeners in order, and writes a line for each that is refused. It is true where none is.
 pub fn attach_all<L: Analysis, W: Write>(
-    world: &World,
-    panel: &mut Panel<L>,
+    bench: &mut Bench<L>,
     boxes: Vec<L>,
     writer: &mut W,
 ) -> Result<bool, WriteFault>
-    requires { AllKept L.meaning (things_in world.now) (module_in world.now) panel.old }
-    ensures attached { AttachedOut (Attaches (all_shown L.meaning boxes.items) (all_shown L.meaning panel.old)) (all_shown L.meaning panel.new) (W.contents writer.old) (W.contents writer.new) result }
-    ensures kept { AllKept L.meaning (things_in world.now) (module_in world.now) panel.new }
+    requires { IsKept L.meaning bench.old }
+    ensures attached { AttachedOut (Attaches (all_shown L.meaning boxes.items) (all_shown L.meaning bench.old.listeners)) (all_shown L.meaning bench.new.listeners) (W.contents writer.old) (W.contents writer.new) result }
+    ensures desk { bench.new.desk ≡ bench.old.desk }
+    ensures kept { IsKept L.meaning bench.new }
 {
     let mut accepted = true;
     for listener in boxes {
         let kind = kind_of(&listener);
-        let tried = attach(world, panel, listener);
+        let tried = attach(bench, listener);
         match put_tried(writer, kind, tried) {
             Ok(()) => {}
             Err(fault) => return Err(fault),

@@ -1,55 +1,132 @@
-//! Edits of a world by a command, each with its event.
-ghost use Rattle.std.specs.Prelude.{◌≡◌, MatchResult, IfSome, option_map};
-ghost use Rattle.ir_types.specs.Things.{IsName, IsAttr};
-ghost use Rattle.ir_types.specs.Terms.{name_term, attr_term};
-ghost use Rattle.ir_event.specs.Modules.{things_in, module_in};
-ghost use Rattle.machine.specs.Edits.{SetOperand, Move};
-ghost use Rattle.mlir_work_session.specs.Edits.{Made, NotMade, entry_edit};
+//! Commands that edit the module of a bench.
+ghost use Rattle.std.specs.Prelude.{◌≡◌, []};
+ghost use Rattle.machine.specs.Commands.{DropAttr, Erase, Insert, Move, Replace, SetAttr, SetOperand};
+ghost use Rattle.mlir_work_script.specs.Keys.{key_bytes};
+ghost use Rattle.mlir_work_script.specs.Spots.{spot_of};
+ghost use Rattle.rewriter_base.specs.Benched.{IsKept, state_of};
+ghost use Rattle.mlir_work_session.specs.Machine.{Obeys, response_of};
 
-use crate::attributes::part_for;
-use ir_event::event::Event;
-use ir_event::world::World;
-use ir_tree::place::Place;
+use crate::attributes::{entry_of, name_of};
+use crate::operations::operation_of;
+use crate::places::{place_for, spot_for};
+use crate::reply::Reply;
+use crate::replying::{reply_as, reply_to};
+use ir_event::analysis::Analysis;
 use ir_tree::value::Value;
-use ir_types::ids::{AttrId, NameId, OpId};
+use ir_types::ids::OpId;
 use ir_types::refusal::Refusal;
-use world_edits::edits;
+use mlir_work_script::keys::Key;
+use mlir_work_script::spots::Spot;
+use rewriter_base::bench::Bench;
+use rewriter_base::laws::led_benches_are_kept;
+use std::alloc::Global;
 
-/// Makes a value an operand of an operation.
-pub(crate) fn set_operand(
-    world: &mut World,
+/// Sets an operand.
+pub(crate) fn set_operand<L: Analysis>(
+    bench: &mut Bench<L>,
     op: OpId,
     operand: u32,
     value: Value,
-) -> Result<Event, Refusal>
-    ensures ctx { things_in world.new ≡ things_in world.old }
-    ensures edit { MatchResult result (λ e. Made (things_in world.old) (SetOperand op operand value) (module_in world.old) (module_in world.new) e) (λ refusal. NotMade (SetOperand op operand value) (module_in world.old) (module_in world.new) refusal) }
+) -> Reply
+    requires { IsKept L.meaning bench.old }
+    ensures obeys { Obeys (state_of L.meaning bench.old) (SetOperand op operand value) (response_of result) [] (state_of L.meaning bench.new) }
+    ensures kept { IsKept L.meaning bench.new }
 {
-    edits::set_operand(world, op, operand, value)
+    led_benches_are_kept::<L>();
+    reply_to(bench.set_operand(op, operand, value))
 }
 
-/// Moves an operation, with what is inside it, to a place.
-pub(crate) fn move_op(world: &mut World, op: OpId, place: Place) -> Result<Event, Refusal>
-    ensures ctx { things_in world.new ≡ things_in world.old }
-    ensures edit { MatchResult result (λ e. Made (things_in world.old) (Move op place) (module_in world.old) (module_in world.new) e) (λ refusal. NotMade (Move op place) (module_in world.old) (module_in world.new) refusal) }
+/// Sets one value in place of another, wherever it is used.
+pub(crate) fn replace<L: Analysis>(bench: &mut Bench<L>, old: Value, new: Value) -> Reply
+    requires { IsKept L.meaning bench.old }
+    ensures obeys { Obeys (state_of L.meaning bench.old) (Replace old new) (response_of result) [] (state_of L.meaning bench.new) }
+    ensures kept { IsKept L.meaning bench.new }
 {
-    edits::shift(world, op, place)
+    led_benches_are_kept::<L>();
+    reply_to(rewriter::replace::replace_all(bench, old, new))
 }
 
-/// Sets an entry of an operation, or takes it out, in the dictionary in which its key belongs.
-pub(crate) fn set_entry(
-    world: &mut World,
+/// Takes an operation away, with what is inside it.
+pub(crate) fn erase<L: Analysis>(bench: &mut Bench<L>, op: OpId) -> Reply
+    requires { IsKept L.meaning bench.old }
+    ensures obeys { Obeys (state_of L.meaning bench.old) (Erase op) (response_of result) [] (state_of L.meaning bench.new) }
+    ensures kept { IsKept L.meaning bench.new }
+{
+    led_benches_are_kept::<L>();
+    reply_to(rewriter::erase::erase(bench, op))
+}
+
+/// Moves an operation to the place that is named.
+pub(crate) fn move_op<L: Analysis>(bench: &mut Bench<L>, op: OpId, spot: &Spot) -> Reply
+    requires { IsKept L.meaning bench.old }
+    ensures obeys { Obeys (state_of L.meaning bench.old) (Move op (spot_of spot.now)) (response_of result) [] (state_of L.meaning bench.new) }
+    ensures kept { IsKept L.meaning bench.new }
+{
+    led_benches_are_kept::<L>();
+    let place = match place_for(&bench.world().store, op, spot) {
+        Ok(place) => place,
+        Err(refusal) => return Reply::Refused(refusal),
+    };
+    reply_to(bench.move_op(op, place))
+}
+
+/// Inserts the operation that a text spells at the place that is named.
+pub(crate) fn insert<L: Analysis>(
+    alloc: Global,
+    bench: &mut Bench<L>,
+    spot: &Spot,
+    text: &[u8],
+) -> Reply
+    requires { IsKept L.meaning bench.old }
+    ensures obeys { Obeys (state_of L.meaning bench.old) (Insert (spot_of spot.now) text.now) (response_of result) [] (state_of L.meaning bench.new) }
+    ensures kept { IsKept L.meaning bench.new }
+{
+    led_benches_are_kept::<L>();
+    let tree = match operation_of(alloc, bench, text) {
+        Ok(tree) => tree,
+        Err(reply) => return reply,
+    };
+    let place = match spot_for(&bench.world().store, spot) {
+        Ok(place) => place,
+        Err(refusal) => return Reply::Refused(refusal),
+    };
+    reply_as(rewriter::insert::insert(alloc, bench, place, &tree))
+}
+
+/// Sets an entry of an operation to the attribute that a text spells.
+pub(crate) fn set_attr<L: Analysis>(
+    alloc: Global,
+    bench: &mut Bench<L>,
     op: OpId,
-    key: NameId,
-    value: Option<AttrId>,
-) -> Result<Event, Refusal>
-    requires key { IsName world.old.ctx key }
-    requires value { IfSome value (λ a. IsAttr world.old.ctx a) }
-    ensures ctx { things_in world.new ≡ things_in world.old }
-    ensures edit { MatchResult result
-        (λ e. Made (things_in world.old) (entry_edit op (name_term world.old.ctx key) (option_map (attr_term world.old.ctx) value)) (module_in world.old) (module_in world.new) e)
-        (λ refusal. NotMade (entry_edit op (name_term world.old.ctx key) (option_map (attr_term world.old.ctx) value)) (module_in world.old) (module_in world.new) refusal) }
+    key: &Key<'_>,
+    text: &[u8],
+) -> Reply
+    requires { IsKept L.meaning bench.old }
+    ensures obeys { Obeys (state_of L.meaning bench.old) (SetAttr op (key_bytes key.now) text.now) (response_of result) [] (state_of L.meaning bench.new) }
+    ensures kept { IsKept L.meaning bench.new }
 {
-    let part = part_for(&world.ctx, &world.store, op, key);
-    edits::set_entry(world, op, part, key, value)
+    led_benches_are_kept::<L>();
+    let (key, attribute) = match entry_of(alloc, bench, key, text) {
+        Ok(entry) => entry,
+        Err(reply) => return reply,
+    };
+    reply_to(bench.set_attr(op, key, attribute))
+}
+
+/// Takes an entry of an operation out.
+pub(crate) fn drop_attr<L: Analysis>(
+    alloc: Global,
+    bench: &mut Bench<L>,
+    op: OpId,
+    key: &Key<'_>,
+) -> Reply
+    requires { IsKept L.meaning bench.old }
+    ensures obeys { Obeys (state_of L.meaning bench.old) (DropAttr op (key_bytes key.now)) (response_of result) [] (state_of L.meaning bench.new) }
+    ensures kept { IsKept L.meaning bench.new }
+{
+    led_benches_are_kept::<L>();
+    let Some(key) = name_of(alloc, bench, key) else {
+        return Reply::Refused(Refusal::Memory);
+    };
+    reply_to(bench.drop_attr(op, key))
 }

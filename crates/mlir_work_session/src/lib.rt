@@ -4,12 +4,17 @@
 
 mod attributes;
 pub mod boxes;
-pub mod desk;
+pub mod commands;
 mod edits;
 pub mod listing;
+mod marks;
+mod operations;
 mod places;
 pub mod prints;
 pub mod reply;
+mod replying;
 mod rows;
 pub mod script;
 pub mod session;
+pub mod shows;
+mod unread;

@@ -5,17 +5,17 @@ ghost use Rattle.ir_event.specs.Panels.{AllKept};
 ghost use Rattle.mlir_work_script.specs.Replies.{kind_line};
 ghost use Rattle.mlir_work_script.specs.Writes.{Puts, PutsSome};
 ghost use Rattle.machine.specs.Panels.{shown, all_shown};
-ghost use Rattle.mlir_work_session.specs.Machine.{state_of};
+ghost use Rattle.rewriter_base.specs.Benched.{IsKept, state_of};
 ghost use Rattle.mlir_work_session.specs.Output.{IsModule, IsKind, AreKinds, IsListing};
 
-use crate::desk::{text_of_module, text_of_report};
+use crate::shows::{text_of_module, text_of_report};
 use ir_event::analysis::Analysis;
-use ir_event::panel::Panel;
 use ir_event::row::ReportFault;
 use ir_event::world::World;
 use mlir_work_script::kind::Kind;
 use mlir_work_script::replies::{put_kind, put_kind_memory, put_module_memory, put_stale};
 use mlir_work_script::writing::{WriteFault, put};
+use rewriter_base::bench::Bench;
 use std::alloc::Global;
 use std::io::Write;
 
@@ -85,15 +85,14 @@ fn put_listeners<L: Analysis, W: Write>(
 /// Writes the module and the rows of each listener.
 pub fn put_listing<L: Analysis, W: Write>(
     alloc: Global,
-    world: &World,
-    panel: &Panel<L>,
+    bench: &Bench<L>,
     writer: &mut W,
 ) -> Result<(), WriteFault>
-    requires { AllKept L.meaning (things_in world.now) (module_in world.now) panel.now }
-    ensures { PutsSome (IsListing (state_of L.meaning world.now panel.now)) (W.contents writer.old) (W.contents writer.new) result }
+    requires { IsKept L.meaning bench.now }
+    ensures { PutsSome (IsListing (state_of L.meaning bench.now)) (W.contents writer.old) (W.contents writer.new) result }
 {
-    match put_module(alloc, world, writer) {
-        Ok(()) => put_listeners(alloc, world, panel.listeners(), writer),
+    match put_module(alloc, bench.world(), writer) {
+        Ok(()) => put_listeners(alloc, bench.world(), bench.listeners(), writer),
         Err(fault) => Err(fault),
     }
 }

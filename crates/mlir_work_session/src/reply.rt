@@ -3,6 +3,7 @@ ghost use Rattle.std.specs.Prelude.{◌≡◌};
 ghost use Rattle.mlir_work_session.specs.Machine.{response_of};
 ghost use Rattle.mlir_work_session.specs.Output.{is_accepted as accepts};
 
+use ir_types::ids::OpId;
 use ir_types::refusal::Refusal;
 
 /// The reply to a command.
@@ -10,6 +11,8 @@ use ir_types::refusal::Refusal;
 pub enum Reply {
     /// It was accepted.
     Done,
+    /// It was accepted, and made this operation.
+    DoneAs(OpId),
     /// It was refused, and the module is as it was.
     Refused(Refusal),
     /// Its text was refused, so many bytes behind its first, and the module is as it was.
@@ -23,6 +26,7 @@ impl Reply {
     {
         match self {
             Reply::Done => true,
+            Reply::DoneAs(_) => true,
             Reply::Refused(_) => false,
             Reply::RefusedAt(_, _) => false,
         }

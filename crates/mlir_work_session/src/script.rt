@@ -1,25 +1,24 @@
 //! Scripts, over a module and its listeners.
 ghost use Rattle.std.specs.Prelude.{◌≡◌, false, ◌&&◌, not};
-ghost use Rattle.ir_event.specs.Modules.{things_in, module_in};
-ghost use Rattle.ir_event.specs.Panels.{AllKept};
 ghost use Rattle.mlir_work_script.specs.Commands.{said_of, spoken_of};
 ghost use Rattle.mlir_work_script.specs.Lines.{lines_of};
 ghost use Rattle.mlir_work_script.specs.Writes.{Puts, PutsSome};
-ghost use Rattle.mlir_work_session.specs.Machine.{response_of, state_of};
+ghost use Rattle.rewriter_base.specs.Benched.{IsKept, state_of};
+ghost use Rattle.mlir_work_session.specs.Machine.{response_of};
 ghost use Rattle.mlir_work_session.specs.Output.{Runs, Replies, IsReplied, asks as asks_to, says_nothing, shows_alone, reply_line};
 ghost use Rattle.mlir_work_session.specs.Ran.{RanOut};
 
-use crate::desk::{Answered, obey};
+use crate::commands::obey;
 use crate::listing::put_listing;
 use crate::reply::Reply;
+use crate::shows::Answered;
 use ir_event::analysis::Analysis;
-use ir_event::panel::Panel;
-use ir_event::world::World;
 use ir_types::refusal::Refusal;
 use mlir_work_script::command::{Command, Line, read_line};
 use mlir_work_script::lines::split_line;
-use mlir_work_script::replies::{put_ok, put_refused, put_refused_at};
+use mlir_work_script::replies::{put_made, put_ok, put_refused, put_refused_at};
 use mlir_work_script::writing::{WriteFault, put};
+use rewriter_base::bench::Bench;
 use std::alloc::Global;
 use std::io::Write;
 
@@ -70,17 +69,16 @@ pub(crate) fn both(a: bool, b: bool) -> bool
 /// What a line that isn't nothing is answered.
 fn answer<L: Analysis>(
     alloc: Global,
-    world: &mut World,
-    panel: &mut Panel<L>,
+    bench: &mut Bench<L>,
     line: &Line<'_>,
 ) -> Answered
-    requires kept { AllKept L.meaning (things_in world.old) (module_in world.old) panel.old }
+    requires kept { IsKept L.meaning bench.old }
     requires something { says_nothing (spoken_of line.now) ≡ false }
-    ensures replies { Replies (state_of L.meaning world.old panel.old) (spoken_of line.now) (response_of result.reply) result.shows.items (state_of L.meaning world.new panel.new) }
-    ensures kept { AllKept L.meaning (things_in world.new) (module_in world.new) panel.new }
+    ensures replies { Replies (state_of L.meaning bench.old) (spoken_of line.now) (response_of result.reply) result.shows.items (state_of L.meaning bench.new) }
+    ensures kept { IsKept L.meaning bench.new }
 {
     match line {
-        Line::Obey(command) => obey(alloc, world, panel, command),
+        Line::Obey(command) => obey(alloc, bench, command),
         Line::Nothing | Line::Bad => Answered {
             reply: Reply::Refused(Refusal::BadCommand),
             shows: Vec::new(alloc),
@@ -94,6 +92,7 @@ pub(crate) fn put_reply<W: Write>(writer: &mut W, n: u64, reply: Reply) -> Resul
 {
     match reply {
         Reply::Done => put_ok(writer, n),
+        Reply::DoneAs(op) => put_made(writer, n, op),
         Reply::Refused(refusal) => put_refused(writer, n, refusal),
         Reply::RefusedAt(refusal, offset) => put_refused_at(writer, n, refusal, offset),
     }
@@ -103,14 +102,13 @@ pub(crate) fn put_reply<W: Write>(writer: &mut W, n: u64, reply: Reply) -> Resul
 fn put_answer<L: Analysis, W: Write>(
     alloc: Global,
     listed: bool,
-    world: &World,
-    panel: &Panel<L>,
+    bench: &Bench<L>,
     n: u64,
     answered: &Answered,
     writer: &mut W,
 ) -> Result<(), WriteFault>
-    requires { AllKept L.meaning (things_in world.now) (module_in world.now) panel.now }
-    ensures { PutsSome (IsReplied listed (state_of L.meaning world.now panel.now) n (response_of answered.now.reply) answered.now.shows.items) (W.contents writer.old) (W.contents writer.new) result }
+    requires { IsKept L.meaning bench.now }
+    ensures { PutsSome (IsReplied listed (state_of L.meaning bench.now) n (response_of answered.now.reply) answered.now.shows.items) (W.contents writer.old) (W.contents writer.new) result }
 {
     match put_reply(writer, n, answered.reply) {
         Ok(()) => {}
@@ -121,7 +119,7 @@ fn put_answer<L: Analysis, W: Write>(
         Err(fault) => return Err(fault),
     }
     if listed {
-        return put_listing(alloc, world, panel, writer);
+        return put_listing(alloc, bench, writer);
     }
     Ok(())
 }
@@ -131,13 +129,12 @@ fn put_answer<L: Analysis, W: Write>(
 pub fn run_script<L: Analysis, W: Write>(
     alloc: Global,
     brief: bool,
-    world: &mut World,
-    panel: &mut Panel<L>,
+    bench: &mut Bench<L>,
     script: &[u8],
     writer: &mut W,
 ) -> Result<u8, WriteFault>
-    requires { AllKept L.meaning (things_in world.old) (module_in world.old) panel.old }
-    ensures { RanOut (Runs brief 1 (state_of L.meaning world.old panel.old) (lines_of script.now)) (W.contents writer.old) (W.contents writer.new) result }
+    requires { IsKept L.meaning bench.old }
+    ensures { RanOut (Runs brief 1 (state_of L.meaning bench.old) (lines_of script.now)) (W.contents writer.old) (W.contents writer.new) result }
 {
     let mut text = script;
     let mut n = 1u64;
@@ -149,9 +146,9 @@ pub fn run_script<L: Analysis, W: Write>(
         if is_nothing(&line) {
             continue;
         }
-        let answered = answer(alloc, world, panel, &line);
+        let answered = answer(alloc, bench, &line);
         let listed = is_listed(brief, &line);
-        match put_answer(alloc, listed, world, panel, n, &answered, writer) {
+        match put_answer(alloc, listed, bench, n, &answered, writer) {
             Ok(()) => {}
             Err(fault) => return Err(fault),
         }

@@ -1,6 +1,8 @@
 //! A module that was read: listeners are attached to it, and a script is run over it.
 ghost use Rattle.std.specs.Prelude.{◌≡◌, [], if◌then◌else◌};
 ghost use Rattle.ir_event.specs.Modules.{module_in};
+ghost use Rattle.journals.specs.Journals.{IsSlotted, IsTidy};
+ghost use Rattle.desk.specs.Held.{module_held, open_marks};
 ghost use Rattle.machine.specs.Panels.{all_shown};
 ghost use Rattle.mlir_work_session.specs.Output.{IsSession, IsBadScript, Session, worse as worst};
 ghost use Rattle.mlir_work_session.specs.Ran.{RanOut};
@@ -8,12 +10,12 @@ ghost use Rattle.mlir_work_session.specs.Ran.{RanOut};
 use crate::boxes::attach_all;
 use crate::script::run_script;
 use ir_event::analysis::Analysis;
-use ir_event::panel::Panel;
 use ir_event::world::World;
 use ir_types::refusal::Refusal;
 use mlir_work_script::input::script_is_too_long;
 use mlir_work_script::replies::put_refused;
 use mlir_work_script::writing::WriteFault;
+use rewriter_base::bench::Bench;
 use std::alloc::Global;
 use std::io::Write;
 
@@ -27,20 +29,20 @@ fn worse(accepted: bool, status: u8) -> u8
 fn attach_and_run<L: Analysis, W: Write>(
     alloc: Global,
     brief: bool,
-    world: &mut World,
-    panel: &mut Panel<L>,
+    bench: &mut Bench<L>,
     script: &[u8],
     writer: &mut W,
     boxes: Vec<L>,
 ) -> Result<u8, WriteFault>
-    requires { panel.old ≡ [] }
-    ensures { RanOut (Session brief (all_shown L.meaning boxes.items) (module_in world.old) script.now) (W.contents writer.old) (W.contents writer.new) result }
+    requires none { bench.old.listeners ≡ [] }
+    requires unmarked { open_marks bench.old.desk ≡ [] }
+    ensures { RanOut (Session brief (all_shown L.meaning boxes.items) (module_held bench.old.desk) script.now) (W.contents writer.old) (W.contents writer.new) result }
 {
-    let accepted = match attach_all(world, panel, boxes, writer) {
+    let accepted = match attach_all(bench, boxes, writer) {
         Ok(accepted) => accepted,
         Err(fault) => return Err(fault),
     };
-    match run_script(alloc, brief, world, panel, script, writer) {
+    match run_script(alloc, brief, bench, script, writer) {
         Ok(status) => Ok(worse(accepted, status)),
         Err(fault) => Err(fault),
     }
@@ -56,24 +58,6 @@ fn refuse_script<W: Write>(writer: &mut W) -> Result<u8, WriteFault>
     }
 }
 
-/// The same for a script that isn't too long, of a panel that is made for it; else the script is refused.
-fn answer_script<L: Analysis, W: Write>(
-    alloc: Global,
-    brief: bool,
-    world: &mut World,
-    script: &[u8],
-    writer: &mut W,
-    boxes: Vec<L>,
-) -> Result<u8, WriteFault>
-    ensures { RanOut (IsSession brief (all_shown L.meaning boxes.items) (module_in world.old) script.now) (W.contents writer.old) (W.contents writer.new) result }
-{
-    if script_is_too_long(script) {
-        return refuse_script(writer);
-    }
-    let mut panel = Panel::new(alloc);
-    attach_and_run(alloc, brief, world, &mut panel, script, writer, boxes)
-}
-
 /// Attaches listeners to a module, in order, and runs a script over it; writes as it goes. The status is 1
 /// where a listener or a command was refused, and else 0. A script over its limit is one bad command.
 pub fn run_session<L: Analysis, W: Write>(
@@ -84,8 +68,13 @@ pub fn run_session<L: Analysis, W: Write>(
     writer: &mut W,
     boxes: Vec<L>,
 ) -> Result<u8, WriteFault>
+    requires slotted { IsSlotted world.store }
+    requires tidy { IsTidy world.store }
     ensures { RanOut (IsSession brief (all_shown L.meaning boxes.items) (module_in world) script.now) (W.contents writer.old) (W.contents writer.new) result }
 {
-    let mut world = world;
-    answer_script(alloc, brief, &mut world, script, writer, boxes)
+    if script_is_too_long(script) {
+        return refuse_script(writer);
+    }
+    let mut bench = Bench::new(alloc, world);
+    attach_and_run(alloc, brief, &mut bench, script, writer, boxes)
 }

@@ -6,4 +6,5 @@ mod edits;
 mod entries;
 mod listeners;
 mod marks;
+mod texts;
 pub mod laws;

@@ -1,0 +1,21 @@
+//! The module of a store, beside which the text of an operation is read.
+use crate::store::Store;
+use ir_tree::outer::Outer;
+use ir_tree::value::Value;
+use ir_types::ids::TypeId;
+
+impl Outer for Store {
+    ghost use Rattle.ir_tree_laws.specs.Values.{type_of_value};
+
+    ghost types = { λ s v. type_of_value v s.module_of.tree };
+
+    ghost next = { λ s. s.module_of.next };
+
+    fn value_type(&self, value: Value) -> Option<TypeId> {
+        Store::value_type(self, &value)
+    }
+
+    fn next_id(&self) -> u32 {
+        Store::next_id(self)
+    }
+}

@@ -1,0 +1,21 @@
+-- Texts that commands hand in, and contexts that grow with what they name.
+use Rattle.std.specs.Prelude.{◌≡◌, ℕ, List, Option}
+use Rattle.ir_types.specs.Sound.{Holds}
+use Rattle.ir_types.specs.Things.{Grows}
+use Rattle.ir_types.specs.declared.refusal.Refusal.{Refusal}
+use Rattle.ir_event.specs.Listener.{Listener}
+use Rattle.machine.specs.Commands.{TextRefused, Response, text_response}
+use Rattle.rewriter_base.specs.Benched.{Benched, IsKept, state_of}
+
+-- the context of a bench grew, and its module, marks and analyses stayed
+pub record Grown {B : Type 0} (meaning : B → Listener) (old new : Benched B) : Type 0 where
+  pub grows : Grows old.desk.ctx new.desk.ctx
+  pub before : Holds old.desk.ctx
+  pub after : Holds new.desk.ctx
+  pub same : state_of meaning new ≡ state_of meaning old
+  pub next : new.desk.store.module_of.next ≡ old.desk.store.module_of.next
+  pub kept : IsKept meaning old → IsKept meaning new
+
+-- a text that should spell one of some things was refused, with this response
+abbrev pub NotRead : {X : Type 0} → (X → Type 0) → Response → Type 0
+NotRead Spelled response = (refusal : Refusal) × (offset : Option ℕ) × TextRefused Spelled refusal offset × (response ≡ text_response refusal offset)

@@ -1,0 +1,43 @@
+//! The commands of a script, over a bench.
+ghost use Rattle.std.specs.Prelude.{◌≡◌};
+ghost use Rattle.mlir_work_script.specs.Commands.{said_of};
+ghost use Rattle.rewriter_base.specs.Benched.{IsKept, state_of};
+ghost use Rattle.mlir_work_session.specs.Machine.{Obeys, response_of};
+
+use crate::edits;
+use crate::marks;
+use crate::shows::{Answered, plain, show_module, show_rows};
+use ir_event::analysis::Analysis;
+use mlir_work_script::command::Command;
+use rewriter_base::bench::Bench;
+use std::alloc::Global;
+
+/// Obeys a command, or leaves the module as it is.
+pub fn obey<L: Analysis>(alloc: Global, bench: &mut Bench<L>, command: &Command<'_>) -> Answered
+    requires { IsKept L.meaning bench.old }
+    ensures obeys { Obeys (state_of L.meaning bench.old) (said_of command.now) (response_of result.reply) result.shows.items (state_of L.meaning bench.new) }
+    ensures kept { IsKept L.meaning bench.new }
+{
+    match command {
+        Command::Report(kind) => show_rows(alloc, bench, *kind),
+        Command::Print => show_module(alloc, bench),
+        Command::SetOperand { op, operand, value } => {
+            plain(alloc, edits::set_operand(bench, *op, *operand, *value))
+        }
+        Command::Replace { old, new } => plain(alloc, edits::replace(bench, *old, *new)),
+        Command::Erase(op) => plain(alloc, edits::erase(bench, *op)),
+        Command::Move { op, spot } => plain(alloc, edits::move_op(bench, *op, spot)),
+        Command::Insert { spot, operation } => {
+            plain(alloc, edits::insert(alloc, bench, spot, operation))
+        }
+        Command::SetAttr { op, key, attribute } => {
+            plain(alloc, edits::set_attr(alloc, bench, *op, key, attribute))
+        }
+        Command::DropAttr { op, key } => plain(alloc, edits::drop_attr(alloc, bench, *op, key)),
+        Command::Begin => plain(alloc, marks::begin(bench)),
+        Command::Commit => plain(alloc, marks::commit(bench)),
+        Command::Rollback => plain(alloc, marks::rollback(bench)),
+        Command::Detach(kind) => plain(alloc, marks::detach(bench, *kind)),
+        Command::Resync(kind) => plain(alloc, marks::resync(bench, *kind)),
+    }
+}

@@ -1,0 +1,29 @@
+//! How a call of the bench is replied to.
+ghost use Rattle.std.specs.Prelude.{◌≡◌};
+ghost use Rattle.machine.specs.Commands.{Replied};
+ghost use Rattle.rewriter_base.specs.Benched.{id_reply_of, reply_of};
+ghost use Rattle.mlir_work_session.specs.Machine.{response_of};
+
+use crate::reply::Reply;
+use ir_types::ids::OpId;
+use ir_types::refusal::Refusal;
+
+/// The reply to a call that changes.
+pub(crate) fn reply_to(called: Result<(), Refusal>) -> Reply
+    ensures { response_of result ≡ Replied (reply_of called) }
+{
+    match called {
+        Ok(()) => Reply::Done,
+        Err(refusal) => Reply::Refused(refusal),
+    }
+}
+
+/// The reply to a call that makes an operation.
+pub(crate) fn reply_as(called: Result<OpId, Refusal>) -> Reply
+    ensures { response_of result ≡ Replied (id_reply_of called) }
+{
+    match called {
+        Ok(op) => Reply::DoneAs(op),
+        Err(refusal) => Reply::Refused(refusal),
+    }
+}

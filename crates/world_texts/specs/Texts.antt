@@ -1,0 +1,27 @@
+-- Texts that are read beside a module, in a context that grows.
+use Rattle.std.specs.Prelude.{◌≡◌, ℕ, List, Option, option_map, option_and_then}
+use Rattle.ir_types.specs.Sound.{Holds}
+use Rattle.ir_types.specs.Things.{Grows}
+use Rattle.ir_tree.specs.Meaning.{Operation}
+use Rattle.ir_tree_laws.specs.Values.{type_of_value}
+use Rattle.ir_event.specs.declared.world.World.{World}
+use Rattle.ir_event.specs.Modules.{Module, module_in}
+use Rattle.ir_text_operations.specs.Free.{value_named}
+use Rattle.ir_text_operations.specs.Seen.{BoundTerm}
+use Rattle.ir_text_operations.specs.Spelling.{SpellsOp}
+
+-- the context of a world grew, and its module stayed
+pub record Grown (v w : World) : Type 0 where
+  pub grows : Grows v.ctx w.ctx
+  pub before : Holds v.ctx
+  pub after : Holds w.ctx
+  pub same : module_in w ≡ module_in v
+  pub store : w.store ≡ v.store
+
+-- what a name stands for that an operation's text leaves free: a value of the module
+abbrev pub free_in : Operation → List ℕ → Option BoundTerm
+free_in t name = option_and_then (λ v. option_map (λ type. record { value = v; type = type }) (type_of_value v t)) (value_named name)
+
+-- the operation that a text spells beside a module
+abbrev pub SpellsBeside : Module → List ℕ → Operation → Type 0
+SpellsBeside m bytes o = SpellsOp (free_in m.tree) m.next bytes o

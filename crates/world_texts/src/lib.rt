@@ -1,0 +1,4 @@
+//! Texts of attributes and operations, read beside a world's module.
+#![tactic(auto)]
+
+pub mod texts;
