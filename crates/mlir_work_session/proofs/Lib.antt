@@ -1,7 +1,5 @@
-pub mod Editing
 pub mod Spots
 pub mod Panels
-pub mod Follow
 pub mod Reading
 pub mod Obeying
 pub mod Listings

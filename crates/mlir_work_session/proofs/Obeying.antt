@@ -1,113 +1,85 @@
 -- How commands are answered.
-use Rattle.std.proofs.Common.{◌≡◌, ◌∙◌, sym, ap, subst, refl, inl, inr, ◌⊎◌, ℕ, List, [], ◌∷◌, Bool, true, false, cond, Option, Some, None, Result, Ok, Err, IsTrue, arith}
-use Rattle.std.specs.Prelude.{position, remove, is_some, option_map}
-use Rattle.std.specs.List.{AllZip, find}
+use Rattle.std.proofs.Common.{◌≡◌, ◌∙◌, sym, ap, subst, refl, inl, inr, ℕ, List, [], ◌∷◌, Option, Some, None, Result, Ok, Err, IsTrue, arith}
+use Rattle.std.specs.Prelude.{position, remove, is_some, option_map, false, true}
+use Rattle.std.specs.List.{find}
 use Rattle.ir_types.specs.declared.refusal.Refusal.{Refusal}
 use Rattle.ir_types.specs.declared.refusal.Refusal.TheVariants.{Memory, NoSuchKind, TooMany, Stale}
-use Rattle.ir_types.specs.Terms.{AttrTerm}
-use Rattle.ir_types.specs.Things.{Things}
 use Rattle.ir_tree.specs.declared.place.Place.{Place}
-use Rattle.ir_tree.specs.declared.value.Value.{Value}
+use Rattle.ir_tree.specs.Meaning.{Operation}
 use Rattle.ir_event.specs.Listener.{Listener}
-use Rattle.ir_event.specs.Modules.{Module}
-use Rattle.ir_event.specs.declared.event.Event.{Event}
+use Rattle.ir_event.specs.Panels.{is_kind as has_this_kind}
 use Rattle.ir_text.specs.Printing.{text_of}
 use Rattle.ir_text_attributes.specs.Spelling.{SpellsAttr}
+use Rattle.world_texts.specs.Texts.{SpellsBeside}
+use Rattle.desk.specs.Held.{module_held}
+use Rattle.rewriter_base.specs.Benched.{Benched, state_of}
 use Rattle.machine.specs.Commands as command
-use Rattle.machine.specs.Commands.{Command, Ask, Misplaced, Unread, Asks, Response, Replied, TextRefusedAt, text_response, Follows, TextRefused}
-use Rattle.machine.specs.Contents.{Edit, edit_reason, edited}
+use Rattle.machine.specs.Commands.{Command, Ask, Misplaced, Unread, Asks, Response, Replied, TextRefusedAt, TextRefused}
 use Rattle.machine.specs.Edits as edit
 use Rattle.machine.specs.Machine as call
-use Rattle.machine.specs.Machine.{State, OpenMark, Call, Do, Reply, Done, Refused, Shows, Nothing, Rows, Tree, Answer, Goes, due, due_edit, due_report, due_commit, due_rollback, refused, showing, accepted, grows, IsAnswer, PanelGoes}
-use Rattle.machine.specs.Panels.{Shown, AllAge, Detached, BegunAgain, is_kind, has_kind, shown, all_shown}
-use Rattle.ir_event.specs.Panels.{NotBegunAgain, is_kind as has_this_kind, has_kind as panel_has}
+use Rattle.machine.specs.Machine.{State, OpenMark, Call, Do, Reply, Done, Refused, Shows, Nothing, Rows, Tree, Answer, Goes, due, due_rollback, grows_under, PanelGoes}
+use Rattle.machine.specs.Panels.{Shown, is_kind, has_kind, shown}
 use Rattle.machine.specs.Spots.{Spot, spot_place}
-use Rattle.mlir_work_session.specs.Edits.{Made, NotMade, NotRead}
-use Rattle.mlir_work_session.specs.Machine.{Obeys, SpellsBeside, shows_text}
+use Rattle.mlir_work_session.specs.Texts.{NotRead}
+use Rattle.mlir_work_session.specs.Machine.{Obeys, shows_text}
 use Rattle.mlir_work_session.specs.RowText.{rows_text}
-use Rattle.mlir_work_session.proofs.Panels.{all_stay, kind_shown, find_shown, begun_shown}
-
--- a state without marks
-abbrev pub at : Module → List Shown → State
-at m ks = record { held = m; marks = []; panel = ks }
+use Rattle.mlir_work_session.proofs.Panels.{all_stay, find_shown}
 
 -- a command that comes to a call
 pub obeys_call : (s t : State) (c : Command) (call : Call) (reply : Reply) (shows : Shows) → Asks SpellsBeside SpellsAttr c s.held (Ask call) → Goes s call reply shows t → Obeys s c (Replied reply) (shows_text shows) t
 obeys_call s t c call reply shows asks goes = record { asked = Ask call; shows = shows; asks = asks; follows = goes; text = refl }
 
--- an edit that was made, and of which the analyses were told
-edit_goes : (e : Edit) (m n : Module) (ks ls : List Shown) → accepted e m ≡ Done → edit_reason e m ≡ None → n ≡ edited e m → AllAge ks ls → Goes (at m ks) (Do e) Done Nothing (at n ls)
-edit_goes e m n ks ls is free after ages = record { answer = inl (rw (free, after, is) refl); panel = ages }
-
-pub obeys_made : (c : Things) (e : Edit) (what : Event) (m n : Module) (ks ls : List Shown) (said : Command) → accepted e m ≡ Done → Asks SpellsBeside SpellsAttr said m (Ask (Do e)) → Made c e m n what → AllAge ks ls → Obeys (at m ks) said (Replied Done) [] (at n ls)
-obeys_made c e what m n ks ls said is asks made ages = obeys_call (at m ks) (at n ls) said (Do e) Done Nothing asks (edit_goes e m n ks ls is made.free made.after ages)
-
--- one that was refused
-refused_goes : (e : Edit) (m n : Module) (ks : List Shown) (refusal : Refusal) → NotMade e m n refusal → Goes (at m ks) (Do e) (Refused refusal) Nothing (at n ks)
-refused_goes e m n ks refusal h = record { answer = go h.why; panel = all_stay ks }
-  where
-    go : (edit_reason e m ≡ Some refusal) ⊎ (IsTrue (grows e) × (refusal ≡ Memory)) → IsAnswer (at m ks) (Do e) (record { reply = Refused refusal; shows = Nothing; held = n; marks = [] })
-    go (inl why) = inl (rw (why, h.left) refl)
-    go (inr (grow, memory)) = inr (grow, rw (memory, h.left) refl)
-
-pub obeys_refused : (e : Edit) (m n : Module) (ks : List Shown) (refusal : Refusal) (said : Command) → Asks SpellsBeside SpellsAttr said m (Ask (Do e)) → NotMade e m n refusal → Obeys (at m ks) said (Replied (Refused refusal)) [] (at n ks)
-obeys_refused e m n ks refusal said asks h = obeys_call (at m ks) (at n ks) said (Do e) (Refused refusal) Nothing asks (refused_goes e m n ks refusal h)
-
--- an entry that isn't dropped since its key finds no memory
-pub obeys_unnamed : (x : ℕ) (key : List ℕ) (m n : Module) (ks : List Shown) → n ≡ m → Obeys (at m ks) (command.DropAttr x key) (Replied (Refused Memory)) [] (at n ks)
-obeys_unnamed x key m n ks same = obeys_refused (edit.DropAttr x key) m n ks Memory (command.DropAttr x key) refl (record { left = same; why = inr (refl, refl) })
+-- one below which nothing is shown, with the response that its reply is
+pub obeys_plain : (s t : State) (c : Command) (call : Call) (reply : Reply) (response : Response) → response ≡ Replied reply → Asks SpellsBeside SpellsAttr c s.held (Ask call) → Goes s call reply Nothing t → Obeys s c response [] t
+obeys_plain s t c call reply response is asks goes = rw is (obeys_call s t c call reply Nothing asks goes)
 
 -- a place that is refused, and a text
-pub obeys_misplaced : (x : ℕ) (spot : Spot) (m : Module) (ks : List Shown) (refusal : Refusal) → spot_place (Some x) spot m.tree ≡ Err refusal → Obeys (at m ks) (command.Move x spot) (Replied (Refused refusal)) [] (at m ks)
-obeys_misplaced x spot m ks refusal e = record { asked = Misplaced refusal; shows = Nothing; asks = e; follows = (refl, refl, refl); text = refl }
+pub obeys_misplaced : (x : ℕ) (spot : Spot) (s : State) (refusal : Refusal) → spot_place (Some x) spot s.held.tree ≡ Err refusal → Obeys s (command.Move x spot) (Replied (Refused refusal)) [] s
+obeys_misplaced x spot s refusal e = record { asked = Misplaced refusal; shows = Nothing; asks = e; follows = (refl, refl, refl); text = refl }
 
-pub obeys_unread : (x : ℕ) (key text : List ℕ) (m n : Module) (ks : List Shown) (response : Response) → n ≡ m → NotRead text response → Obeys (at m ks) (command.SetAttr x key text) response [] (at n ks)
-obeys_unread x key text m n ks response same (refusal, offset, why, is) =
-    record { asked = Unread refusal offset; shows = Nothing; asks = why; follows = (is, refl, ap (λ m. at m ks) same); text = refl }
+pub obeys_unread : (x : ℕ) (key text : List ℕ) (s t : State) (response : Response) → t ≡ s → NotRead (SpellsAttr text) response → Obeys s (command.SetAttr x key text) response [] t
+obeys_unread x key text s t response same (refusal, offset, why, is) =
+    record { asked = Unread refusal offset; shows = Nothing; asks = why; follows = (is, refl, same); text = refl }
 
--- ---- the analyses
+pub obeys_unread_op : (spot : Spot) (text : List ℕ) (s t : State) (response : Response) → t ≡ s → NotRead (SpellsBeside s.held text) response → Obeys s (command.Insert spot text) response [] t
+obeys_unread_op spot text s t response same (refusal, offset, why, is) =
+    record { asked = Unread refusal offset; shows = Nothing; asks = why; follows = (is, refl, same); text = refl }
 
-pub obeys_detached : (kind : ℕ) (m : Module) (ks ls : List Shown) → Detached kind ks ls → Obeys (at m ks) (command.Detach kind) (Replied Done) [] (at m ls)
-obeys_detached kind m ks ls h =
-    let there : has_kind kind ks ≡ true = ap is_some h.is in
-    obeys_call (at m ks) (at m ls) (command.Detach kind) (call.Detach kind) Done Nothing refl (record { answer = inl (rw there refl); panel = h })
+pub obeys_unplaced : (spot : Spot) (text : List ℕ) (s t : State) (o : Operation) (refusal : Refusal) → t ≡ s → SpellsBeside s.held text o → spot_place None spot s.held.tree ≡ Err refusal → Obeys s (command.Insert spot text) (Replied (Refused refusal)) [] t
+obeys_unplaced spot text s t o refusal same spelled e =
+    record { asked = Misplaced refusal; shows = Nothing; asks = (o, spelled, e); follows = (refl, refl, same); text = refl }
 
-pub obeys_undetached : (kind : ℕ) (m : Module) (ks : List Shown) (refusal : Refusal) → refusal ≡ NoSuchKind → has_kind kind ks ≡ false → Obeys (at m ks) (command.Detach kind) (Replied (Refused refusal)) [] (at m ks)
-obeys_undetached kind m ks refusal is absent =
-    obeys_call (at m ks) (at m ks) (command.Detach kind) (call.Detach kind) (Refused refusal) Nothing refl (record { answer = inl (rw (is, absent) refl); panel = refl })
+-- an entry that isn't dropped since its key finds no memory
+pub obeys_unnamed : (x : ℕ) (key : List ℕ) (s t : State) → t ≡ s → Obeys s (command.DropAttr x key) (Replied (Refused Memory)) [] t
+obeys_unnamed x key s t same = obeys_call s t (command.DropAttr x key) (Do (edit.DropAttr x key)) (Refused Memory) Nothing refl (rw same (record { answer = inr (takes s.marks, refl); panel = all_stay s.panel }))
+  where
+    takes : (ks : List OpenMark) → IsTrue (grows_under ks (edit.DropAttr x key))
+    takes [] = refl
+    takes (k ∷ ks) = refl
 
-pub obeys_begun : (kind : ℕ) (m : Module) (ks ls : List Shown) → BegunAgain kind false ks ls → Obeys (at m ks) (command.Resync kind) (Replied Done) [] (at m ls)
-obeys_begun kind m ks ls h =
-    let there : has_kind kind ks ≡ true = ap is_some h.is in
-    obeys_call (at m ks) (at m ls) (command.Resync kind) (call.Resync kind) Done Nothing refl (record { answer = inl (rw there refl); panel = h })
-
-pub obeys_missing : (kind : ℕ) (m : Module) (ks : List Shown) → has_kind kind ks ≡ false → Obeys (at m ks) (command.Resync kind) (Replied (Refused NoSuchKind)) [] (at m ks)
-obeys_missing kind m ks absent =
-    obeys_call (at m ks) (at m ks) (command.Resync kind) (call.Resync kind) (Refused NoSuchKind) Nothing refl (record { answer = inl (rw absent refl); panel = inl refl })
-
-pub obeys_unbegun : (kind : ℕ) (m : Module) (ks ls : List Shown) → BegunAgain kind true ks ls → Obeys (at m ks) (command.Resync kind) (Replied (Refused Memory)) [] (at m ls)
-obeys_unbegun kind m ks ls h =
-    obeys_call (at m ks) (at m ls) (command.Resync kind) (call.Resync kind) (Refused Memory) Nothing refl (record { answer = inr (refl, refl); panel = inr (refl, h) })
+-- a call behind a context that grew
+pub obeys_behind : (s p t : State) (c : Command) (call : Call) (reply : Reply) (response : Response) → p ≡ s → response ≡ Replied reply → Asks SpellsBeside SpellsAttr c s.held (Ask call) → Goes p call reply Nothing t → Obeys s c response [] t
+obeys_behind s p t c call reply response same is asks goes = obeys_plain s t c call reply response is asks (subst (λ (q : State). Goes q call reply Nothing t) same goes)
 
 -- ---- what is shown
 
-pub obeys_printed : (m : Module) (ks : List Shown) → Obeys (at m ks) command.Print (Replied Done) (text_of m.tree) (at m ks)
-obeys_printed m ks = obeys_call (at m ks) (at m ks) command.Print call.Print Done (Tree m.tree) refl (record { answer = inl refl; panel = refl })
+pub obeys_printed : (s : State) → Obeys s command.Print (Replied Done) (text_of s.held.tree) s
+obeys_printed s = obeys_call s s command.Print call.Print Done (Tree s.held.tree) refl (record { answer = inl refl; panel = refl })
 
-pub obeys_unprinted : (m : Module) (ks : List Shown) → Obeys (at m ks) command.Print (Replied (Refused Memory)) [] (at m ks)
-obeys_unprinted m ks = obeys_call (at m ks) (at m ks) command.Print call.Print (Refused Memory) Nothing refl (record { answer = inr (refl, refl); panel = refl })
+pub obeys_unprinted : (s : State) → Obeys s command.Print (Replied (Refused Memory)) [] s
+obeys_unprinted s = obeys_call s s command.Print call.Print (Refused Memory) Nothing refl (record { answer = inr (refl, refl); panel = refl })
 
-pub obeys_unreported : (kind : ℕ) (m : Module) (ks : List Shown) → Obeys (at m ks) (command.Report kind) (Replied (Refused Memory)) [] (at m ks)
-obeys_unreported kind m ks = obeys_call (at m ks) (at m ks) (command.Report kind) (call.Report kind) (Refused Memory) Nothing refl (record { answer = inr (refl, refl); panel = refl })
+pub obeys_unreported : (kind : ℕ) (s : State) → Obeys s (command.Report kind) (Replied (Refused Memory)) [] s
+obeys_unreported kind s = obeys_call s s (command.Report kind) (call.Report kind) (Refused Memory) Nothing refl (record { answer = inr (refl, refl); panel = refl })
 
-pub obeys_unknown : (kind : ℕ) (m : Module) (ks : List Shown) → find (is_kind kind) ks ≡ None → Obeys (at m ks) (command.Report kind) (Replied (Refused NoSuchKind)) [] (at m ks)
-obeys_unknown kind m ks e = obeys_call (at m ks) (at m ks) (command.Report kind) (call.Report kind) (Refused NoSuchKind) Nothing refl (record { answer = inl (rw e refl); panel = refl })
+pub obeys_unknown : (kind : ℕ) (s : State) → find (is_kind kind) s.panel ≡ None → Obeys s (command.Report kind) (Replied (Refused NoSuchKind)) [] s
+obeys_unknown kind s e = obeys_call s s (command.Report kind) (call.Report kind) (Refused NoSuchKind) Nothing refl (record { answer = inl (rw e refl); panel = refl })
 
-pub obeys_stale : (kind : ℕ) (m : Module) (ks : List Shown) (k : Shown) → find (is_kind kind) ks ≡ Some k → k.stale ≡ true → Obeys (at m ks) (command.Report kind) (Replied (Refused Stale)) [] (at m ks)
-obeys_stale kind m ks k e s = obeys_call (at m ks) (at m ks) (command.Report kind) (call.Report kind) (Refused Stale) Nothing refl (record { answer = inl (rw (e, s) refl); panel = refl })
+pub obeys_stale : (kind : ℕ) (s : State) (k : Shown) → find (is_kind kind) s.panel ≡ Some k → k.stale ≡ true → Obeys s (command.Report kind) (Replied (Refused Stale)) [] s
+obeys_stale kind s k e is = obeys_call s s (command.Report kind) (call.Report kind) (Refused Stale) Nothing refl (record { answer = inl (rw (e, is) refl); panel = refl })
 
-pub obeys_reported : (kind : ℕ) (m : Module) (ks : List Shown) (k : Shown) → find (is_kind kind) ks ≡ Some k → k.stale ≡ false → Obeys (at m ks) (command.Report kind) (Replied Done) (rows_text (k.analysis m.tree)) (at m ks)
-obeys_reported kind m ks k e s = obeys_call (at m ks) (at m ks) (command.Report kind) (call.Report kind) Done (Rows (k.analysis m.tree)) refl (record { answer = inl (rw (e, s) refl); panel = refl })
+pub obeys_reported : (kind : ℕ) (s : State) (k : Shown) → find (is_kind kind) s.panel ≡ Some k → k.stale ≡ false → Obeys s (command.Report kind) (Replied Done) (rows_text (k.analysis s.held.tree)) s
+obeys_reported kind s k e is = obeys_call s s (command.Report kind) (call.Report kind) Done (Rows (k.analysis s.held.tree)) refl (record { answer = inl (rw (e, is) refl); panel = refl })
 
 -- ---- each command has an answer
 
@@ -170,52 +142,18 @@ some_answer s (command.Resync kind) = by_call s (command.Resync kind) (call.Resy
 some_answer s (command.Report kind) = by_call s (command.Report kind) (call.Report kind) refl
 some_answer s command.Print = by_call s command.Print call.Print refl
 
--- ---- entries, behind a context that grew
-
-pub obeys_entered : (c : Things) (what : Event) (m p n : Module) (ks ls : List Shown) (x : ℕ) (key name text : List ℕ) (a : AttrTerm) → p ≡ m → name ≡ key → SpellsAttr text a → Made c (edit.SetAttr x name a) p n what → AllAge ks ls → Obeys (at m ks) (command.SetAttr x key text) (Replied Done) [] (at n ls)
-obeys_entered c what m p n ks ls x key name text a same named spelled made ages =
-    subst (λ (q : Module). Obeys (at q ks) (command.SetAttr x key text) (Replied Done) [] (at n ls)) same
-    (obeys_made c (edit.SetAttr x name a) what p n ks ls (command.SetAttr x key text) refl (a, spelled, ap (λ k. Do (edit.SetAttr x k a)) named) made ages)
-
-pub obeys_unentered : (m p n : Module) (ks : List Shown) (refusal : Refusal) (x : ℕ) (key name text : List ℕ) (a : AttrTerm) → p ≡ m → name ≡ key → SpellsAttr text a → NotMade (edit.SetAttr x name a) p n refusal → Obeys (at m ks) (command.SetAttr x key text) (Replied (Refused refusal)) [] (at n ks)
-obeys_unentered m p n ks refusal x key name text a same named spelled left =
-    subst (λ (q : Module). Obeys (at q ks) (command.SetAttr x key text) (Replied (Refused refusal)) [] (at n ks)) same
-    (obeys_refused (edit.SetAttr x name a) p n ks refusal (command.SetAttr x key text) (a, spelled, ap (λ k. Do (edit.SetAttr x k a)) named) left)
-
-pub obeys_dropped : (c : Things) (what : Event) (m p n : Module) (ks ls : List Shown) (x : ℕ) (key name : List ℕ) → p ≡ m → name ≡ key → Made c (edit.DropAttr x name) p n what → AllAge ks ls → Obeys (at m ks) (command.DropAttr x key) (Replied Done) [] (at n ls)
-obeys_dropped c what m p n ks ls x key name same named made ages =
-    subst (λ (q : Module). Obeys (at q ks) (command.DropAttr x key) (Replied Done) [] (at n ls)) same
-    (obeys_made c (edit.DropAttr x name) what p n ks ls (command.DropAttr x key) refl (ap (λ k. Ask (Do (edit.DropAttr x k))) named) made ages)
-
-pub obeys_undropped : (m p n : Module) (ks : List Shown) (refusal : Refusal) (x : ℕ) (key name : List ℕ) → p ≡ m → name ≡ key → NotMade (edit.DropAttr x name) p n refusal → Obeys (at m ks) (command.DropAttr x key) (Replied (Refused refusal)) [] (at n ks)
-obeys_undropped m p n ks refusal x key name same named left =
-    subst (λ (q : Module). Obeys (at q ks) (command.DropAttr x key) (Replied (Refused refusal)) [] (at n ks)) same
-    (obeys_refused (edit.DropAttr x name) p n ks refusal (command.DropAttr x key) (ap (λ k. Ask (Do (edit.DropAttr x k))) named) left)
-
 -- ---- listeners
 
 module _ {B : Type 0} (meaning : B → Listener) where
-  pub obeys_left : (kind : ℕ) (m : Module) (xs ys : List B) (refusal : Refusal) → ys ≡ xs → (refusal ≡ NoSuchKind) × (panel_has meaning kind xs ≡ false) → Obeys (at m (all_shown meaning xs)) (command.Detach kind) (Replied (Refused refusal)) [] (at m (all_shown meaning ys))
-  obeys_left kind m xs ys refusal same (is, absent) =
-      subst (λ (zs : List B). Obeys (at m (all_shown meaning xs)) (command.Detach kind) (Replied (Refused refusal)) [] (at m (all_shown meaning zs))) (sym same)
-      (obeys_undetached kind m (all_shown meaning xs) refusal is (kind_shown meaning kind xs ∙ absent))
-
-  pub obeys_not_begun : (kind : ℕ) (m : Module) (xs ys : List B) (refusal : Refusal) → NotBegunAgain meaning kind xs ys refusal → Obeys (at m (all_shown meaning xs)) (command.Resync kind) (Replied (Refused refusal)) [] (at m (all_shown meaning ys))
-  obeys_not_begun kind m xs ys NoSuchKind h =
-      subst (λ (zs : List B). Obeys (at m (all_shown meaning xs)) (command.Resync kind) (Replied (Refused NoSuchKind)) [] (at m (all_shown meaning zs))) (sym h.0)
-      (obeys_missing kind m (all_shown meaning xs) (kind_shown meaning kind xs ∙ h.1))
-  obeys_not_begun kind m xs ys Memory h = obeys_unbegun kind m (all_shown meaning xs) (all_shown meaning ys) (begun_shown meaning kind (λ b. b.stale ≡ true) true xs ys (λ b e. e) h)
-  obeys_not_begun kind m xs ys _ h = absurd h
-
   -- a report, by the listener of its kind
-  pub reports_none : (kind : ℕ) (m : Module) (xs : List B) → None ≡ find (has_this_kind meaning kind) xs → Obeys (at m (all_shown meaning xs)) (command.Report kind) (Replied (Refused NoSuchKind)) [] (at m (all_shown meaning xs))
-  reports_none kind m xs e = obeys_unknown kind m (all_shown meaning xs) (find_shown meaning kind xs ∙ ap (option_map (λ b. shown (meaning b))) (sym e))
+  pub reports_none : (kind : ℕ) (a : Benched B) → None ≡ find (has_this_kind meaning kind) a.listeners → Obeys (state_of meaning a) (command.Report kind) (Replied (Refused NoSuchKind)) [] (state_of meaning a)
+  reports_none kind a e = obeys_unknown kind (state_of meaning a) (find_shown meaning kind a.listeners ∙ ap (option_map (λ b. shown (meaning b))) (sym e))
 
-  pub reports_stale : (kind : ℕ) (m : Module) (xs : List B) (b : B) → Some b ≡ find (has_this_kind meaning kind) xs → (meaning b).stale ≡ true → Obeys (at m (all_shown meaning xs)) (command.Report kind) (Replied (Refused Stale)) [] (at m (all_shown meaning xs))
-  reports_stale kind m xs b e s = obeys_stale kind m (all_shown meaning xs) (shown (meaning b)) (find_shown meaning kind xs ∙ ap (option_map (λ b. shown (meaning b))) (sym e)) s
+  pub reports_stale : (kind : ℕ) (a : Benched B) (b : B) → Some b ≡ find (has_this_kind meaning kind) a.listeners → (meaning b).stale ≡ true → Obeys (state_of meaning a) (command.Report kind) (Replied (Refused Stale)) [] (state_of meaning a)
+  reports_stale kind a b e s = obeys_stale kind (state_of meaning a) (shown (meaning b)) (find_shown meaning kind a.listeners ∙ ap (option_map (λ b. shown (meaning b))) (sym e)) s
 
-  pub reports_rows : (kind : ℕ) (m : Module) (xs : List B) (b : B) (bytes : List ℕ) → Some b ≡ find (has_this_kind meaning kind) xs → (meaning b).stale ≡ false → bytes ≡ rows_text ((meaning b).analysis m.tree) → Obeys (at m (all_shown meaning xs)) (command.Report kind) (Replied Done) bytes (at m (all_shown meaning xs))
-  reports_rows kind m xs b bytes e s is = rw is (obeys_reported kind m (all_shown meaning xs) (shown (meaning b)) (find_shown meaning kind xs ∙ ap (option_map (λ b. shown (meaning b))) (sym e)) s)
+  pub reports_rows : (kind : ℕ) (a : Benched B) (b : B) (bytes : List ℕ) → Some b ≡ find (has_this_kind meaning kind) a.listeners → (meaning b).stale ≡ false → bytes ≡ rows_text ((meaning b).analysis (module_held a.desk).tree) → Obeys (state_of meaning a) (command.Report kind) (Replied Done) bytes (state_of meaning a)
+  reports_rows kind a b bytes e s is = rw is (obeys_reported kind (state_of meaning a) (shown (meaning b)) (find_shown meaning kind a.listeners ∙ ap (option_map (λ b. shown (meaning b))) (sym e)) s)
 
-pub prints : (m : Module) (ks : List Shown) (bytes : List ℕ) → bytes ≡ text_of m.tree → Obeys (at m ks) command.Print (Replied Done) bytes (at m ks)
-prints m ks bytes is = rw is (obeys_printed m ks)
+pub prints : (s : State) (bytes : List ℕ) → bytes ≡ text_of s.held.tree → Obeys s command.Print (Replied Done) bytes s
+prints s bytes is = rw is (obeys_printed s)

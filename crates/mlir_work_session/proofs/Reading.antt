@@ -1,48 +1,109 @@
--- Texts and keys that are read, in a world whose context grows.
-use Rattle.std.proofs.Common.{◌≡◌, ◌∙◌, sym, ap, subst, refl, inl, inr, ℕ, zero, suc, ◌≤◌, ◌<◌, List, [], ◌∷◌, length, Option, Some, None, Bool, true, false, cond, arith, slice_get}
-use Rattle.std.specs.Prelude.{is_some, option_map, ◌||◌, Result, Ok, Err}
+-- Texts and keys that are read, beside the module of a bench whose context grows.
+use Rattle.std.proofs.Common.{◌≡◌, ◌∙◌, sym, ap, subst, refl, inl, inr, ◌⊎◌, ℕ, zero, suc, ◌≤◌, ◌<◌, List, [], ◌∷◌, ◌++◌, length, Option, Some, None, true, arith, slice_get}
+use Rattle.std.specs.Prelude.{Result, Ok, Err}
 use Rattle.ir_types.specs.Interning.{with_name}
 use Rattle.ir_types.specs.Refusals.{number_of}
-use Rattle.ir_types.specs.Sound.{Holds}
-use Rattle.ir_types.specs.Terms.{name_term, attr_term, AttrTerm}
+use Rattle.ir_types.specs.Sound.{Holds, IsSound}
+use Rattle.ir_types.specs.Terms.{name_term, attr_term}
 use Rattle.ir_types.specs.Things.{Things, Grows, IsName, IsAttr}
-use Rattle.ir_types.specs.Words.{is_inherent}
 use Rattle.ir_types.specs.declared.refusal.Refusal.{Refusal}
-use Rattle.ir_types.specs.declared.refusal.Refusal.TheVariants.{Memory, TooMany}
+use Rattle.ir_types.specs.declared.refusal.Refusal.TheVariants.{Memory, TooMany, IdsExhausted}
 use Rattle.ir_types.proofs.CallNumbers.{new_name, name_stands}
-use Rattle.ir_types.proofs.Growth.{grows_trans, front_length}
+use Rattle.ir_types.proofs.Growth.{grows_refl, grows_trans, front_length}
 use Rattle.ir_types.proofs.Terms.{attr_stays}
-use Rattle.ir_tree.specs.declared.place.Part.{Part}
-use Rattle.ir_tree.specs.declared.place.Part.TheVariants.{Props, Attrs}
-use Rattle.ir_tree.specs.Edits.{entry_at}
-use Rattle.ir_tree.specs.Ids.{find, has_id}
-use Rattle.ir_tree.specs.Meaning.{key_before_in}
-use Rattle.ir_tree.specs.Tree.{Op, op, head}
-use Rattle.ir_tree_laws.proofs.Around.{absent_find}
-use Rattle.ir_store.specs.Nodes.{Node, node_of}
-use Rattle.ir_store.specs.Stored.{Stored, known}
-use Rattle.ir_event.proofs.Shown.{known_there}
+use Rattle.ir_tree.specs.declared.place.Place.{Place}
+use Rattle.ir_store.specs.Stored.{Stored}
 use Rattle.ir_event.specs.declared.world.World.{World}
-use Rattle.ir_text_attributes.specs.Claims.{IsNoAttr}
+use Rattle.ir_event.specs.Listener.{Listener}
+use Rattle.ir_event.specs.Modules.{things_in, module_in, module_meaning}
+use Rattle.ir_text.specs.Printing.{text_of}
 use Rattle.ir_text_attributes.specs.Spelling.{SpellsAttr}
-use Rattle.machine.specs.Commands.{Response, text_response, TextRefused, Replied, TextRefusedAt}
-use Rattle.machine.specs.Contents.{tests_in}
-use Rattle.machine.specs.Edits.{part_in, part_for}
-use Rattle.machine.specs.Machine.{Refused}
-use Rattle.mlir_work_session.specs.Edits.{Grown, NotRead}
+use Rattle.machine.specs.Commands.{Replied, TextRefusedAt}
+use Rattle.machine.specs.Machine.{State, Refused}
+use Rattle.machine.specs.Panels.{all_shown}
+use Rattle.machine.specs.Spots.{Spot, spot_place}
+use Rattle.desk.specs.Held.{Held, module_held}
+use Rattle.desk.specs.Moves.{Grown as DeskGrown}
+use Rattle.rewriter_base.specs.Benched.{Benched, IsKept, Led, state_of}
+use Rattle.mlir_work_session.specs.Texts.{Grown, NotRead}
+use Rattle.mlir_work_session.specs.RowText.{rows_text}
+use Rattle.mlir_work_session.specs.Output.{IsModule, AreKinds, IsListing}
+use Rattle.ir_event.specs.Panels.{AllKept}
+use Rattle.mlir_work_session.proofs.Spots.{spot_beside}
 
-pub grown_trans : (u v w : World) → Grown u v → Grown v w → Grown u w
-grown_trans u v w g h = record { grows = grows_trans u.ctx v.ctx w.ctx g.grows h.grows; before = g.before; after = h.after; same = h.same ∙ g.same }
+-- ---- what is seen of a bench by its world
 
--- a text that isn't read
-pub unread_memory : (text : List ℕ) → NotRead text (Replied (Refused Memory))
-unread_memory text = (Memory, None, (inr refl, inr (inr refl)), refl)
+module_seen : (h : Held) (w : World) → w.ctx ≡ h.ctx → w.store ≡ h.store → module_in w ≡ module_held h
+module_seen h w ctx store = λ i. module_meaning (ctx i) (store i).module_of
 
-pub unread_full : (text : List ℕ) (offset : ℕ) → NotRead text (TextRefusedAt TooMany offset)
-unread_full text offset = (TooMany, Some offset, (omega arith, inr (inl refl)), refl)
+pub held_text : (h : Held) (w : World) → w.ctx ≡ h.ctx → w.store ≡ h.store → (bytes : List ℕ) → bytes ≡ text_of (module_in w).tree → bytes ≡ text_of (module_held h).tree
+held_text h w ctx store bytes is = is ∙ ap (λ m. text_of m.tree) (module_seen h w ctx store)
 
-pub unread_at : (text : List ℕ) (refusal : Refusal) (offset : ℕ) → number_of refusal ≤ 14 → IsNoAttr (SpellsAttr text) → NotRead text (TextRefusedAt refusal offset)
-unread_at text refusal offset small none = (refusal, Some offset, (small, inl none), refl)
+pub sound_holds : (c d : Things) → d ≡ c → IsSound d → Holds c
+sound_holds c d same sound = subst Holds same sound.holds
+
+module _ {B : Type 0} (meaning : B → Listener) where
+  pub held_agrees : (h : Held) (w : World) → w.ctx ≡ h.ctx → w.store ≡ h.store → (b : B) → (meaning b).agrees h.ctx (module_held h) ⊎ ((meaning b).stale ≡ true) → (meaning b).agrees (things_in w) (module_in w) ⊎ ((meaning b).stale ≡ true)
+  held_agrees h w ctx store b agrees =
+      subst (λ (s : Stored). (meaning b).agrees w.ctx (module_meaning w.ctx s.module_of) ⊎ ((meaning b).stale ≡ true)) (sym store)
+      (subst (λ (d : Things). (meaning b).agrees d (module_meaning d h.store.module_of) ⊎ ((meaning b).stale ≡ true)) (sym ctx) agrees)
+
+  pub held_rows : (h : Held) (w : World) → w.ctx ≡ h.ctx → w.store ≡ h.store → (b : B) (bytes : List ℕ) → bytes ≡ rows_text ((meaning b).analysis (module_in w).tree) → bytes ≡ rows_text ((meaning b).analysis (module_held h).tree)
+  held_rows h w ctx store b bytes is = is ∙ ap (λ m. rows_text ((meaning b).analysis m.tree)) (module_seen h w ctx store)
+
+  pub listing_held : (a : Benched B) (w : World) → w.ctx ≡ a.desk.ctx → w.store ≡ a.desk.store → (xs ys : List ℕ) → IsModule (module_in w).tree xs → AreKinds (module_in w).tree (all_shown meaning a.listeners) ys → IsListing (state_of meaning a) (xs ++ ys)
+  listing_held a w ctx store xs ys p q =
+      let same = module_seen a.desk w ctx store in
+      (xs, ys, subst (λ m. IsModule m.tree xs) same p, subst (λ m. AreKinds m.tree (all_shown meaning a.listeners) ys) same q, refl)
+
+  pub all_held : (a : Benched B) (w : World) → w.ctx ≡ a.desk.ctx → w.store ≡ a.desk.store → IsKept meaning a → AllKept meaning (things_in w) (module_in w) a.listeners
+  all_held a w ctx store kept =
+      subst (λ (s : Stored). AllKept meaning w.ctx (module_meaning w.ctx s.module_of) a.listeners) (sym store)
+      (subst (λ (d : Things). AllKept meaning d (module_meaning d a.desk.store.module_of) a.listeners) (sym ctx) kept)
+
+  -- ---- contexts that grow
+
+  pub grown_so : (a b : Benched B) → DeskGrown a.desk b.desk → b.listeners ≡ a.listeners → Led meaning a b → ((x y : Benched B) → Led meaning x y → IsKept meaning x → IsKept meaning y) → Holds a.desk.ctx → Holds b.desk.ctx → Grown meaning a b
+  grown_so a b grown same led law before after = record {
+    grows = grown.grows;
+    before = before;
+    after = after;
+    same = λ i. record { held = grown.same i; marks = grown.marked i; panel = all_shown meaning (same i) };
+    next = ap (λ (h : Held). h.store.module_of.next) grown.held;
+    kept = law a b led;
+  }
+
+  pub grown_trans : (a b c : Benched B) → Grown meaning a b → Grown meaning b c → Grown meaning a c
+  grown_trans a b c g h = record {
+    grows = grows_trans a.desk.ctx b.desk.ctx c.desk.ctx g.grows h.grows;
+    before = g.before;
+    after = h.after;
+    same = h.same ∙ g.same;
+    next = h.next ∙ g.next;
+    kept = λ k. h.kept (g.kept k);
+  }
+
+  pub grown_not : (a : Benched B) → Holds a.desk.ctx → Grown meaning a a
+  grown_not a holds = record { grows = grows_refl a.desk.ctx; before = holds; after = holds; same = refl; next = refl; kept = λ k. k }
+
+  pub spot_behind : (a b : Benched B) (s : Stored) (x : Option ℕ) (spot : Spot) (r : Result Place Refusal) → Grown meaning a b → s ≡ b.desk.store → spot_place x spot s.module_of.tree ≡ r → spot_place x spot (module_held a.desk).tree ≡ r
+  spot_behind a b s x spot r grown same e = ap (λ (t : State). spot_place x spot t.held.tree) (sym grown.same) ∙ spot_beside b.desk s x spot r same e
+
+-- ---- texts that aren't read
+
+pub unread_memory : {X : Type 0} (Spelled : X → Type 0) → NotRead Spelled (Replied (Refused Memory))
+unread_memory Spelled = (Memory, None, (inr refl, inr (inr refl)), refl)
+
+pub unread_full : {X : Type 0} (Spelled : X → Type 0) (offset : ℕ) → NotRead Spelled (TextRefusedAt TooMany offset)
+unread_full Spelled offset = (TooMany, Some offset, (omega arith, inr (inl refl)), refl)
+
+pub unread_ids : {X : Type 0} (Spelled : X → Type 0) → ((x : X) → Spelled x → ⊥) → NotRead Spelled (Replied (Refused IdsExhausted))
+unread_ids Spelled none = (IdsExhausted, None, (inl refl, inl none), refl)
+
+pub unread_at : {X : Type 0} (Spelled : X → Type 0) (refusal : Refusal) (offset : ℕ) → number_of refusal ≤ 14 → ((x : X) → Spelled x → ⊥) → NotRead Spelled (TextRefusedAt refusal offset)
+unread_at Spelled refusal offset small none = (refusal, Some offset, (small, inl none), refl)
+
+-- ---- names and attributes
 
 below_some : {A : Type 0} (xs : List A) (n : ℕ) (x : A) → slice_get xs n ≡ Some x → n < length xs
 below_some [] zero x e = absurd cc
@@ -61,23 +122,3 @@ attr_kept c d text a holds g (is, spelled) = (longer, subst (SpellsAttr text) (s
   where
     longer : IsAttr d a
     longer = let l = front_length c.attrs d.attrs g.attrs in omega arith
-
--- the dictionary of a key, read off the node
-pub absent_part : (c : Things) (x k : ℕ) (t : Op) → has_id x t ≡ false → part_for (tests_in c) x k t ≡ Attrs
-absent_part c x k t absent = ap (part_in (tests_in c) k) (absent_find x t absent)
-
-node_part : (c : Things) (x k : ℕ) (s : Stored) (n : Node) → has_id x s.module_of.tree ≡ true → option_map node_of (known x s) ≡ Some n
-    → part_for (tests_in c) x k s.module_of.tree ≡ cond ((tests_in c).inherent n.head.name k || is_some (entry_at (key_before_in c) k n.head.properties)) Props Attrs
-node_part c x k s n there e = go (find x s.module_of.tree) (ap (option_map node_of) (sym (known_there x s there)) ∙ e)
-  where
-    go : (o : Option Op) → option_map node_of o ≡ Some n → part_in (tests_in c) k o ≡ cond ((tests_in c).inherent n.head.name k || is_some (entry_at (key_before_in c) k n.head.properties)) Props Attrs
-    go None f = absurd cc
-    go (Some (op h rs)) f = (let same : node_of (op h rs) ≡ n = cc in ap (λ (m : Node). cond ((tests_in c).inherent m.head.name k || is_some (entry_at (key_before_in c) k m.head.properties)) Props Attrs) same)
-
--- for each outcome of the two tests
-pub part_by : (c : Things) (x k : ℕ) (s : Stored) (n : Node) (inherent held : Bool) → has_id x s.module_of.tree ≡ true → option_map node_of (known x s) ≡ Some n
-    → is_inherent (name_term c n.head.name) (name_term c k) ≡ inherent → is_some (entry_at (key_before_in c) k n.head.properties) ≡ held → part_for (tests_in c) x k s.module_of.tree ≡ cond (inherent || held) Props Attrs
-part_by c x k s n inherent held there e a b = node_part c x k s n there e ∙ (λ i. cond (a i || b i) Props Attrs)
-
-pub named_as : (bytes key : List ℕ) (c d : Things) (n : ℕ) → (n, d) ≡ with_name bytes c → bytes ≡ key → IsName d n × (name_term d n ≡ key)
-named_as bytes key c d n e same = let h = named_so bytes c d n e in (h.0, h.1 ∙ same)

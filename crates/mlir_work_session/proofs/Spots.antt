@@ -19,6 +19,7 @@ use Rattle.ir_tree_laws.proofs.Contents.{map_has_id, same_id}
 use Rattle.ir_store.specs.Nodes.{Node, node_of, regions_arguments}
 use Rattle.ir_store.specs.Stored.{Stored, known}
 use Rattle.ir_event.proofs.Shown.{known_there}
+use Rattle.desk.specs.Held.{Held, module_held}
 use Rattle.machine.specs.Spots.{Spot, Before, After, Start, End, passing, coming, behind, beside, in_block, spot_place}
 
 module _ {N T A M U B : Type 0} (f : N → M) (g : T → U) (h : A → B) where
@@ -57,25 +58,30 @@ module _ {N T A M U B : Type 0} (f : N → M) (g : T → U) (h : A → B) where
   map_next_of : (x : ℕ) (t : OpOf N T A) → next_of x (map_tree f g h t) ≡ next_of x t
   map_next_of x t = ap (option_and_then (λ p. p.before)) (map_place f g h x t)
 
-  map_passing : (x : ℕ) (b : Option ℕ) (t : OpOf N T A) → passing (Some x) b (map_tree f g h t) ≡ passing (Some x) b t
-  map_passing x b t = ap (λ o. cond (option_eq eqb b (Some x)) o b) (map_next_of x t)
+  map_passing : (x : Option ℕ) (b : Option ℕ) (t : OpOf N T A) → passing x b (map_tree f g h t) ≡ passing x b t
+  map_passing None b t = refl
+  map_passing (Some x) b t = ap (λ o. cond (option_eq eqb b (Some x)) o b) (map_next_of x t)
 
-  map_behind : (x : ℕ) (t : OpOf N T A) (p : Option Place) → option_map (behind (Some x) (map_tree f g h t)) p ≡ option_map (behind (Some x) t) p
+  map_behind : (x : Option ℕ) (t : OpOf N T A) (p : Option Place) → option_map (behind x (map_tree f g h t)) p ≡ option_map (behind x t) p
   map_behind x t None = refl
   map_behind x t (Some p) = ap (λ b. Some (coming b p)) (map_passing x p.before t)
 
-  pub map_spot : (x : ℕ) (spot : Spot) (t : OpOf N T A) → spot_place (Some x) spot (map_tree f g h t) ≡ spot_place (Some x) spot t
+  pub map_spot : (x : Option ℕ) (spot : Spot) (t : OpOf N T A) → spot_place x spot (map_tree f g h t) ≡ spot_place x spot t
   map_spot x (Before y) t = λ i. beside (map_has_id f g h y t i) (option_map (coming (Some y)) (map_place f g h y t i))
   map_spot x (After y) t =
-      (λ i. beside (map_has_id f g h y t i) (option_map (behind (Some x) (map_tree f g h t)) (map_place f g h y t i)))
+      (λ i. beside (map_has_id f g h y t i) (option_map (behind x (map_tree f g h t)) (map_place f g h y t i)))
       ∙ ap (beside (has_id y t)) (map_behind x t (place_of y t))
   map_spot x (Start y r) t =
-      (λ i. in_block (map_has_id f g h y t i) (map_has_block y r t i) (record { parent = y; region = r; before = passing (Some x) (map_first_at y r t i) (map_tree f g h t) }))
+      (λ i. in_block (map_has_id f g h y t i) (map_has_block y r t i) (record { parent = y; region = r; before = passing x (map_first_at y r t i) (map_tree f g h t) }))
       ∙ ap (λ b. in_block (has_id y t) (is_some (ops_at y r t)) (record { parent = y; region = r; before = b })) (map_passing x (first_at y r t) t)
   map_spot x (End y r) t = λ i. in_block (map_has_id f g h y t i) (map_has_block y r t i) (record { parent = y; region = r; before = None })
 
-pub spot_means : (c : Things) (x : ℕ) (spot : Spot) (t : Op) → spot_place (Some x) spot (meaning c t) ≡ spot_place (Some x) spot t
+pub spot_means : (c : Things) (x : Option ℕ) (spot : Spot) (t : Op) → spot_place x spot (meaning c t) ≡ spot_place x spot t
 spot_means c x spot t = map_spot (name_term c) (type_term c) (attr_term c) x spot t
+
+-- the place in the module of a bench, by the store that its world shows
+pub spot_beside : (h : Held) (s : Stored) (x : Option ℕ) (spot : Spot) (r : Result Place Refusal) → s ≡ h.store → spot_place x spot s.module_of.tree ≡ r → spot_place x spot (module_held h).tree ≡ r
+spot_beside h s x spot r same e = spot_means h.ctx x spot h.store.module_of.tree ∙ (ap (λ (s : Stored). spot_place x spot s.module_of.tree) (sym same) ∙ e)
 
 -- whether a region has a block, read off the node
 blocks_told : (r : ℕ) (rs : Regions) → is_some (option_and_then (λ a. a) (slice_get (regions_arguments rs) r)) ≡ is_some (option_and_then ops_in (region_at r rs))

@@ -8,7 +8,7 @@ ghost use Rattle.mlir_work_session.specs.Machine.{Obeys, response_of};
 
 use crate::attributes::{entry_of, name_of};
 use crate::operations::operation_of;
-use crate::places::{place_for, spot_for};
+use crate::places::place_for;
 use crate::reply::Reply;
 use crate::replying::{reply_as, reply_to};
 use ir_event::analysis::Analysis;
@@ -63,7 +63,7 @@ pub(crate) fn move_op<L: Analysis>(bench: &mut Bench<L>, op: OpId, spot: &Spot) 
     ensures kept { IsKept L.meaning bench.new }
 {
     led_benches_are_kept::<L>();
-    let place = match place_for(&bench.world().store, op, spot) {
+    let place = match place_for(&bench.world().store, Some(op), spot) {
         Ok(place) => place,
         Err(refusal) => return Reply::Refused(refusal),
     };
@@ -86,7 +86,7 @@ pub(crate) fn insert<L: Analysis>(
         Ok(tree) => tree,
         Err(reply) => return reply,
     };
-    let place = match spot_for(&bench.world().store, spot) {
+    let place = match place_for(&bench.world().store, None, spot) {
         Ok(place) => place,
         Err(refusal) => return Reply::Refused(refusal),
     };

@@ -13,9 +13,12 @@ use ir_types::refusal::Refusal;
 use mlir_work_script::spots::Spot;
 
 /// What comes next, where the operation that is moved is passed over.
-fn passing(store: &Store, moved: OpId, next: Option<OpId>) -> Option<OpId>
-    ensures { result ≡ passing (Some moved) next store.now.module_of.tree }
+fn passing(store: &Store, moved: Option<OpId>, next: Option<OpId>) -> Option<OpId>
+    ensures { result ≡ passing moved next store.now.module_of.tree }
 {
+    let Some(moved) = moved else {
+        return next;
+    };
     match next {
         None => None,
         Some(op) => {
@@ -46,8 +49,8 @@ fn before(store: &Store, op: OpId) -> Result<Place, Refusal>
 }
 
 /// The place right behind an operation, where the one that is moved is passed over.
-fn after(store: &Store, moved: OpId, op: OpId) -> Result<Place, Refusal>
-    ensures { result ≡ beside (has_id op store.now.module_of.tree) (option_map (behind (Some moved) store.now.module_of.tree) (place_of op store.now.module_of.tree)) }
+fn after(store: &Store, moved: Option<OpId>, op: OpId) -> Result<Place, Refusal>
+    ensures { result ≡ beside (has_id op store.now.module_of.tree) (option_map (behind moved store.now.module_of.tree) (place_of op store.now.module_of.tree)) }
 {
     if !store.in_tree(op) {
         return Err(Refusal::NoSuchOp);
@@ -92,12 +95,12 @@ fn inside(store: &Store, op: OpId, region: u32, before: Option<OpId>) -> Result<
     })
 }
 
-/// The place that a command names for an operation that is moved.
+/// The place that a command names, for an operation that is moved or a new one.
 ///
 /// Refusals: `NoSuchOp` where the operation that is named isn't in the module; `IsRoot` where there is nothing beside
 /// it; `NoSuchIndex` where it has no such block.
-pub(crate) fn place_for(store: &Store, moved: OpId, spot: &Spot) -> Result<Place, Refusal>
-    ensures { result ≡ spot_place (Some moved) (spot_of spot.now) store.now.module_of.tree }
+pub(crate) fn place_for(store: &Store, moved: Option<OpId>, spot: &Spot) -> Result<Place, Refusal>
+    ensures { result ≡ spot_place moved (spot_of spot.now) store.now.module_of.tree }
 {
     match *spot {
         Spot::Before(op) => before(store, op),

@@ -1,6 +1,6 @@
-use Rattle.std.proofs.Common.{◌∙◌}
-use Rattle.mlir_work_session.proofs.Reading.{named_as}
+use Rattle.std.proofs.Common.{◌∙◌, ap}
+use Rattle.mlir_work_session.proofs.Reading.{grown_not, sound_holds}
 use Rattle.mlir_work_session.proofs.attributes.name_of.Goals as goal
 
-pub returns-in-Ok-named-clause-name : goal.returns-in-Ok-named-clause-name
-returns-in-Ok-named-clause-name c = named_as _ _ c.args.world.now.ctx c.name-named.new.self.ctx c.in-Ok-named.name c.in-Ok-named.ensures.ok (c.deref.ensures.value ∙ c.in-Ok.ensures)
+pub returns-in_default-clause-grown : goal.returns-in_default-clause-grown
+returns-in_default-clause-grown g c = grown_not g.L.Analysis.meaning _ (sound_holds _ _ c.world.ensures.ctx c.sound.ensures)

@@ -9,6 +9,7 @@ use Rattle.mlir_work_session.proofs.boxes.attach_all.Goals as goal
 pub loop-listener-init : goal.loop-listener-init
 loop-listener-init g c = record {
   kept = c.requires;
+  desk = refl;
   long = ap length c.into_iter-listener-iterator.ensures.into_iter_gives.0 ∙ (sym c.args.boxes.ok.0 ∙ sym c.into_iter-listener-iterator.ensures.into_iter_gives.1);
   front = [];
   wrote = appends_none _ _ (keeps_same _);
@@ -20,7 +21,7 @@ returns-in-Err-clause-attached g c =
     let meaning = g.L.Analysis.meaning in
     let front = c.loop-listener.invariant.front in
     let first = box_line (meaning c.in-Some.listener).kind c.attach-tried.result in
-    let rest = some_attaches (all_shown meaning (into_iter_items c.next.new.self)) (all_shown meaning c.attach-tried.new.panel) in
+    let rest = some_attaches (all_shown meaning (into_iter_items c.next.new.self)) (all_shown meaning c.attach-tried.new.bench.listeners) in
     let step = box_step meaning _ (into_iter_items c.next.new.self) c.in-Some.listener _ _ _ c.attach-tried.result rest.1 rest.2 c.in-Some.ensures.steps.0 c.attach-tried.ensures.tried rest.3 in
     (rest.0, c.loop-listener.accepted && (is_none c.attach-tried.result && rest.1), front ++ (first ++ rest.2), c.loop-listener.invariant.whole _ _ _ step, front_within _ _ _ _ front first rest.2 refl c.loop-listener.invariant.wrote (rw c.kind_of-kind.ensures at c.in-Err.ensures))
 
@@ -31,6 +32,7 @@ loop-listener-preserved g c =
     let first = box_line (meaning c.in-Some.listener).kind c.attach-tried.result in
     record {
       kept = c.attach-tried.ensures.kept;
+      desk = c.attach-tried.ensures.desk ∙ c.loop-listener.invariant.desk;
       long = one_less _ _ _ _ _ c.in-Some.ensures.steps.0 c.in-Some.ensures.steps.1 c.loop-listener.invariant.long;
       front = front ++ first;
       wrote = appends_join _ _ _ front first c.loop-listener.invariant.wrote (rw c.kind_of-kind.ensures at c.in-Ok.ensures);
@@ -41,4 +43,7 @@ pub returns-clause-attached : goal.returns-clause-attached
 returns-clause-attached g c =
     let meaning = g.L.Analysis.meaning in
     let front = c.loop-listener.invariant.front in
-    (front, rw (append-nil, all_there) at (c.loop-listener.invariant.whole (all_shown meaning c.loop-listener.panel) true [] (no_box_left meaning _ _ (none_of_none _ _ c.loop-listener.invariant.long c.in-None.ensures.steps.0))), c.loop-listener.invariant.wrote)
+    (front, rw (append-nil, all_there) at (c.loop-listener.invariant.whole (all_shown meaning c.loop-listener.bench.listeners) true [] (no_box_left meaning _ _ (none_of_none _ _ c.loop-listener.invariant.long c.in-None.ensures.steps.0))), c.loop-listener.invariant.wrote)
+
+pub returns-in-Err-clause-desk : goal.returns-in-Err-clause-desk
+returns-in-Err-clause-desk g c = c.attach-tried.ensures.desk ∙ c.loop-listener.invariant.desk

@@ -1,8 +1,7 @@
 use Rattle.std.proofs.Common.{◌≡◌, ◌++◌, ◌&&◌, List, ℕ, Bool, length}
 use Rattle.std.specs.Vec.Iter.{into_iter_items, into_iter_len}
 use Rattle.std.specs.Io.KnownBytes.{Appends}
-use Rattle.ir_event.specs.Modules.{things_in, module_in}
-use Rattle.ir_event.specs.Panels.{AllKept}
+use Rattle.rewriter_base.specs.Benched.{IsKept}
 use Rattle.machine.specs.Panels.{Shown, all_shown}
 use Rattle.mlir_work_session.specs.Output.{Attaches}
 use Rattle.mlir_work_session.proofs.boxes.attach_all.Given as goal
@@ -10,9 +9,10 @@ use Rattle.mlir_work_session.proofs.boxes.attach_all.Given as goal
 -- what was written, and whatever the boxes that are left may give, is what all may give
 abbrev pub invariant-loop-listener : goal.invariant-loop-listener
 invariant-loop-listener g l = let meaning = g.L.Analysis.meaning in record {
-  kept : AllKept meaning (things_in l.world) (module_in l.world) l.panel;
+  kept : IsKept meaning l.bench;
+  desk : l.bench.desk ≡ l.initial.bench.desk;
   long : length (into_iter_items l.listener-iterator) ≡ into_iter_len l.listener-iterator;
   front : List ℕ;
   wrote : Appends (g.W.Write.contents l.initial.writer) (g.W.Write.contents l.writer) front;
-  whole : (new : List Shown) (there : Bool) (rest : List ℕ) → Attaches (all_shown meaning (into_iter_items l.listener-iterator)) (all_shown meaning l.panel) new there rest → Attaches (all_shown meaning l.fn.boxes.items) (all_shown meaning l.initial.panel) new (l.accepted && there) (front ++ rest);
+  whole : (new : List Shown) (there : Bool) (rest : List ℕ) → Attaches (all_shown meaning (into_iter_items l.listener-iterator)) (all_shown meaning l.bench.listeners) new there rest → Attaches (all_shown meaning l.fn.boxes.items) (all_shown meaning l.initial.bench.listeners) new (l.accepted && there) (front ++ rest);
 }

@@ -1,5 +1,19 @@
-use Rattle.mlir_work_session.proofs.Editing.{shifted_so}
+use Rattle.std.proofs.Common.{refl, sym, Some}
+use Rattle.machine.specs.Commands as command
+use Rattle.machine.specs.Edits as edit
+use Rattle.machine.specs.Machine.{Do}
+use Rattle.mlir_work_script.specs.Spots.{spot_of}
+use Rattle.mlir_work_session.proofs.Obeying.{obeys_plain, obeys_misplaced}
+use Rattle.mlir_work_session.proofs.Spots.{spot_beside}
 use Rattle.mlir_work_session.proofs.edits.move_op.Goals as goal
 
-pub returns-clause-edit : goal.returns-clause-edit
-returns-clause-edit c = shifted_so c.args.world.now.ctx c.shift.new.world.ctx c.shift.ensures.ctx c.args.op c.args.place c.args.world.now.store c.shift.new.world.store c.shift.result c.shift.ensures.step c.shift.ensures.store c.shift.ensures.refused c.shift.ensures.err
+pub returns-in-Err-clause-obeys : goal.returns-in-Err-clause-obeys
+returns-in-Err-clause-obeys g c = obeys_misplaced c.args.op (spot_of c.args.spot.now) _ c.in-Err.refusal (spot_beside c.args.bench.now.desk _ (Some c.args.op) (spot_of c.args.spot.now) _ c.world.ensures.store (sym c.in-Err.ensures))
+
+pub returns-in-Ok-clause-obeys : goal.returns-in-Ok-clause-obeys
+returns-in-Ok-clause-obeys g c =
+    obeys_plain _ _ (command.Move c.args.op (spot_of c.args.spot.now)) (Do (edit.Move c.args.op c.in-Ok.place)) _ _ c.reply_to.ensures
+    (c.in-Ok.place, spot_beside c.args.bench.now.desk _ (Some c.args.op) (spot_of c.args.spot.now) _ c.world.ensures.store (sym c.in-Ok.ensures), refl) c.move_op.ensures.does
+
+pub returns-in-Ok-clause-kept : goal.returns-in-Ok-clause-kept
+returns-in-Ok-clause-kept g c = c.led_benches_are_kept.ensures.kept _ _ c.move_op.ensures.led c.requires

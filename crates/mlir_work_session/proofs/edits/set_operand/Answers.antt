@@ -1,5 +1,12 @@
-use Rattle.mlir_work_session.proofs.Editing.{operand_set}
+use Rattle.std.proofs.Common.{refl}
+use Rattle.machine.specs.Commands as command
+use Rattle.machine.specs.Edits as edit
+use Rattle.machine.specs.Machine.{Do}
+use Rattle.mlir_work_session.proofs.Obeying.{obeys_plain}
 use Rattle.mlir_work_session.proofs.edits.set_operand.Goals as goal
 
-pub returns-clause-edit : goal.returns-clause-edit
-returns-clause-edit c = operand_set c.args.world.now.ctx c.set_operand.new.world.ctx c.set_operand.ensures.ctx c.args.op c.args.operand c.args.value c.args.world.now.store c.set_operand.new.world.store c.set_operand.result c.set_operand.ensures.step c.set_operand.ensures.store c.set_operand.ensures.refused c.set_operand.ensures.err
+pub returns-clause-obeys : goal.returns-clause-obeys
+returns-clause-obeys g c = obeys_plain _ _ (command.SetOperand c.args.op c.args.operand c.args.value) (Do (edit.SetOperand c.args.op c.args.operand c.args.value)) _ _ c.reply_to.ensures refl c.set_operand.ensures.does
+
+pub returns-clause-kept : goal.returns-clause-kept
+returns-clause-kept g c = c.led_benches_are_kept.ensures.kept _ _ c.set_operand.ensures.led c.requires

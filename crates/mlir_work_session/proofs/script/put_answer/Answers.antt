@@ -1,6 +1,7 @@
 use Rattle.std.proofs.Common.{◌++◌, [], refl, append-nil}
 use Rattle.mlir_work_script.proofs.Joins.{appends_join, puts_join, front_more, front_within}
-use Rattle.mlir_work_session.specs.Machine.{response_of, state_of}
+use Rattle.rewriter_base.specs.Benched.{state_of}
+use Rattle.mlir_work_session.specs.Machine.{response_of}
 use Rattle.mlir_work_session.specs.Output.{reply_line}
 use Rattle.mlir_work_session.proofs.Listings.{some_listing_if}
 use Rattle.mlir_work_session.proofs.script.put_answer.Goals as goal
@@ -8,13 +9,13 @@ use Rattle.mlir_work_session.proofs.script.put_answer.Goals as goal
 pub returns-in-Err : goal.returns-in-Err
 returns-in-Err g c =
     let line = reply_line c.args.n (response_of c.args.answered.now.reply) in
-    let more = some_listing_if c.args.listed (state_of g.L.Analysis.meaning c.args.world.now c.args.panel.now) in
+    let more = some_listing_if c.args.listed (state_of g.L.Analysis.meaning c.args.bench.now) in
     (line ++ (c.args.answered.now.shows.items ++ more.0), (more.0, more.1, refl), front_more _ _ line (c.args.answered.now.shows.items ++ more.0) c.in-Err.ensures)
 
 pub returns-in-Err-put : goal.returns-in-Err-put
 returns-in-Err-put g c =
     let line = reply_line c.args.n (response_of c.args.answered.now.reply) in
-    let more = some_listing_if c.args.listed (state_of g.L.Analysis.meaning c.args.world.now c.args.panel.now) in
+    let more = some_listing_if c.args.listed (state_of g.L.Analysis.meaning c.args.bench.now) in
     (line ++ (c.args.answered.now.shows.items ++ more.0), (more.0, more.1, refl), front_within _ _ _ _ line c.args.answered.now.shows.items more.0 refl c.in-Ok.ensures (rw c.deref.ensures.value at c.in-Err-put.ensures))
 
 pub returns-then-listed : goal.returns-then-listed

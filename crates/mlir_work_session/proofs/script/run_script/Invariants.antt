@@ -1,20 +1,18 @@
 use Rattle.std.proofs.Common.{◌++◌, ◌+◌, ◌≤◌, List, ℕ, length}
 use Rattle.std.specs.Io.KnownBytes.{Appends}
-use Rattle.ir_event.specs.Modules.{things_in, module_in}
-use Rattle.ir_event.specs.Panels.{AllKept}
 use Rattle.mlir_work_script.specs.Lines.{lines_of}
-use Rattle.mlir_work_session.specs.Machine.{state_of}
+use Rattle.rewriter_base.specs.Benched.{IsKept, state_of}
 use Rattle.mlir_work_session.specs.Output.{Runs, worse}
 use Rattle.mlir_work_session.proofs.script.run_script.Given as goal
 
 -- what was written, and whatever the lines that are left may give, is what the script may give
 abbrev pub invariant-loop-text : goal.invariant-loop-text
 invariant-loop-text g l = let meaning = g.L.Analysis.meaning in record {
-  kept : AllKept meaning (things_in l.world) (module_in l.world) l.panel;
+  kept : IsKept meaning l.bench;
   count : l.n + length l.text ≤ 1 + length l.script;
   front : List ℕ;
   wrote : Appends (g.W.Write.contents l.initial.writer) (g.W.Write.contents l.writer) front;
-  whole : (later : ℕ) (rest : List ℕ) → Runs l.brief l.n (state_of meaning l.world l.panel) (lines_of l.text) later rest → Runs l.brief 1 (state_of meaning l.initial.world l.initial.panel) (lines_of l.script) (worse l.accepted later) (front ++ rest);
+  whole : (later : ℕ) (rest : List ℕ) → Runs l.brief l.n (state_of meaning l.bench) (lines_of l.text) later rest → Runs l.brief 1 (state_of meaning l.initial.bench) (lines_of l.script) (worse l.accepted later) (front ++ rest);
 }
 
 abbrev pub decreases-loop-text : goal.decreases-loop-text

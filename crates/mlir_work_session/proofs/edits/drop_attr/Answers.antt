@@ -1,0 +1,24 @@
+use Rattle.std.proofs.Common.{refl, ap}
+use Rattle.ir_types.specs.Terms.{name_term}
+use Rattle.machine.specs.Commands as command
+use Rattle.machine.specs.Commands.{Ask}
+use Rattle.machine.specs.Edits as edit
+use Rattle.machine.specs.Machine.{Do}
+use Rattle.mlir_work_script.specs.Keys.{key_bytes}
+use Rattle.mlir_work_session.proofs.Obeying.{obeys_behind, obeys_unnamed}
+use Rattle.mlir_work_session.proofs.edits.drop_attr.Goals as goal
+
+pub returns-in_default-clause-obeys : goal.returns-in_default-clause-obeys
+returns-in_default-clause-obeys g c = obeys_unnamed c.args.op (key_bytes c.args.key.now) _ _ c.name_of.ensures.grown.same
+
+pub returns-in_default-clause-kept : goal.returns-in_default-clause-kept
+returns-in_default-clause-kept g c = c.name_of.ensures.grown.kept c.requires
+
+pub returns-clause-obeys : goal.returns-clause-obeys
+returns-clause-obeys g c =
+    let d = c.name_of.new.bench.desk.ctx in
+    obeys_behind _ _ _ (command.DropAttr c.args.op (key_bytes c.args.key.now)) (Do (edit.DropAttr c.args.op (name_term d c.in-Some.key))) _ _ c.name_of.ensures.grown.same c.reply_to.ensures
+    (ap (λ k. Ask (Do (edit.DropAttr c.args.op k))) c.in-Some.ensures.name.1) c.drop_attr.ensures.does
+
+pub returns-clause-kept : goal.returns-clause-kept
+returns-clause-kept g c = c.led_benches_are_kept.ensures.kept _ _ c.drop_attr.ensures.led (c.name_of.ensures.grown.kept c.requires)

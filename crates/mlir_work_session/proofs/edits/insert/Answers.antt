@@ -1,0 +1,34 @@
+use Rattle.std.proofs.Common.{refl, sym, None, ap}
+use Rattle.ir_tree.specs.Meaning.{meaning}
+use Rattle.machine.specs.Commands as command
+use Rattle.machine.specs.Edits as edit
+use Rattle.machine.specs.Machine.{Do}
+use Rattle.mlir_work_script.specs.Spots.{spot_of}
+use Rattle.mlir_work_session.specs.Machine.{response_of}
+use Rattle.mlir_work_session.proofs.Obeying.{obeys_behind, obeys_unread_op, obeys_unplaced}
+use Rattle.mlir_work_session.proofs.Reading.{spot_behind}
+use Rattle.mlir_work_session.proofs.edits.insert.Goals as goal
+
+pub returns-in-Err-clause-obeys : goal.returns-in-Err-clause-obeys
+returns-in-Err-clause-obeys g c = obeys_unread_op (spot_of c.args.spot.now) c.args.text.now _ _ (response_of c.in-Err.reply) c.operation_of.ensures.grown.same c.in-Err.ensures.unread
+
+pub returns-in-Err-clause-kept : goal.returns-in-Err-clause-kept
+returns-in-Err-clause-kept g c = c.operation_of.ensures.grown.kept c.requires
+
+pub returns-in-Err-place_for-clause-obeys : goal.returns-in-Err-place_for-clause-obeys
+returns-in-Err-place_for-clause-obeys g c =
+    let o = meaning c.operation_of.new.bench.desk.ctx c.in-Ok.tree in
+    obeys_unplaced (spot_of c.args.spot.now) c.args.text.now _ _ o c.in-Err-place_for.refusal c.operation_of.ensures.grown.same c.in-Ok.ensures.read
+    (spot_behind g.L.Analysis.meaning c.args.bench.now c.operation_of.new.bench _ None (spot_of c.args.spot.now) _ c.operation_of.ensures.grown c.world.ensures.store (sym c.in-Err-place_for.ensures))
+
+pub returns-in-Err-place_for-clause-kept : goal.returns-in-Err-place_for-clause-kept
+returns-in-Err-place_for-clause-kept g c = c.operation_of.ensures.grown.kept c.requires
+
+pub returns-in-Ok-place_for-clause-obeys : goal.returns-in-Ok-place_for-clause-obeys
+returns-in-Ok-place_for-clause-obeys g c =
+    let o = meaning c.operation_of.new.bench.desk.ctx c.in-Ok.tree in
+    obeys_behind _ _ _ (command.Insert (spot_of c.args.spot.now) c.args.text.now) (Do (edit.Insert c.in-Ok-place_for.place o)) _ _ c.operation_of.ensures.grown.same c.reply_as.ensures
+    (o, c.in-Ok.ensures.read, (c.in-Ok-place_for.place, spot_behind g.L.Analysis.meaning c.args.bench.now c.operation_of.new.bench _ None (spot_of c.args.spot.now) _ c.operation_of.ensures.grown c.world.ensures.store (sym c.in-Ok-place_for.ensures), refl)) c.insert.ensures.does
+
+pub returns-in-Ok-place_for-clause-kept : goal.returns-in-Ok-place_for-clause-kept
+returns-in-Ok-place_for-clause-kept g c = c.led_benches_are_kept.ensures.kept _ _ c.insert.ensures.led (c.operation_of.ensures.grown.kept c.requires)

@@ -1,0 +1,17 @@
+use Rattle.std.proofs.Common.{rules, arith, ◌≡◌, ◌≤◌}
+use Rattle.ir_types.specs.Refusals.{number_of}
+use Rattle.ir_types.specs.declared.refusal.Refusal.TheVariants.{Unexpected}
+use Rattle.ir_text_attributes.specs.Spelling.{SpellsAttr}
+use Rattle.world_texts.specs.Texts.{SpellsBeside}
+use Rattle.mlir_work_session.proofs.Reading.{unread_at}
+use Rattle.mlir_work_session.proofs.unread.refused_at.Goals as goal
+
+pub returns-then-number-le-LAST_OF_TEXTS-clause-attr : goal.returns-then-number-le-LAST_OF_TEXTS-clause-attr
+returns-then-number-le-LAST_OF_TEXTS-clause-attr c text none =
+    let small : number_of c.args.refusal ≤ 14 = search rules in
+    unread_at (SpellsAttr text) c.args.refusal c.args.offset small none
+
+pub returns-then-number-le-LAST_OF_TEXTS-clause-op : goal.returns-then-number-le-LAST_OF_TEXTS-clause-op
+returns-then-number-le-LAST_OF_TEXTS-clause-op c m text none =
+    let small : number_of c.args.refusal ≤ 14 = search rules in
+    unread_at (SpellsBeside m text) c.args.refusal c.args.offset small none
