@@ -6,6 +6,7 @@ ghost use Rattle.ir_tree.specs.Meaning.{meaning, isolated_in, IsSoundIn};
 ghost use Rattle.ir_tree.specs.WellFormed.{IsFormed};
 ghost use Rattle.ir_event.specs.Modules.{module_in};
 ghost use Rattle.ir_text.specs.Public.{IsOnly, Spells};
+ghost use Rattle.journals.specs.Journals.{IsSlotted, IsTidy};
 ghost use Rattle.machine.specs.Panels.{all_shown};
 ghost use Rattle.mlir_work_script.specs.Lines.{lines_of};
 ghost use Rattle.mlir_work_script.specs.Parts.{module_text, script_text};
@@ -25,6 +26,7 @@ use ir_tree::count::op_count;
 use ir_tree::tree::TreeOp;
 use ir_types::context::Context;
 use ir_types::refusal::Refusal;
+use journals::laws::{stores_stay_slotted, stores_stay_tidy};
 use mlir_work_script::input::{MAX_INPUT_BYTES, ReadFault, read_all, script_is_too_long, split};
 use mlir_work_script::replies::put_module_refused;
 use mlir_work_script::writing::{WriteFault, flush};
@@ -94,8 +96,12 @@ fn hold(alloc: Global, ctx: Context, tree: TreeOp) -> Option<World>
     requires sound { IsSoundIn ctx tree }
     requires numbered { IsNumberedFrom 0 tree }
     requires formed { IsFormed (isolated_in ctx) tree }
-    ensures { IfSome result (λ w. module_in w ≡ record { tree = meaning ctx tree; next = op_count tree }) }
+    ensures module { IfSome result (λ w. module_in w ≡ record { tree = meaning ctx tree; next = op_count tree }) }
+    ensures slotted { IfSome result (λ w. IsSlotted w.store) }
+    ensures tidy { IfSome result (λ w. IsTidy w.store) }
 {
+    stores_stay_slotted();
+    stores_stay_tidy();
     let Some(next) = next_free(&tree) else {
         return None;
     };
@@ -205,6 +211,8 @@ fn answer_script<W: Write, L: Analysis>(
     writer: &mut W,
     boxes: Vec<L>,
 ) -> Result<u8, WriteFault>
+    requires slotted { IsSlotted world.store }
+    requires tidy { IsTidy world.store }
     ensures { RanOut (IsSession brief (all_shown L.meaning boxes.items) (module_in world) script.now) (W.contents writer.old) (W.contents writer.new) result }
 {
     match run_session(alloc, brief, world, script, writer, boxes) {

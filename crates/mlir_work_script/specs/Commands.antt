@@ -32,6 +32,12 @@ said_of (code.SetOperand op operand value) = said.SetOperand op operand value
 said_of (code.Move op spot) = said.Move op (spot_of spot)
 said_of (code.SetAttr op key attribute) = said.SetAttr op (key_bytes key) attribute.now
 said_of (code.DropAttr op key) = said.DropAttr op (key_bytes key)
+said_of (code.Erase op) = said.Erase op
+said_of (code.Insert spot operation) = said.Insert (spot_of spot) operation.now
+said_of (code.Replace old new) = said.Replace old new
+said_of code.Begin = said.Begin
+said_of code.Commit = said.Commit
+said_of code.Rollback = said.Rollback
 said_of (code.Detach kind) = said.Detach kind
 said_of (code.Resync kind) = said.Resync kind
 
@@ -88,23 +94,60 @@ drop_attr_from None p = None
 abbrev pub drop_attr_in : List ℕ → Option Said
 drop_attr_in rest = drop_attr_from (op_of (word_of rest)) (key_in (after_word rest))
 
--- the command of this name, with the text behind the name: one that shows or follows
+-- erase #N
+abbrev pub erase_in : List ℕ → Option Said
+erase_in rest = alone (after_word rest) (option_map said.Erase (op_of (word_of rest)))
+
+abbrev pub insert_from : Option (Spot × List ℕ) → Option Said
+insert_from (Some p) = if length p.1 == 0 then None else Some (said.Insert p.0 p.1)
+insert_from None = None
+
+-- insert PLACE OPERATION, where the operation is the rest of the line
+abbrev pub insert_in : List ℕ → Option Said
+insert_in rest = insert_from (spot_in rest)
+
+abbrev pub replace_from : Option Value → Option Value → Option Said
+replace_from (Some old) (Some new) = Some (said.Replace old new)
+replace_from (Some old) None = None
+replace_from None new = None
+
+-- replace VALUE VALUE
+abbrev pub replace_in : List ℕ → Option Said
+replace_in rest = alone (after_word (after_word rest)) (replace_from (value_of (word_of rest)) (value_of (word_of (after_word rest))))
+
+-- the command of this name, with the text behind the name: one on marks
+abbrev pub mark_command : List ℕ → List ℕ → Option Said
+mark_command name rest =
+    if bytes_eq name (codes "begin") then alone rest (Some said.Begin)
+    else if bytes_eq name (codes "commit") then alone rest (Some said.Commit)
+    else if bytes_eq name (codes "rollback") then alone rest (Some said.Rollback)
+    else None
+
+-- one that shows or follows
 abbrev pub panel_command : List ℕ → List ℕ → Option Said
 panel_command name rest =
     if bytes_eq name (codes "report") then with_kind said.Report rest
     else if bytes_eq name (codes "print") then alone rest (Some said.Print)
     else if bytes_eq name (codes "detach") then with_kind said.Detach rest
     else if bytes_eq name (codes "resync") then with_kind said.Resync rest
-    else None
+    else mark_command name rest
+
+-- one that edits entries
+abbrev pub entry_command : List ℕ → List ℕ → Option Said
+entry_command name rest =
+    if bytes_eq name (codes "set-attr") then set_attr_in rest
+    else if bytes_eq name (codes "drop-attr") then drop_attr_in rest
+    else panel_command name rest
 
 -- the command of this name, with the text behind the name
 abbrev pub named : List ℕ → List ℕ → Option Said
 named name rest =
     if bytes_eq name (codes "set-operand") then set_operand_in rest
+    else if bytes_eq name (codes "replace") then replace_in rest
+    else if bytes_eq name (codes "erase") then erase_in rest
     else if bytes_eq name (codes "move") then move_in rest
-    else if bytes_eq name (codes "set-attr") then set_attr_in rest
-    else if bytes_eq name (codes "drop-attr") then drop_attr_in rest
-    else panel_command name rest
+    else if bytes_eq name (codes "insert") then insert_in rest
+    else entry_command name rest
 
 -- the command that a trimmed line is
 abbrev pub command_of : List ℕ → Option Said

@@ -3,7 +3,7 @@ ghost use Rattle.std.specs.Prelude.{◌≡◌, Some};
 ghost use Rattle.std.specs.Option.{option_map};
 ghost use Rattle.std.specs.Str.{is_utf8};
 ghost use Rattle.machine.specs.Commands as said;
-ghost use Rattle.mlir_work_script.specs.Commands.{said_of, spoken_of, with_kind, set_operand_in, move_in, set_attr_in, drop_attr_in, alone, panel_command, command_of, line_says};
+ghost use Rattle.mlir_work_script.specs.Commands.{said_of, spoken_of, with_kind, set_operand_in, move_in, set_attr_in, drop_attr_in, erase_in, insert_in, replace_in, alone, entry_command, mark_command, panel_command, command_of, line_says};
 
 use crate::keys::{Key, split_key};
 use crate::kind::{Kind, kind_named};
@@ -30,12 +30,28 @@ pub enum Command<'a> {
         /// What the operand is to be.
         value: Value,
     },
+    /// `replace VALUE VALUE` sets one value in place of another, wherever that is used.
+    Replace {
+        /// The value that is used.
+        old: Value,
+        /// What is to be used.
+        new: Value,
+    },
+    /// `erase #N` takes an operation away, with what is inside it.
+    Erase(OpId),
     /// `move #N PLACE` moves an operation, with what is inside it.
     Move {
         /// The operation.
         op: OpId,
         /// Where it is to stand.
         spot: Spot,
+    },
+    /// `insert PLACE OPERATION` puts an operation in, with what is inside it.
+    Insert {
+        /// Where it is to stand.
+        spot: Spot,
+        /// The text of the operation.
+        operation: &'a [u8],
     },
     /// `set-attr #N KEY ATTRIBUTE` sets an entry of an operation.
     SetAttr {
@@ -53,6 +69,12 @@ pub enum Command<'a> {
         /// The entry's key.
         key: Key<'a>,
     },
+    /// `begin` makes a mark of the module.
+    Begin,
+    /// `commit` drops the newest mark.
+    Commit,
+    /// `rollback` goes back to the newest mark, and drops it.
+    Rollback,
     /// `detach KIND` drops an analysis.
     Detach(Kind),
     /// `resync KIND` begins an analysis again.
@@ -112,16 +134,6 @@ fn resync(rest: &[u8]) -> Option<Command<'_>>
     Some(Command::Resync(kind))
 }
 
-/// `print`, behind its name.
-fn print(rest: &[u8]) -> Option<Command<'_>>
-    ensures { option_map said_of result ≡ alone rest.now (Some said.Print) }
-{
-    if !rest.is_empty() {
-        return None;
-    }
-    Some(Command::Print)
-}
-
 /// `set-operand #N K VALUE`, behind its name.
 fn set_operand(rest: &[u8]) -> Option<Command<'_>>
     ensures { option_map said_of result ≡ set_operand_in rest.now }
@@ -136,6 +148,55 @@ fn set_operand(rest: &[u8]) -> Option<Command<'_>>
     let operand = number(operand)?;
     let value = value_named(value)?;
     Some(Command::SetOperand { op, operand, value })
+}
+
+/// `replace VALUE VALUE`, behind its name.
+fn replace(rest: &[u8]) -> Option<Command<'_>>
+    ensures { option_map said_of result ≡ replace_in rest.now }
+{
+    let (old, rest) = split_word(rest);
+    let (new, left) = split_word(rest);
+    if !left.is_empty() {
+        return None;
+    }
+    let old = value_named(old)?;
+    let new = value_named(new)?;
+    Some(Command::Replace { old, new })
+}
+
+/// `erase #N`, behind its name.
+fn erase(rest: &[u8]) -> Option<Command<'_>>
+    ensures { option_map said_of result ≡ erase_in rest.now }
+{
+    let (op, left) = split_word(rest);
+    if !left.is_empty() {
+        return None;
+    }
+    let op = op_named(op)?;
+    Some(Command::Erase(op))
+}
+
+/// `insert PLACE OPERATION`, behind its name.
+fn insert(rest: &[u8]) -> Option<Command<'_>>
+    ensures { option_map said_of result ≡ insert_in rest.now }
+{
+    let Some((spot, operation)) = split_spot(rest) else {
+        return None;
+    };
+    if operation.is_empty() {
+        return None;
+    }
+    Some(Command::Insert { spot, operation })
+}
+
+/// A command that is a name alone.
+fn alone<'a>(rest: &'a [u8], command: Command<'a>) -> Option<Command<'a>>
+    ensures { option_map said_of result ≡ alone rest.now (Some (said_of command)) }
+{
+    if !rest.is_empty() {
+        return None;
+    }
+    Some(command)
 }
 
 /// `move #N PLACE`, behind its name.
@@ -179,7 +240,23 @@ fn drop_attr(rest: &[u8]) -> Option<Command<'_>>
     Some(Command::DropAttr { op, key })
 }
 
-/// The command of a name that shows something or is of an analysis.
+/// The command of a name that is about marks.
+fn mark_command<'a>(name: &[u8], rest: &'a [u8]) -> Option<Command<'a>>
+    ensures { option_map said_of result ≡ mark_command name.now rest.now }
+{
+    if name == b"begin".as_slice() {
+        return alone(rest, Command::Begin);
+    }
+    if name == b"commit".as_slice() {
+        return alone(rest, Command::Commit);
+    }
+    if name == b"rollback".as_slice() {
+        return alone(rest, Command::Rollback);
+    }
+    None
+}
+
+/// The command of a name that shows something, or is of an analysis or of marks.
 fn panel_command<'a>(name: &[u8], rest: &'a [u8]) -> Option<Command<'a>>
     ensures { option_map said_of result ≡ panel_command name.now rest.now }
 {
@@ -187,7 +264,7 @@ fn panel_command<'a>(name: &[u8], rest: &'a [u8]) -> Option<Command<'a>>
         return report(rest);
     }
     if name == b"print".as_slice() {
-        return print(rest);
+        return alone(rest, Command::Print);
     }
     if name == b"detach".as_slice() {
         return detach(rest);
@@ -195,7 +272,20 @@ fn panel_command<'a>(name: &[u8], rest: &'a [u8]) -> Option<Command<'a>>
     if name == b"resync".as_slice() {
         return resync(rest);
     }
-    None
+    mark_command(name, rest)
+}
+
+/// The command of a name that edits entries, or none.
+fn entry_command<'a>(name: &[u8], rest: &'a [u8]) -> Option<Command<'a>>
+    ensures { option_map said_of result ≡ entry_command name.now rest.now }
+{
+    if name == b"set-attr".as_slice() {
+        return set_attr(rest);
+    }
+    if name == b"drop-attr".as_slice() {
+        return drop_attr(rest);
+    }
+    panel_command(name, rest)
 }
 
 /// The command that a trimmed line is.
@@ -206,16 +296,19 @@ fn command_in(text: &[u8]) -> Option<Command<'_>>
     if name == b"set-operand".as_slice() {
         return set_operand(rest);
     }
+    if name == b"replace".as_slice() {
+        return replace(rest);
+    }
+    if name == b"erase".as_slice() {
+        return erase(rest);
+    }
     if name == b"move".as_slice() {
         return move_op(rest);
     }
-    if name == b"set-attr".as_slice() {
-        return set_attr(rest);
+    if name == b"insert".as_slice() {
+        return insert(rest);
     }
-    if name == b"drop-attr".as_slice() {
-        return drop_attr(rest);
-    }
-    panel_command(name, rest)
+    entry_command(name, rest)
 }
 
 /// What a line says. Spaces, tabs and carriage returns at its ends don't count; words are separated by

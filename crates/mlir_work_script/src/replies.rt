@@ -2,11 +2,12 @@
 ghost use Rattle.std.specs.Prelude.{◌++◌, Some, None, codes};
 ghost use Rattle.ir_types.specs.Refusals.{text_of};
 ghost use Rattle.mlir_work_script.specs.Kinds.{kind_word};
-ghost use Rattle.mlir_work_script.specs.Replies.{ok_line, refused_line, refused_at_line, module_refused_line, attach_refused_line, kind_line, stale_line, kind_memory_line, module_memory_line};
+ghost use Rattle.mlir_work_script.specs.Replies.{made_line, ok_line, refused_line, refused_at_line, module_refused_line, attach_refused_line, kind_line, stale_line, kind_memory_line, module_memory_line};
 ghost use Rattle.mlir_work_script.specs.Writes.{Puts};
 
 use crate::kind::{Kind, name_of};
 use crate::writing::{WriteFault, put, put_all};
+use ir_types::ids::OpId;
 use ir_types::refusal::Refusal;
 use itoa::Buffer;
 use std::io::Write;
@@ -17,6 +18,24 @@ pub fn put_ok<W: Write>(writer: &mut W, n: u64) -> Result<(), WriteFault>
 {
     let mut number = Buffer::new();
     put_all(writer, &[number.format(n).as_bytes(), b" ok\n"])
+}
+
+/// Writes that a command is accepted, which made an operation: `1 ok #12`.
+pub fn put_made<W: Write>(writer: &mut W, n: u64, op: OpId) -> Result<(), WriteFault>
+    ensures { Puts (W.contents writer.old) (W.contents writer.new) (made_line n op) result }
+{
+    let mut command = Buffer::new();
+    let mut number = Buffer::new();
+    put_all(
+        writer,
+        &[
+            command.format(n).as_bytes(),
+            b" ok ",
+            b"#",
+            number.format(op.number()).as_bytes(),
+            b"\n",
+        ],
+    )
 }
 
 /// Writes that a command is refused: `1 refused 22 HasUses`.

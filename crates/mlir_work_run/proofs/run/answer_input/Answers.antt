@@ -32,6 +32,6 @@ returns-in_default g c = ran_so (IsRefusal c.no_memory.result.refusal c.no_memor
 
 pub returns : goal.returns
 returns g c =
-    let world = world_is (module_text c.args.input.items) c.in-Ok.parts.0.0 c.in-Ok.parts.0.1 (module_in c.in-Some.world) c.in-Ok.ensures.read c.in-Some.ensures in
+    let world = world_is (module_text c.args.input.items) c.in-Ok.parts.0.0 c.in-Ok.parts.0.1 (module_in c.in-Some.world) c.in-Ok.ensures.read c.in-Some.ensures.module in
     let ran = rw (c.deref-3.ensures.value, c.in-Ok.ensures.script) at c.answer_script.ensures in
     ran_so (IsSession c.args.options.brief (all_shown g.L.Analysis.meaning c.args.boxes.items) (module_in c.in-Some.world) (script_text c.args.input.items)) (IsOutput c.args.options.brief (all_shown g.L.Analysis.meaning c.args.boxes.items) c.args.input.items) _ _ c.answer_script.result (λ st o h. inr (c.requires, inr (module_in c.in-Some.world, world, h))) ran

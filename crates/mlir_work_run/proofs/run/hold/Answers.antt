@@ -19,5 +19,11 @@ hold-requires-clause-below c = numbered_below c.args.tree c.in-Some.next c.in-So
 loaded_module : (w : World) (c : Things) (t : Op) (next count : ℕ) → w.ctx ≡ c → Loaded t next w.store → next ≡ count → ◌≡◌ {A = Module} (module_in w) (record { tree = meaning c t; next = count })
 loaded_module w c t next count e l n = ap (λ x. module_meaning x w.store.module_of) e ∙ ap (module_meaning c) l.module_of ∙ ap (λ k. module_meaning c (record { tree = t; next = k })) n
 
-pub returns-in-Ok-hold : goal.returns-in-Ok-hold
-returns-in-Ok-hold c = loaded_module c.in-Ok-hold.world c.args.ctx c.args.tree c.in-Some.next (op_count c.args.tree) c.in-Ok-hold.ensures.ctx c.in-Ok-hold.ensures.store c.in-Some.ensures
+pub returns-in-Ok-hold-clause-module : goal.returns-in-Ok-hold-clause-module
+returns-in-Ok-hold-clause-module c = loaded_module c.in-Ok-hold.world c.args.ctx c.args.tree c.in-Some.next (op_count c.args.tree) c.in-Ok-hold.ensures.ctx c.in-Ok-hold.ensures.store c.in-Some.ensures
+
+pub returns-in-Ok-hold-clause-slotted : goal.returns-in-Ok-hold-clause-slotted
+returns-in-Ok-hold-clause-slotted c = c.stores_stay_slotted.ensures.loaded c.args.tree c.in-Some.next c.in-Ok-hold.world.store c.in-Ok-hold.ensures.store
+
+pub returns-in-Ok-hold-clause-tidy : goal.returns-in-Ok-hold-clause-tidy
+returns-in-Ok-hold-clause-tidy c = c.stores_stay_tidy.ensures.loaded c.args.tree c.in-Some.next c.in-Ok-hold.world.store c.in-Ok-hold.ensures.store
