@@ -112,6 +112,15 @@ def entry_says(name, rest):
     return f"{name.decode()} {op_of(op)[0]} {told(key)}" + (told(rest) if rest else "")
 
 
+def insert_says(rest):
+    found = re.fullmatch(rb"(before|after)[ \t]+([^ \t]+)[ \t]+(.+)|(start|end)[ \t]+([^ \t]+)[ \t]+([^ \t]+)[ \t]+(.+)", rest, re.S)
+    if not found:
+        return "bad"
+    beside, op, text, inside, around, region, other = found.groups()
+    spot, _ = spot_of([beside, op] if beside else [inside, around, region])
+    return f"insert {spot} {told(text or other)}" if spot else "bad"
+
+
 def line_says(line):
     try:
         line.decode()
@@ -121,8 +130,12 @@ def line_says(line):
     if not text or text.startswith(b"//"):
         return "nothing"
     words = re.split(rb"[ \t]+", text)
-    if words == [b"print"]:
-        return "print"
+    if words in ([b"print"], [b"begin"], [b"commit"], [b"rollback"]):
+        return words[0].decode()
+    if len(words) == 2 and words[0] == b"erase" and op_of(words[1]):
+        return f"erase {op_of(words[1])[0]}"
+    if len(words) == 3 and words[0] == b"replace" and value_of(words[1]) and value_of(words[2]):
+        return f"replace {dotted(value_of(words[1]))} {dotted(value_of(words[2]))}"
     if len(words) == 2 and words[0] in (b"report", b"detach", b"resync") and kind_of(words[1]) is not None:
         return f"{words[0].decode()} {kind_of(words[1])}"
     if len(words) == 4 and words[0] == b"set-operand":
@@ -134,6 +147,8 @@ def line_says(line):
         if spot and not more:
             return f"move {op_of(words[1])[0]} {spot}"
     name, rest = re.fullmatch(rb"([^ \t]*)[ \t]*(.*)", text, re.S).groups()
+    if name == b"insert":
+        return insert_says(rest)
     if name in (b"set-attr", b"drop-attr"):
         return entry_says(name, rest)
     return "bad"
@@ -157,6 +172,11 @@ SETS = {"set-operand #3 0 %v2.0": "3 0 2.0", "set-operand\t#3\t\t0 %v2.1\r": "3 
 MOVES = {"move #3 before #2": "3 before 2", "move\t#3  after\t#002\r": "3 after 2", "move #3 start #1 0": "3 start 1 0", "move #3 end #1 00": "3 end 1 0",
          "move #4294967295 end #4294967295 4294967295": "4294967295 end 4294967295 4294967295"}
 KINDS_ALONE = {"detach uses": "detach 1", "resync uses": "resync 1", "detach kind9": "detach 9", "\tresync  kind255 \r": "resync 255", "detach constants": "detach 6"}
+ALONE = {"begin": "begin", "\tcommit \r": "commit", "rollback\t": "rollback", "erase #1": "erase 1", " erase\t#0004294967295": "erase 4294967295",
+         "replace %v1.0 %a2.0.1": "replace 1.0 2.0.1", "replace\t%a1.2.3  %v01.00\r": "replace 1.2.3 1.0", "replace %v1.0 %v1.0": "replace 1.0 1.0"}
+INSERTS = {"insert end #0 0 x": "insert end 0 0 [x]", "insert before #3 \"test.a\"() : () -> ()": 'insert before 3 ["test.a"() : () -> ()]',
+           "insert\tafter\t#03\t\t%a  =  \r": "insert after 3 [%a  =]", "insert start #1 00 // x": "insert start 1 0 [// x]", "insert end #1 2 0": "insert end 1 2 [0]",
+           "insert before #3 #4": "insert before 3 [#4]", "insert before #1 a\rb": "insert before 1 [a\\rb]"}
 ENTRIES = {"set-attr #3 k 1 : i32": "set-attr 3 [k][1 : i32]", "set-attr\t#03\t k.a$_9\t\t unit ": "set-attr 3 [k.a$_9][unit]", "drop-attr #3 k": "drop-attr 3 [k]",
            'set-attr #3 "a b" 1': "set-attr 3 [a b][1]", 'drop-attr #3 ""': "drop-attr 3 []", 'drop-attr #3 "\\n\\t\\\\\\"\\4aZ"': 'drop-attr 3 [\\n\\t\\"JZ]',
            'set-attr #0 "" unit': "set-attr 0 [][unit]", "set-attr #3 _ // x": "set-attr 3 [_][// x]", "set-attr #3 k =": "set-attr 3 [k][=]",
@@ -167,7 +187,10 @@ set-attr|set-attr #3|set-attr #3 k|set-attr #3 k \t|set-attr 3 k 1|set-attr #3 9
 set-attr #3 "\\q" 1|set-attr #3 "\\4" 1|set-attr #3 "k"\r 1|set-attr #3 \r"k" 1|set-attr #3 k\r 1|set-attr #3 \xe9 1|set-attr # k 1|set_attr #3 k 1
 set-attr #3 "a\rb" 1|set-attr #3 "a\x0bb" 1|set-attr #3 @k 1|set-attr #3 = 1|set-attr #3 // 1
 drop-attr|drop-attr #3|drop-attr #3 k x|drop-attr #3 "k" x|drop-attr #3 "k|drop-attr 3 k|drop-attr #3 9|drop-attr #3 k k|drop-attr #3 //
-detach|detach uses uses|detach Uses|detach kind1|detachuses|resync|resync uses x|resync use|resync kind256|erase #1|insert end #0 0 x|begin|commit|rollback|canon
+detach|detach uses uses|detach Uses|detach kind1|detachuses|resync|resync uses x|resync use|resync kind256|canon
+erase|erase 1|erase #|erase #1 x|erase #1 #2|erase #4294967296|Erase #1|erase#1|replace|replace %v1.0|replace %v1.0 %v1|replace %v1.0 %v2.0 x|replace 1.0 %v2.0|replace %v1.0 #2
+replace %v4294967296.0 %v1.0|insert|insert end|insert end #0|insert end #0 0|insert end #0 0 \t|insert end #0 x y|insert end 0 0 x|insert before #1|insert before #1 \t|insert before 1 x|insert under #1 x
+insert end #0 4294967296 x|insert "test.a"() : () -> ()|begin x|begin //|Begin|commit 1|commits|rollback #1|rollback  x|roll back|undo
 report|report nonsense|report Uses|report use|report uses uses|report uses \r x|reportuses|Report uses|report kind|report kind1
 report kind6|report kind07|report kind00|report kind256|report kind4294967305|report kind-1|report kind9x|report 1|report unreached
 print x|print //|Print|prin|prints|/print|print\x0b|\x0cprint|jump|set-operand|set-operand #3|set-operand #3 0|set-operand #3 0 %v2.0 x
@@ -191,7 +214,7 @@ def lines():
         line(text, "set " + want)
     for text, want in MOVES.items():
         line(text, "move " + want)
-    for table in (KINDS_ALONE, ENTRIES):
+    for table in (KINDS_ALONE, ALONE, INSERTS, ENTRIES):
         for text, want in table.items():
             line(text, want)
     for text in BAD:

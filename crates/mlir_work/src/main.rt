@@ -3,6 +3,9 @@
 
 use clap::Error;
 use clap::error::ErrorKind;
+use constants::constants::Constants;
+use effects::dead::Dead;
+use effects::effects::Effects;
 use ir_event::analysis::Analysis;
 use ir_verify::diagnostics::Diagnostics;
 use listeners::uses::Uses;
@@ -13,6 +16,7 @@ use std::io::BufWriter;
 use std::process::ExitCode;
 use std::random::RandomSource;
 use std::{env, io};
+use symbols::symbols::Symbols;
 
 /// Says that there is no memory to begin a run, and gives the status.
 fn no_memory(rt: &HostRuntime) -> u8 {
@@ -59,7 +63,11 @@ fn answer_words(rt: &HostRuntime, error: &Error) -> u8 {
 fn run_all(rt: &HostRuntime, options: Options) -> Result<u8, AllocError> {
     let mut boxes: Vec<Box<dyn Analysis>> = Vec::new(rt.alloc());
     boxes.push(Box::new(rt.alloc(), Uses::new(rt.alloc()))?)?;
+    boxes.push(Box::new(rt.alloc(), Symbols::new(rt.alloc()))?)?;
     boxes.push(Box::new(rt.alloc(), Diagnostics::new(rt.alloc()))?)?;
+    boxes.push(Box::new(rt.alloc(), Effects::new(rt.alloc()))?)?;
+    boxes.push(Box::new(rt.alloc(), Dead::new(rt.alloc()))?)?;
+    boxes.push(Box::new(rt.alloc(), Constants::new(rt.alloc()))?)?;
     let mut reader = rt.stdin();
     let Ok(mut writer) = BufWriter::new(rt.alloc(), io::writer(rt)) else {
         return Err(AllocError);

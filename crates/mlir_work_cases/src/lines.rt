@@ -42,6 +42,20 @@ fn told_move(alloc: Global, op: OpId, spot: &Spot) -> Result<String, AllocError>
     format!(in alloc; "move {} {place}", op.number())
 }
 
+/// A line that sets one value in place of another.
+fn told_replace(alloc: Global, old: Value, new: Value) -> Result<String, AllocError> {
+    let old = told_value(alloc, old)?;
+    let new = told_value(alloc, new)?;
+    format!(in alloc; "replace {old} {new}")
+}
+
+/// A line that puts an operation in.
+fn told_insert(alloc: Global, spot: &Spot, operation: &[u8]) -> Result<String, AllocError> {
+    let place = told_spot(alloc, spot)?;
+    let operation = shown(alloc, operation)?;
+    format!(in alloc; "insert {place} {operation}")
+}
+
 /// The bytes that a key stands for.
 fn told_key(alloc: Global, key: &Key<'_>) -> Result<String, AllocError> {
     let bytes = bytes_of(alloc, key)?;
@@ -66,17 +80,31 @@ fn told_drop_attr(alloc: Global, op: OpId, key: &Key<'_>) -> Result<String, Allo
     format!(in alloc; "drop-attr {} {key}", op.number())
 }
 
+/// A command that edits.
+fn told_edit(alloc: Global, command: &Command<'_>) -> Result<String, AllocError> {
+    match command {
+        Command::SetOperand { op, operand, value } => told_set(alloc, *op, *operand, *value),
+        Command::Move { op, spot } => told_move(alloc, *op, spot),
+        Command::SetAttr { op, key, attribute } => told_set_attr(alloc, *op, key, attribute),
+        Command::DropAttr { op, key } => told_drop_attr(alloc, *op, key),
+        Command::Replace { old, new } => told_replace(alloc, *old, *new),
+        Command::Erase(op) => format!(in alloc; "erase {}", op.number()),
+        Command::Insert { spot, operation } => told_insert(alloc, spot, operation),
+        _ => String::from_str(alloc, "no edit"),
+    }
+}
+
 /// A command.
 fn told_command(alloc: Global, command: &Command<'_>) -> Result<String, AllocError> {
     match command {
         Command::Report(kind) => format!(in alloc; "report {}", kind.number()),
         Command::Print => String::from_str(alloc, "print"),
-        Command::SetOperand { op, operand, value } => told_set(alloc, *op, *operand, *value),
-        Command::Move { op, spot } => told_move(alloc, *op, spot),
-        Command::SetAttr { op, key, attribute } => told_set_attr(alloc, *op, key, attribute),
-        Command::DropAttr { op, key } => told_drop_attr(alloc, *op, key),
         Command::Detach(kind) => format!(in alloc; "detach {}", kind.number()),
         Command::Resync(kind) => format!(in alloc; "resync {}", kind.number()),
+        Command::Begin => String::from_str(alloc, "begin"),
+        Command::Commit => String::from_str(alloc, "commit"),
+        Command::Rollback => String::from_str(alloc, "rollback"),
+        _ => told_edit(alloc, command),
     }
 }
 

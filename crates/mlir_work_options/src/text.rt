@@ -17,14 +17,21 @@ Commands, one a line; an empty line and a line that begins with `//` say nothing
   print                      the module
   report KIND                the rows of an analysis
   set-operand #N K VALUE     VALUE becomes operand K of operation #N
+  replace VALUE VALUE        the second VALUE is used in place of the first, everywhere
+  insert PLACE OPERATION     OPERATION, the rest of the line, is put in, with what is inside it
+  erase #N                   operation #N, with what is inside it, is taken away
   set-attr #N KEY ATTRIBUTE  ATTRIBUTE, the rest of the line, becomes the entry KEY of operation #N
   drop-attr #N KEY           the entry KEY of operation #N is taken out
   move #N PLACE              operation #N, with what is inside it, is moved
+  begin                      a mark is made of the module
+  commit                     the newest mark is dropped
+  rollback                   the module of the newest mark is held again, and the mark is dropped
   detach KIND                an analysis is dropped
   resync KIND                an analysis begins again
 
-Each command is replied to by a line that begins with its number: `1 ok`, or `1 refused 23 NotVisible`, and
-then the module is as it was; `1 refused 2 Unexpected at 4` says where the ATTRIBUTE is wrong. Operations are
+Each command is replied to by a line that begins with its number: `1 ok`, with the number of an operation that was
+put in, as `1 ok #4`, or `1 refused 23 NotVisible`, and then the module is as it was; `1 refused 2 Unexpected at 4`
+says where the ATTRIBUTE or OPERATION is wrong. An OPERATION names values of the module as a VALUE does. Operations are
 numbered in the order of the text, and the module around them is #0. A VALUE is %vN.K, result K of #N, or
 %aN.R.K, argument K of the block of region R of #N. A PLACE is `before #N`, `after #N`, or `start #N R` or
 `end #N R`, of the block of region R of #N. A KEY is a bare identifier or a string literal; it is one of the
@@ -32,7 +39,11 @@ properties where it is inherent to the operation or they have it, else one of th
 
 Kinds:
   uses         the uses of each value: the value, the operation that uses it, and the number of the operand
+  symbols      the symbols that are defined, and what each reference to one resolves to
   diagnostics  what the verifier finds wrong: the operation, and the number of the rule that it breaks
+  effects      what operations do to memory: `unknown`, `allocate`, `free`, `read`, `write`
+  dead         the operations that may be erased: no result is used, and nothing is written or freed
+  constants    the values that are known without running, each with its attribute
 
 Exit status:
   0  each command was accepted; also of --help and --version
