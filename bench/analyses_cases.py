@@ -19,7 +19,6 @@ SEED = 20
 MODULES, SCRIPTS, COMMANDS = 300, 100, 10
 KINDS = ("symbols", "effects", "dead", "constants")
 GROUPS = (("symbols",), ("effects", "dead"), ("constants",))
-WITH_EDITS = False
 TABLE = Table()
 
 
@@ -220,13 +219,12 @@ def by_scripts(cases, maker):
 print("seeds", SEED, verifier_cases.SEED)
 maker = random.Random(SEED)
 for kinds in GROUPS:
-    cases = Cases(("uses", *kinds), script.FIRST)
+    cases = Cases(("uses", *kinds), script.ALL)
     for kind in kinds:
         by_hand(cases, kind)
         by_chance(cases, kind, maker)
-verifier_cases.all_cases(Cases(verifier_cases.BOXES, script.FIRST).run)
-if WITH_EDITS:
-    cases = Cases(script.BOXES, script.ALL)
-    by_edits(cases)
-    by_scripts(cases, maker)
+verifier_cases.all_cases(Cases(verifier_cases.BOXES, script.ALL).run)
+cases = Cases(script.BOXES, script.ALL)
+by_edits(cases)
+by_scripts(cases, maker)
 TABLE.write("analyses_cases")

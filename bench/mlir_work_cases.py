@@ -385,7 +385,7 @@ BOXES = ("uses", "diagnostics")
 
 def run(how, text, status, out):
     if how in ("brief", "full"):
-        assert script.run(text, how == "brief", BOXES, script.FIRST) == (status, out), text
+        assert script.run(text, how == "brief", BOXES, script.ALL) == (status, out), text
     case(f"run {how} {given(text)}", f"{status} {told(out)}")
 
 
@@ -455,7 +455,7 @@ def runs():
 def due(text, refusals=()):
     """A run in both forms, with what is due by the rules; these refusals are among its replies, and no others."""
     for how in ("brief", "full"):
-        status, out = script.run(text, how == "brief", BOXES, script.FIRST)
+        status, out = script.run(text, how == "brief", BOXES, script.ALL)
         seen = set(re.findall(rb"(?m)^[0-9]+ refused ([0-9]+) ", out))
         assert seen == {str(number).encode() for number in refusals}, (text, seen)
         run(how, text, status, out)
@@ -503,7 +503,7 @@ def entries():
                   "#1 sym_name true", "#2 value 7 : i32", "#2 value 7 : i64", "#2 extra {a = unit, b = 2 : i8}", "#0 k array<i32: 1>", "#3 k 1 : i32 // x"):
         due(over + b"set-attr %s\n" % words.encode() + shown)
     for words in ("#3 k 256 : i8", "#3 k $", "#9 k $", "#3 k 1 : i32 x", "#3 k f32", "#3 k {a, a}", "#3 k (i32", "#3 k 1 : i129", "#3 k " + "[" * 33 + "]" * 33, "#3 k \"x\ty", "#3 k // x"):
-        status, out = script.run(over + b"set-attr %s\n" % words.encode(), True, BOXES, script.FIRST)
+        status, out = script.run(over + b"set-attr %s\n" % words.encode(), True, BOXES, script.ALL)
         assert re.fullmatch(rb"1 refused ([1-9]|1[0-4]) [A-Za-z0-9]+ at [0-9]+\n", out), (words, out)
         due(over + b"set-attr %s\n" % words.encode() + shown, [int(out.split()[2])])
     due(over + b"set-attr #9 k 1 : i32\ndrop-attr #9 k\ndrop-attr #3 nope\ndrop-attr #3 \"over flow\"\n" + shown, [20, 26])

@@ -189,14 +189,44 @@ fn insert(rest: &[u8]) -> Option<Command<'_>>
     Some(Command::Insert { spot, operation })
 }
 
-/// A command that is a name alone.
-fn alone<'a>(rest: &'a [u8], command: Command<'a>) -> Option<Command<'a>>
-    ensures { option_map said_of result ≡ alone rest.now (Some (said_of command)) }
+/// `print`, behind its name.
+fn print(rest: &[u8]) -> Option<Command<'_>>
+    ensures { option_map said_of result ≡ alone rest.now (Some said.Print) }
 {
     if !rest.is_empty() {
         return None;
     }
-    Some(command)
+    Some(Command::Print)
+}
+
+/// `begin`, behind its name.
+fn begin(rest: &[u8]) -> Option<Command<'_>>
+    ensures { option_map said_of result ≡ alone rest.now (Some said.Begin) }
+{
+    if !rest.is_empty() {
+        return None;
+    }
+    Some(Command::Begin)
+}
+
+/// `commit`, behind its name.
+fn commit(rest: &[u8]) -> Option<Command<'_>>
+    ensures { option_map said_of result ≡ alone rest.now (Some said.Commit) }
+{
+    if !rest.is_empty() {
+        return None;
+    }
+    Some(Command::Commit)
+}
+
+/// `rollback`, behind its name.
+fn rollback(rest: &[u8]) -> Option<Command<'_>>
+    ensures { option_map said_of result ≡ alone rest.now (Some said.Rollback) }
+{
+    if !rest.is_empty() {
+        return None;
+    }
+    Some(Command::Rollback)
 }
 
 /// `move #N PLACE`, behind its name.
@@ -245,13 +275,13 @@ fn mark_command<'a>(name: &[u8], rest: &'a [u8]) -> Option<Command<'a>>
     ensures { option_map said_of result ≡ mark_command name.now rest.now }
 {
     if name == b"begin".as_slice() {
-        return alone(rest, Command::Begin);
+        return begin(rest);
     }
     if name == b"commit".as_slice() {
-        return alone(rest, Command::Commit);
+        return commit(rest);
     }
     if name == b"rollback".as_slice() {
-        return alone(rest, Command::Rollback);
+        return rollback(rest);
     }
     None
 }
@@ -264,7 +294,7 @@ fn panel_command<'a>(name: &[u8], rest: &'a [u8]) -> Option<Command<'a>>
         return report(rest);
     }
     if name == b"print".as_slice() {
-        return alone(rest, Command::Print);
+        return print(rest);
     }
     if name == b"detach".as_slice() {
         return detach(rest);
