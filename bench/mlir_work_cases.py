@@ -516,6 +516,31 @@ def entries():
     due(many + DIVIDER + b"set-attr #1 k unit\nset-attr #1 k7 1 : i8\ndrop-attr #1 k9\nset-attr #1 k unit\nset-attr #1 l unit\n", [31])
 
 
+def wholes():
+    """Operations are inserted and erased with what is inside them, and values replaced; marks are made, and gone back to."""
+    over = BLOCKS + DIVIDER
+    shown = b"report uses\nreport diagnostics\nprint\n"
+    new = b'"t.n"(%v1.0) ({^c(%y: i8): %z = "t.o"(%y) : (i8) -> i8 "t.p"(%z) : (i8) -> ()}, {}) : (i1) -> ()'
+    for place in (b"end #0 0", b"before #5", b"after #1", b"start #2 0", b"end #2 2"):
+        due(over + b"insert %s %s\nerase #6\ninsert %s %s\n" % (place, new, place, new) + shown)
+    for place, number in ((b"start #0 0", 23), (b"before #1", 23), (b"before #9", 20), (b"after #0", 29), (b"end #2 1", 25), (b"end #1 0", 25)):
+        due(over + b"insert %s %s\n" % (place, new) + shown, [number])
+    for words, numbers in ((b"erase #1", [22]), (b"erase #2", []), (b"erase #3", [22]), (b"erase #5\nerase #1", []), (b"erase #0", [29]), (b"erase #6", [20]), (b"erase #2\nerase #3", [20]),
+                           (b"replace %v1.0 %a2.0.0", [23]), (b"replace %a2.0.0 %v1.0", []), (b"replace %v3.0 %v1.0\nerase #3", []), (b"replace %v1.0 %v1.0", []),
+                           (b"replace %v9.0 %v8.0", [21]), (b"replace %v1.0 %v8.0", [21]), (b"replace %v1.0 %v3.0", [23])):
+        due(over + words + b"\n" + shown, numbers)
+    twice = b'%a = "t.a"() : () -> i1\n%b = "t.b"() : () -> i1\n"t.c"(%a, %b, %a) : (i1, i1, i1) -> ()\n%d = "t.d"(%a) : (i1) -> i8\n' + DIVIDER
+    due(twice + b"replace %v1.0 %v2.0\nreplace %v2.0 %v1.0\nreplace %v1.0 %v4.0\n" + shown, [24])
+    due(twice + b"begin\nreplace %v1.0 %v2.0\nerase #1\nbegin\nerase #4\nrollback\nrollback\nrollback\n" + shown, [35])
+    due(twice + b"begin\nerase #4\ninsert end #0 0 %x = \"t.e\"() : () -> i1\ncommit\ncommit\ninsert end #0 0 \"t.f\"(%v5.0) : (i1) -> ()\n" + shown, [35])
+    due(twice + b"begin\n" * 17 + b"set-attr #3 k 1 : i8\n" + b"rollback\n" * 17 + shown, [34, 35])
+    due(twice + b"begin\nmove #2 before #1\nset-operand #3 0 %v2.0\ndrop-attr #3 k\nset-attr #3 k unit\ndrop-attr #3 k\nrollback\n" + shown, [26])
+    due(twice + b"begin\ninsert end #0 0 \"t.e\"() : () -> ()\nrollback\ninsert end #0 0 \"t.e\"() : () -> ()\n" + shown)
+    deep = nested(128) + b"\n" + DIVIDER
+    due(deep + b"insert end #127 0 \"t.a\"() : () -> ()\ninsert end #127 0 \"t.a\"() ({^a:}) : () -> ()\ninsert end #128 0 \"t.a\"() : () -> ()\n"
+        b"insert end #127 0 \"t.a\"() ({^a: \"t.b\"() : () -> ()}) : () -> ()\n", [33])
+
+
 def panels():
     """Analyses are dropped and begun again."""
     over = TEXT + DIVIDER
@@ -556,6 +581,7 @@ reads()
 runs()
 moves()
 entries()
+wholes()
 panels()
 command_lines()
 refused()
