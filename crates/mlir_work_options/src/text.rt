@@ -29,13 +29,14 @@ Commands, one a line; an empty line and a line that begins with `//` say nothing
   detach KIND                an analysis is dropped
   resync KIND                an analysis begins again
 
-Each command is replied to by a line that begins with its number: `1 ok`, with the number of an operation that was
-put in, as `1 ok #4`, or `1 refused 23 NotVisible`, and then the module is as it was; `1 refused 2 Unexpected at 4`
-says where the ATTRIBUTE or OPERATION is wrong. An OPERATION names values of the module as a VALUE does. Operations are
-numbered in the order of the text, and the module around them is #0. A VALUE is %vN.K, result K of #N, or
-%aN.R.K, argument K of the block of region R of #N. A PLACE is `before #N`, `after #N`, or `start #N R` or
-`end #N R`, of the block of region R of #N. A KEY is a bare identifier or a string literal; it is one of the
-properties where it is inherent to the operation or they have it, else one of the attributes.
+Each command is replied to by a line that begins with its number: `1 ok`, and after an insert the number of
+the new operation, as `1 ok #4`; or `1 refused 23 NotVisible`, and then the module is as it was;
+`1 refused 2 Unexpected at 4` says where the ATTRIBUTE or the OPERATION is wrong. Operations are numbered in
+the order of the text, and the module around them is #0. A VALUE is %vN.K, result K of #N, or %aN.R.K,
+argument K of the block of region R of #N; an OPERATION names values of the module in the same way. A PLACE
+is `before #N`, `after #N`, or `start #N R` or `end #N R`, of the block of region R of #N. A KEY is a bare
+identifier or a string literal; it is one of the properties where it is inherent to the operation or they
+have it, else one of the attributes.
 
 Kinds:
   uses         the uses of each value: the value, the operation that uses it, and the number of the operand
