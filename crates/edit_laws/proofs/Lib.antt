@@ -11,3 +11,5 @@ pub mod Bare
 pub mod Stepped
 pub mod AnyUse
 pub mod AnyType
+pub mod Tried
+pub mod LastFirst
