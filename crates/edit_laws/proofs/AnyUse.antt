@@ -1,17 +1,17 @@
 -- Replacing a value use by use, whichever of them is the next.
-use Rattle.std.proofs.Common.{◌≡◌, refl, ap, sym, ◌∙◌, subst, ℕ, zero, suc, ◌+◌, Bool, true, false, true≢false, cond, ◌&&◌, eqb, eq-eqb, eqb-true, List, [], ◌∷◌, ◌++◌, length, map, Option, Some, None, option_map, length-append, inl, inr, arith}
+use Rattle.std.proofs.Common.{◌≡◌, refl, ap, sym, ◌∙◌, subst, ℕ, zero, suc, ◌+◌, Bool, true, false, cond, eqb, eq-eqb, eqb-true, List, [], ◌∷◌, ◌++◌, length, map, Option, Some, None, option_map, length-append, inl, inr, arith}
 use Rattle.std.specs.Prelude.{slice_set, slice_get, option_and_then, is_some}
-use Rattle.std.specs.List.{IsDistinct, list_any}
+use Rattle.std.specs.List.{IsDistinct}
 use Rattle.std.specs.Option.{option_eq}
 use Rattle.std.proofs.lemmas.Map.Keys.{IsDistinct-tail}
 use Rattle.ir_types.specs.declared.refusal.Refusal.TheVariants.{NoSuchValue, NotVisible, TypeDiffers}
 use Rattle.ir_tree.specs.declared.value.Value.{Value}
 use Rattle.ir_tree.specs.declared.value.Value.TheVariants.{Result, Arg}
-use Rattle.ir_tree.specs.Tree.{HeadOf, OpOf, op, RegionsOf, no_regions, region, RegionOf, empty, block, head, regions}
+use Rattle.ir_tree.specs.Tree.{HeadOf, OpOf, op, RegionsOf, no_regions, region, empty, block, head}
 use Rattle.ir_tree.specs.Ids.{HasDistinctIds, find}
 use Rattle.ir_tree.specs.Uses.{same_value, operand_uses, uses_of}
 use Rattle.ir_tree.specs.Sites.{visible}
-use Rattle.ir_tree.specs.Edits.{each_head, regions_each_head, region_each_head, at, put_operand, with_operand, put_value, put_values, with_value_replaced}
+use Rattle.ir_tree.specs.Edits.{each_head, regions_each_head, at, put_operand, with_operand, put_value, put_values, with_value_replaced}
 use Rattle.ir_tree.specs.WellFormed.{ModuleOf, IsWellFormed}
 use Rattle.ir_tree.proofs.Heads.{head_find, head_visible, alike_operand}
 use Rattle.ir_tree.proofs.Replaced.{same_value_true}
@@ -27,10 +27,10 @@ use Rattle.ir_tree_laws.proofs.Formed.{from_formed}
 use Rattle.ir_tree_laws.proofs.Reasoned.{no_unless}
 use Rattle.ir_tree_laws.proofs.HeadForm.{in_gather, operand_keeps}
 use Rattle.ir_store.specs.Using.{same_use, is_use}
-use Rattle.machine.specs.Edits.{TestsOf, Replace, edited_by, reason_by}
+use Rattle.machine.specs.Edits.{TestsOf, Replace, reason_by}
 use Rattle.edit_laws.proofs.Setting.{apart, unequal, unchanged, twice, agree}
 use Rattle.edit_laws.proofs.Left.{gather_same, of_gather, head_each, user, uses_here, uses_then, elsewhere, uses_set}
-use Rattle.edit_laws.proofs.Allowed.{Takes, may_set, uses_see, each_takes}
+use Rattle.edit_laws.proofs.Allowed.{may_set, uses_see, each_takes}
 use Rattle.edit_laws.proofs.Parts.{passed}
 
 pub listed : (x k : ℕ) (us : List (ℕ × ℕ)) → is_use x k us ≡ true → In (x, k) us

@@ -21,7 +21,7 @@ use Rattle.ir_tree_laws.proofs.Members.{found_stands}
 use Rattle.ir_tree_laws.proofs.Around.{stand_present}
 use Rattle.ir_tree_laws.proofs.Without.{same_head}
 use Rattle.ir_tree_laws.proofs.PutForm.{put_found}
-use Rattle.machine.specs.Edits.{TestsOf, Erase, erase_reason, edited_by, reason_by}
+use Rattle.machine.specs.Edits.{TestsOf, Erase, erase_reason, reason_by}
 use Rattle.edit_laws.specs.Erasing.{ids_in, erase_order}
 use Rattle.edit_laws.proofs.Parts.{passed}
 use Rattle.edit_laws.proofs.Setting.{unequal}
