@@ -16,6 +16,7 @@ mod shift;
 mod sight;
 mod stand;
 pub mod store;
+mod using;
 mod walk;
 
 pub use ir_store_base::row;
