@@ -29,8 +29,12 @@ pub struct Bench<L> {
 impl<L> Model for Bench<L> {
     ghost use Rattle.rewriter_base.specs.Benched.{Benched};
     ghost use Rattle.journals.specs.Journals.{IsTidy};
+    ghost use Rattle.std.specs.Coded.{codes};
+    ghost use Rattle.ir_store.specs.Stored.{stored_code};
 
     ghost Value = { Benched L };
+
+    ghost coded = { Prim.hlevel (codes, stored_code) };
 
     ghost view = { λ b. record { desk = b.desk; listeners = b.panel } };
 

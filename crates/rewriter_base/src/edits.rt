@@ -1,5 +1,5 @@
 //! Edits that are one event each, of which the listeners are told.
-ghost use Rattle.std.specs.Prelude.{◌≡◌, ◌≢◌, ◌×◌, [], Some, true, IfOk, OnOk, OnErr};
+ghost use Rattle.std.specs.Prelude.{◌≡◌, ◌≢◌, [], Some, true, IfOk, OnOk, OnErr};
 ghost use Rattle.ir_types.specs.Terms.{name_term};
 ghost use Rattle.ir_types.specs.Words.{is_table};
 ghost use Rattle.ir_tree.specs.Meaning.{IsSoundIn, isolated_in};
