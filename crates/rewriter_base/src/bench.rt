@@ -104,7 +104,10 @@ impl<L: Analysis> Bench<L> {
         ensures listeners { self.new.listeners ≡ self.old.listeners }
         ensures led { Led L.meaning self.old self.new }
     {
-        self.desk.name(bytes)
+        self.desk.world().ctx.sound();
+        let id = self.desk.name(bytes);
+        self.desk.world().ctx.sound();
+        id
     }
 
     /// The number of a type whose parts are types of the context.
@@ -120,7 +123,10 @@ impl<L: Analysis> Bench<L> {
         ensures listeners { self.new.listeners ≡ self.old.listeners }
         ensures led { Led L.meaning self.old self.new }
     {
-        self.desk.ty(node)
+        self.desk.world().ctx.sound();
+        let id = self.desk.ty(node);
+        self.desk.world().ctx.sound();
+        id
     }
 
     /// The number of an attribute whose parts are names, types and attributes of the context.
@@ -136,6 +142,9 @@ impl<L: Analysis> Bench<L> {
         ensures listeners { self.new.listeners ≡ self.old.listeners }
         ensures led { Led L.meaning self.old self.new }
     {
-        self.desk.attr(node)
+        self.desk.world().ctx.sound();
+        let id = self.desk.attr(node);
+        self.desk.world().ctx.sound();
+        id
     }
 }
