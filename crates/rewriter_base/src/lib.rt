@@ -1,9 +1,10 @@
 //! The bench: a module under edits, with its marks, its journal and the listeners that follow it.
 #![tactic(auto)]
 
+mod attributes;
 pub mod bench;
 mod edits;
-mod entries;
+
 mod listeners;
 mod marks;
 mod texts;

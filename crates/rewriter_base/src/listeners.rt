@@ -11,7 +11,6 @@ ghost use Rattle.rewriter_base.specs.Benched.{Does, IsKept, attach_reply_of, rep
 
 use crate::bench::Bench;
 use ir_event::analysis::Analysis;
-use ir_event::laws::kept_listeners_stay_kept;
 use ir_event::row::{Kind, Row};
 use ir_types::refusal::Refusal;
 use std::alloc::Global;
@@ -28,7 +27,6 @@ impl<L: Analysis> Bench<L> {
         ensures does { Does L.meaning (Attach (shown (L.meaning listener))) (attach_reply_of result) self.old self.new }
         ensures kept { IsKept L.meaning self.old → IsKept L.meaning self.new }
     {
-        kept_listeners_stay_kept::<L>();
         self.panel.attach(self.desk.world(), listener)
     }
 
@@ -42,7 +40,6 @@ impl<L: Analysis> Bench<L> {
         ensures does { Does L.meaning (Detach kind) (reply_of result) self.old self.new }
         ensures kept { IsKept L.meaning self.old → IsKept L.meaning self.new }
     {
-        kept_listeners_stay_kept::<L>();
         self.panel.detach(kind)
     }
 
@@ -56,7 +53,6 @@ impl<L: Analysis> Bench<L> {
         ensures does { Does L.meaning (Resync kind) (reply_of result) self.old self.new }
         ensures kept { IsKept L.meaning self.old → IsKept L.meaning self.new }
     {
-        kept_listeners_stay_kept::<L>();
         self.panel.resync(self.desk.world(), kind)
     }
 
