@@ -4,8 +4,7 @@
 mod attributes;
 pub mod bench;
 mod edits;
-
+pub mod laws;
 mod listeners;
 mod marks;
 mod texts;
-pub mod laws;

@@ -31,7 +31,10 @@ impl<L: Analysis> Bench<L> {
         ensures listeners { self.new.listeners ≡ self.old.listeners }
         ensures led { Led L.meaning self.old self.new }
     {
-        self.desk.parse_attr(alloc, text)
+        self.desk.world().ctx.sound();
+        let read = self.desk.parse_attr(alloc, text);
+        self.desk.world().ctx.sound();
+        read
     }
 
     /// The operation that a text spells beside the module, whose values it may name, numbered from the next free id.
@@ -46,6 +49,9 @@ impl<L: Analysis> Bench<L> {
         ensures listeners { self.new.listeners ≡ self.old.listeners }
         ensures led { Led L.meaning self.old self.new }
     {
-        self.desk.read_op(alloc, text)
+        self.desk.world().ctx.sound();
+        let read = self.desk.read_op(alloc, text);
+        self.desk.world().ctx.sound();
+        read
     }
 }
