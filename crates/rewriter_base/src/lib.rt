@@ -4,7 +4,6 @@
 mod attributes;
 pub mod bench;
 mod edits;
-
+pub mod laws;
 mod listeners;
 mod marks;
-pub mod laws;
