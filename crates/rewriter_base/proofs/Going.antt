@@ -35,9 +35,9 @@ module _ {B : Type 0} (meaning : B → Listener) where
       let none : edit_reason e (module_held a.desk) ≡ None = reason_meaning a.desk.ctx ed a.desk.store.module_of ∙ free in
       record {
         answer = inl (
-          answer_same reply (accepted e (module_held a.desk)) (module_held b.desk) (edited e (module_held a.desk)) (open_marks b.desk) (open_marks a.desk) (sym is) (after_edit ed made.0 s a.desk b.desk made.1 after) made.1.marked
-          ∙ sym (ap (λ r. due_edit r e (state_of meaning a)) none)
-        );
+            answer_same reply (accepted e (module_held a.desk)) (module_held b.desk) (edited e (module_held a.desk)) (open_marks b.desk) (open_marks a.desk) (sym is) (after_edit ed made.0 s a.desk b.desk made.1 after) made.1.marked
+            ∙ sym (ap (λ r. due_edit r e (state_of meaning a)) none)
+            );
         panel = led_ages meaning a b (made_led meaning s a b made);
       }
 

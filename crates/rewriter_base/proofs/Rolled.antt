@@ -1,11 +1,11 @@
 -- How a bench goes where marks are made and dropped.
-use Rattle.std.proofs.Common.{◌≡◌, ◌≢◌, ◌∙◌, sym, ap, subst, refl, inl, inr, ◌⊎◌, ℕ, List, [], ◌∷◌, ◌++◌, take, drop, Bool, true, false, cond, Option, Some, None, Result, Ok, Err}
+use Rattle.std.proofs.Common.{◌≡◌, ◌∙◌, sym, ap, subst, refl, inl, inr, ◌⊎◌, ℕ, List, [], ◌∷◌, drop, Bool, true, false, cond, Some, None, Result, Ok, Err}
 use Rattle.std.specs.Prelude.{nat_lt, OnOk, OnErr}
 use Rattle.ir_types.specs.declared.refusal.Refusal.{Refusal}
 use Rattle.ir_types.specs.declared.refusal.Refusal.TheVariants.{Memory, NoMark, TooManyMarks}
 use Rattle.ir_event.specs.Listener.{Listener}
 use Rattle.ir_event.specs.Modules.{module_meaning}
-use Rattle.machine.specs.Machine.{State, OpenMark, Mark, Step, Commit, Rollback, Reply, Done, Refused, Nothing, Answer, Goes, IsAnswer, most_marks, counted_marks, marked, done, due, due_commit, due_rollback, refused}
+use Rattle.machine.specs.Machine.{State, Mark, Step, Commit, Rollback, Done, Refused, IsAnswer, most_marks, marked, done, due, due_commit, due_rollback, refused}
 use Rattle.journals.specs.Journals.{before, inverses}
 use Rattle.desk.specs.declared.mark.Mark.{Mark as DeskMark}
 use Rattle.desk.specs.Held.{Held, module_held, open_mark, open_marks}

@@ -1,20 +1,17 @@
 -- Events that are undone one after another, the newest first, and the listeners told of each.
-use Rattle.std.proofs.Common.{◌≡◌, ◌∙◌, sym, ap, subst, refl, ℕ, ◌+◌, ◌-◌, ◌<◌, ◌≤◌, List, [], ◌∷◌, ◌++◌, length, take, drop, arith, append_assoc, append-nil, length-append}
+use Rattle.std.proofs.Common.{◌≡◌, ◌∙◌, sym, ap, subst, refl, ℕ, ◌-◌, ◌<◌, ◌≤◌, List, [], ◌∷◌, ◌++◌, length, take, drop, arith, append_assoc, append-nil, length-append}
 use Rattle.std.proofs.Math.Seq.{drop-append_seam}
 use Rattle.std.proofs.lemmas.List.{take-append-le, take_all}
-use Rattle.ir_types.specs.Things.{Things}
-use Rattle.ir_store.specs.Stored.{Stored}
 use Rattle.ir_event.specs.declared.event.Event.{Event}
 use Rattle.ir_event.specs.declared.world.World.{World}
 use Rattle.ir_event.specs.Modules.{module_meaning, things_in, module_in, shown_in}
 use Rattle.ir_event.specs.Listener.{Listener}
 use Rattle.ir_event.specs.Panels.{AllTold}
-use Rattle.ir_event.specs.Step.{inverse_of}
 use Rattle.journals.specs.Journals.{before, inverses, undone_all}
-use Rattle.desk.specs.Held.{Held, Within, module_held, open_marks}
+use Rattle.desk.specs.Held.{Held, Within, open_marks}
 use Rattle.desk.specs.Moves.{Undone}
 use Rattle.desk.proofs.Marks.{within-more}
-use Rattle.rewriter_base.specs.Benched.{Benched, Heard}
+use Rattle.rewriter_base.specs.Benched.{Heard}
 use Rattle.rewriter_base.specs.Rolling.{UndoneTo}
 use Rattle.rewriter_base.proofs.Told.{heard_none, heard_next, heard_step}
 

@@ -1,5 +1,5 @@
 use Rattle.std.proofs.Common.{[]}
-use Rattle.rewriter_base.proofs.Rolled.{commit_goes, commit_led, commit_none}
+use Rattle.rewriter_base.proofs.Rolled.{commit_goes, commit_led}
 use Rattle.rewriter_base.proofs.Told.{heard_none}
 use Rattle.rewriter_base.proofs.bench.Bench.commit.Goals as goal
 

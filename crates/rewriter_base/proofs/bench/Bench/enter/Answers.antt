@@ -9,7 +9,7 @@ use Rattle.rewriter_base.proofs.Told.{made_told, made_led, led_left}
 use Rattle.rewriter_base.proofs.bench.Bench.enter.Goals as goal
 
 pub returns-in-Ok-clause-ok : goal.returns-in-Ok-clause-ok
-returns-in-Ok-clause-ok g c = 
+returns-in-Ok-clause-ok g c =
     let there : c.part_for-part.result ≡ part_for (tests_in c.self.inside.desk.ctx) c.args.op c.args.key c.self.inside.desk.store.module_of.tree = search rules in
     rw (← c.self.view_is) (subst (λ (p : Part). Made g.L.Analysis.meaning (after_entry (key_before_in c.self.inside.desk.ctx) c.args.op p c.args.key c.args.value c.self.inside.desk.store) (record { desk = c.self.inside.desk; listeners = c.self.inside.panel }) (record { desk = c.set_entry.new.self; listeners = c.tell.new.self })) there (made_told g.L.Analysis.meaning _ _ _ _ c.world.result.now _ _ c.in-Ok.ensures.ok c.world.ensures.ctx c.world.ensures.store c.tell.ensures))
 

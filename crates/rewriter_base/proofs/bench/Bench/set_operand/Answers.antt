@@ -1,4 +1,4 @@
-use Rattle.std.proofs.Common.{refl, sym, ap}
+use Rattle.std.proofs.Common.{refl}
 use Rattle.machine.specs.Edits as edit
 use Rattle.rewriter_base.proofs.Going.{edit_goes, refused_marked}
 use Rattle.rewriter_base.proofs.Told.{made_told, made_led, led_left}

@@ -1,4 +1,3 @@
-use Rattle.std.proofs.Common.{refl, sym, ap}
 use Rattle.rewriter_base.proofs.Told.{made_told, made_led, led_left}
 use Rattle.rewriter_base.proofs.bench.Bench.take.Goals as goal
 
