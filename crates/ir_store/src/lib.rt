@@ -8,6 +8,7 @@ mod copy;
 mod entry;
 mod load;
 mod look;
+mod outside;
 mod preorder;
 mod put;
 mod release;
