@@ -1,8 +1,8 @@
 -- What stands last in an operation, in slots and in the tree.
-use Rattle.std.proofs.Common.{◌≡◌, ℕ, ◌+◌, ◌<◌, List, [], ◌∷◌, ◌++◌, refl, sym, ap, ◌∙◌, subst, length, length-append, append_assoc, append-nil, Bool, true, false, Option, Some, None, arith}
+use Rattle.std.proofs.Common.{◌≡◌, ℕ, ◌<◌, List, [], ◌∷◌, ◌++◌, refl, sym, ap, ◌∙◌, subst, length, length-append, append_assoc, append-nil, Option, Some, None, arith}
 use Rattle.chains.specs.Lists.{last_of, list_at}
-use Rattle.ir_tree.specs.Tree.{Op, op, Regions, no_regions, region, empty, block, Ops, no_ops, next, head}
-use Rattle.ir_tree.specs.Ids.{ids, regions_ids, ops_ids, find, has_id, first_of}
+use Rattle.ir_tree.specs.Tree.{Op, op, Regions, no_regions, region, empty, block, Ops, no_ops, next}
+use Rattle.ir_tree.specs.Ids.{ids, regions_ids, ops_ids, find, first_of}
 use Rattle.ir_store_base.specs.Rows.{Row, Shape, row_at, live_slot}
 use Rattle.ir_store_base.specs.Spells.{SpellsOp, SpellsRegions, SpellsOps, SpellsOp-one}
 use Rattle.ir_store_base.specs.Right.{Live}
@@ -11,7 +11,7 @@ use Rattle.ir_store_reads.specs.Ends.{later, last_in}
 use Rattle.ir_store.specs.declared.store.Store.TheInside.{Inside}
 use Rattle.ir_store.specs.Ends.{IsLastIn, ids_in}
 use Rattle.ir_store.proofs.Called.{rows_in, keys_in}
-use Rattle.ir_store.proofs.Cut.{head_id, live_of}
+use Rattle.ir_store.proofs.Cut.{live_of}
 use Rattle.ir_store.proofs.Whole.{Whole}
 
 some_later : (x : ℕ) (xs : List ℕ) (other : Option ℕ) → first_of (last_of (Some x) xs) other ≡ last_of (Some x) xs

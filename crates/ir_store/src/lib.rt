@@ -9,6 +9,7 @@ mod entry;
 mod load;
 mod look;
 mod outer;
+mod outside;
 mod preorder;
 mod put;
 mod release;

@@ -1,5 +1,5 @@
-use Rattle.std.proofs.Common.{sym, ◌∙◌, ap, ◌≡◌, ◌++◌, ◌∷◌, [], refl, append_assoc}
-use Rattle.ir_tree.specs.Ids.{find, has_id}
+use Rattle.std.proofs.Common.{sym, ◌∙◌, ap, ◌++◌, ◌∷◌, [], refl, append_assoc}
+use Rattle.ir_tree.specs.Ids.{find}
 use Rattle.ir_tree_laws.proofs.Around.{absent_find}
 use Rattle.ir_store.specs.Ends.{ids_in}
 use Rattle.ir_store.proofs.Ends.{step_less}
