@@ -1,7 +1,6 @@
 //! Listeners of a bench. Attaching, dropping, beginning anew and asking them is no edit, and a rollback doesn't undo it.
-ghost use Rattle.std.specs.Prelude.{◌≡◌, [], false, true, OnOk, OnErr, IfErr, MatchResult, IsErrOf};
-ghost use Rattle.ir_types.specs.declared.refusal.Refusal.TheVariants.{NoSuchKind, Stale, Memory as NoMemory};
-ghost use Rattle.ir_event.specs.Panels.{AttachedLast, BegunAgain, Detached, HandedBack, NotBegunAgain, has_kind};
+ghost use Rattle.std.specs.Prelude.{◌≡◌, OnOk, OnErr, IfErr, MatchResult};
+ghost use Rattle.ir_event.specs.Panels.{AttachedLast, BegunAgain, Detached, HandedBack, NotBegunAgain};
 ghost use Rattle.ir_event.specs.Rows.{RowIsOf, rows_meaning};
 ghost use Rattle.std.specs.Prelude.{All, IfOk};
 ghost use Rattle.machine.specs.Machine.{Attach, Detach, Done, Goes, Nothing, Refused, Report, Resync, Rows};

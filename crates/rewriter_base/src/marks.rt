@@ -1,5 +1,5 @@
 //! Marks of a bench, and the way back to them.
-ghost use Rattle.std.specs.Prelude.{◌≡◌, ◌≢◌, ◌≤◌, [], length, drop, OnOk, OnErr};
+ghost use Rattle.std.specs.Prelude.{◌≡◌, ◌≤◌, length, drop, OnOk, OnErr};
 ghost use Rattle.journals.specs.Journals.{inverses};
 ghost use Rattle.desk.specs.Held.{Within};
 ghost use Rattle.machine.specs.Machine.{Commit, Mark, Rollback, Step};
