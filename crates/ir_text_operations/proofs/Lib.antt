@@ -10,5 +10,6 @@ pub mod OpParts
 pub mod OpSteps
 pub mod Outputs
 pub mod Placing
+pub mod Plain
 pub mod Singles
 pub mod Uses

@@ -37,6 +37,10 @@ place_from bytes None = Read (0, bytes)
 unfoldable pub place_at : Parse Text ℕ
 place_at bytes = place_from bytes (next bytes)
 
+-- the first of the values of a pack
+abbrev pub first_at : List Bound → Parse Text Bound
+first_at pack bytes = of_option (slice_get pack 0) >>= λ b. Read (b, bytes)
+
 -- one of the values of a pack
 unfoldable pub member_at : List Bound → Parse Text Bound
 member_at pack bytes = place_at bytes >>= λ k. of_option (slice_get pack k.0) >>= λ b. Read (b, k.1)

@@ -6,7 +6,7 @@ ghost use Rattle.ir_text_tokens.specs.Numbers.{place_value};
 ghost use Rattle.ir_text_reading.specs.Outcomes.{Gives};
 ghost use Rattle.ir_text_operations.specs.Free.{free_bound};
 ghost use Rattle.ir_text_operations.specs.Openings.{called_at};
-ghost use Rattle.ir_text_operations.specs.FrontReading.{op_name_at, member_at, member_of, use_at, uses_at, start_at, start_view};
+ghost use Rattle.ir_text_operations.specs.FrontReading.{op_name_at, first_at, member_at, member_of, use_at, uses_at, start_at, start_view};
 
 use crate::free::free_bound;
 use ir_text_names::bound::Bound;
@@ -89,9 +89,9 @@ fn numbered(pack: &Pack, digits: &[u8]) -> Option<Bound>
     pack.get(place as usize).copied()
 }
 
-/// One of the values of a pack: the one whose number stands behind a hash sign, or else the first.
+/// The value whose number stands behind a hash sign, or else the first of a pack.
 #[tactic(auto, unfolding(crate::specs::FrontReading::member_at, crate::specs::FrontReading::place_at))]
-fn member<'a>(pack: &Pack, bytes: &'a [u8]) -> Result<(Bound, &'a [u8]), ReadError>
+fn numbered_member<'a>(pack: &Pack, bytes: &'a [u8]) -> Result<(Bound, &'a [u8]), ReadError>
     ensures { Gives (λ x. (x.0, x.1.now)) result (member_at pack.now bytes.now) }
 {
     let (found, rest) = match lexer::token(bytes) {
@@ -106,6 +106,28 @@ fn member<'a>(pack: &Pack, bytes: &'a [u8]) -> Result<(Bound, &'a [u8]), ReadErr
     match found {
         Some(value) => Ok((value, rest)),
         None => Err(ReadError::Refused(wrong(Refusal::UnknownValue, bytes))),
+    }
+}
+
+/// The first value of a pack, in front of these bytes.
+fn first_member<'a>(pack: &Pack, bytes: &'a [u8]) -> Result<(Bound, &'a [u8]), ReadError>
+    ensures { Gives (λ x. (x.0, x.1.now)) result (first_at pack.now bytes.now) }
+{
+    match pack.get(0) {
+        Some(value) => Ok((*value, bytes)),
+        None => Err(ReadError::Refused(wrong(Refusal::UnknownValue, bytes))),
+    }
+}
+
+/// One of the values of a pack: the one whose number stands behind a hash sign, or else the first. No token is
+/// read where no hash sign stands.
+#[tactic(auto, using(crate::proofs::Plain::first_member))]
+fn member<'a>(pack: &Pack, bytes: &'a [u8]) -> Result<(Bound, &'a [u8]), ReadError>
+    ensures { Gives (λ x. (x.0, x.1.now)) result (member_at pack.now bytes.now) }
+{
+    match lexer::after_byte(bytes, b'#') {
+        Some(_) => numbered_member(pack, bytes),
+        None => first_member(pack, bytes),
     }
 }
 
