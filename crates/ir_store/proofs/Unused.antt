@@ -88,7 +88,7 @@ module _ (f : Head → Bool) where
           first_passes (find x o) (ops_find x os) (every_find o b.0) (every_find_ops os b.1)
 
 -- lists
-all_at : {X : Type 0} (p : X → Bool) (xs : List X) → ((j : ℕ) (v : X) → slice_get xs j ≡ Some v → p v ≡ true) → list_all p xs ≡ true
+pub all_at : {X : Type 0} (p : X → Bool) (xs : List X) → ((j : ℕ) (v : X) → slice_get xs j ≡ Some v → p v ≡ true) → list_all p xs ≡ true
 all_at p [] f = refl
 all_at p (x ∷ xs) f = rw (f 0 x refl) (all_at p xs (λ j. f (suc j)))
 

@@ -8,6 +8,7 @@ mod copy;
 mod entry;
 mod load;
 mod look;
+mod outside;
 mod preorder;
 mod put;
 mod release;
@@ -15,6 +16,7 @@ mod shift;
 mod sight;
 mod stand;
 pub mod store;
+mod using;
 mod walk;
 
 pub use ir_store_base::row;

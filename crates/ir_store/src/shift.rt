@@ -12,7 +12,7 @@ ghost use Rattle.ir_tree.specs.Limits.{most_around};
 ghost use Rattle.ir_tree.specs.Meaning.{isolated_in};
 ghost use Rattle.ir_tree.specs.WellFormed.{IsWellFormed};
 ghost use Rattle.ir_tree_laws.specs.Reads.{around, is_within};
-ghost use Rattle.ir_tree_laws.specs.Reasons.{fits_around, has_place, leads_inside, levels_in, same_table, shift_reason};
+ghost use Rattle.ir_tree_laws.specs.Reasons.{fits_around, leads_inside, levels_in, same_table, shift_reason};
 ghost use Rattle.ir_store.specs.Calls.{after_shift};
 ghost use Rattle.ir_store_base.specs.Rows.{rows_of, live_slot};
 ghost use Rattle.ir_store_base.specs.Spots.{spot_in};
@@ -93,7 +93,7 @@ impl Store {
         if self.is_root(op) {
             return Some(Refusal::IsRoot);
         }
-        if !self.has_spot(place) {
+        if !self.has_place(place) {
             return Some(Refusal::NoSuchIndex);
         }
         if self.leads_inside(op, place) {
@@ -103,18 +103,10 @@ impl Store {
     }
 
     /// Whether an operation is the root.
-    fn is_root(&self, op: OpId) -> bool
+    pub(crate) fn is_root(&self, op: OpId) -> bool
         ensures { result ≡ eqb (head self.now.module_of.tree).id op }
     {
         id_at(&self.rows, self.root) == op
-    }
-
-    /// Whether a place is one of the module's.
-    fn has_spot(&self, place: &Place) -> bool
-        ensures { result ≡ has_place place.now self.now.module_of.tree }
-    {
-        self.sibs.laws();
-        find_spot(&self.rows, &self.keys, &self.sibs, *place).is_some()
     }
 
     /// Whether a place's parent, or the operation that comes next there, is an operation of the module or within it.
@@ -132,7 +124,7 @@ impl Store {
     }
 
     /// Whether an operation is one of the module, or within it.
-    fn is_within(&self, inner: OpId, op: OpId) -> bool
+    pub(crate) fn is_within(&self, inner: OpId, op: OpId) -> bool
         requires { has_id op self.now.module_of.tree ≡ true }
         ensures { result ≡ is_within inner (the_first op self.now.module_of.tree) }
     {
@@ -222,6 +214,15 @@ impl Store {
         };
         let room = self.room_in(parent);
         op_fits(&self.rows, &self.sibs, key, room)
+    }
+
+    /// Whether an operation with so many levels inside it may come to stand in one of the module.
+    pub fn fits_around(&self, parent: OpId, levels: u32) -> bool
+        requires { has_id parent self.now.module_of.tree ≡ true }
+        ensures { result ≡ fits_around levels (around parent self.now.module_of.tree) }
+    {
+        self.distinct();
+        levels < self.room_in(parent)
     }
 
     /// How many levels may come to stand in an operation of the module.

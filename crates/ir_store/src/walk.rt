@@ -1,9 +1,12 @@
 //! The operations of the module, one after another.
-ghost use Rattle.std.specs.Prelude.{◌≡◌, IfOk};
-ghost use Rattle.ir_tree.specs.Ids.{ids};
+ghost use Rattle.std.specs.Prelude.{◌≡◌, ◌∷◌, ◌++◌, [], ℕ, List, IfOk, MatchOption, None, true};
+ghost use Rattle.ir_tree.specs.Ids.{find as the_first, has_id, ids};
+ghost use Rattle.ir_store.specs.Ends.{IsLastIn, ids_in};
 
 use crate::store::Store;
-use ir_store_reads::walk::push_op;
+use ir_store_base::find::find;
+use ir_store_base::uses::id_at;
+use ir_store_reads::walk::{last_slot, push_op};
 use ir_types::ids::OpId;
 use std::alloc::AllocError;
 
@@ -20,5 +23,37 @@ impl Store {
         let mut ops = Vec::with_capacity(self.alloc, self.count as usize)?;
         push_op(&self.rows, &self.sibs, self.root, LEVELS, &mut ops)?;
         Ok(ops)
+    }
+}
+
+impl Store {
+    /// The last operation, in pre-order, of an operation of the module and those inside it.
+    pub fn last_within(&self, op: OpId) -> Option<OpId>
+        ensures { MatchOption result (the_first op self.now.module_of.tree ≡ None) (λ y. (ys : List ℕ) × (ids_in (the_first op self.now.module_of.tree) ≡ ys ++ y ∷ [])) }
+    {
+        if !self.in_tree(op) {
+            return None;
+        }
+        self.distinct();
+        let mut at = op;
+        'inside: while let Some(last) = self.last_inside(at) {
+            at = last;
+        }
+        Some(at)
+    }
+
+    /// The last operation of the last block of an operation of the module that isn't empty, if there is one.
+    fn last_inside(&self, op: OpId) -> Option<OpId>
+        requires { has_id op self.now.module_of.tree ≡ true }
+        ensures { MatchOption result (ids_in (the_first op self.now.module_of.tree) ≡ op ∷ []) (λ y. IsLastIn op y self.now.module_of.tree) }
+    {
+        self.sibs.laws();
+        let Some(key) = find(&self.rows, &self.keys, op) else {
+            return None;
+        };
+        let Some(last) = last_slot(&self.rows, &self.sibs, key) else {
+            return None;
+        };
+        Some(id_at(&self.rows, last))
     }
 }

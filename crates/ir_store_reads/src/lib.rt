@@ -5,4 +5,5 @@ pub mod copy;
 pub mod depth;
 pub mod node;
 pub mod stand;
+pub mod users;
 pub mod walk;

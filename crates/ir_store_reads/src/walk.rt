@@ -1,10 +1,11 @@
 //! The operations of the module, one after another.
-ghost use Rattle.std.specs.Prelude.{◌≡◌, ℕ, ◌∷◌, [], map, IfSome, OnOk};
+ghost use Rattle.std.specs.Prelude.{◌≡◌, ℕ, ◌∷◌, [], None, map, IfSome, OnOk};
 ghost use Rattle.chains.specs.Lists.{IsHead, Laws, list_at};
 ghost use Rattle.ir_store_base.specs.Rows.{row_of as the_row, rows_of, row_at, shape_of};
 ghost use Rattle.ir_store_base.specs.Plans.{AllHeads};
 ghost use Rattle.ir_store_base.specs.Right.{Live};
 ghost use Rattle.ir_store_reads.specs.Added.{AddsOp, AddsOps, AddsRegions};
+ghost use Rattle.ir_store_reads.specs.Ends.{last_in, later};
 
 use ir_store_base::row::{Area, Row};
 use ir_types::ids::OpId;
@@ -103,4 +104,43 @@ fn push_list(
         at = sibs.next(key);
     }
     Ok(())
+}
+
+/// The slot that stands last in the last block of a slot that isn't empty, if there is one.
+pub fn last_slot(rows: &Vec<Row>, sibs: &Ordered, key: usize) -> Option<usize>
+    requires { AllHeads sibs.now.homes (row_at (rows_of rows.now.items) key).shapes }
+    ensures { result ≡ last_in sibs.now.lists None (row_at (rows_of rows.now.items) key).shapes }
+{
+    match rows.get(key) {
+        None => None,
+        Some(row) => last_listed(sibs, &row.areas),
+    }
+}
+
+/// The same of some regions.
+fn last_listed(sibs: &Ordered, areas: &[Area]) -> Option<usize>
+    requires { AllHeads sibs.now.homes (map shape_of areas.now) }
+    ensures { result ≡ last_in sibs.now.lists None (map shape_of areas.now) }
+{
+    let mut last = None;
+    let mut rest = areas;
+    'areas: while let [area, tail @ ..] = rest {
+        last = last_or(sibs, area, last);
+        rest = tail;
+    }
+    last
+}
+
+/// The slot that stands last in a region, or another where that is empty.
+fn last_or(sibs: &Ordered, area: &Area, other: Option<usize>) -> Option<usize>
+    requires { AllHeads sibs.now.homes (shape_of area.now ∷ []) }
+    ensures { result ≡ later sibs.now.lists other (shape_of area.now) }
+{
+    match area {
+        Area::Empty => other,
+        Area::Block { head, .. } => match sibs.last(*head) {
+            None => other,
+            Some(key) => Some(key),
+        },
+    }
 }

@@ -1,0 +1,15 @@
+-- The last slots of blocks.
+use Rattle.std.specs.Prelude.{ℕ, List, [], ◌∷◌, Option, None, Some}
+use Rattle.chains.specs.Lists.{last_of, list_at}
+use Rattle.ir_tree.specs.Ids.{first_of}
+use Rattle.ir_store_base.specs.Rows.{Shape}
+
+-- the last slot of a region's block, or another where that has none
+abbrev pub later : List (List ℕ) → Option ℕ → Shape → Option ℕ
+later lists other None = other
+later lists other (Some a) = first_of (last_of None (list_at lists a.1)) other
+
+-- the last slot of the last block that has one, or another where none has
+abbrev pub last_in : List (List ℕ) → Option ℕ → List Shape → Option ℕ
+last_in lists other [] = other
+last_in lists other (x ∷ xs) = last_in lists (later lists other x) xs

@@ -1,0 +1,29 @@
+//! The uses of the values of a slot.
+ghost use Rattle.std.specs.Prelude.{◌≡◌, length};
+ghost use Rattle.ir_store_base.specs.Rows.{row_at, rows_of};
+ghost use Rattle.ir_store_base.specs.Index.{cells_of};
+ghost use Rattle.ir_store_base.specs.Using.{use_in};
+
+use ir_store_base::row::{Cell, Row};
+use ir_store_base::uses::id_at;
+use ir_types::ids::OpId;
+
+/// The heads of the uses of a slot's results: the first, and how many.
+pub fn result_run(rows: &Vec<Row>, key: usize) -> (usize, usize)
+    ensures { result ≡ ((row_at (rows_of rows.now.items) key).values, length (row_at (rows_of rows.now.items) key).head.results) }
+{
+    match rows.get(key) {
+        None => (0, 0),
+        Some(row) => (row.values, row.results.len()),
+    }
+}
+
+/// The operation of a use, and which operand it is.
+pub fn user_at(rows: &Vec<Row>, cells: &Vec<Cell>, node: usize) -> (OpId, u32)
+    ensures { result ≡ use_in (rows_of rows.now.items) (cells_of cells.now.items) node }
+{
+    match cells.get(node) {
+        None => (id_at(rows, 0), 0),
+        Some(cell) => (id_at(rows, cell.row as usize), cell.place),
+    }
+}
