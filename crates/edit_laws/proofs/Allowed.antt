@@ -41,13 +41,13 @@ below v x k (w ∷ ws) u h = go (same_value v w) h (below v x (k + 1) ws u)
 
 module _ {N T A : Type 0} (isolated : N → Bool) (new : Value) where
   -- an operation has an operand, and sees the value
-  record Takes (u : ℕ × ℕ) (t : OpOf N T A) : Type 0 where
-    here : OpOf N T A
-    found : find u.0 t ≡ Some here
-    place : nat_lt u.1 (length (head here).operands) ≡ true
-    sees_it : visible isolated t u.0 new ≡ true
+  pub record Takes (u : ℕ × ℕ) (t : OpOf N T A) : Type 0 where
+    pub here : OpOf N T A
+    pub found : find u.0 t ≡ Some here
+    pub place : nat_lt u.1 (length (head here).operands) ≡ true
+    pub sees_it : visible isolated t u.0 new ≡ true
 
-  may_set : (u : ℕ × ℕ) (t : OpOf N T A) → HasDistinctIds t → Takes u t → set_operand_reason isolated u.0 u.1 new t ≡ None
+  pub may_set : (u : ℕ × ℕ) (t : OpOf N T A) → HasDistinctIds t → Takes u t → set_operand_reason isolated u.0 u.1 new t ≡ None
   may_set u t d a =
       let z = found_stands u.0 t a.here a.found in
       let there : sees isolated z.0.path new ≡ true = sym (visible_there isolated t d z.0 z.1 new) ∙ ap (λ y. visible isolated t y new) z.2 ∙ a.sees_it in
@@ -78,14 +78,14 @@ module _ {N T A : Type 0} (isolated : N → Bool) (new : Value) where
   all_still (u ∷ us) z t a = all_still us z (with_operand u.0 u.1 new t) (still u z t a)
 
 module _ {N T A : Type 0} (w : TestsOf N T) (old new : Value) (m : ModuleOf N T A) (f : IsWellFormed w.isolated m) (e : reason_by w (Replace old new) m ≡ None) where
-  uses_see : users_see w.isolated old new m.tree ≡ true
+  pub uses_see : users_see w.isolated old new m.tree ≡ true
   uses_see =
       let a = no_unless (has_value old m.tree) NoSuchValue _ e in
       let b = no_unless (has_value new m.tree) NoSuchValue _ a.1 in
       let d = no_unless (option_eq w.same_type (type_of_value old m.tree) (type_of_value new m.tree)) TypeDiffers _ b.1 in
       (no_unless (users_see w.isolated old new m.tree) NotVisible None d.1).0
 
-  each_takes : (z : ℕ × ℕ) → In z (uses_of old m.tree) → Takes w.isolated new z m.tree
+  pub each_takes : (z : ℕ × ℕ) → In z (uses_of old m.tree) → Takes w.isolated new z m.tree
   each_takes z h =
       let g = of_gather (λ (s : StandOf N T A). operand_uses old (stand_id s) 0 (head s.here).operands) z (stands [] m.tree) (subst (In z) (sym (stands_uses old [] m.tree)) h) in
       record {

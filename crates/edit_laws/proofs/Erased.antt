@@ -44,15 +44,15 @@ module _ {N T A : Type 0} (w : TestsOf N T) (x : ℕ) (m : ModuleOf N T A) (f : 
   alone = (no_unless (unused_outside x t) HasUses None (no_unless (not (eqb (head t).id x)) IsRoot _ (no_unless (has_id x t) NoSuchOp _ e).1).1).0
 
   -- the operation that is erased, and where it stands
-  record Erased : Type 0 where
-    here : OpOf N T A
-    found : find x m.tree ≡ Some here
-    place : Place
-    id : (head here).id ≡ x
-    is : put place here (without x m.tree) ≡ m.tree
-    goes : Erasing w.isolated place (without x m.tree) m.next here
+  pub record Erased : Type 0 where
+    pub here : OpOf N T A
+    pub found : find x m.tree ≡ Some here
+    pub place : Place
+    pub id : (head here).id ≡ x
+    pub is : put place here (without x m.tree) ≡ m.tree
+    pub goes : Erasing w.isolated place (without x m.tree) m.next here
 
-  erased : Erased
+  pub erased : Erased
   erased = record { here = o; found = found; place = place; id = i.id; is = is; goes = goes }
     where
       s : (s : StandOf N T A) × In s (stands [] m.tree) × ((head s.here).id ≡ x)

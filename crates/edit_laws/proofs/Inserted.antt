@@ -120,6 +120,22 @@ module _ {N T A : Type 0} where
         ∙ all_same _ _ (head u.1).operands (λ v n. visible_there isolated now formed.distinct (stand u.1 path) there v)
         ∙ each.sees_own (stand u.1 path) there) refl))))))
 
+module _ {N T A : Type 0} (w : TestsOf N T) (place : Place) (o : OpOf N T A) (m : ModuleOf N T A) where
+  -- what was made so far
+  module _ (numbered : IsNumberedFrom m.next o) (us vs : List (Place × OpOf N T A)) (k : us ++ vs ≡ headers place o) where
+    numbers : map header_id us ++ map header_id vs ≡ range_with_len m.next (op_count o)
+    numbers = sym (map-append header_id us vs) ∙ ap (map header_id) k ∙ header_ids place o ∙ numbered
+
+    made_so_far : all_made w us m ≡ record { tree = all_put us m.tree; next = m.next + length us }
+    made_so_far =
+        made_is w us m ((cut_range (map header_id us) (map header_id vs) m.next (op_count o) numbers).0 ∙ ap (range_with_len m.next) (length-map us header_id))
+
+  -- all of it
+  pub made_whole : (f : IsWellFormed w.isolated m) (numbered : IsNumberedFrom m.next o) → has_place place m.tree ≡ true → all_made w (headers place o) m ≡ edited_by w (Insert place o) m
+  made_whole f numbered spot =
+      let built = build place o m.tree (may_put_tree w.isolated place o m f numbered spot) in
+      made_so_far numbered (headers place o) [] (append-nil (headers place o)) ∙ λ i. record { tree = built.is i; next = m.next + header_count place o i }
+
 module _ {N T A : Type 0} (w : TestsOf N T) (place : Place) (o : OpOf N T A) (m : ModuleOf N T A) (f : IsWellFormed w.isolated m) (numbered : IsNumberedFrom m.next o) (e : reason_by w (Insert place o) m ≡ None) where
   record Free : Type 0 where
     spot : has_place place m.tree ≡ true
@@ -174,21 +190,13 @@ module _ {N T A : Type 0} (w : TestsOf N T) (place : Place) (o : OpOf N T A) (m 
   built : Builds (headers place o) m.tree (put place o m.tree)
   built = build place o m.tree may
 
-  -- what was made so far
   module _ (us vs : List (Place × OpOf N T A)) (k : us ++ vs ≡ headers place o) where
-    numbers : map header_id us ++ map header_id vs ≡ range_with_len m.next (op_count o)
-    numbers = sym (map-append header_id us vs) ∙ ap (map header_id) k ∙ header_ids place o ∙ numbered
-
-    made_so_far : all_made w us m ≡ record { tree = all_put us m.tree; next = m.next + length us }
-    made_so_far =
-        made_is w us m ((cut_range (map header_id us) (map header_id vs) m.next (op_count o) numbers).0 ∙ ap (range_with_len m.next) (length-map us header_id))
-
     pub made_tree : (all_made w us m).tree ≡ all_put us m.tree
-    made_tree = ap (λ (n : ModuleOf N T A). n.tree) made_so_far
+    made_tree = ap (λ (n : ModuleOf N T A). n.tree) (made_so_far w place o m numbered us vs k)
 
   module _ (us vs : List (Place × OpOf N T A)) (u : Place × OpOf N T A) (k : us ++ u ∷ vs ≡ headers place o) where
     next_id : header_id u ≡ m.next + length us
-    next_id = (cut_range (map header_id us) (map header_id (u ∷ vs)) m.next (op_count o) (numbers us (u ∷ vs) k)).1 (header_id u) (map header_id vs) refl ∙ ap (λ n. m.next + n) (length-map us header_id)
+    next_id = (cut_range (map header_id us) (map header_id (u ∷ vs)) m.next (op_count o) (numbers w place o m numbered us (u ∷ vs) k)).1 (header_id u) (map header_id vs) refl ∙ ap (λ n. m.next + n) (length-map us header_id)
 
     lands : Lands (u ∷ vs) (all_put us m.tree)
     lands = lands_rest us (u ∷ vs) m.tree (subst (λ l. Lands l m.tree) (sym k) built.lands)
@@ -221,11 +229,11 @@ module _ {N T A : Type 0} (w : TestsOf N T) (place : Place) (o : OpOf N T A) (m 
         (sym (ap (take_reason (header_id u)) back) ∙ each_may w.isolated place m.tree (m.next + op_count o) (reverse (map header_id vs)) (header_id u) (reverse (map header_id us)) o goes order) low
 
     pub header_next : (head u.1).id ≡ (all_made w us m).next
-    header_next = next_id ∙ sym (ap (λ (n : ModuleOf N T A). n.next) (made_so_far us (u ∷ vs) k))
+    header_next = next_id ∙ sym (ap (λ (n : ModuleOf N T A). n.next) (made_so_far w place o m numbered us (u ∷ vs) k))
 
     pub header_allowed : put_reason w.isolated u.0 u.1 (all_made w us m).next (all_made w us m).tree ≡ None
     header_allowed =
-        ap (λ (n : ModuleOf N T A). put_reason w.isolated u.0 u.1 n.next n.tree) (made_so_far us (u ∷ vs) k)
+        ap (λ (n : ModuleOf N T A). put_reason w.isolated u.0 u.1 n.next n.tree) (made_so_far w place o m numbered us (u ∷ vs) k)
         ∙ ap (λ n. put_reason w.isolated u.0 u.1 n (all_put us m.tree)) (sym next_id)
         ∙ allowed
 
@@ -233,7 +241,7 @@ module _ {N T A : Type 0} (w : TestsOf N T) (place : Place) (o : OpOf N T A) (m 
     header_in = subst (In u) k (in_middle us vs u)
 
   pub all_made_whole : all_made w (headers place o) m ≡ edited_by w (Insert place o) m
-  all_made_whole = made_so_far (headers place o) [] (append-nil (headers place o)) ∙ λ i. record { tree = built.is i; next = m.next + header_count place o i }
+  all_made_whole = made_whole w place o m f numbered free.spot
 
 pub header_bare : {N T A : Type 0} (place : Place) (o : OpOf N T A) (u : Place × OpOf N T A) → In u (headers place o) → hold_none (regions u.1) ≡ true
 header_bare place o u h = let s = header_of [] place o u h in ap (λ z. hold_none (regions z)) s.2 ∙ bare_holds s.0.here

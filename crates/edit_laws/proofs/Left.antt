@@ -17,11 +17,11 @@ use Rattle.ir_tree_laws.proofs.Heads.{each_stands}
 use Rattle.edit_laws.specs.Replacing.{all_set}
 use Rattle.edit_laws.proofs.Setting.{apart, unequal}
 
-gather_map : {X Y Z : Type 0} (f : Y → List Z) (g : X → Y) (xs : List X) → gather f (map g xs) ≡ gather (λ x. f (g x)) xs
+pub gather_map : {X Y Z : Type 0} (f : Y → List Z) (g : X → Y) (xs : List X) → gather f (map g xs) ≡ gather (λ x. f (g x)) xs
 gather_map f g [] = refl
 gather_map f g (x ∷ xs) = ap (λ l. f (g x) ++ l) (gather_map f g xs)
 
-gather_same : {X Y : Type 0} (f g : X → List Y) (xs : List X) → ((x : X) → In x xs → f x ≡ g x) → gather f xs ≡ gather g xs
+pub gather_same : {X Y : Type 0} (f g : X → List Y) (xs : List X) → ((x : X) → In x xs → f x ≡ g x) → gather f xs ≡ gather g xs
 gather_same f g [] h = refl
 gather_same f g (x ∷ xs) h = λ i. h x (inl refl) i ++ gather_same f g xs (λ y m. h y (inr m)) i
 
@@ -68,14 +68,14 @@ module _ (old : Value) where
             (suc r.0, omega (arith, n), ap (λ b. cond b ((x, k) ∷ operand_uses old x (k + 1) (slice_set ws r.0 new)) (operand_uses old x (k + 1) (slice_set ws r.0 new))) q ∙ r.2)
 
     module _ {N T A : Type 0} where
-      abbrev uses_here : StandOf N T A → List (ℕ × ℕ)
+      abbrev pub uses_here : StandOf N T A → List (ℕ × ℕ)
       uses_here s = operand_uses old (stand_id s) 0 (head s.here).operands
 
       -- those of an operation where an operand was set
-      abbrev uses_then : ℕ × ℕ → StandOf N T A → List (ℕ × ℕ)
+      abbrev pub uses_then : ℕ × ℕ → StandOf N T A → List (ℕ × ℕ)
       uses_then u s = operand_uses old (stand_id s) 0 (at u.0 (put_operand u.1 new) (head s.here)).operands
 
-      elsewhere : (u : ℕ × ℕ) (s : StandOf N T A) → eqb (stand_id s) u.0 ≡ false → uses_then u s ≡ uses_here s
+      pub elsewhere : (u : ℕ × ℕ) (s : StandOf N T A) → eqb (stand_id s) u.0 ≡ false → uses_then u s ≡ uses_here s
       elsewhere u s e = ap (λ b. operand_uses old (stand_id s) 0 (cond b (put_operand u.1 new (head s.here)) (head s.here)).operands) e
 
       first_gone : (u : ℕ × ℕ) (vs : List (ℕ × ℕ)) (ss : List (StandOf N T A)) → IsDistinct eqb (map (λ (s : StandOf N T A). stand_id s) ss) → gather uses_here ss ≡ u ∷ vs → gather (uses_then u) ss ≡ vs
@@ -102,14 +102,16 @@ module _ (old : Value) where
       same_id : (u : ℕ × ℕ) (h : HeadOf N T A) → (at u.0 (put_operand u.1 new) h).id ≡ h.id
       same_id u h = elim (eqb h.id u.0) as (λ b. (cond b (put_operand u.1 new h) h).id ≡ h.id) [ true ↦ refl | false ↦ refl ]
 
-      one_left : (u : ℕ × ℕ) (vs : List (ℕ × ℕ)) (t : OpOf N T A) → HasDistinctIds t → uses_of old t ≡ u ∷ vs → uses_of old (with_operand u.0 u.1 new t) ≡ vs
-      one_left u vs t d e =
+      pub uses_set : (u : ℕ × ℕ) (t : OpOf N T A) → uses_of old (with_operand u.0 u.1 new t) ≡ gather (uses_then u) (stands [] t)
+      uses_set u t =
           sym (stands_uses old [] (with_operand u.0 u.1 new t))
           ∙ ap (gather uses_here) (each_stands (at u.0 (put_operand u.1 new)) [] t)
           ∙ gather_map uses_here (edit_stand (at u.0 (put_operand u.1 new))) (stands [] t)
           ∙ gather_same _ (uses_then u) (stands [] t) (λ s m. (λ i. operand_uses old (head_each (at u.0 (put_operand u.1 new)) s.here i).id 0 (head_each (at u.0 (put_operand u.1 new)) s.here i).operands)
           ∙ ap (λ x. operand_uses old x 0 (at u.0 (put_operand u.1 new) (head s.here)).operands) (same_id u (head s.here)))
-          ∙ first_gone u vs (stands [] t) (subst (IsDistinct eqb) (sym (stands_ids [] t)) d) (stands_uses old [] t ∙ e)
+
+      one_left : (u : ℕ × ℕ) (vs : List (ℕ × ℕ)) (t : OpOf N T A) → HasDistinctIds t → uses_of old t ≡ u ∷ vs → uses_of old (with_operand u.0 u.1 new t) ≡ vs
+      one_left u vs t d e = uses_set u t ∙ first_gone u vs (stands [] t) (subst (IsDistinct eqb) (sym (stands_ids [] t)) d) (stands_uses old [] t ∙ e)
 
       pub some_left : (us vs : List (ℕ × ℕ)) (t : OpOf N T A) → HasDistinctIds t → us ++ vs ≡ uses_of old t → uses_of old (all_set new us t) ≡ vs
       some_left [] vs t d e = sym e

@@ -9,3 +9,7 @@ pub mod Built
 pub mod Inserted
 pub mod Bare
 pub mod Stepped
+pub mod AnyUse
+pub mod AnyType
+pub mod Tried
+pub mod LastFirst

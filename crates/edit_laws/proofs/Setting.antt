@@ -27,7 +27,7 @@ set_there (u ∷ vs) w v ws = ap (λ l. u ∷ l) (set_there vs w v ws)
 module _ {N T A : Type 0} where
   -- heads that aren't changed
   mutual
-    unchanged : (t : OpOf N T A) → each_head (λ h. h) t ≡ t
+    pub unchanged : (t : OpOf N T A) → each_head (λ h. h) t ≡ t
     unchanged (op h rs) = ap (op h) (regions_unchanged rs)
 
     regions_unchanged : (rs : RegionsOf N T A) → regions_each_head (λ h. h) rs ≡ rs
@@ -45,7 +45,7 @@ module _ {N T A : Type 0} where
   -- heads that are changed twice, and in two ways that agree
   module _ (f g : HeadOf N T A → HeadOf N T A) where
     mutual
-      twice : (t : OpOf N T A) → each_head g (each_head f t) ≡ each_head (λ h. g (f h)) t
+      pub twice : (t : OpOf N T A) → each_head g (each_head f t) ≡ each_head (λ h. g (f h)) t
       twice (op h rs) = ap (op (g (f h))) (regions_twice rs)
 
       regions_twice : (rs : RegionsOf N T A) → regions_each_head g (regions_each_head f rs) ≡ regions_each_head (λ h. g (f h)) rs
@@ -60,11 +60,11 @@ module _ {N T A : Type 0} where
       ops_twice no_ops = refl
       ops_twice (next o os) = λ i. next (twice o i) (ops_twice os i)
 
-    abbrev Agree : List (StandOf N T A) → Type 0
+    abbrev pub Agree : List (StandOf N T A) → Type 0
     Agree ss = (s : StandOf N T A) → In s ss → f (head s.here) ≡ g (head s.here)
 
     mutual
-      agree : (path : List (StepOf N T A)) (t : OpOf N T A) → Agree (stands path t) → each_head f t ≡ each_head g t
+      pub agree : (path : List (StepOf N T A)) (t : OpOf N T A) → Agree (stands path t) → each_head f t ≡ each_head g t
       agree path (op h rs) k = λ i. op (k (stand (op h rs) path) (inl refl) i) (regions_agree (op h rs) path 0 rs (λ s m. k s (inr m)) i)
 
       regions_agree : (p : OpOf N T A) (path : List (StepOf N T A)) (r : ℕ) (rs : RegionsOf N T A) → Agree (regions_stands p path r rs) → regions_each_head f rs ≡ regions_each_head g rs

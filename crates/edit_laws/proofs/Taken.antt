@@ -192,7 +192,7 @@ module _ {N T A : Type 0} where
     last_of : (y : ℕ) (xs ys : List ℕ) → y ∷ xs ≡ reverse ys → ys ≡ reverse xs ++ y ∷ []
     last_of y xs ys e = turned (y ∷ xs) ys e ∙ reverse-append (y ∷ []) xs
 
-    id_stays : (y : ℕ) (q : OpOf N T A) → (head (without y q)).id ≡ (head q).id
+    pub id_stays : (y : ℕ) (q : OpOf N T A) → (head (without y q)).id ≡ (head q).id
     id_stays y q = ap (λ (h : HeadOf N T A). h.id) (same_head y (dropping y) q)
 
     under_root : (q : OpOf N T A) → HasDistinctIds q → (xs : List ℕ) (y : ℕ) → ids q ≡ xs ++ y ∷ [] → (xs ≡ [] → ⊥) → eqb (head q).id y ≡ false

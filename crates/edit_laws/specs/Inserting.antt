@@ -1,8 +1,14 @@
 -- Inserting an operation with what is inside it, header by header.
-use Rattle.std.specs.Prelude.{ℕ, ◌+◌, List, [], ◌∷◌, ◌++◌, None}
+use Rattle.std.specs.Prelude.{ℕ, ◌+◌, nat_le, List, [], ◌∷◌, ◌++◌, Option, None}
+use Rattle.ir_types.specs.declared.refusal.Refusal.{Refusal}
+use Rattle.ir_types.specs.declared.refusal.Refusal.TheVariants.{NoSuchOp, NoSuchIndex, Full, IdsExhausted, TooDeepHere}
 use Rattle.ir_tree.specs.declared.place.Place.{Place}
 use Rattle.ir_tree.specs.Tree.{OpOf, op, RegionsOf, no_regions, region, RegionOf, empty, block, OpsOf, no_ops, next}
+use Rattle.ir_tree.specs.Ids.{has_id, op_count}
+use Rattle.ir_tree.specs.Limits.{depth, every, most_ops, most_next, op_fits}
 use Rattle.ir_tree.specs.WellFormed.{ModuleOf}
+use Rattle.ir_tree_laws.specs.Reads.{around}
+use Rattle.ir_tree_laws.specs.Reasons.{unless, has_place, fits_around}
 use Rattle.machine.specs.Edits.{TestsOf, Make, edited_by}
 
 -- regions with no operation in their blocks
@@ -44,3 +50,15 @@ abbrev mutual
 abbrev pub all_made : {N T A : Type 0} → TestsOf N T → List (Place × OpOf N T A) → ModuleOf N T A → ModuleOf N T A
 all_made w [] m = m
 all_made w (u ∷ us) m = all_made w us (edited_by w (Make u.0 u.1) m)
+
+-- what an operation, with what is inside it, is refused for at a place before anything is said of what its operations
+-- see, where `free` is the next free id: the place's parent isn't there; no such place; a count would pass its limit; not
+-- enough ids are left; too many operations would stand around one
+abbrev pub insert_fault : {N T A : Type 0} → Place → OpOf N T A → ℕ → OpOf N T A → Option Refusal
+insert_fault place o free t =
+    unless (has_id place.parent t) NoSuchOp
+    (unless (has_place place t) NoSuchIndex
+    (unless (nat_le (op_count t + op_count o) most_ops) Full
+    (unless (every op_fits o) Full
+    (unless (nat_le (free + op_count o) most_next) IdsExhausted
+    (unless (fits_around (depth o) (around place.parent t)) TooDeepHere None)))))
