@@ -29,8 +29,12 @@ pub struct Bench<L> {
 impl<L> Model for Bench<L> {
     ghost use Rattle.rewriter_base.specs.Benched.{Benched};
     ghost use Rattle.journals.specs.Journals.{IsTidy};
+    ghost use Rattle.std.specs.Coded.{codes};
+    ghost use Rattle.ir_store.specs.Stored.{stored_code};
 
     ghost Value = { Benched L };
+
+    ghost coded = { Prim.hlevel (codes, stored_code) };
 
     ghost view = { λ b. record { desk = b.desk; listeners = b.panel } };
 
@@ -100,7 +104,10 @@ impl<L: Analysis> Bench<L> {
         ensures listeners { self.new.listeners ≡ self.old.listeners }
         ensures led { Led L.meaning self.old self.new }
     {
-        self.desk.name(bytes)
+        self.desk.world().ctx.sound();
+        let id = self.desk.name(bytes);
+        self.desk.world().ctx.sound();
+        id
     }
 
     /// The number of a type whose parts are types of the context.
@@ -116,7 +123,10 @@ impl<L: Analysis> Bench<L> {
         ensures listeners { self.new.listeners ≡ self.old.listeners }
         ensures led { Led L.meaning self.old self.new }
     {
-        self.desk.ty(node)
+        self.desk.world().ctx.sound();
+        let id = self.desk.ty(node);
+        self.desk.world().ctx.sound();
+        id
     }
 
     /// The number of an attribute whose parts are names, types and attributes of the context.
@@ -132,6 +142,9 @@ impl<L: Analysis> Bench<L> {
         ensures listeners { self.new.listeners ≡ self.old.listeners }
         ensures led { Led L.meaning self.old self.new }
     {
-        self.desk.attr(node)
+        self.desk.world().ctx.sound();
+        let id = self.desk.attr(node);
+        self.desk.world().ctx.sound();
+        id
     }
 }

@@ -1,5 +1,5 @@
 //! Edits that are one event each, of which the listeners are told.
-ghost use Rattle.std.specs.Prelude.{◌≡◌, ◌≢◌, ◌×◌, [], Some, true, IfOk, OnOk, OnErr};
+ghost use Rattle.std.specs.Prelude.{◌≡◌, ◌≢◌, [], Some, true, IfOk, OnOk, OnErr};
 ghost use Rattle.ir_types.specs.Terms.{name_term};
 ghost use Rattle.ir_types.specs.Words.{is_table};
 ghost use Rattle.ir_tree.specs.Meaning.{IsSoundIn, isolated_in};
@@ -13,8 +13,6 @@ ghost use Rattle.rewriter_base.specs.Benched.{Does, Led, Made, id_reply_of, repl
 
 use crate::bench::Bench;
 use ir_event::analysis::Analysis;
-use ir_event::event::Event;
-use ir_event::laws::told_listeners_follow;
 use ir_tree::place::Place;
 use ir_tree::tree::TreeOp;
 use ir_tree::value::Value;
@@ -38,7 +36,6 @@ impl<L: Analysis> Bench<L> {
         ensures does { Does L.meaning (Do (edit_meaning self.old.desk.ctx (Make place header.now))) (id_reply_of result) self.old self.new }
         ensures led { Led L.meaning self.old self.new }
     {
-        told_listeners_follow::<L>();
         let op = OpId::new(self.desk.world().store.next_id());
         match self.desk.put(place, header) {
             Err(refusal) => Err(refusal),
@@ -59,7 +56,6 @@ impl<L: Analysis> Bench<L> {
         ensures err { OnErr result (self.new ≡ self.old) }
         ensures led { Led L.meaning self.old self.new }
     {
-        told_listeners_follow::<L>();
         match self.desk.take(op) {
             Err(refusal) => Err(refusal),
             Ok(event) => {
@@ -81,7 +77,6 @@ impl<L: Analysis> Bench<L> {
         ensures does { Does L.meaning (Do (edit_meaning self.old.desk.ctx (SetOperand op operand value))) (reply_of result) self.old self.new }
         ensures led { Led L.meaning self.old self.new }
     {
-        told_listeners_follow::<L>();
         match self.desk.set_operand(op, operand, value) {
             Err(refusal) => Err(refusal),
             Ok(event) => {
@@ -104,7 +99,6 @@ impl<L: Analysis> Bench<L> {
         ensures does { Does L.meaning (Do (edit_meaning self.old.desk.ctx (Move op place))) (reply_of result) self.old self.new }
         ensures led { Led L.meaning self.old self.new }
     {
-        told_listeners_follow::<L>();
         match self.desk.shift(op, place) {
             Err(refusal) => Err(refusal),
             Ok(event) => {

@@ -1,9 +1,9 @@
 //! The bench: a module under edits, with its marks, its journal and the listeners that follow it.
 #![tactic(auto)]
 
+mod attributes;
 pub mod bench;
 mod edits;
-mod entries;
+pub mod laws;
 mod listeners;
 mod marks;
-pub mod laws;

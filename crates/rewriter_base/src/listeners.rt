@@ -1,7 +1,6 @@
 //! Listeners of a bench. Attaching, dropping, beginning anew and asking them is no edit, and a rollback doesn't undo it.
-ghost use Rattle.std.specs.Prelude.{◌≡◌, [], false, true, OnOk, OnErr, IfErr, MatchResult, IsErrOf};
-ghost use Rattle.ir_types.specs.declared.refusal.Refusal.TheVariants.{NoSuchKind, Stale, Memory as NoMemory};
-ghost use Rattle.ir_event.specs.Panels.{AttachedLast, BegunAgain, Detached, HandedBack, NotBegunAgain, has_kind};
+ghost use Rattle.std.specs.Prelude.{◌≡◌, OnOk, OnErr, IfErr, MatchResult};
+ghost use Rattle.ir_event.specs.Panels.{AttachedLast, BegunAgain, Detached, HandedBack, NotBegunAgain};
 ghost use Rattle.ir_event.specs.Rows.{RowIsOf, rows_meaning};
 ghost use Rattle.std.specs.Prelude.{All, IfOk};
 ghost use Rattle.machine.specs.Machine.{Attach, Detach, Done, Goes, Nothing, Refused, Report, Resync, Rows};
@@ -11,7 +10,6 @@ ghost use Rattle.rewriter_base.specs.Benched.{Does, IsKept, attach_reply_of, rep
 
 use crate::bench::Bench;
 use ir_event::analysis::Analysis;
-use ir_event::laws::kept_listeners_stay_kept;
 use ir_event::row::{Kind, Row};
 use ir_types::refusal::Refusal;
 use std::alloc::Global;
@@ -28,7 +26,6 @@ impl<L: Analysis> Bench<L> {
         ensures does { Does L.meaning (Attach (shown (L.meaning listener))) (attach_reply_of result) self.old self.new }
         ensures kept { IsKept L.meaning self.old → IsKept L.meaning self.new }
     {
-        kept_listeners_stay_kept::<L>();
         self.panel.attach(self.desk.world(), listener)
     }
 
@@ -42,7 +39,6 @@ impl<L: Analysis> Bench<L> {
         ensures does { Does L.meaning (Detach kind) (reply_of result) self.old self.new }
         ensures kept { IsKept L.meaning self.old → IsKept L.meaning self.new }
     {
-        kept_listeners_stay_kept::<L>();
         self.panel.detach(kind)
     }
 
@@ -56,7 +52,6 @@ impl<L: Analysis> Bench<L> {
         ensures does { Does L.meaning (Resync kind) (reply_of result) self.old self.new }
         ensures kept { IsKept L.meaning self.old → IsKept L.meaning self.new }
     {
-        kept_listeners_stay_kept::<L>();
         self.panel.resync(self.desk.world(), kind)
     }
 

@@ -1,5 +1,5 @@
 //! Marks of a bench, and the way back to them.
-ghost use Rattle.std.specs.Prelude.{◌≡◌, ◌≢◌, ◌≤◌, [], length, drop, OnOk, OnErr};
+ghost use Rattle.std.specs.Prelude.{◌≡◌, ◌≤◌, length, drop, OnOk, OnErr};
 ghost use Rattle.journals.specs.Journals.{inverses};
 ghost use Rattle.desk.specs.Held.{Within};
 ghost use Rattle.machine.specs.Machine.{Commit, Mark, Rollback, Step};
@@ -9,7 +9,6 @@ ghost use Rattle.rewriter_base.specs.Rolling.{GivenUp, UndoneTo};
 use crate::bench::Bench;
 use desk::desk::Desk;
 use ir_event::analysis::Analysis;
-use ir_event::laws::told_listeners_follow;
 use ir_event::panel::Panel;
 use ir_types::refusal::Refusal;
 
@@ -20,7 +19,6 @@ fn undo_to<L: Analysis>(desk: &mut Desk, panel: &mut Panel<L>, mark: usize)
     ensures undone { UndoneTo mark desk.old desk.new }
     ensures told { Heard L.meaning (inverses (drop mark desk.old.journal)) (record { desk = desk.old; listeners = panel.old }) (record { desk = desk.new; listeners = panel.new }) }
 {
-    told_listeners_follow::<L>();
     while desk.journal_len() > mark {
         let event = desk.undo();
         panel.tell(desk.world(), event);

@@ -13,7 +13,6 @@ ghost use Rattle.rewriter_base.specs.Benched.{Does, Led, Made, reply_of};
 
 use crate::bench::Bench;
 use ir_event::analysis::Analysis;
-use ir_event::laws::told_listeners_follow;
 use ir_store::store::Store;
 use ir_tree::place::Part;
 use ir_tree::sound::comes_before;
@@ -95,7 +94,6 @@ impl<L: Analysis> Bench<L> {
         ensures err { OnErr result (self.new ≡ self.old) }
         ensures led { Led L.meaning self.old self.new }
     {
-        told_listeners_follow::<L>();
         let world = self.desk.world();
         let part = part_for(&world.ctx, &world.store, op, key);
         match self.desk.set_entry(op, part, key, value) {

@@ -1,0 +1,13 @@
+use Rattle.std.proofs.Common.{[]}
+use Rattle.rewriter_base.proofs.Rolled.{commit_goes, commit_led}
+use Rattle.rewriter_base.proofs.Told.{heard_none}
+use Rattle.rewriter_base.proofs.bench.Bench.commit.Goals as goal
+
+pub returns-clause-does : goal.returns-clause-does
+returns-clause-does g c = rw (← c.self.view_is) (commit_goes g.L.Analysis.meaning _ _ _ _ c.close.ensures c.give_up.ensures)
+
+pub returns-clause-led : goal.returns-clause-led
+returns-clause-led g c = rw (← c.self.view_is) (commit_led g.L.Analysis.meaning _ _ _ _ c.close.ensures c.give_up.ensures)
+
+pub returns-then-not-is_marked-clause-led : goal.returns-then-not-is_marked-clause-led
+returns-then-not-is_marked-clause-led g c = ([], heard_none g.L.Analysis.meaning _)
