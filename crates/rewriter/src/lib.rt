@@ -1,0 +1,10 @@
+//! Edits of a bench that are several events, each whole or undone: replacing a value wherever it is used, and erasing an
+//! operation with what is inside it.
+#![tactic(auto)]
+
+pub mod erase;
+pub mod faults;
+mod finish;
+pub mod replace;
+
+pub use rewriter_base::bench::Bench;
