@@ -1,20 +1,71 @@
-//! Operations are erased with what is inside them.
-ghost use Rattle.std.specs.Prelude.{◌≡◌};
-ghost use Rattle.machine.specs.Contents.{edit_meaning};
-ghost use Rattle.machine.specs.Edits.{Erase};
+//! Erasing an operation with what is inside it.
+ghost use Rattle.std.specs.Prelude.{◌≡◌, None, OnOk};
+ghost use Rattle.machine.specs.Contents.{edit_meaning, tests_in};
+ghost use Rattle.machine.specs.Edits.{Erase, edited_by, reason_by};
 ghost use Rattle.machine.specs.Machine.{Do};
 ghost use Rattle.rewriter_base.specs.Benched.{Does, Led, reply_of};
+ghost use Rattle.rewriter.specs.Wholes.{IsDoneOrNoted, Onward};
 
+use crate::faults::erase_fault;
+use crate::finish::{finish, is_formed};
+use edit_laws::turns::erasing_by_last;
 use ir_event::analysis::Analysis;
 use ir_types::ids::OpId;
 use ir_types::refusal::Refusal;
 use rewriter_base::bench::Bench;
+use rewriter_base::laws::led_benches_are_kept;
 
-/// Takes an operation away, with what is inside it.
+/// Takes an operation and those inside it, the last in pre-order first, where nothing stands against it.
+fn take_all<L: Analysis>(bench: &mut Bench<L>, op: OpId) -> Result<(), Refusal>
+    requires { reason_by (tests_in bench.old.desk.ctx) (Erase op) bench.old.desk.store.module_of ≡ None }
+    ensures onward { Onward L.meaning bench.old bench.new }
+    ensures ok { OnOk result (bench.new.desk.store.module_of ≡ edited_by (tests_in bench.old.desk.ctx) (Erase op) bench.old.desk.store.module_of) }
+    ensures refused { IsDoneOrNoted bench.old.desk result }
+{
+    erasing_by_last::<u32, u32, u32>();
+    led_benches_are_kept::<L>();
+    is_formed(bench);
+    'rest: while let Some(last) = bench.world().store.last_within(op) {
+        if let Err(refusal) = bench.take(last) {
+            return Err(refusal);
+        }
+        if last == op {
+            return Ok(());
+        }
+    }
+    Ok(())
+}
+
+/// Takes an operation out of the module, with what is inside it. It is whole or not made at all.
+///
+/// Refusals, in order: `NoSuchOp`; `IsRoot`; `HasUses` where an operation outside it uses a value from inside; and
+/// `Memory` where a mark is open.
 pub fn erase<L: Analysis>(bench: &mut Bench<L>, op: OpId) -> Result<(), Refusal>
     ensures does { Does L.meaning (Do (edit_meaning bench.old.desk.ctx (Erase op))) (reply_of result) bench.old bench.new }
     ensures led { Led L.meaning bench.old bench.new }
     ensures ctx { bench.new.desk.ctx ≡ bench.old.desk.ctx }
 {
-    bench.take(op)
+    led_benches_are_kept::<L>();
+    is_formed(bench);
+    if let Some(refusal) = erase_fault(bench.world(), op) {
+        return Err(refusal);
+    }
+    if !bench.is_marked() {
+        let made = take_all(bench, op);
+        bench.settle();
+        return made;
+    }
+    if let Err(refusal) = bench.step() {
+        return Err(refusal);
+    }
+    match take_all(bench, op) {
+        Ok(()) => {
+            finish(bench, true);
+            Ok(())
+        }
+        Err(refusal) => {
+            finish(bench, false);
+            Err(refusal)
+        }
+    }
 }

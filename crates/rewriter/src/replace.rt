@@ -1,20 +1,75 @@
-//! One value is set in place of another.
-ghost use Rattle.std.specs.Prelude.{◌≡◌};
-ghost use Rattle.machine.specs.Contents.{edit_meaning};
-ghost use Rattle.machine.specs.Edits.{Replace};
+//! Replacing a value wherever it is used.
+ghost use Rattle.std.specs.Prelude.{◌≡◌, false, None, OnOk};
+ghost use Rattle.ir_tree.specs.Uses.{same_value};
+ghost use Rattle.machine.specs.Contents.{edit_meaning, tests_in};
+ghost use Rattle.machine.specs.Edits.{Replace, edited_by, reason_by};
 ghost use Rattle.machine.specs.Machine.{Do};
 ghost use Rattle.rewriter_base.specs.Benched.{Does, Led, reply_of};
+ghost use Rattle.rewriter.specs.Wholes.{IsDoneOrNoted, Onward};
 
+use crate::faults::replace_fault;
+use crate::finish::{finish, is_formed};
+use edit_laws::turns::replacing_by_uses;
 use ir_event::analysis::Analysis;
+use ir_tree::uses::is_same;
 use ir_tree::value::Value;
 use ir_types::refusal::Refusal;
 use rewriter_base::bench::Bench;
+use rewriter_base::laws::led_benches_are_kept;
 
-/// Sets one value in place of another, wherever that is used.
+/// Sets a value as each use of another, which differs from it, where nothing stands against it.
+fn set_uses<L: Analysis>(bench: &mut Bench<L>, old: &Value, new: &Value) -> Result<(), Refusal>
+    requires free { reason_by (tests_in bench.old.desk.ctx) (Replace old.now new.now) bench.old.desk.store.module_of ≡ None }
+    requires differ { same_value old.now new.now ≡ false }
+    ensures onward { Onward L.meaning bench.old bench.new }
+    ensures ok { OnOk result (bench.new.desk.store.module_of ≡ edited_by (tests_in bench.old.desk.ctx) (Replace old.now new.now) bench.old.desk.store.module_of) }
+    ensures refused { IsDoneOrNoted bench.old.desk result }
+{
+    replacing_by_uses::<u32, u32, u32>();
+    led_benches_are_kept::<L>();
+    is_formed(bench);
+    'uses: while let Some(site) = bench.world().store.first_use(old) {
+        if let Err(refusal) = bench.set_operand(site.0, site.1, *new) {
+            return Err(refusal);
+        }
+    }
+    Ok(())
+}
+
+/// Puts a value in the place of another wherever that is used. The types have to be one. Where the two are one value,
+/// nothing changes. It is whole or not made at all.
+///
+/// Refusals, in order: `NoSuchValue` where the first or the second isn't a value of the module; `TypeDiffers`;
+/// `NotVisible` where an operation that uses the first doesn't see the second (Language Reference, "Regions", on value
+/// scoping); and `Memory` where a mark is open.
 pub fn replace_all<L: Analysis>(bench: &mut Bench<L>, old: Value, new: Value) -> Result<(), Refusal>
     ensures does { Does L.meaning (Do (edit_meaning bench.old.desk.ctx (Replace old new))) (reply_of result) bench.old bench.new }
     ensures led { Led L.meaning bench.old bench.new }
     ensures ctx { bench.new.desk.ctx ≡ bench.old.desk.ctx }
 {
-    Err(Refusal::NoSuchValue)
+    replacing_by_uses::<u32, u32, u32>();
+    led_benches_are_kept::<L>();
+    is_formed(bench);
+    if let Some(refusal) = replace_fault(bench.world(), &old, &new) {
+        return Err(refusal);
+    }
+    if is_same(&old, &new) {
+        return Ok(());
+    }
+    if !bench.is_marked() {
+        return set_uses(bench, &old, &new);
+    }
+    if let Err(refusal) = bench.step() {
+        return Err(refusal);
+    }
+    match set_uses(bench, &old, &new) {
+        Ok(()) => {
+            finish(bench, true);
+            Ok(())
+        }
+        Err(refusal) => {
+            finish(bench, false);
+            Err(refusal)
+        }
+    }
 }

@@ -53,6 +53,7 @@ impl<L: Analysis> Bench<L> {
     /// Refusals: `Memory`.
     pub fn step(&mut self) -> Result<(), Refusal>
         ensures does { Does L.meaning Step (reply_of result) self.old self.new }
+        ensures ctx { self.new.desk.ctx ≡ self.old.desk.ctx }
         ensures err { OnErr result (self.new ≡ self.old) }
         ensures led { Led L.meaning self.old self.new }
     {
@@ -64,6 +65,7 @@ impl<L: Analysis> Bench<L> {
     /// Refusals: `NoMark`.
     pub fn commit(&mut self) -> Result<(), Refusal>
         ensures does { Does L.meaning Commit (reply_of result) self.old self.new }
+        ensures ctx { self.new.desk.ctx ≡ self.old.desk.ctx }
         ensures err { OnErr result (self.new ≡ self.old) }
         ensures led { Led L.meaning self.old self.new }
     {
@@ -81,6 +83,7 @@ impl<L: Analysis> Bench<L> {
     /// Refusals: `NoMark`.
     pub fn rollback(&mut self) -> Result<(), Refusal>
         ensures does { Does L.meaning Rollback (reply_of result) self.old self.new }
+        ensures ctx { self.new.desk.ctx ≡ self.old.desk.ctx }
         ensures told { OnOk result (ToldBack L.meaning self.old self.new) }
         ensures err { OnErr result (self.new ≡ self.old) }
         ensures led { Led L.meaning self.old self.new }

@@ -1,0 +1,12 @@
+use Rattle.std.proofs.Common.{length}
+use Rattle.ir_tree.specs.Ids.{find}
+use Rattle.machine.specs.Edits.{Erase}
+use Rattle.edit_laws.specs.Erasing.{ids_in}
+use Rattle.rewriter.proofs.Together.{IsUnderway}
+use Rattle.rewriter.proofs.erase.take_all.Given as goal
+
+abbrev pub invariant-rest : goal.invariant-rest
+invariant-rest g l = IsUnderway g.L.Analysis.meaning (Erase l.op) l.initial.bench l.bench
+
+abbrev pub decreases-rest : goal.decreases-rest
+decreases-rest g l = length (ids_in (find l.op l.bench.desk.store.module_of.tree))

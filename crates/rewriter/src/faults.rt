@@ -1,0 +1,44 @@
+//! Why an edit of several events is refused before any is made.
+ghost use Rattle.std.specs.Prelude.{◌≡◌};
+ghost use Rattle.machine.specs.Contents.{tests_in};
+ghost use Rattle.machine.specs.Edits.{Erase, Replace, reason_by};
+
+use ir_event::world::World;
+use ir_tree::value::Value;
+use ir_types::ids::OpId;
+use ir_types::refusal::Refusal;
+
+/// Why a value can't be replaced by another, if it can't.
+pub fn replace_fault(world: &World, old: &Value, new: &Value) -> Option<Refusal>
+    ensures { result ≡ reason_by (tests_in world.now.ctx) (Replace old.now new.now) world.now.store.module_of }
+{
+    let Some(one) = world.store.value_type(old) else {
+        return Some(Refusal::NoSuchValue);
+    };
+    let Some(other) = world.store.value_type(new) else {
+        return Some(Refusal::NoSuchValue);
+    };
+    if one != other {
+        return Some(Refusal::TypeDiffers);
+    }
+    if !world.store.users_see(&world.ctx, old, new) {
+        return Some(Refusal::NotVisible);
+    }
+    None
+}
+
+/// Why an operation can't be erased, if it can't.
+pub fn erase_fault(world: &World, op: OpId) -> Option<Refusal>
+    ensures { result ≡ reason_by (tests_in world.now.ctx) (Erase op) world.now.store.module_of }
+{
+    if !world.store.in_tree(op) {
+        return Some(Refusal::NoSuchOp);
+    }
+    let Some(_place) = world.store.place(op) else {
+        return Some(Refusal::IsRoot);
+    };
+    if !world.store.unused_outside(op) {
+        return Some(Refusal::HasUses);
+    }
+    None
+}
