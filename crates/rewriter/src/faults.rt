@@ -12,6 +12,7 @@ use ir_types::refusal::Refusal;
 pub fn replace_fault(world: &World, old: &Value, new: &Value) -> Option<Refusal>
     ensures { result ≡ reason_by (tests_in world.now.ctx) (Replace old.now new.now) world.now.store.module_of }
 {
+    world.ctx.sound();
     let Some(one) = world.store.value_type(old) else {
         return Some(Refusal::NoSuchValue);
     };

@@ -6,3 +6,4 @@ pub mod Undo
 pub mod Listening
 pub mod Rolled
 pub mod Parts
+pub mod Contexts

@@ -1,6 +1,7 @@
 use Rattle.std.proofs.Common.{[]}
 use Rattle.rewriter_base.proofs.Rolled.{commit_goes, commit_led}
 use Rattle.rewriter_base.proofs.Told.{heard_none}
+use Rattle.rewriter_base.proofs.Contexts.{commit_ctx}
 use Rattle.rewriter_base.proofs.bench.Bench.commit.Goals as goal
 
 pub returns-clause-does : goal.returns-clause-does
@@ -11,3 +12,6 @@ returns-clause-led g c = rw (← c.self.view_is) (commit_led g.L.Analysis.meanin
 
 pub returns-then-not-is_marked-clause-led : goal.returns-then-not-is_marked-clause-led
 returns-then-not-is_marked-clause-led g c = ([], heard_none g.L.Analysis.meaning _)
+
+pub returns-clause-ctx : goal.returns-clause-ctx
+returns-clause-ctx g c = rw (← c.self.view_is) (commit_ctx _ _ _ c.close.ensures c.give_up.ensures)

@@ -1,6 +1,7 @@
 use Rattle.std.proofs.Common.{[]}
 use Rattle.rewriter_base.proofs.Rolled.{rollback_goes, rollback_led, rollback_told, rollback_none}
 use Rattle.rewriter_base.proofs.Told.{heard_none}
+use Rattle.rewriter_base.proofs.Contexts.{rollback_ctx}
 use Rattle.rewriter_base.proofs.bench.Bench.rollback.Goals as goal
 
 pub returns-clause-does : goal.returns-clause-does
@@ -17,3 +18,6 @@ returns-in_default-clause-led g c = ([], heard_none g.L.Analysis.meaning _)
 
 pub returns-in_default-clause-does : goal.returns-in_default-clause-does
 returns-in_default-clause-does g c = rw (← c.self.view_is) (rollback_none g.L.Analysis.meaning (record { desk = c.self.inside.desk; listeners = c.self.inside.panel }) c.in_default.ensures.none)
+
+pub returns-clause-ctx : goal.returns-clause-ctx
+returns-clause-ctx g c = rw (← c.self.view_is) (rollback_ctx _ _ _ _ _ c.undo_to.ensures.undone c.close.ensures c.give_up.ensures)
