@@ -97,8 +97,11 @@ unread_memory Spelled = (Memory, None, (inr refl, inr (inr refl)), refl)
 pub unread_full : {X : Type 0} (Spelled : X → Type 0) (offset : ℕ) → NotRead Spelled (TextRefusedAt TooMany offset)
 unread_full Spelled offset = (TooMany, Some offset, (omega arith, inr (inl refl)), refl)
 
-pub unread_ids : {X : Type 0} (Spelled : X → Type 0) → ((x : X) → Spelled x → ⊥) → NotRead Spelled (Replied (Refused IdsExhausted))
+unread_ids : {X : Type 0} (Spelled : X → Type 0) → ((x : X) → Spelled x → ⊥) → NotRead Spelled (Replied (Refused IdsExhausted))
 unread_ids Spelled none = (IdsExhausted, None, (inl refl, inl none), refl)
+
+pub ids_refused : {X : Type 0} (Spelled : X → Type 0) (refusal : Refusal) → refusal ≡ IdsExhausted → ((x : X) → Spelled x → ⊥) → NotRead Spelled (Replied (Refused refusal))
+ids_refused Spelled refusal is none = subst (λ r. NotRead Spelled (Replied (Refused r))) (sym is) (unread_ids Spelled none)
 
 pub unread_at : {X : Type 0} (Spelled : X → Type 0) (refusal : Refusal) (offset : ℕ) → number_of refusal ≤ 14 → ((x : X) → Spelled x → ⊥) → NotRead Spelled (TextRefusedAt refusal offset)
 unread_at Spelled refusal offset small none = (refusal, Some offset, (small, inl none), refl)

@@ -91,8 +91,9 @@ pub fn put_listing<L: Analysis, W: Write>(
     requires { IsKept L.meaning bench.now }
     ensures { PutsSome (IsListing (state_of L.meaning bench.now)) (W.contents writer.old) (W.contents writer.new) result }
 {
-    match put_module(alloc, bench.world(), writer) {
-        Ok(()) => put_listeners(alloc, bench.world(), bench.listeners(), writer),
+    let world = bench.world();
+    match put_module(alloc, world, writer) {
+        Ok(()) => put_listeners(alloc, world, bench.listeners(), writer),
         Err(fault) => Err(fault),
     }
 }

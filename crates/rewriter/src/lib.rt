@@ -4,7 +4,7 @@
 
 pub mod erase;
 pub mod faults;
-mod finish;
+pub mod finish;
 pub mod replace;
 
 pub use rewriter_base::bench::Bench;

@@ -24,11 +24,11 @@ returns-in-Err-place_for-clause-obeys g c =
 pub returns-in-Err-place_for-clause-kept : goal.returns-in-Err-place_for-clause-kept
 returns-in-Err-place_for-clause-kept g c = c.operation_of.ensures.grown.kept c.requires
 
-pub returns-in-Ok-place_for-clause-obeys : goal.returns-in-Ok-place_for-clause-obeys
-returns-in-Ok-place_for-clause-obeys g c =
+pub returns-clause-obeys : goal.returns-clause-obeys
+returns-clause-obeys g c =
     let o = meaning c.operation_of.new.bench.desk.ctx c.in-Ok.tree in
     obeys_behind _ _ _ (command.Insert (spot_of c.args.spot.now) c.args.text.now) (Do (edit.Insert c.in-Ok-place_for.place o)) _ _ c.operation_of.ensures.grown.same c.reply_as.ensures
     (o, c.in-Ok.ensures.read, (c.in-Ok-place_for.place, spot_behind g.L.Analysis.meaning c.args.bench.now c.operation_of.new.bench _ None (spot_of c.args.spot.now) _ c.operation_of.ensures.grown c.world.ensures.store (sym c.in-Ok-place_for.ensures), refl)) c.insert.ensures.does
 
-pub returns-in-Ok-place_for-clause-kept : goal.returns-in-Ok-place_for-clause-kept
-returns-in-Ok-place_for-clause-kept g c = c.led_benches_are_kept.ensures.kept _ _ c.insert.ensures.led (c.operation_of.ensures.grown.kept c.requires)
+pub returns-clause-kept : goal.returns-clause-kept
+returns-clause-kept g c = c.led_benches_are_kept.ensures.kept _ _ c.insert.ensures.led (c.operation_of.ensures.grown.kept c.requires)

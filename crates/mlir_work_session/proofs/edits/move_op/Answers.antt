@@ -10,10 +10,10 @@ use Rattle.mlir_work_session.proofs.edits.move_op.Goals as goal
 pub returns-in-Err-clause-obeys : goal.returns-in-Err-clause-obeys
 returns-in-Err-clause-obeys g c = obeys_misplaced c.args.op (spot_of c.args.spot.now) _ c.in-Err.refusal (spot_beside c.args.bench.now.desk _ (Some c.args.op) (spot_of c.args.spot.now) _ c.world.ensures.store (sym c.in-Err.ensures))
 
-pub returns-in-Ok-clause-obeys : goal.returns-in-Ok-clause-obeys
-returns-in-Ok-clause-obeys g c =
+pub returns-clause-obeys : goal.returns-clause-obeys
+returns-clause-obeys g c =
     obeys_plain _ _ (command.Move c.args.op (spot_of c.args.spot.now)) (Do (edit.Move c.args.op c.in-Ok.place)) _ _ c.reply_to.ensures
     (c.in-Ok.place, spot_beside c.args.bench.now.desk _ (Some c.args.op) (spot_of c.args.spot.now) _ c.world.ensures.store (sym c.in-Ok.ensures), refl) c.move_op.ensures.does
 
-pub returns-in-Ok-clause-kept : goal.returns-in-Ok-clause-kept
-returns-in-Ok-clause-kept g c = c.led_benches_are_kept.ensures.kept _ _ c.move_op.ensures.led c.requires
+pub returns-clause-kept : goal.returns-clause-kept
+returns-clause-kept g c = c.led_benches_are_kept.ensures.kept _ _ c.move_op.ensures.led c.requires

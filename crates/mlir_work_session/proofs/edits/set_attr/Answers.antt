@@ -14,11 +14,11 @@ returns-in-Err-clause-obeys g c = obeys_unread c.args.op (key_bytes c.args.key.n
 pub returns-in-Err-clause-kept : goal.returns-in-Err-clause-kept
 returns-in-Err-clause-kept g c = c.entry_of.ensures.grown.kept c.requires
 
-pub returns-in-Ok-clause-obeys : goal.returns-in-Ok-clause-obeys
-returns-in-Ok-clause-obeys g c =
+pub returns-clause-obeys : goal.returns-clause-obeys
+returns-clause-obeys g c =
     let d = c.entry_of.new.bench.desk.ctx in
     obeys_behind _ _ _ (command.SetAttr c.args.op (key_bytes c.args.key.now) c.args.text.now) (Do (edit.SetAttr c.args.op (name_term d c.in-Ok.entry.0) (attr_term d c.in-Ok.entry.1))) _ _ c.entry_of.ensures.grown.same c.reply_to.ensures
     (attr_term d c.in-Ok.entry.1, c.in-Ok.ensures.attr.1, ap (λ k. Do (edit.SetAttr c.args.op k (attr_term d c.in-Ok.entry.1))) c.in-Ok.ensures.key.1) c.set_attr.ensures.does
 
-pub returns-in-Ok-clause-kept : goal.returns-in-Ok-clause-kept
-returns-in-Ok-clause-kept g c = c.led_benches_are_kept.ensures.kept _ _ c.set_attr.ensures.led (c.entry_of.ensures.grown.kept c.requires)
+pub returns-clause-kept : goal.returns-clause-kept
+returns-clause-kept g c = c.led_benches_are_kept.ensures.kept _ _ c.set_attr.ensures.led (c.entry_of.ensures.grown.kept c.requires)

@@ -5,19 +5,22 @@ use Rattle.machine.specs.Panels.{all_shown}
 use Rattle.rewriter_base.specs.Benched.{state_of}
 use Rattle.mlir_work_session.specs.Output.{IsModule, AreKinds, IsListing}
 use Rattle.mlir_work_session.proofs.Listings.{some_kinds}
-use Rattle.mlir_work_session.proofs.Reading.{listing_held}
+use Rattle.mlir_work_session.proofs.Reading.{all_held, listing_held}
 use Rattle.mlir_work_session.proofs.listing.put_listing.Goals as goal
 
 pub returns-in-Ok : goal.returns-in-Ok
 returns-in-Ok g c =
     let meaning = g.L.Analysis.meaning in
-    let t = (module_in c.world.result.now).tree in
+    let t = (module_in c.world-world.result.now).tree in
     then_put (IsModule t) (AreKinds t (all_shown meaning c.args.bench.now.listeners)) (IsListing (state_of meaning c.args.bench.now)) _ _ _ c.put_listeners.result
-    (λ xs ys p q. listing_held meaning c.args.bench.now c.world.result.now c.world.ensures.ctx c.world.ensures.store xs ys p q) c.in-Ok.ensures c.put_listeners.ensures
+    (λ xs ys p q. listing_held meaning c.args.bench.now c.world-world.result.now c.world-world.ensures.ctx c.world-world.ensures.store xs ys p q) c.in-Ok.ensures (rw c.listeners.ensures at c.put_listeners.ensures)
 
 pub returns-in-Err : goal.returns-in-Err
 returns-in-Err g c =
     let meaning = g.L.Analysis.meaning in
-    let t = (module_in c.world.result.now).tree in
+    let t = (module_in c.world-world.result.now).tree in
     then_none (IsModule t) (AreKinds t (all_shown meaning c.args.bench.now.listeners)) (IsListing (state_of meaning c.args.bench.now)) _ _
-    (λ xs ys p q. listing_held meaning c.args.bench.now c.world.result.now c.world.ensures.ctx c.world.ensures.store xs ys p q) c.in-Err.ensures (some_kinds _ _)
+    (λ xs ys p q. listing_held meaning c.args.bench.now c.world-world.result.now c.world-world.ensures.ctx c.world-world.ensures.store xs ys p q) c.in-Err.ensures (some_kinds _ _)
+
+pub put_listeners-requires : goal.put_listeners-requires
+put_listeners-requires g c = rw (← c.listeners.ensures) (all_held g.L.Analysis.meaning c.args.bench.now c.world-world.result.now c.world-world.ensures.ctx c.world-world.ensures.store c.requires)
