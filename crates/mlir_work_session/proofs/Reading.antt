@@ -22,7 +22,7 @@ use Rattle.machine.specs.Commands.{Replied, TextRefusedAt}
 use Rattle.machine.specs.Machine.{State, Refused}
 use Rattle.machine.specs.Panels.{all_shown}
 use Rattle.machine.specs.Spots.{Spot, spot_place}
-use Rattle.desk.specs.Held.{Held, module_held}
+use Rattle.desk.specs.Held.{Held, module_held, open_marks}
 use Rattle.desk.specs.Moves.{Grown as DeskGrown}
 use Rattle.rewriter_base.specs.Benched.{Benched, IsKept, Led, state_of}
 use Rattle.mlir_work_session.specs.Texts.{Grown, NotRead}
@@ -60,6 +60,10 @@ module _ {B : Type 0} (meaning : B → Listener) where
   all_held a w ctx store kept =
       subst (λ (s : Stored). AllKept meaning w.ctx (module_meaning w.ctx s.module_of) a.listeners) (sym store)
       (subst (λ (d : Things). AllKept meaning d (module_meaning d a.desk.store.module_of) a.listeners) (sym ctx) kept)
+
+  -- a bench that listeners were attached to, without marks
+  pub begun_state : (a b : Benched B) → b.desk ≡ a.desk → open_marks a.desk ≡ [] → state_of meaning b ≡ record { held = module_held a.desk; marks = []; panel = all_shown meaning b.listeners }
+  begun_state a b desk none = λ i. record { held = module_held (desk i); marks = (ap open_marks desk ∙ none) i; panel = all_shown meaning b.listeners }
 
   -- ---- contexts that grow
 

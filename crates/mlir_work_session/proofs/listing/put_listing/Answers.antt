@@ -1,5 +1,6 @@
-use Rattle.std.proofs.Common.{refl}
-use Rattle.ir_event.specs.Modules.{module_in}
+use Rattle.std.proofs.Common.{subst, sym}
+use Rattle.ir_event.specs.Modules.{module_in, things_in}
+use Rattle.ir_event.specs.Panels.{AllKept}
 use Rattle.mlir_work_script.proofs.Joins.{then_put, then_none}
 use Rattle.machine.specs.Panels.{all_shown}
 use Rattle.rewriter_base.specs.Benched.{state_of}
@@ -23,4 +24,6 @@ returns-in-Err g c =
     (λ xs ys p q. listing_held meaning c.args.bench.now c.world-world.result.now c.world-world.ensures.ctx c.world-world.ensures.store xs ys p q) c.in-Err.ensures (some_kinds _ _)
 
 pub put_listeners-requires : goal.put_listeners-requires
-put_listeners-requires g c = rw (← c.listeners.ensures) (all_held g.L.Analysis.meaning c.args.bench.now c.world-world.result.now c.world-world.ensures.ctx c.world-world.ensures.store c.requires)
+put_listeners-requires g c =
+    let world = c.world-world.result.now in
+    subst (AllKept g.L.Analysis.meaning (things_in world) (module_in world)) (sym c.listeners.ensures) (all_held g.L.Analysis.meaning c.args.bench.now world c.world-world.ensures.ctx c.world-world.ensures.store c.requires)

@@ -1,3 +1,8 @@
+use Rattle.std.proofs.Common.{subst}
+use Rattle.machine.specs.Machine.{State}
+use Rattle.mlir_work_script.specs.Lines.{lines_of}
+use Rattle.mlir_work_session.specs.Output.{Runs}
+use Rattle.mlir_work_session.proofs.Reading.{begun_state}
 use Rattle.desk.specs.Held.{module_held}
 use Rattle.machine.specs.Panels.{all_shown}
 use Rattle.mlir_work_session.proofs.Sessions.{session_ran, session_cut, session_begun}
@@ -11,11 +16,13 @@ returns-in-Err g c =
 pub returns-in-Ok-run_script : goal.returns-in-Ok-run_script
 returns-in-Ok-run_script g c =
     let had = rw c.requires.none at c.in-Ok.ensures.attached in
+    let same = begun_state g.L.Analysis.meaning c.args.bench.now c.attach_all.new.bench c.attach_all.ensures.desk c.requires.unmarked in
     let ran = c.in-Ok-run_script.ensures in
-    rw c.worse.ensures (session_ran c.args.brief (all_shown g.L.Analysis.meaning c.args.boxes.items) (module_held c.args.bench.now.desk) c.args.script.now _ _ _ _ c.in-Ok.accepted had.0 c.in-Ok-run_script.status ran.0 had.1 had.2 ran.1 ran.2)
+    rw c.worse.ensures (session_ran c.args.brief (all_shown g.L.Analysis.meaning c.args.boxes.items) (module_held c.args.bench.now.desk) c.args.script.now _ _ _ _ c.in-Ok.accepted had.0 c.in-Ok-run_script.status ran.0 had.1 had.2 (subst (λ (s : State). Runs c.args.brief 1 s (lines_of c.args.script.now) c.in-Ok-run_script.status ran.0) same ran.1) ran.2)
 
 pub returns-in-Err-run_script : goal.returns-in-Err-run_script
 returns-in-Err-run_script g c =
     let had = rw c.requires.none at c.in-Ok.ensures.attached in
+    let same = begun_state g.L.Analysis.meaning c.args.bench.now c.attach_all.new.bench c.attach_all.ensures.desk c.requires.unmarked in
     let ran = c.in-Err-run_script.ensures in
-    session_cut c.args.brief (all_shown g.L.Analysis.meaning c.args.boxes.items) (module_held c.args.bench.now.desk) c.args.script.now _ _ _ _ c.in-Ok.accepted had.0 ran.0 ran.1 had.1 had.2 ran.2 ran.3
+    session_cut c.args.brief (all_shown g.L.Analysis.meaning c.args.boxes.items) (module_held c.args.bench.now.desk) c.args.script.now _ _ _ _ c.in-Ok.accepted had.0 ran.0 ran.1 had.1 had.2 (subst (λ (s : State). Runs c.args.brief 1 s (lines_of c.args.script.now) ran.0 ran.1) same ran.2) ran.3

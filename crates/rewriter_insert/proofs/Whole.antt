@@ -1,0 +1,119 @@
+-- An operation that is inserted whole, or not at all.
+use Rattle.std.specs.Prelude.{nat_le}
+use Rattle.std.proofs.Common.{◌≡◌, ◌≢◌, ◌∙◌, sym, ap, subst, refl, ◌⊎◌, inl, inr, ℕ, ◌+◌, List, [], ◌∷◌, ◌++◌, Bool, true, false, Option, Some, None, IsTrue}
+use Rattle.ir_types.specs.Things.{Things}
+use Rattle.ir_types.specs.Sound.{Holds}
+use Rattle.ir_types.specs.Reasons.{first_reason}
+use Rattle.ir_types.specs.declared.refusal.Refusal.{Refusal}
+use Rattle.ir_types.specs.declared.refusal.Refusal.TheVariants.{Memory, NoSuchOp, NotVisible, NoSuchIndex, Full, IdsExhausted, TooDeepHere}
+use Rattle.ir_tree.specs.declared.place.Place.{Place}
+use Rattle.ir_tree.specs.Tree.{OpOf, Op, op, head}
+use Rattle.ir_tree.specs.Ids.{IsNumberedFrom, has_id, op_count}
+use Rattle.ir_tree.specs.Limits.{depth, every, most_ops, most_next, op_fits}
+use Rattle.ir_tree.specs.Meaning.{isolated_in, meaning}
+use Rattle.ir_tree.specs.Places.{put}
+use Rattle.ir_tree.specs.Sites.{operands_visible}
+use Rattle.ir_tree_laws.specs.Reads.{around}
+use Rattle.ir_tree_laws.specs.Reasons.{unless, has_place, fits_around}
+use Rattle.ir_event.specs.Listener.{Listener}
+use Rattle.ir_event.specs.Modules.{Module, module_meaning}
+use Rattle.machine.specs.Contents.{Edit, NumberedEdit, edit_meaning, edit_reason, tests_in}
+use Rattle.machine.specs.Edits.{Insert, edited_by, insert_reason, reason_by}
+use Rattle.machine.specs.Machine.{State, OpenMark, Answer, Do, Reply, DoneAs, Refused, Nothing, Goes, accepted, due_edit, grows_under}
+use Rattle.machine.specs.Panels.{AllAge, all_shown}
+use Rattle.machine.proofs.Numbers.{reason_meaning}
+use Rattle.desk.specs.Held.{module_held, open_marks}
+use Rattle.edit_laws.specs.Inserting.{insert_fault}
+use Rattle.rewriter_base.specs.Benched.{Benched, Led, state_of}
+use Rattle.rewriter.specs.Wholes.{IsFinished, Onward}
+use Rattle.rewriter.proofs.Calls.{stepped, unmade_goes}
+use Rattle.rewriter.proofs.Together.{Ages, Composes, Stays, IsBegun, begun_held, goes_refused, goes_whole, led_whole}
+
+-- ---- what stands against an operation's place and size
+
+unless_other : (b : Bool) (r : Refusal) (rest : Option Refusal) → Some r ≢ Some NotVisible → rest ≢ Some NotVisible → unless b r rest ≢ Some NotVisible
+unless_other true r rest h k = k
+unless_other false r rest h k = h
+
+-- it isn't that an operand is unseen
+fault_other : (place : Place) (o : Op) (free : ℕ) (t : Op) → insert_fault place o free t ≢ Some NotVisible
+fault_other place o free t =
+    unless_other (has_id place.parent t) NoSuchOp _ (λ e. cc)
+    (unless_other (has_place place t) NoSuchIndex _ (λ e. cc)
+    (unless_other (nat_le (op_count t + op_count o) most_ops) Full _ (λ e. cc)
+    (unless_other (every op_fits o) Full _ (λ e. cc)
+    (unless_other (nat_le (free + op_count o) most_next) IdsExhausted _ (λ e. cc)
+    (unless_other (fits_around (depth o) (around place.parent t)) TooDeepHere None (λ e. cc) (λ e. cc))))))
+
+no_fault : (f : Option Refusal) (b c : Bool) → f ≢ Some NotVisible → first_reason f (unless b NotVisible None) ≡ unless c NotVisible None → f ≡ None
+no_fault None b c h e = refl
+no_fault (Some r) b true h e = absurd cc
+no_fault (Some r) b false h e = absurd (h e)
+
+-- the first reason of two, as the laws of edits have it
+abbrev pub Split : Type 0
+Split = (isolated : ℕ → Bool) (place : Place) (o : Op) (free : ℕ) (t : Op) → insert_reason isolated place o free t ≡ first_reason (insert_fault place o free t) (unless (operands_visible isolated (put place o t)) NotVisible None)
+
+pub fault_reason : Split → (c : Things) (place : Place) (o : Op) (r : Refusal) (free : ℕ) (t : Op) → insert_fault place o free t ≡ Some r → reason_by (tests_in c) (Insert place o) (record { tree = t; next = free }) ≡ Some r
+fault_reason split c place o r free t e =
+    split (isolated_in c) place o free t ∙ ap (λ f. first_reason f (unless (operands_visible (isolated_in c) (put place o t)) NotVisible None)) e
+
+-- ---- how an insert goes
+
+-- an insert takes memory
+insert_grows : (c : Things) (place : Place) (o : Op) (ks : List OpenMark) → IsTrue (grows_under ks (edit_meaning c (Insert place o)))
+insert_grows c place o [] = refl
+insert_grows c place o (k ∷ ks) = refl
+
+meant_id : (c : Things) (o : Op) → (head (meaning c o)).id ≡ (head o).id
+meant_id c (op h rs) = refl
+
+-- an edit that is refused for its reason, behind events that were undone
+unaccepted : (s t : State) (e : Edit) (r : Refusal) → edit_reason e s.held ≡ Some r → t.held ≡ s.held → t.marks ≡ s.marks → AllAge s.panel t.panel → Goes s (Do e) (Refused r) Nothing t
+unaccepted s t e r why held marks ages =
+    record {
+      answer = inl ((λ i. record { reply = Refused r; shows = Nothing; held = held i; marks = marks i }) ∙ sym (ap (λ (o : Option Refusal). due_edit o e s) why));
+      panel = ages;
+    }
+
+module _ {B : Type 0} (means : B → Listener) where
+  -- a reason is the same before and behind a mark
+  begun_reason : (e : NumberedEdit) (a b : Benched B) → IsBegun means a b → reason_by (tests_in b.desk.ctx) e b.desk.store.module_of ≡ reason_by (tests_in a.desk.ctx) e a.desk.store.module_of
+  begun_reason e a b h =
+      sym (reason_meaning b.desk.ctx e b.desk.store.module_of) ∙ (λ i. edit_reason (edit_meaning (h.ctx i) e) (begun_held means a b h i)) ∙ reason_meaning a.desk.ctx e a.desk.store.module_of
+
+  pub begun_numbered : (o : Op) (a b : Benched B) → IsBegun means a b → IsNumberedFrom a.desk.store.module_of.next o → IsNumberedFrom b.desk.store.module_of.next o
+  begun_numbered o a b h n = subst (λ (k : ℕ). IsNumberedFrom k o) (ap (λ (m : Module). m.next) (sym (begun_held means a b h))) n
+
+  pub begun_fault : Split → (place : Place) (o : Op) (a b : Benched B) → IsBegun means a b → insert_fault place o a.desk.store.module_of.next a.desk.store.module_of.tree ≡ None
+      → insert_fault place o b.desk.store.module_of.next b.desk.store.module_of.tree ≡ None
+  begun_fault split place o a b h e =
+      let t = a.desk.store.module_of.tree in
+      let u = b.desk.store.module_of.tree in
+      let seen = operands_visible (isolated_in a.desk.ctx) (put place o t) in
+      no_fault (insert_fault place o b.desk.store.module_of.next u) (operands_visible (isolated_in b.desk.ctx) (put place o u)) seen (fault_other place o b.desk.store.module_of.next u)
+      (sym (split (isolated_in b.desk.ctx) place o b.desk.store.module_of.next u) ∙ begun_reason (Insert place o) a b h ∙ split (isolated_in a.desk.ctx) place o a.desk.store.module_of.next t
+      ∙ ap (λ f. first_reason f (unless seen NotVisible None)) e)
+
+  -- it is made under its mark
+  pub insert_done : Ages means → Composes means → (place : Place) (o : Op) (x : ℕ) (a b c d : Benched B) → Holds a.desk.ctx → (head o).id ≡ x → IsBegun means a b → Onward means b c → reason_by (tests_in b.desk.ctx) (Insert place o) b.desk.store.module_of ≡ None
+      → c.desk.store.module_of ≡ edited_by (tests_in b.desk.ctx) (Insert place o) b.desk.store.module_of → IsFinished true c.desk d.desk → Led means a d
+      → Goes (state_of means a) (Do (edit_meaning a.desk.ctx (Insert place o))) (DoneAs x) Nothing (state_of means d)
+  insert_done ages more place o x a b c d holds id h on free is f led =
+      subst (λ (y : Reply). Goes (state_of means a) (Do (edit_meaning a.desk.ctx (Insert place o))) y Nothing (state_of means d)) (ap DoneAs (meant_id a.desk.ctx o ∙ id))
+      (goes_whole means ages more (Insert place o) a b c d holds (sym (begun_reason (Insert place o) a b h) ∙ free) h on is f led)
+
+  -- it is refused there, and all is as it was before the mark
+  pub insert_undone : Ages means → (place : Place) (o : Op) (r : Refusal) (a b c d : Benched B) → IsBegun means a b → Onward means b c → (reason_by (tests_in b.desk.ctx) (Insert place o) b.desk.store.module_of ≡ Some r) ⊎ ((r ≡ Memory) × Unit {0})
+      → IsFinished false c.desk d.desk → Led means a d → Goes (state_of means a) (Do (edit_meaning a.desk.ctx (Insert place o))) (Refused r) Nothing (state_of means d)
+  insert_undone ages place o r a b c d h on why f led =
+      let e = edit_meaning a.desk.ctx (Insert place o) in
+      let noted_one : open_marks c.desk ≡ record { marked = module_held a.desk; counted = false } ∷ open_marks a.desk = on.opens ∙ (stepped (state_of means a) (state_of means b) h.goes).1 in
+      elim why [
+      | inl is ↦ unaccepted (state_of means a) (state_of means d) e r (reason_meaning a.desk.ctx (Insert place o) a.desk.store.module_of ∙ sym (begun_reason (Insert place o) a b h) ∙ is) (f.held _ _ noted_one) (f.marks _ _ noted_one) (ages a d led)
+      | inr memory ↦ unmade_goes (state_of means a) (state_of means d) e r memory.0 (insert_grows a.desk.ctx place o (open_marks a.desk)) (f.held _ _ noted_one) (f.marks _ _ noted_one) (ages a d led)
+      ]
+
+  -- the mark was refused
+  pub insert_unbegun : Ages means → Stays means → (place : Place) (o : Op) (r : Refusal) (a : Benched B) → r ≡ Memory → Goes (state_of means a) (Do (edit_meaning a.desk.ctx (Insert place o))) (Refused r) Nothing (state_of means a)
+  insert_unbegun ages none place o r a memory = unmade_goes (state_of means a) (state_of means a) (edit_meaning a.desk.ctx (Insert place o)) r memory (insert_grows a.desk.ctx place o (open_marks a.desk)) refl refl (ages a a ([], none a))

@@ -1,0 +1,30 @@
+-- Headers that are made one after another, until one is refused.
+use Rattle.std.specs.Prelude.{◌≡◌, ℕ, List, ◌∷◌, ◌++◌, true, Some, ◌⊎◌, Result, Ok, Err}
+use Rattle.ir_types.specs.Things.{Things}
+use Rattle.ir_types.specs.declared.refusal.Refusal.{Refusal}
+use Rattle.ir_types.specs.declared.refusal.Refusal.TheVariants.{Memory}
+use Rattle.ir_tree.specs.declared.place.Place.{Place}
+use Rattle.ir_tree.specs.Tree.{Op, regions}
+use Rattle.ir_tree.specs.Meaning.{IsSoundIn}
+use Rattle.ir_tree.specs.WellFormed.{Module}
+use Rattle.ir_tree_laws.specs.Reasons.{hold_none, put_reason}
+use Rattle.machine.specs.Edits.{TestsOf}
+use Rattle.edit_laws.specs.Inserting.{all_made}
+
+-- each of these operations is of a context, and holds none in its blocks
+abbrev pub AreHeadersOf : Things → List (Place × Op) → Type 0
+AreHeadersOf c hs = (us vs : List (Place × Op)) (u : Place × Op) → us ++ u ∷ vs ≡ hs → IsSoundIn c u.1 × (hold_none (regions u.1) ≡ true)
+
+-- one of some headers, which are made in their order in a module, is refused for a reason
+pub record IsRefusedAmong (w : TestsOf ℕ ℕ) (hs : List (Place × Op)) (m : Module) (reason : Refusal) : Type 0 where
+  pub made : List (Place × Op)
+  pub refused : Place × Op
+  pub rest : List (Place × Op)
+  pub parts : made ++ refused ∷ rest ≡ hs
+  pub why : put_reason w.isolated refused.0 refused.1 (all_made w made m).next (all_made w made m).tree ≡ Some reason
+
+-- headers were made in a module, in their order, which came to the other module; or it was given up for want of memory,
+-- or because one of them is refused
+abbrev pub Tries : {A : Type 0} → TestsOf ℕ ℕ → List (Place × Op) → Module → Result A Refusal → Module → Type 0
+Tries w hs m (Ok a) n = n ≡ all_made w hs m
+Tries w hs m (Err e) n = (e ≡ Memory) ⊎ IsRefusedAmong w hs m e

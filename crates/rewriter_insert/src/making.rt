@@ -1,0 +1,81 @@
+//! The headers of an operation made one after another.
+ghost use Rattle.std.specs.Prelude.{◌≡◌, ◌≢◌, ◌⊎◌, None, OnOk};
+ghost use Rattle.ir_types.specs.declared.refusal.Refusal.TheVariants.{Memory as WantOfMemory, NotVisible as Unseen};
+ghost use Rattle.ir_tree.specs.Ids.{IsNumberedFrom};
+ghost use Rattle.ir_tree.specs.Meaning.{IsSoundIn};
+ghost use Rattle.machine.specs.Contents.{tests_in};
+ghost use Rattle.machine.specs.Edits.{Insert, edited_by, reason_by};
+ghost use Rattle.desk.specs.Moves.{IsAnswered};
+ghost use Rattle.edit_laws.specs.Inserting.{insert_fault};
+ghost use Rattle.rewriter.specs.Wholes.{Onward};
+ghost use Rattle.rewriter_insert.specs.Trying.{AreHeadersOf, Tries};
+
+use crate::headers::headers_of;
+use edit_laws::laws::{headers_are_bare, inserting_is_making};
+use edit_laws::turns::inserts_are_tried;
+use ir_event::analysis::Analysis;
+use ir_tree::place::Place;
+use ir_tree::tree::TreeOp;
+use ir_types::refusal::Refusal;
+use rewriter::finish::is_formed;
+use rewriter_base::bench::Bench;
+use rewriter_base::laws::led_benches_are_kept;
+use std::alloc::Global;
+
+/// Makes headers, one after another, until one is refused.
+fn make_each<L: Analysis>(bench: &mut Bench<L>, headers: &Vec<(Place, TreeOp)>) -> Result<(), Refusal>
+    requires { AreHeadersOf bench.old.desk.ctx headers.now.items }
+    ensures onward { Onward L.meaning bench.old bench.new }
+    ensures tries { Tries (tests_in bench.old.desk.ctx) headers.now.items bench.old.desk.store.module_of result bench.new.desk.store.module_of }
+{
+    inserting_is_making::<u32, u32, u32>();
+    led_benches_are_kept::<L>();
+    is_formed(bench);
+    for header in headers {
+        if let Err(refusal) = bench.make(header.0, &header.1) {
+            return Err(refusal);
+        }
+    }
+    Ok(())
+}
+
+/// What the refusal of a header says of the whole: but for want of memory, that an operand would not be seen.
+fn refused_whole(refusal: Refusal) -> Refusal
+    ensures { (result ≡ WantOfMemory) ⊎ ((result ≡ Unseen) × (refusal ≢ WantOfMemory)) }
+{
+    if refusal == Refusal::Memory {
+        return Refusal::Memory;
+    }
+    Refusal::NotVisible
+}
+
+/// Makes the headers of an operation that is to stand at a place, until one is refused.
+pub(crate) fn make_all<L: Analysis>(
+    alloc: Global,
+    bench: &mut Bench<L>,
+    place: Place,
+    tree: &TreeOp,
+) -> Result<(), Refusal>
+    requires sound { IsSoundIn bench.old.desk.ctx tree.now }
+    requires numbered { IsNumberedFrom bench.old.desk.store.module_of.next tree.now }
+    requires free { insert_fault place tree.now bench.old.desk.store.module_of.next bench.old.desk.store.module_of.tree ≡ None }
+    ensures onward { Onward L.meaning bench.old bench.new }
+    ensures ok { OnOk result (bench.new.desk.store.module_of ≡ edited_by (tests_in bench.old.desk.ctx) (Insert place tree.now) bench.old.desk.store.module_of) }
+    ensures answered { IsAnswered (Unit {0}) (reason_by (tests_in bench.old.desk.ctx) (Insert place tree.now) bench.old.desk.store.module_of) result }
+{
+    headers_are_bare();
+    inserts_are_tried::<u32, u32, u32>();
+    led_benches_are_kept::<L>();
+    is_formed(bench);
+    let headers = match headers_of(alloc, place, tree) {
+        Ok(headers) => headers,
+        Err(_) => return Err(Refusal::Memory),
+    };
+    match make_each(bench, &headers) {
+        Ok(()) => {
+            is_formed(bench);
+            Ok(())
+        }
+        Err(refusal) => Err(refused_whole(refusal)),
+    }
+}
