@@ -1,6 +1,6 @@
 -- Headers that are made one after another, until one is refused.
-use Rattle.std.proofs.Common.{◌≡◌, ◌∙◌, sym, ap, subst, refl, ◌⊎◌, inl, inr, ℕ, ◌+◌, ◌<◌, ◌≤◌, List, [], ◌∷◌, ◌++◌, length, get_or, take, drop, add-one, true, Some}
-use Rattle.std.proofs.lemmas.List.{take-append-drop, take_all, take_more}
+use Rattle.std.proofs.Common.{◌≡◌, ◌∙◌, sym, ap, refl, ◌⊎◌, inl, inr, ℕ, ◌+◌, ◌<◌, List, [], ◌∷◌, ◌++◌, length, get_or, take, drop, true, Some}
+use Rattle.std.proofs.lemmas.List.{take-append-drop, take_more}
 use Rattle.ir_types.specs.Things.{Things}
 use Rattle.ir_types.specs.Sound.{Holds}
 use Rattle.ir_types.specs.declared.refusal.Refusal.{Refusal}
@@ -54,8 +54,8 @@ module _ {B : Type 0} (meaning : B → Listener) where
       record {
         onward = onward_made meaning more (after_put u.0 u.1 b.desk.store) a b d holds h.onward m;
         made =
-          is ∙ ap (λ (m : Module). edited_by w (Make u.0 u.1) m) h.made ∙ sym (parts w (take n hs) (u ∷ []) a.desk.store.module_of)
-          ∙ ap (λ (us : List (Place × Op)). all_made w us a.desk.store.module_of) (sym (taken_next hs n u l e));
+            is ∙ ap (λ (m : Module). edited_by w (Make u.0 u.1) m) h.made ∙ sym (parts w (take n hs) (u ∷ []) a.desk.store.module_of)
+            ∙ ap (λ (us : List (Place × Op)). all_made w us a.desk.store.module_of) (sym (taken_next hs n u l e));
       }
 
   -- one that is refused
@@ -64,15 +64,11 @@ module _ {B : Type 0} (meaning : B → Listener) where
       → (r ≡ Memory) ⊎ IsRefusedAmong (tests_in a.desk.ctx) hs a.desk.store.module_of r
   made_refused hs n u r a b l e h why = elim why [
     | inl is ↦ inr (record {
-        made = take n hs;
-        refused = u;
-        rest = drop (n + 1) hs;
-        parts = parted hs n u l e;
-        why = (λ i. put_reason (isolated_in (sym h.onward.ctx i)) u.0 u.1 (sym h.made i).next (sym h.made i).tree) ∙ is;
-      })
+      made = take n hs;
+      refused = u;
+      rest = drop (n + 1) hs;
+      parts = parted hs n u l e;
+      why = (λ i. put_reason (isolated_in (sym h.onward.ctx i)) u.0 u.1 (sym h.made i).next (sym h.made i).tree) ∙ is;
+    })
     | inr memory ↦ inl memory.0
-    ]
-
-  -- and the last
-  pub made_whole : (hs : List (Place × Op)) (n : ℕ) (a b : Benched B) → length hs ≤ n → IsMade hs n a b → b.desk.store.module_of ≡ all_made (tests_in a.desk.ctx) hs a.desk.store.module_of
-  made_whole hs n a b l h = h.made ∙ ap (λ (us : List (Place × Op)). all_made (tests_in a.desk.ctx) us a.desk.store.module_of) (take_all n hs l)
+  ]

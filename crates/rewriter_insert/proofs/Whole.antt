@@ -1,13 +1,13 @@
 -- An operation that is inserted whole, or not at all.
 use Rattle.std.specs.Prelude.{nat_le}
-use Rattle.std.proofs.Common.{◌≡◌, ◌≢◌, ◌∙◌, sym, ap, subst, refl, ◌⊎◌, inl, inr, ℕ, ◌+◌, List, [], ◌∷◌, ◌++◌, Bool, true, false, Option, Some, None, IsTrue}
+use Rattle.std.proofs.Common.{◌≡◌, ◌≢◌, ◌∙◌, sym, ap, subst, refl, ◌⊎◌, inl, inr, ℕ, ◌+◌, List, [], ◌∷◌, Bool, true, false, Option, Some, None, IsTrue}
 use Rattle.ir_types.specs.Things.{Things}
 use Rattle.ir_types.specs.Sound.{Holds}
 use Rattle.ir_types.specs.Reasons.{first_reason}
 use Rattle.ir_types.specs.declared.refusal.Refusal.{Refusal}
 use Rattle.ir_types.specs.declared.refusal.Refusal.TheVariants.{Memory, NoSuchOp, NotVisible, NoSuchIndex, Full, IdsExhausted, TooDeepHere}
 use Rattle.ir_tree.specs.declared.place.Place.{Place}
-use Rattle.ir_tree.specs.Tree.{OpOf, Op, op, head}
+use Rattle.ir_tree.specs.Tree.{Op, op, head}
 use Rattle.ir_tree.specs.Ids.{IsNumberedFrom, has_id, op_count}
 use Rattle.ir_tree.specs.Limits.{depth, every, most_ops, most_next, op_fits}
 use Rattle.ir_tree.specs.Meaning.{isolated_in, meaning}
@@ -16,18 +16,18 @@ use Rattle.ir_tree.specs.Sites.{operands_visible}
 use Rattle.ir_tree_laws.specs.Reads.{around}
 use Rattle.ir_tree_laws.specs.Reasons.{unless, has_place, fits_around}
 use Rattle.ir_event.specs.Listener.{Listener}
-use Rattle.ir_event.specs.Modules.{Module, module_meaning}
+use Rattle.ir_event.specs.Modules.{Module}
 use Rattle.machine.specs.Contents.{Edit, NumberedEdit, edit_meaning, edit_reason, tests_in}
 use Rattle.machine.specs.Edits.{Insert, edited_by, insert_reason, reason_by}
-use Rattle.machine.specs.Machine.{State, OpenMark, Answer, Do, Reply, DoneAs, Refused, Nothing, Goes, accepted, due_edit, grows_under}
-use Rattle.machine.specs.Panels.{AllAge, all_shown}
+use Rattle.machine.specs.Machine.{State, OpenMark, Do, Reply, DoneAs, Refused, Nothing, Goes, due_edit, grows_under}
+use Rattle.machine.specs.Panels.{AllAge}
 use Rattle.machine.proofs.Numbers.{reason_meaning}
 use Rattle.desk.specs.Held.{module_held, open_marks}
 use Rattle.edit_laws.specs.Inserting.{insert_fault}
 use Rattle.rewriter_base.specs.Benched.{Benched, Led, state_of}
 use Rattle.rewriter.specs.Wholes.{IsFinished, Onward}
 use Rattle.rewriter.proofs.Calls.{stepped, unmade_goes}
-use Rattle.rewriter.proofs.Together.{Ages, Composes, Stays, IsBegun, begun_held, goes_refused, goes_whole, led_whole}
+use Rattle.rewriter.proofs.Together.{Ages, Composes, IsBegun, begun_held, goes_whole}
 
 -- ---- what stands against an operation's place and size
 
@@ -110,10 +110,6 @@ module _ {B : Type 0} (means : B → Listener) where
       let e = edit_meaning a.desk.ctx (Insert place o) in
       let noted_one : open_marks c.desk ≡ record { marked = module_held a.desk; counted = false } ∷ open_marks a.desk = on.opens ∙ (stepped (state_of means a) (state_of means b) h.goes).1 in
       elim why [
-      | inl is ↦ unaccepted (state_of means a) (state_of means d) e r (reason_meaning a.desk.ctx (Insert place o) a.desk.store.module_of ∙ sym (begun_reason (Insert place o) a b h) ∙ is) (f.held _ _ noted_one) (f.marks _ _ noted_one) (ages a d led)
-      | inr memory ↦ unmade_goes (state_of means a) (state_of means d) e r memory.0 (insert_grows a.desk.ctx place o (open_marks a.desk)) (f.held _ _ noted_one) (f.marks _ _ noted_one) (ages a d led)
+        | inl is ↦ unaccepted (state_of means a) (state_of means d) e r (reason_meaning a.desk.ctx (Insert place o) a.desk.store.module_of ∙ sym (begun_reason (Insert place o) a b h) ∙ is) (f.held _ _ noted_one) (f.marks _ _ noted_one) (ages a d led)
+        | inr memory ↦ unmade_goes (state_of means a) (state_of means d) e r memory.0 (insert_grows a.desk.ctx place o (open_marks a.desk)) (f.held _ _ noted_one) (f.marks _ _ noted_one) (ages a d led)
       ]
-
-  -- the mark was refused
-  pub insert_unbegun : Ages means → Stays means → (place : Place) (o : Op) (r : Refusal) (a : Benched B) → r ≡ Memory → Goes (state_of means a) (Do (edit_meaning a.desk.ctx (Insert place o))) (Refused r) Nothing (state_of means a)
-  insert_unbegun ages none place o r a memory = unmade_goes (state_of means a) (state_of means a) (edit_meaning a.desk.ctx (Insert place o)) r memory (insert_grows a.desk.ctx place o (open_marks a.desk)) refl refl (ages a a ([], none a))

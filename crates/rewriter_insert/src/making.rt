@@ -23,7 +23,10 @@ use rewriter_base::laws::led_benches_are_kept;
 use std::alloc::Global;
 
 /// Makes headers, one after another, until one is refused.
-fn make_each<L: Analysis>(bench: &mut Bench<L>, headers: &Vec<(Place, TreeOp)>) -> Result<(), Refusal>
+fn make_each<L: Analysis>(
+    bench: &mut Bench<L>,
+    headers: &Vec<(Place, TreeOp)>,
+) -> Result<(), Refusal>
     requires { AreHeadersOf bench.old.desk.ctx headers.now.items }
     ensures onward { Onward L.meaning bench.old bench.new }
     ensures tries { Tries (tests_in bench.old.desk.ctx) headers.now.items bench.old.desk.store.module_of result bench.new.desk.store.module_of }

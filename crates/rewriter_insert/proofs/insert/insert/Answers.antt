@@ -1,11 +1,8 @@
-use Rattle.std.proofs.Common.{◌≡◌, ◌∙◌, sym, ap, subst, refl, true, false, None, Some, []}
+use Rattle.std.proofs.Common.{◌≡◌, ◌∙◌, sym, ap, subst, true, false, None, Some, []}
 use Rattle.ir_store.specs.Stored.{Stored}
 use Rattle.ir_tree.specs.Tree.{head}
 use Rattle.edit_laws.specs.Inserting.{insert_fault}
-use Rattle.machine.specs.Contents.{tests_in}
-use Rattle.machine.specs.Edits.{Insert, reason_by}
-use Rattle.machine.specs.Machine.{Do, Goes, Refused, Nothing}
-use Rattle.rewriter_base.specs.Benched.{Benched, state_of}
+use Rattle.machine.specs.Edits.{Insert}
 use Rattle.rewriter.proofs.Together.{IsBegun, goes_refused, led_whole}
 use Rattle.rewriter_insert.proofs.Whole.{fault_reason, begun_fault, insert_done, insert_undone}
 use Rattle.rewriter_insert.proofs.insert.insert.Goals as goal
@@ -14,7 +11,7 @@ pub returns-in-Some-clause-does : goal.returns-in-Some-clause-does
 returns-in-Some-clause-does g c =
     let b = c.args.bench.now in
     let fault : insert_fault c.args.place c.args.tree.now b.desk.store.module_of.next b.desk.store.module_of.tree ≡ Some c.in-Some.refusal =
-        subst (λ (s : Stored). insert_fault c.args.place c.args.tree.now s.module_of.next s.module_of.tree ≡ Some c.in-Some.refusal) c.world.ensures.store (sym c.insert_fault.ensures ∙ c.in-Some.is) in
+    subst (λ (s : Stored). insert_fault c.args.place c.args.tree.now s.module_of.next s.module_of.tree ≡ Some c.in-Some.refusal) c.world.ensures.store (sym c.insert_fault.ensures ∙ c.in-Some.is) in
     goes_refused g.L.Analysis.meaning c.led_benches_are_kept.ensures.ages c.led_benches_are_kept.ensures.none (Insert c.args.place c.args.tree.now) c.in-Some.refusal b
     (fault_reason c.inserts_are_tried.ensures.split b.desk.ctx c.args.place c.args.tree.now c.in-Some.refusal b.desk.store.module_of.next b.desk.store.module_of.tree fault)
 
@@ -26,7 +23,7 @@ make_all-requires-clause-free g c =
     let b = c.args.bench.now in
     let begun : IsBegun g.L.Analysis.meaning b c.step.new.self = record { ctx = c.step.ensures.ctx; goes = c.in_default-step.ensures.does; led = c.step.ensures.led } in
     let none : insert_fault c.args.place c.args.tree.now b.desk.store.module_of.next b.desk.store.module_of.tree ≡ None =
-        subst (λ (s : Stored). insert_fault c.args.place c.args.tree.now s.module_of.next s.module_of.tree ≡ None) c.world.ensures.store (sym c.insert_fault.ensures ∙ c.in_default.is) in
+    subst (λ (s : Stored). insert_fault c.args.place c.args.tree.now s.module_of.next s.module_of.tree ≡ None) c.world.ensures.store (sym c.insert_fault.ensures ∙ c.in_default.is) in
     begun_fault g.L.Analysis.meaning c.inserts_are_tried.ensures.split c.args.place c.args.tree.now b c.step.new.self begun none
 
 pub returns-in-Ok-clause-does : goal.returns-in-Ok-clause-does

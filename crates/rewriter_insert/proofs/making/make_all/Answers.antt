@@ -1,4 +1,4 @@
-use Rattle.std.proofs.Common.{◌≡◌, ◌∙◌, ◌⊎◌, sym, ap, inl, inr, Some}
+use Rattle.std.proofs.Common.{◌∙◌, sym, ap, inl, inr, Some}
 use Rattle.machine.specs.Contents.{tests_in}
 use Rattle.rewriter.proofs.Together.{onward_none}
 use Rattle.rewriter_insert.proofs.making.make_all.Goals as goal
@@ -13,10 +13,10 @@ make_each-requires g c us vs u e =
 
 pub returns-clause-answered : goal.returns-clause-answered
 returns-clause-answered g c = elim c.refused_whole.ensures [
-    | inl memory ↦ inr (memory, tt)
-    | inr seen ↦ elim c.in-Err-make_each.ensures.tries [
-      | inl memory ↦ absurd (seen.1 memory)
-      | inr r ↦ inl (c.inserts_are_tried.ensures.failed (tests_in c.args.bench.now.desk.ctx) c.args.place c.args.tree.now r.made r.rest r.refused c.in-Err-make_each.refusal c.args.bench.now.desk.store.module_of
-          c.is_formed.ensures.formed c.requires.numbered c.requires.free (r.parts ∙ c.in-Ok.ensures) r.why ∙ ap Some (sym seen.0))
-      ]
-    ]
+  | inl memory ↦ inr (memory, tt)
+  | inr seen ↦ elim c.in-Err-make_each.ensures.tries [
+    | inl memory ↦ absurd (seen.1 memory)
+    | inr r ↦ inl (c.inserts_are_tried.ensures.failed (tests_in c.args.bench.now.desk.ctx) c.args.place c.args.tree.now r.made r.rest r.refused c.in-Err-make_each.refusal c.args.bench.now.desk.store.module_of
+        c.is_formed.ensures.formed c.requires.numbered c.requires.free (r.parts ∙ c.in-Ok.ensures) r.why ∙ ap Some (sym seen.0))
+  ]
+]

@@ -1,4 +1,4 @@
-use Rattle.std.proofs.Common.{◌≡◌, ◌⊎◌, sym, subst, true, List}
+use Rattle.std.proofs.Common.{◌≡◌, ◌⊎◌, sym, subst}
 use Rattle.ir_types.specs.Things.{Things}
 use Rattle.ir_types.specs.declared.refusal.Refusal.TheVariants.{Memory}
 use Rattle.ir_tree.specs.Meaning.{IsSoundIn}
