@@ -90,7 +90,7 @@ pub(crate) fn insert<L: Analysis>(
         Ok(place) => place,
         Err(refusal) => return Reply::Refused(refusal),
     };
-    reply_as(rewriter_insert::insert::insert(alloc, bench, place, &tree))
+    reply_as(rewriter::insert::insert(alloc, bench, place, &tree))
 }
 
 /// Sets an entry of an operation to the attribute that a text spells.

@@ -10,7 +10,7 @@ use ir_event::analysis::Analysis;
 use rewriter_base::bench::Bench;
 
 /// What is true of every bench: its module is well-formed and of its context, in which no thing stands twice.
-pub fn is_formed<L: Analysis>(bench: &Bench<L>)
+pub(crate) fn is_formed<L: Analysis>(bench: &Bench<L>)
     ensures context { IsSound bench.now.desk.ctx }
     ensures sound { IsSoundIn bench.now.desk.ctx bench.now.desk.store.module_of.tree }
     ensures formed { IsWellFormed (isolated_in bench.now.desk.ctx) bench.now.desk.store.module_of }
@@ -20,7 +20,7 @@ pub fn is_formed<L: Analysis>(bench: &Bench<L>)
 }
 
 /// Drops the newest mark. The module stays, or the one of the mark is held again.
-pub fn finish<L: Analysis>(bench: &mut Bench<L>, stays: bool)
+pub(crate) fn finish<L: Analysis>(bench: &mut Bench<L>, stays: bool)
     ensures finished { IsFinished stays bench.old.desk bench.new.desk }
     ensures led { Led L.meaning bench.old bench.new }
 {

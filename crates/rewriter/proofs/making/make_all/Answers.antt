@@ -1,7 +1,7 @@
 use Rattle.std.proofs.Common.{◌∙◌, sym, ap, inl, inr, Some}
 use Rattle.machine.specs.Contents.{tests_in}
 use Rattle.rewriter.proofs.Together.{onward_none}
-use Rattle.rewriter_insert.proofs.making.make_all.Goals as goal
+use Rattle.rewriter.proofs.making.make_all.Goals as goal
 
 pub returns-in-Err-clause-onward : goal.returns-in-Err-clause-onward
 returns-in-Err-clause-onward g c = onward_none g.L.Analysis.meaning c.led_benches_are_kept.ensures.none c.args.bench.now

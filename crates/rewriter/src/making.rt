@@ -8,7 +8,7 @@ ghost use Rattle.machine.specs.Edits.{Insert, edited_by, reason_by};
 ghost use Rattle.desk.specs.Moves.{IsAnswered};
 ghost use Rattle.edit_laws.specs.Inserting.{insert_fault};
 ghost use Rattle.rewriter.specs.Wholes.{Onward};
-ghost use Rattle.rewriter_insert.specs.Trying.{AreHeadersOf, Tries};
+ghost use Rattle.rewriter.specs.Trying.{AreHeadersOf, Tries};
 
 use crate::headers::headers_of;
 use edit_laws::laws::{headers_are_bare, inserting_is_making};
@@ -17,7 +17,7 @@ use ir_event::analysis::Analysis;
 use ir_tree::place::Place;
 use ir_tree::tree::TreeOp;
 use ir_types::refusal::Refusal;
-use rewriter::finish::is_formed;
+use crate::finish::is_formed;
 use rewriter_base::bench::Bench;
 use rewriter_base::laws::led_benches_are_kept;
 use std::alloc::Global;

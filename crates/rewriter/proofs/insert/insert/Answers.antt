@@ -4,8 +4,8 @@ use Rattle.ir_tree.specs.Tree.{head}
 use Rattle.edit_laws.specs.Inserting.{insert_fault}
 use Rattle.machine.specs.Edits.{Insert}
 use Rattle.rewriter.proofs.Together.{IsBegun, goes_refused, led_whole}
-use Rattle.rewriter_insert.proofs.Whole.{fault_reason, begun_fault, insert_done, insert_undone}
-use Rattle.rewriter_insert.proofs.insert.insert.Goals as goal
+use Rattle.rewriter.proofs.Whole.{fault_reason, begun_fault, insert_done, insert_undone}
+use Rattle.rewriter.proofs.insert.insert.Goals as goal
 
 pub returns-in-Some-clause-does : goal.returns-in-Some-clause-does
 returns-in-Some-clause-does g c =

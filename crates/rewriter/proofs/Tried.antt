@@ -20,7 +20,7 @@ use Rattle.edit_laws.specs.Inserting.{all_made}
 use Rattle.rewriter_base.specs.Benched.{Benched, Made}
 use Rattle.rewriter.specs.Wholes.{Onward}
 use Rattle.rewriter.proofs.Together.{Composes, Stays, onward_none, onward_made}
-use Rattle.rewriter_insert.specs.Trying.{AreHeadersOf, IsRefusedAmong}
+use Rattle.rewriter.specs.Trying.{AreHeadersOf, IsRefusedAmong}
 
 -- a list at one of its places
 parted : {X : Type 0} (xs : List X) (n : ℕ) (x : X) → n < length xs → x ≡ get_or xs n x → take n xs ++ x ∷ drop (n + 1) xs ≡ xs

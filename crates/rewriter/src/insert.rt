@@ -15,7 +15,7 @@ use ir_tree::place::Place;
 use ir_tree::tree::TreeOp;
 use ir_types::ids::OpId;
 use ir_types::refusal::Refusal;
-use rewriter::finish::{finish, is_formed};
+use crate::finish::{finish, is_formed};
 use rewriter_base::bench::Bench;
 use rewriter_base::laws::led_benches_are_kept;
 use std::alloc::Global;

@@ -3,9 +3,9 @@ use Rattle.ir_types.specs.Things.{Things}
 use Rattle.ir_types.specs.declared.refusal.Refusal.TheVariants.{Memory}
 use Rattle.ir_tree.specs.Meaning.{IsSoundIn}
 use Rattle.machine.specs.Contents.{tests_in}
-use Rattle.rewriter_insert.specs.Trying.{AreHeadersOf, IsRefusedAmong}
-use Rattle.rewriter_insert.proofs.Tried.{header_there, made_none, made_more, made_refused}
-use Rattle.rewriter_insert.proofs.making.make_each.Goals as goal
+use Rattle.rewriter.specs.Trying.{AreHeadersOf, IsRefusedAmong}
+use Rattle.rewriter.proofs.Tried.{header_there, made_none, made_more, made_refused}
+use Rattle.rewriter.proofs.making.make_each.Goals as goal
 
 pub loop-header-init : goal.loop-header-init
 loop-header-init g c = made_none g.L.Analysis.meaning c.led_benches_are_kept.ensures.none c.deref-header-items.result.now c.args.bench.now
