@@ -21,11 +21,7 @@ use rewriter_base::laws::led_benches_are_kept;
 use std::alloc::Global;
 
 /// The attribute that a text spells.
-fn parse<L: Analysis>(
-    alloc: Global,
-    bench: &mut Bench<L>,
-    text: &[u8],
-) -> Result<AttrId, ReadError>
+fn parse<L: Analysis>(alloc: Global, bench: &mut Bench<L>, text: &[u8]) -> Result<AttrId, ReadError>
     ensures attr { IfOk result (λ a. IsAttr bench.new.desk.ctx a × SpellsAttr text.now (attr_term bench.new.desk.ctx a)) }
     ensures refused { (f : TextFault) → result ≡ Err (ReadError.Refused f) → IsNoAttr (SpellsAttr text.now) }
     ensures grown { Grown L.meaning bench.old bench.new }

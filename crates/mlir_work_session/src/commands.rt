@@ -4,9 +4,8 @@ ghost use Rattle.mlir_work_script.specs.Commands.{said_of};
 ghost use Rattle.rewriter_base.specs.Benched.{IsKept, state_of};
 ghost use Rattle.mlir_work_session.specs.Machine.{Obeys, response_of};
 
-use crate::edits;
-use crate::marks;
 use crate::shows::{Answered, plain, show_module, show_rows};
+use crate::{edits, marks};
 use ir_event::analysis::Analysis;
 use mlir_work_script::command::Command;
 use rewriter_base::bench::Bench;

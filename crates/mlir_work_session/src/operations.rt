@@ -19,11 +19,7 @@ use rewriter_base::laws::led_benches_are_kept;
 use std::alloc::Global;
 
 /// The operation that a text spells beside the module.
-fn read<L: Analysis>(
-    alloc: Global,
-    bench: &mut Bench<L>,
-    text: &[u8],
-) -> Result<TreeOp, ReadError>
+fn read<L: Analysis>(alloc: Global, bench: &mut Bench<L>, text: &[u8]) -> Result<TreeOp, ReadError>
     ensures read { IfOk result (λ t. SpellsBeside (module_held bench.old.desk) text.now (meaning bench.new.desk.ctx t)) }
     ensures sound { IfOk result (λ t. IsSoundIn bench.new.desk.ctx t) }
     ensures numbered { IfOk result (λ t. IsNumberedFrom bench.new.desk.store.module_of.next t) }

@@ -13,9 +13,9 @@ ghost use Rattle.mlir_work_session.specs.Output.{IsSession, Runs, reply_line};
 ghost use Rattle.mlir_work_session.specs.PrintsAlone.{IsPrinted, all_print, is_print, kinds_apart, prints_alone};
 ghost use Rattle.mlir_work_session.specs.Ran.{RanOut};
 
-use crate::shows::Answered;
 use crate::reply::Reply;
 use crate::script::{both, is_nothing, put_reply};
+use crate::shows::Answered;
 use ir_event::analysis::Analysis;
 use ir_event::row::Kind;
 use ir_text::printer::print;

@@ -67,11 +67,7 @@ pub(crate) fn both(a: bool, b: bool) -> bool
 }
 
 /// What a line that isn't nothing is answered.
-fn answer<L: Analysis>(
-    alloc: Global,
-    bench: &mut Bench<L>,
-    line: &Line<'_>,
-) -> Answered
+fn answer<L: Analysis>(alloc: Global, bench: &mut Bench<L>, line: &Line<'_>) -> Answered
     requires kept { IsKept L.meaning bench.old }
     requires something { says_nothing (spoken_of line.now) ≡ false }
     ensures replies { Replies (state_of L.meaning bench.old) (spoken_of line.now) (response_of result.reply) result.shows.items (state_of L.meaning bench.new) }

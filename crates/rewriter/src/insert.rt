@@ -8,6 +8,7 @@ ghost use Rattle.machine.specs.Machine.{Do};
 ghost use Rattle.rewriter_base.specs.Benched.{Does, Led, id_reply_of};
 
 use crate::fault::insert_fault;
+use crate::finish::{finish, is_formed};
 use crate::making::make_all;
 use edit_laws::turns::inserts_are_tried;
 use ir_event::analysis::Analysis;
@@ -15,7 +16,6 @@ use ir_tree::place::Place;
 use ir_tree::tree::TreeOp;
 use ir_types::ids::OpId;
 use ir_types::refusal::Refusal;
-use crate::finish::{finish, is_formed};
 use rewriter_base::bench::Bench;
 use rewriter_base::laws::led_benches_are_kept;
 use std::alloc::Global;

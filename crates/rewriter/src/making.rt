@@ -10,6 +10,7 @@ ghost use Rattle.edit_laws.specs.Inserting.{insert_fault};
 ghost use Rattle.rewriter.specs.Wholes.{Onward};
 ghost use Rattle.rewriter.specs.Trying.{AreHeadersOf, Tries};
 
+use crate::finish::is_formed;
 use crate::headers::headers_of;
 use edit_laws::laws::{headers_are_bare, inserting_is_making};
 use edit_laws::turns::inserts_are_tried;
@@ -17,7 +18,6 @@ use ir_event::analysis::Analysis;
 use ir_tree::place::Place;
 use ir_tree::tree::TreeOp;
 use ir_types::refusal::Refusal;
-use crate::finish::is_formed;
 use rewriter_base::bench::Bench;
 use rewriter_base::laws::led_benches_are_kept;
 use std::alloc::Global;
