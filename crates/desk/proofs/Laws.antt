@@ -13,8 +13,8 @@ use Rattle.ir_store.specs.Stored.{Stored}
 use Rattle.ir_event.specs.declared.event.Event.{Event}
 use Rattle.ir_event.specs.Modules.{Module, module_meaning}
 use Rattle.ir_event.specs.Step.{IsOperandStep}
-use Rattle.world_edits.specs.Edits.{IsEntryStep, IsPutStep, IsShiftStep, IsTakeStep}
-use Rattle.world_edits.specs.Undoing.{CameFrom, undone}
+use Rattle.journals.specs.Edits.{IsEntryStep, IsPutStep, IsShiftStep, IsTakeStep}
+use Rattle.journals.specs.Undoing.{CameFrom, undone}
 use Rattle.journals.specs.Journals.{IsJournal, IsSlotted, IsStoreOf, IsTidy, Noted, before}
 use Rattle.journals.proofs.Noting as noting
 use Rattle.journals.proofs.Ended as ended

@@ -16,7 +16,7 @@ use Rattle.ir_event.specs.declared.event.Event.{Event}
 use Rattle.ir_event.specs.Listener.{ShowsTaken}
 use Rattle.ir_event.specs.Modules.{Module, Node}
 use Rattle.ir_event.specs.Step.{IsOperandStep, Step}
-use Rattle.world_edits.specs.Edits.{IsEntryStep, IsPutStep, IsShiftStep, IsTakeStep}
+use Rattle.journals.specs.Edits.{IsEntryStep, IsPutStep, IsShiftStep, IsTakeStep}
 use Rattle.journals.specs.Journals.{IsSlotted, IsStoreOf, IsTidy, Noted}
 use Rattle.desk.specs.Held.{Held, IsGood, module_held, shown_of}
 use Rattle.desk.specs.Moves.{Edited, IsAnswered, noted_as}

@@ -14,7 +14,7 @@ use Rattle.ir_event.specs.declared.event.Event.{Event}
 use Rattle.ir_event.specs.Listener.{ShowsTaken}
 use Rattle.ir_event.specs.Modules.{module_meaning}
 use Rattle.ir_event.specs.Step.{Step, inverse_of}
-use Rattle.world_edits.specs.Undoing.{CameFrom, undone}
+use Rattle.journals.specs.Undoing.{CameFrom, undone}
 use Rattle.journals.specs.Journals.{IsJournal, IsSlotted, IsStoreOf, Noted, before, undone_all}
 use Rattle.desk.specs.declared.mark.Mark.{Mark}
 use Rattle.desk.specs.Held.{Held, IsGood, Within, module_held, open_mark, open_marks, shown_of}

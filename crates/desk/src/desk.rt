@@ -12,9 +12,9 @@ use crate::release::release;
 use ir_event::event::{Event, inverse};
 use ir_event::world::World;
 use ir_types::refusal::Refusal;
+use journals::undo::undo;
 use std::alloc::Global;
 use std::marker::Model;
-use world_edits::undo::undo;
 
 /// A world, the events since the oldest open mark, and the open marks, of which the newest is last.
 #[derive(Drop)]

@@ -18,7 +18,7 @@ use ir_tree::tree::TreeOp;
 use ir_tree::value::Value;
 use ir_types::ids::{AttrId, NameId, OpId};
 use ir_types::refusal::Refusal;
-use world_edits::edits;
+use journals::edits;
 
 impl Desk {
     /// Puts an operation at a place of the module, and gives the event: one like a header, whose blocks hold none and

@@ -8,3 +8,5 @@ mod edits;
 pub mod mark;
 mod release;
 mod texts;
+
+pub use world_texts::ReadError;

@@ -13,11 +13,10 @@ ghost use Rattle.desk.specs.Held.{module_held};
 ghost use Rattle.desk.specs.Moves.{Grown};
 
 use crate::desk::Desk;
-use ir_text::reader::ReadError;
 use ir_tree::tree::TreeOp;
 use ir_types::ids::AttrId;
 use std::alloc::Global;
-use world_texts::texts;
+use world_texts::{ReadError, texts};
 
 impl Desk {
     /// The attribute that a text spells.

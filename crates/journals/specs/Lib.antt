@@ -1,1 +1,3 @@
 pub mod Journals
+pub use Rattle.world_edits.specs.Edits
+pub use Rattle.world_edits.specs.Undoing

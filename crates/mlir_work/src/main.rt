@@ -9,7 +9,7 @@ use effects::effects::Effects;
 use ir_event::analysis::Analysis;
 use ir_verify::diagnostics::Diagnostics;
 use listeners::uses::Uses;
-use mlir_work_options::options_of;
+use mlir_work_run::options::options_of;
 use mlir_work_run::run::{Options, run};
 use std::alloc::AllocError;
 use std::io::BufWriter;

@@ -1,7 +1,7 @@
 //! Command lines: what they ask for, or what is said of them.
 use case_texts::texts::put_all_shown;
 use clap::Error;
-use mlir_work_options::options_of;
+use mlir_work_run::options::options_of;
 use std::alloc::{AllocError, Global};
 use std::fmt::Write;
 

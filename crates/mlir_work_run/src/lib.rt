@@ -1,4 +1,7 @@
-//! What a whole run writes is an output of what it read: a module and a script, from bytes to bytes.
+//! What a whole run writes is an output of what it read: a module and a script, from bytes to bytes. And the command
+//! line.
 #![tactic(auto)]
 
+pub mod options;
 pub mod run;
+mod text;

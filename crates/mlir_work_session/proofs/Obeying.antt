@@ -10,9 +10,9 @@ use Rattle.ir_event.specs.Listener.{Listener}
 use Rattle.ir_event.specs.Panels.{is_kind as has_this_kind}
 use Rattle.ir_text.specs.Printing.{text_of}
 use Rattle.ir_text_attributes.specs.Spelling.{SpellsAttr}
-use Rattle.world_texts.specs.Texts.{SpellsBeside}
-use Rattle.desk.specs.Held.{module_held}
-use Rattle.rewriter_base.specs.Benched.{Benched, state_of}
+use Rattle.rewriter.specs.Texts.{SpellsBeside}
+use Rattle.rewriter.specs.Held.{module_held}
+use Rattle.rewriter.specs.Benched.{Benched, state_of}
 use Rattle.machine.specs.Commands as command
 use Rattle.machine.specs.Commands.{Command, Ask, Misplaced, Unread, Asks, Response, Replied, TextRefusedAt, TextRefused}
 use Rattle.machine.specs.Edits as edit

@@ -22,9 +22,9 @@ use Rattle.machine.specs.Commands.{Replied, TextRefusedAt}
 use Rattle.machine.specs.Machine.{State, Refused}
 use Rattle.machine.specs.Panels.{all_shown}
 use Rattle.machine.specs.Spots.{Spot, spot_place}
-use Rattle.desk.specs.Held.{Held, module_held, open_marks}
-use Rattle.desk.specs.Moves.{Grown as DeskGrown}
-use Rattle.rewriter_base.specs.Benched.{Benched, IsKept, Led, state_of}
+use Rattle.rewriter.specs.Held.{Held, module_held, open_marks}
+use Rattle.rewriter.specs.Moves.{Grown as DeskGrown}
+use Rattle.rewriter.specs.Benched.{Benched, IsKept, Led, state_of}
 use Rattle.mlir_work_session.specs.Texts.{Grown, NotRead}
 use Rattle.mlir_work_session.specs.RowText.{rows_text}
 use Rattle.mlir_work_session.specs.Output.{IsModule, AreKinds, IsListing}

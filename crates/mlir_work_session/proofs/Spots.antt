@@ -19,7 +19,7 @@ use Rattle.ir_tree_laws.proofs.Contents.{map_has_id, same_id}
 use Rattle.ir_store.specs.Nodes.{Node, node_of, regions_arguments}
 use Rattle.ir_store.specs.Stored.{Stored, known}
 use Rattle.ir_event.proofs.Shown.{known_there}
-use Rattle.desk.specs.Held.{Held, module_held}
+use Rattle.rewriter.specs.Held.{Held, module_held}
 use Rattle.machine.specs.Spots.{Spot, Before, After, Start, End, passing, coming, behind, beside, in_block, spot_place}
 
 module _ {N T A M U B : Type 0} (f : N → M) (g : T → U) (h : A → B) where

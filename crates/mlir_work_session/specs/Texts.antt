@@ -5,7 +5,7 @@ use Rattle.ir_types.specs.Things.{Grows}
 use Rattle.ir_types.specs.declared.refusal.Refusal.{Refusal}
 use Rattle.ir_event.specs.Listener.{Listener}
 use Rattle.machine.specs.Commands.{TextRefused, Response, text_response}
-use Rattle.rewriter_base.specs.Benched.{Benched, IsKept, state_of}
+use Rattle.rewriter.specs.Benched.{Benched, IsKept, state_of}
 
 -- the context of a bench grew, and its module, marks and analyses stayed
 pub record Grown {B : Type 0} (meaning : B → Listener) (old new : Benched B) : Type 0 where

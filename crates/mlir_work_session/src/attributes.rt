@@ -16,8 +16,8 @@ use ir_text::reader::ReadError;
 use ir_types::ids::{AttrId, NameId};
 use ir_types::refusal::Refusal;
 use mlir_work_script::keys::{Key, bytes_of};
-use rewriter_base::bench::Bench;
-use rewriter_base::laws::led_benches_are_kept;
+use rewriter::Bench;
+use rewriter::laws::led_benches_are_kept;
 use std::alloc::Global;
 
 /// The attribute that a text spells.

@@ -2,7 +2,7 @@
 ghost use Rattle.std.specs.Prelude.{◌≡◌, ◌&&◌, is_none};
 ghost use Rattle.mlir_work_script.specs.Writes.{Puts};
 ghost use Rattle.machine.specs.Panels.{shown, all_shown};
-ghost use Rattle.rewriter_base.specs.Benched.{IsKept};
+ghost use Rattle.rewriter.specs.Benched.{IsKept};
 ghost use Rattle.mlir_work_session.specs.Output.{Attaches, BoxTried, box_line};
 ghost use Rattle.mlir_work_session.specs.Ran.{AttachedOut};
 
@@ -12,7 +12,7 @@ use ir_types::refusal::Refusal;
 use mlir_work_script::kind::Kind;
 use mlir_work_script::replies::put_attach_refused;
 use mlir_work_script::writing::WriteFault;
-use rewriter_base::bench::Bench;
+use rewriter::Bench;
 use std::io::Write;
 
 /// Attaches a listener, or answers why not.

@@ -1,14 +1,14 @@
 //! The commands of a script, over a bench.
 ghost use Rattle.std.specs.Prelude.{◌≡◌};
 ghost use Rattle.mlir_work_script.specs.Commands.{said_of};
-ghost use Rattle.rewriter_base.specs.Benched.{IsKept, state_of};
+ghost use Rattle.rewriter.specs.Benched.{IsKept, state_of};
 ghost use Rattle.mlir_work_session.specs.Machine.{Obeys, response_of};
 
 use crate::shows::{Answered, plain, show_module, show_rows};
 use crate::{edits, marks};
 use ir_event::analysis::Analysis;
 use mlir_work_script::command::Command;
-use rewriter_base::bench::Bench;
+use rewriter::Bench;
 use std::alloc::Global;
 
 /// Obeys a command, or leaves the module as it is.

@@ -3,7 +3,7 @@ ghost use Rattle.std.specs.Prelude.{◌≡◌, []};
 ghost use Rattle.machine.specs.Commands.{DropAttr, Erase, Insert, Move, Replace, SetAttr, SetOperand};
 ghost use Rattle.mlir_work_script.specs.Keys.{key_bytes};
 ghost use Rattle.mlir_work_script.specs.Spots.{spot_of};
-ghost use Rattle.rewriter_base.specs.Benched.{IsKept, state_of};
+ghost use Rattle.rewriter.specs.Benched.{IsKept, state_of};
 ghost use Rattle.mlir_work_session.specs.Machine.{Obeys, response_of};
 
 use crate::attributes::{entry_of, name_of};
@@ -17,8 +17,8 @@ use ir_types::ids::OpId;
 use ir_types::refusal::Refusal;
 use mlir_work_script::keys::Key;
 use mlir_work_script::spots::Spot;
-use rewriter_base::bench::Bench;
-use rewriter_base::laws::led_benches_are_kept;
+use rewriter::Bench;
+use rewriter::laws::led_benches_are_kept;
 use std::alloc::Global;
 
 /// Sets an operand.

@@ -5,7 +5,7 @@ ghost use Rattle.ir_event.specs.Panels.{AllKept};
 ghost use Rattle.mlir_work_script.specs.Replies.{kind_line};
 ghost use Rattle.mlir_work_script.specs.Writes.{Puts, PutsSome};
 ghost use Rattle.machine.specs.Panels.{shown, all_shown};
-ghost use Rattle.rewriter_base.specs.Benched.{IsKept, state_of};
+ghost use Rattle.rewriter.specs.Benched.{IsKept, state_of};
 ghost use Rattle.mlir_work_session.specs.Output.{IsModule, IsKind, AreKinds, IsListing};
 
 use crate::shows::{text_of_module, text_of_report};
@@ -15,7 +15,7 @@ use ir_event::world::World;
 use mlir_work_script::kind::Kind;
 use mlir_work_script::replies::{put_kind, put_kind_memory, put_module_memory, put_stale};
 use mlir_work_script::writing::{WriteFault, put};
-use rewriter_base::bench::Bench;
+use rewriter::Bench;
 use std::alloc::Global;
 use std::io::Write;
 

@@ -1,15 +1,15 @@
 //! Commands on marks and listeners, over a bench.
 ghost use Rattle.std.specs.Prelude.{◌≡◌, []};
 ghost use Rattle.machine.specs.Commands.{Begin, Commit, Detach, Resync, Rollback};
-ghost use Rattle.rewriter_base.specs.Benched.{IsKept, state_of};
+ghost use Rattle.rewriter.specs.Benched.{IsKept, state_of};
 ghost use Rattle.mlir_work_session.specs.Machine.{Obeys, response_of};
 
 use crate::reply::Reply;
 use crate::replying::reply_to;
 use ir_event::analysis::Analysis;
 use mlir_work_script::kind::Kind;
-use rewriter_base::bench::Bench;
-use rewriter_base::laws::led_benches_are_kept;
+use rewriter::Bench;
+use rewriter::laws::led_benches_are_kept;
 
 /// Makes a mark of the module.
 pub(crate) fn begin<L: Analysis>(bench: &mut Bench<L>) -> Reply

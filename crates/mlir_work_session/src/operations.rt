@@ -4,8 +4,8 @@ ghost use Rattle.ir_tree.specs.Ids.{IsNumberedFrom};
 ghost use Rattle.ir_tree.specs.Meaning.{IsSoundIn, meaning};
 ghost use Rattle.ir_text_tokens.specs.declared.fault.Fault.{Fault as TextFault};
 ghost use Rattle.ir_text_operations.specs.Claims.{IsNone};
-ghost use Rattle.desk.specs.Held.{module_held};
-ghost use Rattle.world_texts.specs.Texts.{SpellsBeside};
+ghost use Rattle.rewriter.specs.Held.{module_held};
+ghost use Rattle.rewriter.specs.Texts.{SpellsBeside};
 ghost use Rattle.mlir_work_session.specs.Texts.{Grown, NotRead};
 ghost use Rattle.mlir_work_session.specs.Machine.{response_of};
 
@@ -14,8 +14,8 @@ use crate::unread::reply_unread;
 use ir_event::analysis::Analysis;
 use ir_text::reader::ReadError;
 use ir_tree::tree::TreeOp;
-use rewriter_base::bench::Bench;
-use rewriter_base::laws::led_benches_are_kept;
+use rewriter::Bench;
+use rewriter::laws::led_benches_are_kept;
 use std::alloc::Global;
 
 /// The operation that a text spells beside the module.

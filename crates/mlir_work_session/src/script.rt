@@ -3,7 +3,7 @@ ghost use Rattle.std.specs.Prelude.{◌≡◌, false, ◌&&◌, not};
 ghost use Rattle.mlir_work_script.specs.Commands.{said_of, spoken_of};
 ghost use Rattle.mlir_work_script.specs.Lines.{lines_of};
 ghost use Rattle.mlir_work_script.specs.Writes.{Puts, PutsSome};
-ghost use Rattle.rewriter_base.specs.Benched.{IsKept, state_of};
+ghost use Rattle.rewriter.specs.Benched.{IsKept, state_of};
 ghost use Rattle.mlir_work_session.specs.Machine.{response_of};
 ghost use Rattle.mlir_work_session.specs.Output.{Runs, Replies, IsReplied, asks as asks_to, says_nothing, shows_alone, reply_line};
 ghost use Rattle.mlir_work_session.specs.Ran.{RanOut};
@@ -18,7 +18,7 @@ use mlir_work_script::command::{Command, Line, read_line};
 use mlir_work_script::lines::split_line;
 use mlir_work_script::replies::{put_made, put_ok, put_refused, put_refused_at};
 use mlir_work_script::writing::{WriteFault, put};
-use rewriter_base::bench::Bench;
+use rewriter::Bench;
 use std::alloc::Global;
 use std::io::Write;
 

@@ -1,8 +1,8 @@
 //! A module that was read: listeners are attached to it, and a script is run over it.
 ghost use Rattle.std.specs.Prelude.{◌≡◌, [], if◌then◌else◌};
 ghost use Rattle.ir_event.specs.Modules.{module_in};
-ghost use Rattle.journals.specs.Journals.{IsSlotted, IsTidy};
-ghost use Rattle.desk.specs.Held.{module_held, open_marks};
+ghost use Rattle.rewriter.specs.Journals.{IsSlotted, IsTidy};
+ghost use Rattle.rewriter.specs.Held.{module_held, open_marks};
 ghost use Rattle.machine.specs.Panels.{all_shown};
 ghost use Rattle.mlir_work_session.specs.Output.{IsSession, IsBadScript, Session, worse as worst};
 ghost use Rattle.mlir_work_session.specs.Ran.{RanOut};
@@ -15,7 +15,7 @@ use ir_types::refusal::Refusal;
 use mlir_work_script::input::script_is_too_long;
 use mlir_work_script::replies::put_refused;
 use mlir_work_script::writing::WriteFault;
-use rewriter_base::bench::Bench;
+use rewriter::Bench;
 use std::alloc::Global;
 use std::io::Write;
 

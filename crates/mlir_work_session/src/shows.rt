@@ -7,7 +7,7 @@ ghost use Rattle.ir_event.specs.Panels.{is_kind as has_this_kind};
 ghost use Rattle.ir_event.specs.Rows.{RowIsOf, rows_meaning};
 ghost use Rattle.ir_text.specs.Printing.{text_of};
 ghost use Rattle.machine.specs.Commands.{Report, Print};
-ghost use Rattle.rewriter_base.specs.Benched.{IsKept, state_of};
+ghost use Rattle.rewriter.specs.Benched.{IsKept, state_of};
 ghost use Rattle.mlir_work_session.specs.RowText.{rows_text};
 ghost use Rattle.mlir_work_session.specs.Machine.{Obeys, response_of};
 ghost use Rattle.mlir_work_session.specs.declared.reply.Reply.TheVariants.{Refused};
@@ -20,7 +20,7 @@ use ir_event::world::World;
 use ir_text::printer::print;
 use ir_types::refusal::Refusal;
 use mlir_work_script::kind::Kind;
-use rewriter_base::bench::Bench;
+use rewriter::Bench;
 use std::alloc::Global;
 
 /// A reply, and the bytes that are shown below it.

@@ -6,7 +6,7 @@ ghost use Rattle.ir_text_tokens.specs.declared.fault.Fault.{Fault as TextFault};
 ghost use Rattle.ir_text_attributes.specs.Claims.{IsNoAttr};
 ghost use Rattle.ir_text_attributes.specs.Spelling.{SpellsAttr};
 ghost use Rattle.ir_text_operations.specs.Claims.{IsNone};
-ghost use Rattle.world_texts.specs.Texts.{SpellsBeside};
+ghost use Rattle.rewriter.specs.Texts.{SpellsBeside};
 ghost use Rattle.mlir_work_session.specs.Texts.{NotRead};
 ghost use Rattle.mlir_work_session.specs.Machine.{response_of};
 

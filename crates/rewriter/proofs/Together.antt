@@ -16,9 +16,9 @@ use Rattle.machine.specs.Edits.{edited_by, reason_by}
 use Rattle.machine.specs.Machine.{State, OpenMark, Do, Step, Commit, Rollback, Reply, Done, Refused, Nothing, Goes, accepted}
 use Rattle.machine.specs.Panels.{AllAge, all_shown}
 use Rattle.machine.proofs.Numbers.{edited_meaning, reason_meaning}
-use Rattle.desk.specs.declared.mark.Mark.{Mark}
-use Rattle.desk.specs.Held.{Held, module_held, open_mark, open_marks}
-use Rattle.desk.specs.Moves.{Edited}
+use Rattle.rewriter_base.specs.Mark.{Mark}
+use Rattle.rewriter_base.specs.Held.{Held, module_held, open_mark, open_marks}
+use Rattle.rewriter_base.specs.Moves.{Edited}
 use Rattle.rewriter_base.specs.Benched.{Benched, Heard, Led, Made, reply_of, state_of}
 use Rattle.rewriter_base.specs.Rolling.{GivenUp}
 use Rattle.rewriter.specs.Wholes.{IsDoneOrNoted, IsFinished, Onward}

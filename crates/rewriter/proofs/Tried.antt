@@ -15,7 +15,7 @@ use Rattle.ir_store.specs.Calls.{after_put}
 use Rattle.ir_event.specs.Listener.{Listener}
 use Rattle.machine.specs.Contents.{tests_in}
 use Rattle.machine.specs.Edits.{Make, TestsOf, edited_by}
-use Rattle.desk.specs.Held.{Held}
+use Rattle.rewriter_base.specs.Held.{Held}
 use Rattle.edit_laws.specs.Inserting.{all_made}
 use Rattle.rewriter_base.specs.Benched.{Benched, Made}
 use Rattle.rewriter.specs.Wholes.{Onward}

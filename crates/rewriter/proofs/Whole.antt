@@ -22,7 +22,7 @@ use Rattle.machine.specs.Edits.{Insert, edited_by, insert_reason, reason_by}
 use Rattle.machine.specs.Machine.{State, OpenMark, Do, Reply, DoneAs, Refused, Nothing, Goes, due_edit, grows_under}
 use Rattle.machine.specs.Panels.{AllAge}
 use Rattle.machine.proofs.Numbers.{reason_meaning}
-use Rattle.desk.specs.Held.{module_held, open_marks}
+use Rattle.rewriter_base.specs.Held.{module_held, open_marks}
 use Rattle.edit_laws.specs.Inserting.{insert_fault}
 use Rattle.rewriter_base.specs.Benched.{Benched, Led, state_of}
 use Rattle.rewriter.specs.Wholes.{IsFinished, Onward}

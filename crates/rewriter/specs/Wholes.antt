@@ -4,7 +4,7 @@ use Rattle.ir_types.specs.declared.refusal.Refusal.{Refusal}
 use Rattle.ir_types.specs.declared.refusal.Refusal.TheVariants.{Memory}
 use Rattle.ir_event.specs.Listener.{Listener}
 use Rattle.machine.specs.Machine.{OpenMark}
-use Rattle.desk.specs.Held.{Held, module_held, open_marks}
+use Rattle.rewriter_base.specs.Held.{Held, module_held, open_marks}
 use Rattle.rewriter_base.specs.Benched.{Benched, Led}
 
 -- it went well, or was refused for want of memory, where a mark is open

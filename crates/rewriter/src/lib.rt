@@ -12,3 +12,4 @@ mod making;
 pub mod replace;
 
 pub use rewriter_base::bench::Bench;
+pub use rewriter_base::laws;

@@ -5,7 +5,7 @@ ghost use Rattle.ir_tree.specs.Ids.{IsNumberedFrom};
 ghost use Rattle.ir_tree.specs.Meaning.{IsSoundIn};
 ghost use Rattle.machine.specs.Contents.{tests_in};
 ghost use Rattle.machine.specs.Edits.{Insert, edited_by, reason_by};
-ghost use Rattle.desk.specs.Moves.{IsAnswered};
+ghost use Rattle.rewriter_base.specs.Moves.{IsAnswered};
 ghost use Rattle.edit_laws.specs.Inserting.{insert_fault};
 ghost use Rattle.rewriter.specs.Wholes.{Onward};
 ghost use Rattle.rewriter.specs.Trying.{AreHeadersOf, Tries};

@@ -7,7 +7,7 @@ use Rattle.ir_event.specs.declared.world.World.{World}
 use Rattle.ir_event.specs.Modules.{module_meaning, things_in, module_in, shown_in}
 use Rattle.ir_event.specs.Listener.{Listener}
 use Rattle.ir_event.specs.Panels.{AllTold}
-use Rattle.journals.specs.Journals.{before, inverses, undone_all}
+use Rattle.desk.specs.Journals.{before, inverses, undone_all}
 use Rattle.desk.specs.Held.{Held, Within, open_marks}
 use Rattle.desk.specs.Moves.{Undone}
 use Rattle.desk.proofs.Marks.{within-more}

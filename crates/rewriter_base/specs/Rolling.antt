@@ -1,6 +1,6 @@
 -- Rollback: what undoing events leaves of a desk, and what is given up behind it.
 use Rattle.std.specs.Prelude.{◌≡◌, ℕ, [], take, drop}
-use Rattle.journals.specs.Journals.{IsTidy, before}
+use Rattle.desk.specs.Journals.{IsTidy, before}
 use Rattle.desk.specs.Held.{Held, module_held, open_marks}
 use Rattle.desk.specs.Moves.{HoldsNone}
 

@@ -4,7 +4,7 @@ ghost use Rattle.ir_types.specs.Things.{TypeIsOf, AttrIsOf};
 ghost use Rattle.ir_types.specs.Interning.{with_name, with_type, with_attr, knows_name, knows_type, knows_attr};
 ghost use Rattle.ir_types.specs.Reasons.{IsRefusedFor, name_reason, type_reason, attr_reason};
 ghost use Rattle.ir_event.specs.Modules.{things_in};
-ghost use Rattle.journals.specs.Journals.{IsSlotted, IsTidy};
+ghost use Rattle.desk.specs.Journals.{IsSlotted, IsTidy};
 ghost use Rattle.desk.specs.Moves.{Grown};
 ghost use Rattle.rewriter_base.specs.Benched.{Led};
 
@@ -28,7 +28,7 @@ pub struct Bench<L> {
 
 impl<L> Model for Bench<L> {
     ghost use Rattle.rewriter_base.specs.Benched.{Benched};
-    ghost use Rattle.journals.specs.Journals.{IsTidy};
+    ghost use Rattle.desk.specs.Journals.{IsTidy};
     ghost use Rattle.std.specs.Coded.{codes};
     ghost use Rattle.ir_store.specs.Stored.{stored_code};
 

@@ -1,6 +1,6 @@
 //! Marks of a bench, and the way back to them.
 ghost use Rattle.std.specs.Prelude.{◌≡◌, ◌≤◌, length, drop, OnOk, OnErr};
-ghost use Rattle.journals.specs.Journals.{inverses};
+ghost use Rattle.desk.specs.Journals.{inverses};
 ghost use Rattle.desk.specs.Held.{Within};
 ghost use Rattle.machine.specs.Machine.{Commit, Mark, Rollback, Step};
 ghost use Rattle.rewriter_base.specs.Benched.{Does, Heard, Led, ToldBack, reply_of};

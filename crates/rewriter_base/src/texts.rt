@@ -8,14 +8,14 @@ ghost use Rattle.ir_text_tokens.specs.declared.fault.Fault.{Fault as TextFault};
 ghost use Rattle.ir_text_attributes.specs.Claims.{IsNoAttr};
 ghost use Rattle.ir_text_attributes.specs.Spelling.{SpellsAttr};
 ghost use Rattle.ir_text_operations.specs.Claims.{IsNone};
-ghost use Rattle.world_texts.specs.Texts.{SpellsBeside};
+ghost use Rattle.desk.specs.Texts.{SpellsBeside};
 ghost use Rattle.desk.specs.Held.{module_held};
 ghost use Rattle.desk.specs.Moves.{Grown};
 ghost use Rattle.rewriter_base.specs.Benched.{Led};
 
 use crate::bench::Bench;
+use desk::ReadError;
 use ir_event::analysis::Analysis;
-use ir_text::reader::ReadError;
 use ir_tree::tree::TreeOp;
 use ir_types::ids::AttrId;
 use std::alloc::Global;

@@ -2,3 +2,5 @@
 #![tactic(auto)]
 
 pub mod texts;
+
+pub use ir_text::reader::ReadError;

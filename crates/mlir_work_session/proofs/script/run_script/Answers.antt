@@ -2,7 +2,7 @@ use Rattle.std.proofs.Common.{◌++◌, ◌+◌, [], refl, append-nil, append_as
 use Rattle.mlir_work_script.specs.Commands.{spoken_of}
 use Rattle.mlir_work_script.specs.Lines.{lines_of}
 use Rattle.mlir_work_session.specs.Output.{is_accepted}
-use Rattle.rewriter_base.specs.Benched.{state_of}
+use Rattle.rewriter.specs.Benched.{state_of}
 use Rattle.mlir_work_session.specs.Machine.{response_of}
 use Rattle.mlir_work_session.specs.Output.{worse}
 use Rattle.mlir_work_script.proofs.Joins.{appends_join, front_within}

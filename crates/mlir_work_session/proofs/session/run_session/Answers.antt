@@ -1,6 +1,6 @@
 use Rattle.std.proofs.Common.{◌≡◌, ap, inl, inr, refl, subst}
-use Rattle.desk.specs.Held.{module_held}
-use Rattle.rewriter_base.specs.Benched.{Benched}
+use Rattle.rewriter.specs.Held.{module_held}
+use Rattle.rewriter.specs.Benched.{Benched}
 use Rattle.std.specs.Prelude.{length}
 use Rattle.ir_event.specs.Modules.{Module, module_in}
 use Rattle.machine.specs.Panels.{all_shown}

@@ -2,7 +2,7 @@ use Rattle.std.proofs.Common.{rules, arith, ◌≡◌, ◌≤◌}
 use Rattle.ir_types.specs.Refusals.{number_of}
 use Rattle.ir_types.specs.declared.refusal.Refusal.TheVariants.{IdsExhausted, Unexpected}
 use Rattle.ir_text_attributes.specs.Spelling.{SpellsAttr}
-use Rattle.world_texts.specs.Texts.{SpellsBeside}
+use Rattle.rewriter.specs.Texts.{SpellsBeside}
 use Rattle.mlir_work_session.proofs.Reading.{unread_at, ids_refused}
 use Rattle.mlir_work_session.proofs.unread.refused_at.Goals as goal
 

@@ -1,5 +1,5 @@
 use Rattle.ir_text_attributes.specs.Spelling.{SpellsAttr}
-use Rattle.world_texts.specs.Texts.{SpellsBeside}
+use Rattle.rewriter.specs.Texts.{SpellsBeside}
 use Rattle.mlir_work_session.proofs.Reading.{unread_memory, unread_full}
 use Rattle.mlir_work_session.proofs.unread.reply_unread.Goals as goal
 

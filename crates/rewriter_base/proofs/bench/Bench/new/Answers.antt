@@ -1,5 +1,5 @@
 use Rattle.std.proofs.Common.{subst, sym}
-use Rattle.journals.specs.Journals.{IsTidy}
+use Rattle.desk.specs.Journals.{IsTidy}
 use Rattle.desk.specs.Held.{Held}
 use Rattle.rewriter_base.proofs.bench.Bench.new.Goals as goal
 

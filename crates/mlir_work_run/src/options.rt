@@ -1,10 +1,8 @@
 //! The command line: what it may say, and the text of `--help`.
-#![tactic(auto)]
 
-mod text;
-
+use crate::run::Options;
+use crate::text;
 use clap::{Arg, ArgAction, Command, Error};
-use mlir_work_run::run::Options;
 use std::alloc::{AllocError, Global};
 
 /// What `--version` prints behind the name.
