@@ -23,7 +23,9 @@ from reference.module import read  # noqa: E402
 from refusing import Program  # noqa: E402
 
 SIZES = [0, 1, 2, 3, 4, 7, 8, 11, 14, 15, 16]
-AT_ONCE = 2
+# The sizes at which also each allocation of a whole run is refused.
+ATTACHED = [0, 3, 16]
+AT_ONCE = 4
 EVENTS = ["Put", "Take", "SetOperand", "SetEntry", "Shift"]
 # The events that a listener may need memory to follow.
 NEEDS = {"uses": {"Put", "SetOperand"}, "symbols": {"Put", "SetOperand", "SetEntry", "Shift"}, "diagnostics": set(EVENTS), "effects": {"Put"}, "dead": {"Put"},
@@ -153,21 +155,17 @@ class Look:
         hidden = ["//" + "-" * (len(line) - 2) for line in said]
         module, text = text_of(kind, size, before + said)
         known = answers(kind, event, module, before, command)
-        first = self.program.allocations(text_of(kind, size, before + hidden)[1], self.start(kind, size)) + 1
-        last = self.program.allocations(text_of(kind, size, before + said[:1] + hidden[1:])[1], first)
-        for number in range(first, last + 2):
-            was_refused, answer = self.program.run(text, number if number <= last else 0)
-            word = known.get(answer)
-            if word is None or was_refused != (number <= last) or (not was_refused and word != "whole"):
+        first = self.program.count(text_of(kind, size, before + hidden)[1])[0] + 1
+        last = self.program.count(text_of(kind, size, before + said[:1] + hidden[1:])[1])[0]
+        answer = self.program.count(text)[1]
+        if known.get(answer) != "whole":
+            self.wrong(0, text, answer)
+        for number in range(first, last + 1):
+            was_refused, answer = self.program.run(text, number)
+            word = known.get(answer) if was_refused else None
+            if word is None:
                 self.wrong(number, text, answer)
-            if was_refused:
-                self.note((kind, event, how), word)
-
-    def start(self, kind, size):
-        """About how many allocations are made before a script begins."""
-        return self.starts.setdefault((kind, size), self.program.allocations(text_of(kind, size, detached(kind))[1], 256))
-
-    starts = {}
+            self.note((kind, event, how), word)
 
     def attached(self, kind, size):
         """Refuses each allocation of a run that attaches the listeners, leaves one, and asks it."""
@@ -238,7 +236,8 @@ def main(argv):
         jobs = []
         for kind in kinds:
             for size in sizes:
-                jobs.append(pool.submit(look.attached, kind, size))
+                if size in ATTACHED:
+                    jobs.append(pool.submit(look.attached, kind, size))
                 jobs += [pool.submit(look.call, kind, size, *call) for call in calls(kind, size)]
         for job in jobs:
             job.result()

@@ -13,23 +13,22 @@ class Program:
         self.path, self.library = path, f"{folder}/refuse.so"
         subprocess.run([os.environ.get("CC", "cc"), "-shared", "-fPIC", "-O1", "-o", self.library, str(SOURCE)], check=True)
 
-    def run(self, text, number, brief=True):
-        """Whether the allocation of a number was there to be refused, and the status and what was written."""
+    def told(self, text, number, brief):
+        """What the library tells, and the status and what was written."""
         told, teller = os.pipe()
         env = {"LD_PRELOAD": self.library, "REFUSED_ALLOCATION": str(number), "REFUSED_TELL": str(teller)}
         ended = subprocess.run([self.path] + ["--brief"] * brief, input=text, capture_output=True, env=env, pass_fds=[teller], timeout=60)
         os.close(teller)
-        was_refused = os.read(told, 2) == b"!"
+        said = os.read(told, 99)
         os.close(told)
-        return was_refused, (ended.returncode, ended.stdout)
+        return said, (ended.returncode, ended.stdout)
 
-    def allocations(self, text, first=1):
-        """How many allocations a brief run makes; the search begins at a number."""
-        low, step = 0, max(first, 1)
-        while self.run(text, low + step)[0]:
-            low, step = low + step, max(1, low // 8)
-        high = low + step
-        while high - low > 1:
-            middle = (low + high) // 2
-            low, high = (middle, high) if self.run(text, middle)[0] else (low, middle)
-        return low
+    def run(self, text, number, brief=True):
+        """Whether the allocation of a number was there to be refused, and the status and what was written."""
+        said, answer = self.told(text, number, brief)
+        return said == b"!", answer
+
+    def count(self, text, brief=True):
+        """How many allocations a run makes, and the status and what was written."""
+        said, answer = self.told(text, 0, brief)
+        return int(said), answer
