@@ -7,18 +7,13 @@ usage: bench/fail_edits.py PROGRAM [KINDS]
 
 KINDS are the program's listeners in their order, with commas (all six where they aren't given)."""
 import collections
-import os
-import pathlib
-import subprocess
 import sys
 import tempfile
 
 sys.dont_write_bytecode = True
 
 from reference import refused, script  # noqa: E402
-
-# Refuses the allocation of a number, and stands before the C library.
-REFUSE = pathlib.Path(__file__).with_name("refuse.c")
+from refusing import Program  # noqa: E402
 
 MODULE = b"""\"func.func\"() <{function_type = (i32) -> i32, sym_name = \"f\"}> ({
 ^bb0(%a: i32):
@@ -61,21 +56,11 @@ print
 """.encode()
 
 
-def run(program, library, brief, number):
-    told, teller = os.pipe()
-    env = {"LD_PRELOAD": library, "REFUSED_ALLOCATION": str(number), "REFUSED_TELL": str(teller)}
-    ended = subprocess.run([program] + ["--brief"] * brief, input=MODULE + COMMANDS, capture_output=True, env=env, pass_fds=[teller], timeout=60)
-    os.close(teller)
-    was_refused = os.read(told, 2) == b"!"
-    os.close(told)
-    return was_refused, (ended.returncode, ended.stdout)
-
-
-def look(program, library, brief, kinds):
+def look(program, brief, kinds):
     """How many runs aren't explained."""
     known, counts, bad, number = refused.explained(MODULE + COMMANDS, brief, kinds), collections.Counter(), 0, 1
     while True:
-        was_refused, answer = run(program, library, brief, number)
+        was_refused, answer = program.run(MODULE + COMMANDS, number, brief)
         if answer not in known:
             bad += 1
             print(f"allocation {number}: status {answer[0]}\n{answer[1].decode()}")
@@ -93,9 +78,8 @@ def main(argv):
         sys.exit(__doc__)
     kinds = argv[1].split(",") if len(argv) > 1 else script.BOXES
     with tempfile.TemporaryDirectory() as work:
-        library = f"{work}/refuse.so"
-        subprocess.run([os.environ.get("CC", "cc"), "-shared", "-fPIC", "-O1", "-o", library, str(REFUSE)], check=True)
-        return 1 if sum(look(argv[0], library, brief, kinds) for brief in (True, False)) else 0
+        program = Program(argv[0], work)
+        return 1 if sum(look(program, brief, kinds) for brief in (True, False)) else 0
 
 
 if __name__ == "__main__":

@@ -1,4 +1,6 @@
-// Stands before the C library: the allocation of a number is refused, and a byte tells so.
+// Stands before the C library: the allocation of a number is refused, and a byte tells so. For number 0 none is
+// refused, and it is told at the end how many there were.
+#include <stdio.h>
 #include <stdlib.h>
 #include <unistd.h>
 extern void *__libc_malloc(size_t);
@@ -16,3 +18,6 @@ static int refuse(void) {
 }
 void *malloc(size_t size) { return refuse() ? 0 : __libc_malloc(size); }
 void *realloc(void *old, size_t size) { return refuse() ? 0 : __libc_realloc(old, size); }
+__attribute__((destructor)) static void tell(void) {
+    if (refused == 0 && teller >= 0) dprintf(teller, "%lu", count);
+}
