@@ -30,6 +30,7 @@ use Rattle.ir_store_base.specs.Rows.{Row, row_at, row_of, rows_of, node_row, liv
 use Rattle.ir_store_base.specs.Spells.{SpellsOp, Spelled, spelled_is}
 use Rattle.ir_store.specs.Holds.{HoldsOf, GoneOf, map_is}
 use Rattle.ir_store_base.specs.Marks.{mark, home_of, node_of_slot}
+use Rattle.ir_store_base.proofs.Celled.{celled_edit}
 use Rattle.ir_store_base.proofs.Marking.{marked_edit}
 use Rattle.ir_store_base.specs.Index.{Fits, cells_of}
 use Rattle.ir_store_base.specs.Entered.{slots_in, row_with_entry, slot_unless, entry_in}
@@ -181,6 +182,7 @@ module _ (a : Inside) (w : Whole a) (x : ℕ) (part : Part) (j : ℕ) where
                 below = retold_below (rows_in a) (keys_in a) a.sibs a.root a.spelled.0 w.right a.spelled.1 x k here edit lack (inner_part part (change_entry before j v)) (rows_of entered) longs (other_row a.rows.items k m) own a.next w.below;
                 owned = retold_owned (rows_in a) (keys_in a) a.sibs a.root a.spelled.0 w.right a.spelled.1 x k here edit lack (inner_part part (change_entry before j v)) (rows_of entered) longs (other_row a.rows.items k m) own w.owned;
                 marked = marked_edit (rows_in a) (rows_of entered) a.marks.homes marks k w.marked (w.marked.inside k (w.right.live_used k here.live)) (other_row a.rows.items k m) es;
+                celled = celled_edit (rows_in a) (rows_of entered) (cells_of a.cells.items) k w.celled (other_row a.rows.items k m) (ap (λ z. z.used) own) (ap (λ z. z.head.results) own ∙ (inner_part part (change_entry before j v)).results (row_at (rows_in a) k).head) (ap (λ z. z.shapes) own) (ap (λ z. z.values) own);
               })
 
           pub entry_done : (s : Spelled (rows_of entered) a.sibs.lists a.root) (h : HoldsOf (rows_of entered) (keys_in a)) (g : GoneOf (rows_of entered) (keys_in a))

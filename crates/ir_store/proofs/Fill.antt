@@ -16,7 +16,7 @@ use Rattle.ir_store_base.specs.Stored.{Gone}
 use Rattle.ir_store_base.specs.Rows.{Row, Shape, row_at, held_in, gone_in, bare}
 use Rattle.ir_store_base.specs.Spells.{SpellsOp}
 use Rattle.ir_store_base.specs.Right.{Live, Used, HoldsId, Right}
-use Rattle.ir_store_base.specs.Index.{operand_at, use_at, argument_head, slot_head, value_head, CellOf, LinkedTo, Index, lives}
+use Rattle.ir_store_base.specs.Index.{operand_at, use_at, argument_head, slot_head, value_head, CellOf, LinkedTo, Index, Celled, cell_at, lives}
 use Rattle.ir_store_base.specs.Grows.{Parts, IsEven, NewHead, NewUse, Ready}
 use Rattle.ir_store_base.proofs.Items.{eq_nat}
 use Rattle.ir_store_base.proofs.Wide.{Keyed, keyed_of, same_spells}
@@ -30,6 +30,20 @@ if_some false k q e = absurd cc
 
 below : (a b : ℕ) → nat_lt a b ≡ true → a < b
 below a b e = grind (arith, nat_tests)
+
+-- which slot and place a value of the operation in slot k has
+abbrev pub Named : Parts → ℕ → ℕ → Row → Value → ℕ → Type 0
+Named q bound k w (Result y i) h = NewHead q bound k i h
+Named q bound k w (Arg y j i) h = (a : List ℕ × ℕ) × ((slice_get w.shapes j ≡ Some (Some a)) × NewHead q bound a.1 i h)
+
+-- its values have other heads than those that are there
+abbrev pub IsApart : Parts → (ℕ → Option ℕ) → ℕ → ℕ → Row → Type 0
+IsApart q keys bound k w = (u v : Value) (h : ℕ) → Named q bound k w u h → value_head q.rows keys v ≡ Some h → ⊥
+
+-- where the heads of those are below a bound
+pub bound_apart : (q : Parts) (keys : ℕ → Option ℕ) (bound k : ℕ) (w : Row) → ((v : Value) (h : ℕ) → value_head q.rows keys v ≡ Some h → h < bound) → IsApart q keys bound k w
+bound_apart q keys bound k w old (Result y i) v h n e = let l = old v h e in omega (arith, n.new, l)
+bound_apart q keys bound k w old (Arg y j i) v h n e = let l = old v h e in let m = n.1.1.new in omega (arith, m, l)
 
 module _ (q : Parts) (even : IsEven q) (few : length q.sibs.homes < free) (keys : ℕ → Option ℕ) (bound k x : ℕ) (w : Row) (ready : Ready q keys bound k x w) (r : Keyed q.rows keys q.sibs)
     (rows' : List Row) (long' : length rows' ≡ length q.rows) (same : (y : ℕ) → (y ≡ k → ⊥) → row_at rows' y ≡ row_at q.rows y) (own : row_at rows' k ≡ w)
@@ -63,13 +77,8 @@ module _ (q : Parts) (even : IsEven q) (few : length q.sibs.homes < free) (keys 
   block_row : (y i : ℕ) (a : List ℕ × ℕ) → IsHead q.sibs.homes a.1 → row_at rows' a.1 ≡ row_at q.rows a.1
   block_row y i a h = same a.1 (head_not a.1 h)
 
-  module _ (old : (v : Value) (h : ℕ) → value_head q.rows keys v ≡ Some h → h < bound) (ix : Index q.rows keys q.homes q.cells (lives q.rows)) where
-    -- which slot and place a value of the operation has
-    abbrev Named : Value → ℕ → Type 0
-    Named (Result y i) h = NewHead q bound k i h
-    Named (Arg y j i) h = (a : List ℕ × ℕ) × ((slice_get w.shapes j ≡ Some (Some a)) × NewHead q bound a.1 i h)
-
-    named : (v : Value) (h : ℕ) → slot_head rows' v k ≡ Some h → Named v h
+  module _ (apart : IsApart q keys bound k w) (ix : Index q.rows keys q.homes q.cells (lives q.rows)) where
+    named : (v : Value) (h : ℕ) → slot_head rows' v k ≡ Some h → Named q bound k w v h
     named (Result y i) h e =
         let f = if_some (nat_lt i (length w.head.results)) (w.values + i) h (sym (ap (λ z. if nat_lt i (length z.head.results) then Some (z.values + i) else None) own) ∙ e) in
         subst (NewHead q bound k i) f.1 (ready.results i (below i (length w.head.results) f.0))
@@ -85,7 +94,7 @@ module _ (q : Parts) (even : IsEven q) (few : length q.sibs.homes < free) (keys 
 
     -- a value's slot
     abbrev Whose : Value → ℕ → Type 0
-    Whose v h = (((owner_of v).0 ≡ x) × Named v h) ⊎ (value_head q.rows keys v ≡ Some h)
+    Whose v h = (((owner_of v).0 ≡ x) × Named q bound k w v h) ⊎ (value_head q.rows keys v ≡ Some h)
 
     other_slot : (v : Value) (j : ℕ) → Used q.rows j → slot_head rows' v j ≡ slot_head q.rows v j
     other_slot (Result y i) j u = ap (λ z. if nat_lt i (length z.head.results) then Some (z.values + i) else None) (same j (used_not j u))
@@ -109,12 +118,12 @@ module _ (q : Parts) (even : IsEven q) (few : length q.sibs.homes < free) (keys 
         (λ n. inr (sym (old_head v n) ∙ e))
         (cases_eq (owner_of v).0 x)
 
-    head_of_new : (v : Value) (h : ℕ) → Named v h → IsHead q.homes h × (bound ≤ h)
-    head_of_new (Result y i) h p = (p.head, p.new)
-    head_of_new (Arg y j i) h p = (p.1.1.head, p.1.1.new)
+    head_of_new : (v : Value) (h : ℕ) → Named q bound k w v h → IsHead q.homes h
+    head_of_new (Result y i) h p = p.head
+    head_of_new (Arg y j i) h p = p.1.1.head
 
     -- two values of the operation with one head are one
-    same_named : (u v : Value) (h : ℕ) → (owner_of u).0 ≡ x → (owner_of v).0 ≡ x → Named u h → Named v h → u ≡ v
+    same_named : (u v : Value) (h : ℕ) → (owner_of u).0 ≡ x → (owner_of v).0 ≡ x → Named q bound k w u h → Named q bound k w v h → u ≡ v
     same_named (Result y i) (Result z j) h eu ev a b =
         let p : ◌≡◌ {A = ℕ × ℕ} (k, i) (k, j) = sym a.cell ∙ b.cell in
         λ s. Result ((eu ∙ sym ev) s) ((p s).1)
@@ -183,18 +192,41 @@ module _ (q : Parts) (even : IsEven q) (few : length q.sibs.homes < free) (keys 
             };
             put = ap (λ z. z.live) (same st.row n) ∙ st.put;
           };
-      heads = λ v h e. ⊎_elim (λ z. (head_of_new v h z.1).0) (λ z. ix.heads v h z) (whose v h e);
+      heads = λ v h e. ⊎_elim (λ z. head_of_new v h z.1) (λ z. ix.heads v h z) (whose v h e);
       one = λ u v h e f. ⊎_elim
           (λ a. ⊎_elim
           (λ b. same_named u v h a.0 b.0 a.1 b.1)
-          (λ b. absurd (omega (arith, (head_of_new u h a.1).1, old v h b)))
+          (λ b. absurd (apart u v h a.1 b))
           (whose v h f))
           (λ a. ⊎_elim
-          (λ b. absurd (omega (arith, (head_of_new v h b.1).1, old u h a)))
+          (λ b. absurd (apart v u h b.1 a))
           (λ b. ix.one u v h a b)
           (whose v h f))
           (whose u h e);
     }
+
+  -- the cells of its heads say whose they are
+  pub fill_celled : Celled q.rows q.cells → Celled rows' q.cells
+  fill_celled c = record {
+    results = λ y i u l. ⊎_elim
+        (λ z.
+        let f = ap (row_at rows') z ∙ own in
+        let m : i < length w.head.results = subst (λ v. i < length v.head.results) f l in
+        ap (λ v. cell_at q.cells (v.values + i)) f ∙ (ready.results i m).cell ∙ ap (λ v. (v, i)) (sym z))
+        (λ n.
+        let f = same y n in
+        ap (λ v. cell_at q.cells (v.values + i)) f ∙ c.results y i (used_was y n u) (subst (λ v. i < length v.head.results) f l))
+        (cases_eq y k);
+    arguments = λ y j i a u e l. ⊎_elim
+        (λ z.
+        let b = ready.blocks j a (sym (ap (λ v. slice_get v.shapes j) (ap (row_at rows') z ∙ own)) ∙ e) in
+        ap (λ v. cell_at q.cells (v.values + i)) (block_row y j a b.head) ∙ (b.arguments i l).cell)
+        (λ n.
+        let g = sym (ap (λ v. slice_get v.shapes j) (same y n)) ∙ e in
+        let b = r.blocks y j a (used_was y n u) g in
+        ap (λ v. cell_at q.cells (v.values + i)) (block_row y j a b.head) ∙ c.arguments y j i a (used_was y n u) g l)
+        (cases_eq y k);
+  }
 
 module _ (q : Parts) (even : IsEven q) (few : length q.sibs.homes < free) (keys : ℕ → Option ℕ) (bound k x : ℕ) (w : Row) (ready : Ready q keys bound k x w)
     (root : ℕ) (t : Op) (r : Right q.rows keys q.sibs root t)

@@ -15,7 +15,7 @@ use Rattle.ir_store_base.specs.Rows.{Row, no_row, row_at, held_in, gone_in, if_l
 use Rattle.ir_store_base.specs.Spells.{SpellsOp, Spelled, spelled_is}
 use Rattle.ir_store.specs.Holds.{HoldsOf, GoneOf, map_is}
 use Rattle.ir_store_base.specs.Right.{Right}
-use Rattle.ir_store_base.specs.Index.{Index, Fits, lives, HasOwners}
+use Rattle.ir_store_base.specs.Index.{Index, Celled, Fits, lives, HasOwners}
 use Rattle.ir_store_base.specs.Grows.{Parts, parts_of, IsEven, Wider, Ready, Grown}
 use Rattle.ir_store_base.proofs.Slots.{found, found_op}
 use Rattle.ir_store.proofs.Called.{rows_in, keys_in, stored}
@@ -26,7 +26,9 @@ use Rattle.ir_store_base.proofs.Marking.{marked_edit, marked_same, marked_more, 
 use Rattle.std.proofs.lemmas.List.{get_or_past}
 use Rattle.ir_store_base.proofs.Wide.{Keyed, keyed_of, wide_spells, wide_right, wide_holds, wide_gone, wide_index, wide_bound}
 use Rattle.ir_store.proofs.Tally.{wide_below, wide_owned, fill_below, fill_owned}
-use Rattle.ir_store.proofs.Fill.{fill_spells, fill_right, fill_holds, fill_gone, fill_index}
+use Rattle.ir_store_base.proofs.Celled.{wide_celled}
+use Rattle.ir_store.proofs.Fill.{IsApart, bound_apart, fill_spells, fill_right, fill_holds, fill_gone, fill_index, fill_celled}
+use Rattle.ir_store.proofs.Refill.{cells_apart}
 
 -- an id is given a slot
 pub key_put : (m m' : finmap.FinMap nat_cmp ℕ) (x y k : ℕ) → y ≡ x → m' ≡ finmap.insert m y k → (z : ℕ) → finmap.get m' z ≡ cond (eqb x z) (Some k) (finmap.get m z)
@@ -91,6 +93,9 @@ module _ (a : Inside) (w : Whole a) where
     pub grow_can_mark : (mid : List ℕ) → Reaches a.marks.homes mid → (k : ℕ) → node_of_slot k < length mid → CanMark mid k
     grow_can_mark mid reached k l = can_mark q.rows mid k (marked_more q.rows a.marks.homes mid marked reached) l
 
+    celled : Celled q.rows q.cells
+    celled = wide_celled (parts a) q wide (keys_in a) keyed w.index w.celled
+
     -- nothing came of it
     module _ (keys : ℕ → Option ℕ) (ek : (y : ℕ) → keys y ≡ keys_in a y) where
       all_keys : keys ≡ keys_in a
@@ -115,6 +120,7 @@ module _ (a : Inside) (w : Whole a) where
         below = wide_below (parts a) q wide (keys_in a) a.next w.below;
         owned = subst (HasOwners q.rows) (sym all_keys) (wide_owned (parts a) q wide (keys_in a) w.owned);
         marked = marked_more q.rows a.marks.homes marks marked reached;
+        celled = celled;
       }
 
       pub wide_done : (s : Spelled q.rows q.sibs.lists a.root) (h : HoldsOf q.rows keys) (g : GoneOf q.rows keys) → ◌≡◌ {A = Stored} (record { module_of = record { tree = s.0; next = a.next }; held = h.0; gone = g.0 }) (stored a)
@@ -124,22 +130,30 @@ module _ (a : Inside) (w : Whole a) where
           let e3 = map_is (λ y. gone_in q.rows (keys y)) g a.lacks.0 gone in
           λ i. record { module_of = record { tree = e1 i; next = a.next }; held = e2 i; gone = e3 i }
 
+    -- new heads are those of no other
+    pub grow_apart : (k : ℕ) (v : Row) → IsApart q (keys_in a) (length (parts a).homes) k v
+    grow_apart k v = bound_apart q (keys_in a) (length (parts a).homes) k v (wide_bound (parts a) q wide (keys_in a) keyed w.index)
+
+    -- nor are those of a spare slot
+    pub spare_apart : (bound k x : ℕ) (v : Row) → Ready q (keys_in a) bound k x v → IsApart q (keys_in a) bound k v
+    spare_apart bound k x v ready = cells_apart q (keys_in a) a.root a.spelled.0 right celled bound k x v ready
+
     -- a row is written
-    module _ (x : ℕ) (o : Op) (k : ℕ) (v : Row) (none : keys_in a x ≡ None) (grown : Grown (parts a) q x o k v)
+    module _ (x : ℕ) (o : Op) (k : ℕ) (v : Row) (none : keys_in a x ≡ None) (bound : ℕ) (grown : Grown bound q x o k v) (apart : IsApart q (keys_in a) bound k v)
         (keys : ℕ → Option ℕ) (here : keys x ≡ Some k) (others : (y : ℕ) → (y ≡ x → ⊥) → keys y ≡ keys_in a y)
         (rows' : List Row) (long' : length rows' ≡ length q.rows) (same : (y : ℕ) → (y ≡ k → ⊥) → row_at rows' y ≡ row_at q.rows y) (own : row_at rows' k ≡ v) where
-      ready : Ready q (keys_in a) (length (parts a).homes) k x v
+      ready : Ready q (keys_in a) bound k x v
       ready = grown.ready (keys_in a) none
 
       spells' : SpellsOp rows' q.sibs.lists a.root a.spelled.0
-      spells' = fill_spells q wide.even few (keys_in a) (length (parts a).homes) k x v ready a.root a.spelled.0 right rows' long' same own keys here others spells
+      spells' = fill_spells q wide.even few (keys_in a) bound k x v ready a.root a.spelled.0 right rows' long' same own keys here others spells
 
       holds' : (y : ℕ) → finmap.get (finmap.insert a.holds.0 x (bare v)) y ≡ held_in rows' (keys y)
-      holds' = fill_holds q wide.even few (keys_in a) (length (parts a).homes) k x v ready a.root a.spelled.0 right rows' long' same own keys here others a.holds.0
+      holds' = fill_holds q wide.even few (keys_in a) bound k x v ready a.root a.spelled.0 right rows' long' same own keys here others a.holds.0
           (λ y. a.holds.1 y ∙ wide_holds (parts a) q wide (keys_in a) a.root a.spelled.0 w.right y)
 
       gone' : (y : ℕ) → finmap.get (finmap.insert a.lacks.0 x v.gone) y ≡ gone_in rows' (keys y)
-      gone' = fill_gone q wide.even few (keys_in a) (length (parts a).homes) k x v ready a.root a.spelled.0 right rows' long' same own keys here others a.lacks.0
+      gone' = fill_gone q wide.even few (keys_in a) bound k x v ready a.root a.spelled.0 right rows' long' same own keys here others a.lacks.0
           (λ y. a.lacks.1 y ∙ wide_gone (parts a) q wide (keys_in a) a.root a.spelled.0 w.right y)
 
       pub grow_given : Spelled rows' q.sibs.lists a.root × (HoldsOf rows' keys × (GoneOf rows' keys × Unit {0}))
@@ -148,15 +162,16 @@ module _ (a : Inside) (w : Whole a) where
       pub grow_fits : (s : Spelled rows' q.sibs.lists a.root) (mid marks : List ℕ) → Reaches a.marks.homes mid → node_of_slot k < length mid → marks ≡ set mid (node_of_slot k) (home_of (mark (row_at rows' k))) → Fits rows' keys q.sibs a.root s.0 q.homes q.cells a.count a.next marks
       grow_fits s mid marks reached there em = record {
         right = subst (Right rows' keys q.sibs a.root) (sym (spelled_is rows' q.sibs.lists a.root s a.spelled.0 spells'))
-            (fill_right q wide.even few (keys_in a) (length (parts a).homes) k x v ready a.root a.spelled.0 right rows' long' same own keys here others);
+            (fill_right q wide.even few (keys_in a) bound k x v ready a.root a.spelled.0 right rows' long' same own keys here others);
         few = uses_few;
-        index = fill_index q wide.even few (keys_in a) (length (parts a).homes) k x v ready (keyed_of q.rows (keys_in a) q.sibs a.root a.spelled.0 right) rows' long' same own keys here others
-            (wide_bound (parts a) q wide (keys_in a) keyed w.index) index;
+        index = fill_index q wide.even few (keys_in a) bound k x v ready (keyed_of q.rows (keys_in a) q.sibs a.root a.spelled.0 right) rows' long' same own keys here others
+            apart index;
         distinct = subst HasDistinctIds (sym (spelled_is rows' q.sibs.lists a.root s a.spelled.0 spells')) w.distinct;
         counted = w.counted ∙ ap op_count (sym (spelled_is rows' q.sibs.lists a.root s a.spelled.0 spells'));
-        below = fill_below q (keys_in a) (length (parts a).homes) k x v ready rows' same own keys others a.next (wide_below (parts a) q wide (keys_in a) a.next w.below);
-        owned = fill_owned q (keys_in a) (length (parts a).homes) k x v ready rows' same own keys others (wide_owned (parts a) q wide (keys_in a) w.owned);
+        below = fill_below q (keys_in a) bound k x v ready rows' same own keys others a.next (wide_below (parts a) q wide (keys_in a) a.next w.below);
+        owned = fill_owned q (keys_in a) bound k x v ready rows' same own keys others (wide_owned (parts a) q wide (keys_in a) w.owned);
         marked = marked_edit q.rows rows' mid marks k (marked_more q.rows a.marks.homes mid marked reached) there same em;
+        celled = fill_celled q wide.even few (keys_in a) bound k x v ready (keyed_of q.rows (keys_in a) q.sibs a.root a.spelled.0 right) rows' long' same own keys here others celled;
       }
 
       pub grow_done : (s : Spelled rows' q.sibs.lists a.root) (h : HoldsOf rows' keys) (g : GoneOf rows' keys) → ◌≡◌ {A = Stored} (record { module_of = record { tree = s.0; next = a.next }; held = h.0; gone = g.0 }) (after_grow x o (stored a))

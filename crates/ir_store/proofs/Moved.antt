@@ -76,6 +76,7 @@ module _ (a : Inside) (w : Whole a) (laws : Laws a.sibs.lists a.sibs.homes) (x :
               below = w.below;
               owned = w.owned;
               marked = w.marked;
+              celled = w.celled;
             })
 
         pub move_done : (s : Spelled (rows_in a) sibs'.lists a.root) (m : HoldsOf (rows_in a) (keys_in a)) (g : GoneOf (rows_in a) (keys_in a))

@@ -21,9 +21,10 @@ use Rattle.ir_store_base.specs.Rows.{Row, Shape, row_at, rows_of, held_in, gone_
 use Rattle.ir_store_base.specs.Spells.{SpellsOp, SpellsRegions, SpellsRegion, SpellsOps, Spelled, spelled_is}
 use Rattle.ir_store.specs.Holds.{HoldsOf, GoneOf, map_is}
 use Rattle.ir_store_base.specs.Right.{Live, Used, Right}
-use Rattle.ir_store_base.specs.Index.{operand_at, cell_at, LinkedTo, argument_head, slot_head, value_head, Index, Fits, lives, HasOwners, HasIdsBelow, cells_of}
+use Rattle.ir_store_base.specs.Index.{operand_at, cell_at, LinkedTo, argument_head, slot_head, value_head, Index, Celled, Fits, lives, HasOwners, HasIdsBelow, cells_of}
 use Rattle.ir_store.proofs.Called.{rows_in, keys_in, stored}
 use Rattle.ir_store_base.specs.Marks.{Marked}
+use Rattle.ir_store_base.proofs.Celled.{celled_same}
 use Rattle.ir_store_base.proofs.Slots.{in_tree_is}
 use Rattle.ir_store.proofs.Tally.{live_stays, some_live}
 use Rattle.ir_store.proofs.Whole.{Whole}
@@ -337,6 +338,9 @@ module _ (from : ℕ) (rows : List Row) (keys : ℕ → Option ℕ) (sibs : List
         live_stays rows rows' keys keys' (owner_of v).0 (λ p g lp. (live_key (owner_of v).0 p g lp, record { live = kept (λ z. z.live) (λ b. refl) (λ b. refl) p ∙ lp.live }))
         (owned q j v (live_was q l) (sym (operand_same q j) ∙ e))
 
+  pub release_celled : (cells : List (ℕ × ℕ)) → Celled rows cells → Celled rows' cells
+  release_celled cells c = celled_same rows rows' cells c (λ q u. (left_in q u).1) (kept (λ z. z.head.results) (λ b. refl) (λ b. refl)) (kept (λ z. z.shapes) (λ b. refl) (λ b. refl)) (kept (λ z. z.values) (λ b. refl) (λ b. refl))
+
   pub release_below : (n : ℕ) → HasIdsBelow n rows → HasIdsBelow n rows'
   release_below n b q l = subst (λ z. z.id < n) (sym (kept (λ z. z.head) (λ b. refl) (λ b. refl) q)) (b q (live_was q l))
 
@@ -370,6 +374,7 @@ module _ (a : Inside) (w : Whole a) (from : ℕ) (items : List Kept) (long : len
         below = release_below from (rows_in a) (keys_in a) a.sibs a.root a.spelled.0 w.right a.spelled.1 (rows_of items) long all keys' left a.next w.below;
         owned = release_owned from (rows_in a) (keys_in a) a.sibs a.root a.spelled.0 w.right a.spelled.1 (rows_of items) long all keys' left a.uses.homes (cells_of a.cells.items) w.index w.owned;
         marked = m;
+        celled = release_celled from (rows_in a) (keys_in a) a.sibs a.root a.spelled.0 w.right a.spelled.1 (rows_of items) long all keys' left (cells_of a.cells.items) w.celled;
       }
 
   pub release_done : (s : Spelled (rows_of items) a.sibs.lists a.root) (h : HoldsOf (rows_of items) keys') (g : GoneOf (rows_of items) keys')

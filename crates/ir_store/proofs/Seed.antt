@@ -19,13 +19,14 @@ use Rattle.std.specs.Prelude.{if◌then◌else◌}
 use Rattle.ir_store_base.specs.Marks.{mark, has_gone, home_of, node_of_slot, Reaches}
 use Rattle.ir_store_base.proofs.Marking.{marked_edit, marked_same, marked_none, set_as_is}
 use Rattle.ir_store.proofs.Growing.{spare_mark}
-use Rattle.ir_store_base.specs.Index.{value_head, all_led, Index, lives, Fits}
+use Rattle.ir_store_base.specs.Index.{value_head, all_led, Index, Celled, lives, Fits}
 use Rattle.ir_store_base.specs.Grows.{Parts, Spare, IsEven, Wider, Ready, Grown}
 use Rattle.ir_store_base.proofs.Items.{eq_nat}
 use Rattle.ir_store.proofs.Joining.{bare_spells}
 use Rattle.ir_store.proofs.Used.{join_index}
 use Rattle.ir_store_base.proofs.Wide.{Keyed, wide_index, wide_bound}
-use Rattle.ir_store.proofs.Fill.{fill_index}
+use Rattle.ir_store.proofs.Fill.{bound_apart, fill_index, fill_celled}
+use Rattle.ir_store_base.proofs.Celled.{celled_edit}
 
 some_same : {X : Type 0} (x y : X) → Some x ≡ Some y → x ≡ y
 some_same x y e = cc
@@ -56,7 +57,7 @@ nothing_index = record {
   one = λ v w h e f. absurd cc;
 }
 
-module _ (q : Parts) (wide : Wider nothing q) (few : length q.sibs.homes < free) (uses_few : length q.homes < free) (x : ℕ) (o : Op) (k : ℕ) (v : Row) (grown : Grown nothing q x o k v)
+module _ (q : Parts) (wide : Wider nothing q) (few : length q.sibs.homes < free) (uses_few : length q.homes < free) (x : ℕ) (o : Op) (k : ℕ) (v : Row) (grown : Grown 0 q x o k v)
     (keys : ℕ → Option ℕ) (ek : (y : ℕ) → keys y ≡ cond (eqb x y) (Some k) None) (bare_head : v.head.operands ≡ [])
     (rows' : List Row) (long' : length rows' ≡ length q.rows) (same : (y : ℕ) → (y ≡ k → ⊥) → row_at rows' y ≡ row_at q.rows y) (own : row_at rows' k ≡ record v { live = true }) where
   ready : Ready q no_keys 0 k x v
@@ -156,7 +157,11 @@ module _ (q : Parts) (wide : Wider nothing q) (few : length q.sibs.homes < free)
 
   held_index : Index (set q.rows k v) keys q.homes q.cells (lives (set q.rows k v))
   held_index = fill_index q wide.even few no_keys 0 k x v ready spare_keyed (set q.rows k v) (length-set q.rows k v) held_same held_own keys here others
-      (wide_bound nothing q wide no_keys nothing_keyed nothing_index) (wide_index nothing q wide no_keys nothing_keyed nothing_index)
+      (bound_apart q no_keys 0 k v (wide_bound nothing q wide no_keys nothing_keyed nothing_index)) (wide_index nothing q wide no_keys nothing_keyed nothing_index)
+
+  held_celled : Celled (set q.rows k v) q.cells
+  held_celled = fill_celled q wide.even few no_keys 0 k x v ready spare_keyed (set q.rows k v) (length-set q.rows k v) held_same held_own keys here others
+      (record { results = λ y i u l. absurd (false≢true (sym (spare y).used ∙ u.used)); arguments = λ y j i a u e l. absurd (false≢true (sym (spare y).used ∙ u.used)) })
 
   no_operands : (row_at (set q.rows k v) k).head.operands ≡ []
   no_operands = ap (λ z. z.head.operands) held_own ∙ bare_head
@@ -184,6 +189,8 @@ module _ (q : Parts) (wide : Wider nothing q) (few : length q.sibs.homes < free)
         let old = marked_same [] q.rows more none (λ y. let z = wide.spare y (omega arith) in spare_mark (row_at q.rows y) z.used z.live) (λ y. (wide.spare y (omega arith)).used) in
         let out : mark (row_at rows' k) ≡ None = ap mark own ∙ ap (λ g. if has_gone g then Some 1 else None) grown.gone in
         marked_edit q.rows rows' more more k old there same (sym (ap (λ o. set more (node_of_slot k) (home_of o)) out ∙ set_as_is more (node_of_slot k) (reached.same (node_of_slot k) ∙ ap (λ z. home_at z (node_of_slot k)) em) there));
+    celled = celled_edit (set q.rows k v) rows' q.cells k held_celled (λ y n. same y n ∙ sym (held_same y n)) (ap (λ z. z.used) own ∙ sym (ap (λ z. z.used) held_own))
+        (ap (λ z. z.head.results) own ∙ sym (ap (λ z. z.head.results) held_own)) (ap (λ z. z.shapes) own ∙ sym (ap (λ z. z.shapes) held_own)) (ap (λ z. z.values) own ∙ sym (ap (λ z. z.values) held_own));
   }
 
   pub seed_is : x ≡ (head o).id → seed ≡ emptied o

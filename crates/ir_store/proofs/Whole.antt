@@ -13,6 +13,7 @@ use Rattle.ir_store_base.specs.Spells.{Spelled, Spelled-prop}
 use Rattle.ir_store_base.specs.Plans.{leaf_in}
 use Rattle.ir_store_base.specs.Reasoned.{idle_in}
 use Rattle.ir_store_base.specs.Index.{Index, Fits, HasIdsBelow, lives, cells_of, HasHeads, CanFree, freed, led_to, all_led, value_head}
+use Rattle.ir_store_base.proofs.Celled.{celled_same, celled_edit}
 use Rattle.ir_store_base.proofs.Slots.{Found, found}
 use Rattle.ir_store.proofs.Taking.{IsLeaf}
 use Rattle.ir_store.proofs.Unused.{TakePlanned, take_planned}
@@ -119,6 +120,7 @@ module _ (a : Inside) (w : Whole a) where
         below = cut_below (rows_in a) (keys_in a) a.sibs a.root a.spelled.0 w.right a.spelled.1 x k leaf rows' (other_row a.rows.items k (record n { live = false })) own a.next w.below;
         owned = cut_owned (rows_in a) (keys_in a) a.sibs a.root a.spelled.0 w.right a.spelled.1 x k leaf rows' (other_row a.rows.items k (record n { live = false })) own spared w.owned;
         marked = marked_edit (rows_in a) rows' a.marks.homes marks k w.marked (w.marked.inside k (w.right.live_used k leaf.found.live)) (other_row a.rows.items k (record n { live = false })) em;
+        celled = celled_edit (rows_in a) rows' (cells_of a.cells.items) k w.celled (other_row a.rows.items k (record n { live = false })) (ap (λ z. z.used) own) (ap (λ z. z.head.results) own) (ap (λ z. z.shapes) own) (ap (λ z. z.values) own);
       }
 
 -- there is room to count one more
@@ -141,6 +143,7 @@ module _ (a : Inside) (w : Whole a) (x : ℕ) (newest : a.next ≡ x + 1) (out :
         below = subst (λ z. HasIdsBelow z (rows_in a)) (sym e) (lower_below (rows_in a) (keys_in a) a.sibs a.root a.spelled.0 w.right a.spelled.1 x a.next newest out w.below);
         owned = w.owned;
         marked = w.marked;
+        celled = w.celled;
       })
 
 pub some_of : {X : Type 0} (o : Option X) → is_some o ≡ true → (x : X) × (o ≡ Some x)
@@ -229,6 +232,7 @@ module _ (a : Inside) (w : Whole a) (laws : Laws a.sibs.lists a.sibs.homes) (x :
             join_below (rows_in a) (keys_in a) k rows2 (other_row a.rows.items k (record n { live = true })) own2 a.next next (omega (arith, b.0, en')) (omega (arith, b.1, en', fk.id)) w.below;
         owned = join_owned (rows_in a) (keys_in a) k rows2 (other_row a.rows.items k (record n { live = true })) own2 owners_there w.owned;
         marked = marked_edit (rows_in a) rows2 a.marks.homes marks k w.marked (w.marked.inside k fk.used) (other_row a.rows.items k (record n { live = true })) em;
+        celled = celled_edit (rows_in a) rows2 (cells_of a.cells.items) k w.celled (other_row a.rows.items k (record n { live = true })) (ap (λ z. z.used) own2) (ap (λ z. z.head.results) own2) (ap (λ z. z.shapes) own2) (ap (λ z. z.values) own2);
       }
 
       pub restore_done : (s : Spelled rows2 sibs'.lists a.root) (v : HoldsOf rows2 (keys_in a)) (g : GoneOf rows2 (keys_in a)) (next : ℕ) → next ≡ raised fresh x a.next
@@ -331,6 +335,7 @@ module _ (a : Inside) (w : Whole a) (x j : ℕ) (v : Value) where
         owned = write_owned (rows_in a) (keys_in a) k j v rows3 (other_row a.rows.items k m) own3
             (value_owner (rows_in a) (live_slot (rows_in a) (keys_in a)) v (value_is (rows_in a) (keys_in a) a.sibs a.root a.spelled.0 w.right a.spelled.1 v ∙ value_there why)) w.owned;
         marked = marked_same (rows_in a) rows3 a.marks.homes w.marked (kept3 mark refl) (kept3 (λ z. z.used) refl);
+        celled = celled_same (rows_in a) rows3 (cells_of a.cells.items) w.celled (λ q u. record { used = sym (kept3 (λ z. z.used) refl q) ∙ u.used }) (kept3 (λ z. z.head.results) refl) (kept3 (λ z. z.shapes) refl) (kept3 (λ z. z.values) refl);
       }
 
     pub rewire_item : IsItem a.uses.homes (use_at (rows_in a) k j)

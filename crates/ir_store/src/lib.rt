@@ -6,6 +6,7 @@
 mod beside;
 mod copy;
 mod entry;
+mod grow;
 mod load;
 mod look;
 mod outer;

@@ -10,6 +10,12 @@ impl Store {
     pub fn release(&mut self, from: u32)
         ensures { Releases from self.old self.new }
     {
-        release_slots(&mut self.rows, &mut self.keys, &mut self.marks, from);
+        release_slots(
+            &mut self.rows,
+            &mut self.keys,
+            &mut self.marks,
+            &mut self.spare,
+            from,
+        );
     }
 }

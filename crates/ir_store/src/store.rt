@@ -14,7 +14,7 @@ ghost use Rattle.ir_tree_laws.specs.Reasons.{take_reason};
 ghost use Rattle.ir_store_base.specs.Nodes.{node_of};
 ghost use Rattle.ir_store_base.specs.Stored.{known};
 ghost use Rattle.ir_store.specs.Calls.{after_take, after_restore, after_retract, after_operand, CanRestore, CanRetract, raised};
-ghost use Rattle.ir_store_base.specs.Emptied.{after_grow, seeded};
+ghost use Rattle.ir_store_base.specs.Emptied.{seeded};
 ghost use Rattle.ir_store.specs.Holds.{HoldsOf, HoldsOf-prop, GoneOf, GoneOf-prop};
 
 use chains::Chains;
@@ -30,6 +30,7 @@ use ir_store_base::uses::{
     value_head,
 };
 use ir_store_reads::node::Node;
+use ir_store_reads::spare::NO_SLOT;
 use ir_tree::place::Place;
 use ir_tree::tree::TreeOp;
 use ir_tree::value::Value;
@@ -51,6 +52,8 @@ pub struct Store {
     pub(crate) cells: Vec<Cell>,
     /// The slots that are looked at when what is held is given up.
     pub(crate) marks: Chains,
+    /// The slot that was given up last, of those that hold nothing.
+    pub(crate) spare: u32,
     pub(crate) root: usize,
     pub(crate) next: u32,
     /// How many operations the module has.
@@ -223,43 +226,6 @@ impl Store {
 }
 
 impl Store {
-    /// A new operation, which is held: one like a header, without the operations in its blocks.
-    pub(crate) fn grow(&mut self, op: OpId, header: &TreeOp) -> Result<(), AllocError>
-        requires { known op self.old ≡ None }
-        ensures ok { OnOk result (self.new ≡ after_grow op header.now self.old) }
-        ensures err { OnErr result (self.new ≡ self.old) }
-    {
-        self.sibs.laws();
-        let grown = grow_slot(
-            self.alloc,
-            &mut self.rows,
-            &mut self.sibs,
-            &mut self.uses,
-            &mut self.cells,
-            op,
-            header,
-        );
-        self.sibs.laws();
-        self.uses.laws();
-        let (key, row) = match grown {
-            Ok(grown) => grown,
-            Err(e) => return Err(e),
-        };
-        match reach(&mut self.marks, self.rows.len()) {
-            Ok(()) => {}
-            Err(e) => return Err(e),
-        }
-        match self.keys.insert(op.number(), key) {
-            Ok(()) => {}
-            Err(e) => return Err(e),
-        }
-        put_row(&mut self.rows, key, row);
-        put_mark(&mut self.marks, &self.rows, key);
-        Ok(())
-    }
-}
-
-impl Store {
     /// A module of one operation without operands: one like a header, without the operations in its blocks. It has
     /// room for others, and is moved where there are more.
     pub(crate) fn seed(
@@ -334,6 +300,7 @@ impl Store {
             uses,
             cells,
             marks,
+            spare: NO_SLOT,
             root,
             next,
             count: 1,

@@ -32,12 +32,12 @@ emptied_step xs ys x (y ∷ rest) w goal ew l ex ey e =
     ∙ ap (λ z. map bare_region xs ++ z ∷ map emptied_region (map region_view rest)) (ex ∙ ap (λ z. emptied_region (region_view z)) ew)
     ∙ e
 
-bare_list : (xs : List Shape) → bare_regions xs ≡ regions_of (map bare_region xs)
+pub bare_list : (xs : List Shape) → bare_regions xs ≡ regions_of (map bare_region xs)
 bare_list [] = refl
 bare_list (None ∷ xs) = ap (region empty) (bare_list xs)
 bare_list (Some a ∷ xs) = ap (region (block a.0 no_ops)) (bare_list xs)
 
-emptied_list : (gs : List Region) → regions_of (map emptied_region gs) ≡ emptied_regions (regions_of gs)
+pub emptied_list : (gs : List Region) → regions_of (map emptied_region gs) ≡ emptied_regions (regions_of gs)
 emptied_list [] = refl
 emptied_list (g ∷ gs) = ap (region (emptied_region g)) (emptied_list gs)
 
@@ -99,8 +99,8 @@ module _ (p : Parts) (even : IsEven p) (slot : ℕ) (es : slot ≡ length p.rows
                 (run_heads q wide.even true slot n homes3 cells3 r refl (length p.homes) second_wide.uses_more values ev i (omega (arith, l, en)));
           }
 
-          pub is_grown : Grown p fourth x o slot u
-          is_grown = subst (Grown p fourth x o slot) (sym eu) (record {
+          pub is_grown : Grown (length p.homes) fourth x o slot u
+          is_grown = subst (Grown (length p.homes) fourth x o slot) (sym eu) (record {
             ready = is_ready;
             is = ap (op (record (head o) { id = x })) (bare_list xs ∙ ap regions_of emptied_xs ∙ emptied_list gs) ∙ ap (λ z. with_id x (emptied z)) eo;
             gone = refl;

@@ -107,9 +107,10 @@ abbrev pub IsBlock : Parts → ℕ → ℕ → ℕ → Shape → Type 0
 IsBlock q bound k i None = Unit {0}
 IsBlock q bound k i (Some a) = NewBlock q bound k i a
 
--- an operation that can be written into slot k as x, without what stands in its blocks
-pub record Grown (p q : Parts) (x : ℕ) (o : Op) (k : ℕ) (r : Row) : Type 0 where
-  pub ready : (keys : ℕ → Option ℕ) → keys x ≡ None → Ready q keys (length p.homes) k x r
+-- an operation that can be written into slot k as x, without what stands in its blocks, where the heads below a bound are
+-- of others
+pub record Grown (bound : ℕ) (q : Parts) (x : ℕ) (o : Op) (k : ℕ) (r : Row) : Type 0 where
+  pub ready : (keys : ℕ → Option ℕ) → keys x ≡ None → Ready q keys bound k x r
   pub is : bare r ≡ with_id x (emptied o)
   pub gone : r.gone ≡ none_gone
 

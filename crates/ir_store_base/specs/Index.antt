@@ -152,6 +152,12 @@ HasOwners rows keys = (k j : ℕ) (v : Value) → Live rows k → operand_at row
 abbrev pub HasIdsBelow : ℕ → List Row → Type 0
 HasIdsBelow n rows = (k : ℕ) → Live rows k → (row_at rows k).head.id < n
 
+-- the cells of the heads of values say whose they are: a result's tells the slot of the operation, an argument's that of
+-- the block's head
+pub record Celled (rows : List Row) (cells : List (ℕ × ℕ)) : Type 0 where
+  pub results : (k i : ℕ) → Used rows k → i < length (row_at rows k).head.results → cell_at cells ((row_at rows k).values + i) ≡ (k, i)
+  pub arguments : (k r i : ℕ) (a : List ℕ × ℕ) → Used rows k → slice_get (row_at rows k).shapes r ≡ Some (Some a) → i < length a.0 → cell_at cells ((row_at rows a.1).values + i) ≡ (a.1, i)
+
 -- the slots and the uses are right
 pub record Fits (rows : List Row) (keys : ℕ → Option ℕ) (sibs : Lists) (root : ℕ) (t : Op) (homes : List ℕ) (cells : List (ℕ × ℕ)) (count free_id : ℕ) (marks : List ℕ) : Type 0 where
   pub right : Right rows keys sibs root t
@@ -162,6 +168,7 @@ pub record Fits (rows : List Row) (keys : ℕ → Option ℕ) (sibs : Lists) (ro
   pub below : HasIdsBelow free_id rows
   pub owned : HasOwners rows keys
   pub marked : Marked rows marks
+  pub celled : Celled rows cells
 
 -- the type of a value of an operation that has a slot
 abbrev pub shape_type : ℕ → Shape → Option ℕ

@@ -19,7 +19,7 @@ use order::Ordered;
 use std::alloc::{AllocError, Global};
 
 /// A row that holds nothing: a block's head has an owner, and the number of its region.
-fn spare_row(alloc: Global, owner: usize, region: u32, values: usize) -> Row
+fn spare_row(alloc: Global, owner: u32, region: u32, values: usize) -> Row
     ensures { row_of result ≡ row_spare owner region values }
 {
     Row {
@@ -33,6 +33,7 @@ fn spare_row(alloc: Global, owner: usize, region: u32, values: usize) -> Row
         attrs: Dictionary::new(alloc),
         areas: Vec::new(alloc),
         owner,
+        spare: 0,
         region,
         uses: 0,
         values,
@@ -179,7 +180,7 @@ fn add_area(
     sibs: &mut Ordered,
     uses: &mut Chains,
     cells: &mut Vec<Cell>,
-    owner: usize,
+    owner: u32,
     number: u32,
     region: &TreeRegion,
 ) -> Result<Area, AllocError>
@@ -207,7 +208,7 @@ fn add_block(
     sibs: &mut Ordered,
     uses: &mut Chains,
     cells: &mut Vec<Cell>,
-    owner: usize,
+    owner: u32,
     number: u32,
     args: Vec<TypeId>,
 ) -> Result<Area, AllocError>
@@ -236,7 +237,7 @@ fn add_areas(
     sibs: &mut Ordered,
     uses: &mut Chains,
     cells: &mut Vec<Cell>,
-    owner: usize,
+    owner: u32,
     regions: &[TreeRegion],
 ) -> Result<Vec<Area>, AllocError>
     requires { IsEven (parts_of rows.old.items sibs.old uses.old cells.old.items) }
@@ -266,7 +267,7 @@ fn add_areas(
 }
 
 /// The row of a held operation.
-fn held_row(
+pub fn held_row(
     alloc: Global,
     op: OpId,
     header: &TreeOp,
@@ -287,6 +288,7 @@ fn held_row(
         attrs: Dictionary::from_slice(alloc, &header.attrs)?,
         areas,
         owner: 0,
+        spare: 0,
         region: 0,
         uses,
         values,
@@ -305,7 +307,7 @@ pub fn grow_slot(
 ) -> Result<(usize, Row), AllocError>
     requires { IsEven (parts_of rows.old.items sibs.old uses.old cells.old.items) }
     ensures wider { Wider (parts_of rows.old.items sibs.old uses.old cells.old.items) (parts_of rows.new.items sibs.new uses.new cells.new.items) }
-    ensures grown { IfOk result (λ p. Grown (parts_of rows.old.items sibs.old uses.old cells.old.items) (parts_of rows.new.items sibs.new uses.new cells.new.items) op header.now p.0 (row_of p.1)) }
+    ensures grown { IfOk result (λ p. Grown (length uses.old.homes) (parts_of rows.new.items sibs.new uses.new cells.new.items) op header.now p.0 (row_of p.1)) }
 {
     sibs.laws();
     let slot = row_count(rows);
@@ -313,7 +315,7 @@ pub fn grow_slot(
         Ok(()) => {}
         Err(e) => return Err(e),
     }
-    let areas = match add_areas(alloc, rows, sibs, uses, cells, slot, &header.regions) {
+    let areas = match add_areas(alloc, rows, sibs, uses, cells, slot as u32, &header.regions) {
         Ok(areas) => areas,
         Err(e) => return Err(e),
     };

@@ -26,7 +26,9 @@ pub struct Row {
     pub attrs: Dictionary,
     pub areas: Vec<Area>,
     /// Of a block's head: the slot of the operation around it.
-    pub owner: usize,
+    pub owner: u32,
+    /// Of a slot that was given up: the one that was given up before it.
+    pub spare: u32,
     /// The node of the first operand, among the uses of values; the others' nodes come after it.
     pub uses: usize,
     /// The head of the uses of the first result, or of a block's first argument; the others' heads come after it.

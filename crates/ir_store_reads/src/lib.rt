@@ -4,6 +4,7 @@
 pub mod copy;
 pub mod depth;
 pub mod node;
+pub mod spare;
 pub mod stand;
 pub mod users;
 pub mod walk;

@@ -31,7 +31,7 @@ fn owner_at(rows: &Vec<Row>, head: usize) -> usize
 {
     match rows.get(head) {
         None => 0,
-        Some(row) => row.owner,
+        Some(row) => row.owner as usize,
     }
 }
 

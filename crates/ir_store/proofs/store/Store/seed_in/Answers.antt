@@ -20,7 +20,7 @@ put_row-requires c =
     let q = parts_of c.grow_slot.new.rows.items c.grow_slot.new.sibs c.grow_slot.new.uses c.grow_slot.new.cells.items in
     let from : parts_of c.args.rows.items c.args.sibs c.args.uses c.args.cells.items ≡ nothing = λ i. record { rows = rows_of (c.requires.rows i); sibs = c.requires.sibs i; homes = (c.requires.uses i).homes; cells = cells_of (c.requires.cells i) } in
     let wide : Wider nothing q = subst (λ z. Wider z q) from c.in-Ok.ensures.wider in
-    let grown : Grown nothing q c.header.inside.id c.args.header.now c.in-Ok.grown.0 (row_of c.in-Ok.grown.1) = subst (λ z. Grown z q c.header.inside.id c.args.header.now c.in-Ok.grown.0 (row_of c.in-Ok.grown.1)) from c.in-Ok.ensures.grown in
+    let grown : Grown 0 q c.header.inside.id c.args.header.now c.in-Ok.grown.0 (row_of c.in-Ok.grown.1) = subst (λ z. Grown z q c.header.inside.id c.args.header.now c.in-Ok.grown.0 (row_of c.in-Ok.grown.1)) (ap (λ z. length z.homes) from) c.in-Ok.ensures.grown in
     let ready = grown.ready (λ y. None) refl in
     ready.inside
 
@@ -29,7 +29,7 @@ invariant_of-result c =
     let q = parts_of c.grow_slot.new.rows.items c.grow_slot.new.sibs c.grow_slot.new.uses c.grow_slot.new.cells.items in
     let from : parts_of c.args.rows.items c.args.sibs c.args.uses c.args.cells.items ≡ nothing = λ i. record { rows = rows_of (c.requires.rows i); sibs = c.requires.sibs i; homes = (c.requires.uses i).homes; cells = cells_of (c.requires.cells i) } in
     let wide : Wider nothing q = subst (λ z. Wider z q) from c.in-Ok.ensures.wider in
-    let grown : Grown nothing q c.header.inside.id c.args.header.now c.in-Ok.grown.0 (row_of c.in-Ok.grown.1) = subst (λ z. Grown z q c.header.inside.id c.args.header.now c.in-Ok.grown.0 (row_of c.in-Ok.grown.1)) from c.in-Ok.ensures.grown in
+    let grown : Grown 0 q c.header.inside.id c.args.header.now c.in-Ok.grown.0 (row_of c.in-Ok.grown.1) = subst (λ z. Grown z q c.header.inside.id c.args.header.now c.in-Ok.grown.0 (row_of c.in-Ok.grown.1)) (ap (λ z. length z.homes) from) c.in-Ok.ensures.grown in
     let ready = grown.ready (λ y. None) refl in
     let x = c.header.inside.id in
     let k = c.in-Ok.grown.0 in
@@ -51,7 +51,7 @@ invariant_of-result-2 c =
     let q = parts_of c.grow_slot.new.rows.items c.grow_slot.new.sibs c.grow_slot.new.uses c.grow_slot.new.cells.items in
     let from : parts_of c.args.rows.items c.args.sibs c.args.uses c.args.cells.items ≡ nothing = λ i. record { rows = rows_of (c.requires.rows i); sibs = c.requires.sibs i; homes = (c.requires.uses i).homes; cells = cells_of (c.requires.cells i) } in
     let wide : Wider nothing q = subst (λ z. Wider z q) from c.in-Ok.ensures.wider in
-    let grown : Grown nothing q c.header.inside.id c.args.header.now c.in-Ok.grown.0 (row_of c.in-Ok.grown.1) = subst (λ z. Grown z q c.header.inside.id c.args.header.now c.in-Ok.grown.0 (row_of c.in-Ok.grown.1)) from c.in-Ok.ensures.grown in
+    let grown : Grown 0 q c.header.inside.id c.args.header.now c.in-Ok.grown.0 (row_of c.in-Ok.grown.1) = subst (λ z. Grown z q c.header.inside.id c.args.header.now c.in-Ok.grown.0 (row_of c.in-Ok.grown.1)) (ap (λ z. length z.homes) from) c.in-Ok.ensures.grown in
     let ready = grown.ready (λ y. None) refl in
     let x = c.header.inside.id in
     let k = c.in-Ok.grown.0 in
@@ -75,7 +75,7 @@ returns c =
     let q = parts_of c.grow_slot.new.rows.items c.grow_slot.new.sibs c.grow_slot.new.uses c.grow_slot.new.cells.items in
     let from : parts_of c.args.rows.items c.args.sibs c.args.uses c.args.cells.items ≡ nothing = λ i. record { rows = rows_of (c.requires.rows i); sibs = c.requires.sibs i; homes = (c.requires.uses i).homes; cells = cells_of (c.requires.cells i) } in
     let wide : Wider nothing q = subst (λ z. Wider z q) from c.in-Ok.ensures.wider in
-    let grown : Grown nothing q c.header.inside.id c.args.header.now c.in-Ok.grown.0 (row_of c.in-Ok.grown.1) = subst (λ z. Grown z q c.header.inside.id c.args.header.now c.in-Ok.grown.0 (row_of c.in-Ok.grown.1)) from c.in-Ok.ensures.grown in
+    let grown : Grown 0 q c.header.inside.id c.args.header.now c.in-Ok.grown.0 (row_of c.in-Ok.grown.1) = subst (λ z. Grown z q c.header.inside.id c.args.header.now c.in-Ok.grown.0 (row_of c.in-Ok.grown.1)) (ap (λ z. length z.homes) from) c.in-Ok.ensures.grown in
     let ready = grown.ready (λ y. None) refl in
     let x = c.header.inside.id in
     let k = c.in-Ok.grown.0 in
@@ -100,6 +100,6 @@ insert-requires c =
     let q = parts_of c.grow_slot.new.rows.items c.grow_slot.new.sibs c.grow_slot.new.uses c.grow_slot.new.cells.items in
     let from : parts_of c.args.rows.items c.args.sibs c.args.uses c.args.cells.items ≡ nothing = λ i. record { rows = rows_of (c.requires.rows i); sibs = c.requires.sibs i; homes = (c.requires.uses i).homes; cells = cells_of (c.requires.cells i) } in
     let wide : Wider nothing q = subst (λ z. Wider z q) from c.in-Ok.ensures.wider in
-    let grown : Grown nothing q c.header.inside.id c.args.header.now c.in-Ok.grown.0 (row_of c.in-Ok.grown.1) = subst (λ z. Grown z q c.header.inside.id c.args.header.now c.in-Ok.grown.0 (row_of c.in-Ok.grown.1)) from c.in-Ok.ensures.grown in
+    let grown : Grown 0 q c.header.inside.id c.args.header.now c.in-Ok.grown.0 (row_of c.in-Ok.grown.1) = subst (λ z. Grown z q c.header.inside.id c.args.header.now c.in-Ok.grown.0 (row_of c.in-Ok.grown.1)) (ap (λ z. length z.homes) from) c.in-Ok.ensures.grown in
     let ready = grown.ready (λ y. None) refl in
     omega (arith, ready.inside, wide.even.long, c.laws.ensures.few)

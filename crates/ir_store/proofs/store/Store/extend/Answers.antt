@@ -8,9 +8,9 @@ use Rattle.ir_store_base.specs.Emptied.{after_grow}
 use Rattle.ir_store_base.specs.Grows.{parts_of}
 use Rattle.ir_store.proofs.Called.{keys_in}
 use Rattle.ir_store_base.proofs.Items.{other_row, own_row}
-use Rattle.ir_store.proofs.Growing.{key_put, no_key, grow_can_mark, wide_given, wide_fits, wide_done, grow_given, grow_fits, grow_done}
+use Rattle.ir_store.proofs.Growing.{key_put, no_key, grow_can_mark, grow_apart, wide_given, wide_fits, wide_done, grow_given, grow_fits, grow_done}
 use Rattle.ir_store_base.proofs.Marking.{reach_none, grow_there}
-use Rattle.ir_store.proofs.store.Store.grow.Goals as goal
+use Rattle.ir_store.proofs.store.Store.extend.Goals as goal
 
 pub insert-requires : goal.insert-requires
 insert-requires c =
@@ -90,7 +90,7 @@ invariant_of-self-inside-2 c =
     let inside : c.in-Ok.grown.0 < length c.grow_slot-grown.new.rows.items = omega (arith, ready.inside, length-map c.grow_slot-grown.new.rows.items row_of) in
     let same : (y : ℕ) → (y ≡ c.in-Ok.grown.0 → ⊥) → row_at rows' y ≡ row_at q.rows y = λ y ne. ap (λ z. row_at z y) er ∙ other_row c.grow_slot-grown.new.rows.items c.in-Ok.grown.0 c.in-Ok.grown.1 y ne in
     let own = ap (λ z. row_at z c.in-Ok.grown.0) er ∙ own_row c.grow_slot-grown.new.rows.items c.in-Ok.grown.0 c.in-Ok.grown.1 inside in
-    grow_given c.self.inside c.self.invariant q c.in-Ok.ensures.wider c.laws-2.ensures.few c.laws-3.ensures.few c.args.op c.args.header.now c.in-Ok.grown.0 (row_of c.in-Ok.grown.1) none c.in-Ok.ensures.grown (finmap.get c.insert.new.self) here others rows' long' same own
+    grow_given c.self.inside c.self.invariant q c.in-Ok.ensures.wider c.laws-2.ensures.few c.laws-3.ensures.few c.args.op c.args.header.now c.in-Ok.grown.0 (row_of c.in-Ok.grown.1) none (length c.self.inside.uses.homes) c.in-Ok.ensures.grown (grow_apart c.self.inside c.self.invariant q c.in-Ok.ensures.wider c.laws-2.ensures.few c.laws-3.ensures.few c.in-Ok.grown.0 (row_of c.in-Ok.grown.1)) (finmap.get c.insert.new.self) here others rows' long' same own
 
 pub invariant_of-self-2 : goal.invariant_of-self-2
 invariant_of-self-2 c =
@@ -106,7 +106,7 @@ invariant_of-self-2 c =
     let inside : c.in-Ok.grown.0 < length c.grow_slot-grown.new.rows.items = omega (arith, ready.inside, length-map c.grow_slot-grown.new.rows.items row_of) in
     let same : (y : ℕ) → (y ≡ c.in-Ok.grown.0 → ⊥) → row_at rows' y ≡ row_at q.rows y = λ y ne. ap (λ z. row_at z y) er ∙ other_row c.grow_slot-grown.new.rows.items c.in-Ok.grown.0 c.in-Ok.grown.1 y ne in
     let own = ap (λ z. row_at z c.in-Ok.grown.0) er ∙ own_row c.grow_slot-grown.new.rows.items c.in-Ok.grown.0 c.in-Ok.grown.1 inside in
-    grow_fits c.self.inside c.self.invariant q c.in-Ok.ensures.wider c.laws-2.ensures.few c.laws-3.ensures.few c.args.op c.args.header.now c.in-Ok.grown.0 (row_of c.in-Ok.grown.1) none c.in-Ok.ensures.grown (finmap.get c.insert.new.self) here others rows' long' same own c.self-2-1.given.0 c.reach.new.marks.homes c.put_mark.new.marks.homes c.reach.ensures.nodes (grow_there c.in-Ok.grown.0 q.rows c.reach.new.marks.homes c.len.result ready.inside (omega (arith, c.len.ensures, length-map c.grow_slot-grown.new.rows.items row_of)) c.in-Ok-reach.ensures.there) c.put_mark.ensures
+    grow_fits c.self.inside c.self.invariant q c.in-Ok.ensures.wider c.laws-2.ensures.few c.laws-3.ensures.few c.args.op c.args.header.now c.in-Ok.grown.0 (row_of c.in-Ok.grown.1) none (length c.self.inside.uses.homes) c.in-Ok.ensures.grown (grow_apart c.self.inside c.self.invariant q c.in-Ok.ensures.wider c.laws-2.ensures.few c.laws-3.ensures.few c.in-Ok.grown.0 (row_of c.in-Ok.grown.1)) (finmap.get c.insert.new.self) here others rows' long' same own c.self-2-1.given.0 c.reach.new.marks.homes c.put_mark.new.marks.homes c.reach.ensures.nodes (grow_there c.in-Ok.grown.0 q.rows c.reach.new.marks.homes c.len.result ready.inside (omega (arith, c.len.ensures, length-map c.grow_slot-grown.new.rows.items row_of)) c.in-Ok-reach.ensures.there) c.put_mark.ensures
 
 pub returns-clause-ok : goal.returns-clause-ok
 returns-clause-ok c =
@@ -122,5 +122,5 @@ returns-clause-ok c =
     let inside : c.in-Ok.grown.0 < length c.grow_slot-grown.new.rows.items = omega (arith, ready.inside, length-map c.grow_slot-grown.new.rows.items row_of) in
     let same : (y : ℕ) → (y ≡ c.in-Ok.grown.0 → ⊥) → row_at rows' y ≡ row_at q.rows y = λ y ne. ap (λ z. row_at z y) er ∙ other_row c.grow_slot-grown.new.rows.items c.in-Ok.grown.0 c.in-Ok.grown.1 y ne in
     let own = ap (λ z. row_at z c.in-Ok.grown.0) er ∙ own_row c.grow_slot-grown.new.rows.items c.in-Ok.grown.0 c.in-Ok.grown.1 inside in
-    grow_done c.self.inside c.self.invariant q c.in-Ok.ensures.wider c.laws-2.ensures.few c.laws-3.ensures.few c.args.op c.args.header.now c.in-Ok.grown.0 (row_of c.in-Ok.grown.1) none c.in-Ok.ensures.grown (finmap.get c.insert.new.self) here others rows' long' same own c.self-2-1.given.0 c.self-2-1.given.1.0 c.self-2-1.given.1.1.0
+    grow_done c.self.inside c.self.invariant q c.in-Ok.ensures.wider c.laws-2.ensures.few c.laws-3.ensures.few c.args.op c.args.header.now c.in-Ok.grown.0 (row_of c.in-Ok.grown.1) none (length c.self.inside.uses.homes) c.in-Ok.ensures.grown (grow_apart c.self.inside c.self.invariant q c.in-Ok.ensures.wider c.laws-2.ensures.few c.laws-3.ensures.few c.in-Ok.grown.0 (row_of c.in-Ok.grown.1)) (finmap.get c.insert.new.self) here others rows' long' same own c.self-2-1.given.0 c.self-2-1.given.1.0 c.self-2-1.given.1.1.0
     ∙ ap (after_grow c.args.op c.args.header.now) c.self.view_is

@@ -1,0 +1,102 @@
+//! Operations that come, and are held.
+ghost use Rattle.std.specs.Prelude.{◌≡◌, None, IfOk, OnOk, OnErr, if◌then◌else◌};
+ghost use Rattle.ir_store_base.specs.Stored.{known};
+ghost use Rattle.ir_store_base.specs.Emptied.{after_grow};
+
+use crate::store::Store;
+use ir_store_base::grow::grow_slot;
+use ir_store_base::marks::{put_mark, reach};
+use ir_store_base::row::put_row;
+use ir_store_reads::spare::{find_spare, take_spare};
+use ir_tree::tree::TreeOp;
+use ir_types::ids::OpId;
+use std::alloc::AllocError;
+
+impl Store {
+    /// A new operation, which is held: one like a header, without the operations in its blocks.
+    pub(crate) fn grow(&mut self, op: OpId, header: &TreeOp) -> Result<(), AllocError>
+        requires { known op self.old ≡ None }
+        ensures ok { OnOk result (self.new ≡ after_grow op header.now self.old) }
+        ensures err { OnErr result (self.new ≡ self.old) }
+    {
+        match self.refill(op, header) {
+            Ok(true) => Ok(()),
+            Ok(false) => self.extend(op, header),
+            Err(e) => Err(e),
+        }
+    }
+
+    /// The same in a slot that was given up, if one fits. Whether there was such a slot.
+    fn refill(&mut self, op: OpId, header: &TreeOp) -> Result<bool, AllocError>
+        requires { known op self.old ≡ None }
+        ensures ok { IfOk result (λ b. self.new ≡ (if b then after_grow op header.now self.old else self.old)) }
+        ensures err { OnErr result (self.new ≡ self.old) }
+    {
+        self.sibs.laws();
+        self.uses.laws();
+        let found = find_spare(
+            self.alloc,
+            &self.rows,
+            &self.sibs,
+            &self.uses,
+            &self.cells,
+            self.spare,
+            op,
+            header,
+        );
+        let (behind, key, row) = match found {
+            Ok(Some(found)) => found,
+            Ok(None) => return Ok(false),
+            Err(e) => return Err(e),
+        };
+        match reach(&mut self.marks, self.rows.len()) {
+            Ok(()) => {}
+            Err(e) => return Err(e),
+        }
+        match self.keys.insert(op.number(), key) {
+            Ok(()) => {}
+            Err(e) => return Err(e),
+        }
+        self.spare = take_spare(&mut self.rows, self.spare, behind, key);
+        put_row(&mut self.rows, key, row);
+        put_mark(&mut self.marks, &self.rows, key);
+        Ok(true)
+    }
+}
+
+impl Store {
+    /// The same in a new slot.
+    fn extend(&mut self, op: OpId, header: &TreeOp) -> Result<(), AllocError>
+        requires { known op self.old ≡ None }
+        ensures ok { OnOk result (self.new ≡ after_grow op header.now self.old) }
+        ensures err { OnErr result (self.new ≡ self.old) }
+    {
+        self.sibs.laws();
+        let grown = grow_slot(
+            self.alloc,
+            &mut self.rows,
+            &mut self.sibs,
+            &mut self.uses,
+            &mut self.cells,
+            op,
+            header,
+        );
+        self.sibs.laws();
+        self.uses.laws();
+        let (key, row) = match grown {
+            Ok(grown) => grown,
+            Err(e) => return Err(e),
+        };
+        match reach(&mut self.marks, self.rows.len()) {
+            Ok(()) => {}
+            Err(e) => return Err(e),
+        }
+        match self.keys.insert(op.number(), key) {
+            Ok(()) => {}
+            Err(e) => return Err(e),
+        }
+        put_row(&mut self.rows, key, row);
+        put_mark(&mut self.marks, &self.rows, key);
+        Ok(())
+    }
+}

@@ -1,0 +1,351 @@
+//! Slots that were given up and are written again. Whether a slot can be is looked at as it is, so nothing has to be
+//! known of it.
+ghost use Rattle.std.specs.Prelude.{◌≡◌, ◌<◌, ◌∷◌, [], ℕ, true, length, map, IfOk, IfSome};
+ghost use Rattle.chains.specs.Lists.{IsFree, IsHead, free, list_at};
+ghost use Rattle.ir_tree.specs.View.{region_view};
+ghost use Rattle.ir_store_base.specs.Rows.{row_of, rows_of, row_at, shape_of};
+ghost use Rattle.ir_store_base.specs.Index.{cells_of, cell_at};
+ghost use Rattle.ir_store_base.specs.Emptied.{emptied_region};
+ghost use Rattle.ir_store_base.specs.Grows.{parts_of, NewBlock, IsBlock, AreBlocks, AreEmptied, Grown, bare_region};
+ghost use Rattle.ir_store_reads.specs.Again.{HeadsOf, NodesOf, BlockFits, RowFits};
+ghost use Rattle.ir_tree.specs.Tree.{head};
+
+use chains::Chains;
+use ir_store_base::grow::held_row;
+use ir_store_base::row::{Area, Cell, Row};
+use ir_tree::tree::{TreeOp, TreeRegion};
+use ir_types::ids::OpId;
+use order::Ordered;
+use std::alloc::{AllocError, Global};
+
+/// No slot.
+pub const NO_SLOT: u32 = u32::MAX;
+
+/// How many spare slots are looked at for an operation.
+const MOST_LOOKS: u32 = 8;
+
+/// Whether a node stands for this operand or value of a slot.
+fn is_cell(cells: &Vec<Cell>, node: usize, row: usize, place: usize) -> bool
+    ensures { result ≡ true → cell_at (cells_of cells.now.items) node ≡ (row, place) }
+{
+    match cells.get(node) {
+        None => false,
+        Some(cell) => cell.row as usize == row && cell.place as usize == place,
+    }
+}
+
+/// Whether a node is a head.
+fn is_head(uses: &Chains, node: usize) -> bool
+    ensures { result ≡ true → IsHead uses.now.homes node }
+{
+    if node >= uses.len() {
+        return false;
+    }
+    match uses.home(node) {
+        None => false,
+        Some(home) => home == node,
+    }
+}
+
+/// Whether a node is in no list, and no head.
+fn is_loose(uses: &Chains, node: usize) -> bool
+    ensures { result ≡ true → IsFree uses.now.homes node }
+{
+    if node >= uses.len() {
+        return false;
+    }
+    uses.home(node).is_none()
+}
+
+/// Whether a slot is the head of a block in which no operation stands.
+fn is_bare_head(sibs: &Ordered, node: usize) -> bool
+    ensures { result ≡ true → IsHead sibs.now.homes node × (list_at sibs.now.lists node ≡ []) }
+{
+    if node >= sibs.len() {
+        return false;
+    }
+    match sibs.home(node) {
+        None => false,
+        Some(home) => home == node && sibs.first(node).is_none(),
+    }
+}
+
+/// Whether a slot stands in no block, and is no block's head.
+fn is_out(sibs: &Ordered, node: usize) -> bool
+    ensures { result ≡ true → IsFree sibs.now.homes node }
+{
+    if node >= sibs.len() {
+        return false;
+    }
+    sibs.home(node).is_none()
+}
+
+/// Whether so many nodes are the heads of the values of a slot.
+fn has_heads(uses: &Chains, cells: &Vec<Cell>, row: usize, base: usize, count: usize) -> bool
+    ensures { result ≡ true → HeadsOf uses.now.homes (cells_of cells.now.items) row base count }
+{
+    uses.laws();
+    let mut at = base;
+    let mut place = 0;
+    'heads: while place < count {
+        if !is_head(uses, at) {
+            return false;
+        }
+        if !is_cell(cells, at, row, place) {
+            return false;
+        }
+        at += 1;
+        place += 1;
+    }
+    true
+}
+
+/// Whether so many nodes are those of the operands of a slot, and in no list.
+fn has_nodes(uses: &Chains, cells: &Vec<Cell>, row: usize, base: usize, count: usize) -> bool
+    ensures { result ≡ true → NodesOf uses.now.homes (cells_of cells.now.items) row base count }
+{
+    uses.laws();
+    let mut at = base;
+    let mut place = 0;
+    'nodes: while place < count {
+        if !is_loose(uses, at) {
+            return false;
+        }
+        if !is_cell(cells, at, row, place) {
+            return false;
+        }
+        at += 1;
+        place += 1;
+    }
+    true
+}
+
+/// Whether a slot is the head of an empty block with so many arguments, of this region of this slot.
+fn block_fits(
+    rows: &Vec<Row>,
+    sibs: &Ordered,
+    uses: &Chains,
+    cells: &Vec<Cell>,
+    owner: usize,
+    number: u32,
+    head: usize,
+    count: usize,
+) -> bool
+    ensures { result ≡ true → BlockFits (parts_of rows.now.items sibs.now uses.now cells.now.items) owner number head count }
+{
+    let Some(row) = rows.get(head) else {
+        return false;
+    };
+    if row.owner as usize != owner || row.region != number {
+        return false;
+    }
+    if !is_bare_head(sibs, head) {
+        return false;
+    }
+    has_heads(uses, cells, head, row.values, count)
+}
+
+/// The region of a spare slot for a region like another, if it fits.
+fn fit_area(
+    alloc: Global,
+    rows: &Vec<Row>,
+    sibs: &Ordered,
+    uses: &Chains,
+    cells: &Vec<Cell>,
+    owner: usize,
+    number: u32,
+    area: &Area,
+    region: &TreeRegion,
+) -> Result<Option<Area>, AllocError>
+    ensures { IfOk result (λ o. IfSome o (λ a. (bare_region (shape_of a) ≡ emptied_region (region_view region.now))
+        × IsBlock (parts_of rows.now.items sibs.now uses.now cells.now.items) 0 owner number (shape_of a))) }
+{
+    match region {
+        TreeRegion::Empty => match area {
+            Area::Empty => Ok(Some(Area::Empty)),
+            Area::Block { .. } => Ok(None),
+        },
+        TreeRegion::Block { args, .. } => match area {
+            Area::Empty => Ok(None),
+            Area::Block { head, .. } => {
+                if !block_fits(rows, sibs, uses, cells, owner, number, *head, args.len()) {
+                    return Ok(None);
+                }
+                match Vec::from_slice(alloc, args) {
+                    Ok(args) => Ok(Some(Area::Block { args, head: *head })),
+                    Err(e) => Err(e),
+                }
+            }
+        },
+    }
+}
+
+/// The regions of a spare slot for regions like others, if they fit.
+fn fit_areas(
+    alloc: Global,
+    rows: &Vec<Row>,
+    sibs: &Ordered,
+    uses: &Chains,
+    cells: &Vec<Cell>,
+    owner: usize,
+    areas: &[Area],
+    regions: &[TreeRegion],
+) -> Result<Option<Vec<Area>>, AllocError>
+    ensures { IfOk result (λ o. IfSome o (λ a. AreEmptied (map shape_of a.items) (map region_view regions.now)
+        × AreBlocks (parts_of rows.now.items sibs.now uses.now cells.now.items) 0 owner (map shape_of a.items))) }
+{
+    let mut fitted = Vec::new(alloc);
+    let mut number = 0;
+    let mut left = areas;
+    let mut rest = regions;
+    'regions: while let [region, tail @ ..] = rest {
+        let [area, more @ ..] = left else {
+            return Ok(None);
+        };
+        let area = match fit_area(alloc, rows, sibs, uses, cells, owner, number, area, region) {
+            Ok(Some(area)) => area,
+            Ok(None) => return Ok(None),
+            Err(e) => return Err(e),
+        };
+        match fitted.push(area) {
+            Ok(()) => {}
+            Err(_) => return Err(AllocError),
+        }
+        number = match number.checked_add(1) {
+            None => return Err(AllocError),
+            Some(number) => number,
+        };
+        left = more;
+        rest = tail;
+    }
+    Ok(Some(fitted))
+}
+
+/// Whether a spare slot has just the nodes that an operation like a header needs for its values and operands.
+fn row_fits(
+    sibs: &Ordered,
+    uses: &Chains,
+    cells: &Vec<Cell>,
+    slot: usize,
+    row: &Row,
+    header: &TreeOp,
+) -> bool
+    ensures { result ≡ true → RowFits sibs.now.homes uses.now.homes (cells_of cells.now.items) slot (row_of row.now) (head header.now) }
+{
+    if row.used || row.live || !is_out(sibs, slot) {
+        return false;
+    }
+    if row.operands.len() != header.operands.len() || row.results.len() != header.results.len() {
+        return false;
+    }
+    if row.areas.len() != header.regions.len() {
+        return false;
+    }
+    if !has_heads(uses, cells, slot, row.values, header.results.len()) {
+        return false;
+    }
+    has_nodes(uses, cells, slot, row.uses, header.operands.len())
+}
+
+/// The row to be written into a spare slot for an operation like a header, if that fits.
+fn fit_row(
+    alloc: Global,
+    rows: &Vec<Row>,
+    sibs: &Ordered,
+    uses: &Chains,
+    cells: &Vec<Cell>,
+    slot: usize,
+    op: OpId,
+    header: &TreeOp,
+) -> Result<Option<Row>, AllocError>
+    ensures { IfOk result (λ o. IfSome o (λ r. Grown 0 (parts_of rows.now.items sibs.now uses.now cells.now.items) op header.now slot (row_of r))) }
+{
+    let Some(row) = rows.get(slot) else {
+        return Ok(None);
+    };
+    if !row_fits(sibs, uses, cells, slot, row, header) {
+        return Ok(None);
+    }
+    let fitted = fit_areas(
+        alloc,
+        rows,
+        sibs,
+        uses,
+        cells,
+        slot,
+        &row.areas,
+        &header.regions,
+    );
+    let areas = match fitted {
+        Ok(Some(areas)) => areas,
+        Ok(None) => return Ok(None),
+        Err(e) => return Err(e),
+    };
+    match held_row(alloc, op, header, areas, row.uses, row.values) {
+        Ok(row) => Ok(Some(row)),
+        Err(e) => Err(e),
+    }
+}
+
+/// The slot that was given up before another.
+fn spare_before(rows: &Vec<Row>, slot: u32) -> u32 {
+    match rows.get(slot as usize) {
+        None => NO_SLOT,
+        Some(row) => row.spare,
+    }
+}
+
+/// A spare slot for an operation like a header: the one that was given up behind it, if any; the slot; and the row to be
+/// written there. A few of those that were given up last are looked at.
+pub fn find_spare(
+    alloc: Global,
+    rows: &Vec<Row>,
+    sibs: &Ordered,
+    uses: &Chains,
+    cells: &Vec<Cell>,
+    newest: u32,
+    op: OpId,
+    header: &TreeOp,
+) -> Result<Option<(u32, usize, Row)>, AllocError>
+    ensures { IfOk result (λ o. IfSome o (λ p. Grown 0 (parts_of rows.now.items sibs.now uses.now cells.now.items) op header.now p.1 (row_of p.2))) }
+{
+    let mut behind = NO_SLOT;
+    let mut at = newest;
+    let mut looks = MOST_LOOKS;
+    'spare: while looks > 0 && at != NO_SLOT {
+        let slot = at as usize;
+        match fit_row(alloc, rows, sibs, uses, cells, slot, op, header) {
+            Ok(Some(row)) => return Ok(Some((behind, slot, row))),
+            Ok(None) => {}
+            Err(e) => return Err(e),
+        }
+        behind = at;
+        at = spare_before(rows, at);
+        looks -= 1;
+    }
+    Ok(None)
+}
+
+/// Takes a slot out of the row of spare ones, where it stands before another or is the newest. The newest then.
+pub fn take_spare(rows: &mut Vec<Row>, newest: u32, behind: u32, slot: usize) -> u32
+    ensures { rows_of rows.new.items ≡ rows_of rows.old.items }
+{
+    let before = match rows.get(slot) {
+        None => NO_SLOT,
+        Some(row) => row.spare,
+    };
+    let key = behind as usize;
+    if key >= rows.len() {
+        return before;
+    }
+    let row = &mut rows[key];
+    set_spare(row, before);
+    newest
+}
+
+/// Writes which slot was given up before that of a row.
+fn set_spare(row: &mut Row, before: u32)
+    ensures { row_of row.new ≡ row_of row.old }
+{
+    row.spare = before;
+}
