@@ -1,5 +1,5 @@
 -- What writing a row into a spare slot makes of the slots: the operation is held.
-use Rattle.std.proofs.Common.{◌≡◌, ◌⊎◌, ℕ, ◌+◌, ◌<◌, ◌≤◌, List, refl, sym, ap, ◌∙◌, subst, length, Bool, true, false, eqb, cond, ⊎_elim, inl, inr, arith, Option, Some, None, slice_get}
+use Rattle.std.proofs.Common.{◌≡◌, ◌⊎◌, ℕ, ◌+◌, ◌<◌, List, refl, sym, ap, ◌∙◌, subst, length, Bool, true, false, eqb, cond, ⊎_elim, inl, inr, arith, Option, Some, None, slice_get}
 use Rattle.std.specs.Prelude.{option_and_then, nat_lt, if◌then◌else◌}
 use Rattle.std.specs.Ordering.{nat_cmp}
 use Rattle.std.specs.Cmp.{nat_cmp_total}

@@ -1,14 +1,13 @@
 -- The cells of the heads of values.
-use Rattle.std.proofs.Common.{◌≡◌, ℕ, ◌+◌, ◌<◌, List, refl, sym, ap, ◌∙◌, subst, length, Bool, true, false, ⊎_elim, arith, Option, Some, None, slice_get}
-use Rattle.std.specs.Prelude.{option_and_then, nat_lt, if◌then◌else◌}
+use Rattle.std.proofs.Common.{◌≡◌, ℕ, ◌+◌, ◌<◌, List, sym, ap, ◌∙◌, subst, length, ⊎_elim, arith, Option, Some, None, slice_get}
+use Rattle.std.specs.Prelude.{option_and_then, if◌then◌else◌}
 use Rattle.std.proofs.lemmas.Bool.{cases_eq, cases_lt, false≢true}
-use Rattle.chains.specs.Lists.{IsHead}
 use Rattle.ir_tree.specs.declared.value.Value.{Value}
 use Rattle.ir_tree.specs.declared.value.Value.TheVariants.{Result, Arg}
-use Rattle.ir_store_base.specs.Rows.{Row, Shape, row_at}
+use Rattle.ir_store_base.specs.Rows.{Row, row_at}
 use Rattle.ir_store_base.specs.Right.{Used}
 use Rattle.ir_store_base.specs.Index.{argument_head, slot_head, value_head, cell_at, Index, Celled, lives}
-use Rattle.ir_store_base.specs.Grows.{Parts, Wider, Ready}
+use Rattle.ir_store_base.specs.Grows.{Parts, Wider}
 use Rattle.ir_store_base.proofs.Idle.{is_below}
 use Rattle.ir_store_base.proofs.Wide.{Keyed}
 

@@ -1,17 +1,17 @@
 -- What a spare slot has that is written again.
-use Rattle.std.proofs.Common.{◌≡◌, ◌⊎◌, ℕ, zero, suc, ◌+◌, ◌<◌, ◌≤◌, List, [], ◌∷◌, map, get_or, refl, sym, ap, ◌∙◌, subst, length, true, false, ⊎_elim, arith, Option, Some, None, slice_get}
+use Rattle.std.proofs.Common.{◌≡◌, ℕ, ◌+◌, ◌<◌, ◌≤◌, List, get_or, refl, sym, ap, ◌∙◌, subst, length, ⊎_elim, arith, Option, Some, None}
 use Rattle.std.specs.Prelude.{IfSome}
 use Rattle.std.proofs.lemmas.Bool.{cases_eq}
-use Rattle.std.proofs.lemmas.List.{get_or-map, length-map}
+use Rattle.std.proofs.lemmas.List.{get_or-map}
 use Rattle.std.proofs.lemmas.Option.{slice_get_within}
-use Rattle.chains.specs.Lists.{Lists, IsHead, IsFree, home_at, free}
-use Rattle.ir_tree.specs.Tree.{Op, op, head, Region, block, no_ops, regions_of}
+use Rattle.chains.specs.Lists.{IsHead, IsFree}
+use Rattle.ir_tree.specs.Tree.{Op, op, head, Region, regions_of}
 use Rattle.ir_tree_laws.specs.Reasons.{with_id}
 use Rattle.ir_store_base.specs.declared.row.Cell.{Cell}
 use Rattle.ir_store_base.specs.Rows.{Row, Shape, row_at}
 use Rattle.ir_store_base.specs.Index.{cells_of, cell_at}
-use Rattle.ir_store_base.specs.Emptied.{emptied, emptied_region, emptied_regions}
-use Rattle.ir_store_base.specs.Grows.{Parts, Ready, AreBlocks, NewBlock, NewHead, NewUse, Grown, row_held, bare_region, AreEmptied}
+use Rattle.ir_store_base.specs.Emptied.{emptied}
+use Rattle.ir_store_base.specs.Grows.{Parts, AreBlocks, NewBlock, Grown, row_held, AreEmptied}
 use Rattle.ir_store_base.proofs.Grown.{bare_list, emptied_list}
 use Rattle.ir_store_reads.specs.Again.{HeadsOf, NodesOf, BlockFits, RowFits}
 
