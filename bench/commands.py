@@ -14,23 +14,10 @@ import tempfile
 KINDS = ("uses", "diagnostics", "symbols", "effects", "dead", "constants")
 
 
-def name(number):
-    """A name of four letters and digits for each number: a million operations must fit in 32 MiB."""
-    digits = "abcdefghijklmnopqrstuvwxyz0123456789"
-    text = ""
-    for _ in range(3):
-        number, digit = divmod(number, 36)
-        text = digits[digit] + text
-    return digits[number] + text
-
-
-def module(count, linked):
-    """Two constants, and operations that use the first of them; or, linked, every second uses the result of the one before it."""
-    lines = ['%a="arith.constant"()<{value=1:i32}>:()->i32', '%b="arith.constant"()<{value=2:i32}>:()->i32']
-    for n in range(count - 2):
-        used = name(n - 1) if linked and n % 2 else "a"
-        lines.append(f'%{name(n)}="t"(%{used}):(i32)->i32')
-    return "\n".join(lines) + "\n"
+def module(count):
+    """Two constants, and operations that use the first of them, in 16 bytes each: a module of a million must fit in 16 MiB."""
+    constants = '%a="arith.constant"()<{value=1:i8}>:()->i8 %b="arith.constant"()<{value=2:i8}>:()->i8'
+    return constants + '"t"(%a):(i8)->()' * (count - 2) + "\n"
 
 
 def spread(count, edits):
@@ -39,28 +26,27 @@ def spread(count, edits):
 
 
 def scripts(count, edits):
-    """Each kind of script, of so many commands, with whether it wants the linked module."""
+    """Each kind of script, of so many commands."""
     ops = spread(count, edits)
     half = ops[:edits // 2]
-    yield "set-operand", [f"set-operand #{x} 0 %v{1 + k // 7 % 2}.0" for k, x in enumerate(ops)], False
-    yield "set-attr", [f"set-attr #{x} k {k % 100}:i8" for k, x in enumerate(ops)], False
-    yield "set-attr, drop-attr", [line for x in half for line in (f"set-attr #{x} k 1:i8", f"drop-attr #{x} k")], False
-    yield "move", [f"move #{x} before #{y}" for x, y in zip(ops, ops[1:] + ops[:1])], False
-    pairs = []
+    yield "set-operand", [f"set-operand #{x} 0 %v{1 + k // 7 % 2}.0" for k, x in enumerate(ops)]
+    yield "set-attr", [f"set-attr #{x} k {k % 100}:i8" for k, x in enumerate(ops)]
+    yield "set-attr, drop-attr", [line for x in half for line in (f"set-attr #{x} k 1:i8", f"drop-attr #{x} k")]
+    yield "move", [f"move #{x} before #{y}" for x, y in zip(ops, ops[1:] + ops[:1])]
+    pairs = ['insert start #0 0 "t"():()->i8']
     for x in half:
-        first = x - (x + 1) % 2 if x < count else x - 2 - (x + 1) % 2
-        pairs += [f"replace %v{first}.0 %v2.0", f"set-operand #{first + 1} 0 %v{first}.0"]
-    yield "replace of one use, set-operand", pairs, True
+        pairs += [f"set-operand #{x} 0 %v{count + 1}.0", f"replace %v{count + 1}.0 %v2.0"]
+    yield "set-operand, replace of that use", pairs
     pairs = []
     for k, x in enumerate(half):
-        pairs += [f'insert after #{x} "t"(%v1.0):(i32)->i32', f"erase #{count + 1 + k}"]
-    yield "insert, erase", pairs, False
-    yield "begin, commit", ["begin", "commit"] * (edits // 2), False
+        pairs += [f'insert after #{x} "t"(%v1.0):(i8)->()', f"erase #{count + 1 + k}"]
+    yield "insert, erase", pairs
+    yield "begin, commit", ["begin", "commit"] * (edits // 2)
     for many in (1, 100):
         lines = []
         for k in range(0, edits - many, many + 2):
             lines += ["begin"] + [f"set-operand #{x} 0 %v{1 + k % 2}.0" for x in ops[k:k + many]] + ["rollback"]
-        yield f"begin, {many} edits, rollback", lines, False
+        yield f"begin, {many} edits, rollback", lines
 
 
 def seconds(program, text, rounds):
@@ -87,13 +73,12 @@ def main():
     edits = int(sys.argv[5]) if len(sys.argv) > 5 else 200_000
     table = {}
     for count in sizes:
-        texts = {linked: module(count, linked).encode() + b"// -----\n" for linked in (False, True)}
+        text = module(count).encode() + b"// -----\n"
         for kept in (0, 2, 6):
-            detached = "".join(f"detach {kind}\n" for kind in KINDS[kept:]).encode()
-            bases = {linked: seconds(program, text + detached + b"set-operand #3 0 %v2.0\n" * 10, rounds)[0] for linked, text in texts.items()}
-            for title, lines, linked in scripts(count, edits):
-                base = bases[linked]
-                taken, wrote = seconds(program, texts[linked] + detached + ("\n".join(lines) + "\n").encode(), rounds)
+            begins = text + "".join(f"detach {kind}\n" for kind in KINDS[kept:]).encode()
+            base, _ = seconds(program, begins + b"set-operand #3 0 %v2.0\n" * 10, rounds)
+            for title, lines in scripts(count, edits):
+                taken, wrote = seconds(program, begins + ("\n".join(lines) + "\n").encode(), rounds)
                 refusals = wrote.count(b" refused ")
                 cell = f"{(taken - base) / (len(lines) - 10) * 1e6:.2f}" + (f" ({refusals} refused)" if refusals else "")
                 table.setdefault((title, kept), []).append(cell)
@@ -101,7 +86,7 @@ def main():
         if tool:
             words = [tool, "--allow-unregistered-dialect", "--mlir-print-op-generic"]
             start, _ = seconds(words, b"", 3)
-            taken, _ = seconds(words, module(count, False).encode(), 1)
+            taken, _ = seconds(words, module(count).encode(), 1)
             table.setdefault(("mlir-opt, one run, its start taken off", ""), []).append(f"{(taken - start) * 1e6:,.0f}")
     print("| A command | Listeners | " + " | ".join(f"{size:,}" for size in sizes) + " |")
     print("|---" * (len(sizes) + 2) + "|")
