@@ -1,7 +1,7 @@
 #!/usr/bin/env python3
 """Times the commands of a script through a built program, listings off: microseconds of processor time for one command, what reading and
 replying to it takes included, at modules of 1,000 to 1,000,000 operations, with no listener, two (uses and diagnostics) and all six. Each figure is the time
-of a script of 200,000 commands less that of one of ten over the same module, the least of some rounds of each: reading a module of a million operations
+of a script of 200,000 commands (500,000 at a million operations) less that of one of ten over the same module, the least of some rounds of each: reading a module of a million operations
 takes seconds, and what it takes from run to run differs by more than 10,000 commands do. Beside it one run of mlir-opt, which is what an edit by
 a pass costs a user who runs the tool for it.
 
@@ -76,8 +76,8 @@ def main():
         text = module(count).encode() + b"// -----\n"
         for kept in (0, 2, 6):
             begins = text + "".join(f"detach {kind}\n" for kind in KINDS[kept:]).encode()
-            base, _ = seconds(program, begins + b"set-operand #3 0 %v2.0\n" * 10, rounds)
-            for title, lines in scripts(count, edits):
+            base, _ = seconds(program, begins + b"set-operand #3 0 %v2.0\n" * 10, 2 * rounds)
+            for title, lines in scripts(count, max(edits, count // 2)):
                 taken, wrote = seconds(program, begins + ("\n".join(lines) + "\n").encode(), rounds)
                 refusals = wrote.count(b" refused ")
                 cell = f"{(taken - base) / (len(lines) - 10) * 1e6:.2f}" + (f" ({refusals} refused)" if refusals else "")

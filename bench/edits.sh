@@ -2,7 +2,8 @@
 # Edits of modules of 1,000 to 1,000,000 operations, without listeners, with two and with all six: nanoseconds of each
 # kind of call, the least of some rounds of 10,000 calls on operations spread over the module. Then each listener alone,
 # a chain of 1,000 known values whose first operand is set, and the bytes that trees, modules and listeners take for an
-# operation. Run at the top of the repository:
+# operation. Last, the commands of a script through the program, beside a run of mlir-opt where MLIR_OPT names one
+# (`bench/commands.py`). Run at the top of the repository:
 #
 #     bench/edits.sh [ROUNDS]
 #
@@ -75,4 +76,8 @@ for shape in block functions; do
         echo "| $shape, $count | $(((tree - none) / count)) | $(((module - tree) / count)) | $(((told - module) / count)) | $(((all - module) / count)) |"
     done
 done
+cut -d ' ' -f 1-3 /proc/loadavg | sed 's/^/load: /'
+cd ../..
+[ -x crates/mlir_work/out/mlir_work ] || ./run < /dev/null > /dev/null || true
+python3 bench/commands.py crates/mlir_work/out/mlir_work "${MLIR_OPT:--}" 2> /dev/null
 cut -d ' ' -f 1-3 /proc/loadavg | sed 's/^/load: /'
