@@ -1,17 +1,24 @@
 #!/usr/bin/env python3
-"""Times the commands of a script through a built program, listings off: microseconds of processor time for one command, what reading and
-replying to it takes included, at modules of 1,000 to 1,000,000 operations, with no listener, two (uses and diagnostics) and all six. Each figure is the time
-of a script of 200,000 commands (500,000 at a million operations) less that of one of ten over the same module, the least of some rounds of each: reading a module of a million operations
-takes seconds, and what it takes from run to run differs by more than 10,000 commands do. Beside it one run of mlir-opt, which is what an edit by
-a pass costs a user who runs the tool for it.
+"""Times the commands of a script through a built program, listings off: microseconds of processor time for one command, what
+reading and replying to it takes included, at modules of 1,000 to 1,000,000 operations, with no listener, two (uses and
+diagnostics) and all six.
+
+Replies are written part by part. The program's processor time is taken before each part (bench/marks.c stands before the C
+library), and a figure is the time between the first part behind the module's own lines and the last full one, for each
+reply between them: so reading the module, which takes seconds at a million operations, isn't in it. The least of some rounds
+of scripts of 10,000 commands. The program has pages of two megabytes, as ./run gives them, unless GLIBC_TUNABLES says
+otherwise. Beside it one run of mlir-opt, which is what an edit by a pass costs a user who runs the tool for it.
 
 usage: bench/commands.py PROGRAM [MLIR_OPT [SIZES [ROUNDS [COMMANDS]]]]"""
 import os
+import pathlib
 import subprocess
 import sys
 import tempfile
 
 KINDS = ("uses", "diagnostics", "symbols", "effects", "dead", "constants")
+PAGES = {"GLIBC_TUNABLES": "glibc.malloc.hugetlb=1"}
+MARKS = pathlib.Path(__file__).with_name("marks.c")
 
 
 def module(count):
@@ -49,45 +56,64 @@ def scripts(count, edits):
         yield f"begin, {many} edits, rollback", lines
 
 
-def seconds(program, text, rounds):
-    """The least processor time of some runs, and what the last wrote."""
+def run(words, text, more):
+    """What a run on a text used of processor time, in seconds, what it wrote, and what it told of each part of that."""
+    with tempfile.TemporaryFile() as given, tempfile.TemporaryFile() as taken, tempfile.TemporaryFile() as told:
+        given.write(text)
+        given.seek(0)
+        with_marks = {**PAGES, **os.environ, **more, "MARKS_TELL": str(told.fileno())}
+        ran = subprocess.Popen(
+            words, stdin=given, stdout=taken, stderr=subprocess.DEVNULL, env=with_marks, pass_fds=[told.fileno()]
+        )
+        used = os.wait4(ran.pid, 0)[2]
+        taken.seek(0)
+        told.seek(0)
+        marks = [[int(it) for it in line.split()] for line in told]
+        return used.ru_utime + used.ru_stime, taken.read(), marks
+
+
+def command_cost(words, text, skipped, rounds, library):
+    """The least microseconds of one command, and how many commands were refused."""
     least, wrote = None, b""
     for _ in range(rounds):
-        with tempfile.TemporaryFile() as given, tempfile.TemporaryFile() as taken:
-            given.write(text)
-            given.seek(0)
-            ran = subprocess.Popen(program, stdin=given, stdout=taken, stderr=subprocess.DEVNULL)
-            used = os.wait4(ran.pid, 0)[2]
-            spent = used.ru_utime + used.ru_stime
-            least = spent if least is None else min(least, spent)
-            taken.seek(0)
-            wrote = taken.read()
-    return least, wrote
+        _, wrote, marks = run(words, text, {"LD_PRELOAD": library})
+        full = [mark for mark in marks if mark[0] > skipped]
+        (first, begun), (last, ended) = full[0], full[-1]
+        cost = (ended - begun) / (last - first) / 1000
+        least = cost if least is None else min(least, cost)
+    return least, wrote.count(b" refused ")
+
+
+def tool_cost(tool, count):
+    """The microseconds of one run of mlir-opt over the module, its start taken off."""
+    words = [tool, "--allow-unregistered-dialect", "--mlir-print-op-generic"]
+    start = min(run(words, b"", {})[0] for _ in range(3))
+    return (run(words, module(count).encode(), {})[0] - start) * 1e6
 
 
 def main():
     program = [sys.argv[1], "--brief"]
     tool = sys.argv[2] if len(sys.argv) > 2 and sys.argv[2] != "-" else None
     sizes = [int(size) for size in (sys.argv[3] if len(sys.argv) > 3 else "1000,10000,100000,1000000").split(",")]
-    rounds = int(sys.argv[4]) if len(sys.argv) > 4 else 3
-    edits = int(sys.argv[5]) if len(sys.argv) > 5 else 200_000
+    rounds = int(sys.argv[4]) if len(sys.argv) > 4 else 5
+    edits = int(sys.argv[5]) if len(sys.argv) > 5 else 10_000
     table = {}
-    for count in sizes:
-        text = module(count).encode() + b"// -----\n"
-        for kept in (0, 2, 6):
-            begins = text + "".join(f"detach {kind}\n" for kind in KINDS[kept:]).encode()
-            base, _ = seconds(program, begins + b"set-operand #3 0 %v2.0\n" * 10, 2 * rounds)
-            for title, lines in scripts(count, max(edits, count // 2)):
-                taken, wrote = seconds(program, begins + ("\n".join(lines) + "\n").encode(), rounds)
-                refusals = wrote.count(b" refused ")
-                cell = f"{(taken - base) / (len(lines) - 10) * 1e6:.2f}" + (f" ({refusals} refused)" if refusals else "")
-                table.setdefault((title, kept), []).append(cell)
-                print(f"{count:9,} {kept} {title}: {cell}", file=sys.stderr, flush=True)
-        if tool:
-            words = [tool, "--allow-unregistered-dialect", "--mlir-print-op-generic"]
-            start, _ = seconds(words, b"", 3)
-            taken, _ = seconds(words, module(count).encode(), 1)
-            table.setdefault(("mlir-opt, one run, its start taken off", ""), []).append(f"{(taken - start) * 1e6:,.0f}")
+    with tempfile.TemporaryDirectory() as folder:
+        library = f"{folder}/marks.so"
+        subprocess.run(["cc", "-O2", "-shared", "-fPIC", str(MARKS), "-o", library], check=True)
+        for count in sizes:
+            text = module(count).encode() + b"// -----\n"
+            for kept in (0, 2, 6):
+                begins = text + "".join(f"detach {kind}\n" for kind in KINDS[kept:]).encode()
+                for title, lines in scripts(count, edits):
+                    script = begins + ("\n".join(lines) + "\n").encode()
+                    cost, refusals = command_cost(program, script, len(KINDS) - kept, rounds, library)
+                    cell = f"{cost:.2f}" + (f" ({refusals} refused)" if refusals else "")
+                    table.setdefault((title, kept), []).append(cell)
+                    print(f"{count:9,} {kept} {title}: {cell}", file=sys.stderr, flush=True)
+            if tool:
+                title = ("mlir-opt, one run, its start taken off", "")
+                table.setdefault(title, []).append(f"{tool_cost(tool, count):,.0f}")
     print("| A command | Listeners | " + " | ".join(f"{size:,}" for size in sizes) + " |")
     print("|---" * (len(sizes) + 2) + "|")
     for (title, kept), cells in table.items():

@@ -118,7 +118,7 @@ module _ (a : Inside) (r : IsRight a) (x k j : ℕ) (v : Value) (e : Some k ≡ 
   pub write_inside : k < length a.rows.items
   write_inside = omega (arith, here.inside, length-map a.rows.items row_of)
 
-  pub operands_of : (n : Kept) → n ≡ get_or a.rows.items k n → (row_at (rows_in a) k).head.operands ≡ n.operands.items
+  pub operands_of : (n : Kept) → n ≡ get_or a.rows.items k n → (row_at (rows_in a) k).head.operands ≡ n.contents.operands
   operands_of n en = ap (λ z. z.head.operands) (read_row a.rows.items k n write_inside en)
 
   module _ (n : Kept) (en : n ≡ get_or a.rows.items k n) (m : Kept) (em : row_of m ≡ row_with_operand j v (row_of n)) where

@@ -72,7 +72,7 @@ fn find_block(rows: &Vec<Row>, keys: &Keys, op: OpId, region: u32) -> Option<usi
 {
     let key = find(rows, keys, op)?;
     let row = rows.get(key)?;
-    block_head(&row.areas, region as usize)
+    block_head(row.contents.areas(), region as usize)
 }
 
 /// The operation in a slot, if one is given.

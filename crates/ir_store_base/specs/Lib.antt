@@ -1,6 +1,8 @@
 pub mod Nodes
 pub mod Stored
 pub mod Emptied
+pub mod Shapes
+pub mod Contents
 pub mod Rows
 pub mod Spells
 pub mod Right

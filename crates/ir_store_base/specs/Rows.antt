@@ -5,17 +5,9 @@ use Rattle.ir_store_base.specs.Stored.{Gone, none_gone}
 use Rattle.ir_store_base.specs.Nodes.{Node}
 use Rattle.ir_tree.specs.declared.value.Value.{Value}
 use Rattle.ir_tree.specs.Edits.{put_operand}
+use Rattle.ir_store_base.specs.Contents.{Contents}
 use Rattle.ir_store_base.specs.declared.row.Row.{Row as Kept}
-use Rattle.ir_store_base.specs.declared.row.Area.{Area}
-use Rattle.ir_store_base.specs.declared.row.Area.TheVariants.{Empty, Block}
-
--- a region's arguments, and the head of the list of its operations
-abbrev pub Shape : Type 0
-Shape = Option (List ℕ × ℕ)
-
-abbrev pub shape_of : Area → Shape
-shape_of Empty = None
-shape_of (Block args node) = Some (args.items, node)
+pub use Rattle.ir_store_base.specs.Shapes.{Shape, shape_of}
 
 pub record Row : Type 0 where
   pub used : Bool
@@ -36,13 +28,17 @@ no_head = record { id = 0; name = 0; operands = []; results = []; properties = [
 abbrev pub no_row : Row
 no_row = record { used = false; live = false; head = no_head; gone = none_gone; shapes = []; owner = 0; region = 0; uses = 0; values = 0 }
 
+-- the head of an operation with these contents
+abbrev pub kept_head : ℕ → ℕ → Contents → Head
+kept_head id name c = record { id = id; name = name; operands = c.operands; results = c.results; properties = c.properties.present; attributes = c.attributes.present }
+
 abbrev pub row_of : Kept → Row
 row_of n = record {
   used = n.used;
   live = n.live;
-  head = record { id = n.id; name = n.name; operands = n.operands.items; results = n.results.items; properties = n.props.present; attributes = n.attrs.present };
-  gone = record { properties = n.props.gone; attributes = n.attrs.gone };
-  shapes = map shape_of n.areas.items;
+  head = kept_head n.id n.name n.contents;
+  gone = record { properties = n.contents.properties.gone; attributes = n.contents.attributes.gone };
+  shapes = n.contents.shapes;
   owner = n.owner;
   region = n.region;
   uses = n.uses;

@@ -1,10 +1,11 @@
 //! Entries of dictionaries, set and taken out.
-ghost use Rattle.std.specs.Prelude.{◌≡◌, true, None, OnOk, OnErr, Some, is_some};
+ghost use Rattle.std.specs.Prelude.{◌≡◌, true, None, OnOk, OnErr, Some, is_some, MatchOption};
 ghost use Rattle.std.specs.FinMap as finmap;
 ghost use Rattle.ir_tree.specs.Edits.{entry_at, part_of as the_part};
 ghost use Rattle.ir_tree.specs.Meaning.{key_before_in, rises};
 ghost use Rattle.ir_tree_laws.specs.Reasons.{entry_reason};
-ghost use Rattle.entries.specs.Slots.{has_key, has_slot as is_slot, with_change};
+ghost use Rattle.entries.specs.Slots.{has_key, has_slot as is_slot};
+ghost use Rattle.ir_store_base.specs.Contents.{no_slots};
 ghost use Rattle.ir_store_base.specs.Rows.{row_of, rows_of, row_at, live_slot};
 ghost use Rattle.ir_store_base.specs.Entered.{slots_in, row_with_entry, entry_in};
 
@@ -19,13 +20,10 @@ use ir_types::refusal::Refusal;
 use std::alloc::AllocError;
 
 /// One dictionary of a row.
-fn dictionary(row: &Row, part: Part) -> &Dictionary
-    ensures { result.now ≡ slots_in part (row_of row.now) }
+fn dictionary(row: &Row, part: Part) -> Option<&Dictionary>
+    ensures { MatchOption result (slots_in part (row_of row.now) ≡ no_slots) (λ d. d.now ≡ slots_in part (row_of row.now)) }
 {
-    match part {
-        Part::Props => &row.props,
-        Part::Attrs => &row.attrs,
-    }
+    row.contents.dictionary(part)
 }
 
 /// Whether there is a slot for a key in one dictionary of a row.
@@ -34,7 +32,17 @@ pub fn has_slot_at(rows: &Vec<Row>, at: usize, part: Part, key: NameId) -> bool
 {
     match rows.get(at) {
         None => false,
-        Some(row) => dictionary(row, part).has_slot(key),
+        Some(row) => row_has_slot(row, part, key),
+    }
+}
+
+/// The same of a row.
+fn row_has_slot(row: &Row, part: Part, key: NameId) -> bool
+    ensures { result ≡ is_slot key (slots_in part (row_of row.now)) }
+{
+    match dictionary(row, part) {
+        None => false,
+        Some(entries) => entries.has_slot(key),
     }
 }
 
@@ -66,6 +74,25 @@ fn entry_fault(
     }
 }
 
+/// The same of one dictionary of a row.
+fn row_fault(
+    ctx: &Context,
+    row: &Row,
+    part: Part,
+    key: NameId,
+    value: &Option<AttrId>,
+) -> Option<Refusal>
+    ensures { result ≡ entry_reason (key_before_in ctx.now) key value.now (slots_in part (row_of row.now)).present }
+{
+    match dictionary(row, part) {
+        Some(entries) => entry_fault(ctx, entries, key, value),
+        None => match value {
+            None => Some(Refusal::NoSuchKey),
+            Some(_) => None,
+        },
+    }
+}
+
 /// The slot of an operation of the module of which a key of one dictionary can be set, or taken out.
 pub fn find_entry(
     ctx: &Context,
@@ -84,33 +111,13 @@ pub fn find_entry(
     let Some(row) = rows.get(at) else {
         return Err(Refusal::NoSuchOp);
     };
-    match entry_fault(ctx, dictionary(row, part), key, value) {
+    match row_fault(ctx, row, part, key, value) {
         None => Ok(at),
         Some(refusal) => Err(refusal),
     }
 }
 
-/// Sets a key of a dictionary to an attribute, or takes it out.
-fn change(
-    ctx: &Context,
-    entries: &mut Dictionary,
-    key: NameId,
-    value: Option<AttrId>,
-) -> Result<(), AllocError>
-    requires { value ≡ None → is_some (entry_at (key_before_in ctx.now) key entries.old.present) ≡ true }
-    ensures ok { OnOk result (entries.new ≡ with_change (key_before_in ctx.now) key value entries.old) }
-    ensures err { OnErr result (entries.new ≡ entries.old) }
-{
-    match value {
-        None => {
-            entries.take_out(ctx, key);
-            Ok(())
-        }
-        Some(attr) => entries.set(ctx, key, attr),
-    }
-}
-
-/// The same in one dictionary of a row.
+/// Sets a key of one dictionary of a row to an attribute, or takes it out.
 pub fn change_row(
     ctx: &Context,
     row: &mut Row,
@@ -122,10 +129,7 @@ pub fn change_row(
     ensures ok { OnOk result (row_of row.new ≡ row_with_entry (key_before_in ctx.now) part key value (row_of row.old)) }
     ensures err { OnErr result (row_of row.new ≡ row_of row.old) }
 {
-    match part {
-        Part::Props => change(ctx, &mut row.props, key, value),
-        Part::Attrs => change(ctx, &mut row.attrs, key, value),
-    }
+    row.contents.change(ctx, part, key, value)
 }
 
 /// Sets a key that has a slot in one dictionary of a row, or takes it out.
@@ -135,8 +139,5 @@ pub fn revert_row(ctx: &Context, row: &mut Row, part: Part, key: NameId, value: 
     requires entry { value ≡ None → has_key key (slots_in part (row_of row.old)).present ≡ true }
     ensures { row_of row.new ≡ row_with_entry (key_before_in ctx.now) part key value (row_of row.old) }
 {
-    match part {
-        Part::Props => row.props.revert(ctx, key, value),
-        Part::Attrs => row.attrs.revert(ctx, key, value),
-    }
+    row.contents.revert(ctx, part, key, value);
 }

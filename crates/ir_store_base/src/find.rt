@@ -68,7 +68,7 @@ pub fn find_leaf(
     let Some(row) = rows.get(key) else {
         return Err(Refusal::NoSuchOp);
     };
-    if is_bare(&row.areas, sibs) {
+    if is_bare(row.contents.areas(), sibs) {
         Ok(key)
     } else {
         Err(Refusal::NotEmpty)
@@ -95,6 +95,6 @@ fn operand_count(rows: &Vec<Row>, key: usize) -> usize
 {
     match rows.get(key) {
         None => 0,
-        Some(row) => row.operands.len(),
+        Some(row) => row.contents.operands().len(),
     }
 }

@@ -9,9 +9,9 @@ ghost use Rattle.ir_store_base.specs.Emptied.{emptied_region};
 ghost use Rattle.chains.specs.Lists.{free};
 ghost use Rattle.std.specs.Prelude.{if◌then◌else◌};
 
+use crate::contents::Contents;
 use crate::row::{Area, Cell, Row, push_row};
 use chains::Chains;
-use entries::Dictionary;
 use ir_tree::tree::{TreeOp, TreeRegion};
 use ir_tree::value::Value;
 use ir_types::ids::{NameId, OpId, TypeId};
@@ -19,7 +19,7 @@ use order::Ordered;
 use std::alloc::{AllocError, Global};
 
 /// A row that holds nothing: a block's head has an owner, and the number of its region.
-fn spare_row(alloc: Global, owner: u32, region: u32, values: usize) -> Row
+fn spare_row(owner: u32, region: u32, values: usize) -> Row
     ensures { row_of result ≡ row_spare owner region values }
 {
     Row {
@@ -27,16 +27,12 @@ fn spare_row(alloc: Global, owner: u32, region: u32, values: usize) -> Row
         live: false,
         id: OpId::new(0),
         name: NameId::new(0),
-        operands: Vec::new(alloc),
-        results: Vec::new(alloc),
-        props: Dictionary::new(alloc),
-        attrs: Dictionary::new(alloc),
-        areas: Vec::new(alloc),
         owner,
         spare: 0,
         region,
         uses: 0,
         values,
+        contents: Contents::none(),
     }
 }
 
@@ -196,14 +192,13 @@ fn add_area(
                 Ok(args) => args,
                 Err(e) => return Err(e),
             };
-            add_block(alloc, rows, sibs, uses, cells, owner, number, args)
+            add_block(rows, sibs, uses, cells, owner, number, args)
         }
     }
 }
 
 /// A block of a slot, with no operation in it.
 fn add_block(
-    alloc: Global,
     rows: &mut Vec<Row>,
     sibs: &mut Ordered,
     uses: &mut Chains,
@@ -224,7 +219,7 @@ fn add_block(
         Ok(values) => values,
         Err(e) => return Err(e),
     };
-    match add_slot(rows, sibs, spare_row(alloc, owner, number, values), true) {
+    match add_slot(rows, sibs, spare_row(owner, number, values), true) {
         Ok(()) => Ok(Area::Block { args, head }),
         Err(e) => Err(e),
     }
@@ -282,16 +277,12 @@ pub fn held_row(
         live: false,
         id: op,
         name: header.name,
-        operands: Vec::from_slice(alloc, &header.operands)?,
-        results: Vec::from_slice(alloc, &header.results)?,
-        props: Dictionary::from_slice(alloc, &header.props)?,
-        attrs: Dictionary::from_slice(alloc, &header.attrs)?,
-        areas,
         owner: 0,
         spare: 0,
         region: 0,
         uses,
         values,
+        contents: Contents::new(alloc, header, areas)?,
     })
 }
 
@@ -311,7 +302,7 @@ pub fn grow_slot(
 {
     sibs.laws();
     let slot = row_count(rows);
-    match add_slot(rows, sibs, spare_row(alloc, 0, 0, 0), false) {
+    match add_slot(rows, sibs, spare_row(0, 0, 0), false) {
         Ok(()) => {}
         Err(e) => return Err(e),
     }

@@ -46,7 +46,7 @@ fn mark_of(row: &Row) -> Option<usize>
     if !row.live {
         return if row.used { Some(0) } else { None };
     }
-    if row.props.has_gone() || row.attrs.has_gone() {
+    if row.contents.has_gone() {
         Some(1)
     } else {
         None

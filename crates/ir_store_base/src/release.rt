@@ -97,8 +97,7 @@ fn drop_keys(row: &mut Row)
     requires { row.old.live ≡ true }
     ensures { row_of row.new ≡ forgetting (row_of row.old) }
 {
-    row.props.drop_gone();
-    row.attrs.drop_gone();
+    row.contents.drop_gone();
 }
 
 /// The same of each operation of the module.

@@ -2,7 +2,7 @@
 ghost use Rattle.std.specs.Prelude.{◌≡◌, ◌<◌, ◌++◌, ◌∷◌, [], OnOk, OnErr, length, slice_set};
 ghost use Rattle.ir_store_base.specs.Rows.{row_of, rows_of, row_with_operand};
 
-use entries::Dictionary;
+use crate::contents::Contents;
 use ir_tree::value::Value;
 use ir_types::ids::{NameId, OpId, TypeId};
 use std::alloc::AllocError;
@@ -18,13 +18,6 @@ pub struct Row {
     pub name: NameId,
     /// Of a block's head: the number of the region.
     pub region: u32,
-    pub operands: Vec<Value>,
-    pub results: Vec<TypeId>,
-    /// The properties, and the slots of those that were taken out.
-    pub props: Dictionary,
-    /// The discardable attributes, in the same way.
-    pub attrs: Dictionary,
-    pub areas: Vec<Area>,
     /// Of a block's head: the slot of the operation around it.
     pub owner: u32,
     /// Of a slot that was given up: the one that was given up before it.
@@ -33,6 +26,8 @@ pub struct Row {
     pub uses: usize,
     /// The head of the uses of the first result, or of a block's first argument; the others' heads come after it.
     pub values: usize,
+    /// What an operation has: a block's head has nothing.
+    pub contents: Contents,
 }
 
 /// A node among the uses of values: the slot of the operation, and the place of the operand.
@@ -51,10 +46,10 @@ pub enum Area {
 
 /// Makes a value an operand.
 pub fn put_operand(row: &mut Row, place: usize, value: Value)
-    requires { place < length row.old.operands.items }
+    requires { place < length (row_of row.old).head.operands }
     ensures { row_of row.new ≡ row_with_operand place value (row_of row.old) }
 {
-    row.operands[place] = value;
+    row.contents.put_operand(place, value);
 }
 
 /// One more row.

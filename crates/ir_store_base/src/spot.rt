@@ -47,7 +47,7 @@ pub fn find_spot(
 {
     let parent = find(rows, keys, place.parent)?;
     let row = rows.get(parent)?;
-    let head = block_head(&row.areas, place.region as usize)?;
+    let head = block_head(row.contents.areas(), place.region as usize)?;
     match place.before {
         None => Some((head, None)),
         Some(before) => {

@@ -77,7 +77,8 @@ pub fn is_idle(uses: &Chains, rows: &Vec<Row>, key: usize) -> bool
     match rows.get(key) {
         None => true,
         Some(row) => {
-            all_idle(uses, row.values, row.results.len()) && args_idle(uses, rows, &row.areas)
+            all_idle(uses, row.values, row.contents.results().len())
+                && args_idle(uses, rows, row.contents.areas())
         }
     }
 }
@@ -101,7 +102,8 @@ fn result_head(row: &Row, place: usize) -> Option<usize>
     requires { (h : ℕ) → result_head place (row_of row.now) ≡ Some h → h < free }
     ensures { result ≡ result_head place (row_of row.now) }
 {
-    if place < row.results.len() {
+    let count = row.contents.results().len();
+    if place < count {
         Some(row.values + place)
     } else {
         None
@@ -135,7 +137,11 @@ pub fn slot_head(rows: &Vec<Row>, key: usize, value: &Value) -> Option<usize>
     match value {
         Value::Result(_, place) => result_head(row, *place as usize),
         Value::Arg(_, region, place) => {
-            argument_head(rows, row.areas.get(*region as usize)?, *place as usize)
+            argument_head(
+                rows,
+                row.contents.areas().get(*region as usize)?,
+                *place as usize,
+            )
         }
     }
 }
@@ -182,7 +188,7 @@ pub fn use_run(rows: &Vec<Row>, key: usize) -> (usize, usize)
 {
     match rows.get(key) {
         None => (0, 0),
-        Some(row) => (row.uses, row.operands.len()),
+        Some(row) => (row.uses, row.contents.operands().len()),
     }
 }
 
@@ -259,7 +265,7 @@ pub fn lead_row(uses: &mut Chains, rows: &Vec<Row>, keys: &Keys, key: usize)
 {
     match rows.get(key) {
         None => {}
-        Some(row) => lead_uses(uses, rows, keys, row.uses, &row.operands),
+        Some(row) => lead_uses(uses, rows, keys, row.uses, row.contents.operands()),
     }
 }
 
@@ -315,8 +321,11 @@ pub fn live_type(rows: &Vec<Row>, keys: &Keys, value: &Value) -> Option<TypeId>
     let key = find(rows, keys, owner(value))?;
     let row = rows.get(key)?;
     match value {
-        Value::Result(_, place) => row.results.get(*place as usize).copied(),
-        Value::Arg(_, region, place) => arg_type(row.areas.get(*region as usize)?, *place as usize),
+        Value::Result(_, place) => row.contents.results().get(*place as usize).copied(),
+        Value::Arg(_, region, place) => arg_type(
+            row.contents.areas().get(*region as usize)?,
+            *place as usize,
+        ),
     }
 }
 

@@ -9,6 +9,7 @@ ghost use Rattle.ir_store_base.specs.Right.{Live};
 ghost use Rattle.ir_store_base.specs.Spells.{SpellsOp, SpellsRegions, SpellsRegion};
 
 use ir_store_base::row::{Area, Row};
+use ir_tree::place::Part;
 use ir_tree::tree::{TreeOp, TreeRegion};
 use order::Ordered;
 use std::alloc::{AllocError, Global};
@@ -31,7 +32,7 @@ pub fn copy_op(
     if levels == 0 || !row.live {
         return Err(AllocError);
     }
-    let regions = copy_regions(alloc, rows, sibs, &row.areas, levels - 1)?;
+    let regions = copy_regions(alloc, rows, sibs, row.contents.areas(), levels - 1)?;
     tree_of(alloc, row, regions)
 }
 
@@ -49,10 +50,10 @@ fn tree_of(alloc: Global, row: &Row, regions: Vec<TreeRegion>) -> Result<TreeOp,
     Ok(TreeOp {
         id: row.id,
         name: row.name,
-        operands: Vec::from_slice(alloc, &row.operands)?,
-        results: Vec::from_slice(alloc, &row.results)?,
-        props: Vec::from_slice(alloc, row.props.as_slice())?,
-        attrs: Vec::from_slice(alloc, row.attrs.as_slice())?,
+        operands: Vec::from_slice(alloc, row.contents.operands())?,
+        results: Vec::from_slice(alloc, row.contents.results())?,
+        props: Vec::from_slice(alloc, row.contents.entries(Part::Props))?,
+        attrs: Vec::from_slice(alloc, row.contents.entries(Part::Attrs))?,
         regions,
     })
 }

@@ -23,7 +23,7 @@ pub fn op_fits(rows: &Vec<Row>, sibs: &Ordered, key: usize, room: u32) -> bool
     if room == 0 || !row.live {
         return false;
     }
-    areas_fit(rows, sibs, &row.areas, room - 1)
+    areas_fit(rows, sibs, row.contents.areas(), room - 1)
 }
 
 /// Whether each operation in some regions has fewer levels inside it than there is room for.

@@ -3,6 +3,7 @@ ghost use Rattle.std.specs.Prelude.{◌≡◌, length, map, slice_get, option_ma
 ghost use Rattle.ir_store_base.specs.Rows.{row_of, node_row, shape_of, shape_arguments};
 
 use ir_store_base::row::{Area, Row};
+use ir_tree::place::Part;
 use ir_tree::value::Value;
 use ir_types::ids::{AttrId, NameId, TypeId};
 use std::marker::Model;
@@ -45,7 +46,7 @@ impl<'a> Node<'a> {
         ensures { result.now ≡ self.now.head.operands }
     {
         let row = self.row;
-        &row.operands
+        row.contents.operands()
     }
 
     /// The types of its results, in order.
@@ -53,7 +54,7 @@ impl<'a> Node<'a> {
         ensures { result.now ≡ self.now.head.results }
     {
         let row = self.row;
-        &row.results
+        row.contents.results()
     }
 
     /// Its properties, in the order of their keys.
@@ -61,7 +62,7 @@ impl<'a> Node<'a> {
         ensures { result.now ≡ self.now.head.properties }
     {
         let row = self.row;
-        row.props.as_slice()
+        row.contents.entries(Part::Props)
     }
 
     /// Its discardable attributes, in the order of their keys.
@@ -69,7 +70,7 @@ impl<'a> Node<'a> {
         ensures { result.now ≡ self.now.head.attributes }
     {
         let row = self.row;
-        row.attrs.as_slice()
+        row.contents.entries(Part::Attrs)
     }
 
     /// How many regions it has.
@@ -77,7 +78,7 @@ impl<'a> Node<'a> {
         ensures { result ≡ length self.now.arguments }
     {
         let row = self.row;
-        row.areas.len()
+        row.contents.areas().len()
     }
 
     /// The types of the arguments of the block of a region, or none where it has no such region, or the
@@ -86,7 +87,7 @@ impl<'a> Node<'a> {
         ensures { option_map (λ a. a.now) result ≡ option_and_then (λ a. a) (slice_get self.now.arguments region) }
     {
         let row = self.row;
-        block_arguments(&row.areas, region as usize)
+        block_arguments(row.contents.areas(), region as usize)
     }
 }
 

@@ -235,10 +235,12 @@ fn row_fits(
     if row.used || row.live || !is_out(sibs, slot) {
         return false;
     }
-    if row.operands.len() != header.operands.len() || row.results.len() != header.results.len() {
+    if row.contents.operands().len() != header.operands.len()
+        || row.contents.results().len() != header.results.len()
+    {
         return false;
     }
-    if row.areas.len() != header.regions.len() {
+    if row.contents.areas().len() != header.regions.len() {
         return false;
     }
     if !has_heads(uses, cells, slot, row.values, header.results.len()) {
@@ -273,7 +275,7 @@ fn fit_row(
         uses,
         cells,
         slot,
-        &row.areas,
+        row.contents.areas(),
         &header.regions,
     );
     let areas = match fitted {

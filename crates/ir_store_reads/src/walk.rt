@@ -32,7 +32,7 @@ pub fn push_op(
         return Err(AllocError);
     }
     out.push(row.id)?;
-    push_areas(rows, sibs, &row.areas, levels - 1, out)
+    push_areas(rows, sibs, row.contents.areas(), levels - 1, out)
 }
 
 /// The row of a slot.
@@ -113,7 +113,7 @@ pub fn last_slot(rows: &Vec<Row>, sibs: &Ordered, key: usize) -> Option<usize>
 {
     match rows.get(key) {
         None => None,
-        Some(row) => last_listed(sibs, &row.areas),
+        Some(row) => last_listed(sibs, row.contents.areas()),
     }
 }
 

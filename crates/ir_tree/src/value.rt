@@ -10,3 +10,10 @@ pub enum Value {
     /// The argument, at a place, of the block of a region of an operation.
     Arg(OpId, u32, u32),
 }
+
+impl Default for Value {
+    /// The value that stands in places of lists that hold none.
+    fn default() -> Value {
+        Value::Result(OpId::new(0), 0)
+    }
+}

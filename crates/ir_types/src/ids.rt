@@ -59,8 +59,8 @@ impl NameId {
     }
 }
 
-/// The number of a type.
-#[derive(Clone, Copy, Debug, PartialEq, Eq, PartialOrd, Ord, Hash)]
+/// The number of a type. The default one stands in places of lists that hold none.
+#[derive(Clone, Copy, Debug, Default, PartialEq, Eq, PartialOrd, Ord, Hash)]
 pub struct TypeId(u32);
 
 impl Model for TypeId {

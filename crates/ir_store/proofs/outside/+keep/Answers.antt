@@ -59,12 +59,12 @@ op_keeps-lists_keep-requires-clause-heads t c =
     let items = c.args.rows.now.items in
     let e = read_row items c.args.key c.in-Some.row.now (subst (λ z. c.args.key < length z) c.deref.ensures.value c.in-Some.ensures.lookup.3.0) (c.in-Some.ensures.lookup.1 ∙ ap (λ z. get_or z c.args.key c.in-Some.row.now) c.deref.ensures.value) in
     let live : Live (rows_of items) c.args.key = record { live = ap (λ z. z.live) e ∙ c.if-not-row.false } in
-    let many : c.len.result ≡ length c.in-Some.row.now.results.items = search (rules, arith) in
+    let many : length c.results.result.now ≡ length c.in-Some.row.now.contents.results = ap length c.results.ensures in
     subst (λ n. AreHeads c.in-Some.row.now.values n c.args.uses.now.homes) (sym many) (subst (λ z. AreHeads z.values (length z.head.results) c.args.uses.now.homes) e (c.requires.values c.args.key live).results)
 
 pub op_keeps-returns-then-not-lists_keep : goal.op_keeps-returns-then-not-lists_keep
 op_keeps-returns-then-not-lists_keep t c =
-    let many : c.len.result ≡ length c.in-Some.row.now.results.items = search (rules, arith) in
+    let many : length c.results.result.now ≡ length c.in-Some.row.now.contents.results = ap length c.results.ensures in
     let items = c.args.rows.now.items in
     let e = read_row items c.args.key c.in-Some.row.now (subst (λ z. c.args.key < length z) c.deref.ensures.value c.in-Some.ensures.lookup.3.0) (c.in-Some.ensures.lookup.1 ∙ ap (λ z. get_or z c.args.key c.in-Some.row.now) c.deref.ensures.value) in
     let f = lists_pass c.args.uses.now.lists (λ u. not (leaves_use (rows_of items) (cells_of c.args.cells.now.items) c.args.op c.args.store.now.module_of.tree u)) in
@@ -76,17 +76,17 @@ op_keeps-areas_keep-requires t c =
     let homes = c.args.uses.now.homes in
     let e = read_row items c.args.key c.in-Some.row.now (subst (λ z. c.args.key < length z) c.deref.ensures.value c.in-Some.ensures.lookup.3.0) (c.in-Some.ensures.lookup.1 ∙ ap (λ z. get_or z c.args.key c.in-Some.row.now) c.deref.ensures.value) in
     let live : Live (rows_of items) c.args.key = record { live = ap (λ z. z.live) e ∙ c.if-not-row.false } in
-    let heads : AllHeads c.args.sibs.now.homes (map shape_of c.deref-2.result.now) = subst (λ z. AllHeads c.args.sibs.now.homes (map shape_of z)) (sym c.deref-2.ensures.value) (subst (λ z. AllHeads c.args.sibs.now.homes z.shapes) e (c.requires.rows c.args.key live)) in
-    let arguments : ArgHeads (rows_of items) homes (map shape_of c.deref-2.result.now) = subst (λ z. ArgHeads (rows_of items) homes (map shape_of z)) (sym c.deref-2.ensures.value) (subst (λ z. ArgHeads (rows_of items) homes z.shapes) e (c.requires.values c.args.key live).arguments) in
+    let heads : AllHeads c.args.sibs.now.homes (map shape_of c.areas.result.now) = subst (AllHeads c.args.sibs.now.homes) (sym c.areas.ensures) (subst (λ z. AllHeads c.args.sibs.now.homes z.shapes) e (c.requires.rows c.args.key live)) in
+    let arguments : ArgHeads (rows_of items) homes (map shape_of c.areas.result.now) = subst (ArgHeads (rows_of items) homes) (sym c.areas.ensures) (subst (λ z. ArgHeads (rows_of items) homes z.shapes) e (c.requires.values c.args.key live).arguments) in
     (omega (arith, c.decreases, c.if-levels-eq0.false), (c.requires.there, (c.requires.rows, (c.requires.values, (c.requires.laws, (c.requires.chained, (heads, arguments)))))))
 
 pub op_keeps-returns : goal.op_keeps-returns
 op_keeps-returns t c =
-    let many : c.len.result ≡ length c.in-Some.row.now.results.items = search (rules, arith) in
+    let many : length c.results.result.now ≡ length c.in-Some.row.now.contents.results = ap length c.results.ensures in
     let items = c.args.rows.now.items in
     let ls = c.args.sibs.now.lists in
     let e = read_row items c.args.key c.in-Some.row.now (subst (λ z. c.args.key < length z) c.deref.ensures.value c.in-Some.ensures.lookup.3.0) (c.in-Some.ensures.lookup.1 ∙ ap (λ z. get_or z c.args.key c.in-Some.row.now) c.deref.ensures.value) in
     let f = lists_pass c.args.uses.now.lists (λ u. not (leaves_use (rows_of items) (cells_of c.args.cells.now.items) c.args.op c.args.store.now.module_of.tree u)) in
     let pass = shapes_keep (rows_of items) ls f (slot_keeps (rows_of items) ls f (c.args.levels - 1)) in
-    c.areas_keep.ensures ∙ ap (λ z. pass (map shape_of z)) c.deref-2.ensures.value ∙ ap (λ z. pass z.shapes) (sym e)
+    c.areas_keep.ensures ∙ ap pass c.areas.ensures ∙ ap (λ z. pass z.shapes) (sym e)
     ∙ sym (row_passes (rows_of items) ls f c.args.key c.args.levels c.if-levels-eq0.false (ap (λ z. z.live) e ∙ c.if-not-row.false) (ap (λ z. f z.values (length z.head.results)) e ∙ ap (f c.in-Some.row.now.values) (sym many) ∙ sym c.lists_keep.ensures ∙ c.if-not-lists_keep.false))

@@ -1,4 +1,4 @@
-use Rattle.std.proofs.Common.{◌∙◌, ◌≡◌, ◌+◌, sym, ap, set, arith}
+use Rattle.std.proofs.Common.{◌∙◌, ◌≡◌, ◌+◌, ap, set, arith}
 use Rattle.ir_store_base.specs.Rows.{rows_of, row_at}
 use Rattle.ir_store_base.specs.Marks.{home_of, node_of_slot}
 use Rattle.ir_store_base.proofs.Marking.{can_put}

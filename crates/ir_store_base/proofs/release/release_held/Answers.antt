@@ -1,4 +1,4 @@
-use Rattle.std.proofs.Common.{◌∙◌, ◌<◌, ◌-◌, sym, ap, subst, length, arith}
+use Rattle.std.proofs.Common.{◌<◌, ◌-◌, sym, subst, length, arith}
 use Rattle.std.specs.FinMap as finmap
 use Rattle.chains.specs.Lists.{list_at}
 use Rattle.ir_store_base.specs.Releases.{is_given}

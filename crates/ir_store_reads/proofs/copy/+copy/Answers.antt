@@ -1,6 +1,6 @@
-use Rattle.std.proofs.Common.{arith, ◌∙◌, sym, ap, subst, map, get_or}
+use Rattle.std.proofs.Common.{arith, ◌∙◌, sym, ap, subst, get_or}
 use Rattle.std.proofs.lemmas.List.{get_or_default}
-use Rattle.ir_store_base.specs.Rows.{rows_of, shape_of}
+use Rattle.ir_store_base.specs.Rows.{rows_of}
 use Rattle.ir_store_base.specs.Plans.{AllHeads}
 use Rattle.ir_store_base.specs.Right.{Live}
 use Rattle.ir_store_reads.proofs.Copied.{copied_region, copied_op, heads_at}
@@ -10,7 +10,7 @@ pub copy_op-copy_regions-requires : goal.copy_op-copy_regions-requires
 copy_op-copy_regions-requires t c =
     let e = c.in-Some.ensures in
     let live : Live (rows_of c.args.rows.now.items) c.args.key.now = record { live = ap (λ z. z.live) (sym e) ∙ c.if-not-row.false } in
-    (omega (arith, c.decreases, c.if-levels-eq0.false), (c.requires, subst (λ z. AllHeads c.args.sibs.now.homes (map shape_of z)) (sym c.deref.ensures.value) (subst (λ z. AllHeads c.args.sibs.now.homes z.shapes) (sym e) (c.requires c.args.key.now live))))
+    (omega (arith, c.decreases, c.if-levels-eq0.false), (c.requires, subst (AllHeads c.args.sibs.now.homes) (sym c.areas.ensures) (subst (λ z. AllHeads c.args.sibs.now.homes z.shapes) (sym e) (c.requires c.args.key.now live))))
 
 pub copy_region-loop-key-preserved : goal.copy_region-loop-key-preserved
 copy_region-loop-key-preserved t c =

@@ -1,6 +1,6 @@
-use Rattle.std.proofs.Common.{◌<◌, ◌-◌, get_or, arith, ◌∙◌, sym, ap, subst, map, length}
+use Rattle.std.proofs.Common.{◌<◌, ◌-◌, get_or, arith, ◌∙◌, sym, ap, subst, length}
 use Rattle.chains.specs.Lists.{list_at, after}
-use Rattle.ir_store_base.specs.Rows.{rows_of, shape_of}
+use Rattle.ir_store_base.specs.Rows.{rows_of}
 use Rattle.ir_store_base.specs.Plans.{AllHeads}
 use Rattle.ir_store_base.specs.Right.{Live}
 use Rattle.ir_store_base.specs.Walks.{slot_fits, shapes_pass, from_slot}
@@ -43,7 +43,7 @@ op_fits-areas_fit-requires t c =
       omega (arith, c.decreases, c.if-room-eq0.false),
       (
         c.requires.rows,
-        (c.requires.laws, subst (λ z. AllHeads c.args.sibs.now.homes (map shape_of z)) (sym c.deref-2.ensures.value) (subst (λ z. AllHeads c.args.sibs.now.homes z.shapes) e (c.requires.rows c.args.key live))),
+        (c.requires.laws, subst (AllHeads c.args.sibs.now.homes) (sym c.areas.ensures) (subst (λ z. AllHeads c.args.sibs.now.homes z.shapes) e (c.requires.rows c.args.key live))),
       ),
     )
 
@@ -53,5 +53,5 @@ op_fits-returns t c =
     let ls = c.args.sibs.now.lists in
     let e = read_row items c.args.key c.in-Some.row.now (subst (λ z. c.args.key < length z) c.deref.ensures.value c.in-Some.ensures.lookup.3.0) (c.in-Some.ensures.lookup.1 ∙ ap (λ z. get_or z c.args.key c.in-Some.row.now) c.deref.ensures.value) in
     let pass = shapes_pass ls (slot_fits (rows_of items) ls (c.args.room - 1)) in
-    c.areas_fit.ensures ∙ ap (λ z. pass (map shape_of z)) c.deref-2.ensures.value ∙ ap (λ z. pass z.shapes) (sym e)
+    c.areas_fit.ensures ∙ ap pass c.areas.ensures ∙ ap (λ z. pass z.shapes) (sym e)
     ∙ sym (fits_row (rows_of items) ls c.args.room c.args.key c.if-room-eq0.false (ap (λ z. z.live) e ∙ c.if-not-row.false))

@@ -16,9 +16,9 @@ returns-in-Ok c =
     let items = c.args.rows.now.items in
     let inside : c.args.slot < length items = subst (λ z. c.args.slot < length z) c.deref.ensures.value c.in-Some.ensures.lookup.3.0 in
     let at = read_row items c.args.slot n inside (c.in-Some.ensures.lookup.1 ∙ ap (λ z. get_or z c.args.slot n) c.deref.ensures.value) in
-    let told = some_told (λ a. AreEmptied (map shape_of a.items) (map region_view c.deref-3.result.now) × AreBlocks q 0 c.args.slot (map shape_of a.items)) c.in-Ok-Some.field-0 c.in-Ok-Some.areas c.in-Ok-Some.field-0-is c.in-Ok-Some.ensures in
+    let told = some_told (λ a. AreEmptied (map shape_of a.items) (map region_view c.deref-2.result.now) × AreBlocks q 0 c.args.slot (map shape_of a.items)) c.in-Ok-Some.field-0 c.in-Ok-Some.areas c.in-Ok-Some.field-0-is c.in-Ok-Some.ensures in
     fit_grown q c.args.slot c.args.op c.args.header.now (map region_view c.header.inside.regions.items) (map shape_of c.in-Ok-Some.areas.items) (row_of n) (row_of c.in-Ok.row) (omega (arith, inside, length-map items row_of)) at
     ((λ i. op (head (sym c.header.view_is i)) (regions_of (map region_view c.header.inside.regions.items))) ∙ c.header.view_is)
     (c.row_fits.ensures c.if-not-row_fits.false)
-    (told.0 ∙ ap (λ z. map emptied_region (map region_view z)) c.deref-3.ensures.value) told.1
+    (told.0 ∙ ap (λ z. map emptied_region (map region_view z)) c.deref-2.ensures.value) told.1
     c.in-Ok.ensures

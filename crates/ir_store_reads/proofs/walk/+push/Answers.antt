@@ -1,4 +1,4 @@
-use Rattle.std.proofs.Common.{sym, ap, ◌∙◌, subst, map, [], ◌∷◌}
+use Rattle.std.proofs.Common.{sym, ap, ◌∙◌, subst, [], ◌∷◌}
 use Rattle.chains.specs.Lists.{after, list_at}
 use Rattle.entries.proofs.Splits.{uncons}
 use Rattle.ir_store_base.specs.Rows.{rows_of, shape_of}
@@ -62,5 +62,5 @@ push_op-returns t c =
     let e = c.in-Some.ensures in
     on_ok c.push_areas.result
     (λ g. added_op rows lists c.args.key c.args.out.now.items c.push.new.self.items c.push_areas.new.out.items c.in-Some.row.now.id (ap (λ z. z.head.id) e) c.in_ok-push.ensures.items
-    (subst (λ z. AddsRegions rows lists z c.push.new.self.items c.push_areas.new.out.items) (ap (map shape_of) c.deref.ensures.value ∙ ap (λ z. z.shapes) e) g))
+    (subst (λ z. AddsRegions rows lists z c.push.new.self.items c.push_areas.new.out.items) (c.areas.ensures ∙ ap (λ z. z.shapes) e) g))
     c.push_areas.ensures

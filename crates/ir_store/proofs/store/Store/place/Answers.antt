@@ -1,4 +1,4 @@
-use Rattle.std.proofs.Common.{◌≡◌, sym, ap, ◌∙◌, subst}
+use Rattle.std.proofs.Common.{sym, ap, ◌∙◌, subst}
 use Rattle.ir_tree.specs.Places.{place_of}
 use Rattle.ir_store.proofs.Called.{rows_in, keys_in}
 use Rattle.ir_store_base.proofs.Slots.{Found, found}

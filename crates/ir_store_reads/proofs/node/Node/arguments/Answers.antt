@@ -1,13 +1,13 @@
-use Rattle.std.proofs.Common.{◌∙◌, ap, slice_get, map, List, ℕ, Option}
+use Rattle.std.proofs.Common.{◌∙◌, ap, slice_get, List, ℕ, Option}
 use Rattle.std.specs.Prelude.{option_and_then}
 use Rattle.ir_store_base.specs.Nodes.{Node}
-use Rattle.ir_store_base.specs.Rows.{shape_of, shape_arguments}
+use Rattle.ir_store_base.specs.Rows.{shape_arguments}
 use Rattle.ir_store_reads.proofs.Arguments.{node_arguments}
 use Rattle.ir_store_reads.proofs.node.Node.arguments.Goals as goal
 
 pub returns : goal.returns
 returns c =
     c.block_arguments.ensures
-    ∙ ap (λ z. option_and_then shape_arguments (slice_get (map shape_of z) c.args.region)) c.deref.ensures.value
-    ∙ node_arguments (map shape_of c.self.inside.row.now.areas.items) c.args.region
+    ∙ ap (λ z. option_and_then shape_arguments (slice_get z c.args.region)) c.areas.ensures
+    ∙ node_arguments c.self.inside.row.now.contents.shapes c.args.region
     ∙ ap (λ (z : Node). option_and_then {T = Option (List ℕ)} (λ a. a) (slice_get z.arguments c.args.region)) c.self.view_is
