@@ -12,4 +12,5 @@ pub mod Outputs
 pub mod Placing
 pub mod Plain
 pub mod Singles
+pub mod Spelled
 pub mod Uses

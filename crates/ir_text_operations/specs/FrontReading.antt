@@ -2,6 +2,7 @@
 use Rattle.std.specs.Prelude.{ℕ, ◌==◌, if◌then◌else◌, List, length, map, slice_get, Option, Some, None, option_map}
 use Rattle.std.specs.List.{list_all}
 use Rattle.std.specs.Char.{is_ascii_digit}
+use Rattle.std.specs.Cow.{cow_slice_items}
 use Rattle.ir_text_tokens.specs.declared.token.Mark.TheVariants.{OpenRound, CloseRound}
 use Rattle.ir_text_tokens.specs.Tokens.{Lexeme, value, string, hash, next}
 use Rattle.ir_text_tokens.specs.Strings.{string_bytes}
@@ -69,7 +70,7 @@ pub record Start : Type 0 where
   pub operands : List Bound
 
 abbrev pub start_view : Front → Start
-start_view f = record { results = option_map (λ v. map named_view v.items) f.results; name = f.name.items; operands = f.operands.items }
+start_view f = record { results = option_map (λ v. map named_view v.items) f.results; name = cow_slice_items f.name; operands = f.operands.items }
 
 unfoldable pub start_at : Frees → List (Binding (List Bound)) → Parse Text Start
 start_at free here bytes = do

@@ -1,8 +1,10 @@
 //! What stands before an operation's dictionaries: the names of its results, its name, its operands.
-ghost use Rattle.std.specs.Prelude.{◌≡◌, ◌∷◌, [], IsTrue, slice_get, option_map};
-ghost use Rattle.std.specs.List.{list_all};
+ghost use Rattle.std.specs.Prelude.{◌≡◌, ◌∷◌, [], IsTrue, IfOk, eqb, slice_get, option_map};
+ghost use Rattle.std.specs.List.{list_all, list_any};
+ghost use Rattle.std.specs.Cow.{cow_slice_items};
 ghost use Rattle.std.specs.Char.{is_ascii_digit};
 ghost use Rattle.ir_text_tokens.specs.Numbers.{place_value};
+ghost use Rattle.ir_text_tokens.specs.Strings.{string_bytes};
 ghost use Rattle.ir_text_reading.specs.Outcomes.{Gives};
 ghost use Rattle.ir_text_operations.specs.Free.{free_bound};
 ghost use Rattle.ir_text_operations.specs.Openings.{called_at};
@@ -22,13 +24,14 @@ use ir_text_tokens::strings::string_value;
 use ir_text_tokens::token::{Mark, Token};
 use ir_tree::outer::Outer;
 use ir_types::refusal::Refusal;
-use std::alloc::Global;
+use std::alloc::{AllocError, Global};
+use std::borrow::CowSlice;
 
 /// The names of the results, where they are written, the name of the operation, and its operands.
 #[derive(Drop)]
 pub struct Front<'a> {
     pub results: Option<Vec<Named<'a>>>,
-    pub name: Vec<u8>,
+    pub name: CowSlice<'a, u8>,
     pub operands: Vec<Bound>,
 }
 
@@ -43,15 +46,38 @@ pub(crate) fn begin_refusal(found: &Token<'_>, named: bool) -> Refusal {
     }
 }
 
+/// Whether a byte of a string is a backslash, which begins an escape.
+fn has_escape(raw: &[u8]) -> bool
+    ensures { result ≡ list_any (λ byte. eqb byte 92) raw.now }
+{
+    raw.iter().any(|byte| *byte == b'\\')
+}
+
+/// The bytes that the text between two quotes stands for: its own where it has no escape, which take no memory.
+#[tactic(auto, using(crate::proofs::Spelled::plain_is))]
+fn spelled<'a>(alloc: Global, raw: &'a [u8]) -> Result<CowSlice<'a, u8>, AllocError>
+    ensures { IfOk result (λ s. cow_slice_items s ≡ string_bytes raw.now) }
+{
+    if has_escape(raw) {
+        Ok(CowSlice::Owned(string_value(alloc, raw)?))
+    } else {
+        Ok(CowSlice::Borrowed(raw))
+    }
+}
+
 /// The name of an operation, which has one byte or more.
 #[tactic(auto, unfolding(crate::specs::FrontReading::op_name_at))]
-fn op_name(alloc: Global, bytes: &[u8], named: bool) -> Result<(Vec<u8>, &[u8]), ReadError>
-    ensures { Gives (λ x. (x.0.items, x.1.now)) result (op_name_at bytes.now) }
+fn op_name<'a>(
+    alloc: Global,
+    bytes: &'a [u8],
+    named: bool,
+) -> Result<(CowSlice<'a, u8>, &'a [u8]), ReadError>
+    ensures { Gives (λ x. (cow_slice_items x.0, x.1.now)) result (op_name_at bytes.now) }
 {
     match token(bytes) {
         Ok((Token::String(raw), rest)) => {
-            let name = string_value(alloc, raw)?;
-            if name.is_empty() {
+            let name = spelled(alloc, raw)?;
+            if name.len() == 0 {
                 return Err(ReadError::Refused(wrong(Refusal::Unexpected, bytes)));
             }
             Ok((name, rest))
@@ -63,8 +89,12 @@ fn op_name(alloc: Global, bytes: &[u8], named: bool) -> Result<(Vec<u8>, &[u8]),
 
 /// The name of an operation, and the parenthesis behind it.
 #[tactic(auto, unfolding(crate::specs::Openings::called_at))]
-fn called(alloc: Global, bytes: &[u8], named: bool) -> Result<(Vec<u8>, &[u8]), ReadError>
-    ensures { Gives (λ x. (x.0.items, x.1.now)) result (called_at bytes.now) }
+fn called<'a>(
+    alloc: Global,
+    bytes: &'a [u8],
+    named: bool,
+) -> Result<(CowSlice<'a, u8>, &'a [u8]), ReadError>
+    ensures { Gives (λ x. (cow_slice_items x.0, x.1.now)) result (called_at bytes.now) }
 {
     match op_name(alloc, bytes, named) {
         Ok((name, rest)) => match expect(rest, Mark::OpenRound) {

@@ -45,7 +45,7 @@ pub(crate) fn read_opening<'a, O: Outer>(
         Ok(found) => found,
         Err(e) => return Err(e),
     };
-    let name = match steps::name(ctx, &front.name, behind) {
+    let name = match steps::name(ctx, front.name.as_slice(), behind) {
         Ok(name) => name,
         Err(e) => return Err(e),
     };

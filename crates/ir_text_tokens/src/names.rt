@@ -97,7 +97,20 @@ fn put<'a, T: Drop>(
     }
 }
 
-/// Takes entries away until there are so many.
+/// Takes all entries away.
+fn clear<'a, T: Drop>(
+    latest: &mut HashMap<&'a [u8], Option<usize>, Keyed>,
+    entries: &mut Vec<Entry<'a, T>>,
+)
+    ensures agrees { Agrees latest.new entries.new.items }
+    ensures cleared { entries.new.items ≡ [] }
+{
+    latest.clear();
+    entries.clear();
+}
+
+/// Takes entries away until there are so many. Where none is to stay and most of the map's room is taken, no name is
+/// looked up for that.
 fn cut<'a, T: Drop>(
     latest: &mut HashMap<&'a [u8], Option<usize>, Keyed>,
     entries: &mut Vec<Entry<'a, T>>,
@@ -107,6 +120,10 @@ fn cut<'a, T: Drop>(
     ensures agrees { Agrees latest.new entries.new.items }
     ensures cut { entries.new.items ≡ take count entries.old.items }
 {
+    if count == 0 && entries.len() >= latest.capacity() / 4 {
+        clear(latest, entries);
+        return;
+    }
     'entries: while entries.len() > count {
         if let Some(entry) = entries.pop() {
             if let Some(slot) = latest.get_mut(&entry.name) {

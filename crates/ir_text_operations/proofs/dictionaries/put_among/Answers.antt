@@ -1,4 +1,4 @@
-use Rattle.std.proofs.Common.{rules, sym, ◌∙◌}
+use Rattle.std.proofs.Common.{rules}
 use Rattle.ir_tree.specs.Meaning.{key_before_in}
 use Rattle.ir_text_operations.proofs.Placing.{put_at}
 use Rattle.ir_text_operations.proofs.dictionaries.put_among.Goals as goal

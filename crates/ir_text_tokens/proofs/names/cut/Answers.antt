@@ -10,7 +10,7 @@ pub entries-preserved-in-Some : goal.entries-preserved-in-Some
 entries-preserved-in-Some g c =
     let e : c.entries.entries.items ≡ c.pop.new.self.items ++ c.in-Some.entry ∷ [] = rw c.in-Some.is at c.pop.ensures.items in
     let before = subst (Agrees c.entries.latest) e c.entries.invariant.agrees in
-    let fewer = sym (shorter c.args.count c.pop.new.self.items _ _ e (omega (arith, c.entries-test.true, c.len.ensures))) ∙ c.entries.invariant.same in
+    let fewer = sym (shorter c.args.count c.pop.new.self.items _ _ e (omega (arith, c.entries-test.true, c.len-in-entries.ensures))) ∙ c.entries.invariant.same in
     elim c.match-get_mut.branch [
       | in-Some-get_mut w ↦
           let some : IsSome (get key_eq c.entries.latest c.in-Some.entry.name) = rw (← c.get_mut.ensures.value, w.in-Some-get_mut.is) (search rules) in
