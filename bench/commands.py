@@ -78,7 +78,8 @@ def command_cost(words, text, skipped, rounds, library):
     for _ in range(rounds):
         _, wrote, marks = run(words, text, {"LD_PRELOAD": library})
         full = [mark for mark in marks if mark[0] > skipped]
-        (first, begun), (last, ended) = full[0], full[-1]
+        # (the last part is written when the module is gone)
+        (first, begun), (last, ended) = full[0], full[-2]
         cost = (ended - begun) / (last - first) / 1000
         least = cost if least is None else min(least, cost)
     return least, wrote.count(b" refused ")
