@@ -1,5 +1,5 @@
 //! Where operations of the module stand.
-ghost use Rattle.std.specs.Prelude.{◌≡◌, ◌<◌, Some};
+ghost use Rattle.std.specs.Prelude.{◌≡◌, ◌<◌, Some, is_some};
 ghost use Rattle.ir_tree.specs.Places.{place_of};
 ghost use Rattle.ir_tree_laws.specs.Reads.{parent_of, next_of};
 
@@ -22,6 +22,20 @@ impl Store {
             return None;
         }
         place_at(&self.rows, &self.sibs, key)
+    }
+
+    /// Whether an operation is in the module and isn't its root.
+    pub(crate) fn is_nested(&self, op: OpId) -> bool
+        ensures { result ≡ is_some (place_of op self.now.module_of.tree) }
+    {
+        self.sibs.laws();
+        let Some(key) = find(&self.rows, &self.keys, op) else {
+            return false;
+        };
+        if key == self.root {
+            return false;
+        }
+        true
     }
 
     /// The operation around one, or none where that isn't in the module, or is its root.
