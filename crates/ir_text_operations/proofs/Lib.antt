@@ -11,6 +11,7 @@ pub mod OpSteps
 pub mod Outputs
 pub mod Placing
 pub mod Plain
+pub mod Roomy
 pub mod Singles
 pub mod Spelled
 pub mod Uses

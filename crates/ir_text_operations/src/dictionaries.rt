@@ -50,6 +50,11 @@ pub fn no_room(
 ) -> bool
     ensures { result ≡ no_room (is_property_in ctx.now op.now) properties.now key entries.now }
 {
+    if let [] = properties {
+        if entries.len() < MOST_ENTRIES {
+            return false;
+        }
+    }
     if is_property(ctx, op, key) {
         properties
             .len()

@@ -89,6 +89,9 @@ fn dictionaries(
 ) -> Result<(Vec<Entry>, Vec<Entry>), AllocError>
     ensures { IfOk result (λ d. AreDictionaries ctx.now name written.now others.now d.0.items d.1.items) }
 {
+    if let ([], []) = (written, others) {
+        return Ok((Vec::new(alloc), Vec::new(alloc)));
+    }
     let props = match properties_of(alloc, ctx, name, written, others) {
         Ok(props) => props,
         Err(e) => return Err(e),
