@@ -109,8 +109,8 @@ fn clear<'a, T: Drop>(
     entries.clear();
 }
 
-/// Takes entries away until there are so many. Where none is to stay and most of the map's room is taken, no name is
-/// looked up for that.
+/// Takes entries away until there are so many. Where none is to stay and a quarter or more of the map's room is taken,
+/// no name is looked up for that.
 fn cut<'a, T: Drop>(
     latest: &mut HashMap<&'a [u8], Option<usize>, Keyed>,
     entries: &mut Vec<Entry<'a, T>>,
