@@ -36,7 +36,7 @@ use Rattle.symbols.specs.declared.role.Signature.{Signature}
 use Rattle.symbols.specs.Roles.{Stand, Role, role, role_of}
 use Rattle.symbols.specs.Table.{Table, Says, Keeps, IsKept, Renewed, Followed, RoleIsOf, ReferenceIsOf, CallIsOf, SignatureIsOf, role_meaning, reference_meaning, call_meaning, signature_meaning}
 use Rattle.symbols.proofs.Meant.{references_meant, call_meant, function_meant}
-use Rattle.symbols.proofs.Local.{far_roles}
+use Rattle.symbols.proofs.Local.{far_roles, own_role}
 use Rattle.symbols.proofs.Gathered.{parent_placed}
 
 -- ---- a context that grows
@@ -187,7 +187,14 @@ followed_keeps c (Take x place fresh) m n s f g h r = λ y. elim (bool_cases (eq
         known = subst (λ o. IfSome o (RoleIsOf c)) (sym none) tt;
       })
 ]
-followed_keeps c (SetOperand x k old new) m n s f g h r = renewed_keeps c (SetOperand x k old new) m n s f g h x (far_roles c (SetOperand x k old new) m n s) (mapped_there x n.tree _ new s.changes.is) r
+followed_keeps c (SetOperand x k old new) m n s f g h (inl r) = renewed_keeps c (SetOperand x k old new) m n s f g h x (far_roles c (SetOperand x k old new) m n s) (mapped_there x n.tree _ new s.changes.is) r
+followed_keeps c (SetOperand x k old new) m n s f g h (inr r) = λ y. subst (λ z. Says c (role_of n.tree y) z) (sym (r.1 y)) (subst (λ z. Says c z (f y)) (sym (same y)) (h y))
+  where
+    same : (y : ℕ) → role_of n.tree y ≡ role_of m.tree y
+    same y = elim (bool_cases (eqb x y)) [
+      | inr apart ↦ far_roles c (SetOperand x k old new) m n s y apart
+      | inl is ↦ subst (λ z. role_of n.tree z ≡ role_of m.tree z) (eqb-true x y is) (own_role x k new m.tree n.tree s.changes.after r.0)
+    ]
 followed_keeps c (SetEntry x part key old new) m n s f g h r = renewed_keeps c (SetEntry x part key old new) m n s f g h x (far_roles c (SetEntry x part key old new) m n s) (entry_there x n.tree _ _ s.changes.is) r
 followed_keeps c (Shift x old new) m n s f g h r = renewed_keeps c (Shift x old new) m n s f g h x (far_roles c (Shift x old new) m n s) (place_there x n.tree new s.changes.is) r
 

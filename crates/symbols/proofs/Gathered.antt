@@ -38,7 +38,7 @@ head_meant : (c : Things) (o : Op) → head (meaning c o) ≡ head_meaning c (he
 head_meant c (op h rs) = refl
 
 -- the head of an operation that is shown
-shown_head : (w : World) (x : ℕ) (n : Node) (o : Operation) → option_map node_of (known x w.store) ≡ Some n → find x (module_in w).tree ≡ Some o → head o ≡ head_meaning w.ctx n.head
+pub shown_head : (w : World) (x : ℕ) (n : Node) (o : Operation) → option_map node_of (known x w.store) ≡ Some n → find x (module_in w).tree ≡ Some o → head o ≡ head_meaning w.ctx n.head
 shown_head w x n o shown is = go (find x w.store.module_of.tree) refl (sym (map_find (name_term w.ctx) (type_term w.ctx) (attr_term w.ctx) x w.store.module_of.tree) ∙ is)
   where
     go : (q : Option Op) → find x w.store.module_of.tree ≡ q → option_map (meaning w.ctx) q ≡ Some o → head o ≡ head_meaning w.ctx n.head

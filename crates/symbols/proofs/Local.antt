@@ -36,7 +36,7 @@ use Rattle.surroundings.proofs.Left.{left_head, left_node}
 use Rattle.surroundings.proofs.Alike.{Both, neither, each, both, same_value_type}
 use Rattle.surroundings.proofs.Moves.{left_id, taken}
 use Rattle.surroundings.proofs.Heads.{Keeps}
-use Rattle.symbols.specs.Roles.{Head, Stand, home_of, table_at, role_from, role, role_of}
+use Rattle.symbols.specs.Roles.{Head, Stand, home_of, table_at, symbol_of, references_of, signature_of, callee_of, call_of, role_from, role, role_of}
 
 abbrev Step_in : Type 0
 Step_in = StepOf (List ℕ) TypeTerm AttrTerm
@@ -298,6 +298,44 @@ keeps_at x f k h = elim (eqb h.id x) as (λ b. Keeps (cond b (f h) h) h) [ true 
 keeps_part : (part : Part) (f : List (List ℕ × AttrTerm) → List (List ℕ × AttrTerm)) (h : Head) → Keeps (change_part part f h) h
 keeps_part Props f h = record { id = refl; name = refl; results = refl }
 keeps_part Attrs f h = record { id = refl; name = refl; results = refl }
+
+-- an operation that calls nothing, one of whose operands became another
+unmapped : {A B : Type 0} (f : A → B) (o : Option A) → o ≡ None → option_map f o ≡ None
+unmapped f o e = ap (option_map f) e
+
+table_operand : (k : ℕ) (v : Value) (h : Head) (path : Path) → table_at (put_operand k v h) path ≡ table_at h path
+table_operand k v h [] = refl
+table_operand k v h (a ∷ q) = refl
+
+module _ (x k : ℕ) (new : Value) (m n : Operation) (is : n ≡ each_head (at x (put_operand k new)) m) (none : (o : Operation) → find x n ≡ Some o → callee_of (head o) ≡ None) where
+  abbrev set : Head → Head
+  set = at x (put_operand k new)
+
+  kept : (h : Head) → Keeps (set h) h
+  kept = keeps_at x (put_operand k new) (λ h. record { id = refl; name = refl; results = refl })
+
+  pub own_role : role_of n x ≡ role_of m x
+  own_role = go (stand_of x m) refl
+    where
+      there : stand_of x n ≡ option_map (edit_stand set) (stand_of x m)
+      there = ap (stand_of x) is ∙ stand_of_each set kept x m
+
+      go : (o : Option Stand) → stand_of x m ≡ o → role_of n x ≡ role_of m x
+      go None e = ap (option_map (role n)) (there ∙ ap (option_map (edit_stand set)) e) ∙ sym (ap (option_map (role m)) e)
+      go (Some s) e =
+          let id = (member x (stands [] m) s e).1 in
+          let h : Head = head s.here in
+          let heads : head (each_head set s.here) ≡ put_operand k new h = each_is set kept s.here ∙ ap (λ b. cond b (put_operand k new h) h) (eq-eqb h.id x id) in
+          let home = home_each set kept s.path in
+          let table : table_at (head (each_head set s.here)) (map (edit_step set) s.path) ≡ table_at h s.path = ap (λ (z : Head). table_at z (map (edit_step set) s.path)) heads ∙ table_each set kept (put_operand k new h) s.path ∙ table_operand k new h s.path in
+          let found : find x n ≡ Some (each_head set s.here) = sym (stands_find x [] n) ∙ ap (option_map (λ (z : Stand). z.here)) (there ∙ ap (option_map (edit_stand set)) e) in
+          let bare : callee_of h ≡ None = sym (ap callee_of heads) ∙ none (each_head set s.here) found in
+          let before = map (λ v. type_of_value v m) h.operands in
+          let after = map (λ v. type_of_value v n) (put_operand k new h).operands in
+          let calls : call_of (put_operand k new h) after ≡ call_of h before = unmapped _ (callee_of h) bare ∙ sym (unmapped _ (callee_of h) bare) in
+          let one : role n (edit_stand set s) ≡ role_from (home_of s.path) (table_at h s.path) (put_operand k new h) after = (λ i. role_from (home i) (table i) (heads i) (map (λ v. type_of_value v n) (heads i).operands)) in
+          let two : role_from (home_of s.path) (table_at h s.path) (put_operand k new h) after ≡ role m s = (λ i. record { home = home_of s.path; table = table_at h s.path; is_table = is_table h.name; symbol = symbol_of h; references = references_of h; call = calls i; function = signature_of h }) in
+          ap (option_map (role n)) (there ∙ ap (option_map (edit_stand set)) e) ∙ ap Some (one ∙ two) ∙ sym (ap (option_map (role m)) e)
 
 unlike : (x y : ℕ) → eqb x y ≡ false → y ≡ x → ⊥
 unlike x y e k = true≢false (sym (eq-eqb x y (sym k)) ∙ e)

@@ -1,13 +1,13 @@
 -- Roles in numbers of a context, and tables of them.
-use Rattle.std.specs.Prelude.{◌≡◌, ℕ, List, map, eqb, Bool, true, false, if◌then◌else◌, Option, Some, None, option_map, is_some, IfSome}
+use Rattle.std.specs.Prelude.{◌≡◌, ◌⊎◌, ℕ, List, map, eqb, Bool, true, false, if◌then◌else◌, Option, Some, None, option_map, is_some, IfSome}
 use Rattle.std.specs.List.{All, list_any}
 use Rattle.ir_types.specs.Things.{Things, IsName, IsType, IsAttr, Grows}
 use Rattle.ir_types.specs.Terms.{TypeTerm, AttrTerm, name_term, type_term, attr_term}
 use Rattle.ir_types.specs.Sound.{IsSound}
-use Rattle.ir_tree.specs.Tree.{HeadOf, Op}
+use Rattle.ir_tree.specs.Tree.{HeadOf, Op, head}
 use Rattle.ir_tree.specs.Maps.{map_head}
 use Rattle.ir_tree.specs.Meaning.{Operation}
-use Rattle.ir_tree.specs.Ids.{has_id}
+use Rattle.ir_tree.specs.Ids.{find, has_id}
 use Rattle.ir_tree_laws.specs.Reads.{parent_of}
 use Rattle.ir_event.specs.declared.event.Event.{Event}
 use Rattle.ir_event.specs.declared.event.Event.TheVariants.{Put, Take, SetOperand, SetEntry, Shift}
@@ -18,7 +18,7 @@ use Rattle.symbols.specs.declared.role.Reference.{Reference}
 use Rattle.symbols.specs.declared.role.Call.{Call}
 use Rattle.symbols.specs.declared.role.Signature.{Signature}
 use Rattle.symbols.specs.declared.role.Tables.{Tables}
-use Rattle.symbols.specs.Roles.{ReferenceOf, CallOf, RoleOf, Role, Head, role_of, role_from}
+use Rattle.symbols.specs.Roles.{ReferenceOf, CallOf, RoleOf, Role, Head, callee_of, role_of, role_from}
 
 -- what is kept of an operation, as a role in numbers
 abbrev pub reference_of : Reference → ReferenceOf ℕ ℕ
@@ -144,11 +144,19 @@ pub record Added (c : Things) (t : Operation) (xs : List ℕ) (before after : Ta
 abbrev pub Dropped : ℕ → Table → Table → Type 0
 Dropped x before after = (y : ℕ) → after y ≡ (if eqb x y then None else before y)
 
+-- operation x of a tree calls nothing
+abbrev pub CallsNone : Operation → ℕ → Type 0
+CallsNone t x = (o : Operation) → find x t ≡ Some o → callee_of (head o) ≡ None
+
+-- a table that followed an operand of x: as it was, where x calls nothing
+abbrev pub OperandFollowed : Things → Operation → ℕ → Table → Table → Type 0
+OperandFollowed c t x before after = Renewed c t x before after ⊎ (CallsNone t x × ((y : ℕ) → after y ≡ before y))
+
 -- a table that followed an event that led to a tree
 abbrev pub Followed : Things → Operation → Event → Table → Table → Type 0
 Followed c t (Put x place fresh) = Renewed c t x
 Followed c t (Take x place fresh) = Dropped x
-Followed c t (SetOperand x k old new) = Renewed c t x
+Followed c t (SetOperand x k old new) = OperandFollowed c t x
 Followed c t (SetEntry x part key old new) = Renewed c t x
 Followed c t (Shift x old new) = Renewed c t x
 

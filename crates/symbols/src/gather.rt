@@ -5,6 +5,7 @@ ghost use Rattle.ir_types.specs.Things.{IsName, IsType};
 ghost use Rattle.ir_types.specs.Terms.{TypeTerm, type_term, name_term};
 ghost use Rattle.ir_tree_laws.specs.Reads.{parent_of};
 ghost use Rattle.ir_tree_laws.specs.Values.{type_of_value};
+ghost use Rattle.ir_store.specs.Nodes.{node_of};
 ghost use Rattle.ir_store.specs.Stored.{known};
 ghost use Rattle.ir_event.specs.Bounds.{operand_count};
 ghost use Rattle.ir_event.specs.Modules.{NodeIsOf, module_in};
@@ -148,26 +149,25 @@ fn role_with(
     })
 }
 
-/// What an operation of the module that the view shows has to do with symbols. It is refused where memory is, or where
+/// What an operation, which the view shows as this one, has to do with symbols. It is refused where memory is, or where
 /// what the operation stands in isn't kept.
 pub(crate) fn gather(
     alloc: Global,
     roles: &BTreeMap<OpId, Role>,
     view: &mut View<'_>,
     op: OpId,
+    node: &Node<'_>,
 ) -> Result<Role, AllocError>
+    requires { option_map node_of (known op view.old.world.now.store) ≡ Some node.now }
     ensures parent { IfOk result (λ _. (p : ℕ) → parent_of op (module_in view.old.world.now).tree ≡ Some p → is_some (kept_at roles.now p) ≡ true) }
     ensures role { IfOk result (λ r. IsRight view.old.world.now.ctx (module_in view.old.world.now).tree op (kept_at roles.now) (Some r)) }
-    ensures looks { view.new.looks ≤ view.old.looks + (2 + operand_count (known op view.old.world.now.store)) }
+    ensures looks { view.new.looks ≤ view.old.looks + (1 + operand_count (known op view.old.world.now.store)) }
     ensures world { view.new.world.now ≡ view.old.world.now }
 {
-    let Some(node) = view.node(op) else {
-        return Err(AllocError);
-    };
     let is_table = view.context().table(node.name());
     let Some(tables) = tables_of(roles, view, op, is_table) else {
         return Err(AllocError);
     };
-    let call = call_of(alloc, view, &node)?;
-    role_with(alloc, view.context(), &node, &tables, call)
+    let call = call_of(alloc, view, node)?;
+    role_with(alloc, view.context(), node, &tables, call)
 }

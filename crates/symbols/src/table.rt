@@ -1,20 +1,41 @@
 //! The table of roles follows a module.
-ghost use Rattle.std.specs.Prelude.{◌≡◌, ◌≤◌, ◌+◌, true, OnOk, IfOk};
+ghost use Rattle.std.specs.Prelude.{◌≡◌, ◌≤◌, ◌+◌, Some, true, option_map, OnOk, IfOk};
+ghost use Rattle.ir_store.specs.Nodes.{node_of};
 ghost use Rattle.ir_store.specs.Stored.{known};
 ghost use Rattle.ir_event.specs.Bounds.{op_of, operand_count};
 ghost use Rattle.ir_event.specs.Listener.{is_take};
 ghost use Rattle.ir_event.specs.Modules.{module_in};
 ghost use Rattle.symbols.specs.Listeners.{kept_at};
-ghost use Rattle.symbols.specs.Table.{Added, Followed, Keeps, Renewed};
+ghost use Rattle.symbols.specs.Table.{Added, Followed, Keeps, OperandFollowed, Renewed};
 
 use crate::gather::gather;
+use crate::properties::callee_of;
 use crate::role::Role;
 use ir_event::event::Event;
 use ir_event::view::View;
 use ir_event::world::World;
+use ir_store::node::Node;
 use ir_types::ids::OpId;
 use std::alloc::{AllocError, Global};
 use std::collections::BTreeMap;
+
+/// Makes what is kept of an operation, which the view shows as this one, what it is in the module.
+fn renew_by(
+    alloc: Global,
+    roles: &mut BTreeMap<OpId, Role>,
+    view: &mut View<'_>,
+    op: OpId,
+    node: &Node<'_>,
+) -> Result<(), AllocError>
+    requires { option_map node_of (known op view.old.world.now.store) ≡ Some node.now }
+    ensures renewed { OnOk result (Renewed view.old.world.now.ctx (module_in view.old.world.now).tree op (kept_at roles.old) (kept_at roles.new)) }
+    ensures looks { view.new.looks ≤ view.old.looks + (1 + operand_count (known op view.old.world.now.store)) }
+    ensures world { view.new.world.now ≡ view.old.world.now }
+{
+    let role = gather(alloc, roles, view, op, node)?;
+    roles.insert(op, role)?;
+    Ok(())
+}
 
 /// Makes what is kept of an operation what it is in the module that the view shows.
 fn renew(
@@ -27,9 +48,30 @@ fn renew(
     ensures looks { view.new.looks ≤ view.old.looks + (2 + operand_count (known op view.old.world.now.store)) }
     ensures world { view.new.world.now ≡ view.old.world.now }
 {
-    let role = gather(alloc, roles, view, op)?;
-    roles.insert(op, role)?;
-    Ok(())
+    let Some(node) = view.node(op) else {
+        return Err(AllocError);
+    };
+    renew_by(alloc, roles, view, op, &node)
+}
+
+/// Follows an operand that became another value. It matters at a call alone, whose operands have types.
+fn follow_operand(
+    alloc: Global,
+    roles: &mut BTreeMap<OpId, Role>,
+    view: &mut View<'_>,
+    op: OpId,
+) -> Result<(), AllocError>
+    ensures followed { OnOk result (OperandFollowed view.old.world.now.ctx (module_in view.old.world.now).tree op (kept_at roles.old) (kept_at roles.new)) }
+    ensures looks { view.new.looks ≤ view.old.looks + (2 + operand_count (known op view.old.world.now.store)) }
+    ensures world { view.new.world.now ≡ view.old.world.now }
+{
+    let Some(node) = view.node(op) else {
+        return Err(AllocError);
+    };
+    match callee_of(view.context(), &node) {
+        None => Ok(()),
+        Some(_) => renew_by(alloc, roles, view, op, &node),
+    }
 }
 
 /// Follows an event, which led to the module that the view shows. It looks at the event's operation alone.
@@ -50,7 +92,7 @@ pub(crate) fn follow(
             roles.remove(op);
             Ok(())
         }
-        Event::SetOperand { op, .. } => renew(alloc, roles, view, *op),
+        Event::SetOperand { op, .. } => follow_operand(alloc, roles, view, *op),
         Event::SetEntry { op, .. } => renew(alloc, roles, view, *op),
         Event::Shift { op, .. } => renew(alloc, roles, view, *op),
     }

@@ -25,38 +25,38 @@ all_ok Q (Err e) f = tt
 pub call_of-requires : goal.call_of-requires
 call_of-requires c =
     let w = c.args.view.now.world.now in
-    let e = c.tables_of.ensures.world ∙ c.node.ensures.world in
-    subst (λ (u : World). NodeIsOf u.ctx c.in-Some.node) (sym e) (known_node w c.args.op c.in-Some.node (sym c.in-Some.ensures.answer))
+    let e = c.tables_of.ensures.world in
+    subst (λ (u : World). NodeIsOf u.ctx c.args.node.now) (sym e) (known_node w c.args.op c.args.node.now c.requires)
 
 pub role_with-requires-clause-node : goal.role_with-requires-clause-node
 role_with-requires-clause-node c =
     let w = c.args.view.now.world.now in
-    let e = c.call_of.ensures.world ∙ c.tables_of.ensures.world ∙ c.node.ensures.world in
-    subst (λ (z : Things). NodeIsOf z c.in-Some.node) (sym (c.context-2.ensures ∙ ap (λ (u : World). u.ctx) e)) (known_node w c.args.op c.in-Some.node (sym c.in-Some.ensures.answer))
+    let e = c.call_of.ensures.world ∙ c.tables_of.ensures.world in
+    subst (λ (z : Things). NodeIsOf z c.args.node.now) (sym (c.context-2.ensures ∙ ap (λ (u : World). u.ctx) e)) (known_node w c.args.op c.args.node.now c.requires)
 
 pub returns-clause-parent : goal.returns-clause-parent
 returns-clause-parent c =
     let w = c.args.view.now.world.now in
     all_ok _ c.role_with.result (λ _ p e.
-    parent_kept (kept_at c.args.roles.now) c.args.op c.table-is_table.result (parent_of c.args.op (tree_in w)) c.in-Some-tables_of.tables
-    (ap (λ (u : World). tables_for (kept_at c.args.roles.now) c.args.op c.table-is_table.result (parent_of c.args.op (tree_in u))) (sym c.node.ensures.world) ∙ sym c.in-Some-tables_of.ensures.tables)
+    parent_kept (kept_at c.args.roles.now) c.args.op c.table-is_table.result (parent_of c.args.op (tree_in w)) c.in-Some.tables
+    (sym c.in-Some.ensures.tables)
     p (sym (meaning_parent w.ctx c.args.op (tree_in w)) ∙ e))
 
 pub returns-clause-role : goal.returns-clause-role
 returns-clause-role c =
     let w = c.args.view.now.world.now in
-    let n = c.in-Some.node in
+    let n = c.args.node.now in
     let x = c.args.op in
-    let e1 = c.tables_of.ensures.world ∙ c.node.ensures.world in
+    let e1 = c.tables_of.ensures.world in
     let e2 = c.context-2.ensures ∙ ap (λ (u : World). u.ctx) (c.call_of.ensures.world ∙ e1) in
     let table = kept_at c.args.roles.now in
-    let tables = c.in-Some-tables_of.tables in
+    let tables = c.in-Some.tables in
     let types = map (λ v. type_of_value v (module_in w).tree) n.head.operands in
     let call = subst (λ (u : World). option_map (call_meaning u.ctx) c.in_ok-call.call ≡ call_of (head_meaning u.ctx n.head) (map (λ v. type_of_value v (module_in u).tree) n.head.operands)) e1 c.in_ok-call.ensures.call in
-    let named : c.table-is_table.result ≡ is_table (name_term w.ctx n.head.name) = c.table-is_table.ensures ∙ (λ i. is_table (name_term ((c.context.ensures ∙ ap (λ (u : World). u.ctx) c.node.ensures.world) i) (c.name.ensures i))) in
-    let is = (λ i. tables_for table x (sym named i) (parent_of x (tree_in (sym c.node.ensures.world i)))) ∙ sym c.in-Some-tables_of.ensures.tables in
+    let named : c.table-is_table.result ≡ is_table (name_term w.ctx n.head.name) = c.table-is_table.ensures ∙ (λ i. is_table (name_term (c.context.ensures i) (c.name.ensures i))) in
+    let is = (λ i. tables_for table x (sym named i) (parent_of x (tree_in w))) ∙ sym c.in-Some.ensures.tables in
     if_ok _ _ c.role_with.result (λ r h.
-    read_right w x n table tables r (sym c.in-Some.ensures.answer) is
+    read_right w x n table tables r c.requires is
     (subst (λ (z : Things). IsReadAs z (head_meaning z n.head) types tables r) e2
     (h types (subst (λ (z : Things). option_map (call_meaning z) c.in_ok-call.call ≡ call_of (head_meaning z n.head) types) (sym e2) call))))
     c.role_with.ensures

@@ -13,7 +13,7 @@ returns-in-Put-clause-followed c =
 pub returns-in-SetOperand-clause-followed : goal.returns-in-SetOperand-clause-followed
 returns-in-SetOperand-clause-followed c =
     let w = c.args.view.now.world.now in
-    subst (λ e. OnOk c.renew-in-SetOperand.result (Followed w.ctx (module_in w).tree e (kept_at c.args.roles.now) (kept_at c.renew-in-SetOperand.new.roles))) (sym c.in-SetOperand.is) c.renew-in-SetOperand.ensures.renewed
+    subst (λ e. OnOk c.follow_operand.result (Followed w.ctx (module_in w).tree e (kept_at c.args.roles.now) (kept_at c.follow_operand.new.roles))) (sym c.in-SetOperand.is) c.follow_operand.ensures.followed
 
 pub returns-in-SetEntry-clause-followed : goal.returns-in-SetEntry-clause-followed
 returns-in-SetEntry-clause-followed c =
