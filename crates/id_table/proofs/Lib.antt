@@ -1,1 +1,2 @@
+pub mod Owns
 pub mod Tables

@@ -21,7 +21,7 @@ changed k o f x = cond (eqb x k) o (f x)
 less : (a b : ℕ) → a < b → nat_lt a b ≡ true
 less a b l = grind (arith, nat_tests)
 
-not_less : (a b : ℕ) → b ≤ a → nat_lt a b ≡ false
+pub not_less : (a b : ℕ) → b ≤ a → nat_lt a b ≡ false
 not_less a b l = grind (arith, nat_tests)
 
 -- a write to the list
@@ -102,7 +102,7 @@ none_in near far n e w x = map.get-empty {X = ℕ} nat_cmp x ∙ sym (⊎_elim
     nothing : (n x : ℕ) → get_or (replicate n no_slot) x no_slot ≡ no_slot
     nothing n x = ⊎_elim (λ b. get_or-replicate n x no_slot no_slot b) (λ g. get_or_past (replicate n no_slot) x no_slot (omega (arith, length-replicate n no_slot))) (cases_lt x n)
 
-far_same : (near : List ℕ) (far far' : ℕ → Option ℕ) → ((x : ℕ) → far' x ≡ far x) → (x : ℕ) → slot_in near far' x ≡ slot_in near far x
+pub far_same : (near : List ℕ) (far far' : ℕ → Option ℕ) → ((x : ℕ) → far' x ≡ far x) → (x : ℕ) → slot_in near far' x ≡ slot_in near far x
 far_same near far far' w x = ap (cond (nat_lt x (length near)) (slot_of (get_or near x no_slot))) (w x)
 
 -- a write that may have been refused

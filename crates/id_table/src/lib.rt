@@ -1,10 +1,12 @@
 //! The slots of ids. Ids below a bound, which is given when the table is made, and those that come in order behind it are
 //! found in one step; the others, whatever they are, in as many steps as a sorted map takes. So ids that someone chose
-//! can't make the table slow.
+//! can't make the table slow. Ids that are their own slots, as those of a module that was just read, are known by a count for
+//! each page of ids, which is small enough to stay in the cache.
 //!
 //! A contract sees a finite map from ids to slots.
 #![tactic(auto)]
 
+mod pages;
 mod table;
 
 pub use table::IdTable;

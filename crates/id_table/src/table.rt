@@ -1,9 +1,11 @@
-ghost use Rattle.std.specs.Prelude.{◌≡◌, ℕ, ◌<◌, ◌++◌, ◌∷◌, [], eqb, if◌then◌else◌, Some, None, IfOk, OnOk, OnErr, MatchResult};
+ghost use Rattle.std.specs.Prelude.{◌≡◌, ℕ, ◌<◌, ◌++◌, ◌∷◌, [], length, eqb, if◌then◌else◌, Some, None, IfOk, OnOk, OnErr, MatchResult};
 ghost use Rattle.std.specs.FinMap as map;
 ghost use Rattle.std.specs.BTreeMap as sorted;
 ghost use Rattle.std.specs.Ordering.{nat_cmp};
+ghost use Rattle.id_table.specs.Pages.{AreOwn, AreOwn-prop, Counted};
 ghost use Rattle.id_table.specs.Slots.{no_slot, slot_in, MapOf, MapOf-prop};
 
+use crate::pages::{count_own, is_counted, uncount};
 use std::alloc::{AllocError, Global};
 use std::collections::BTreeMap;
 use std::marker::Model;
@@ -15,7 +17,9 @@ const NO_SLOT: u32 = u32::MAX;
 pub struct IdTable {
     near: Vec<u32>,
     far: BTreeMap<u32, u32>,
+    own: Vec<u8>,
     ghost known: { MapOf (slot_in near.items (sorted.get nat_cmp far)) } by { MapOf-prop (slot_in near.items (sorted.get nat_cmp far)) },
+    ghost counted: { AreOwn own.items (slot_in near.items (sorted.get nat_cmp far)) } by { AreOwn-prop own.items (slot_in near.items (sorted.get nat_cmp far)) },
 }
 
 impl Model for IdTable {
@@ -41,6 +45,7 @@ impl IdTable {
         Ok(IdTable {
             near,
             far: BTreeMap::new(alloc),
+            own: Vec::new(alloc),
         })
     }
 
@@ -52,6 +57,7 @@ impl IdTable {
         Ok(IdTable {
             near,
             far: BTreeMap::new(alloc),
+            own: Vec::new(alloc),
         })
     }
 
@@ -60,6 +66,9 @@ impl IdTable {
         ensures { result ≡ map.get self.now id }
     {
         let place = id as usize;
+        if is_counted(&self.own, place) {
+            return Some(place);
+        }
         if place >= self.near.len() {
             return match self.far.get(&id) {
                 Some(slot) => Some(*slot as usize),
@@ -81,12 +90,14 @@ impl IdTable {
         ensures refused { OnErr result (self.new ≡ self.old) }
     {
         let place = id as usize;
+        uncount(&mut self.own, place);
         if place < self.near.len() {
             self.near[place] = slot as u32;
+            count_own(&mut self.own, place, slot);
             return Ok(());
         }
         if place == self.near.len() {
-            return add(&mut self.near, slot as u32);
+            return add(&mut self.near, &mut self.own, slot as u32);
         }
         put(&mut self.far, id, slot as u32)
     }
@@ -96,6 +107,7 @@ impl IdTable {
         ensures { self.new ≡ map.remove self.old id }
     {
         let place = id as usize;
+        uncount(&mut self.own, place);
         if place < self.near.len() {
             self.near[place] = NO_SLOT;
         } else {
@@ -105,11 +117,16 @@ impl IdTable {
 }
 
 /// Gives the next id of a list a slot.
-fn add(near: &mut Vec<u32>, slot: u32) -> Result<(), AllocError>
-    ensures { MatchResult result (λ _. near.new.items ≡ near.old.items ++ slot ∷ []) (λ _. near.new.items ≡ near.old.items) }
+fn add(near: &mut Vec<u32>, own: &mut Vec<u8>, slot: u32) -> Result<(), AllocError>
+    ensures near { MatchResult result (λ _. near.new.items ≡ near.old.items ++ slot ∷ []) (λ _. near.new.items ≡ near.old.items) }
+    ensures own { MatchResult result (λ _. Counted (length near.old.items) slot own.old.items own.new.items) (λ _. own.new.items ≡ own.old.items) }
 {
+    let id = near.len();
     match near.push(slot) {
-        Ok(()) => Ok(()),
+        Ok(()) => {
+            count_own(own, id, slot as usize);
+            Ok(())
+        }
         Err(_) => Err(AllocError),
     }
 }

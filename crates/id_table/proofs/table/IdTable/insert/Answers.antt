@@ -3,6 +3,7 @@ use Rattle.std.specs.Ordering.{nat_cmp}
 use Rattle.std.specs.BTreeMap as sorted
 use Rattle.std.specs.FinMap as map
 use Rattle.id_table.specs.Slots.{slot_in, map_is}
+use Rattle.id_table.proofs.Owns.{put_own, add_own, far_own}
 use Rattle.id_table.proofs.Tables.{add_known, add_inserted, add_refused, near_changed, some_slot, changed, inserted, put_known, put_inserted, put_refused}
 use Rattle.id_table.proofs.table.IdTable.insert.Goals as goal
 
@@ -16,7 +17,11 @@ invariant_of-self-inside c =
         inserted (slot_in near far) (slot_in (set near c.args.id c.args.slot) far) c.args.id c.self.inside.known c.args.slot
             (λ x. near_changed near far c.args.id c.args.slot l x ∙ ap (λ o. changed c.args.id o (slot_in near far) x) (some_slot c.args.slot c.requires)),
       ),
-      tt,
+      (
+        put_own c.self.inside.own.items c.uncount.new.counts.items (slot_in near far) (slot_in (set near c.args.id c.args.slot) far) c.args.id c.self.inside.counted c.uncount.ensures c.count_own.new.counts.items c.args.slot c.count_own.ensures
+            (λ x. near_changed near far c.args.id c.args.slot l x ∙ ap (λ o. changed c.args.id o (slot_in near far) x) (some_slot c.args.slot c.requires)),
+        tt,
+      ),
     )
 
 pub returns-then-place-len-clause-inserted : goal.returns-then-place-len-clause-inserted
@@ -32,25 +37,33 @@ returns-then-place-len-clause-inserted c =
 pub invariant_of-self-inside-then-place-len-2 : goal.invariant_of-self-inside-then-place-len-2
 invariant_of-self-inside-then-place-len-2 c = (
   add_known c.self.inside.near.items c.add.new.near.items (sorted.get nat_cmp c.self.inside.far) c.args.id c.args.slot
-      (omega (arith, c.if-place-len-2.true, c.len-2.ensures, c.self.inside.near.ok.0)) c.requires c.self.inside.known c.add.result c.add.ensures,
-  tt,
+      (omega (arith, c.if-place-len-2.true, c.len-2.ensures, c.self.inside.near.ok.0)) c.requires c.self.inside.known c.add.result c.add.ensures.near,
+  (
+    add_own c.self.inside.near.items c.add.new.near.items (sorted.get nat_cmp c.self.inside.far) c.args.id c.args.slot
+        (omega (arith, c.if-place-len-2.true, c.len-2.ensures, c.self.inside.near.ok.0)) c.requires c.self.inside.own.items c.uncount.new.counts.items c.add.new.own.items c.self.inside.counted c.uncount.ensures c.add.result c.add.ensures.near c.add.ensures.own,
+    tt,
+  ),
 )
 
 pub returns-then-place-len-2-clause-inserted : goal.returns-then-place-len-2-clause-inserted
 returns-then-place-len-2-clause-inserted c =
     add_inserted c.self.inside.near.items c.add.new.near.items (sorted.get nat_cmp c.self.inside.far) c.args.id c.args.slot
-    (omega (arith, c.if-place-len-2.true, c.len-2.ensures, c.self.inside.near.ok.0)) c.requires c.self.inside.known c.args.self.now c.self.view_is c.self-then-place-len-2-1.given.0 c.add.result c.add.ensures
+    (omega (arith, c.if-place-len-2.true, c.len-2.ensures, c.self.inside.near.ok.0)) c.requires c.self.inside.known c.args.self.now c.self.view_is c.self-then-place-len-2-1.given.0 c.add.result c.add.ensures.near
 
 pub returns-then-place-len-2-clause-refused : goal.returns-then-place-len-2-clause-refused
 returns-then-place-len-2-clause-refused c =
     add_refused c.self.inside.near.items c.add.new.near.items (sorted.get nat_cmp c.self.inside.far) c.args.id c.args.slot
-    (omega (arith, c.if-place-len-2.true, c.len-2.ensures, c.self.inside.near.ok.0)) c.requires c.self.inside.known c.args.self.now c.self.view_is c.self-then-place-len-2-1.given.0 c.add.result c.add.ensures
+    (omega (arith, c.if-place-len-2.true, c.len-2.ensures, c.self.inside.near.ok.0)) c.requires c.self.inside.known c.args.self.now c.self.view_is c.self-then-place-len-2-1.given.0 c.add.result c.add.ensures.near
 
 pub invariant_of-self-inside-2 : goal.invariant_of-self-inside-2
 invariant_of-self-inside-2 c = (
   put_known c.self.inside.near.items (sorted.get nat_cmp c.self.inside.far) (sorted.get nat_cmp c.put.new.far) c.args.id c.args.slot
       (omega (arith, c.if-place-len.false, c.len.ensures, c.self.inside.near.ok.0)) c.self.inside.known c.put.result c.put.ensures,
-  tt,
+  (
+    far_own c.self.inside.near.items (sorted.get nat_cmp c.self.inside.far) (sorted.get nat_cmp c.put.new.far) c.args.id c.args.slot
+        (omega (arith, c.if-place-len.false, c.len.ensures, c.self.inside.near.ok.0)) c.self.inside.own.items c.uncount.new.counts.items c.self.inside.counted c.uncount.ensures c.put.result c.put.ensures,
+    tt,
+  ),
 )
 
 pub returns-clause-inserted : goal.returns-clause-inserted
