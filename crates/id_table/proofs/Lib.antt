@@ -1,2 +1,2 @@
-pub mod Owns
+pub mod Paged
 pub mod Tables

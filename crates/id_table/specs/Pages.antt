@@ -1,22 +1,30 @@
--- Ids that are their own slots, by pages of 64 ids.
-use Rattle.std.specs.Prelude.{◌≡◌, ◌⊎◌, ℕ, ◌/◌, ◌%◌, Bool, true, List, get_or, nat_lt, Option, Some}
+-- Slots of ids that came in order, by pages of 16 ids.
+use Rattle.std.specs.Prelude.{◌≡◌, ◌⊎◌, ℕ, ◌+◌, ◌/◌, ◌%◌, List, get_or, nat_lt, if◌then◌else◌, Option, Some, None}
 use Rattle.std.specs.Coded.{Coded-set, coded_option, coded_ℕ, Π_prop}
+use Rattle.id_table.specs.declared.pages.Page.{Page}
 
--- whether an id is among the first ones of its page, of which so many are counted
-abbrev pub is_counted : List ℕ → ℕ → Bool
-is_counted counts x = nat_lt (x % 64) (get_or counts (x / 64) 0)
+-- a page of which nothing is known
+abbrev pub no_page : Page
+no_page = record { shift = 0; count = 0 }
 
--- none is counted that wasn't, and not this id
-abbrev pub Uncounted : ℕ → (before after : List ℕ) → Type 0
-Uncounted id before after = (x : ℕ) → is_counted after x ≡ true → (is_counted before x ≡ true) × (x ≡ id → ⊥)
+-- the slot of id x by its page, where it is among the first ones that are counted
+abbrev pub slot_at : Page → ℕ → Option ℕ
+slot_at page x = if nat_lt (x % 16) page.count then Some (x + page.shift) else None
 
--- none is counted that wasn't, but this id where this is its slot
-abbrev pub Counted : (id slot : ℕ) → (before after : List ℕ) → Type 0
-Counted id slot before after = (x : ℕ) → is_counted after x ≡ true → (is_counted before x ≡ true) ⊎ ((x ≡ id) × (slot ≡ id))
+abbrev pub slot_by : List Page → ℕ → Option ℕ
+slot_by pages x = slot_at (get_or pages (x / 16) no_page) x
 
--- those that are counted are their own slots
-abbrev pub AreOwn : List ℕ → (ℕ → Option ℕ) → Type 0
-AreOwn counts slot = (x : ℕ) → is_counted counts x ≡ true → slot x ≡ Some x
+-- nothing is said that wasn't, and nothing of this id
+abbrev pub Forgotten : ℕ → (before after : List Page) → Type 0
+Forgotten id before after = (x n : ℕ) → slot_by after x ≡ Some n → (slot_by before x ≡ Some n) × (x ≡ id → ⊥)
 
-pub AreOwn-prop : (counts : List ℕ) (slot : ℕ → Option ℕ) → IsProp (AreOwn counts slot)
-AreOwn-prop counts slot = Π_prop (λ x. Π_prop (λ h. Coded-set (coded_option coded_ℕ) (slot x) (Some x)))
+-- nothing is said that wasn't, but that this id has this slot
+abbrev pub Learnt : (id slot : ℕ) → (before after : List Page) → Type 0
+Learnt id slot before after = (x n : ℕ) → slot_by after x ≡ Some n → (slot_by before x ≡ Some n) ⊎ ((x ≡ id) × (slot ≡ n))
+
+-- what pages say of slots is so
+abbrev pub AreSlots : List Page → (ℕ → Option ℕ) → Type 0
+AreSlots pages slot = (x n : ℕ) → slot_by pages x ≡ Some n → slot x ≡ Some n
+
+pub AreSlots-prop : (pages : List Page) (slot : ℕ → Option ℕ) → IsProp (AreSlots pages slot)
+AreSlots-prop pages slot = Π_prop (λ x. Π_prop (λ n. Π_prop (λ h. Coded-set (coded_option coded_ℕ) (slot x) (Some n))))

@@ -1,64 +1,73 @@
-//! Ids that are their own slots. Of each page of ids the first ones that are so are counted.
-ghost use Rattle.std.specs.Prelude.{◌≡◌, ◌⊎◌, ◌++◌, ◌∷◌, [], ℕ, true, MatchResult};
-ghost use Rattle.id_table.specs.Pages.{is_counted, Counted, Uncounted};
+//! Slots of ids that came in order. Of each page of ids the first ones are counted whose slots are as far behind them.
+ghost use Rattle.std.specs.Prelude.{◌≡◌, ◌++◌, ◌∷◌, [], MatchResult};
+ghost use Rattle.id_table.specs.Pages.{slot_by, Forgotten, Learnt};
 
 use std::alloc::AllocError;
 
 /// How many ids a page has.
-const PAGE: usize = 64;
+const PAGE: usize = 16;
 
-/// Whether an id is among those that are counted.
-pub(crate) fn is_counted(counts: &Vec<u8>, id: usize) -> bool
-    ensures { result ≡ is_counted counts.now.items id }
+/// A page: how far the slots of its first ids are behind these, and how many those are.
+#[derive(Clone, Copy)]
+pub(crate) struct Page {
+    shift: u32,
+    count: u32,
+}
+
+/// The slot of an id, where it is among those that are counted.
+pub(crate) fn slot_by(pages: &Vec<Page>, id: u32) -> Option<usize>
+    ensures { result ≡ slot_by pages.now.items id }
 {
-    match counts.get(id / PAGE) {
-        Some(count) => id % PAGE < *count as usize,
-        None => false,
+    let place = id as usize;
+    let page = pages.get(place / PAGE)?;
+    if place % PAGE < page.count as usize {
+        Some(place + page.shift as usize)
+    } else {
+        None
     }
 }
 
 /// Counts no id of a page any more.
-pub(crate) fn uncount(counts: &mut Vec<u8>, id: usize)
-    ensures { Uncounted id counts.old.items counts.new.items }
+pub(crate) fn forget(pages: &mut Vec<Page>, id: u32)
+    ensures { Forgotten id pages.old.items pages.new.items }
 {
-    let page = id / PAGE;
-    if page < counts.len() {
-        counts[page] = 0;
+    let place = id as usize / PAGE;
+    if place < pages.len() {
+        pages[place] = Page { shift: 0, count: 0 };
     }
 }
 
-/// Counts an id that is its own slot, where all before it in its page are counted. Where there is no memory for a page,
-/// it isn't counted.
-fn count(counts: &mut Vec<u8>, id: usize)
-    ensures { (x : ℕ) → is_counted counts.new.items x ≡ true → (is_counted counts.old.items x ≡ true) ⊎ (x ≡ id) }
+/// Counts an id with its slot, where that is as far behind it as those of all before it in its page. Where there is no
+/// memory for a page, it isn't counted.
+pub(crate) fn learn(pages: &mut Vec<Page>, id: u32, slot: u32)
+    ensures { Learnt id slot pages.old.items pages.new.items }
 {
-    let page = id / PAGE;
-    let offset = id % PAGE;
-    if page < counts.len() {
-        if counts[page] as usize == offset {
-            counts[page] = counts[page].saturating_add(1);
+    if slot < id {
+        return;
+    }
+    let shift = slot - id;
+    let place = id as usize / PAGE;
+    let offset = (id as usize % PAGE) as u32;
+    if place < pages.len() {
+        let page = pages[place];
+        if page.count == offset && (offset == 0 || page.shift == shift) {
+            pages[place] = Page {
+                shift,
+                count: offset + 1,
+            };
         }
         return;
     }
-    if page == counts.len() && offset == 0 {
-        let _kept = open(counts);
+    if place == pages.len() && offset == 0 {
+        let _kept = open(pages, Page { shift, count: 1 });
     }
 }
 
-/// Counts an id that is given this slot, where it is its own.
-pub(crate) fn count_own(counts: &mut Vec<u8>, id: usize, slot: usize)
-    ensures { Counted id slot counts.old.items counts.new.items }
+/// Adds a page.
+fn open(pages: &mut Vec<Page>, page: Page) -> Result<(), AllocError>
+    ensures { MatchResult result (λ _. pages.new.items ≡ pages.old.items ++ page ∷ []) (λ _. pages.new.items ≡ pages.old.items) }
 {
-    if slot == id {
-        count(counts, id);
-    }
-}
-
-/// Adds a page in which one id is counted.
-fn open(counts: &mut Vec<u8>) -> Result<(), AllocError>
-    ensures { MatchResult result (λ _. counts.new.items ≡ counts.old.items ++ 1 ∷ []) (λ _. counts.new.items ≡ counts.old.items) }
-{
-    match counts.push(1) {
+    match pages.push(page) {
         Ok(()) => Ok(()),
         Err(_) => Err(AllocError),
     }

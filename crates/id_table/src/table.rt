@@ -1,11 +1,11 @@
-ghost use Rattle.std.specs.Prelude.{◌≡◌, ℕ, ◌<◌, ◌++◌, ◌∷◌, [], length, eqb, if◌then◌else◌, Some, None, IfOk, OnOk, OnErr, MatchResult};
+ghost use Rattle.std.specs.Prelude.{◌≡◌, ℕ, ◌<◌, ◌++◌, ◌∷◌, [], eqb, if◌then◌else◌, Some, None, IfOk, OnOk, OnErr, MatchResult};
 ghost use Rattle.std.specs.FinMap as map;
 ghost use Rattle.std.specs.BTreeMap as sorted;
 ghost use Rattle.std.specs.Ordering.{nat_cmp};
-ghost use Rattle.id_table.specs.Pages.{AreOwn, AreOwn-prop, Counted};
+ghost use Rattle.id_table.specs.Pages.{AreSlots, AreSlots-prop, Learnt};
 ghost use Rattle.id_table.specs.Slots.{no_slot, slot_in, MapOf, MapOf-prop};
 
-use crate::pages::{count_own, is_counted, uncount};
+use crate::pages::{Page, forget, learn, slot_by};
 use std::alloc::{AllocError, Global};
 use std::collections::BTreeMap;
 use std::marker::Model;
@@ -17,9 +17,9 @@ const NO_SLOT: u32 = u32::MAX;
 pub struct IdTable {
     near: Vec<u32>,
     far: BTreeMap<u32, u32>,
-    own: Vec<u8>,
+    pages: Vec<Page>,
     ghost known: { MapOf (slot_in near.items (sorted.get nat_cmp far)) } by { MapOf-prop (slot_in near.items (sorted.get nat_cmp far)) },
-    ghost counted: { AreOwn own.items (slot_in near.items (sorted.get nat_cmp far)) } by { AreOwn-prop own.items (slot_in near.items (sorted.get nat_cmp far)) },
+    ghost paged: { AreSlots pages.items (slot_in near.items (sorted.get nat_cmp far)) } by { AreSlots-prop pages.items (slot_in near.items (sorted.get nat_cmp far)) },
 }
 
 impl Model for IdTable {
@@ -45,7 +45,7 @@ impl IdTable {
         Ok(IdTable {
             near,
             far: BTreeMap::new(alloc),
-            own: Vec::new(alloc),
+            pages: Vec::new(alloc),
         })
     }
 
@@ -57,7 +57,7 @@ impl IdTable {
         Ok(IdTable {
             near,
             far: BTreeMap::new(alloc),
-            own: Vec::new(alloc),
+            pages: Vec::new(alloc),
         })
     }
 
@@ -65,10 +65,10 @@ impl IdTable {
     pub fn get(&self, id: u32) -> Option<usize>
         ensures { result ≡ map.get self.now id }
     {
-        let place = id as usize;
-        if is_counted(&self.own, place) {
-            return Some(place);
+        if let Some(slot) = slot_by(&self.pages, id) {
+            return Some(slot);
         }
+        let place = id as usize;
         if place >= self.near.len() {
             return match self.far.get(&id) {
                 Some(slot) => Some(*slot as usize),
@@ -90,14 +90,14 @@ impl IdTable {
         ensures refused { OnErr result (self.new ≡ self.old) }
     {
         let place = id as usize;
-        uncount(&mut self.own, place);
+        forget(&mut self.pages, id);
         if place < self.near.len() {
             self.near[place] = slot as u32;
-            count_own(&mut self.own, place, slot);
+            learn(&mut self.pages, id, slot as u32);
             return Ok(());
         }
         if place == self.near.len() {
-            return add(&mut self.near, &mut self.own, slot as u32);
+            return add(&mut self.near, &mut self.pages, id, slot as u32);
         }
         put(&mut self.far, id, slot as u32)
     }
@@ -107,7 +107,7 @@ impl IdTable {
         ensures { self.new ≡ map.remove self.old id }
     {
         let place = id as usize;
-        uncount(&mut self.own, place);
+        forget(&mut self.pages, id);
         if place < self.near.len() {
             self.near[place] = NO_SLOT;
         } else {
@@ -116,15 +116,14 @@ impl IdTable {
     }
 }
 
-/// Gives the next id of a list a slot.
-fn add(near: &mut Vec<u32>, own: &mut Vec<u8>, slot: u32) -> Result<(), AllocError>
+/// Gives an id, which is the next one of a list, a slot.
+fn add(near: &mut Vec<u32>, pages: &mut Vec<Page>, id: u32, slot: u32) -> Result<(), AllocError>
     ensures near { MatchResult result (λ _. near.new.items ≡ near.old.items ++ slot ∷ []) (λ _. near.new.items ≡ near.old.items) }
-    ensures own { MatchResult result (λ _. Counted (length near.old.items) slot own.old.items own.new.items) (λ _. own.new.items ≡ own.old.items) }
+    ensures pages { MatchResult result (λ _. Learnt id slot pages.old.items pages.new.items) (λ _. pages.new.items ≡ pages.old.items) }
 {
-    let id = near.len();
     match near.push(slot) {
         Ok(()) => {
-            count_own(own, id, slot as usize);
+            learn(pages, id, slot);
             Ok(())
         }
         Err(_) => Err(AllocError),

@@ -3,7 +3,7 @@ use Rattle.std.specs.Ordering.{nat_cmp}
 use Rattle.std.specs.BTreeMap as sorted
 use Rattle.std.specs.FinMap as map
 use Rattle.id_table.specs.Slots.{slot_in, map_is}
-use Rattle.id_table.proofs.Owns.{put_own, add_own, far_own}
+use Rattle.id_table.proofs.Paged.{put_paged, add_paged, far_paged}
 use Rattle.id_table.proofs.Tables.{add_known, add_inserted, add_refused, near_changed, some_slot, changed, inserted, put_known, put_inserted, put_refused}
 use Rattle.id_table.proofs.table.IdTable.insert.Goals as goal
 
@@ -18,7 +18,7 @@ invariant_of-self-inside c =
             (λ x. near_changed near far c.args.id c.args.slot l x ∙ ap (λ o. changed c.args.id o (slot_in near far) x) (some_slot c.args.slot c.requires)),
       ),
       (
-        put_own c.self.inside.own.items c.uncount.new.counts.items (slot_in near far) (slot_in (set near c.args.id c.args.slot) far) c.args.id c.self.inside.counted c.uncount.ensures c.count_own.new.counts.items c.args.slot c.count_own.ensures
+        put_paged c.self.inside.pages.items c.forget.new.pages.items (slot_in near far) (slot_in (set near c.args.id c.args.slot) far) c.args.id c.self.inside.paged c.forget.ensures c.learn.new.pages.items c.args.slot c.learn.ensures
             (λ x. near_changed near far c.args.id c.args.slot l x ∙ ap (λ o. changed c.args.id o (slot_in near far) x) (some_slot c.args.slot c.requires)),
         tt,
       ),
@@ -39,8 +39,8 @@ invariant_of-self-inside-then-place-len-2 c = (
   add_known c.self.inside.near.items c.add.new.near.items (sorted.get nat_cmp c.self.inside.far) c.args.id c.args.slot
       (omega (arith, c.if-place-len-2.true, c.len-2.ensures, c.self.inside.near.ok.0)) c.requires c.self.inside.known c.add.result c.add.ensures.near,
   (
-    add_own c.self.inside.near.items c.add.new.near.items (sorted.get nat_cmp c.self.inside.far) c.args.id c.args.slot
-        (omega (arith, c.if-place-len-2.true, c.len-2.ensures, c.self.inside.near.ok.0)) c.requires c.self.inside.own.items c.uncount.new.counts.items c.add.new.own.items c.self.inside.counted c.uncount.ensures c.add.result c.add.ensures.near c.add.ensures.own,
+    add_paged c.self.inside.near.items c.add.new.near.items (sorted.get nat_cmp c.self.inside.far) c.args.id c.args.slot
+        (omega (arith, c.if-place-len-2.true, c.len-2.ensures, c.self.inside.near.ok.0)) c.requires c.self.inside.pages.items c.forget.new.pages.items c.add.new.pages.items c.self.inside.paged c.forget.ensures c.add.result c.add.ensures.near c.add.ensures.pages,
     tt,
   ),
 )
@@ -60,8 +60,8 @@ invariant_of-self-inside-2 c = (
   put_known c.self.inside.near.items (sorted.get nat_cmp c.self.inside.far) (sorted.get nat_cmp c.put.new.far) c.args.id c.args.slot
       (omega (arith, c.if-place-len.false, c.len.ensures, c.self.inside.near.ok.0)) c.self.inside.known c.put.result c.put.ensures,
   (
-    far_own c.self.inside.near.items (sorted.get nat_cmp c.self.inside.far) (sorted.get nat_cmp c.put.new.far) c.args.id c.args.slot
-        (omega (arith, c.if-place-len.false, c.len.ensures, c.self.inside.near.ok.0)) c.self.inside.own.items c.uncount.new.counts.items c.self.inside.counted c.uncount.ensures c.put.result c.put.ensures,
+    far_paged c.self.inside.near.items (sorted.get nat_cmp c.self.inside.far) (sorted.get nat_cmp c.put.new.far) c.args.id c.args.slot
+        (omega (arith, c.if-place-len.false, c.len.ensures, c.self.inside.near.ok.0)) c.self.inside.pages.items c.forget.new.pages.items c.self.inside.paged c.forget.ensures c.put.result c.put.ensures,
     tt,
   ),
 )

@@ -3,7 +3,7 @@ use Rattle.std.specs.Ordering.{nat_cmp}
 use Rattle.std.specs.BTreeMap as sorted
 use Rattle.std.specs.FinMap as map
 use Rattle.id_table.specs.Slots.{no_slot, slot_in, map_is}
-use Rattle.id_table.proofs.Owns.{others_own}
+use Rattle.id_table.proofs.Paged.{others_paged}
 use Rattle.id_table.proofs.Tables.{near_changed, far_changed, removed}
 use Rattle.id_table.proofs.table.IdTable.remove.Goals as goal
 
@@ -16,7 +16,7 @@ invariant_of-self-inside c =
         map.remove c.self.inside.known.0 c.args.id,
         removed (slot_in near far) (slot_in (set near c.args.id no_slot) far) c.args.id c.self.inside.known (near_changed near far c.args.id no_slot l),
       ),
-      (others_own c.self.inside.own.items c.uncount.new.counts.items (slot_in near far) (slot_in (set near c.args.id no_slot) far) c.args.id c.self.inside.counted c.uncount.ensures None (near_changed near far c.args.id no_slot l), tt),
+      (others_paged c.self.inside.pages.items c.forget.new.pages.items (slot_in near far) (slot_in (set near c.args.id no_slot) far) c.args.id c.self.inside.paged c.forget.ensures None (near_changed near far c.args.id no_slot l), tt),
     )
 
 pub invariant_of-self-inside-else-place-len : goal.invariant_of-self-inside-else-place-len
@@ -29,7 +29,7 @@ invariant_of-self-inside-else-place-len c =
         map.remove c.self.inside.known.0 c.args.id,
         removed (slot_in near far) (slot_in near far') c.args.id c.self.inside.known (far_changed near far far' c.args.id None l c.drop_id.ensures),
       ),
-      (others_own c.self.inside.own.items c.uncount.new.counts.items (slot_in near far) (slot_in near far') c.args.id c.self.inside.counted c.uncount.ensures None (far_changed near far far' c.args.id None l c.drop_id.ensures), tt),
+      (others_paged c.self.inside.pages.items c.forget.new.pages.items (slot_in near far) (slot_in near far') c.args.id c.self.inside.paged c.forget.ensures None (far_changed near far far' c.args.id None l c.drop_id.ensures), tt),
     )
 
 pub returns-then-place-len : goal.returns-then-place-len
