@@ -10,7 +10,7 @@ use Rattle.id_table.proofs.Tables.{changed, not_less, near_grown, far_changed, s
 -- where there are no pages
 pub no_pages : (pages : List Page) (f : ℕ → Option ℕ) → pages ≡ [] → AreSlots pages f
 no_pages pages f e x n h =
-    let none : slot_by [] x ≡ None = cond-false _ (Some (x + 0)) None (not_less (x % 16) 0 (omega arith)) in
+    let none : slot_by [] x ≡ None = cond-false _ (Some (x + 0)) None (not_less (x % 256) 0 (omega arith)) in
     let bad : ◌≡◌ {A = Option ℕ} (Some n) None = sym h ∙ ap (λ z. slot_by z x) e ∙ none in
     absurd cc
 

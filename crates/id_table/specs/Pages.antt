@@ -1,4 +1,4 @@
--- Slots of ids that came in order, by pages of 16 ids.
+-- Slots of ids that came in order, by pages of 256 ids.
 use Rattle.std.specs.Prelude.{◌≡◌, ◌⊎◌, ℕ, ◌+◌, ◌/◌, ◌%◌, List, get_or, nat_lt, if◌then◌else◌, Option, Some, None}
 use Rattle.std.specs.Coded.{Coded-set, coded_option, coded_ℕ, Π_prop}
 use Rattle.id_table.specs.declared.pages.Page.{Page}
@@ -9,10 +9,10 @@ no_page = record { shift = 0; count = 0 }
 
 -- the slot of id x by its page, where it is among the first ones that are counted
 abbrev pub slot_at : Page → ℕ → Option ℕ
-slot_at page x = if nat_lt (x % 16) page.count then Some (x + page.shift) else None
+slot_at page x = if nat_lt (x % 256) page.count then Some (x + page.shift) else None
 
 abbrev pub slot_by : List Page → ℕ → Option ℕ
-slot_by pages x = slot_at (get_or pages (x / 16) no_page) x
+slot_by pages x = slot_at (get_or pages (x / 256) no_page) x
 
 -- nothing is said that wasn't, and nothing of this id
 abbrev pub Forgotten : ℕ → (before after : List Page) → Type 0

@@ -5,7 +5,7 @@ ghost use Rattle.id_table.specs.Pages.{slot_by, Forgotten, Learnt};
 use std::alloc::AllocError;
 
 /// How many ids a page has.
-const PAGE: usize = 16;
+const PAGE: usize = 256;
 
 /// A page: how far the slots of its first ids are behind these, and how many those are.
 #[derive(Clone, Copy)]

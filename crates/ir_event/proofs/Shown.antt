@@ -1,16 +1,14 @@
 -- Operations that a store knows, and what they have.
-use Rattle.std.proofs.Common.{◌≡◌, refl, ap, sym, ◌∙◌, ℕ, Bool, true, false, true≢false, cond, ◌||◌, ⊎_elim, eqb, List, [], ◌∷◌, map, Option, Some, None, slice_get}
+use Rattle.std.proofs.Common.{◌≡◌, refl, ap, sym, ◌∙◌, ℕ, Bool, true, false, true≢false, cond, ◌||◌, ⊎_elim, eqb, List, [], ◌∷◌, map, Option, Some, None}
 use Rattle.std.proofs.lemmas.Bool.{cases_Bool}
-use Rattle.std.specs.Prelude.{option_map, option_and_then}
+use Rattle.std.specs.Prelude.{option_map}
 use Rattle.std.specs.List.{list_any}
 use Rattle.std.specs.FinMap as finmap
-use Rattle.ir_tree.specs.Tree.{Op, OpOf, op, head}
+use Rattle.ir_tree.specs.Tree.{Op, OpOf}
 use Rattle.ir_tree.specs.Ids.{ids, has_id, find, first_of}
-use Rattle.ir_tree_laws.specs.Changes.{operand_at}
 use Rattle.ir_tree_laws.specs.Stands.{StandOf, stand_id, stand_in, stands}
 use Rattle.ir_tree_laws.proofs.Around.{any_ids}
 use Rattle.ir_tree_laws.proofs.Readings.{stands_find, stands_ids}
-use Rattle.ir_store.specs.Nodes.{Node, node_of}
 use Rattle.ir_store.specs.Stored.{Stored, known}
 
 module _ {N T A : Type 0} where
@@ -34,11 +32,3 @@ known_there x s h = go (find x s.module_of.tree) refl
     go : (o : Option Op) → find x s.module_of.tree ≡ o → first_of o (finmap.get s.held x) ≡ o
     go None e = absurd (true≢false (sym h ∙ none_found x s.module_of.tree e))
     go (Some o) e = refl
-
--- its operands are those of its node
-pub node_operand : (x k : ℕ) (t : Op) (n : Node) → option_map node_of (find x t) ≡ Some n → operand_at x k t ≡ slice_get n.head.operands k
-node_operand x k t n e = go (find x t) e
-  where
-    go : (o : Option Op) → option_map node_of o ≡ Some n → option_and_then (λ o. slice_get (head o).operands k) o ≡ slice_get n.head.operands k
-    go None f = absurd cc
-    go (Some (op h rs)) f = (let same : node_of (op h rs) ≡ n = cc in ap (λ (m : Node). slice_get m.head.operands k) same)

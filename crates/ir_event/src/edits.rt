@@ -1,5 +1,5 @@
 //! Worlds that are made, and edited.
-ghost use Rattle.std.specs.Prelude.{◌≡◌, ◌<◌, ◌⊎◌, IfOk, IfErr, OnOk, OnErr, MatchResult, Some, None, Err, slice_get};
+ghost use Rattle.std.specs.Prelude.{◌≡◌, ◌<◌, ◌⊎◌, IfOk, IfErr, OnOk, OnErr, MatchResult, Some, None, Err};
 ghost use Rattle.std.specs.List.{All};
 ghost use Rattle.ir_types.specs.Reasons.{IsRefusedFor};
 ghost use Rattle.ir_tree.specs.Ids.{ids, HasDistinctIds};
@@ -7,7 +7,6 @@ ghost use Rattle.ir_tree.specs.Meaning.{isolated_in, IsSoundIn};
 ghost use Rattle.ir_tree.specs.WellFormed.{IsFormed, fault, IsWellFormed};
 ghost use Rattle.ir_tree_laws.specs.Reasons.{set_operand_reason};
 ghost use Rattle.ir_event.specs.Modules.{things_in, module_in};
-ghost use Rattle.ir_tree_laws.specs.Changes.{operand_at};
 ghost use Rattle.ir_store.specs.Calls.{Loaded, after_operand};
 ghost use Rattle.ir_event.specs.Step.{IsOperandEvent, IsOperandStep};
 
@@ -21,23 +20,6 @@ use ir_types::ids::OpId;
 use ir_types::refusal::Refusal;
 use op_registry::registry::Registry;
 use std::alloc::{AllocError, Global};
-
-/// An operand of an operation by its number, or none where it has no such operand or isn't in the module.
-fn operand_of(store: &Store, op: OpId, operand: u32) -> Option<Value>
-    ensures { result ≡ operand_at op operand store.now.module_of.tree }
-{
-    if !store.in_tree(op) {
-        return None;
-    }
-    let node = store.node(op)?;
-    operand_among(node.operands(), operand)
-}
-
-fn operand_among(operands: &[Value], operand: u32) -> Option<Value>
-    ensures { result ≡ slice_get operands.now operand }
-{
-    operands.get(operand as usize).copied()
-}
 
 /// Sets an operand of a store's module, and gives the event.
 fn set_in(
@@ -54,13 +36,7 @@ fn set_in(
     ensures formed { IsWellFormed (isolated_in ctx.now) store.old.module_of → IsWellFormed (isolated_in ctx.now) store.new.module_of }
     ensures err { OnErr result (store.new ≡ store.old) }
 {
-    let Some(old) = operand_of(store, op, operand) else {
-        return match store.set_operand(ctx, op, operand, *value) {
-            Ok(()) => Err(Refusal::NoSuchIndex),
-            Err(refusal) => Err(refusal),
-        };
-    };
-    store.set_operand(ctx, op, operand, *value)?;
+    let old = store.set_operand(ctx, op, operand, *value)?;
     Ok(Event::SetOperand {
         op,
         operand,

@@ -3,7 +3,7 @@ use Rattle.std.proofs.Common.{◌≡◌, ℕ, ◌<◌, List, map, set, get_or, s
 use Rattle.std.specs.FinMap as finmap
 use Rattle.std.proofs.lemmas.List.{get_or-map, get_or-set_same, get_or-set_other, length-set, map-set, length-map}
 use Rattle.chains.specs.Lists.{Lists, free, without as drop_node, IsItem}
-use Rattle.ir_tree.specs.Tree.{Op}
+use Rattle.ir_tree.specs.Tree.{Op, Head, op, head}
 use Rattle.ir_tree.specs.Ids.{find}
 use Rattle.ir_tree.specs.Places.{without}
 use Rattle.ir_store_base.specs.declared.row.Row.{Row as Kept}
@@ -15,13 +15,14 @@ use Rattle.ir_store_base.specs.Spells.{SpellsOp, Spelled, Spelled-prop, spelled_
 use Rattle.ir_store.specs.Holds.{HoldsOf, HoldsOf-prop, GoneOf, GoneOf-prop, map_is}
 use Rattle.ir_store_base.specs.Right.{Right}
 use Rattle.ir_store_base.proofs.Slots.{found_op, node_known, used_inside}
-use Rattle.std.specs.Prelude.{option_map}
+use Rattle.std.specs.Prelude.{option_and_then, option_map, slice_get}
 use Rattle.ir_store_base.specs.Nodes.{node_of}
 use Rattle.ir_store_base.specs.Stored.{known}
 use Rattle.ir_store_base.specs.Rows.{node_row, row_with_operand, live_slot}
 use Rattle.ir_tree.specs.declared.value.Value.{Value}
 use Rattle.ir_tree.specs.Edits.{with_operand}
 use Rattle.ir_store.specs.Calls.{after_operand}
+use Rattle.ir_tree_laws.specs.Changes.{operand_at}
 use Rattle.ir_store_base.proofs.Slots.{Found, found}
 use Rattle.ir_store.proofs.Writing.{write_spells, write_right, write_holds, write_gone}
 use Rattle.ir_store.proofs.Taking.{IsLeaf, cut_spells, cut_right, cut_holds, cut_gone}
@@ -120,6 +121,18 @@ module _ (a : Inside) (r : IsRight a) (x k j : ℕ) (v : Value) (e : Some k ≡ 
 
   pub operands_of : (n : Kept) → n ≡ get_or a.rows.items k n → (row_at (rows_in a) k).head.operands ≡ n.contents.operands
   operands_of n en = ap (λ z. z.head.operands) (read_row a.rows.items k n write_inside en)
+
+  -- the one that was there
+  head_of : (o : Op) → SpellsOp (rows_in a) a.sibs.lists k o → (row_at (rows_in a) k).head ≡ head o
+  head_of (op h rs) s = s.1.0
+
+  pub operand_was : (n : Kept) → n ≡ get_or a.rows.items k n → (was : Option Value) → slice_get (row_of n).head.operands j ≡ was → operand_at x j a.spelled.0 ≡ was
+  operand_was n en was e' =
+      let o = found_op (rows_in a) (keys_in a) a.sibs a.root a.spelled.0 r a.spelled.1 x k here in
+      ap (option_and_then (λ (o : Op). slice_get (head o).operands j)) o.1.0
+      ∙ ap (λ (h : Head). slice_get h.operands j) (sym (head_of o.0 o.1.1))
+      ∙ ap (λ (z : Row). slice_get z.head.operands j) (read_row a.rows.items k n write_inside en)
+      ∙ e'
 
   module _ (n : Kept) (en : n ≡ get_or a.rows.items k n) (m : Kept) (em : row_of m ≡ row_with_operand j v (row_of n)) where
     abbrev pub written : List Kept

@@ -10,6 +10,7 @@ ghost use Rattle.ir_tree_laws.specs.Values.{type_of_value};
 ghost use Rattle.ir_store_base.specs.Using.{AreUses};
 ghost use Rattle.ir_store_base.specs.Reasoned.{rewire_reason};
 ghost use Rattle.ir_tree.specs.Limits.{most_next};
+ghost use Rattle.ir_tree_laws.specs.Changes.{operand_at};
 ghost use Rattle.ir_tree_laws.specs.Reasons.{take_reason};
 ghost use Rattle.ir_store_base.specs.Nodes.{node_of};
 ghost use Rattle.ir_store_base.specs.Stored.{known};
@@ -187,10 +188,12 @@ impl Store {
 }
 
 impl Store {
-    /// Makes a value of the module an operand, where whether the operation sees it isn't looked at.
-    pub(crate) fn rewire(&mut self, op: OpId, place: usize, value: Value) -> Result<(), Refusal>
-        ensures { MatchResult result (λ _. (rewire_reason op place value self.old.module_of.tree ≡ None) × (self.new ≡ after_operand op place value self.old))
+    /// Makes a value of the module an operand, where whether the operation sees it isn't looked at, and gives the one
+    /// that was there.
+    pub(crate) fn rewire(&mut self, op: OpId, place: usize, value: Value) -> Result<Value, Refusal>
+        ensures done { MatchResult result (λ _. (rewire_reason op place value self.old.module_of.tree ≡ None) × (self.new ≡ after_operand op place value self.old))
             (λ e. (rewire_reason op place value self.old.module_of.tree ≡ Some e) × (self.new ≡ self.old)) }
+        ensures was { IfOk result (λ v. operand_at op place self.old.module_of.tree ≡ Some v) }
     {
         let (key, head) = match find_rewire(&self.rows, &self.keys, &self.uses, op, place, &value) {
             Ok(found) => found,
@@ -199,9 +202,9 @@ impl Store {
         let node = use_node(&self.rows, key, place);
         self.uses.remove(node);
         let row = &mut self.rows[key];
-        put_operand(row, place, value);
+        let old = put_operand(row, place, value);
         self.uses.push_back(node, head);
-        Ok(())
+        Ok(old)
     }
 }
 

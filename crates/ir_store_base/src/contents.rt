@@ -1,5 +1,5 @@
 //! What an operation in a slot has, beside its name and its places.
-ghost use Rattle.std.specs.Prelude.{◌≡◌, ◌<◌, [], true, false, ◌||◌, nat_lt, map, length, slice_set, None, is_some, IfOk, OnOk, OnErr, MatchOption};
+ghost use Rattle.std.specs.Prelude.{◌≡◌, ◌<◌, [], true, false, ◌||◌, nat_lt, map, length, slice_get, slice_set, Some, None, is_some, IfOk, OnOk, OnErr, MatchOption};
 ghost use Rattle.ir_tree.specs.Edits.{entry_at};
 ghost use Rattle.ir_tree.specs.Meaning.{key_before_in, rises};
 ghost use Rattle.ir_tree.specs.Tree.{head};
@@ -17,6 +17,7 @@ use ir_types::ids::{AttrId, NameId, TypeId};
 use smallvec::SmallVec;
 use std::alloc::{AllocError, Global};
 use std::marker::Model;
+use std::mem::replace;
 
 /// What an operation has, behind its slot: a block's head has nothing of it, and takes no room for it.
 #[derive(Drop)]
@@ -122,13 +123,15 @@ impl Contents {
         }
     }
 
-    /// Makes a value an operand.
-    pub fn put_operand(&mut self, place: usize, value: Value)
+    /// Makes a value an operand, and gives the one that was there.
+    pub fn put_operand(&mut self, place: usize, value: Value) -> Value
         requires { place < length self.old.operands }
-        ensures { self.new ≡ record self.old { operands = slice_set self.old.operands place value } }
+        ensures put { self.new ≡ record self.old { operands = slice_set self.old.operands place value } }
+        ensures was { slice_get self.old.operands place ≡ Some result }
     {
-        if let Some(parts) = &mut self.parts {
-            parts.operands[place] = value;
+        match &mut self.parts {
+            Some(parts) => replace(&mut parts.operands[place], value),
+            None => unreachable!(),
         }
     }
 

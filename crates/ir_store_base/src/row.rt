@@ -1,5 +1,5 @@
 //! What the slots of a store hold.
-ghost use Rattle.std.specs.Prelude.{◌≡◌, ◌<◌, ◌++◌, ◌∷◌, [], OnOk, OnErr, length, slice_set};
+ghost use Rattle.std.specs.Prelude.{◌≡◌, ◌<◌, ◌++◌, ◌∷◌, [], OnOk, OnErr, Some, length, slice_get, slice_set};
 ghost use Rattle.ir_store_base.specs.Rows.{row_of, rows_of, row_with_operand};
 
 use crate::contents::Contents;
@@ -44,12 +44,13 @@ pub enum Area {
     Block { args: Vec<TypeId>, head: usize },
 }
 
-/// Makes a value an operand.
-pub fn put_operand(row: &mut Row, place: usize, value: Value)
+/// Makes a value an operand, and gives the one that was there.
+pub fn put_operand(row: &mut Row, place: usize, value: Value) -> Value
     requires { place < length (row_of row.old).head.operands }
-    ensures { row_of row.new ≡ row_with_operand place value (row_of row.old) }
+    ensures put { row_of row.new ≡ row_with_operand place value (row_of row.old) }
+    ensures was { slice_get (row_of row.old).head.operands place ≡ Some result }
 {
-    row.contents.put_operand(place, value);
+    row.contents.put_operand(place, value)
 }
 
 /// One more row.

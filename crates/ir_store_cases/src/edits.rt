@@ -113,7 +113,7 @@ pub fn set_line(
     let (operand, word) = first(rest);
     let (op, operand, value) = (op_id(op), number(operand), value(word));
     match store.set_operand(ctx, op, operand, value) {
-        Ok(()) => accepted(
+        Ok(_) => accepted(
             alloc,
             "ok",
             with_operand_set(alloc, tree, op, operand as usize, &value)?,

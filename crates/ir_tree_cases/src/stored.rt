@@ -90,7 +90,10 @@ pub fn held(alloc: Global, state: &mut State, text: &str) -> Result<String, Allo
 fn set_in(context: &Context, store: &mut Store, text: &str) -> Result<(), Refusal> {
     let (op, rest) = first(text);
     let (operand, word) = first(rest);
-    store.set_operand(context, op_id(op), number(operand), value(word))
+    match store.set_operand(context, op_id(op), number(operand), value(word)) {
+        Ok(_) => Ok(()),
+        Err(refusal) => Err(refusal),
+    }
 }
 
 /// Sets an operand in the module.

@@ -4,5 +4,4 @@ pub mod Putting
 pub mod Taking
 pub mod Entering
 pub mod Shifting
-pub mod Setting
 pub mod Undoing

@@ -1,5 +1,5 @@
 //! Operations are put and taken, operands and entries are set, each with its event.
-ghost use Rattle.std.specs.Prelude.{◌≡◌, Some, None, true, IfOk, OnOk, OnErr, IfSome, MatchResult, Err, slice_get};
+ghost use Rattle.std.specs.Prelude.{◌≡◌, Some, None, true, IfOk, OnOk, OnErr, IfSome, MatchResult, Err};
 ghost use Rattle.std.specs.FinMap as finmap;
 ghost use Rattle.ir_types.specs.Reasons.{IsRefusedFor};
 ghost use Rattle.ir_types.specs.Terms.{name_term};
@@ -8,7 +8,7 @@ ghost use Rattle.ir_types.specs.Words.{is_table};
 ghost use Rattle.ir_tree.specs.Edits.{entry_at};
 ghost use Rattle.ir_tree.specs.Meaning.{IsSoundIn, isolated_in, key_before_in};
 ghost use Rattle.ir_tree.specs.WellFormed.{IsWellFormed};
-ghost use Rattle.ir_tree_laws.specs.Changes.{entry_in, operand_at};
+ghost use Rattle.ir_tree_laws.specs.Changes.{entry_in};
 ghost use Rattle.ir_tree_laws.specs.Reasons.{holds_none, put_reason, set_entry_reason, set_operand_reason, shift_reason, take_reason};
 ghost use Rattle.ir_store.specs.Calls.{after_entry, after_operand, after_put, after_shift, after_take};
 ghost use Rattle.ir_event.specs.declared.event.Event.TheVariants.{Put};
@@ -196,13 +196,9 @@ fn set_in(
     ensures formed { IsWellFormed (isolated_in ctx.now) store.old.module_of → IsWellFormed (isolated_in ctx.now) store.new.module_of }
     ensures err { OnErr result (store.new ≡ store.old) }
 {
-    let old = operand_of(store, op, operand);
-    match store.set_operand(ctx, op, operand, *value) {
-        Ok(()) => {}
+    let old = match store.set_operand(ctx, op, operand, *value) {
+        Ok(old) => old,
         Err(refusal) => return Err(refusal),
-    }
-    let Some(old) = old else {
-        return Err(Refusal::NoSuchIndex);
     };
     Ok(Event::SetOperand {
         op,
@@ -285,22 +281,4 @@ fn entry_of(
         Part::Props => Some(entry_among(ctx, node.properties(), key)),
         Part::Attrs => Some(entry_among(ctx, node.attributes(), key)),
     }
-}
-
-/// An operand of an operation by its number, or none where it has no such operand or isn't in the module.
-fn operand_of(store: &Store, op: OpId, operand: u32) -> Option<Value>
-    ensures { result ≡ operand_at op operand store.now.module_of.tree }
-{
-    if !store.in_tree(op) {
-        return None;
-    }
-    let node = store.node(op)?;
-    operand_among(node.operands(), operand)
-}
-
-/// An operand by its number.
-fn operand_among(operands: &[Value], operand: u32) -> Option<Value>
-    ensures { result ≡ slice_get operands.now operand }
-{
-    operands.get(operand as usize).copied()
 }

@@ -38,7 +38,7 @@ fn undo_in(ctx: &Context, store: &mut Store, event: &Event)
             old,
             ..
         } => match store.set_operand(ctx, op, operand, old) {
-            Ok(()) => {}
+            Ok(_) => {}
             Err(_) => {}
         },
         Event::SetEntry {
