@@ -20,7 +20,8 @@ use Rattle.ir_store_base.specs.Rows.{Row, Shape, row_at, live_slot, head_in}
 use Rattle.ir_store_base.specs.Spells.{SpellsOp, SpellsRegions, SpellsOps}
 use Rattle.ir_store_base.specs.Spots.{id_in, slot_place}
 use Rattle.ir_store_base.specs.Right.{Live, Right}
-use Rattle.ir_store.specs.Heading.{block_in, CanStand}
+use Rattle.ir_store_reads.specs.Heading.{block_in, CanStand}
+use Rattle.ir_store_reads.proofs.Apart.{not_behind}
 use Rattle.ir_store_base.proofs.Slots.{Found, found, found_op, none_found, only, slot_of_live}
 use Rattle.ir_store.proofs.Cut.{head_id, live_of}
 use Rattle.ir_store.proofs.Standing.{some_place, root_placeless, place_missing}
@@ -102,18 +103,6 @@ module _ (rows : List Row) (lists : List (List ℕ)) where
     never_behind y [] (next o os) z = absurd z
     never_behind y (k ∷ ks) no_ops z = absurd z
     never_behind y (k ∷ ks) (next o os) z = (λ i. cond (eqb (head o).id y) (never_among ks os z.1 i) (never_behind y ks os z.1 i)) ∙ same (eqb (head o).id y)
-
--- where a node isn't in a list, none stands before it
-pub not_behind : (a b : ℕ) (ks : List ℕ) → has b ks ≡ false → slot_before a b ks ≡ false
-not_behind a b [] e = refl
-not_behind a b (k ∷ ks) e = (λ i. cond (eqb k a) (rest e i) (not_behind a b ks (rest e) i)) ∙ same (eqb k a)
-  where
-    half : (p q : Bool) → (p || q) ≡ false → q ≡ false
-    half true q f = absurd (false≢true (sym f))
-    half false q f = f
-
-    rest : has b (k ∷ ks) ≡ false → has b ks ≡ false
-    rest f = half (eqb k b) (has b ks) f
 
 among_there : (x : ℕ) (front : List Op) (o : Op) (rest : List Op) → (head o).id ≡ x → is_among x (ops_of (front ++ o ∷ rest)) ≡ true
 among_there x [] o rest e = or_left (eqb (head o).id x) (is_among x (ops_of rest)) (eq-eqb (head o).id x e)
@@ -259,7 +248,3 @@ module _ (rows : List Row) (keys : ℕ → Option ℕ) (sibs : Lists) (root : �
         ap (in_list (goes_before x y)) b.is
         ∙ never_behind rows sibs.lists y (λ q l i. let z : None ≡ Some q = sym e ∙ slot_of_live rows keys sibs root t r s y q l i in absurd cc) x (list_at sibs.lists (home_at sibs.homes k)) b.list b.spelt)
         (cases_eq k root)
-
--- a node that has another home isn't in a list
-pub apart : (lists : List (List ℕ)) (homes : List ℕ) → Laws lists homes → (a b h : ℕ) → (home_at homes b ≡ h → ⊥) → slot_before a b (list_at lists h) ≡ false
-apart lists homes laws a b h n = not_behind a b (list_at lists h) (⊎_elim (λ y. absurd (n (laws.members h b y).0)) (λ e. e) (cases_Bool (has b (list_at lists h))))

@@ -1,20 +1,11 @@
 //! What stands beside an operation of the module.
-ghost use Rattle.std.specs.Prelude.{◌≡◌, option_map};
-ghost use Rattle.std.specs.FinMap as finmap;
-ghost use Rattle.chains.specs.Lists.{home_at, list_at};
-ghost use Rattle.order.specs.Labels.{goes_before};
+ghost use Rattle.std.specs.Prelude.{◌≡◌};
 ghost use Rattle.ir_tree_laws.specs.Reads.{first_at, last_at, prev_of, is_before};
-ghost use Rattle.ir_store_base.specs.Rows.{rows_of, live_slot};
-ghost use Rattle.ir_store_base.specs.Spots.{id_in};
-ghost use Rattle.ir_store.specs.Heading.{block_in, CanStand};
 
 use crate::store::Store;
-use ir_store_base::find::{Keys, find};
-use ir_store_base::row::Row;
-use ir_store_base::spot::block_head;
-use ir_store_base::uses::id_at;
+use ir_store_base::find::find;
+use ir_store_reads::beside::{find_block, goes_before, id_of};
 use ir_types::ids::OpId;
-use order::Ordered;
 
 impl Store {
     /// The first operation of the block of a region, if there is one.
@@ -63,44 +54,5 @@ impl Store {
             return false;
         };
         goes_before(&self.sibs, key, behind)
-    }
-}
-
-/// The head of the list of the block of a region of an operation of the module, if it has one.
-fn find_block(rows: &Vec<Row>, keys: &Keys, op: OpId, region: u32) -> Option<usize>
-    ensures { result ≡ block_in (rows_of rows.now.items) (live_slot (rows_of rows.now.items) (finmap.get keys.now)) op region }
-{
-    let key = find(rows, keys, op)?;
-    let row = rows.get(key)?;
-    block_head(row.contents.areas(), region as usize)
-}
-
-/// The operation in a slot, if one is given.
-fn id_of(rows: &Vec<Row>, key: Option<usize>) -> Option<OpId>
-    ensures { result ≡ option_map (id_in (rows_of rows.now.items)) key }
-{
-    match key {
-        None => None,
-        Some(key) => Some(id_at(rows, key)),
-    }
-}
-
-/// Whether a node stands before another in one list.
-fn goes_before(sibs: &Ordered, node: usize, behind: usize) -> bool
-    requires node { CanStand sibs.now.homes node }
-    requires behind { CanStand sibs.now.homes behind }
-    ensures { result ≡ goes_before node behind (list_at sibs.now.lists (home_at sibs.now.homes node)) }
-{
-    sibs.laws();
-    let Some(home) = sibs.home(node) else {
-        return false;
-    };
-    let Some(other) = sibs.home(behind) else {
-        return false;
-    };
-    if home == other {
-        sibs.is_before(node, behind)
-    } else {
-        false
     }
 }

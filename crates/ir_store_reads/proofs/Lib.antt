@@ -1,3 +1,4 @@
+pub mod Apart
 pub mod Arguments
 pub mod Copied
 pub mod Adding

@@ -1,3 +1,4 @@
 pub mod Added
 pub mod Ends
+pub mod Heading
 pub mod Again

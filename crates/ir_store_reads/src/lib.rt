@@ -1,6 +1,7 @@
 //! What is read of the slots of a module under edits.
 #![tactic(auto)]
 
+pub mod beside;
 pub mod copy;
 pub mod depth;
 pub mod node;

@@ -1,6 +1,6 @@
 use Rattle.std.proofs.Common.{sym, ◌∙◌}
-use Rattle.ir_store.proofs.Listing.{apart}
-use Rattle.ir_store.proofs.beside.goes_before.Goals as goal
+use Rattle.ir_store_reads.proofs.Apart.{apart}
+use Rattle.ir_store_reads.proofs.beside.goes_before.Goals as goal
 
 pub returns-in_default-home : goal.returns-in_default-home
 returns-in_default-home c =
