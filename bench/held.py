@@ -1,0 +1,91 @@
+#!/usr/bin/env python3
+"""Tells how many bytes of memory a built program holds for an operation: its tree once it is read, the store with all listeners
+detached, and each listener, by runs over modules of one block and of functions of 20 operations (those that bench/commands.py
+edits, and as programs have them, of two operands and a result); and how many it has resident at most while it reads a module,
+and while it makes the store and begins all six listeners (which the system knows to about half a megabyte).
+
+A script that only prints makes neither a store nor a listener, so the tree is what is resident before the text of the module is
+written, that text taken off. Any other begins all six before its first command: they are detached one by one, and each gives
+up what it holds. What is resident is looked at behind each, once what was given up is handed back to the system (bench/marks.c
+stands before the C library), so that neither what reading took nor the tree, which the store takes the place of, hides it. Each
+figure is held against the same run over an empty module. Pages are of four kilobytes here.
+
+usage: bench/held.py PROGRAM [SIZES]"""
+import sys
+
+import marks
+from edit_scripts import HELD, MOST_BYTES
+
+SIZES = "10000,100000,1000000"
+SMALL_PAGES = {"GLIBC_TUNABLES": "glibc.malloc.hugetlb=0", "MARKS_MEMORY": "1"}
+# Commands of which the replies fill some parts of the output, and which change nothing.
+WAIT = ["begin", "commit"] * 3000
+
+
+class Meter:
+    """Runs of a program, with the bytes that they told of."""
+    def __init__(self, program, library):
+        self.program, self.library = program, library
+
+    def run(self, text, lines):
+        """What a run over a module wrote, and for each part the lines before it, and the bytes resident then and at most."""
+        script = text.encode() + marks.DIVIDER + "".join(line + "\n" for line in lines).encode()
+        _, wrote, told = marks.run([self.program, "--brief"], script, {**SMALL_PAGES, "LD_PRELOAD": self.library})
+        if b" refused " in wrote:
+            sys.exit(f"it answers {wrote[:80]}")
+        return wrote, [(lines, 1024 * held, 1024 * most) for lines, held, most in told]
+
+    def tree(self, text):
+        """The bytes of a tree."""
+        wrote, told = self.run(text, ["print"])
+        return told[0][1] - len(wrote)
+
+    def reading(self, text):
+        """The most bytes while a module is read."""
+        return self.run(text, [])[1][-1][2]
+
+    def editing(self, text):
+        """The bytes of the store, of each listener, and the most bytes of a run with all of them."""
+        gone = marks.KINDS[::-1]
+        _, told = self.run(text, WAIT + [line for kind in gone for line in (f"detach {kind}", *WAIT)])
+        held = [within(told, n * (len(WAIT) + 1), (n + 1) * (len(WAIT) + 1) - 1) for n in range(len(gone) + 1)]
+        alone = {kind: before - after for kind, before, after in zip(gone, held, held[1:])}
+        return held[-1], alone, told[-1][2]
+
+    def all(self, text):
+        """Every figure of a module, in the order of the table's columns."""
+        store, alone, most = self.editing(text)
+        return [self.tree(text), store, *(alone[kind] for kind in marks.KINDS), self.reading(text), most]
+
+
+def within(told, first, last):
+    """The bytes that were resident where a part was written between two lines."""
+    return min(held for (begun, held, _), (ended, _, _) in zip(told, told[1:]) if first <= begun and ended < last)
+
+
+def row(meter, none, shape, count):
+    """The figures for one operation of a module, or none where its text is too long."""
+    module = HELD[shape](count)
+    text = module.text()
+    if len(text) > MOST_BYTES:
+        return None
+    return [(it - base) / module.count for it, base in zip(meter.all(text), none)]
+
+
+def main():
+    sizes = [int(size) for size in (sys.argv[2] if len(sys.argv) > 2 else SIZES).split(",")]
+    heads = ["Bytes for an operation", "Tree", "Store", *marks.KINDS, "Reading, at most", "Editing, at most"]
+    print("| " + " | ".join(heads) + " |")
+    print("|---" * len(heads) + "|")
+    with marks.library() as library:
+        meter = Meter(sys.argv[1], library)
+        none = meter.all("")
+        for shape in HELD:
+            for count in sizes:
+                figures = row(meter, none, shape, count)
+                if figures:
+                    print(f"| {shape}, {count:,} | " + " | ".join(f"{it:.0f}" for it in figures) + " |", flush=True)
+
+
+if __name__ == "__main__":
+    main()

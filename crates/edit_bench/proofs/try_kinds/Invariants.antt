@@ -1,5 +1,0 @@
-use Rattle.edit_bench.specs.Headers.{IsHeader}
-use Rattle.edit_bench.proofs.try_kinds.Given as goal
-
-abbrev pub invariant-loop-index : goal.invariant-loop-index
-invariant-loop-index g l = IsHeader l.world.ctx l.header
