@@ -27,13 +27,20 @@ pub(crate) fn slot_by(pages: &Vec<Page>, id: u32) -> Option<usize>
     }
 }
 
-/// Counts no id of a page any more.
+/// Counts an id no more, nor those behind it in its page.
 pub(crate) fn forget(pages: &mut Vec<Page>, id: u32)
     ensures { Forgotten id pages.old.items pages.new.items }
 {
     let place = id as usize / PAGE;
+    let offset = (id as usize % PAGE) as u32;
     if place < pages.len() {
-        pages[place] = Page { shift: 0, count: 0 };
+        let page = pages[place];
+        if offset < page.count {
+            pages[place] = Page {
+                shift: page.shift,
+                count: offset,
+            };
+        }
     }
 }
 
