@@ -37,7 +37,7 @@ class Table:
         print("| " + " | ".join([*self.heads, *(f"{size:,}" for size in self.sizes), "Growth"]) + " |")
         print("|---" * (len(self.heads) + len(self.sizes) + 1) + "|")
         for row, cells in self.rows.items():
-            growth = f"{cells[-1][0] / cells[0][0]:.1f}"
+            growth = f"{cells[-1][0] / cells[0][0]:.1f}" if cells[0][0] > 0 else "-"
             print("| " + " | ".join([*row, *(cell for _, cell in cells), growth]) + " |", flush=True)
 
 

@@ -35,5 +35,5 @@ done
 commands functions --alone
 load
 python3 bench/chain.py "$program" "$rounds"
-python3 bench/held.py "$program" "$sizes"
+python3 bench/held.py "$program" "${2:-10000,100000,1000000}"
 load

@@ -1,14 +1,14 @@
 #!/usr/bin/env python3
-"""Tells how many bytes of memory a built program holds for an operation: its tree once it is read, the store with all listeners
-detached, and each listener, by runs over modules of one block and of functions of 20 operations (those that bench/commands.py
-edits, and as programs have them, of two operands and a result); and how many it has resident at most while it reads a module,
-and while it makes the store and begins all six listeners (which the system knows to about half a megabyte).
+"""Tells how many bytes of memory a built program holds for an operation: its tree once it is read, the store without listeners,
+and each listener, in modules of one block and of functions of 20 operations, those that bench/commands.py edits and some as
+programs have them, of operations with two operands and a result. Behind that, how many are resident at most while a module is
+read, and while the store is made and all six listeners begin (which the system knows to about half a megabyte).
 
-A script that only prints makes neither a store nor a listener, so the tree is what is resident before the text of the module is
-written, that text taken off. Any other begins all six before its first command: they are detached one by one, and each gives
-up what it holds. What is resident is looked at behind each, once what was given up is handed back to the system (bench/marks.c
-stands before the C library), so that neither what reading took nor the tree, which the store takes the place of, hides it. Each
-figure is held against the same run over an empty module. Pages are of four kilobytes here.
+What is held is told by the C library (bench/marks.c stands before it): the bytes that are allocated, room that is kept among
+them, and not what was given up and is still resident. A script that only prints makes neither a store nor a listener, and what
+is in use once the text is given up is the tree. Any other script begins all six before its first command: they are detached one
+by one, and each gives up what it holds. Each figure is held against the same run over an empty module. The program asks for no
+large pages here.
 
 usage: bench/held.py PROGRAM [SIZES]"""
 import sys
@@ -17,7 +17,7 @@ import marks
 from edit_scripts import HELD, MOST_BYTES
 
 SIZES = "10000,100000,1000000"
-SMALL_PAGES = {"GLIBC_TUNABLES": "glibc.malloc.hugetlb=0", "MARKS_MEMORY": "1"}
+MEMORY = {"GLIBC_TUNABLES": "glibc.malloc.hugetlb=0", "MARKS_MEMORY": "1"}
 # Commands of which the replies fill some parts of the output, and which change nothing.
 WAIT = ["begin", "commit"] * 3000
 
@@ -25,30 +25,31 @@ WAIT = ["begin", "commit"] * 3000
 class Meter:
     """Runs of a program, with the bytes that they told of."""
     def __init__(self, program, library):
-        self.program, self.library = program, library
+        self.words = [program, "--brief"]
+        self.more = {**MEMORY, "LD_PRELOAD": library}
 
     def run(self, text, lines):
-        """What a run over a module wrote, and for each part the lines before it, and the bytes resident then and at most."""
+        """For each part that a run over a module wrote: the lines before it, and the bytes in use then and resident at most."""
         script = text.encode() + marks.DIVIDER + "".join(line + "\n" for line in lines).encode()
-        _, wrote, told = marks.run([self.program, "--brief"], script, {**SMALL_PAGES, "LD_PRELOAD": self.library})
+        _, wrote, told = marks.run(self.words, script, self.more)
         if b" refused " in wrote:
             sys.exit(f"it answers {wrote[:80]}")
-        return wrote, [(lines, 1024 * held, 1024 * most) for lines, held, most in told]
-
-    def tree(self, text):
-        """The bytes of a tree."""
-        wrote, told = self.run(text, ["print"])
-        return told[0][1] - len(wrote)
+        return told
 
     def reading(self, text):
         """The most bytes while a module is read."""
-        return self.run(text, [])[1][-1][2]
+        return self.run(text, [])[-1][2]
+
+    def tree(self, text):
+        """The bytes of a tree: those in use before the last part."""
+        return self.run(text, ["print"])[-2][1]
 
     def editing(self, text):
         """The bytes of the store, of each listener, and the most bytes of a run with all of them."""
         gone = marks.KINDS[::-1]
-        _, told = self.run(text, WAIT + [line for kind in gone for line in (f"detach {kind}", *WAIT)])
-        held = [within(told, n * (len(WAIT) + 1), (n + 1) * (len(WAIT) + 1) - 1) for n in range(len(gone) + 1)]
+        told = self.run(text, WAIT + [line for kind in gone for line in (f"detach {kind}", *WAIT)])
+        every = len(WAIT) + 1
+        held = [within(told, n * every, (n + 1) * every - 1) for n in range(len(gone) + 1)]
         alone = {kind: before - after for kind, before, after in zip(gone, held, held[1:])}
         return held[-1], alone, told[-1][2]
 
@@ -59,7 +60,7 @@ class Meter:
 
 
 def within(told, first, last):
-    """The bytes that were resident where a part was written between two lines."""
+    """The bytes in use where a part was written between two lines."""
     return min(held for (begun, held, _), (ended, _, _) in zip(told, told[1:]) if first <= begun and ended < last)
 
 
