@@ -74,7 +74,7 @@ impl Store {
             Err(e) => return Err(e),
         };
         let row = &mut self.rows[at];
-        match change_row(ctx, row, part, key, value) {
+        match change_row(self.alloc, ctx, row, part, key, value) {
             Ok(()) => {}
             Err(_) => return Err(Refusal::Memory),
         }

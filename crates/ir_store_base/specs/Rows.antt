@@ -39,8 +39,8 @@ row_of n = record {
   head = kept_head n.id n.name n.contents;
   gone = record { properties = n.contents.properties.gone; attributes = n.contents.attributes.gone };
   shapes = n.contents.shapes;
-  owner = n.owner;
-  region = n.region;
+  owner = n.contents.owner;
+  region = n.contents.region;
   uses = n.uses;
   values = n.values;
 }

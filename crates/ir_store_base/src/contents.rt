@@ -5,7 +5,7 @@ ghost use Rattle.ir_tree.specs.Meaning.{key_before_in, rises};
 ghost use Rattle.ir_tree.specs.Tree.{head};
 ghost use Rattle.entries.specs.Slots.{has_key, has_slot as is_slot, with_change};
 ghost use Rattle.ir_store_base.specs.Shapes.{shape_of};
-ghost use Rattle.ir_store_base.specs.Contents.{no_slots, no_contents, contents_with, dictionary_in, with_dictionary, without_gone};
+ghost use Rattle.ir_store_base.specs.Contents.{no_slots, no_contents, head_contents, contents_of, contents_with, dictionary_in, with_dictionary, without_gone, no_entries, entries_with, entries_at, with_part, entries_kept};
 
 use crate::row::Area;
 use entries::Dictionary;
@@ -17,23 +17,56 @@ use ir_types::ids::{AttrId, NameId, TypeId};
 use smallvec::SmallVec;
 use std::alloc::{AllocError, Global};
 use std::marker::Model;
-use std::mem::replace;
+use std::mem::{replace, swap};
 
-/// What an operation has, behind its slot: a block's head has nothing of it, and takes no room for it.
+/// What stands in a slot: what an operation has lies behind it, and a block's head takes no room there.
 #[derive(Drop)]
 pub struct Contents {
-    parts: Option<Box<Parts>>,
+    held: Held,
 }
 
-/// The same, as it lies on the heap. Short lists, as most are, lie in it.
+/// The same, in one allocation that is no larger than what is there asks.
 #[derive(Drop)]
-pub struct Parts {
+pub enum Held {
+    Nothing,
+    /// A block's head.
+    Head { owner: u32, region: u32 },
+    /// An operation without entries and regions.
+    Plain(Box<Plain>),
+    /// An operation without regions.
+    Entered(Box<Entered>),
+    /// Any operation.
+    Whole(Box<Whole>),
+}
+
+/// What every operation has. Short lists, as most are, lie in it.
+#[derive(Drop)]
+pub struct Plain {
     operands: SmallVec<Value, 2>,
     results: SmallVec<TypeId, 4>,
+}
+
+/// The two dictionaries of an operation.
+#[derive(Drop)]
+pub struct Entries {
     /// The properties, and the slots of those that were taken out.
     props: Dictionary,
     /// The discardable attributes, in the same way.
     attrs: Dictionary,
+}
+
+/// An operation with dictionaries.
+#[derive(Drop)]
+pub struct Entered {
+    plain: Plain,
+    entries: Entries,
+}
+
+/// An operation with dictionaries and regions.
+#[derive(Drop)]
+pub struct Whole {
+    plain: Plain,
+    entries: Entries,
     areas: Vec<Area>,
 }
 
@@ -44,7 +77,7 @@ impl Model for Contents {
 
     ghost coded = { contents_code };
 
-    ghost view = { λ c. contents_of c.parts };
+    ghost view = { λ c. contents_of c.held };
 }
 
 impl Contents {
@@ -52,23 +85,51 @@ impl Contents {
     pub fn none() -> Contents
         ensures { result ≡ no_contents }
     {
-        Contents { parts: None }
+        Contents {
+            held: Held::Nothing,
+        }
+    }
+
+    /// The head of the block of a region of the operation in a slot.
+    pub fn head(owner: u32, region: u32) -> Contents
+        ensures { result ≡ head_contents owner region }
+    {
+        Contents {
+            held: Held::Head { owner, region },
+        }
     }
 
     /// What an operation has that is read off a tree, with these regions.
     pub fn new(alloc: Global, header: &TreeOp, areas: Vec<Area>) -> Result<Contents, AllocError>
         ensures { IfOk result (λ c. c ≡ contents_with (head header.now) (map shape_of areas.items)) }
     {
-        let parts = Parts {
-            operands: SmallVec::from_slice(alloc, &header.operands)?,
-            results: SmallVec::from_slice(alloc, &header.results)?,
-            props: Dictionary::from_slice(alloc, &header.props)?,
-            attrs: Dictionary::from_slice(alloc, &header.attrs)?,
-            areas,
+        let held = if !areas.is_empty() {
+            held_whole(alloc, header, areas)?
+        } else if header.props.is_empty() && header.attrs.is_empty() {
+            held_plain(alloc, header)?
+        } else {
+            held_entered(alloc, header)?
         };
-        match Box::new(alloc, parts) {
-            Ok(parts) => Ok(Contents { parts: Some(parts) }),
-            Err(_) => Err(AllocError),
+        Ok(Contents { held })
+    }
+
+    /// Of a block's head: the slot of the operation around it.
+    pub fn owner(&self) -> u32
+        ensures { result ≡ self.now.owner }
+    {
+        match &self.held {
+            Held::Head { owner, .. } => *owner,
+            _ => 0,
+        }
+    }
+
+    /// Of a block's head: the number of the region.
+    pub fn region(&self) -> u32
+        ensures { result ≡ self.now.region }
+    {
+        match &self.held {
+            Held::Head { region, .. } => *region,
+            _ => 0,
         }
     }
 
@@ -76,9 +137,11 @@ impl Contents {
     pub fn operands(&self) -> &[Value]
         ensures { result.now ≡ self.now.operands }
     {
-        match &self.parts {
-            None => &[],
-            Some(parts) => parts.operands.as_slice(),
+        match &self.held {
+            Held::Nothing | Held::Head { .. } => &[],
+            Held::Plain(plain) => plain.operands.as_slice(),
+            Held::Entered(it) => it.plain.operands.as_slice(),
+            Held::Whole(it) => it.plain.operands.as_slice(),
         }
     }
 
@@ -86,9 +149,11 @@ impl Contents {
     pub fn results(&self) -> &[TypeId]
         ensures { result.now ≡ self.now.results }
     {
-        match &self.parts {
-            None => &[],
-            Some(parts) => parts.results.as_slice(),
+        match &self.held {
+            Held::Nothing | Held::Head { .. } => &[],
+            Held::Plain(plain) => plain.results.as_slice(),
+            Held::Entered(it) => it.plain.results.as_slice(),
+            Held::Whole(it) => it.plain.results.as_slice(),
         }
     }
 
@@ -96,9 +161,9 @@ impl Contents {
     pub fn areas(&self) -> &[Area]
         ensures { map shape_of result.now ≡ self.now.shapes }
     {
-        match &self.parts {
-            None => &[],
-            Some(parts) => &parts.areas,
+        match &self.held {
+            Held::Whole(it) => &it.areas,
+            _ => &[],
         }
     }
 
@@ -106,10 +171,10 @@ impl Contents {
     pub fn dictionary(&self, part: Part) -> Option<&Dictionary>
         ensures { MatchOption result (dictionary_in part self.now ≡ no_slots) (λ d. d.now ≡ dictionary_in part self.now) }
     {
-        match (&self.parts, part) {
-            (None, _) => None,
-            (Some(parts), Part::Props) => Some(&parts.props),
-            (Some(parts), Part::Attrs) => Some(&parts.attrs),
+        match &self.held {
+            Held::Entered(it) => Some(it.entries.part(part)),
+            Held::Whole(it) => Some(it.entries.part(part)),
+            _ => None,
         }
     }
 
@@ -129,15 +194,18 @@ impl Contents {
         ensures put { self.new ≡ record self.old { operands = slice_set self.old.operands place value } }
         ensures was { slice_get self.old.operands place ≡ Some result }
     {
-        match &mut self.parts {
-            Some(parts) => replace(&mut parts.operands[place], value),
-            None => unreachable!(),
+        match &mut self.held {
+            Held::Plain(plain) => replace(&mut plain.operands[place], value),
+            Held::Entered(it) => replace(&mut it.plain.operands[place], value),
+            Held::Whole(it) => replace(&mut it.plain.operands[place], value),
+            Held::Nothing | Held::Head { .. } => unreachable!(),
         }
     }
 
     /// Sets a key of a dictionary to an attribute, or takes it out.
     pub fn change(
         &mut self,
+        alloc: Global,
         ctx: &Context,
         part: Part,
         key: NameId,
@@ -147,12 +215,14 @@ impl Contents {
         ensures ok { OnOk result (self.new ≡ with_dictionary part (with_change (key_before_in ctx.now) key value (dictionary_in part self.old)) self.old) }
         ensures err { OnErr result (self.new ≡ self.old) }
     {
-        match &mut self.parts {
-            None => Err(AllocError),
-            Some(parts) => match part {
-                Part::Props => change(ctx, &mut parts.props, key, value),
-                Part::Attrs => change(ctx, &mut parts.attrs, key, value),
-            },
+        match widen(alloc, &mut self.held) {
+            Ok(()) => {}
+            Err(e) => return Err(e),
+        }
+        match &mut self.held {
+            Held::Entered(it) => it.entries.change(ctx, part, key, value),
+            Held::Whole(it) => it.entries.change(ctx, part, key, value),
+            _ => Err(AllocError),
         }
     }
 
@@ -163,13 +233,10 @@ impl Contents {
         requires entry { value ≡ None → has_key key (dictionary_in part self.old).present ≡ true }
         ensures { self.new ≡ with_dictionary part (with_change (key_before_in ctx.now) key value (dictionary_in part self.old)) self.old }
     {
-        if let Some(parts) = &mut self.parts {
-            match part {
-                Part::Props => parts.props.revert(ctx, key, value),
-                Part::Attrs => parts.attrs.revert(ctx, key, value),
-            }
-        } else {
-            unreachable!()
+        match &mut self.held {
+            Held::Entered(it) => it.entries.revert(ctx, part, key, value),
+            Held::Whole(it) => it.entries.revert(ctx, part, key, value),
+            _ => unreachable!(),
         }
     }
 
@@ -177,9 +244,10 @@ impl Contents {
     pub fn drop_gone(&mut self)
         ensures { self.new ≡ without_gone self.old }
     {
-        if let Some(parts) = &mut self.parts {
-            parts.props.drop_gone();
-            parts.attrs.drop_gone();
+        match &mut self.held {
+            Held::Entered(it) => it.entries.drop_gone(),
+            Held::Whole(it) => it.entries.drop_gone(),
+            _ => {}
         }
     }
 
@@ -187,10 +255,185 @@ impl Contents {
     pub fn has_gone(&self) -> bool
         ensures { result ≡ (nat_lt 0 (length self.now.properties.gone) || nat_lt 0 (length self.now.attributes.gone)) }
     {
-        match &self.parts {
-            None => false,
-            Some(parts) => parts.props.has_gone() || parts.attrs.has_gone(),
+        match &self.held {
+            Held::Entered(it) => it.entries.has_gone(),
+            Held::Whole(it) => it.entries.has_gone(),
+            _ => false,
         }
+    }
+}
+
+impl Plain {
+    /// No operands, and no results.
+    fn empty(alloc: Global) -> Plain
+        ensures operands { result.operands.items ≡ [] }
+        ensures results { result.results.items ≡ [] }
+    {
+        Plain {
+            operands: SmallVec::new(alloc),
+            results: SmallVec::new(alloc),
+        }
+    }
+
+    /// The operands and the results of a header.
+    fn new(alloc: Global, header: &TreeOp) -> Result<Plain, AllocError>
+        ensures operands { IfOk result (λ p. p.operands.items ≡ (head header.now).operands) }
+        ensures results { IfOk result (λ p. p.results.items ≡ (head header.now).results) }
+    {
+        Ok(Plain {
+            operands: SmallVec::from_slice(alloc, &header.operands)?,
+            results: SmallVec::from_slice(alloc, &header.results)?,
+        })
+    }
+}
+
+impl Entries {
+    /// No entries.
+    fn empty(alloc: Global) -> Entries
+        ensures { result ≡ no_entries }
+    {
+        Entries {
+            props: Dictionary::new(alloc),
+            attrs: Dictionary::new(alloc),
+        }
+    }
+
+    /// The entries of a header.
+    fn new(alloc: Global, header: &TreeOp) -> Result<Entries, AllocError>
+        ensures { IfOk result (λ e. e ≡ entries_with (head header.now)) }
+    {
+        Ok(Entries {
+            props: Dictionary::from_slice(alloc, &header.props)?,
+            attrs: Dictionary::from_slice(alloc, &header.attrs)?,
+        })
+    }
+
+    /// One of the two.
+    fn part(&self, part: Part) -> &Dictionary
+        ensures { result.now ≡ entries_at part self.now }
+    {
+        match part {
+            Part::Props => &self.props,
+            Part::Attrs => &self.attrs,
+        }
+    }
+
+    /// Sets a key of one of the two to an attribute, or takes it out.
+    fn change(
+        &mut self,
+        ctx: &Context,
+        part: Part,
+        key: NameId,
+        value: Option<AttrId>,
+    ) -> Result<(), AllocError>
+        requires { value ≡ None → is_some (entry_at (key_before_in ctx.now) key (entries_at part self.old).present) ≡ true }
+        ensures ok { OnOk result (self.new ≡ with_part part (with_change (key_before_in ctx.now) key value (entries_at part self.old)) self.old) }
+        ensures err { OnErr result (self.new ≡ self.old) }
+    {
+        match part {
+            Part::Props => change(ctx, &mut self.props, key, value),
+            Part::Attrs => change(ctx, &mut self.attrs, key, value),
+        }
+    }
+
+    /// Sets a key that has a slot in one of the two, or takes it out, without memory.
+    fn revert(&mut self, ctx: &Context, part: Part, key: NameId, value: Option<AttrId>)
+        requires sorted { rises (key_before_in ctx.now) (entries_at part self.old).present ≡ true }
+        requires slot { is_slot key (entries_at part self.old) ≡ true }
+        requires entry { value ≡ None → has_key key (entries_at part self.old).present ≡ true }
+        ensures { self.new ≡ with_part part (with_change (key_before_in ctx.now) key value (entries_at part self.old)) self.old }
+    {
+        match part {
+            Part::Props => self.props.revert(ctx, key, value),
+            Part::Attrs => self.attrs.revert(ctx, key, value),
+        }
+    }
+
+    /// Gives up the slots of the keys that are gone.
+    fn drop_gone(&mut self)
+        ensures { self.new ≡ entries_kept self.old }
+    {
+        self.props.drop_gone();
+        self.attrs.drop_gone();
+    }
+
+    /// Whether a key was taken out of one of the two whose slot still stands.
+    fn has_gone(&self) -> bool
+        ensures { result ≡ (nat_lt 0 (length self.now.props.gone) || nat_lt 0 (length self.now.attrs.gone)) }
+    {
+        self.props.has_gone() || self.attrs.has_gone()
+    }
+}
+
+/// An operation without entries and regions.
+fn held_plain(alloc: Global, header: &TreeOp) -> Result<Held, AllocError>
+    requires properties { (head header.now).properties ≡ [] }
+    requires attributes { (head header.now).attributes ≡ [] }
+    ensures { IfOk result (λ h. contents_of h ≡ contents_with (head header.now) []) }
+{
+    let plain = Plain::new(alloc, header)?;
+    match Box::new(alloc, plain) {
+        Ok(plain) => Ok(Held::Plain(plain)),
+        Err(_) => Err(AllocError),
+    }
+}
+
+/// An operation without regions.
+fn held_entered(alloc: Global, header: &TreeOp) -> Result<Held, AllocError>
+    ensures { IfOk result (λ h. contents_of h ≡ contents_with (head header.now) []) }
+{
+    let it = Entered {
+        plain: Plain::new(alloc, header)?,
+        entries: Entries::new(alloc, header)?,
+    };
+    match Box::new(alloc, it) {
+        Ok(it) => Ok(Held::Entered(it)),
+        Err(_) => Err(AllocError),
+    }
+}
+
+/// Any operation.
+fn held_whole(alloc: Global, header: &TreeOp, areas: Vec<Area>) -> Result<Held, AllocError>
+    ensures { IfOk result (λ h. contents_of h ≡ contents_with (head header.now) (map shape_of areas.items)) }
+{
+    let it = Whole {
+        plain: Plain::new(alloc, header)?,
+        entries: Entries::new(alloc, header)?,
+        areas,
+    };
+    match Box::new(alloc, it) {
+        Ok(it) => Ok(Held::Whole(it)),
+        Err(_) => Err(AllocError),
+    }
+}
+
+/// Makes room for entries of an operation that has none.
+fn widen(alloc: Global, held: &mut Held) -> Result<(), AllocError>
+    ensures { contents_of held.new ≡ contents_of held.old }
+{
+    let wide = match held {
+        Held::Plain(plain) => widened(alloc, plain)?,
+        _ => return Ok(()),
+    };
+    *held = Held::Entered(wide);
+    Ok(())
+}
+
+/// The same operation with room for entries, or, where there is no memory, as it was.
+fn widened(alloc: Global, plain: &mut Plain) -> Result<Box<Entered>, AllocError>
+    ensures ok { IfOk result (λ b. (b.value.plain ≡ plain.old) × (b.value.entries ≡ no_entries)) }
+    ensures err { OnErr result (plain.new ≡ plain.old) }
+{
+    let it = Entered {
+        plain: Plain::empty(alloc),
+        entries: Entries::empty(alloc),
+    };
+    match Box::new(alloc, it) {
+        Ok(mut it) => {
+            swap(&mut it.plain, plain);
+            Ok(it)
+        }
+        Err(_) => Err(AllocError),
     }
 }
 

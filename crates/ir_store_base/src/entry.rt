@@ -17,7 +17,7 @@ use ir_tree::place::Part;
 use ir_types::context::Context;
 use ir_types::ids::{AttrId, NameId, OpId};
 use ir_types::refusal::Refusal;
-use std::alloc::AllocError;
+use std::alloc::{AllocError, Global};
 
 /// One dictionary of a row.
 fn dictionary(row: &Row, part: Part) -> Option<&Dictionary>
@@ -119,6 +119,7 @@ pub fn find_entry(
 
 /// Sets a key of one dictionary of a row to an attribute, or takes it out.
 pub fn change_row(
+    alloc: Global,
     ctx: &Context,
     row: &mut Row,
     part: Part,
@@ -129,7 +130,7 @@ pub fn change_row(
     ensures ok { OnOk result (row_of row.new ≡ row_with_entry (key_before_in ctx.now) part key value (row_of row.old)) }
     ensures err { OnErr result (row_of row.new ≡ row_of row.old) }
 {
-    row.contents.change(ctx, part, key, value)
+    row.contents.change(alloc, ctx, part, key, value)
 }
 
 /// Sets a key that has a slot in one dictionary of a row, or takes it out.

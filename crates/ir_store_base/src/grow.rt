@@ -18,8 +18,25 @@ use ir_types::ids::{NameId, OpId, TypeId};
 use order::Ordered;
 use std::alloc::{AllocError, Global};
 
-/// A row that holds nothing: a block's head has an owner, and the number of its region.
-fn spare_row(owner: u32, region: u32, values: usize) -> Row
+/// A row that holds nothing.
+fn spare_row() -> Row
+    ensures { row_of result ≡ row_spare 0 0 0 }
+{
+    Row {
+        used: false,
+        live: false,
+        id: OpId::new(0),
+        name: NameId::new(0),
+        spare: 0,
+        uses: 0,
+        values: 0,
+        contents: Contents::none(),
+    }
+}
+
+/// The row of a block's head: it has an owner, and the number of its region.
+fn head_row(owner: u32, region: u32, values: usize) -> Row
+    requires { values < free }
     ensures { row_of result ≡ row_spare owner region values }
 {
     Row {
@@ -27,12 +44,10 @@ fn spare_row(owner: u32, region: u32, values: usize) -> Row
         live: false,
         id: OpId::new(0),
         name: NameId::new(0),
-        owner,
         spare: 0,
-        region,
         uses: 0,
-        values,
-        contents: Contents::none(),
+        values: values as u32,
+        contents: Contents::head(owner, region),
     }
 }
 
@@ -213,13 +228,14 @@ fn add_block(
         × IsBlock (parts_of rows.new.items sibs.new uses.new cells.new.items) (length uses.old.homes) owner number (shape_of a)) }
 {
     sibs.laws();
+    uses.laws();
     let head = row_count(rows);
     let count = type_count(&args);
     let values = match add_run(uses, cells, head, count, true) {
         Ok(values) => values,
         Err(e) => return Err(e),
     };
-    match add_slot(rows, sibs, spare_row(owner, number, values), true) {
+    match add_slot(rows, sibs, head_row(owner, number, values), true) {
         Ok(()) => Ok(Area::Block { args, head }),
         Err(e) => Err(e),
     }
@@ -277,13 +293,21 @@ pub fn held_row(
         live: false,
         id: op,
         name: header.name,
-        owner: 0,
         spare: 0,
-        region: 0,
-        uses,
-        values,
+        uses: node_number(uses)?,
+        values: node_number(values)?,
         contents: Contents::new(alloc, header, areas)?,
     })
+}
+
+/// The number of a node, as a row keeps it.
+fn node_number(node: usize) -> Result<u32, AllocError>
+    ensures { IfOk result (λ n. n ≡ node) }
+{
+    match u32::try_from(node) {
+        Ok(node) => Ok(node),
+        Err(_) => Err(AllocError),
+    }
 }
 
 /// A slot for an operation, with the nodes of its values and operands; and the row that is to be written there.
@@ -302,7 +326,7 @@ pub fn grow_slot(
 {
     sibs.laws();
     let slot = row_count(rows);
-    match add_slot(rows, sibs, spare_row(0, 0, 0), false) {
+    match add_slot(rows, sibs, spare_row(), false) {
         Ok(()) => {}
         Err(e) => return Err(e),
     }

@@ -16,17 +16,13 @@ pub struct Row {
     pub live: bool,
     pub id: OpId,
     pub name: NameId,
-    /// Of a block's head: the number of the region.
-    pub region: u32,
-    /// Of a block's head: the slot of the operation around it.
-    pub owner: u32,
     /// Of a slot that was given up: the one that was given up before it.
     pub spare: u32,
     /// The node of the first operand, among the uses of values; the others' nodes come after it.
-    pub uses: usize,
+    pub uses: u32,
     /// The head of the uses of the first result, or of a block's first argument; the others' heads come after it.
-    pub values: usize,
-    /// What an operation has: a block's head has nothing.
+    pub values: u32,
+    /// What an operation has, or where a block's head belongs.
     pub contents: Contents,
 }
 

@@ -48,7 +48,7 @@ fn first_value(rows: &Vec<Row>, key: usize) -> usize
 {
     match rows.get(key) {
         None => 0,
-        Some(row) => row.values,
+        Some(row) => row.values as usize,
     }
 }
 
@@ -77,7 +77,7 @@ pub fn is_idle(uses: &Chains, rows: &Vec<Row>, key: usize) -> bool
     match rows.get(key) {
         None => true,
         Some(row) => {
-            all_idle(uses, row.values, row.contents.results().len())
+            all_idle(uses, row.values as usize, row.contents.results().len())
                 && args_idle(uses, rows, row.contents.areas())
         }
     }
@@ -104,7 +104,7 @@ fn result_head(row: &Row, place: usize) -> Option<usize>
 {
     let count = row.contents.results().len();
     if place < count {
-        Some(row.values + place)
+        Some(row.values as usize + place)
     } else {
         None
     }
@@ -188,7 +188,7 @@ pub fn use_run(rows: &Vec<Row>, key: usize) -> (usize, usize)
 {
     match rows.get(key) {
         None => (0, 0),
-        Some(row) => (row.uses, row.contents.operands().len()),
+        Some(row) => (row.uses as usize, row.contents.operands().len()),
     }
 }
 
@@ -265,7 +265,7 @@ pub fn lead_row(uses: &mut Chains, rows: &Vec<Row>, keys: &Keys, key: usize)
 {
     match rows.get(key) {
         None => {}
-        Some(row) => lead_uses(uses, rows, keys, row.uses, row.contents.operands()),
+        Some(row) => lead_uses(uses, rows, keys, row.uses as usize, row.contents.operands()),
     }
 }
 

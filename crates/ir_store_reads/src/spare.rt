@@ -136,13 +136,13 @@ fn block_fits(
     let Some(row) = rows.get(head) else {
         return false;
     };
-    if row.owner as usize != owner || row.region != number {
+    if row.contents.owner() as usize != owner || row.contents.region() != number {
         return false;
     }
     if !is_bare_head(sibs, head) {
         return false;
     }
-    has_heads(uses, cells, head, row.values, count)
+    has_heads(uses, cells, head, row.values as usize, count)
 }
 
 /// The region of a spare slot for a region like another, if it fits.
@@ -243,10 +243,10 @@ fn row_fits(
     if row.contents.areas().len() != header.regions.len() {
         return false;
     }
-    if !has_heads(uses, cells, slot, row.values, header.results.len()) {
+    if !has_heads(uses, cells, slot, row.values as usize, header.results.len()) {
         return false;
     }
-    has_nodes(uses, cells, slot, row.uses, header.operands.len())
+    has_nodes(uses, cells, slot, row.uses as usize, header.operands.len())
 }
 
 /// The row to be written into a spare slot for an operation like a header, if that fits.
@@ -283,7 +283,7 @@ fn fit_row(
         Ok(None) => return Ok(None),
         Err(e) => return Err(e),
     };
-    match held_row(alloc, op, header, areas, row.uses, row.values) {
+    match held_row(alloc, op, header, areas, row.uses as usize, row.values as usize) {
         Ok(row) => Ok(Some(row)),
         Err(e) => Err(e),
     }

@@ -31,7 +31,7 @@ fn owner_at(rows: &Vec<Row>, head: usize) -> usize
 {
     match rows.get(head) {
         None => 0,
-        Some(row) => row.owner as usize,
+        Some(row) => row.contents.owner() as usize,
     }
 }
 
@@ -41,7 +41,7 @@ fn region_at(rows: &Vec<Row>, head: usize) -> u32
 {
     match rows.get(head) {
         None => 0,
-        Some(row) => row.region,
+        Some(row) => row.contents.region(),
     }
 }
 

@@ -14,7 +14,7 @@ pub fn result_run(rows: &Vec<Row>, key: usize) -> (usize, usize)
 {
     match rows.get(key) {
         None => (0, 0),
-        Some(row) => (row.values, row.contents.results().len()),
+        Some(row) => (row.values as usize, row.contents.results().len()),
     }
 }
 
