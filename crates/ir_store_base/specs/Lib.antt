@@ -1,8 +1,6 @@
 pub mod Nodes
 pub mod Stored
 pub mod Emptied
-pub mod Shapes
-pub mod Contents
 pub mod Rows
 pub mod Spells
 pub mod Right
@@ -16,3 +14,4 @@ pub mod Grows
 pub mod Releases
 pub mod Entered
 pub mod Walks
+pub use Rattle.contents.specs.declared.area.Area

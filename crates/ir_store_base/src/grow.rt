@@ -9,9 +9,9 @@ ghost use Rattle.ir_store_base.specs.Emptied.{emptied_region};
 ghost use Rattle.chains.specs.Lists.{free};
 ghost use Rattle.std.specs.Prelude.{if◌then◌else◌};
 
-use crate::contents::Contents;
 use crate::row::{Area, Cell, Row, push_row};
 use chains::Chains;
+use contents::Contents;
 use ir_tree::tree::{TreeOp, TreeRegion};
 use ir_tree::value::Value;
 use ir_types::ids::{NameId, OpId, TypeId};

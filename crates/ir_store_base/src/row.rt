@@ -2,9 +2,10 @@
 ghost use Rattle.std.specs.Prelude.{◌≡◌, ◌<◌, ◌++◌, ◌∷◌, [], OnOk, OnErr, Some, length, slice_get, slice_set};
 ghost use Rattle.ir_store_base.specs.Rows.{row_of, rows_of, row_with_operand};
 
-use crate::contents::Contents;
+pub use contents::Area;
+use contents::Contents;
 use ir_tree::value::Value;
-use ir_types::ids::{NameId, OpId, TypeId};
+use ir_types::ids::{NameId, OpId};
 use std::alloc::AllocError;
 
 /// A slot: an operation of the module or a held one, or a block's head, or nothing.
@@ -31,13 +32,6 @@ pub struct Row {
 pub struct Cell {
     pub row: u32,
     pub place: u32,
-}
-
-/// A region of an operation in a slot: a block's operations stand in the list of its head.
-#[derive(Drop)]
-pub enum Area {
-    Empty,
-    Block { args: Vec<TypeId>, head: usize },
 }
 
 /// Makes a value an operand, and gives the one that was there.

@@ -3,7 +3,7 @@ use Rattle.std.proofs.Common.{◌≡◌, ◌<◌, ℕ, List, [], ◌∷◌, ◌+
 use Rattle.ir_tree.specs.Tree.{op, no_regions, region, empty, block, no_ops, next}
 use Rattle.ir_tree.specs.Ids.{ids, region_ids, regions_ids, ops_ids}
 use Rattle.chains.specs.Lists.{Once, list_at, after}
-use Rattle.ir_store_base.specs.declared.row.Area.{Area}
+use Rattle.ir_store_base.specs.Area.{Area}
 use Rattle.ir_store_base.specs.Rows.{Row, Shape, row_at, shape_of}
 use Rattle.ir_store_base.specs.Plans.{AllHeads}
 use Rattle.ir_store_base.specs.Walks.{from_slot}

@@ -5,7 +5,7 @@ use Rattle.std.proofs.lemmas.List.{take_more, map-append, map_more}
 use Rattle.ir_tree.specs.declared.tree.TreeRegion.{TreeRegion}
 use Rattle.ir_tree.specs.View.{region_view}
 use Rattle.ir_tree.specs.Tree.{Op, Region, regions_of, ops_of}
-use Rattle.ir_store_base.specs.declared.row.Area.{Area}
+use Rattle.ir_store_base.specs.Area.{Area}
 use Rattle.ir_store_base.specs.Rows.{Row, Shape, shape_of}
 use Rattle.ir_store_base.specs.Spells.{SpellsOp, SpellsRegions, SpellsRegion, SpellsOps}
 use Rattle.ir_store_base.specs.Plans.{AllHeads}

@@ -283,7 +283,14 @@ fn fit_row(
         Ok(None) => return Ok(None),
         Err(e) => return Err(e),
     };
-    match held_row(alloc, op, header, areas, row.uses as usize, row.values as usize) {
+    match held_row(
+        alloc,
+        op,
+        header,
+        areas,
+        row.uses as usize,
+        row.values as usize,
+    ) {
         Ok(row) => Ok(Some(row)),
         Err(e) => Err(e),
     }

@@ -1,5 +1,5 @@
 -- What an operation in a slot has, beside its name and its places: a block's head has nothing of it.
-use Rattle.std.specs.Prelude.{ℕ, List, [], map, Option, Some, None, Box, refl}
+use Rattle.std.specs.Prelude.{ℕ, List, [], map, refl}
 use Rattle.std.specs.Coded.{Coded, code_by, coded×, coded_list, coded_option, coded_ℕ}
 use Rattle.ir_tree.specs.declared.place.Part.{Part}
 use Rattle.ir_tree.specs.declared.place.Part.TheVariants.{Props, Attrs}
@@ -7,10 +7,10 @@ use Rattle.ir_tree.specs.declared.value.Value.{Value}
 use Rattle.ir_tree.specs.Code.{value_code}
 use Rattle.ir_tree.specs.Tree.{Head}
 use Rattle.entries.specs.Slots.{Slots, slots_code}
-use Rattle.ir_store_base.specs.declared.contents.Held.{Held}
-use Rattle.ir_store_base.specs.declared.contents.Held.TheVariants.{Nothing, Head as Leading, Plain, Entered, Whole}
-use Rattle.ir_store_base.specs.declared.contents.Entries.{Entries}
-use Rattle.ir_store_base.specs.Shapes.{Shape, shape_of}
+use Rattle.contents.specs.declared.contents.Held.{Held}
+use Rattle.contents.specs.declared.contents.Held.TheVariants.{Nothing, Head as Leading, Plain, Entered, Whole}
+use Rattle.contents.specs.declared.contents.Entries.{Entries}
+use Rattle.contents.specs.Shapes.{Shape, shape_of}
 
 -- a dictionary comes with the slots of the keys that were taken out of it
 pub record Contents : Type 0 where

@@ -1,7 +1,7 @@
 -- What a region of an operation in a slot is, as plain data.
 use Rattle.std.specs.Prelude.{ℕ, List, Option, Some, None}
-use Rattle.ir_store_base.specs.declared.row.Area.{Area}
-use Rattle.ir_store_base.specs.declared.row.Area.TheVariants.{Empty, Block}
+use Rattle.contents.specs.declared.area.Area.{Area}
+use Rattle.contents.specs.declared.area.Area.TheVariants.{Empty, Block}
 
 -- a region's arguments, and the head of the list of its operations
 abbrev pub Shape : Type 0

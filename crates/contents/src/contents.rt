@@ -4,10 +4,10 @@ ghost use Rattle.ir_tree.specs.Edits.{entry_at};
 ghost use Rattle.ir_tree.specs.Meaning.{key_before_in, rises};
 ghost use Rattle.ir_tree.specs.Tree.{head};
 ghost use Rattle.entries.specs.Slots.{has_key, has_slot as is_slot, with_change};
-ghost use Rattle.ir_store_base.specs.Shapes.{shape_of};
-ghost use Rattle.ir_store_base.specs.Contents.{no_slots, no_contents, head_contents, contents_of, contents_with, dictionary_in, with_dictionary, without_gone, no_entries, entries_with, entries_at, with_part, entries_kept};
+ghost use Rattle.contents.specs.Shapes.{shape_of};
+ghost use Rattle.contents.specs.Contents.{no_slots, no_contents, head_contents, contents_of, contents_with, dictionary_in, with_dictionary, without_gone, no_entries, entries_with, entries_at, with_part, entries_kept};
 
-use crate::row::Area;
+use crate::area::Area;
 use entries::Dictionary;
 use ir_tree::place::Part;
 use ir_tree::tree::TreeOp;
@@ -71,7 +71,7 @@ pub struct Whole {
 }
 
 impl Model for Contents {
-    ghost use Rattle.ir_store_base.specs.Contents.{Contents, contents_code, contents_of};
+    ghost use Rattle.contents.specs.Contents.{Contents, contents_code, contents_of};
 
     ghost Value = { Contents };
 

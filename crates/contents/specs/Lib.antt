@@ -1,0 +1,3 @@
+pub mod Shapes
+pub mod Contents
+pub use Rattle.entries.specs.Slots
