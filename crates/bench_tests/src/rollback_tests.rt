@@ -5,6 +5,8 @@ use ir_event::analysis::Analysis;
 use ir_event::row::Kind;
 use ir_types::ids::OpId;
 use ir_types::refusal::Refusal;
+use rewriter::Bench;
+use std::alloc::Global;
 
 /// Whether the one listener has heard all that it was to hear, and no more, and was begun once.
 fn heard_all(listeners: &[Script]) -> bool {
@@ -22,20 +24,43 @@ fn is_stale(listeners: &[Script]) -> bool {
     }
 }
 
+/// Whether the module and its marks are those before the edits.
+fn is_back(bench: &Bench<Script>) -> bool {
+    !bench.is_marked() && bench.world().store.next_id() == 5
+}
+
+/// Whether the listener has heard the edits and what undid them, and is stale after one edit more.
+fn hears_no_more(bench: &mut Bench<Script>) -> Result<bool, Refusal> {
+    let heard = heard_all(bench.listeners()) && is_back(bench);
+    bench.set_operand(OpId::new(3), 0, result(2))?;
+    Ok(heard && is_stale(bench.listeners()))
+}
+
+/// Whether the listener is refused, and stale, where it is begun a second time.
+fn is_refused_again(bench: &mut Bench<Script>) -> bool {
+    bench.resync(Kind::new(101)).is_err() && is_stale(bench.listeners())
+}
+
+/// What is asked of a bench behind the rollback.
+fn with_rolled_back(alloc: Global, anew: bool) -> Result<bool, Refusal> {
+    let mut bench = rolled_back(alloc)?;
+    if anew {
+        Ok(is_refused_again(&mut bench))
+    } else {
+        hears_no_more(&mut bench)
+    }
+}
+
 #[test]
 fn hears_the_inverses_and_no_more(rt: HostRuntime) -> Result<(), Refusal> {
-    let mut bench = rolled_back(rt.alloc())?;
-    assert!(rt; heard_all(bench.listeners()));
-    assert!(rt; !bench.is_marked() && bench.world().store.next_id() == 5);
-    bench.set_operand(OpId::new(3), 0, result(2))?;
-    assert!(rt; is_stale(bench.listeners()));
+    let heard = with_rolled_back(rt.alloc(), false)?;
+    assert!(rt; heard);
     Ok(())
 }
 
 #[test]
 fn is_stale_where_it_is_begun_again(rt: HostRuntime) -> Result<(), Refusal> {
-    let mut bench = rolled_back(rt.alloc())?;
-    let refused = bench.resync(Kind::new(101)).is_err();
-    assert!(rt; refused && is_stale(bench.listeners()));
+    let refused = with_rolled_back(rt.alloc(), true)?;
+    assert!(rt; refused);
     Ok(())
 }

@@ -226,7 +226,9 @@ fn live_head(rows: &Vec<Row>, keys: &Keys, uses: &Chains, value: &Value) -> Opti
     slot_head(rows, key, value)
 }
 
-/// The slot of an operation of the module that has this operand, and the head of the uses of a value of the module.
+/// The slot of an operation of the module that has this operand, and the head of the uses of a value of the module. The
+/// head is looked up first: values are mostly in the cache, and so what is read of the operation is read at once, by this
+/// and by who unlinks the operand.
 pub fn find_rewire(
     rows: &Vec<Row>,
     keys: &Keys,
@@ -239,11 +241,12 @@ pub fn find_rewire(
     requires few { length uses.now.homes < free }
     ensures { result ≡ with_head (operand_in (rows_of rows.now.items) place (live_slot (rows_of rows.now.items) (finmap.get keys.now) op)) (value_head (rows_of rows.now.items) (live_slot (rows_of rows.now.items) (finmap.get keys.now)) value.now) }
 {
+    let head = live_head(rows, keys, uses, value);
     let key = match find_operand(rows, keys, op, place) {
         Ok(key) => key,
         Err(e) => return Err(e),
     };
-    match live_head(rows, keys, uses, value) {
+    match head {
         None => Err(Refusal::NoSuchValue),
         Some(head) => Ok((key, head)),
     }
