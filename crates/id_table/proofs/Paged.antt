@@ -4,13 +4,13 @@ use Rattle.std.specs.declared.alloc.AllocError.{AllocError}
 use Rattle.std.proofs.lemmas.Bool.{eq-eqb, ne_eqb, cond-true, cond-false}
 use Rattle.id_table.specs.Slots.{no_slot, slot_in}
 use Rattle.id_table.specs.declared.pages.Page.{Page}
-use Rattle.id_table.specs.Pages.{slot_by, Forgotten, Learnt, AreSlots}
+use Rattle.id_table.specs.Pages.{no_page, behind, slot_by, Forgotten, Learnt, AreSlots}
 use Rattle.id_table.proofs.Tables.{changed, not_less, near_grown, far_changed, some_slot, far_same, Put, Add}
 
 -- where there are no pages
 pub no_pages : (pages : List Page) (f : ℕ → Option ℕ) → pages ≡ [] → AreSlots pages f
 no_pages pages f e x n h =
-    let none : slot_by [] x ≡ None = cond-false _ (Some (x + 0)) None (not_less (x % 256) 0 (omega arith)) in
+    let none : slot_by [] x ≡ None = cond-false _ (Some (x + behind no_page (x % 64))) None (not_less (x % 64) 0 (omega arith)) in
     let bad : ◌≡◌ {A = Option ℕ} (Some n) None = sym h ∙ ap (λ z. slot_by z x) e ∙ none in
     absurd cc
 

@@ -18,7 +18,7 @@ eq_nat a b = grind (arith, nat_tests)
 abbrev pub changed : ℕ → Option ℕ → (ℕ → Option ℕ) → ℕ → Option ℕ
 changed k o f x = cond (eqb x k) o (f x)
 
-less : (a b : ℕ) → a < b → nat_lt a b ≡ true
+pub less : (a b : ℕ) → a < b → nat_lt a b ≡ true
 less a b l = grind (arith, nat_tests)
 
 pub not_less : (a b : ℕ) → b ≤ a → nat_lt a b ≡ false
