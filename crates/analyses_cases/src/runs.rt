@@ -1,5 +1,5 @@
 //! Whole runs with the listeners that a line names.
-use case_texts::texts::{bytes, first, put_all_shown};
+use mlir_work_cases_base::texts::{bytes, first, put_all_shown};
 use constants::constants::Constants;
 use effects::dead::Dead;
 use effects::effects::Effects;
@@ -9,7 +9,7 @@ use listeners::uses::Uses;
 use mlir_work_run::run::{Options, run};
 use std::alloc::{AllocError, Global};
 use std::fmt::Write as _;
-use symbols::symbols::Symbols;
+use listeners_symbols::symbols::Symbols;
 
 /// Runs with a box for each word of a list of kinds.
 fn status_of(

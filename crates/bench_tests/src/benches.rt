@@ -2,7 +2,7 @@
 ghost use Rattle.std.specs.Prelude.{◌<◌, IsTrue, IfOk};
 ghost use Rattle.std.specs.List.{All};
 ghost use Rattle.ir_tree.specs.Ids.{ids};
-ghost use Rattle.journals.specs.Journals.{IsSlotted, IsTidy};
+ghost use Rattle.rewriter_journal.specs.Journals.{IsSlotted, IsTidy};
 
 use crate::script::Script;
 use dialects_int::tables::registry;
@@ -19,7 +19,7 @@ use ir_types::context::Context;
 use ir_types::ids::{NameId, OpId};
 use ir_types::refusal::Refusal;
 use ir_types::words::BUILTIN_MODULE;
-use journals::laws::{stores_stay_slotted, stores_stay_tidy};
+use rewriter_journal::laws::{stores_stay_slotted, stores_stay_tidy};
 use rewriter::Bench;
 use rewriter::erase::erase;
 use rewriter::insert::insert;

@@ -5,8 +5,8 @@ use Rattle.std.proofs.lemmas.List.{map-append, reverse-append, take_more, take_a
 use Rattle.ir_types.specs.Things.{Things}
 use Rattle.ir_store.specs.Stored.{Stored}
 use Rattle.ir_event.specs.declared.event.Event.{Event}
-use Rattle.machine.specs.Machine.{OpenMark}
-use Rattle.journals.specs.Journals.{IsJournal, before}
+use Rattle.rewriter_machine.specs.Machine.{OpenMark}
+use Rattle.rewriter_journal.specs.Journals.{IsJournal, before}
 use Rattle.desk.specs.declared.mark.Mark.{Mark}
 use Rattle.desk.specs.Held.{Held, IsGood, Rising, Within, module_held, open_mark, open_marks}
 use Rattle.desk.specs.Marked.{Closed, IsNewest, kept, with_mark}

@@ -14,8 +14,8 @@ use Rattle.ir_event.specs.declared.event.Event.{Event}
 use Rattle.ir_event.specs.Listener.{ShowsTaken}
 use Rattle.ir_event.specs.Modules.{module_meaning}
 use Rattle.ir_event.specs.Step.{Step, inverse_of}
-use Rattle.journals.specs.Undoing.{CameFrom, undone}
-use Rattle.journals.specs.Journals.{IsJournal, IsSlotted, IsStoreOf, Noted, before, undone_all}
+use Rattle.rewriter_journal.specs.Undoing.{CameFrom, undone}
+use Rattle.rewriter_journal.specs.Journals.{IsJournal, IsSlotted, IsStoreOf, Noted, before, undone_all}
 use Rattle.desk.specs.declared.mark.Mark.{Mark}
 use Rattle.desk.specs.Held.{Held, IsGood, Within, module_held, open_mark, open_marks, shown_of}
 use Rattle.desk.specs.Moves.{Edited, Grown, HoldsNone, Tidied, Undone, noted, noted_as}

@@ -1,5 +1,5 @@
 pub mod Held
 pub mod Marked
 pub mod Moves
-pub use Rattle.journals.specs.Journals
+pub use Rattle.rewriter_journal.specs.Journals
 pub use Rattle.world_texts.specs.Texts

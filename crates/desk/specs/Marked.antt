@@ -3,7 +3,7 @@ use Rattle.std.specs.Prelude.{◌≡◌, ℕ, ◌≤◌, nat_lt, List, [], ◌�
 use Rattle.ir_types.specs.declared.refusal.Refusal.{Refusal}
 use Rattle.ir_types.specs.declared.refusal.Refusal.TheVariants.{TooManyMarks}
 use Rattle.ir_event.specs.declared.event.Event.{Event}
-use Rattle.machine.specs.Machine.{most_marks}
+use Rattle.rewriter_machine.specs.Machine.{most_marks}
 use Rattle.desk.specs.declared.mark.Mark.{Mark}
 use Rattle.desk.specs.Held.{Held, Within, open_mark, open_marks}
 

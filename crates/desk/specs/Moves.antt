@@ -9,8 +9,8 @@ use Rattle.ir_store.specs.Stored.{Stored}
 use Rattle.ir_event.specs.declared.event.Event.{Event}
 use Rattle.ir_event.specs.Listener.{ShowsTaken}
 use Rattle.ir_event.specs.Step.{Step, inverse_of}
-use Rattle.journals.specs.Undoing.{undone}
-use Rattle.journals.specs.Journals.{IsTidy}
+use Rattle.rewriter_journal.specs.Undoing.{undone}
+use Rattle.rewriter_journal.specs.Journals.{IsTidy}
 use Rattle.desk.specs.declared.mark.Mark.{Mark}
 use Rattle.desk.specs.Held.{Held, module_held, open_marks, shown_of}
 

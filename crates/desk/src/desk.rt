@@ -1,7 +1,7 @@
 //! The desk: a world with its journal and its marks.
 ghost use Rattle.std.specs.Prelude.{◌≡◌, ◌≢◌, ◌<◌, ◌-◌, ◌↔◌, ◌∷◌, [], length, not, is_some, slice_get, IsTrue, OnOk, OnErr, IfSome, IfNone};
 ghost use Rattle.ir_event.specs.Modules.{things_in};
-ghost use Rattle.journals.specs.Journals.{IsSlotted};
+ghost use Rattle.rewriter_journal.specs.Journals.{IsSlotted};
 ghost use Rattle.desk.specs.Held.{Within, module_held, open_marks};
 ghost use Rattle.desk.specs.Marked.{counted_among, mark_reason, with_mark, IsNewest, Closed};
 ghost use Rattle.desk.specs.Moves.{IsAnswered, Undone, Tidied, HoldsNone};
@@ -12,7 +12,7 @@ use crate::release::release;
 use ir_event::event::{Event, inverse};
 use ir_event::world::World;
 use ir_types::refusal::Refusal;
-use journals::undo::undo;
+use rewriter_journal::undo::undo;
 use std::alloc::Global;
 use std::marker::Model;
 

@@ -7,7 +7,7 @@ ghost use Rattle.ir_tree.specs.Meaning.{IsSoundIn, isolated_in, key_before_in};
 ghost use Rattle.ir_tree_laws.specs.Reasons.{holds_none, put_reason, set_entry_reason, set_operand_reason, shift_reason, take_reason};
 ghost use Rattle.ir_store.specs.Calls.{after_entry, after_operand, after_put, after_shift, after_take};
 ghost use Rattle.ir_event.specs.declared.event.Event.TheVariants.{Put};
-ghost use Rattle.journals.specs.Journals.{IsTidy};
+ghost use Rattle.rewriter_journal.specs.Journals.{IsTidy};
 ghost use Rattle.desk.specs.Moves.{Edited, IsAnswered};
 
 use crate::claims::{claim, note};
@@ -18,7 +18,7 @@ use ir_tree::tree::TreeOp;
 use ir_tree::value::Value;
 use ir_types::ids::{AttrId, NameId, OpId};
 use ir_types::refusal::Refusal;
-use journals::edits;
+use rewriter_journal::edits;
 
 impl Desk {
     /// Puts an operation at a place of the module, and gives the event: one like a header, whose blocks hold none and

@@ -57,7 +57,7 @@ fn made_type(alloc: Global, index: u32) -> Result<TypeNode> {
 fn intern_types(alloc: Global, context: &mut Context, count: u32) -> Result<u32> {
     let mut right = 0u32;
     for index in 0..count {
-        let id = ir_types_calls::ty(context, made_type(alloc, index)?)?;
+        let id = ir_types_cases_base::ty(context, made_type(alloc, index)?)?;
         if id == TypeId::new(index) {
             right = right.saturating_add(1);
         }

@@ -9,19 +9,19 @@ use Rattle.ir_tree.specs.Tree.{Head, Op}
 use Rattle.ir_tree.specs.Frames.{owner_of}
 use Rattle.ir_tree.specs.Ids.{has_id, op_count}
 use Rattle.ir_tree.specs.Edits.{each_head, at}
-use Rattle.ir_store_base.specs.Stored.{Gone}
+use Rattle.ir_store_slots.specs.Stored.{Gone}
 use Rattle.ir_store.specs.Calls.{change_gone_of}
-use Rattle.ir_store_base.specs.Rows.{Row, row_at, held_in, gone_in}
-use Rattle.ir_store_base.specs.Spells.{SpellsOp}
-use Rattle.ir_store_base.specs.Right.{Live, Used, Right}
-use Rattle.ir_store_base.specs.Index.{Index, HasIdsBelow, HasOwners, lives}
+use Rattle.ir_store_slots.specs.Rows.{Row, row_at, held_in, gone_in}
+use Rattle.ir_store_slots.specs.Spells.{SpellsOp}
+use Rattle.ir_store_slots.specs.Right.{Live, Used, Right}
+use Rattle.ir_store_slots.specs.Index.{Index, HasIdsBelow, HasOwners, lives}
 use Rattle.ir_store.proofs.Distinct.{each_ids}
 use Rattle.ir_store.proofs.Tally.{live_stays}
-use Rattle.ir_store_base.proofs.Mapped.{map_spells}
-use Rattle.ir_store_base.proofs.Founds.{has_is}
-use Rattle.ir_store_base.proofs.Slots.{Found, only}
+use Rattle.ir_store_slots.proofs.Mapped.{map_spells}
+use Rattle.ir_store_slots.proofs.Founds.{has_is}
+use Rattle.ir_store_slots.proofs.Slots.{Found, only}
 use Rattle.ir_store.proofs.Steps.{row_step}
-use Rattle.ir_store_base.proofs.Items.{eq_nat}
+use Rattle.ir_store_slots.proofs.Items.{eq_nat}
 use Rattle.ir_store.proofs.Writing.{has_each}
 
 -- a change of a head that keeps what others see of the operation

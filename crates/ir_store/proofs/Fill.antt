@@ -12,14 +12,14 @@ use Rattle.ir_tree.specs.declared.value.Value.TheVariants.{Result, Arg}
 use Rattle.ir_tree.specs.Frames.{owner_of}
 use Rattle.ir_tree.specs.Ids.{has_id}
 use Rattle.ir_tree.specs.Tree.{Op}
-use Rattle.ir_store_base.specs.Stored.{Gone}
-use Rattle.ir_store_base.specs.Rows.{Row, Shape, row_at, held_in, gone_in, bare}
-use Rattle.ir_store_base.specs.Spells.{SpellsOp}
-use Rattle.ir_store_base.specs.Right.{Live, Used, HoldsId, Right}
-use Rattle.ir_store_base.specs.Index.{operand_at, use_at, argument_head, slot_head, value_head, CellOf, LinkedTo, Index, Celled, cell_at, lives}
-use Rattle.ir_store_base.specs.Grows.{Parts, IsEven, NewHead, NewUse, Ready}
-use Rattle.ir_store_base.proofs.Items.{eq_nat}
-use Rattle.ir_store_base.proofs.Wide.{Keyed, keyed_of, same_spells}
+use Rattle.ir_store_slots.specs.Stored.{Gone}
+use Rattle.ir_store_slots.specs.Rows.{Row, Shape, row_at, held_in, gone_in, bare}
+use Rattle.ir_store_slots.specs.Spells.{SpellsOp}
+use Rattle.ir_store_slots.specs.Right.{Live, Used, HoldsId, Right}
+use Rattle.ir_store_slots.specs.Index.{operand_at, use_at, argument_head, slot_head, value_head, CellOf, LinkedTo, Index, Celled, cell_at, lives}
+use Rattle.ir_store_slots.specs.Grows.{Parts, IsEven, NewHead, NewUse, Ready}
+use Rattle.ir_store_slots.proofs.Items.{eq_nat}
+use Rattle.ir_store_slots.proofs.Wide.{Keyed, keyed_of, same_spells}
 
 some_one : {X : Type 0} (x y : X) → Some x ≡ Some y → x ≡ y
 some_one x y e = cc

@@ -10,14 +10,14 @@ use Rattle.ir_tree.specs.declared.place.Place.{Place}
 use Rattle.ir_tree.specs.Tree.{Op, op, Ops, no_ops}
 use Rattle.ir_tree.specs.Ids.{has_id, find}
 use Rattle.ir_tree.specs.Places.{put, put_here, put_in, is_in_block}
-use Rattle.ir_store_base.specs.Rows.{Row, Shape, row_at, bare, bare_regions, held_in, gone_in}
-use Rattle.ir_store_base.specs.Spells.{SpellsOp, SpellsRegions, SpellsOps}
-use Rattle.ir_store_base.specs.Spots.{joined}
-use Rattle.ir_store_base.specs.Right.{Live, Used, Placed, BlockOf, Right}
-use Rattle.ir_store_base.proofs.Mapped.{has_op, lists_spells, rows_spells}
-use Rattle.ir_store_base.proofs.Founds.{has_is, Spelt, find_spelt, has_live}
-use Rattle.ir_store_base.proofs.Slots.{Found, there}
-use Rattle.ir_store_base.proofs.Items.{eq_nat}
+use Rattle.ir_store_slots.specs.Rows.{Row, Shape, row_at, bare, bare_regions, held_in, gone_in}
+use Rattle.ir_store_slots.specs.Spells.{SpellsOp, SpellsRegions, SpellsOps}
+use Rattle.ir_store_slots.specs.Spots.{joined}
+use Rattle.ir_store_slots.specs.Right.{Live, Used, Placed, BlockOf, Right}
+use Rattle.ir_store_slots.proofs.Mapped.{has_op, lists_spells, rows_spells}
+use Rattle.ir_store_slots.proofs.Founds.{has_is, Spelt, find_spelt, has_live}
+use Rattle.ir_store_slots.proofs.Slots.{Found, there}
+use Rattle.ir_store_slots.proofs.Items.{eq_nat}
 use Rattle.ir_store.proofs.Join.{joins, joined_same, joined_other, AtHome, Names, put_spells, has_put, In, within, listed_op, has_end, has_new}
 
 -- the slot k holds the operation x, which is held

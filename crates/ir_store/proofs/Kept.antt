@@ -2,7 +2,7 @@
 use Rattle.std.proofs.Common.{◌≡◌, ℕ, zero, suc, ◌+◌, ◌-◌, List, refl, ap, ◌∙◌, length, Bool, true, false, ◌&&◌, arith}
 use Rattle.std.specs.List.{list_all}
 use Rattle.chains.specs.Lists.{list_at}
-use Rattle.ir_store_base.specs.Rows.{Row, row_at}
+use Rattle.ir_store_slots.specs.Rows.{Row, row_at}
 use Rattle.ir_store.specs.Outside.{lists_pass, shapes_keep, slot_keeps}
 
 -- a slot whose row is read, where there are levels left

@@ -16,13 +16,13 @@ use Rattle.ir_tree_laws.specs.Reads.{ops_in, ops_at, last_id, is_among, goes_bef
 use Rattle.ir_tree_laws.proofs.Members.{stand}
 use Rattle.ir_tree_laws.proofs.Around.{member_of_place}
 use Rattle.ir_tree_laws.proofs.Neighbours.{list_there}
-use Rattle.ir_store_base.specs.Rows.{Row, Shape, row_at, live_slot, head_in}
-use Rattle.ir_store_base.specs.Spells.{SpellsOp, SpellsRegions, SpellsOps}
-use Rattle.ir_store_base.specs.Spots.{id_in, slot_place}
-use Rattle.ir_store_base.specs.Right.{Live, Right}
+use Rattle.ir_store_slots.specs.Rows.{Row, Shape, row_at, live_slot, head_in}
+use Rattle.ir_store_slots.specs.Spells.{SpellsOp, SpellsRegions, SpellsOps}
+use Rattle.ir_store_slots.specs.Spots.{id_in, slot_place}
+use Rattle.ir_store_slots.specs.Right.{Live, Right}
 use Rattle.ir_store_reads.specs.Heading.{block_in, CanStand}
 use Rattle.ir_store_reads.proofs.Apart.{not_behind}
-use Rattle.ir_store_base.proofs.Slots.{Found, found, found_op, none_found, only, slot_of_live}
+use Rattle.ir_store_slots.proofs.Slots.{Found, found, found_op, none_found, only, slot_of_live}
 use Rattle.ir_store.proofs.Cut.{head_id, live_of}
 use Rattle.ir_store.proofs.Standing.{some_place, root_placeless, place_missing}
 

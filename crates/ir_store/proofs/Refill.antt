@@ -8,10 +8,10 @@ use Rattle.ir_tree.specs.declared.value.Value.{Value}
 use Rattle.ir_tree.specs.declared.value.Value.TheVariants.{Result, Arg}
 use Rattle.ir_tree.specs.Frames.{owner_of}
 use Rattle.ir_tree.specs.Tree.{Op}
-use Rattle.ir_store_base.specs.Rows.{Row, Shape, row_at}
-use Rattle.ir_store_base.specs.Right.{Used, Right}
-use Rattle.ir_store_base.specs.Index.{argument_head, slot_head, value_head, cell_at, Celled}
-use Rattle.ir_store_base.specs.Grows.{Parts, Ready}
+use Rattle.ir_store_slots.specs.Rows.{Row, Shape, row_at}
+use Rattle.ir_store_slots.specs.Right.{Used, Right}
+use Rattle.ir_store_slots.specs.Index.{argument_head, slot_head, value_head, cell_at, Celled}
+use Rattle.ir_store_slots.specs.Grows.{Parts, Ready}
 use Rattle.ir_store.proofs.Fill.{Named, IsApart}
 
 below : (a b : ℕ) → nat_lt a b ≡ true → a < b

@@ -16,14 +16,14 @@ use Rattle.ir_tree_laws.specs.Reads.{is_within}
 use Rattle.ir_tree_laws.specs.Reasons.{leads_inside, before_within}
 use Rattle.ir_tree_laws.proofs.Shift.{own_distinct, is_put, may_shift, shift_distinct, shift_found}
 use Rattle.ir_tree_laws.proofs.Edited.{taken_order, taken_op_count, put_op_count}
-use Rattle.ir_store_base.specs.Rows.{Row, Shape, row_at}
-use Rattle.ir_store_base.specs.Spells.{SpellsOp, SpellsRegions, SpellsRegion, SpellsOps}
-use Rattle.ir_store_base.specs.Spots.{joined, StandsIn}
+use Rattle.ir_store_slots.specs.Rows.{Row, Shape, row_at}
+use Rattle.ir_store_slots.specs.Spells.{SpellsOp, SpellsRegions, SpellsRegion, SpellsOps}
+use Rattle.ir_store_slots.specs.Spots.{joined, StandsIn}
 use Rattle.ir_store.specs.Shifting.{CanRelink}
-use Rattle.ir_store_base.specs.Right.{Live, Used, Placed, BlockOf, Right}
-use Rattle.ir_store_base.proofs.Mapped.{has_op, has_regions, has_region, has_ops, neither, lists_spells}
-use Rattle.ir_store_base.proofs.Founds.{has_is}
-use Rattle.ir_store_base.proofs.Slots.{Found, found_op, only, root_id}
+use Rattle.ir_store_slots.specs.Right.{Live, Used, Placed, BlockOf, Right}
+use Rattle.ir_store_slots.proofs.Mapped.{has_op, has_regions, has_region, has_ops, neither, lists_spells}
+use Rattle.ir_store_slots.proofs.Founds.{has_is}
+use Rattle.ir_store_slots.proofs.Slots.{Found, found_op, only, root_id}
 use Rattle.ir_store.proofs.Cut.{not_item, head_id, cut_lists}
 use Rattle.ir_store.proofs.Join.{joins, joined_same, joined_other, AtHome, Names, put_spells, has_put, In, within}
 use Rattle.ir_store.proofs.Joining.{Before, Spot}

@@ -10,13 +10,13 @@ use Rattle.ir_tree.specs.Tree.{Op, op, Regions, no_regions, region, Region, empt
 use Rattle.ir_tree.specs.Ids.{ids, regions_ids, has_id, first_of, HasDistinctIds}
 use Rattle.ir_tree.specs.Places.{place_of, regions_place, region_place, ops_place, first_id}
 use Rattle.ir_tree.proofs.Returns.{absent_first}
-use Rattle.ir_store_base.specs.Rows.{Row, Shape, row_at, live_slot}
-use Rattle.ir_store_base.specs.Spells.{SpellsOp, SpellsRegions, SpellsRegion, SpellsOps}
-use Rattle.ir_store_base.specs.Spots.{id_in, slot_place}
-use Rattle.ir_store_base.specs.Right.{Live, Used, Right}
-use Rattle.ir_store_base.proofs.Mapped.{has_op, has_regions, has_region, has_ops, neither}
-use Rattle.ir_store_base.proofs.Founds.{has_is_regions}
-use Rattle.ir_store_base.proofs.Slots.{Found, found, only, there, missing}
+use Rattle.ir_store_slots.specs.Rows.{Row, Shape, row_at, live_slot}
+use Rattle.ir_store_slots.specs.Spells.{SpellsOp, SpellsRegions, SpellsRegion, SpellsOps}
+use Rattle.ir_store_slots.specs.Spots.{id_in, slot_place}
+use Rattle.ir_store_slots.specs.Right.{Live, Used, Right}
+use Rattle.ir_store_slots.proofs.Mapped.{has_op, has_regions, has_region, has_ops, neither}
+use Rattle.ir_store_slots.proofs.Founds.{has_is_regions}
+use Rattle.ir_store_slots.proofs.Slots.{Found, found, only, there, missing}
 use Rattle.ir_store.proofs.Cut.{head_id, live_of}
 
 either : (a b : Bool) → (a || b) ≡ true → a ≡ false → b ≡ true

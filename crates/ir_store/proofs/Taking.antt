@@ -15,15 +15,15 @@ use Rattle.ir_tree.specs.Tree.{Op, op, Regions, no_regions, region, empty, block
 use Rattle.ir_tree.specs.Ids.{has_id, find}
 use Rattle.ir_tree.specs.Places.{without}
 use Rattle.ir_tree_laws.specs.Reasons.{hold_none, holds_none}
-use Rattle.ir_store_base.specs.Rows.{Row, Shape, row_at, held_in, gone_in, live_slot}
-use Rattle.ir_store_base.specs.Spells.{SpellsOp, SpellsRegions, SpellsOps}
-use Rattle.ir_store_base.specs.Right.{Live, Used, Right}
-use Rattle.ir_store_base.specs.Plans.{is_nil, AllHeads, all_bare, leaf_in, cut_reason}
-use Rattle.ir_store_base.proofs.Mapped.{rows_spells}
-use Rattle.ir_store_base.proofs.Founds.{has_is}
-use Rattle.ir_store_base.proofs.Slots.{Found, found, only, there, missing, root_id, root_live, found_op}
+use Rattle.ir_store_slots.specs.Rows.{Row, Shape, row_at, held_in, gone_in, live_slot}
+use Rattle.ir_store_slots.specs.Spells.{SpellsOp, SpellsRegions, SpellsOps}
+use Rattle.ir_store_slots.specs.Right.{Live, Used, Right}
+use Rattle.ir_store_slots.specs.Plans.{is_nil, AllHeads, all_bare, leaf_in, cut_reason}
+use Rattle.ir_store_slots.proofs.Mapped.{rows_spells}
+use Rattle.ir_store_slots.proofs.Founds.{has_is}
+use Rattle.ir_store_slots.proofs.Slots.{Found, found, only, there, missing, root_id, root_live, found_op}
 use Rattle.ir_store.proofs.Cut.{not_item, has_cut, cut_lists, has_others, bare_is}
-use Rattle.ir_store_base.proofs.Items.{eq_nat}
+use Rattle.ir_store_slots.proofs.Items.{eq_nat}
 
 -- the heads of blocks
 all_heads : (homes : List ℕ) (xs : List Shape) → ((r : ℕ) (a : List ℕ × ℕ) → slice_get xs r ≡ Some (Some a) → IsHead homes a.1) → AllHeads homes xs

@@ -14,15 +14,15 @@ use Rattle.ir_tree.specs.Places.{put, without}
 use Rattle.ir_tree_laws.specs.Reasons.{has_place, leaves, unused}
 use Rattle.ir_tree_laws.proofs.Formed.{no_more}
 use Rattle.ir_tree_laws.proofs.Edited.{put_op_count, taken_op_count}
-use Rattle.ir_store_base.specs.Rows.{Row, row_at, if_live, live_slot, bare, row_with_operand}
-use Rattle.ir_store_base.specs.Spells.{SpellsOp}
-use Rattle.ir_store_base.specs.Right.{Live, Right}
-use Rattle.ir_store_base.specs.Index.{operand_at, value_head, slot_head, HasOwners, HasIdsBelow}
-use Rattle.ir_store_base.specs.Grows.{Parts, Wider, Ready}
+use Rattle.ir_store_slots.specs.Rows.{Row, row_at, if_live, live_slot, bare, row_with_operand}
+use Rattle.ir_store_slots.specs.Spells.{SpellsOp}
+use Rattle.ir_store_slots.specs.Right.{Live, Right}
+use Rattle.ir_store_slots.specs.Index.{operand_at, value_head, slot_head, HasOwners, HasIdsBelow}
+use Rattle.ir_store_slots.specs.Grows.{Parts, Wider, Ready}
 use Rattle.ir_store.proofs.Cut.{bare_is, has_cut}
-use Rattle.ir_store_base.proofs.Founds.{has_is}
+use Rattle.ir_store_slots.proofs.Founds.{has_is}
 use Rattle.ir_store.proofs.Distinct.{bare_own, bare_count, bare_apart}
-use Rattle.ir_store_base.proofs.Slots.{found, found_op, in_tree_is, live_inside, only, root_id, root_live}
+use Rattle.ir_store_slots.proofs.Slots.{found, found_op, in_tree_is, live_inside, only, root_id, root_live}
 use Rattle.ir_store.proofs.Taking.{IsLeaf}
 use Rattle.ir_store.proofs.Unused.{Passes, all_get, every_find}
 

@@ -15,15 +15,15 @@ use Rattle.ir_tree.specs.Limits.{every, regions_every, region_every, ops_every}
 use Rattle.ir_tree.specs.Tree.{Head, Op, op, Regions, no_regions, region, Region, empty, block, Ops, no_ops, next, head}
 use Rattle.ir_tree.specs.Ids.{has_id, find, regions_find, region_find, ops_find, first_of}
 use Rattle.ir_tree_laws.specs.Reasons.{leaves, unused, take_reason, holds_none, unless}
-use Rattle.ir_store_base.specs.Rows.{Row, Shape, row_at, live_slot}
-use Rattle.ir_store_base.specs.Spells.{SpellsOp, SpellsRegions, SpellsRegion, SpellsOps}
-use Rattle.ir_store_base.specs.Right.{Live, Right}
-use Rattle.ir_store_base.specs.Plans.{is_nil, leaf_in}
-use Rattle.ir_store_base.specs.Reasoned.{idle_in}
-use Rattle.ir_store_base.specs.Index.{operand_at, use_at, argument_head, slot_head, value_head, Index, lives, all_idle, args_idle, row_idle}
-use Rattle.ir_store_base.proofs.Slots.{Found, found, found_op}
+use Rattle.ir_store_slots.specs.Rows.{Row, Shape, row_at, live_slot}
+use Rattle.ir_store_slots.specs.Spells.{SpellsOp, SpellsRegions, SpellsRegion, SpellsOps}
+use Rattle.ir_store_slots.specs.Right.{Live, Right}
+use Rattle.ir_store_slots.specs.Plans.{is_nil, leaf_in}
+use Rattle.ir_store_slots.specs.Reasoned.{idle_in}
+use Rattle.ir_store_slots.specs.Index.{operand_at, use_at, argument_head, slot_head, value_head, Index, lives, all_idle, args_idle, row_idle}
+use Rattle.ir_store_slots.proofs.Slots.{Found, found, found_op}
 use Rattle.ir_store.proofs.Taking.{IsLeaf, planned}
-use Rattle.ir_store_base.proofs.Idle.{is_below}
+use Rattle.ir_store_slots.proofs.Idle.{is_below}
 
 pub both_true : (a b : Bool) → (a && b) ≡ true → (a ≡ true) × (b ≡ true)
 both_true true b e = (refl, e)

@@ -12,12 +12,12 @@ use Rattle.ir_tree.specs.Tree.{Op, op, Regions, no_regions, region, empty, block
 use Rattle.ir_tree_laws.specs.Values.{region_at, arguments_of, arguments_at, type_of_value, has_value}
 use Rattle.ir_tree_laws.specs.Reads.{ops_in, is_among}
 use Rattle.ir_tree_laws.specs.Reasons.{is_in_list, has_place}
-use Rattle.ir_store_base.specs.Rows.{Row, Shape, row_at, live_slot, if_live, head_in}
-use Rattle.ir_store_base.specs.Spells.{SpellsOp, SpellsRegions, SpellsOps}
-use Rattle.ir_store_base.specs.Spots.{spot_in, before_in, at_slot, stands}
-use Rattle.ir_store_base.specs.Right.{Live, Right}
-use Rattle.ir_store_base.specs.Index.{slot_head, result_head, argument_head, value_head, shape_type, slot_type, type_in}
-use Rattle.ir_store_base.proofs.Slots.{found, found_op, none_found, slot_of_live}
+use Rattle.ir_store_slots.specs.Rows.{Row, Shape, row_at, live_slot, if_live, head_in}
+use Rattle.ir_store_slots.specs.Spells.{SpellsOp, SpellsRegions, SpellsOps}
+use Rattle.ir_store_slots.specs.Spots.{spot_in, before_in, at_slot, stands}
+use Rattle.ir_store_slots.specs.Right.{Live, Right}
+use Rattle.ir_store_slots.specs.Index.{slot_head, result_head, argument_head, value_head, shape_type, slot_type, type_in}
+use Rattle.ir_store_slots.proofs.Slots.{found, found_op, none_found, slot_of_live}
 use Rattle.ir_store.proofs.Cut.{head_id, live_of}
 use Rattle.ir_store.proofs.Spotted.{item_of}
 

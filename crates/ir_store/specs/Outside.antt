@@ -5,8 +5,8 @@ use Rattle.chains.specs.Lists.{list_at}
 use Rattle.ir_tree.specs.Tree.{Op}
 use Rattle.ir_tree.specs.Ids.{has_id}
 use Rattle.ir_tree.specs.Places.{without}
-use Rattle.ir_store_base.specs.Rows.{Row, Shape, row_at}
-use Rattle.ir_store_base.specs.Using.{use_in}
+use Rattle.ir_store_slots.specs.Rows.{Row, Shape, row_at}
+use Rattle.ir_store_slots.specs.Using.{use_in}
 
 -- whether the operation of a node among uses stays where operation x is taken out
 abbrev pub leaves_use : List Row → List (ℕ × ℕ) → ℕ → Op → ℕ → Bool

@@ -12,7 +12,7 @@ use Rattle.ir_tree.specs.Places.{shifted}
 use Rattle.ir_tree_laws.specs.Reads.{around}
 use Rattle.ir_tree_laws.specs.Tables.{table_of}
 use Rattle.ir_tree_laws.specs.Reasons.{unless, has_place, leads_inside, same_table, fits_around, levels_in}
-use Rattle.ir_store_base.specs.Rows.{Row, Shape, row_at}
+use Rattle.ir_store_slots.specs.Rows.{Row, Shape, row_at}
 
 -- operation x is there and not the root, and the place is there and not within it
 pub record CanRelink (x : ℕ) (place : Place) (t : Op) : Type 0 where

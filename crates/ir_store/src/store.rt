@@ -4,29 +4,29 @@ ghost use Rattle.std.specs.FinMap as finmap;
 ghost use Rattle.std.specs.Ordering.{nat_cmp};
 ghost use Rattle.ir_tree.specs.Ids.{has_id, op_count};
 ghost use Rattle.ir_tree.specs.Tree.{head};
-ghost use Rattle.ir_store_base.specs.Rows.{rows_of, row_of};
-ghost use Rattle.ir_store_base.specs.Spells.{Spelled, Spelled-prop};
+ghost use Rattle.ir_store_slots.specs.Rows.{rows_of, row_of};
+ghost use Rattle.ir_store_slots.specs.Spells.{Spelled, Spelled-prop};
 ghost use Rattle.ir_tree_laws.specs.Values.{type_of_value};
-ghost use Rattle.ir_store_base.specs.Using.{AreUses};
-ghost use Rattle.ir_store_base.specs.Reasoned.{rewire_reason};
+ghost use Rattle.ir_store_slots.specs.Using.{AreUses};
+ghost use Rattle.ir_store_slots.specs.Reasoned.{rewire_reason};
 ghost use Rattle.ir_tree.specs.Limits.{most_next};
 ghost use Rattle.ir_tree_laws.specs.Changes.{operand_at};
 ghost use Rattle.ir_tree_laws.specs.Reasons.{take_reason};
-ghost use Rattle.ir_store_base.specs.Nodes.{node_of};
-ghost use Rattle.ir_store_base.specs.Stored.{known};
+ghost use Rattle.ir_store_slots.specs.Nodes.{node_of};
+ghost use Rattle.ir_store_slots.specs.Stored.{known};
 ghost use Rattle.ir_store.specs.Calls.{after_take, after_restore, after_retract, after_operand, CanRestore, CanRetract, raised};
-ghost use Rattle.ir_store_base.specs.Emptied.{seeded};
+ghost use Rattle.ir_store_slots.specs.Emptied.{seeded};
 ghost use Rattle.ir_store.specs.Holds.{HoldsOf, HoldsOf-prop, GoneOf, GoneOf-prop};
 
 use chains::Chains;
-use id_table::IdTable;
-use ir_store_base::find::{Keys, find, slot};
-use ir_store_base::grow::grow_slot;
-use ir_store_base::marks::{new_marks, put_mark, reach};
-use ir_store_base::room::Room;
-use ir_store_base::row::{Cell, Row, put_operand, put_row};
-use ir_store_base::spot::{find_joint, link};
-use ir_store_base::uses::{
+use ir_store_ids::IdTable;
+use ir_store_slots::find::{Keys, find, slot};
+use ir_store_slots::grow::grow_slot;
+use ir_store_slots::marks::{new_marks, put_mark, reach};
+use ir_store_slots::room::Room;
+use ir_store_slots::row::{Cell, Row, put_operand, put_row};
+use ir_store_slots::spot::{find_joint, link};
+use ir_store_slots::uses::{
     find_idle, find_rewire, free_uses, lead_row, list_uses, live_type, use_node, use_run,
     value_head,
 };
@@ -68,9 +68,9 @@ impl Model for Store {
     ghost use Rattle.std.specs.Prelude.{eqb};
     ghost use Rattle.std.specs.FinMap as finmap;
     ghost use Rattle.std.specs.Ordering.{nat_cmp};
-    ghost use Rattle.ir_store_base.specs.Stored.{Stored, stored_code};
-    ghost use Rattle.ir_store_base.specs.Rows.{rows_of};
-    ghost use Rattle.ir_store_base.specs.Index.{Fits, cells_of};
+    ghost use Rattle.ir_store_slots.specs.Stored.{Stored, stored_code};
+    ghost use Rattle.ir_store_slots.specs.Rows.{rows_of};
+    ghost use Rattle.ir_store_slots.specs.Index.{Fits, cells_of};
 
     ghost Value = { Stored };
 

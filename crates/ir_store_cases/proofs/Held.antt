@@ -12,7 +12,7 @@ use Rattle.ir_tree_laws.specs.Reasons.{take_reason, holds_none, unused}
 use Rattle.ir_tree_laws.proofs.Around.{absent_find, member_of_place}
 use Rattle.ir_tree_laws.proofs.Members.{stand_found}
 use Rattle.ir_tree_laws.proofs.Reasoned.{no_take_reason}
-use Rattle.id_table.proofs.Tables.{eq_nat}
+use Rattle.ir_store_ids.proofs.Tables.{eq_nat}
 use Rattle.ir_store.specs.Nodes.{Node, node_of}
 use Rattle.ir_store.specs.Stored.{Stored, known}
 use Rattle.ir_store.specs.Calls.{CanRetract, after_restore, after_take, hold, put_held}

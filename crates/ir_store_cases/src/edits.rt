@@ -1,7 +1,7 @@
 //! The edits of a module, each beside what the plain program makes of its tree.
 use crate::may::{may_put, may_set};
-use case_trees::words::{first, name_id, number, op_id, part, place, some_attr, value};
-use case_trees::{build, written};
+use ir_tree_cases_base::words::{first, name_id, number, op_id, part, place, some_attr, value};
+use ir_tree_cases_base::{build, written};
 use ir_store::store::Store;
 use ir_tree::changes::{put, with_operand_set, without};
 use ir_tree::copy::copy;

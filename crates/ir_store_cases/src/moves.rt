@@ -5,7 +5,7 @@ ghost use Rattle.ir_tree.specs.WellFormed.{IsWellFormed};
 
 use crate::calls::are_below;
 use crate::edits::{Told, accepted, refused, unasked};
-use case_trees::words::{first, number, op_id, place};
+use ir_tree_cases_base::words::{first, number, op_id, place};
 use ir_store::store::Store;
 use ir_tree::changes::shifted;
 use ir_tree::check::check;

@@ -1,5 +1,5 @@
 //! A sum over all that is read of a module.
-use case_trees::written::{put_entries, put_number, put_types, put_values};
+use ir_tree_cases_base::written::{put_entries, put_number, put_types, put_values};
 use ir_store::node::Node;
 use ir_store::store::Store;
 use ir_tree::place::{Part, Place};

@@ -1,5 +1,5 @@
 //! What lines speak of: a context, a module, the operations that were taken out of it, and what is shown of it.
-use case_trees::build::bare;
+use ir_tree_cases_base::build::bare;
 use ir_store::store::Store;
 use ir_tree::tree::TreeOp;
 use ir_types::context::Context;

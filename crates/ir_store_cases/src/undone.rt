@@ -4,7 +4,7 @@ ghost use Rattle.ir_store.specs.Calls.{CanRetract};
 
 use crate::edits::{Told, accepted, refused, unasked};
 use crate::may::{may_restore, may_revert, may_set};
-use case_trees::words::{first, name_id, op_id, part, place, some_attr};
+use ir_tree_cases_base::words::{first, name_id, op_id, part, place, some_attr};
 use ir_store::store::Store;
 use ir_tree::changes::{put, without};
 use ir_tree::copy::copy;

@@ -3,12 +3,12 @@ use Rattle.std.proofs.Common.{◌≡◌, ◌<◌, ℕ, List, [], ◌∷◌, ◌+
 use Rattle.ir_tree.specs.Tree.{op, no_regions, region, empty, block, no_ops, next}
 use Rattle.ir_tree.specs.Ids.{ids, region_ids, regions_ids, ops_ids}
 use Rattle.chains.specs.Lists.{Once, list_at, after}
-use Rattle.ir_store_base.specs.Area.{Area}
-use Rattle.ir_store_base.specs.Rows.{Row, Shape, row_at, shape_of}
-use Rattle.ir_store_base.specs.Plans.{AllHeads}
-use Rattle.ir_store_base.specs.Walks.{from_slot}
+use Rattle.ir_store_slots.specs.Area.{Area}
+use Rattle.ir_store_slots.specs.Rows.{Row, Shape, row_at, shape_of}
+use Rattle.ir_store_slots.specs.Plans.{AllHeads}
+use Rattle.ir_store_slots.specs.Walks.{from_slot}
 use Rattle.ir_store_reads.specs.Added.{AddsOp, AddsRegions, AddsOps}
-use Rattle.ir_store_base.proofs.Walked.{Walks, goes, from_first, walk_start, walk_on, walk_less}
+use Rattle.ir_store_slots.proofs.Walked.{Walks, goes, from_first, walk_start, walk_on, walk_less}
 
 module _ (rows : List Row) (lists : List (List ℕ)) where
   -- an operation, and then what is inside it

@@ -5,10 +5,10 @@ use Rattle.std.proofs.lemmas.List.{take_more, map-append, map_more}
 use Rattle.ir_tree.specs.declared.tree.TreeRegion.{TreeRegion}
 use Rattle.ir_tree.specs.View.{region_view}
 use Rattle.ir_tree.specs.Tree.{Op, Region, regions_of, ops_of}
-use Rattle.ir_store_base.specs.Area.{Area}
-use Rattle.ir_store_base.specs.Rows.{Row, Shape, shape_of}
-use Rattle.ir_store_base.specs.Spells.{SpellsOp, SpellsRegions, SpellsRegion, SpellsOps}
-use Rattle.ir_store_base.specs.Plans.{AllHeads}
+use Rattle.ir_store_slots.specs.Area.{Area}
+use Rattle.ir_store_slots.specs.Rows.{Row, Shape, shape_of}
+use Rattle.ir_store_slots.specs.Spells.{SpellsOp, SpellsRegions, SpellsRegion, SpellsOps}
+use Rattle.ir_store_slots.specs.Plans.{AllHeads}
 
 module _ (rows : List Row) (lists : List (List ℕ)) where
   regions_more : (xs : List Shape) (gs : List Region) (x : Shape) (g : Region) → SpellsRegions rows lists xs (regions_of gs) → SpellsRegion rows lists x g → SpellsRegions rows lists (xs ++ x ∷ []) (regions_of (gs ++ g ∷ []))

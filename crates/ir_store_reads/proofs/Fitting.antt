@@ -7,12 +7,12 @@ use Rattle.std.proofs.lemmas.Option.{slice_get_within}
 use Rattle.chains.specs.Lists.{IsHead, IsFree}
 use Rattle.ir_tree.specs.Tree.{Op, op, head, Region, regions_of}
 use Rattle.ir_tree_laws.specs.Reasons.{with_id}
-use Rattle.ir_store_base.specs.declared.row.Cell.{Cell}
-use Rattle.ir_store_base.specs.Rows.{Row, Shape, row_at}
-use Rattle.ir_store_base.specs.Index.{cells_of, cell_at}
-use Rattle.ir_store_base.specs.Emptied.{emptied}
-use Rattle.ir_store_base.specs.Grows.{Parts, AreBlocks, NewBlock, Grown, row_held, AreEmptied}
-use Rattle.ir_store_base.proofs.Grown.{bare_list, emptied_list}
+use Rattle.ir_store_slots.specs.declared.row.Cell.{Cell}
+use Rattle.ir_store_slots.specs.Rows.{Row, Shape, row_at}
+use Rattle.ir_store_slots.specs.Index.{cells_of, cell_at}
+use Rattle.ir_store_slots.specs.Emptied.{emptied}
+use Rattle.ir_store_slots.specs.Grows.{Parts, AreBlocks, NewBlock, Grown, row_held, AreEmptied}
+use Rattle.ir_store_slots.proofs.Grown.{bare_list, emptied_list}
 use Rattle.ir_store_reads.specs.Again.{HeadsOf, NodesOf, BlockFits, RowFits}
 
 -- the cell of a node

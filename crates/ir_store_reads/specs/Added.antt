@@ -2,8 +2,8 @@
 use Rattle.std.specs.Prelude.{◌≡◌, ℕ, List, ◌++◌}
 use Rattle.ir_tree.specs.Tree.{Op, Regions, Ops}
 use Rattle.ir_tree.specs.Ids.{ids, regions_ids, ops_ids}
-use Rattle.ir_store_base.specs.Rows.{Row, Shape}
-use Rattle.ir_store_base.specs.Spells.{SpellsOp, SpellsRegions, SpellsOps}
+use Rattle.ir_store_slots.specs.Rows.{Row, Shape}
+use Rattle.ir_store_slots.specs.Spells.{SpellsOp, SpellsRegions, SpellsOps}
 
 module _ (rows : List Row) (lists : List (List ℕ)) where
   -- those of an operation and what is inside it, in pre-order

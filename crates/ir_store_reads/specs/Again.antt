@@ -2,9 +2,9 @@
 use Rattle.std.specs.Prelude.{◌≡◌, ℕ, ◌+◌, ◌<◌, List, [], length, false}
 use Rattle.chains.specs.Lists.{IsHead, IsFree, list_at}
 use Rattle.ir_tree.specs.Tree.{Head}
-use Rattle.ir_store_base.specs.Rows.{Row, row_at}
-use Rattle.ir_store_base.specs.Index.{cell_at}
-use Rattle.ir_store_base.specs.Grows.{Parts}
+use Rattle.ir_store_slots.specs.Rows.{Row, row_at}
+use Rattle.ir_store_slots.specs.Index.{cell_at}
+use Rattle.ir_store_slots.specs.Grows.{Parts}
 
 -- n heads from b on, for the values of slot k
 abbrev pub HeadsOf : List ℕ → List (ℕ × ℕ) → ℕ → ℕ → ℕ → Type 0

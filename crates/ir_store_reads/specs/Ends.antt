@@ -2,7 +2,7 @@
 use Rattle.std.specs.Prelude.{ℕ, List, [], ◌∷◌, Option, None, Some}
 use Rattle.chains.specs.Lists.{last_of, list_at}
 use Rattle.ir_tree.specs.Ids.{first_of}
-use Rattle.ir_store_base.specs.Rows.{Shape}
+use Rattle.ir_store_slots.specs.Rows.{Shape}
 
 -- the last slot of a region's block, or another where that has none
 abbrev pub later : List (List ℕ) → Option ℕ → Shape → Option ℕ

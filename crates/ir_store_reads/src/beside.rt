@@ -3,14 +3,14 @@ ghost use Rattle.std.specs.Prelude.{◌≡◌, option_map};
 ghost use Rattle.std.specs.FinMap as finmap;
 ghost use Rattle.chains.specs.Lists.{home_at, list_at};
 ghost use Rattle.order.specs.Labels.{goes_before};
-ghost use Rattle.ir_store_base.specs.Rows.{rows_of, live_slot};
-ghost use Rattle.ir_store_base.specs.Spots.{id_in};
+ghost use Rattle.ir_store_slots.specs.Rows.{rows_of, live_slot};
+ghost use Rattle.ir_store_slots.specs.Spots.{id_in};
 ghost use Rattle.ir_store_reads.specs.Heading.{block_in, CanStand};
 
-use ir_store_base::find::{Keys, find};
-use ir_store_base::row::Row;
-use ir_store_base::spot::block_head;
-use ir_store_base::uses::id_at;
+use ir_store_slots::find::{Keys, find};
+use ir_store_slots::row::Row;
+use ir_store_slots::spot::block_head;
+use ir_store_slots::uses::id_at;
 use ir_types::ids::OpId;
 use order::Ordered;
 

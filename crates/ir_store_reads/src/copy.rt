@@ -3,12 +3,12 @@ ghost use Rattle.std.specs.Prelude.{◌≡◌, ◌∷◌, [], ℕ, IfOk, IfSome,
 ghost use Rattle.chains.specs.Lists.{IsHead, list_at};
 ghost use Rattle.ir_tree.specs.Tree.{op, head, regions_of};
 ghost use Rattle.ir_tree.specs.View.{region_view};
-ghost use Rattle.ir_store_base.specs.Rows.{row_of as the_row, rows_of, row_at, shape_of};
-ghost use Rattle.ir_store_base.specs.Plans.{AllHeads};
-ghost use Rattle.ir_store_base.specs.Right.{Live};
-ghost use Rattle.ir_store_base.specs.Spells.{SpellsOp, SpellsRegions, SpellsRegion};
+ghost use Rattle.ir_store_slots.specs.Rows.{row_of as the_row, rows_of, row_at, shape_of};
+ghost use Rattle.ir_store_slots.specs.Plans.{AllHeads};
+ghost use Rattle.ir_store_slots.specs.Right.{Live};
+ghost use Rattle.ir_store_slots.specs.Spells.{SpellsOp, SpellsRegions, SpellsRegion};
 
-use ir_store_base::row::{Area, Row};
+use ir_store_slots::row::{Area, Row};
 use ir_tree::place::Part;
 use ir_tree::tree::{TreeOp, TreeRegion};
 use order::Ordered;

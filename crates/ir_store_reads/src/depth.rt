@@ -2,12 +2,12 @@
 ghost use Rattle.std.specs.Prelude.{◌≡◌, ℕ, ◌∷◌, [], map};
 ghost use Rattle.std.specs.List.{list_all};
 ghost use Rattle.chains.specs.Lists.{IsHead, Laws, list_at};
-ghost use Rattle.ir_store_base.specs.Rows.{rows_of, row_at, shape_of};
-ghost use Rattle.ir_store_base.specs.Plans.{AllHeads};
-ghost use Rattle.ir_store_base.specs.Right.{Live};
-ghost use Rattle.ir_store_base.specs.Walks.{slot_fits, shapes_pass};
+ghost use Rattle.ir_store_slots.specs.Rows.{rows_of, row_at, shape_of};
+ghost use Rattle.ir_store_slots.specs.Plans.{AllHeads};
+ghost use Rattle.ir_store_slots.specs.Right.{Live};
+ghost use Rattle.ir_store_slots.specs.Walks.{slot_fits, shapes_pass};
 
-use ir_store_base::row::{Area, Row};
+use ir_store_slots::row::{Area, Row};
 use order::Ordered;
 
 /// Whether the operation of a slot has fewer levels inside it than there is room for.

@@ -1,8 +1,8 @@
 //! What an operation of the module has, beside the operations in its blocks.
 ghost use Rattle.std.specs.Prelude.{◌≡◌, length, map, slice_get, option_map, option_and_then};
-ghost use Rattle.ir_store_base.specs.Rows.{row_of, node_row, shape_of, shape_arguments};
+ghost use Rattle.ir_store_slots.specs.Rows.{row_of, node_row, shape_of, shape_arguments};
 
-use ir_store_base::row::{Area, Row};
+use ir_store_slots::row::{Area, Row};
 use ir_tree::place::Part;
 use ir_tree::value::Value;
 use ir_types::ids::{AttrId, NameId, TypeId};
@@ -15,8 +15,8 @@ pub struct Node<'a> {
 }
 
 impl<'a> Model for Node<'a> {
-    ghost use Rattle.ir_store_base.specs.Nodes.{Node, node_code};
-    ghost use Rattle.ir_store_base.specs.Rows.{row_of, node_row};
+    ghost use Rattle.ir_store_slots.specs.Nodes.{Node, node_code};
+    ghost use Rattle.ir_store_slots.specs.Rows.{row_of, node_row};
 
     ghost Value = { Node };
 

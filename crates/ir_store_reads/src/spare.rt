@@ -3,16 +3,16 @@
 ghost use Rattle.std.specs.Prelude.{◌≡◌, ◌<◌, ◌∷◌, [], ℕ, true, length, map, IfOk, IfSome};
 ghost use Rattle.chains.specs.Lists.{IsFree, IsHead, free, list_at};
 ghost use Rattle.ir_tree.specs.View.{region_view};
-ghost use Rattle.ir_store_base.specs.Rows.{row_of, rows_of, row_at, shape_of};
-ghost use Rattle.ir_store_base.specs.Index.{cells_of, cell_at};
-ghost use Rattle.ir_store_base.specs.Emptied.{emptied_region};
-ghost use Rattle.ir_store_base.specs.Grows.{parts_of, NewBlock, IsBlock, AreBlocks, AreEmptied, Grown, bare_region};
+ghost use Rattle.ir_store_slots.specs.Rows.{row_of, rows_of, row_at, shape_of};
+ghost use Rattle.ir_store_slots.specs.Index.{cells_of, cell_at};
+ghost use Rattle.ir_store_slots.specs.Emptied.{emptied_region};
+ghost use Rattle.ir_store_slots.specs.Grows.{parts_of, NewBlock, IsBlock, AreBlocks, AreEmptied, Grown, bare_region};
 ghost use Rattle.ir_store_reads.specs.Again.{HeadsOf, NodesOf, BlockFits, RowFits};
 ghost use Rattle.ir_tree.specs.Tree.{head};
 
 use chains::Chains;
-use ir_store_base::grow::held_row;
-use ir_store_base::row::{Area, Cell, Row};
+use ir_store_slots::grow::held_row;
+use ir_store_slots::row::{Area, Cell, Row};
 use ir_tree::tree::{TreeOp, TreeRegion};
 use ir_types::ids::OpId;
 use order::Ordered;

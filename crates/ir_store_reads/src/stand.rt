@@ -1,11 +1,11 @@
 //! Where operations of the module stand.
 ghost use Rattle.std.specs.Prelude.{◌≡◌, ◌<◌, Some, option_map};
 ghost use Rattle.chains.specs.Lists.{IsItem, after, home_at, list_at};
-ghost use Rattle.ir_store_base.specs.Rows.{rows_of, row_at};
-ghost use Rattle.ir_store_base.specs.Spots.{id_in, slot_place};
+ghost use Rattle.ir_store_slots.specs.Rows.{rows_of, row_at};
+ghost use Rattle.ir_store_slots.specs.Spots.{id_in, slot_place};
 
-use ir_store_base::row::Row;
-use ir_store_base::uses::id_at;
+use ir_store_slots::row::Row;
+use ir_store_slots::uses::id_at;
 use ir_tree::place::Place;
 use ir_types::ids::OpId;
 use order::Ordered;

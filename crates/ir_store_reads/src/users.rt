@@ -1,11 +1,11 @@
 //! The uses of the values of a slot.
 ghost use Rattle.std.specs.Prelude.{◌≡◌, length};
-ghost use Rattle.ir_store_base.specs.Rows.{row_at, rows_of};
-ghost use Rattle.ir_store_base.specs.Index.{cells_of};
-ghost use Rattle.ir_store_base.specs.Using.{use_in};
+ghost use Rattle.ir_store_slots.specs.Rows.{row_at, rows_of};
+ghost use Rattle.ir_store_slots.specs.Index.{cells_of};
+ghost use Rattle.ir_store_slots.specs.Using.{use_in};
 
-use ir_store_base::row::{Cell, Row};
-use ir_store_base::uses::id_at;
+use ir_store_slots::row::{Cell, Row};
+use ir_store_slots::uses::id_at;
 use ir_types::ids::OpId;
 
 /// The heads of the uses of a slot's results: the first, and how many.

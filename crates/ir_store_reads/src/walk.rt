@@ -1,13 +1,13 @@
 //! The operations of the module, one after another.
 ghost use Rattle.std.specs.Prelude.{◌≡◌, ℕ, ◌∷◌, [], None, map, IfSome, OnOk};
 ghost use Rattle.chains.specs.Lists.{IsHead, Laws, list_at};
-ghost use Rattle.ir_store_base.specs.Rows.{row_of as the_row, rows_of, row_at, shape_of};
-ghost use Rattle.ir_store_base.specs.Plans.{AllHeads};
-ghost use Rattle.ir_store_base.specs.Right.{Live};
+ghost use Rattle.ir_store_slots.specs.Rows.{row_of as the_row, rows_of, row_at, shape_of};
+ghost use Rattle.ir_store_slots.specs.Plans.{AllHeads};
+ghost use Rattle.ir_store_slots.specs.Right.{Live};
 ghost use Rattle.ir_store_reads.specs.Added.{AddsOp, AddsOps, AddsRegions};
 ghost use Rattle.ir_store_reads.specs.Ends.{last_in, later};
 
-use ir_store_base::row::{Area, Row};
+use ir_store_slots::row::{Area, Row};
 use ir_types::ids::OpId;
 use order::Ordered;
 use std::alloc::AllocError;

@@ -4,14 +4,14 @@ ghost use Rattle.std.specs.Prelude.{◌≡◌, ℕ, IfOk, Err};
 ghost use Rattle.ir_types.specs.Things.{Grows};
 ghost use Rattle.ir_tree.specs.Meaning.{IsSoundIn};
 ghost use Rattle.ir_text_tokens.specs.declared.fault.Fault.{Fault as TextFault};
-ghost use Rattle.ir_text_reading.specs.Laws.{IsFull};
+ghost use Rattle.ir_text_grammar.specs.Laws.{IsFull};
 ghost use Rattle.ir_text_operations.specs.Spelling.{Spells};
 ghost use Rattle.ir_text_operations.specs.Claims.{IsOnly, IsNone};
 
 pub use ir_text_attributes::single::parse_attr;
 use ir_text_operations::module;
 pub use ir_text_operations::single::read_op;
-pub use ir_text_reading::error::ReadError;
+pub use ir_text_grammar::error::ReadError;
 pub use ir_text_room::alone::read_new;
 use ir_tree::tree::TreeOp;
 use ir_types::context::Context;

@@ -8,15 +8,15 @@ use Rattle.ir_types.specs.declared.refusal.Refusal.{Refusal}
 use Rattle.ir_types.specs.Things.{Things, Grows}
 use Rattle.ir_types.specs.Sound.{IsSound}
 use Rattle.ir_types.specs.Terms.{AttrTerm, attr_term}
-use Rattle.ir_text_reading.specs.declared.error.ReadError.{ReadError}
-use Rattle.ir_text_reading.specs.declared.error.ReadError.TheVariants as errors
-use Rattle.ir_text_reading.specs.Grammars.{IsMark}
-use Rattle.ir_text_reading.specs.Marks.{after}
-use Rattle.ir_text_reading.specs.Outcomes.{Outcome, Read, Wrong, Full, ◌>>=◌, of_option, Fails}
-use Rattle.ir_text_reading.specs.Standing.{AttrStands}
-use Rattle.ir_text_reading.specs.Typed.{Typed}
-use Rattle.ir_text_reading.proofs.TextLaws.{after_found, after_only}
-use Rattle.ir_text_reading.proofs.Worlds.{bind_read, option_read}
+use Rattle.ir_text_grammar.specs.declared.error.ReadError.{ReadError}
+use Rattle.ir_text_grammar.specs.declared.error.ReadError.TheVariants as errors
+use Rattle.ir_text_grammar.specs.Grammars.{IsMark}
+use Rattle.ir_text_grammar.specs.Marks.{after}
+use Rattle.ir_text_grammar.specs.Outcomes.{Outcome, Read, Wrong, Full, ◌>>=◌, of_option, Fails}
+use Rattle.ir_text_grammar.specs.Standing.{AttrStands}
+use Rattle.ir_text_grammar.specs.Typed.{Typed}
+use Rattle.ir_text_grammar.proofs.TextLaws.{after_found, after_only}
+use Rattle.ir_text_grammar.proofs.Worlds.{bind_read, option_read}
 use Rattle.ir_text_attributes.specs.AttrReading.{attr_at}
 use Rattle.ir_text_attributes.specs.AttrGrammar.{IsAttr}
 use Rattle.ir_text_attributes.specs.SingleReading.{single_attr_at}

@@ -3,7 +3,7 @@ use Rattle.std.specs.Prelude.{◌≡◌, ℕ, List, None}
 use Rattle.ir_text_tokens.specs.declared.token.Mark.TheVariants.{End}
 use Rattle.ir_text_tokens.specs.Limits.{text_reason}
 use Rattle.ir_types.specs.Terms.{AttrTerm}
-use Rattle.ir_text_reading.specs.Grammars.{IsMark}
+use Rattle.ir_text_grammar.specs.Grammars.{IsMark}
 use Rattle.ir_text_attributes.specs.AttrGrammar.{IsAttr}
 
 -- the text is one attribute of a depth of at most 32 and nothing after it

@@ -3,10 +3,10 @@ use Rattle.std.specs.Prelude.{ℕ, ◌+◌, nat_le, if◌then◌else◌, List, [
 use Rattle.ir_text_tokens.specs.declared.token.Mark.TheVariants.{Equal, Colon}
 use Rattle.ir_text_tokens.specs.Tokens.{Lexeme, integer, value, next}
 use Rattle.ir_text_tokens.specs.Numbers.{integer_of}
-use Rattle.ir_text_reading.specs.Marks.{after}
-use Rattle.ir_text_reading.specs.Outcomes.{Outcome, Read, Wrong, ◌>>=◌, of_option, Parse}
-use Rattle.ir_text_reading.specs.Lists.{more_at}
-use Rattle.ir_text_reading.specs.Typed.{Text}
+use Rattle.ir_text_grammar.specs.Marks.{after}
+use Rattle.ir_text_grammar.specs.Outcomes.{Outcome, Read, Wrong, ◌>>=◌, of_option, Parse}
+use Rattle.ir_text_grammar.specs.Lists.{more_at}
+use Rattle.ir_text_grammar.specs.Typed.{Text}
 use Rattle.ir_text_names.specs.Packs.{Counted, counts}
 
 abbrev pub name_from : Lexeme → List ℕ → Outcome (List ℕ × Text)

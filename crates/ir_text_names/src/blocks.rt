@@ -1,9 +1,9 @@
 //! What stands before the operations of a block. Language Reference, "Blocks".
 ghost use Rattle.std.specs.Prelude.{◌≡◌, ◌≤◌, ◌+◌, [], length, option_map, OnOk};
 ghost use Rattle.ir_types.specs.Things.{Grows};
-ghost use Rattle.ir_text_reading.specs.Outcomes.{Gives, of_option};
+ghost use Rattle.ir_text_grammar.specs.Outcomes.{Gives, of_option};
 ghost use Rattle.ir_text_names.specs.Alike.{IsAlike};
-ghost use Rattle.ir_text_reading.specs.Marks.{after};
+ghost use Rattle.ir_text_grammar.specs.Marks.{after};
 ghost use Rattle.ir_text_tokens.specs.declared.token.Mark.TheVariants.{CloseRound, Comma};
 ghost use Rattle.ir_text_names.specs.States.{after_in, state_of};
 ghost use Rattle.ir_text_names.specs.ListSteps.{IsBehind, Steps};
@@ -15,8 +15,8 @@ use crate::lists::Behind;
 use crate::named::{name, one_too_many};
 use crate::pack::Pack;
 use crate::scope::Scope;
-use ir_text_reading::error::{ReadError, wrong};
-use ir_text_reading::steps::{after, expect, token};
+use ir_text_grammar::error::{ReadError, wrong};
+use ir_text_grammar::steps::{after, expect, token};
 use ir_text_tokens::lexer::{self, skip};
 use ir_text_tokens::token::{Mark, Token};
 use ir_text_types::types::{MOST_DEPTH, ty};
@@ -141,7 +141,7 @@ fn push_argument<'a>(
 }
 
 /// Puts arguments behind each other up to the closing parenthesis, at most 256.
-#[tactic(auto, using(ir_types::proofs::Growth::grows_refl, ir_types::proofs::Growth::grows_trans), unfolding(ir_text_reading::specs::Lists::list_at, crate::specs::BlockReading::args_at))]
+#[tactic(auto, using(ir_types::proofs::Growth::grows_refl, ir_types::proofs::Growth::grows_trans), unfolding(ir_text_grammar::specs::Lists::list_at, crate::specs::BlockReading::args_at))]
 fn push_arguments<'a>(
     alloc: Global,
     scope: &mut Scope<'a>,

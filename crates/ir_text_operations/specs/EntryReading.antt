@@ -4,9 +4,9 @@ use Rattle.ir_text_tokens.specs.declared.token.Mark.TheVariants.{OpenCurly, Clos
 use Rattle.ir_types.specs.Things.{Things}
 use Rattle.ir_types.specs.Terms.{name_term}
 use Rattle.ir_types.specs.Words.{is_inherent}
-use Rattle.ir_text_reading.specs.Outcomes.{Outcome, Read, Wrong, ◌>>=◌, of_option, Parse}
-use Rattle.ir_text_reading.specs.Lists.{list_at}
-use Rattle.ir_text_reading.specs.Typed.{Typed, after_typed}
+use Rattle.ir_text_grammar.specs.Outcomes.{Outcome, Read, Wrong, ◌>>=◌, of_option, Parse}
+use Rattle.ir_text_grammar.specs.Lists.{list_at}
+use Rattle.ir_text_grammar.specs.Typed.{Typed, after_typed}
 use Rattle.ir_text_attributes.specs.AttrReading.{Entries, key_at, value_at}
 use Rattle.ir_text_operations.specs.Entries as keyed
 

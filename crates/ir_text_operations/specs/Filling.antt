@@ -4,8 +4,8 @@ use Rattle.ir_text_tokens.specs.declared.token.Mark.TheVariants.{End}
 use Rattle.ir_types.specs.Things.{Things}
 use Rattle.ir_types.specs.Interning.{with_name}
 use Rattle.ir_types.specs.Words.{words}
-use Rattle.ir_text_reading.specs.Outcomes.{Full}
-use Rattle.ir_text_reading.specs.Typed.{name_step}
+use Rattle.ir_text_grammar.specs.Outcomes.{Full}
+use Rattle.ir_text_grammar.specs.Typed.{name_step}
 use Rattle.ir_text_names.specs.States.{fresh}
 use Rattle.ir_text_operations.specs.Free.{free_bound, no_types}
 use Rattle.ir_text_operations.specs.OpReading.{op_at, ops_at}

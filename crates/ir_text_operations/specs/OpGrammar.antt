@@ -15,8 +15,8 @@ use Rattle.ir_types.specs.Words.{is_isolated, is_inherent}
 use Rattle.ir_tree.specs.declared.value.Value.TheVariants as values
 use Rattle.ir_tree.specs.Tree.{RegionOf}
 use Rattle.ir_tree.specs.Meaning.{Operation, key_before}
-use Rattle.ir_text_reading.specs.Grammars.{When, Grammar, Then, Done, After, Not, Either, IsMore, IsList, Token, IsMark}
-use Rattle.ir_text_reading.specs.Typed.{Text}
+use Rattle.ir_text_grammar.specs.Grammars.{When, Grammar, Then, Done, After, Not, Either, IsMore, IsList, Token, IsMark}
+use Rattle.ir_text_grammar.specs.Typed.{Text}
 use Rattle.ir_text_types.specs.TypeGrammar.{IsType, IsFunctionType}
 use Rattle.ir_text_attributes.specs.AttrGrammar.{EntryTerm, IsKey, IsValue, IsAttr}
 use Rattle.ir_text_operations.specs.Entries.{is_refused}

@@ -1,6 +1,6 @@
 //! What stands before an operation's regions. Language Reference, "Operations".
 ghost use Rattle.ir_types.specs.Things.{Grows};
-ghost use Rattle.ir_text_reading.specs.Outcomes.{Gives};
+ghost use Rattle.ir_text_grammar.specs.Outcomes.{Gives};
 ghost use Rattle.ir_text_operations.specs.Free.{free_bound};
 ghost use Rattle.ir_text_operations.specs.Openings.{opening_view, opening_at};
 
@@ -8,8 +8,8 @@ use crate::entries::properties;
 use crate::front::{Front, start};
 use ir_text_attributes::dictionaries::Entry;
 use ir_text_names::pack::Pack;
-use ir_text_reading::error::ReadError;
-use ir_text_reading::steps;
+use ir_text_grammar::error::ReadError;
+use ir_text_grammar::steps;
 use ir_text_tokens::names::Names;
 use ir_tree::outer::Outer;
 use ir_types::context::Context;

@@ -4,7 +4,7 @@ ghost use Rattle.std.specs.Prelude.{◌≡◌, ◌≤◌, ℕ, List, [], length}
 ghost use Rattle.ir_types.specs.Things.{Things};
 ghost use Rattle.ir_tree.specs.Tree.{Op};
 ghost use Rattle.ir_text_tokens.specs.declared.token.Mark.{Mark};
-ghost use Rattle.ir_text_reading.specs.Outcomes.{Read, Full};
+ghost use Rattle.ir_text_grammar.specs.Outcomes.{Read, Full};
 ghost use Rattle.ir_text_types.specs.TypeReading.{type_at, function_type_at};
 ghost use Rattle.ir_text_attributes.specs.AttrReading.{attr_at};
 ghost use Rattle.ir_text_names.specs.States.{State, fresh};

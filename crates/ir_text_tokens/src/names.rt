@@ -4,7 +4,7 @@ ghost use Rattle.std.specs.HashMap.{get};
 ghost use Rattle.ir_text_tokens.specs.Scopes.{Scopes, bound, entered, find, left};
 ghost use Rattle.ir_text_tokens.specs.Places.{Agrees, joined, key_eq, pick, views};
 
-use ir_items::keyed::Keyed;
+use ir_types_items::keyed::Keyed;
 use std::alloc::{AllocError, Global};
 use std::collections::HashMap;
 use std::marker::Model;

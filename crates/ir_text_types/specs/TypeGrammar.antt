@@ -7,8 +7,8 @@ use Rattle.ir_text_tokens.specs.Tokens.{bare}
 use Rattle.ir_types.specs.declared.node.TypeNode.{TypeNode}
 use Rattle.ir_types.specs.Terms.{TypeTerm, TypeTerms, no_types, next_type, Function, Memref, type_from}
 use Rattle.ir_types.specs.Reasons.{type_fault}
-use Rattle.ir_text_reading.specs.Grammars.{Grammar, Then, Done, DoneIf, After, Either, IsList, Token, IsMark}
-use Rattle.ir_text_reading.specs.Typed.{Text}
+use Rattle.ir_text_grammar.specs.Grammars.{Grammar, Then, Done, DoneIf, After, Either, IsList, Token, IsMark}
+use Rattle.ir_text_grammar.specs.Typed.{Text}
 use Rattle.ir_text_types.specs.Scalars.{scalar_of, memref_word}
 use Rattle.ir_text_types.specs.ShapeGrammar.{IsShape}
 use Rattle.ir_text_types.specs.TypeReading.{many}

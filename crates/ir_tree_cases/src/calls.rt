@@ -1,8 +1,8 @@
 //! The answer to a line.
 use crate::state::{State, add_attrs, add_name, add_types, renew};
 use crate::{edits, stored};
-use case_trees::words::{first, number, op_id, value};
-use case_trees::{build, written};
+use ir_tree_cases_base::words::{first, number, op_id, value};
+use ir_tree_cases_base::{build, written};
 use ir_tree::check::check;
 use ir_tree::copy::copy;
 use ir_tree::count::{depth, op_count};

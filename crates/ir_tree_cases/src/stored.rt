@@ -5,8 +5,8 @@ ghost use Rattle.ir_tree.specs.Ids.{ids, HasDistinctIds};
 ghost use Rattle.ir_tree.specs.Meaning.{IsSoundIn};
 
 use crate::state::State;
-use case_trees::words::{first, number, op_id, value};
-use case_trees::written;
+use ir_tree_cases_base::words::{first, number, op_id, value};
+use ir_tree_cases_base::written;
 use ir_store::node::Node;
 use ir_store::store::Store;
 use ir_tree::check::check;

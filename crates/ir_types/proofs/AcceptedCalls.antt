@@ -10,7 +10,7 @@ use Rattle.std.proofs.Common.{◌≡◌, suc, ◌<◌, ◌≤◌, Bool, true, fa
 use Rattle.std.proofs.lemmas.List.Elements.{recursion_from_All}
 use Rattle.std.proofs.lemmas.Bool.{leb-false}
 use Rattle.std.proofs.lemmas.Option.{slice_get_within}
-use Rattle.ir_items.specs.Interned.{with_last, AreApart}
+use Rattle.ir_types_items.specs.Interned.{with_last, AreApart}
 use Rattle.ir_types.specs.declared.node.TypeNode.{TypeNode}
 use Rattle.ir_types.specs.declared.node.AttrNode.{AttrNode}
 use Rattle.ir_types.specs.declared.node.AttrNode.TheVariants as attr

@@ -7,7 +7,7 @@ use Rattle.std.proofs.lemmas.Bool.{cases_lt}
 use Rattle.std.proofs.lemmas.Map.Made.{AllPairs-from_IsDistinct}
 use Rattle.std.proofs.lemmas.Option.{get_or_from_slice_get, slice_get_within}
 use Rattle.std.proofs.lemmas.Slice.Eq.{bytes_eq-Decides}
-use Rattle.ir_items.specs.Interned.{AreApart}
+use Rattle.ir_types_items.specs.Interned.{AreApart}
 
 pub apart : {A : Type 0} (xs : List A) → AllPairs (λ x y. x ≢ y) xs → AreApart xs
 apart xs h i j x e f =

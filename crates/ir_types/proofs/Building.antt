@@ -6,8 +6,8 @@ use Rattle.std.proofs.Math.Seq.{get_or-append_seam}
 use Rattle.std.proofs.lemmas.List.{append-nil}
 use Rattle.std.proofs.lemmas.Bool.{cases_lt}
 use Rattle.std.proofs.lemmas.Option.{slice_get_within, slice_get-get_or}
-use Rattle.ir_items.specs.Built.{built, built_onto}
-use Rattle.ir_items.specs.Interned.{AreApart}
+use Rattle.ir_types_items.specs.Built.{built, built_onto}
+use Rattle.ir_types_items.specs.Interned.{AreApart}
 
 -- a place after a push is an earlier one, or the last
 pub push_cases : {A : Type 0} (xs : List A) (x y : A) (i : ℕ) → slice_get (xs ++ x ∷ []) i ≡ Some y → (slice_get xs i ≡ Some y) ⊎ ((i ≡ length xs) × (x ≡ y))

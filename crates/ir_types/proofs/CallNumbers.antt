@@ -5,9 +5,9 @@ use Rattle.std.specs.Str.{bytes_eq}
 use Rattle.std.proofs.Common.{◌≡◌, [], ◌∷◌, ◌++◌, length, get_or, slice_get, Some, sym, ap, subst, ◌∙◌, ⊎_elim, arith}
 use Rattle.std.proofs.Math.Seq.{get_or-append_seam}
 use Rattle.std.proofs.lemmas.Option.{get_or_from_slice_get, slice_get_within}
-use Rattle.ir_items.specs.Built.{built}
-use Rattle.ir_items.specs.Interned.{with_last}
-use Rattle.ir_items.proofs.Placed.{Found, Lacks, where_is, with_last-found, with_last-absent}
+use Rattle.ir_types_items.specs.Built.{built}
+use Rattle.ir_types_items.specs.Interned.{with_last}
+use Rattle.ir_types_items.proofs.Placed.{Found, Lacks, where_is, with_last-found, with_last-absent}
 use Rattle.ir_types.specs.declared.node.TypeNode.{TypeNode}
 use Rattle.ir_types.specs.declared.node.AttrNode.{AttrNode}
 use Rattle.ir_types.specs.Things.{Things, TypeIsOf, AttrIsOf, IsFront, Grows}

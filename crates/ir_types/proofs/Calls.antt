@@ -7,12 +7,12 @@ use Rattle.std.proofs.lemmas.Option.{slice_get_within}
 use Rattle.std.specs.Map.{keys_of}
 use Rattle.std.specs.List.{position}
 use Rattle.std.proofs.lemmas.List.{length-map, map-append}
-use Rattle.ir_items.specs.Interned.{with_last}
-use Rattle.ir_items.proofs.Placed.{with_last-found, with_last-absent, found_at, absent_from}
+use Rattle.ir_types_items.specs.Interned.{with_last}
+use Rattle.ir_types_items.proofs.Placed.{with_last-found, with_last-absent, found_at, absent_from}
 use Rattle.ir_types.specs.declared.node.TypeNode.{TypeNode}
 use Rattle.ir_types.specs.declared.node.TypeNode.TheVariants as type
-use Rattle.ir_items.specs.declared.intern.InternFault.{InternFault}
-use Rattle.ir_items.specs.declared.intern.InternFault.TheVariants as intern
+use Rattle.ir_types_items.specs.declared.intern.InternFault.{InternFault}
+use Rattle.ir_types_items.specs.declared.intern.InternFault.TheVariants as intern
 use Rattle.ir_types.specs.Refusals.{not_interned}
 use Rattle.ir_types.specs.declared.refusal.Refusal.{Refusal}
 use Rattle.ir_types.specs.declared.refusal.Refusal.TheVariants.{TooMany, TooDeep, BadWidth, Memory}

@@ -6,9 +6,9 @@ use Rattle.std.proofs.Common.{◌≡◌, ◌+◌, ◌<◌, ◌≤◌, true, fals
 use Rattle.std.proofs.Math.Seq.{get_or-append_seam}
 use Rattle.std.proofs.lemmas.List.{map-append, take-append-le, length-take}
 use Rattle.std.proofs.lemmas.Bool.{cases_lt}
-use Rattle.ir_items.specs.Built.{built}
-use Rattle.ir_items.specs.Interned.{with_last}
-use Rattle.ir_items.proofs.Placed.{with_last-found, with_last-absent}
+use Rattle.ir_types_items.specs.Built.{built}
+use Rattle.ir_types_items.specs.Interned.{with_last}
+use Rattle.ir_types_items.proofs.Placed.{with_last-found, with_last-absent}
 use Rattle.ir_types.specs.declared.node.TypeNode.{TypeNode}
 use Rattle.ir_types.specs.declared.node.AttrNode.{AttrNode}
 use Rattle.ir_types.specs.Things.{Things, TypesBelow, PartsBelow, TypeIsOf, AttrIsOf, Grows}

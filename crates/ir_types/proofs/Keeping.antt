@@ -4,8 +4,8 @@ use Rattle.std.specs.Map.{keys_of, values_of}
 use Rattle.std.specs.List.{position_or_len}
 use Rattle.std.specs.Str.{bytes_eq}
 use Rattle.std.proofs.lemmas.List.{map-append}
-use Rattle.ir_items.specs.Interned.{with_last}
-use Rattle.ir_items.proofs.Placed.{length-keys, keys-push}
+use Rattle.ir_types_items.specs.Interned.{with_last}
+use Rattle.ir_types_items.proofs.Placed.{length-keys, keys-push}
 use Rattle.ir_types.specs.declared.node.TypeNode.{TypeNode}
 use Rattle.ir_types.specs.declared.node.AttrNode.{AttrNode}
 use Rattle.ir_types.specs.Things.{Things, TypeIsOf, AttrIsOf}

@@ -2,8 +2,8 @@
 use Rattle.std.specs.List.{list_any, position_or_len}
 use Rattle.std.proofs.Common.{◌≡◌, ℕ, zero, suc, ◌+◌, ◌≤◌, Bool, true, false, true≢false, List, [], ◌∷◌, ◌++◌, Some, length, slice_get, sym, ap, subst, refl, ◌∙◌, ◌⊎◌, inl, inr, ⊎_elim, length-append, arith}
 use Rattle.std.proofs.lemmas.List.{append-nil}
-use Rattle.ir_items.specs.Interned.{with_last, AreApart}
-use Rattle.ir_items.proofs.Placed.{Found, Lacks, where_is, with_last-found, with_last-absent}
+use Rattle.ir_types_items.specs.Interned.{with_last, AreApart}
+use Rattle.ir_types_items.proofs.Placed.{Found, Lacks, where_is, with_last-found, with_last-absent}
 use Rattle.ir_types.specs.Things.{IsFront}
 use Rattle.ir_types.proofs.Building.{push_cases, nothing_at, last_place}
 

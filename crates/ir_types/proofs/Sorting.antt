@@ -18,7 +18,7 @@ use Rattle.std.proofs.lemmas.List.Sorted.{Contains-permutation, IsPermutation-re
 use Rattle.std.proofs.lemmas.Map.Keys.{IsDistinct-IsPermutation, IsDistinct-from_apart}
 use Rattle.std.proofs.lemmas.List.{length-map, get_or-map}
 use Rattle.std.proofs.lemmas.List.Kept.{AllPairs-cons}
-use Rattle.ir_items.specs.Interned.{AreApart}
+use Rattle.ir_types_items.specs.Interned.{AreApart}
 use Rattle.ir_types.specs.Sound.{IsRising}
 use Rattle.ir_types.specs.Dictionaries.{key_bytes, comes_before, placed_among, sorted, has_twin, twin_after, has_adjacent_twin}
 

@@ -12,8 +12,8 @@ use Rattle.std.proofs.lemmas.Option.{get_or_from_slice_get, slice_get_within, sl
 use Rattle.std.proofs.lemmas.Bool.{cases_lt, false_from_ne_true}
 use Rattle.std.proofs.Math.Bool.{and-false}
 use Rattle.std.proofs.lemmas.Bool.Decides.{nat_tests, same_from_decides, Decides-eqb}
-use Rattle.ir_items.specs.Interned.{AreApart, with_last}
-use Rattle.ir_items.proofs.Placed.{with_last-found, with_last-absent}
+use Rattle.ir_types_items.specs.Interned.{AreApart, with_last}
+use Rattle.ir_types_items.proofs.Placed.{with_last-found, with_last-absent}
 use Rattle.ir_types.specs.Words.{operations, keys, visibilities, words, row_keys, is_listed, is_table, is_isolated, is_inherent, is_listed_number, is_table_number, is_isolated_number, is_inherent_number}
 use Rattle.ir_types.specs.Things.{Things}
 use Rattle.ir_types.specs.Terms.{name_term}

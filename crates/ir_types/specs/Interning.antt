@@ -2,7 +2,7 @@
 use Rattle.std.specs.Prelude.{ℕ, Bool, List}
 use Rattle.std.specs.List.{position_or_len, list_any}
 use Rattle.std.specs.Str.{bytes_eq}
-use Rattle.ir_items.specs.Interned.{with_last}
+use Rattle.ir_types_items.specs.Interned.{with_last}
 use Rattle.ir_types.specs.declared.node.TypeNode.{TypeNode}
 use Rattle.ir_types.specs.declared.node.AttrNode.{AttrNode}
 use Rattle.ir_types.specs.Things.{Things}

@@ -1,8 +1,8 @@
 -- The numbers and words of refusals.
 use Rattle.std.specs.Prelude.{ℕ, List, ◌++◌, codes}
 use Rattle.std.specs.Fmt.{decimal}
-use Rattle.ir_items.specs.declared.intern.InternFault.{InternFault}
-use Rattle.ir_items.specs.declared.intern.InternFault.TheVariants as fault
+use Rattle.ir_types_items.specs.declared.intern.InternFault.{InternFault}
+use Rattle.ir_types_items.specs.declared.intern.InternFault.TheVariants as fault
 use Rattle.ir_types.specs.declared.refusal.Refusal.{Refusal}
 use Rattle.ir_types.specs.declared.refusal.Refusal.TheVariants.{BadToken, Unexpected, UnknownValue, Redefined, TypeMismatch, BadWidth, BadValue, MultipleBlocks, Successors, TooDeep, TooMany, DuplicateKey, LeftOut, NotUtf8, NoSuchOp, NoSuchValue, HasUses, NotVisible, TypeDiffers, NoSuchIndex, NoSuchKey, IntoItself, OtherTable, IsRoot, NotEmpty, Full, IdsExhausted, TooDeepHere, TooManyMarks, NoMark, Memory, Stale, NoSuchKind, KindTaken, BadLimit, NotLegalised, ChainTooDeep, Unreconciled, BadTarget, BadCommand}
 

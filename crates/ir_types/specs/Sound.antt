@@ -1,7 +1,7 @@
 -- What is true of every context.
 use Rattle.std.specs.Prelude.{◌≡◌, ℕ, ◌<◌, ◌≤◌, true, List, length, take, slice_get, Some, None}
 use Rattle.std.specs.List.{AllPairs}
-use Rattle.ir_items.specs.Interned.{AreApart}
+use Rattle.ir_types_items.specs.Interned.{AreApart}
 use Rattle.ir_types.specs.declared.node.TypeNode.{TypeNode}
 use Rattle.ir_types.specs.declared.node.AttrNode.{AttrNode}
 use Rattle.ir_types.specs.declared.node.AttrNode.TheVariants.{Dict}

@@ -1,6 +1,6 @@
 -- What a number stands for: a name's bytes, and a type or attribute with its parts in place of their numbers.
 use Rattle.std.specs.Prelude.{ℕ, ℤ, Bool, List, [], ◌∷◌, Option, map, slice_index_or}
-use Rattle.ir_items.specs.Built.{built}
+use Rattle.ir_types_items.specs.Built.{built}
 use Rattle.ir_types.specs.declared.node.Sign.{Sign}
 use Rattle.ir_types.specs.declared.node.TypeNode.{TypeNode}
 use Rattle.ir_types.specs.declared.node.TypeNode.TheVariants as type

@@ -18,8 +18,8 @@ use crate::places::{attrs_apart, intern_attr, intern_name, intern_type, names_ap
 use crate::refusal::Refusal;
 use crate::words::{WORDS, word};
 use indexmap::{IndexMap, IndexSet};
-use ir_items::keyed::Keyed;
-use ir_items::lists::Items;
+use ir_types_items::keyed::Keyed;
+use ir_types_items::lists::Items;
 use std::alloc::Global;
 use std::marker::Model;
 

@@ -8,7 +8,7 @@ ghost use Rattle.ir_types.specs.Sound.{IsRising};
 use crate::ids::{AttrId, NameId};
 use crate::places::names_apart;
 use indexmap::IndexSet;
-use ir_items::keyed::Keyed;
+use ir_types_items::keyed::Keyed;
 
 /// The bytes of a name, or none where the number is no name's.
 pub fn bytes_or_none(names: &IndexSet<Vec<u8>, Keyed>, name: NameId) -> &[u8]

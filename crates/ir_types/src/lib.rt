@@ -20,4 +20,4 @@ pub mod word;
 pub mod word_laws;
 pub mod words;
 
-pub use ir_items::lists::Items;
+pub use ir_types_items::lists::Items;

@@ -1,6 +1,6 @@
 //! The nodes of types and attributes: what is interned, its parts by their numbers.
 use crate::ids::{AttrId, NameId, TypeId};
-use ir_items::lists::Items;
+use ir_types_items::lists::Items;
 
 /// The signedness of an integer type.
 #[derive(Clone, Copy, PartialEq, Eq, Hash)]

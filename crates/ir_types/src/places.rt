@@ -3,7 +3,7 @@ ghost use Rattle.std.specs.Prelude.{◌≡◌, ◌≤◌, ◌⊎◌, [], ◌∷�
 ghost use Rattle.std.specs.List.{list_any, position_or_len};
 ghost use Rattle.std.specs.Map.{keys_of};
 ghost use Rattle.std.specs.Str.{bytes_eq};
-ghost use Rattle.ir_items.specs.Interned.{AreApart, with_last};
+ghost use Rattle.ir_types_items.specs.Interned.{AreApart, with_last};
 ghost use Rattle.ir_types.specs.Limits.{most_things};
 ghost use Rattle.ir_types.specs.Same.{same_type, same_attr};
 ghost use Rattle.ir_types.specs.Reasons.{IsRefusedFor, full_reason};
@@ -12,8 +12,8 @@ use crate::limits::MOST_THINGS;
 use crate::node::{AttrNode, TypeNode};
 use crate::refusal::Refusal;
 use indexmap::{IndexMap, IndexSet};
-use ir_items::intern::intern;
-use ir_items::keyed::Keyed;
+use ir_types_items::intern::intern;
+use ir_types_items::keyed::Keyed;
 use std::alloc::Global;
 
 /// The place of a name. One that is there takes no memory.

@@ -2,7 +2,7 @@
 ghost use Rattle.std.specs.Prelude.{◌≡◌};
 ghost use Rattle.ir_types.specs.Refusals.{number_of, word_of};
 
-use ir_items::intern::InternFault;
+use ir_types_items::intern::InternFault;
 use std::alloc::{AllocError, AllocFailed};
 use std::error::Error;
 use std::fmt;

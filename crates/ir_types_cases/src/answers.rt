@@ -21,12 +21,12 @@ fn add_name(context: &mut Context, bytes: &[u8]) -> Result<u32, Refusal> {
 }
 
 fn add_type(context: &mut Context, node: TypeNode) -> Result<u32, Refusal> {
-    let id = ir_types_calls::ty(context, node)?;
+    let id = ir_types_cases_base::ty(context, node)?;
     Ok(id.number())
 }
 
 fn add_attr(context: &mut Context, node: AttrNode) -> Result<u32, Refusal> {
-    let id = ir_types_calls::attr(context, node)?;
+    let id = ir_types_cases_base::attr(context, node)?;
     Ok(id.number())
 }
 
@@ -55,9 +55,9 @@ fn attr(alloc: Global, context: &mut Context, text: &str) -> Result<String, Allo
 fn fits(alloc: Global, context: &Context, text: &str) -> Result<String, AllocError> {
     let (ty, word) = first(text);
     let (negative, magnitude) = literal(word);
-    match ir_types_calls::fits(context, type_id(ty), negative, magnitude) {
+    match ir_types_cases_base::fits(context, type_id(ty), negative, magnitude) {
         Some(answer) => {
-            let bits = ir_types_calls::literal_bits(context, type_id(ty), negative, magnitude);
+            let bits = ir_types_cases_base::literal_bits(context, type_id(ty), negative, magnitude);
             written::literal(alloc, answer, bits)
         }
         None => written::none(alloc),
@@ -67,28 +67,28 @@ fn fits(alloc: Global, context: &Context, text: &str) -> Result<String, AllocErr
 /// The number that bits are read as.
 fn reading(alloc: Global, context: &Context, text: &str) -> Result<String, AllocError> {
     let (ty, word) = first(text);
-    match ir_types_calls::reading(context, type_id(ty), bits(word)) {
+    match ir_types_cases_base::reading(context, type_id(ty), bits(word)) {
         Some(answer) => written::reading(alloc, &answer),
         None => written::none(alloc),
     }
 }
 
 fn known_name(alloc: Global, context: &Context, text: &str) -> Result<String, AllocError> {
-    match ir_types_calls::name_bytes(context, name_id(text)) {
+    match ir_types_cases_base::name_bytes(context, name_id(text)) {
         Some(bytes) => written::name(alloc, bytes),
         None => written::none(alloc),
     }
 }
 
 fn known_type(alloc: Global, context: &Context, text: &str) -> Result<String, AllocError> {
-    match ir_types_calls::type_node(context, type_id(text)) {
+    match ir_types_cases_base::type_node(context, type_id(text)) {
         Some(node) => written::ty(alloc, node),
         None => written::none(alloc),
     }
 }
 
 fn known_attr(alloc: Global, context: &Context, text: &str) -> Result<String, AllocError> {
-    match ir_types_calls::attr_node(context, attr_id(text)) {
+    match ir_types_cases_base::attr_node(context, attr_id(text)) {
         Some(node) => written::attr(alloc, node),
         None => written::none(alloc),
     }

@@ -162,19 +162,19 @@ fn is_attr(node: &AttrNode, index: u32) -> bool {
 /// Whether a context holds so many names, types and attributes, each as it was made.
 fn is_same(context: &Context, names: u32, types: u32, attrs: u32) -> bool {
     for index in 0..names {
-        match ir_types_calls::name_bytes(context, NameId::new(index)) {
+        match ir_types_cases_base::name_bytes(context, NameId::new(index)) {
             Some(bytes) if is_name(bytes, index) => {}
             _ => return false,
         }
     }
     for index in 0..types {
-        match ir_types_calls::type_node(context, TypeId::new(index)) {
+        match ir_types_cases_base::type_node(context, TypeId::new(index)) {
             Some(node) if is_type(node, index) => {}
             _ => return false,
         }
     }
     for index in 0..attrs {
-        match ir_types_calls::attr_node(context, AttrId::new(index)) {
+        match ir_types_cases_base::attr_node(context, AttrId::new(index)) {
             Some(node) if is_attr(node, index) => {}
             _ => return false,
         }
@@ -206,7 +206,7 @@ fn add_types(alloc: Global, context: &mut Context, found: &mut Found) {
             let Ok(node) = made_type(alloc, index) else {
                 continue;
             };
-            match ir_types_calls::ty(context, node) {
+            match ir_types_cases_base::ty(context, node) {
                 Ok(id) => {
                     found.compare(id == TypeId::new(index));
                     break;
@@ -224,7 +224,7 @@ fn add_attrs(alloc: Global, context: &mut Context, found: &mut Found) {
             let Ok(node) = made_attr(alloc, index) else {
                 continue;
             };
-            match ir_types_calls::attr(context, node) {
+            match ir_types_cases_base::attr(context, node) {
                 Ok(id) => {
                     found.compare(id == AttrId::new(index));
                     break;

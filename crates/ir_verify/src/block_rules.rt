@@ -6,7 +6,7 @@ ghost use Rattle.ir_types.specs.WordNames.{word_bytes};
 ghost use Rattle.op_registry.specs.Registry.{region_row};
 ghost use Rattle.op_registry.specs.Properties.{string_of as string_in};
 ghost use Rattle.ir_event.specs.Modules.{NodeIsOf};
-ghost use Rattle.surroundings.specs.Gathered.{AroundIsOf};
+ghost use Rattle.listeners_surroundings.specs.Gathered.{AroundIsOf};
 ghost use Rattle.ir_verify_base.specs.Numbers.{node_in, around_in, row_in};
 ghost use Rattle.ir_verify_base.specs.Fits as fits;
 ghost use Rattle.ir_verify.specs.BlockRules as rules;
@@ -18,7 +18,7 @@ use ir_types::word::Word;
 use ir_verify_base::node::{has_block, is_named, property, string_of};
 use op_registry::definition::{OpDef, RegionRule, Trait};
 use op_registry::registry::Registry;
-use surroundings::around::Around;
+use listeners_surroundings::around::Around;
 
 /// The name of the last operation of the block of a region.
 fn last(ctx: &Context, around: &Around<'_>, region: u32) -> Option<NameId>

@@ -2,7 +2,7 @@
 ghost use Rattle.std.specs.Prelude.{◌≡◌, ◌≤◌, ◌+◌, Some, MatchResult};
 ghost use Rattle.ir_tree.specs.Ids.{find};
 ghost use Rattle.ir_event.specs.Modules.{module_in};
-ghost use Rattle.surroundings.specs.Gathered.{gather_looks, tree_in};
+ghost use Rattle.listeners_surroundings.specs.Gathered.{gather_looks, tree_in};
 ghost use Rattle.ir_verify.specs.Diagnostics.{broken_at, Unchecked};
 
 use crate::rules::RuleSet;
@@ -11,7 +11,7 @@ use ir_event::world::World;
 use ir_types::ids::OpId;
 use ir_types::refusal::Refusal;
 use std::alloc::Global;
-use surroundings::fact::fact_at;
+use listeners_surroundings::fact::fact_at;
 
 /// The numbers of the rules that an operation of a world's module breaks, rising.
 ///

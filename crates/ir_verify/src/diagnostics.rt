@@ -9,7 +9,7 @@ use ir_event::row::{Kind, Memory, ReportFault, Row};
 use ir_event::view::View;
 use ir_event::world::World;
 use std::alloc::Global;
-use surroundings::kept::Kept;
+use listeners_surroundings::kept::Kept;
 
 /// The analysis `diagnostics`: which operations break which rules.
 ///

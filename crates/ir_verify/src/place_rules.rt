@@ -7,9 +7,9 @@ ghost use Rattle.ir_types.specs.Terms.{name_term, type_term};
 ghost use Rattle.ir_types.specs.WordNames.{word_bytes};
 ghost use Rattle.op_registry.specs.declared.definition.Trait.TheVariants.{Terminator};
 ghost use Rattle.op_registry.specs.Registry.{has_trait, row_of};
-ghost use Rattle.surroundings.specs.declared.around.Outer.{Outer as Gathered};
+ghost use Rattle.listeners_surroundings.specs.declared.around.Outer.{Outer as Gathered};
 ghost use Rattle.ir_event.specs.Modules.{NodeIsOf};
-ghost use Rattle.surroundings.specs.Gathered.{AroundIsOf};
+ghost use Rattle.listeners_surroundings.specs.Gathered.{AroundIsOf};
 ghost use Rattle.ir_verify_base.specs.Numbers.{typed, node_in, outer_in, around_in, row_in};
 ghost use Rattle.ir_verify_base.specs.Fits as fits;
 ghost use Rattle.ir_verify.specs.PlaceRules as rules;
@@ -23,7 +23,7 @@ use ir_verify_base::shapes::is_well_shaped;
 use ir_verify_base::types::same_types;
 use op_registry::definition::{OpDef, Trait};
 use op_registry::registry::Registry;
-use surroundings::around::{Around, Outer};
+use listeners_surroundings::around::{Around, Outer};
 
 /// Rule 10: a terminator isn't the last operation of its block.
 pub(crate) fn breaks_10(ctx: &Context, registry: &Registry, around: &Around<'_>) -> bool

@@ -1,7 +1,7 @@
 //! The rules that an operation breaks.
 ghost use Rattle.std.specs.Prelude.{◌≡◌, ◌≤◌, ◌<◌, ◌^◌, [], ◌∷◌, ◌++◌, IfOk, OnOk, length, true, false};
 ghost use Rattle.ir_types.specs.Terms.{name_term};
-ghost use Rattle.surroundings.specs.Gathered.{AroundIsOf};
+ghost use Rattle.listeners_surroundings.specs.Gathered.{AroundIsOf};
 ghost use Rattle.ir_verify.specs.Breaks.{told_of, numbers_from};
 ghost use Rattle.ir_verify_base.specs.Fits.{Surroundings};
 ghost use Rattle.ir_verify_base.specs.Numbers.{around_in, node_in, row_in};
@@ -23,8 +23,8 @@ use op_registry::definition::OpDef;
 use op_registry::laws::listed_has_row;
 use op_registry::registry::Registry;
 use std::alloc::{AllocError, Global};
-use surroundings::around::Around;
-use surroundings::fact::Fact;
+use listeners_surroundings::around::Around;
+use listeners_surroundings::fact::Fact;
 
 /// A set of rules.
 #[derive(Clone, Copy)]

@@ -10,7 +10,7 @@ use Rattle.op_registry.specs.Rows.{TypesRow, RegionRow, Row}
 use Rattle.op_registry.specs.Registry.{beside}
 use Rattle.op_registry.specs.Properties.{type_of}
 use Rattle.ir_store.specs.Nodes.{NodeOf}
-use Rattle.surroundings.specs.Surroundings.{SurroundingsOf, OuterOf}
+use Rattle.listeners_surroundings.specs.Surroundings.{SurroundingsOf, OuterOf}
 use Rattle.ir_verify_base.specs.Types.{same_type, same_types, is_integer, is_index, is_number, is_boolean, is_memref, function_of}
 
 -- what rules look at, in contents

@@ -8,9 +8,9 @@ use Rattle.ir_store.specs.Nodes.{Node as NumberNode}
 use Rattle.op_registry.specs.declared.definition.OpDef.{OpDef}
 use Rattle.op_registry.specs.Rows.{Row}
 use Rattle.op_registry.specs.Registry.{types_row, region_row, property_row}
-use Rattle.surroundings.specs.declared.around.Around.{Around}
-use Rattle.surroundings.specs.declared.around.Outer.{Outer}
-use Rattle.surroundings.specs.Mapped.{map_node}
+use Rattle.listeners_surroundings.specs.declared.around.Around.{Around}
+use Rattle.listeners_surroundings.specs.declared.around.Outer.{Outer}
+use Rattle.listeners_surroundings.specs.Mapped.{map_node}
 use Rattle.ir_verify_base.specs.declared.fits.Known.{Known as NumberKnown}
 use Rattle.ir_verify_base.specs.Fits.{Node, Outer as OuterTerm, Surroundings, Known, known_of, there}
 

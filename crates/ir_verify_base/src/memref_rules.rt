@@ -8,7 +8,7 @@ ghost use Rattle.ir_types.specs.Things.{Things, IsType, TypeIsOf};
 ghost use Rattle.ir_types.specs.Terms.{TypeTerm, AttrTerm, attr_from, type_at, type_from, type_term};
 ghost use Rattle.ir_types.specs.WordNames.{word_bytes};
 ghost use Rattle.ir_event.specs.Modules.{NodeIsOf};
-ghost use Rattle.surroundings.specs.Gathered.{AroundIsOf};
+ghost use Rattle.listeners_surroundings.specs.Gathered.{AroundIsOf};
 ghost use Rattle.ir_verify_base.specs.Numbers.{typed, node_in, around_in};
 ghost use Rattle.ir_verify_base.specs.Fits as fits;
 ghost use Rattle.ir_verify_base.specs.Types as types;
@@ -22,7 +22,7 @@ use ir_types::ids::TypeId;
 use ir_types::node::{AttrNode, TypeNode};
 use ir_types::word::Word;
 use op_registry::things::{attr_of, type_of};
-use surroundings::around::Around;
+use listeners_surroundings::around::Around;
 
 /// What a memref type says.
 #[derive(Clone, Copy)]

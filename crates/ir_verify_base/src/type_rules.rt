@@ -8,7 +8,7 @@ ghost use Rattle.ir_types.specs.WordNames.{word_bytes};
 ghost use Rattle.op_registry.specs.Registry.{region_row};
 ghost use Rattle.op_registry.specs.Properties.{integer_of as integer_in};
 ghost use Rattle.ir_event.specs.Modules.{NodeIsOf};
-ghost use Rattle.surroundings.specs.Gathered.{AroundIsOf};
+ghost use Rattle.listeners_surroundings.specs.Gathered.{AroundIsOf};
 ghost use Rattle.ir_verify_base.specs.Numbers.{typed, known_in, node_in, around_in, row_in, AreKnown, AreKnownOf};
 ghost use Rattle.ir_verify_base.specs.Fits as fits;
 ghost use Rattle.ir_verify_base.specs.Types as types;
@@ -23,7 +23,7 @@ use ir_types::ids::TypeId;
 use ir_types::word::Word;
 use op_registry::definition::{OpDef, RegionRule, TypeRule};
 use op_registry::property::integer_of;
-use surroundings::around::Around;
+use listeners_surroundings::around::Around;
 
 /// What the types of an operation may be compared with.
 pub fn known_of<'a>(ctx: &'a Context, def: &OpDef, around: &'a Around<'_>) -> Known<'a>

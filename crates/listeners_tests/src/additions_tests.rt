@@ -1,6 +1,6 @@
 //! A listener of one's own in a panel.
 use crate::worlds::{a_world, result, set_and_tell};
-use addition_count::additions::AdditionCount;
+use listeners_example::additions::AdditionCount;
 use ir_event::analysis::Analysis;
 use ir_event::panel::Panel;
 use ir_event::row::{Cell, Kind, Row};

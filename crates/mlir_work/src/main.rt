@@ -16,7 +16,7 @@ use std::io::BufWriter;
 use std::process::ExitCode;
 use std::random::RandomSource;
 use std::{env, io};
-use symbols::symbols::Symbols;
+use listeners_symbols::symbols::Symbols;
 
 /// Says that there is no memory to begin a run, and gives the status.
 fn no_memory(rt: &HostRuntime) -> u8 {

@@ -1,6 +1,6 @@
 //! The answer to a line.
 use crate::{lines, options, readers, replies, runs, writers};
-use case_texts::texts::first;
+use mlir_work_cases_base::texts::first;
 use std::alloc::{AllocError, Global};
 
 /// What is read, of the readers that a line names.

@@ -1,5 +1,5 @@
 //! Readers that give little, fail, are interrupted or never end.
-use case_texts::texts::{bytes, first, number, put_all_shown, small};
+use mlir_work_cases_base::texts::{bytes, first, number, put_all_shown, small};
 use mlir_work_script::input::{ReadFault, read_all};
 use std::alloc::{AllocError, Global};
 use std::fmt::Write;

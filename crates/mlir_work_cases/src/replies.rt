@@ -1,5 +1,5 @@
 //! Lines and cells as they are written.
-use case_texts::texts::{first, number, small};
+use mlir_work_cases_base::texts::{first, number, small};
 use ir_tree::value::Value;
 use ir_types::ids::OpId;
 use ir_types::refusal::Refusal;

@@ -1,7 +1,7 @@
 //! Whole runs, from bytes to bytes.
 use crate::readers::Slow;
 use crate::writers::Narrow;
-use case_texts::texts::{bytes, first, number, put_all_shown};
+use mlir_work_cases_base::texts::{bytes, first, number, put_all_shown};
 use ir_event::analysis::Analysis;
 use ir_verify::diagnostics::Diagnostics;
 use listeners::uses::Uses;

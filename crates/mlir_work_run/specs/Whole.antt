@@ -9,7 +9,7 @@ use Rattle.ir_text.specs.Public.{Spells}
 use Rattle.mlir_work_script.specs.Parts.{module_text, script_text}
 use Rattle.mlir_work_script.specs.Replies.{module_refused_line}
 use Rattle.mlir_work_script.specs.declared.input.TheConstants.{MAX_INPUT_BYTES}
-use Rattle.machine.specs.Panels.{Shown}
+use Rattle.rewriter_machine.specs.Panels.{Shown}
 use Rattle.mlir_work_session.specs.Output.{IsSession}
 
 -- the module is refused

@@ -4,9 +4,9 @@ use Rattle.std.specs.List.{starts_with}
 use Rattle.std.specs.Option.{option_map}
 use Rattle.std.specs.Str.{bytes_eq, is_utf8}
 use Rattle.ir_tree.specs.declared.value.Value.{Value}
-use Rattle.machine.specs.Commands as said
-use Rattle.machine.specs.Commands.{Command as Said}
-use Rattle.machine.specs.Spots.{Spot}
+use Rattle.rewriter_machine.specs.Commands as said
+use Rattle.rewriter_machine.specs.Commands.{Command as Said}
+use Rattle.rewriter_machine.specs.Spots.{Spot}
 use Rattle.mlir_work_script.specs.declared.command.Command.{Command}
 use Rattle.mlir_work_script.specs.declared.command.Command.TheVariants as code
 use Rattle.mlir_work_script.specs.declared.command.Line.{Line}

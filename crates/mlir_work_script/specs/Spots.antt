@@ -2,7 +2,7 @@
 use Rattle.std.specs.Prelude.{ℕ, List, Option, Some, None, if◌then◌else◌, codes}
 use Rattle.std.specs.Option.{option_map}
 use Rattle.std.specs.Str.{bytes_eq}
-use Rattle.machine.specs.Spots as spots
+use Rattle.rewriter_machine.specs.Spots as spots
 use Rattle.mlir_work_script.specs.declared.spots.Spot.{Spot}
 use Rattle.mlir_work_script.specs.declared.spots.Spot.TheVariants as code
 use Rattle.mlir_work_script.specs.Numbers.{number_of}

@@ -2,7 +2,7 @@
 ghost use Rattle.std.specs.Prelude.{◌≡◌, Some};
 ghost use Rattle.std.specs.Option.{option_map};
 ghost use Rattle.std.specs.Str.{is_utf8};
-ghost use Rattle.machine.specs.Commands as said;
+ghost use Rattle.rewriter_machine.specs.Commands as said;
 ghost use Rattle.mlir_work_script.specs.Commands.{said_of, spoken_of, with_kind, set_operand_in, move_in, set_attr_in, drop_attr_in, erase_in, insert_in, replace_in, alone, entry_command, mark_command, panel_command, command_of, line_says};
 
 use crate::keys::{Key, split_key};

@@ -1,7 +1,7 @@
 //! Places of a script: `before #N`, `after #N`, `start #N R` and `end #N R`.
 ghost use Rattle.std.specs.Prelude.{◌≡◌};
 ghost use Rattle.std.specs.Option.{option_map};
-ghost use Rattle.machine.specs.Spots as spots;
+ghost use Rattle.rewriter_machine.specs.Spots as spots;
 ghost use Rattle.mlir_work_script.specs.Numbers.{number_of};
 ghost use Rattle.mlir_work_script.specs.Spots.{spot_of, beside_in, inside_in, spot_in};
 ghost use Rattle.mlir_work_script.specs.Values.{op_of};

@@ -13,13 +13,13 @@ use Rattle.ir_text_attributes.specs.Spelling.{SpellsAttr}
 use Rattle.rewriter.specs.Texts.{SpellsBeside}
 use Rattle.rewriter.specs.Held.{module_held}
 use Rattle.rewriter.specs.Benched.{Benched, state_of}
-use Rattle.machine.specs.Commands as command
-use Rattle.machine.specs.Commands.{Command, Ask, Misplaced, Unread, Asks, Response, Replied, TextRefusedAt, TextRefused}
-use Rattle.machine.specs.Edits as edit
-use Rattle.machine.specs.Machine as call
-use Rattle.machine.specs.Machine.{State, OpenMark, Call, Do, Reply, Done, Refused, Shows, Nothing, Rows, Tree, Answer, Goes, due, due_rollback, grows_under, PanelGoes}
-use Rattle.machine.specs.Panels.{Shown, is_kind, has_kind, shown}
-use Rattle.machine.specs.Spots.{Spot, spot_place}
+use Rattle.rewriter_machine.specs.Commands as command
+use Rattle.rewriter_machine.specs.Commands.{Command, Ask, Misplaced, Unread, Asks, Response, Replied, TextRefusedAt, TextRefused}
+use Rattle.rewriter_machine.specs.Edits as edit
+use Rattle.rewriter_machine.specs.Machine as call
+use Rattle.rewriter_machine.specs.Machine.{State, OpenMark, Call, Do, Reply, Done, Refused, Shows, Nothing, Rows, Tree, Answer, Goes, due, due_rollback, grows_under, PanelGoes}
+use Rattle.rewriter_machine.specs.Panels.{Shown, is_kind, has_kind, shown}
+use Rattle.rewriter_machine.specs.Spots.{Spot, spot_place}
 use Rattle.mlir_work_session.specs.Texts.{NotRead}
 use Rattle.mlir_work_session.specs.Machine.{Obeys, shows_text}
 use Rattle.mlir_work_session.specs.RowText.{rows_text}

@@ -3,8 +3,8 @@ use Rattle.std.specs.Prelude.{◌≡◌, ℕ, List, []}
 use Rattle.ir_text.specs.Printing.{text_of}
 use Rattle.ir_text_attributes.specs.Spelling.{SpellsAttr}
 use Rattle.rewriter.specs.Texts.{SpellsBeside}
-use Rattle.machine.specs.Commands.{Command, Asked, Asks, Response, Replied, TextRefusedAt, Follows}
-use Rattle.machine.specs.Machine.{State, Done, DoneAs, Refused, Shows, Nothing, Rows, Tree}
+use Rattle.rewriter_machine.specs.Commands.{Command, Asked, Asks, Response, Replied, TextRefusedAt, Follows}
+use Rattle.rewriter_machine.specs.Machine.{State, Done, DoneAs, Refused, Shows, Nothing, Rows, Tree}
 use Rattle.mlir_work_session.specs.RowText.{rows_text}
 use Rattle.mlir_work_session.specs.declared.reply.Reply.{Reply}
 use Rattle.mlir_work_session.specs.declared.reply.Reply.TheVariants as code

@@ -1,7 +1,7 @@
 //! How a text is replied to that isn't read.
 ghost use Rattle.std.specs.Prelude.{◌≡◌, ℕ, List};
 ghost use Rattle.ir_event.specs.Modules.{Module as Contents};
-ghost use Rattle.ir_text_reading.specs.declared.error.ReadError.{ReadError as Unread};
+ghost use Rattle.ir_text_grammar.specs.declared.error.ReadError.{ReadError as Unread};
 ghost use Rattle.ir_text_tokens.specs.declared.fault.Fault.{Fault as TextFault};
 ghost use Rattle.ir_text_attributes.specs.Claims.{IsNoAttr};
 ghost use Rattle.ir_text_attributes.specs.Spelling.{SpellsAttr};

@@ -12,7 +12,7 @@ use Rattle.ir_types.specs.Terms.{TypeTerm, Integer, Index, Function, Memref, Typ
 use Rattle.ir_types.specs.Sound.{IsSound}
 use Rattle.ir_types.proofs.Terms.{type_term_one}
 use Rattle.ir_tree_laws.proofs.Listed.{bool_cases}
-use Rattle.machine.specs.Types.{same_type, same_terms}
+use Rattle.rewriter_machine.specs.Types.{same_type, same_terms}
 
 both : (a b : Bool) → a ≡ true → b ≡ true → (a && b) ≡ true
 both a b h k = cc

@@ -12,10 +12,10 @@ use Rattle.ir_tree.specs.Meaning.{isolated_in}
 use Rattle.ir_tree_laws.specs.Values.{type_of_value}
 use Rattle.ir_tree_laws.specs.Reasons.{unless, users_see}
 use Rattle.ir_event.specs.declared.world.World.{World}
-use Rattle.surroundings.proofs.Reading.{value_known}
-use Rattle.machine.specs.Contents.{tests_in}
-use Rattle.machine.specs.Edits.{replace_reason}
-use Rattle.machine.specs.Types.{same_type}
+use Rattle.listeners_surroundings.proofs.Reading.{value_known}
+use Rattle.rewriter_machine.specs.Contents.{tests_in}
+use Rattle.rewriter_machine.specs.Edits.{replace_reason}
+use Rattle.rewriter_machine.specs.Types.{same_type}
 use Rattle.rewriter.proofs.SameTypes.{same_numbers}
 
 module _ (w : World) (sound : IsSound w.ctx) (old new : Value) where

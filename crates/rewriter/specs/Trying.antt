@@ -8,8 +8,8 @@ use Rattle.ir_tree.specs.Tree.{Op, regions}
 use Rattle.ir_tree.specs.Meaning.{IsSoundIn}
 use Rattle.ir_tree.specs.WellFormed.{Module}
 use Rattle.ir_tree_laws.specs.Reasons.{hold_none, put_reason}
-use Rattle.machine.specs.Edits.{TestsOf}
-use Rattle.edit_laws.specs.Inserting.{all_made}
+use Rattle.rewriter_machine.specs.Edits.{TestsOf}
+use Rattle.rewriter_laws.specs.Inserting.{all_made}
 
 -- each of these operations is of a context, and holds none in its blocks
 abbrev pub AreHeadersOf : Things → List (Place × Op) → Type 0

@@ -3,7 +3,7 @@ use Rattle.std.specs.Prelude.{◌≡◌, ◌≢◌, List, [], ◌∷◌, Bool, i
 use Rattle.ir_types.specs.declared.refusal.Refusal.{Refusal}
 use Rattle.ir_types.specs.declared.refusal.Refusal.TheVariants.{Memory}
 use Rattle.ir_event.specs.Listener.{Listener}
-use Rattle.machine.specs.Machine.{OpenMark}
+use Rattle.rewriter_machine.specs.Machine.{OpenMark}
 use Rattle.rewriter_base.specs.Held.{Held, module_held, open_marks}
 use Rattle.rewriter_base.specs.Benched.{Benched, Led}
 

@@ -1,14 +1,14 @@
 //! Erasing an operation with what is inside it.
 ghost use Rattle.std.specs.Prelude.{◌≡◌, None, OnOk};
-ghost use Rattle.machine.specs.Contents.{edit_meaning, tests_in};
-ghost use Rattle.machine.specs.Edits.{Erase, edited_by, reason_by};
-ghost use Rattle.machine.specs.Machine.{Do};
+ghost use Rattle.rewriter_machine.specs.Contents.{edit_meaning, tests_in};
+ghost use Rattle.rewriter_machine.specs.Edits.{Erase, edited_by, reason_by};
+ghost use Rattle.rewriter_machine.specs.Machine.{Do};
 ghost use Rattle.rewriter_base.specs.Benched.{Does, Led, reply_of};
 ghost use Rattle.rewriter.specs.Wholes.{IsDoneOrNoted, Onward};
 
 use crate::faults::erase_fault;
 use crate::finish::{finish, is_formed};
-use edit_laws::turns::erasing_by_last;
+use rewriter_laws::turns::erasing_by_last;
 use ir_event::analysis::Analysis;
 use ir_types::ids::OpId;
 use ir_types::refusal::Refusal;

@@ -4,7 +4,7 @@ ghost use Rattle.ir_tree.specs.Ids.{has_id, op_count as count_of};
 ghost use Rattle.ir_tree.specs.Limits.{depth as depth_of, every, most_ops, op_fits};
 ghost use Rattle.ir_tree_laws.specs.Reads.{around};
 ghost use Rattle.ir_tree_laws.specs.Reasons.{fits_around};
-ghost use Rattle.edit_laws.specs.Inserting.{insert_fault as fault_of};
+ghost use Rattle.rewriter_laws.specs.Inserting.{insert_fault as fault_of};
 
 use ir_event::world::World;
 use ir_store::store::Store;

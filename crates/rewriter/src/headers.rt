@@ -2,7 +2,7 @@
 ghost use Rattle.std.specs.Prelude.{◌≡◌, ◌++◌, IfOk, OnOk, map};
 ghost use Rattle.ir_tree.specs.Tree.{regions_of};
 ghost use Rattle.ir_tree.specs.View.{region_view};
-ghost use Rattle.edit_laws.specs.Inserting.{bare, bare_region as bare_one, bare_regions as bare_all, end_of as last_place, headers, region_headers, regions_headers};
+ghost use Rattle.rewriter_laws.specs.Inserting.{bare, bare_region as bare_one, bare_regions as bare_all, end_of as last_place, headers, region_headers, regions_headers};
 
 use ir_tree::place::Place;
 use ir_tree::tree::{TreeOp, TreeRegion};

@@ -2,15 +2,15 @@
 ghost use Rattle.std.specs.Prelude.{◌≡◌};
 ghost use Rattle.ir_tree.specs.Ids.{IsNumberedFrom};
 ghost use Rattle.ir_tree.specs.Meaning.{IsSoundIn};
-ghost use Rattle.machine.specs.Contents.{edit_meaning};
-ghost use Rattle.machine.specs.Edits.{Insert};
-ghost use Rattle.machine.specs.Machine.{Do};
+ghost use Rattle.rewriter_machine.specs.Contents.{edit_meaning};
+ghost use Rattle.rewriter_machine.specs.Edits.{Insert};
+ghost use Rattle.rewriter_machine.specs.Machine.{Do};
 ghost use Rattle.rewriter_base.specs.Benched.{Does, Led, id_reply_of};
 
 use crate::fault::insert_fault;
 use crate::finish::{finish, is_formed};
 use crate::making::make_all;
-use edit_laws::turns::inserts_are_tried;
+use rewriter_laws::turns::inserts_are_tried;
 use ir_event::analysis::Analysis;
 use ir_tree::place::Place;
 use ir_tree::tree::TreeOp;

@@ -3,17 +3,17 @@ ghost use Rattle.std.specs.Prelude.{◌≡◌, ◌≢◌, ◌⊎◌, None, OnOk}
 ghost use Rattle.ir_types.specs.declared.refusal.Refusal.TheVariants.{Memory as WantOfMemory, NotVisible as Unseen};
 ghost use Rattle.ir_tree.specs.Ids.{IsNumberedFrom};
 ghost use Rattle.ir_tree.specs.Meaning.{IsSoundIn};
-ghost use Rattle.machine.specs.Contents.{tests_in};
-ghost use Rattle.machine.specs.Edits.{Insert, edited_by, reason_by};
+ghost use Rattle.rewriter_machine.specs.Contents.{tests_in};
+ghost use Rattle.rewriter_machine.specs.Edits.{Insert, edited_by, reason_by};
 ghost use Rattle.rewriter_base.specs.Moves.{IsAnswered};
-ghost use Rattle.edit_laws.specs.Inserting.{insert_fault};
+ghost use Rattle.rewriter_laws.specs.Inserting.{insert_fault};
 ghost use Rattle.rewriter.specs.Wholes.{Onward};
 ghost use Rattle.rewriter.specs.Trying.{AreHeadersOf, Tries};
 
 use crate::finish::is_formed;
 use crate::headers::headers_of;
-use edit_laws::laws::{headers_are_bare, inserting_is_making};
-use edit_laws::turns::inserts_are_tried;
+use rewriter_laws::laws::{headers_are_bare, inserting_is_making};
+use rewriter_laws::turns::inserts_are_tried;
 use ir_event::analysis::Analysis;
 use ir_tree::place::Place;
 use ir_tree::tree::TreeOp;

@@ -1,15 +1,15 @@
 //! Replacing a value wherever it is used.
 ghost use Rattle.std.specs.Prelude.{◌≡◌, false, None, OnOk};
 ghost use Rattle.ir_tree.specs.Uses.{same_value};
-ghost use Rattle.machine.specs.Contents.{edit_meaning, tests_in};
-ghost use Rattle.machine.specs.Edits.{Replace, edited_by, reason_by};
-ghost use Rattle.machine.specs.Machine.{Do};
+ghost use Rattle.rewriter_machine.specs.Contents.{edit_meaning, tests_in};
+ghost use Rattle.rewriter_machine.specs.Edits.{Replace, edited_by, reason_by};
+ghost use Rattle.rewriter_machine.specs.Machine.{Do};
 ghost use Rattle.rewriter_base.specs.Benched.{Does, Led, reply_of};
 ghost use Rattle.rewriter.specs.Wholes.{IsDoneOrNoted, Onward};
 
 use crate::faults::replace_fault;
 use crate::finish::{finish, is_formed};
-use edit_laws::turns::replacing_by_uses;
+use rewriter_laws::turns::replacing_by_uses;
 use ir_event::analysis::Analysis;
 use ir_tree::uses::is_same;
 use ir_tree::value::Value;

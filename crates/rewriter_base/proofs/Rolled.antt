@@ -5,7 +5,7 @@ use Rattle.ir_types.specs.declared.refusal.Refusal.{Refusal}
 use Rattle.ir_types.specs.declared.refusal.Refusal.TheVariants.{Memory, NoMark, TooManyMarks}
 use Rattle.ir_event.specs.Listener.{Listener}
 use Rattle.ir_event.specs.Modules.{module_meaning}
-use Rattle.machine.specs.Machine.{State, Mark, Step, Commit, Rollback, Done, Refused, IsAnswer, most_marks, marked, done, due, due_commit, due_rollback, refused}
+use Rattle.rewriter_machine.specs.Machine.{State, Mark, Step, Commit, Rollback, Done, Refused, IsAnswer, most_marks, marked, done, due, due_commit, due_rollback, refused}
 use Rattle.desk.specs.Journals.{before, inverses}
 use Rattle.desk.specs.declared.mark.Mark.{Mark as DeskMark}
 use Rattle.desk.specs.Held.{Held, module_held, open_mark, open_marks}

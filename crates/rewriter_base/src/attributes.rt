@@ -4,10 +4,10 @@ ghost use Rattle.ir_types.specs.Things.{IsName, IsAttr};
 ghost use Rattle.ir_tree.specs.Edits.{entry_at};
 ghost use Rattle.ir_tree.specs.Meaning.{key_before_in};
 ghost use Rattle.ir_store.specs.Calls.{after_entry};
-ghost use Rattle.machine.specs.Contents.{edit_meaning, tests_in};
-ghost use Rattle.machine.specs.Edits.{DropAttr, SetAttr, part_for};
+ghost use Rattle.rewriter_machine.specs.Contents.{edit_meaning, tests_in};
+ghost use Rattle.rewriter_machine.specs.Edits.{DropAttr, SetAttr, part_for};
 ghost use Rattle.ir_tree_laws.specs.Reasons.{set_entry_reason};
-ghost use Rattle.machine.specs.Machine.{Do};
+ghost use Rattle.rewriter_machine.specs.Machine.{Do};
 ghost use Rattle.desk.specs.Moves.{IsAnswered};
 ghost use Rattle.rewriter_base.specs.Benched.{Does, Led, Made, reply_of};
 

@@ -3,8 +3,8 @@ ghost use Rattle.std.specs.Prelude.{◌≡◌, OnOk, OnErr, IfErr, MatchResult};
 ghost use Rattle.ir_event.specs.Panels.{AttachedLast, BegunAgain, Detached, HandedBack, NotBegunAgain};
 ghost use Rattle.ir_event.specs.Rows.{RowIsOf, rows_meaning};
 ghost use Rattle.std.specs.Prelude.{All, IfOk};
-ghost use Rattle.machine.specs.Machine.{Attach, Detach, Done, Goes, Nothing, Refused, Report, Resync, Rows};
-ghost use Rattle.machine.specs.Panels.{shown};
+ghost use Rattle.rewriter_machine.specs.Machine.{Attach, Detach, Done, Goes, Nothing, Refused, Report, Resync, Rows};
+ghost use Rattle.rewriter_machine.specs.Panels.{shown};
 ghost use Rattle.desk.specs.Held.{module_held};
 ghost use Rattle.rewriter_base.specs.Benched.{Does, IsKept, attach_reply_of, reply_of, state_of};
 

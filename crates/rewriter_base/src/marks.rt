@@ -2,7 +2,7 @@
 ghost use Rattle.std.specs.Prelude.{◌≡◌, ◌≤◌, length, drop, OnOk, OnErr};
 ghost use Rattle.desk.specs.Journals.{inverses};
 ghost use Rattle.desk.specs.Held.{Within};
-ghost use Rattle.machine.specs.Machine.{Commit, Mark, Rollback, Step};
+ghost use Rattle.rewriter_machine.specs.Machine.{Commit, Mark, Rollback, Step};
 ghost use Rattle.rewriter_base.specs.Benched.{Does, Heard, Led, ToldBack, reply_of};
 ghost use Rattle.rewriter_base.specs.Rolling.{GivenUp, UndoneTo};
 

@@ -1,8 +1,8 @@
 use Rattle.std.proofs.Common.{arith, ◌∙◌, sym, ap, subst, get_or}
 use Rattle.std.proofs.lemmas.List.{get_or_default}
-use Rattle.ir_store_base.specs.Rows.{rows_of}
-use Rattle.ir_store_base.specs.Plans.{AllHeads}
-use Rattle.ir_store_base.specs.Right.{Live}
+use Rattle.ir_store_slots.specs.Rows.{rows_of}
+use Rattle.ir_store_slots.specs.Plans.{AllHeads}
+use Rattle.ir_store_slots.specs.Right.{Live}
 use Rattle.ir_store_reads.proofs.Copied.{copied_region, copied_op, heads_at}
 use Rattle.ir_store_reads.proofs.copy.+copy.Goals as goal
 

@@ -1,8 +1,8 @@
 use Rattle.std.proofs.Common.{◌*◌, ◌+◌, map, take}
 use Rattle.ir_tree.specs.Tree.{regions_of, ops_of}
 use Rattle.ir_tree.specs.View.{region_view}
-use Rattle.ir_store_base.specs.Rows.{rows_of, shape_of}
-use Rattle.ir_store_base.specs.Spells.{SpellsRegions, SpellsOps}
+use Rattle.ir_store_slots.specs.Rows.{rows_of, shape_of}
+use Rattle.ir_store_slots.specs.Spells.{SpellsRegions, SpellsOps}
 use Rattle.ir_store_reads.proofs.copy.+copy.Given as goal
 
 abbrev pub invariant-copy_regions-loop-area : goal.invariant-copy_regions-loop-area

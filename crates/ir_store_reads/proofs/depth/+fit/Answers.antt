@@ -1,11 +1,11 @@
 use Rattle.std.proofs.Common.{◌<◌, ◌-◌, get_or, arith, ◌∙◌, sym, ap, subst, length}
 use Rattle.chains.specs.Lists.{list_at, after}
-use Rattle.ir_store_base.specs.Rows.{rows_of}
-use Rattle.ir_store_base.specs.Plans.{AllHeads}
-use Rattle.ir_store_base.specs.Right.{Live}
-use Rattle.ir_store_base.specs.Walks.{slot_fits, shapes_pass, from_slot}
-use Rattle.ir_store_base.proofs.Items.{read_row}
-use Rattle.ir_store_base.proofs.Walked.{Walks, fits_row, listed_item, walk_start, walk_stops, walk_on, walk_less}
+use Rattle.ir_store_slots.specs.Rows.{rows_of}
+use Rattle.ir_store_slots.specs.Plans.{AllHeads}
+use Rattle.ir_store_slots.specs.Right.{Live}
+use Rattle.ir_store_slots.specs.Walks.{slot_fits, shapes_pass, from_slot}
+use Rattle.ir_store_slots.proofs.Items.{read_row}
+use Rattle.ir_store_slots.proofs.Walked.{Walks, fits_row, listed_item, walk_start, walk_stops, walk_on, walk_less}
 use Rattle.ir_store_reads.proofs.depth.+fit.Goals as goal
 
 pub list_fits-ops-init : goal.list_fits-ops-init

@@ -1,9 +1,9 @@
 use Rattle.std.proofs.Common.{◌≡◌, ◌*◌, ◌+◌, map, length}
 use Rattle.chains.specs.Lists.{list_at}
-use Rattle.ir_store_base.specs.Rows.{rows_of, shape_of}
-use Rattle.ir_store_base.specs.Plans.{AllHeads}
-use Rattle.ir_store_base.specs.Walks.{slot_fits, shapes_pass, from_slot}
-use Rattle.ir_store_base.proofs.Walked.{Walks}
+use Rattle.ir_store_slots.specs.Rows.{rows_of, shape_of}
+use Rattle.ir_store_slots.specs.Plans.{AllHeads}
+use Rattle.ir_store_slots.specs.Walks.{slot_fits, shapes_pass, from_slot}
+use Rattle.ir_store_slots.proofs.Walked.{Walks}
 use Rattle.ir_store_reads.proofs.depth.+fit.Given as goal
 
 abbrev pub invariant-areas_fit-areas : goal.invariant-areas_fit-areas

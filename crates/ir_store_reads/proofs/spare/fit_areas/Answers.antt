@@ -1,12 +1,12 @@
 use Rattle.std.proofs.Common.{rules, ◌≡◌, ◌+◌, map, sym, ap, subst, length, ◌∙◌, ◌∷◌, [], arith}
 use Rattle.std.proofs.lemmas.List.{map-append}
 use Rattle.ir_tree.specs.View.{region_view}
-use Rattle.ir_store_base.specs.Rows.{shape_of}
-use Rattle.ir_store_base.specs.Grows.{parts_of, AreBlocks, IsBlock, bare_region}
-use Rattle.ir_store_base.specs.Emptied.{emptied_region}
-use Rattle.ir_store_base.proofs.Grown.{emptied_step}
-use Rattle.ir_store_base.proofs.Blocks.{blocks_push}
-use Rattle.ir_store_base.proofs.Runs.{push_long}
+use Rattle.ir_store_slots.specs.Rows.{shape_of}
+use Rattle.ir_store_slots.specs.Grows.{parts_of, AreBlocks, IsBlock, bare_region}
+use Rattle.ir_store_slots.specs.Emptied.{emptied_region}
+use Rattle.ir_store_slots.proofs.Grown.{emptied_step}
+use Rattle.ir_store_slots.proofs.Blocks.{blocks_push}
+use Rattle.ir_store_slots.proofs.Runs.{push_long}
 use Rattle.ir_store_reads.proofs.Fitting.{some_told}
 use Rattle.ir_store_reads.proofs.spare.fit_areas.Goals as goal
 

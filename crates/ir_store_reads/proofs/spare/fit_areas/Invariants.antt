@@ -1,8 +1,8 @@
 use Rattle.std.proofs.Common.{◌≡◌, ◌++◌, map, length}
 use Rattle.ir_tree.specs.View.{region_view}
-use Rattle.ir_store_base.specs.Rows.{shape_of}
-use Rattle.ir_store_base.specs.Grows.{parts_of, AreBlocks, bare_region}
-use Rattle.ir_store_base.specs.Emptied.{emptied_region}
+use Rattle.ir_store_slots.specs.Rows.{shape_of}
+use Rattle.ir_store_slots.specs.Grows.{parts_of, AreBlocks, bare_region}
+use Rattle.ir_store_slots.specs.Emptied.{emptied_region}
 use Rattle.ir_store_reads.proofs.spare.fit_areas.Given as goal
 
 abbrev pub invariant-regions : goal.invariant-regions

@@ -2,10 +2,10 @@ use Rattle.std.proofs.Common.{sym, ap, subst, ◌∙◌, ◌<◌, length, map, g
 use Rattle.std.proofs.lemmas.List.{length-map}
 use Rattle.ir_tree.specs.View.{region_view}
 use Rattle.ir_tree.specs.Tree.{op, head, regions_of}
-use Rattle.ir_store_base.specs.Rows.{row_of, shape_of}
-use Rattle.ir_store_base.specs.Grows.{parts_of, AreBlocks, AreEmptied}
-use Rattle.ir_store_base.specs.Emptied.{emptied_region}
-use Rattle.ir_store_base.proofs.Items.{read_row}
+use Rattle.ir_store_slots.specs.Rows.{row_of, shape_of}
+use Rattle.ir_store_slots.specs.Grows.{parts_of, AreBlocks, AreEmptied}
+use Rattle.ir_store_slots.specs.Emptied.{emptied_region}
+use Rattle.ir_store_slots.proofs.Items.{read_row}
 use Rattle.ir_store_reads.proofs.Fitting.{fit_grown, some_told}
 use Rattle.ir_store_reads.proofs.spare.fit_row.Goals as goal
 

@@ -1,5 +1,5 @@
 use Rattle.std.proofs.Common.{◌≡◌, ◌≤◌, ◌+◌, ◌-◌}
-use Rattle.ir_store_base.specs.Index.{cells_of}
+use Rattle.ir_store_slots.specs.Index.{cells_of}
 use Rattle.ir_store_reads.specs.Again.{HeadsOf}
 use Rattle.ir_store_reads.proofs.spare.has_heads.Given as goal
 

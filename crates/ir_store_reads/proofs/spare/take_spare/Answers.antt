@@ -1,6 +1,6 @@
 use Rattle.std.proofs.Math.Seq.{map-set_same}
 use Rattle.std.proofs.Common.{◌∙◌, ap}
-use Rattle.ir_store_base.specs.Rows.{row_of}
+use Rattle.ir_store_slots.specs.Rows.{row_of}
 use Rattle.ir_store_reads.proofs.spare.take_spare.Goals as goal
 
 pub returns : goal.returns

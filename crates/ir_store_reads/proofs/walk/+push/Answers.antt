@@ -1,10 +1,10 @@
 use Rattle.std.proofs.Common.{sym, ap, ◌∙◌, subst, [], ◌∷◌}
 use Rattle.chains.specs.Lists.{after, list_at}
 use Rattle.entries.proofs.Splits.{uncons}
-use Rattle.ir_store_base.specs.Rows.{rows_of, shape_of}
+use Rattle.ir_store_slots.specs.Rows.{rows_of, shape_of}
 use Rattle.ir_store_reads.specs.Added.{AddsRegions}
-use Rattle.ir_store_base.proofs.Items.{on_ok}
-use Rattle.ir_store_base.proofs.Walked.{listed_item}
+use Rattle.ir_store_slots.proofs.Items.{on_ok}
+use Rattle.ir_store_slots.proofs.Walked.{listed_item}
 use Rattle.ir_store_reads.proofs.Adding.{added_op, adds_empty, adds_block, region_step, regions_done, slots_start, slots_step, slots_less, slots_done}
 use Rattle.ir_store_reads.proofs.walk.+push.Goals as goal
 

@@ -1,7 +1,7 @@
 use Rattle.std.proofs.Common.{◌*◌, ◌+◌, length}
 use Rattle.chains.specs.Lists.{list_at}
-use Rattle.ir_store_base.specs.Rows.{rows_of}
-use Rattle.ir_store_base.specs.Walks.{from_slot}
+use Rattle.ir_store_slots.specs.Rows.{rows_of}
+use Rattle.ir_store_slots.specs.Walks.{from_slot}
 use Rattle.ir_store_reads.proofs.Adding.{LeftRegions, LeftSlots}
 use Rattle.ir_store_reads.proofs.walk.+push.Given as goal
 

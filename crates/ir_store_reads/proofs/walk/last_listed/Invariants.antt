@@ -1,6 +1,6 @@
 use Rattle.std.proofs.Common.{◌≡◌, None, map, length}
-use Rattle.ir_store_base.specs.Rows.{shape_of}
-use Rattle.ir_store_base.specs.Plans.{AllHeads}
+use Rattle.ir_store_slots.specs.Rows.{shape_of}
+use Rattle.ir_store_slots.specs.Plans.{AllHeads}
 use Rattle.ir_store_reads.specs.Ends.{last_in}
 use Rattle.ir_store_reads.proofs.walk.last_listed.Given as goal
 

@@ -1,8 +1,8 @@
 use Rattle.std.proofs.Common.{◌≡◌, ◌∙◌, sym, ap, subst, ℕ, length, Err}
 use Rattle.std.specs.List.{list_any, position_or_len}
 use Rattle.std.specs.Map.{keys_of}
-use Rattle.ir_items.specs.Interned.{with_last}
-use Rattle.ir_items.proofs.Placed.{length-keys}
+use Rattle.ir_types_items.specs.Interned.{with_last}
+use Rattle.ir_types_items.proofs.Placed.{length-keys}
 use Rattle.ir_types.specs.Same.{same_attr}
 use Rattle.ir_types.specs.Reasons.{IsRefusedFor, full_reason}
 use Rattle.ir_types.specs.Refusals.{not_interned}

@@ -6,10 +6,10 @@ use Rattle.ir_tree_laws.specs.Reasons.{take_reason}
 use Rattle.ir_tree_laws.proofs.Reasoned.{no_unless}
 use Rattle.ir_store.specs.Stored.{Stored}
 use Rattle.ir_store.specs.Calls.{after_take}
-use Rattle.machine.specs.Contents.{tests_in}
-use Rattle.machine.specs.Edits.{Erase, erase_reason}
+use Rattle.rewriter_machine.specs.Contents.{tests_in}
+use Rattle.rewriter_machine.specs.Edits.{Erase, erase_reason}
 use Rattle.rewriter_base.specs.Held.{Held}
-use Rattle.edit_laws.specs.Erasing.{ids_in}
+use Rattle.rewriter_laws.specs.Erasing.{ids_in}
 use Rattle.rewriter.proofs.There.{not_gone}
 use Rattle.rewriter.proofs.Together.{onward_made, underway_none, underway_made, refused_on}
 use Rattle.rewriter.proofs.erase.take_all.Goals as goal

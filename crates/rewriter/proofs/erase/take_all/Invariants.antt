@@ -1,7 +1,7 @@
 use Rattle.std.proofs.Common.{length}
 use Rattle.ir_tree.specs.Ids.{find}
-use Rattle.machine.specs.Edits.{Erase}
-use Rattle.edit_laws.specs.Erasing.{ids_in}
+use Rattle.rewriter_machine.specs.Edits.{Erase}
+use Rattle.rewriter_laws.specs.Erasing.{ids_in}
 use Rattle.rewriter.proofs.Together.{IsUnderway}
 use Rattle.rewriter.proofs.erase.take_all.Given as goal
 

@@ -4,7 +4,7 @@ use Rattle.ir_tree.specs.View.{region_view}
 use Rattle.ir_tree.specs.declared.tree.TreeRegion.{TreeRegion}
 use Rattle.ir_tree.proofs.Lists.{regions_from}
 use Rattle.ir_tree.proofs.Steps.{made_all}
-use Rattle.edit_laws.specs.Inserting.{bare_regions}
+use Rattle.rewriter_laws.specs.Inserting.{bare_regions}
 use Rattle.rewriter.proofs.headers.bare_regions.Goals as goal
 
 pub returns : goal.returns

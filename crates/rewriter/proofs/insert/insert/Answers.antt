@@ -1,8 +1,8 @@
 use Rattle.std.proofs.Common.{◌≡◌, ◌∙◌, sym, ap, subst, true, false, None, Some, []}
 use Rattle.ir_store.specs.Stored.{Stored}
 use Rattle.ir_tree.specs.Tree.{head}
-use Rattle.edit_laws.specs.Inserting.{insert_fault}
-use Rattle.machine.specs.Edits.{Insert}
+use Rattle.rewriter_laws.specs.Inserting.{insert_fault}
+use Rattle.rewriter_machine.specs.Edits.{Insert}
 use Rattle.rewriter.proofs.Together.{IsBegun, goes_refused, led_whole}
 use Rattle.rewriter.proofs.Whole.{fault_reason, begun_fault, insert_done, insert_undone}
 use Rattle.rewriter.proofs.insert.insert.Goals as goal

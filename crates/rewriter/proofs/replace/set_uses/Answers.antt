@@ -6,8 +6,8 @@ use Rattle.ir_store.specs.Calls.{after_operand}
 use Rattle.ir_store.specs.Using.{is_use}
 use Rattle.ir_tree_laws.specs.Reasons.{set_operand_reason}
 use Rattle.ir_tree.specs.Meaning.{isolated_in}
-use Rattle.machine.specs.Contents.{tests_in}
-use Rattle.machine.specs.Edits.{Replace}
+use Rattle.rewriter_machine.specs.Contents.{tests_in}
+use Rattle.rewriter_machine.specs.Edits.{Replace}
 use Rattle.rewriter_base.specs.Held.{Held}
 use Rattle.rewriter_base.specs.Benched.{Benched}
 use Rattle.rewriter.proofs.Together.{underway_none, underway_made, refused_on}

@@ -1,5 +1,5 @@
 use Rattle.std.proofs.Common.{arith}
-use Rattle.journals.specs.Journals.{IsStoreOf}
+use Rattle.rewriter_journal.specs.Journals.{IsStoreOf}
 use Rattle.desk.specs.Held.{Held}
 use Rattle.desk.proofs.Outcomes.{release_done, release_good}
 use Rattle.desk.proofs.Released.{some_given}

@@ -1,4 +1,4 @@
-use Rattle.journals.specs.Journals.{IsStoreOf}
+use Rattle.rewriter_journal.specs.Journals.{IsStoreOf}
 use Rattle.desk.specs.Held.{Held}
 use Rattle.desk.proofs.Outcomes.{grow_done, grow_good}
 use Rattle.desk.proofs.desk.Desk.ty.Goals as goal

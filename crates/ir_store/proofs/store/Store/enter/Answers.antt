@@ -5,8 +5,8 @@ use Rattle.ir_tree.specs.Edits.{part_of}
 use Rattle.ir_tree_laws.specs.Reasons.{entry_reason, set_entry_reason}
 use Rattle.ir_store.specs.Calls.{after_entry}
 use Rattle.ir_store.proofs.Called.{rows_in, keys_in, same_inside}
-use Rattle.ir_store_base.proofs.Marking.{can_mark_used}
-use Rattle.ir_store_base.proofs.Slots.{found}
+use Rattle.ir_store_slots.proofs.Marking.{can_mark_used}
+use Rattle.ir_store_slots.proofs.Slots.{found}
 use Rattle.ir_store.proofs.Dictionaries.{refused_some, refused_memory, entry_found, entry_row, there_before, entry_given, same_given, entry_fits, same_fits, entry_done, same_done}
 use Rattle.ir_store.proofs.store.Store.enter.Goals as goal
 

@@ -1,7 +1,7 @@
 use Rattle.std.proofs.Common.{◌∙◌, ap, slice_get, List, ℕ, Option}
 use Rattle.std.specs.Prelude.{option_and_then}
-use Rattle.ir_store_base.specs.Nodes.{Node}
-use Rattle.ir_store_base.specs.Rows.{shape_arguments}
+use Rattle.ir_store_slots.specs.Nodes.{Node}
+use Rattle.ir_store_slots.specs.Rows.{shape_arguments}
 use Rattle.ir_store_reads.proofs.Arguments.{node_arguments}
 use Rattle.ir_store_reads.proofs.node.Node.arguments.Goals as goal
 

@@ -1,7 +1,7 @@
 use Rattle.std.proofs.Common.{◌≡◌, ◌∙◌, sym, ap, subst, ℕ, map, length, refl, [], ◌∷◌, ◌++◌, ◌⊎◌, Err, true≢false}
 use Rattle.std.specs.List.{list_any, position_or_len}
 use Rattle.std.specs.Map.{keys_of}
-use Rattle.ir_items.specs.Interned.{with_last}
+use Rattle.ir_types_items.specs.Interned.{with_last}
 use Rattle.ir_types.specs.declared.ids.AttrId.{AttrId}
 use Rattle.ir_types.specs.Things.{Things, Grows, AttrIsOf}
 use Rattle.ir_types.specs.Terms.{attr_node_term}

@@ -1,5 +1,5 @@
 use Rattle.std.proofs.Common.{◌≡◌, ◌∙◌, sym, ap, subst, ℕ, true, false, List, map, length, arith}
-use Rattle.ir_items.proofs.Placed.{length-keys}
+use Rattle.ir_types_items.proofs.Placed.{length-keys}
 use Rattle.std.proofs.lemmas.List.Sorted.{length_permutation}
 use Rattle.ir_types.specs.Things.{Things}
 use Rattle.ir_types.specs.Dictionaries.{has_twin, sorted}

@@ -1,5 +1,5 @@
 use Rattle.std.proofs.Common.{refl}
-use Rattle.machine.specs.Edits as edit
+use Rattle.rewriter_machine.specs.Edits as edit
 use Rattle.rewriter_base.proofs.Going.{entry_goes}
 use Rattle.rewriter_base.proofs.bench.Bench.drop_attr.Goals as goal
 

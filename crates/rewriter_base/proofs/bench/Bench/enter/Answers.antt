@@ -2,8 +2,8 @@ use Rattle.std.proofs.Common.{◌≡◌, subst, rules}
 use Rattle.ir_tree.specs.declared.place.Part.{Part}
 use Rattle.ir_tree.specs.Meaning.{key_before_in}
 use Rattle.ir_store.specs.Calls.{after_entry}
-use Rattle.machine.specs.Contents.{tests_in}
-use Rattle.machine.specs.Edits.{part_for}
+use Rattle.rewriter_machine.specs.Contents.{tests_in}
+use Rattle.rewriter_machine.specs.Edits.{part_for}
 use Rattle.rewriter_base.specs.Benched.{Made}
 use Rattle.rewriter_base.proofs.Told.{made_told, made_led, led_left}
 use Rattle.rewriter_base.proofs.bench.Bench.enter.Goals as goal

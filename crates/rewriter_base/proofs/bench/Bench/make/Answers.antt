@@ -1,6 +1,6 @@
 use Rattle.std.proofs.Common.{◌≡◌, refl, sym, ap, rules}
-use Rattle.machine.specs.Edits as edit
-use Rattle.machine.specs.Machine.{DoneAs}
+use Rattle.rewriter_machine.specs.Edits as edit
+use Rattle.rewriter_machine.specs.Machine.{DoneAs}
 use Rattle.rewriter_base.proofs.Going.{edit_goes, refused_always}
 use Rattle.rewriter_base.proofs.Told.{made_told, made_led, led_left}
 use Rattle.rewriter_base.proofs.bench.Bench.make.Goals as goal

@@ -1,5 +1,5 @@
 use Rattle.std.proofs.Common.{refl}
-use Rattle.machine.specs.Edits as edit
+use Rattle.rewriter_machine.specs.Edits as edit
 use Rattle.rewriter_base.proofs.Going.{edit_goes, refused_marked}
 use Rattle.rewriter_base.proofs.Told.{made_told, made_led, led_left}
 use Rattle.rewriter_base.proofs.bench.Bench.move_op.Goals as goal

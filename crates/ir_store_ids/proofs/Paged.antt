@@ -1,0 +1,40 @@
+-- What pages say of slots stays so where a slot is written.
+use Rattle.std.proofs.Common.{◌≡◌, ℕ, ◌+◌, ◌≤◌, ◌<◌, ◌%◌, List, [], length, sym, ap, subst, ◌∙◌, eqb, ⊎_elim, arith, Option, Some, None, Result, Ok, Err, MatchResult}
+use Rattle.std.specs.declared.alloc.AllocError.{AllocError}
+use Rattle.std.proofs.lemmas.Bool.{eq-eqb, ne_eqb, cond-true, cond-false}
+use Rattle.ir_store_ids.specs.Slots.{no_slot, slot_in}
+use Rattle.ir_store_ids.specs.declared.pages.Page.{Page}
+use Rattle.ir_store_ids.specs.Pages.{no_page, behind, slot_by, Forgotten, Learnt, AreSlots}
+use Rattle.ir_store_ids.proofs.Tables.{changed, not_less, near_grown, far_changed, some_slot, far_same, Put, Add}
+
+-- where there are no pages
+pub no_pages : (pages : List Page) (f : ℕ → Option ℕ) → pages ≡ [] → AreSlots pages f
+no_pages pages f e x n h =
+    let none : slot_by [] x ≡ None = cond-false _ (Some (x + behind no_page (x % 64))) None (not_less (x % 64) 0 (omega arith)) in
+    let bad : ◌≡◌ {A = Option ℕ} (Some n) None = sym h ∙ ap (λ z. slot_by z x) e ∙ none in
+    absurd cc
+
+module _ (before after : List Page) (f g : ℕ → Option ℕ) (k : ℕ) (old : AreSlots before f) (but : Forgotten k before after) where
+  pub others_paged : (o : Option ℕ) → ((x : ℕ) → g x ≡ changed k o f x) → AreSlots after g
+  others_paged o w x n h = w x ∙ cond-false (eqb x k) o (f x) (ne_eqb x k (but x n h).1) ∙ old x n (but x n h).0
+
+  pub same_paged : ((x : ℕ) → g x ≡ f x) → AreSlots after g
+  same_paged w x n h = w x ∙ old x n (but x n h).0
+
+  pub put_paged : (pages : List Page) (m : ℕ) → Learnt k m after pages → ((x : ℕ) → g x ≡ changed k (Some m) f x) → AreSlots pages g
+  put_paged pages m more w x n h = ⊎_elim
+      (λ a. others_paged (Some m) w x n a)
+      (λ b. w x ∙ cond-true (eqb x k) (Some m) (f x) (eq-eqb x k b.0) ∙ ap Some b.1)
+      (more x n h)
+
+-- where the entry at the end of the list, or among the others, may have been refused
+module _ (near near' : List ℕ) (far : ℕ → Option ℕ) (k n : ℕ) (l : k ≡ length near) (slot : n < no_slot) (before after pages : List Page) (old : AreSlots before (slot_in near far)) (but : Forgotten k before after) where
+  pub add_paged : (r : Result (Unit {0}) AllocError) → Add near near' n r → MatchResult r (λ _. Learnt k n after pages) (λ _. pages ≡ after) → AreSlots pages (slot_in near' far)
+  add_paged (Ok u) w more = put_paged before after (slot_in near far) (slot_in near' far) k old but pages n more
+      (λ x. ap (λ z. slot_in z far x) w ∙ near_grown near far k n l x ∙ ap (λ o. changed k o (slot_in near far) x) (some_slot n slot))
+  add_paged (Err u) w same = subst (λ z. AreSlots z (slot_in near' far)) (sym same) (same_paged before after (slot_in near far) (slot_in near' far) k old but (λ x. ap (λ z. slot_in z far x) w))
+
+module _ (near : List ℕ) (far far' : ℕ → Option ℕ) (k n : ℕ) (l : length near ≤ k) (before after : List Page) (old : AreSlots before (slot_in near far)) (but : Forgotten k before after) where
+  pub far_paged : (r : Result (Unit {0}) AllocError) → Put far far' k n r → AreSlots after (slot_in near far')
+  far_paged (Ok u) w = others_paged before after (slot_in near far) (slot_in near far') k old but (Some n) (far_changed near far far' k (Some n) l w)
+  far_paged (Err u) w = same_paged before after (slot_in near far) (slot_in near far') k old but (far_same near far far' w)

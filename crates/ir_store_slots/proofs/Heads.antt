@@ -1,0 +1,19 @@
+-- The heads of the values of live slots.
+use Rattle.std.proofs.Common.{◌≡◌, ℕ, List, Bool, true, false, Option, Some, None}
+use Rattle.std.specs.Prelude.{option_and_then, if◌then◌else◌}
+use Rattle.ir_tree.specs.declared.value.Value.{Value}
+use Rattle.ir_tree.specs.Frames.{owner_of}
+use Rattle.ir_store_slots.specs.Rows.{Row, row_at, live_slot, if_live}
+use Rattle.ir_store_slots.specs.Index.{slot_head, value_head}
+
+-- a value of an operation that has a live slot has one
+pub live_head : (rows : List Row) (keys : ℕ → Option ℕ) (v : Value) (h : ℕ) → value_head rows (live_slot rows keys) v ≡ Some h → value_head rows keys v ≡ Some h
+live_head rows keys v h e = go (keys (owner_of v).0) e
+  where
+    go : (o : Option ℕ) → option_and_then (slot_head rows v) (if_live rows o) ≡ Some h → option_and_then (slot_head rows v) o ≡ Some h
+    go None f = absurd cc
+    go (Some q) f = test (row_at rows q).live f
+      where
+        test : (b : Bool) → option_and_then (slot_head rows v) (if b then Some q else None) ≡ Some h → slot_head rows v q ≡ Some h
+        test true g = g
+        test false g = absurd cc

@@ -1,0 +1,126 @@
+-- Slots are given up one by one.
+use Rattle.std.proofs.Common.{◌≡◌, ℕ, ◌+◌, ◌<◌, ◌≤◌, List, refl, sym, ap, ◌∙◌, subst, length, Bool, true, false, not, ◌&&◌, eqb, cond, arith, Option, Some, None, ⊎_elim, map, set, get_or}
+use Rattle.std.specs.Prelude.{if◌then◌else◌, nat_lt}
+use Rattle.std.specs.Ordering.{nat_cmp}
+use Rattle.std.specs.Cmp.{nat_cmp_total}
+use Rattle.std.specs.FinMap as finmap
+use Rattle.std.proofs.lemmas.Bool.{cases_eq, cases_Bool, eq-eqb, ne_eqb, cond-true, cond-false, false≢true}
+use Rattle.std.proofs.lemmas.Bool.Decides.{nat_tests}
+use Rattle.std.proofs.lemmas.List.{length-set, length-map, get_or_past}
+use Rattle.ir_store_slots.specs.declared.row.Row.{Row as Kept}
+use Rattle.ir_store_slots.specs.Releases.{is_given, given_up, key_left, key_so_far, IsKeyed, ReleasesSlot, ReleasesSome, GivenUp}
+use Rattle.ir_store_slots.specs.Rows.{Row, row_at, row_of, rows_of, no_row}
+use Rattle.ir_store_slots.specs.Right.{Used}
+use Rattle.ir_store_slots.proofs.Items.{read_row, other_row, own_row}
+use Rattle.ir_store_slots.proofs.Items.{some_same}
+use Rattle.ir_store_slots.proofs.Items.{eq_nat}
+
+-- one slot, as the call's steps tell it
+pub slot_released : (from k : ℕ) (items : List Kept) (n m : Kept) → k < length items → n ≡ get_or items k n → row_of m ≡ given_up from (row_of n)
+    → (keys left : finmap.FinMap nat_cmp ℕ) → left ≡ (if is_given from (row_of n) then finmap.remove keys n.id else keys)
+    → ReleasesSlot from k (rows_of items) (rows_of (set items k m)) keys left
+slot_released from k items n m l en em keys left el =
+    let e = read_row items k n l en in
+    record {
+      long = length-map (set items k m) row_of ∙ length-set items k m ∙ sym (length-map items row_of);
+      own = own_row items k m l ∙ em ∙ ap (given_up from) (sym e);
+      others = other_row items k m;
+      key = el ∙ ap (λ z. if is_given from z then finmap.remove keys z.head.id else keys) (sym e);
+    }
+
+used_given : (u b : Bool) → (u && b) ≡ true → u ≡ true
+used_given true b e = refl
+used_given false b e = absurd (false≢true e)
+
+module _ (from : ℕ) (rows : List Row) (keys : ℕ → Option ℕ) (kd : IsKeyed rows keys) where
+  pub sweep_start : (seen : ℕ → Bool) → ((q : ℕ) → seen q ≡ true → is_given from (row_at rows q) ≡ false) → ReleasesSome from seen rows rows keys keys
+  sweep_start seen spared = record {
+    long = refl;
+    past = λ q e. sym (ap {A = Bool} {B = Row} (λ b. if b then record (row_at rows q) { used = false } else row_at rows q) (spared q e));
+    ahead = λ q e. refl;
+    key = λ y. go (keys y);
+  }
+    where
+      test : (k : ℕ) (b c : Bool) → (b ≡ true → c ≡ false) → Some k ≡ (if b && c then None else Some k)
+      test k true true e = absurd (false≢true (sym (e refl)))
+      test k true false e = refl
+      test k false c e = refl
+
+      go : (o : Option ℕ) → o ≡ key_so_far from seen rows o
+      go None = refl
+      go (Some k) = test k (seen k) (is_given from (row_at rows k)) (spared k)
+
+  pub sweep_all : (seen : ℕ → Bool) (new : List Row) (left : ℕ → Option ℕ) → ((q : ℕ) → seen q ≡ true) → ReleasesSome from seen rows new keys left → GivenUp from rows new keys left
+  sweep_all seen new left all s = record {
+    long = s.long;
+    all = λ q. s.past q (all q);
+    key = λ y. s.key y ∙ go (keys y);
+  }
+    where
+      go : (o : Option ℕ) → key_so_far from seen rows o ≡ key_left from rows o
+      go None = refl
+      go (Some k) = ap {A = Bool} {B = Option ℕ} (λ b. if b && is_given from (row_at rows k) then None else Some k) (all k)
+
+  module _ (seen : ℕ → Bool) (new : List Row) (left : finmap.FinMap nat_cmp ℕ) (s : ReleasesSome from seen rows new keys (finmap.get left))
+      (k : ℕ) (unseen : seen k ≡ false) (new2 : List Row) (left2 : finmap.FinMap nat_cmp ℕ) (r : ReleasesSlot from k new new2 left left2)
+      (more : ℕ → Bool) (now : more k ≡ true) (before : (q : ℕ) → (q ≡ k → ⊥) → more q ≡ seen q) where
+    was : row_at new k ≡ row_at rows k
+    was = s.ahead k unseen
+
+    key_at : (o : Option ℕ) (b : Bool) → (ℕ → Bool) → Option ℕ
+    key_at None b p = None
+    key_at (Some j) b p = if p j && b then None else Some j
+
+    key_step : (b : Bool) → is_given from (row_at rows k) ≡ b → left2 ≡ (if b then finmap.remove left (row_at rows k).head.id else left) → (y : ℕ) → finmap.get left2 y ≡ key_so_far from more rows (keys y)
+    key_step false g e y = ap (λ m. finmap.get m y) e ∙ s.key y ∙ go (keys y)
+      where
+        go : (o : Option ℕ) → key_so_far from seen rows o ≡ key_so_far from more rows o
+        go None = refl
+        go (Some j) = ⊎_elim
+            (λ z. let n : is_given from (row_at rows j) ≡ false = ap (λ w. is_given from (row_at rows w)) z ∙ g in
+            ap {A = Bool} {B = Option ℕ} (λ b. if seen j && b then None else Some j) n ∙ both (seen j) (more j) ∙ sym (ap {A = Bool} {B = Option ℕ} (λ b. if more j && b then None else Some j) n))
+            (λ z. ap {A = Bool} {B = Option ℕ} (λ b. if b && is_given from (row_at rows j) then None else Some j) (sym (before j z)))
+            (cases_eq j k)
+          where
+            both : (a b : Bool) → (if a && false then None else Some j) ≡ (if b && false then None else Some j)
+            both true true = refl
+            both true false = refl
+            both false true = refl
+            both false false = refl
+    key_step true g e y =
+        ap (λ m. finmap.get m y) e ∙ finmap.get-remove nat_cmp_total left (row_at rows k).head.id y ∙ ap (λ b. cond b None (finmap.get left y)) (eq_nat y (row_at rows k).head.id)
+        ∙ ap (cond (eqb y (row_at rows k).head.id) None) (s.key y) ∙ go (keys y) refl
+      where
+        here : keys (row_at rows k).head.id ≡ Some k
+        here = kd.keyed k (record { used = used_given (row_at rows k).used _ g })
+
+        go : (o : Option ℕ) → keys y ≡ o → cond (eqb y (row_at rows k).head.id) None (key_so_far from seen rows o) ≡ key_so_far from more rows o
+        go None f = none (eqb y (row_at rows k).head.id)
+          where
+            none : (b : Bool) → ◌≡◌ {A = Option ℕ} (cond b None None) None
+            none true = refl
+            none false = refl
+        go (Some j) f = ⊎_elim
+            (λ z.
+            let id : y ≡ (row_at rows k).head.id = sym (kd.known y j f).id ∙ ap (λ w. (row_at rows w).head.id) z in
+            cond-true (eqb y (row_at rows k).head.id) None (key_so_far from seen rows (Some j)) (eq-eqb y (row_at rows k).head.id id)
+            ∙ sym (ap {A = Bool} {B = Option ℕ} (λ b. if b && is_given from (row_at rows j) then None else Some j) (ap more z ∙ now)
+            ∙ ap {A = Bool} {B = Option ℕ} (λ b. if b then None else Some j) (ap (λ w. is_given from (row_at rows w)) z ∙ g)))
+            (λ z.
+            let ne : y ≡ (row_at rows k).head.id → ⊥ = λ w. z (some_same j k (sym f ∙ ap keys w ∙ here)) in
+            cond-false (eqb y (row_at rows k).head.id) None (key_so_far from seen rows (Some j)) (ne_eqb y (row_at rows k).head.id ne)
+            ∙ ap {A = Bool} {B = Option ℕ} (λ b. if b && is_given from (row_at rows j) then None else Some j) (sym (before j z)))
+            (cases_eq j k)
+
+    pub sweep_step : ReleasesSome from more rows new2 keys (finmap.get left2)
+    sweep_step = record {
+      long = r.long ∙ s.long;
+      past = λ q e. ⊎_elim
+          (λ z. ap (row_at new2) z ∙ r.own ∙ ap (given_up from) (was ∙ ap (row_at rows) (sym z)))
+          (λ z. r.others q z ∙ s.past q (sym (before q z) ∙ e))
+          (cases_eq q k);
+      ahead = λ q e.
+          let ne : q ≡ k → ⊥ = λ z. false≢true (sym e ∙ ap more z ∙ now) in
+          r.others q ne ∙ s.ahead q (sym (before q ne) ∙ e);
+      key = key_step (is_given from (row_at rows k)) refl (r.key ∙ ap (λ z. if is_given from z then finmap.remove left z.head.id else left) was);
+    }

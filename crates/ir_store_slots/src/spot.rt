@@ -1,0 +1,104 @@
+//! Where operations are put, in slots.
+ghost use Rattle.std.specs.Prelude.{◌≡◌, ◌<◌, eqb, length, map, slice_get, slice_set, option_and_then, IfSome, MatchOption, Some, is_some, ◌&&◌, false};
+ghost use Rattle.std.specs.FinMap as finmap;
+ghost use Rattle.std.specs.Ordering.{nat_cmp};
+ghost use Rattle.chains.specs.Lists.{IsFree, IsHead};
+ghost use Rattle.ir_store_slots.specs.Rows.{rows_of, shape_of, head_in, held_slot};
+ghost use Rattle.ir_store_slots.specs.Spots.{spot_in, joined, stands, StandsIn};
+
+use crate::find::{Keys, find, slot};
+use crate::row::{Area, Row};
+use ir_tree::place::Place;
+use ir_types::ids::OpId;
+use order::Ordered;
+
+/// The slot of a held operation.
+pub fn find_held(rows: &Vec<Row>, keys: &Keys, op: OpId) -> Option<usize>
+    ensures { result ≡ held_slot (rows_of rows.now.items) (finmap.get keys.now) op }
+{
+    let key = slot(keys, op)?;
+    let row = rows.get(key)?;
+    if row.used && !row.live {
+        Some(key)
+    } else {
+        None
+    }
+}
+
+/// The head of the list of a region's block, if it has one.
+pub fn block_head(areas: &[Area], region: usize) -> Option<usize>
+    ensures { result ≡ option_and_then head_in (slice_get (map shape_of areas.now) region) }
+{
+    match areas.get(region)? {
+        Area::Empty => None,
+        Area::Block { head, .. } => Some(*head),
+    }
+}
+
+/// The head of the list of a place, and the slot that comes next there.
+pub fn find_spot(
+    rows: &Vec<Row>,
+    keys: &Keys,
+    sibs: &Ordered,
+    place: Place,
+) -> Option<(usize, Option<usize>)>
+    requires { length rows.now.items ≡ length sibs.now.homes }
+    ensures { result ≡ spot_in (rows_of rows.now.items) (finmap.get keys.now) sibs.now.homes place }
+{
+    let parent = find(rows, keys, place.parent)?;
+    let row = rows.get(parent)?;
+    let head = block_head(row.contents.areas(), place.region as usize)?;
+    match place.before {
+        None => Some((head, None)),
+        Some(before) => {
+            let at = find(rows, keys, before)?;
+            if stands_in(sibs, at, head) {
+                Some((head, Some(at)))
+            } else {
+                None
+            }
+        }
+    }
+}
+
+/// Whether a node stands in the list of a head.
+fn stands_in(sibs: &Ordered, node: usize, head: usize) -> bool
+    requires { node < length sibs.now.homes }
+    ensures { result ≡ stands sibs.now.homes head node }
+{
+    match sibs.home(node) {
+        None => false,
+        Some(home) => home == head,
+    }
+}
+
+/// Puts a free node into the list of a head, before another or last.
+pub fn link(sibs: &mut Ordered, node: usize, head: usize, before: Option<usize>)
+    requires free { IsFree sibs.old.homes node }
+    requires head { IsHead sibs.old.homes head }
+    requires before { IfSome before (λ at. StandsIn sibs.old.homes head at) }
+    ensures lists { sibs.new.lists ≡ joined node head before sibs.old.lists }
+    ensures homes { sibs.new.homes ≡ slice_set sibs.old.homes node head }
+{
+    match before {
+        None => sibs.push_back(node, head),
+        Some(at) => sibs.insert_before(node, at),
+    }
+}
+
+/// The slot of a held operation, and where it is put.
+pub fn find_joint(
+    rows: &Vec<Row>,
+    keys: &Keys,
+    sibs: &Ordered,
+    op: OpId,
+    place: Place,
+) -> Option<(usize, usize, Option<usize>)>
+    requires { length rows.now.items ≡ length sibs.now.homes }
+    ensures { MatchOption result ((is_some (held_slot (rows_of rows.now.items) (finmap.get keys.now) op) && is_some (spot_in (rows_of rows.now.items) (finmap.get keys.now) sibs.now.homes place)) ≡ false)
+        (λ p. (Some p.0 ≡ held_slot (rows_of rows.now.items) (finmap.get keys.now) op) × (Some (p.1, p.2) ≡ spot_in (rows_of rows.now.items) (finmap.get keys.now) sibs.now.homes place)) }
+{
+    let key = find_held(rows, keys, op)?;
+    let (head, before) = find_spot(rows, keys, sibs, place)?;
+    Some((key, head, before))
+}

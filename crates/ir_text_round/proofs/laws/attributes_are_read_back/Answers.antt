@@ -1,5 +1,0 @@
-use Rattle.ir_text_round.proofs.Attributes.{attr_again}
-use Rattle.ir_text_round.proofs.laws.attributes_are_read_back.Goals as goal
-
-pub returns : goal.returns
-returns c depth a rest small fit s = attr_again depth small a rest fit s

@@ -1,5 +1,0 @@
-use Rattle.ir_text_round.proofs.Ascii.{text_is_ascii}
-use Rattle.ir_text_round.proofs.module_laws.texts_are_ascii.Goals as goal
-
-pub returns : goal.returns
-returns c = text_is_ascii

@@ -1,0 +1,78 @@
+-- The text of a module spells it, with its ids in pre-order.
+use Rattle.std.proofs.Common.{◌≡◌, ℕ, true, List, [], ◌∷◌, ◌++◌, ◌≤◌, map, length, ap, subst, ◌∙◌, arith, inl}
+use Rattle.std.specs.Prelude.{◌==◌, ◌&&◌}
+use Rattle.std.specs.Str.{bytes_eq}
+use Rattle.std.proofs.lemmas.Bool.{eqb-true}
+use Rattle.std.proofs.lemmas.List.{length-map}
+use Rattle.ir_types.specs.Terms.{TypeTerm}
+use Rattle.ir_types.specs.Words.{is_isolated, is_table}
+use Rattle.ir_tree.specs.Ids.{ids, HasDistinctIds, IsNumberedFrom}
+use Rattle.ir_tree.specs.Meaning.{Operation, key_before, dictionaries_rise}
+use Rattle.ir_tree.specs.Tree.{op}
+use Rattle.ir_tree.specs.WellFormed.{IsFormed}
+use Rattle.ir_text_tokens.specs.Limits.{most_bytes}
+use Rattle.ir_text_tokens.specs.Printing.{AreBytes}
+use Rattle.ir_text_tokens.proofs.Escapes.{value_again}
+use Rattle.ir_text_tokens.proofs.Printed.{string_token}
+use Rattle.ir_text_operations.specs.Spelling.{module_word, begins_from, begins_module, is_root, IsExplicit, IsSingleOp, Spells}
+use Rattle.ir_text_operations.specs.Free.{no_names}
+use Rattle.ir_text.specs.Naming.{Named, value_text}
+use Rattle.ir_text.specs.Printing.{text_of, blank, opening, closing_text, properties_text}
+use Rattle.ir_text.specs.TypeText.{in_round}
+use Rattle.ir_text_roundtrip.proofs.Small.{both, are_bytes}
+use Rattle.ir_tree_renumber.specs.Renumbered.{value_with_id, with_ids, place_in, renumbered}
+use Rattle.ir_tree_renumber.proofs.Fixed.{renumbered_stays}
+use Rattle.ir_tree_renumber.proofs.Formed.{formed_renumbered}
+use Rattle.ir_tree_renumber.proofs.Kept.{numbered, every_with, rise_with}
+use Rattle.ir_text_roundtrip.specs.WrittenTrees.{IsWritable}
+use Rattle.ir_text_roundtrip.proofs.Ascii.{text_is_within}
+use Rattle.ir_text_roundtrip.proofs.Texts.{Head, names_of, results_then, name_then, results_names, op_names, regions_then, tail_then}
+use Rattle.ir_text_roundtrip.proofs.Numbered.{places_run, numbered_distinct}
+use Rattle.ir_text_roundtrip.proofs.Whole.{whole_text, single_again}
+use Rattle.ir_text_roundtrip.proofs.Writable.{fits, few_ops, sorted_op}
+
+-- ---- roots
+
+-- a text that begins with the name of a module, where no result stands in front of it
+begins_head : (m : ℕ) (ts : List TypeTerm) (h : Head) (named : Named) (rest : List ℕ) → (length ts == 0) ≡ true → is_table h.name ≡ true → AreBytes h.name → begins_module (results_then m ts (name_then h named rest)) ≡ true
+unfolding is_table
+begins_head m [] h named rest none table bytes =
+    let behind = in_round (map (value_text named) h.operands) ++ (properties_text h.properties ++ rest) in
+    ap begins_from (string_token h.name behind bytes) ∙ ap (λ (v : List ℕ). bytes_eq v module_word) (value_again h.name bytes) ∙ table
+begins_head m (t ∷ ts) h named rest none table bytes = absurd (omega (arith, eqb-true (length (t ∷ ts)) 0 none))
+
+-- the text of a module begins with its name
+begins_so : (t : Operation) → is_root t ≡ true → IsWritable t → begins_module (text_of t) ≡ true
+begins_so (op h rs) root w =
+    let a = both (is_table h.name) (length h.operands == 0 && length h.results == 0) root in
+    let b = both (length h.operands == 0) (length h.results == 0) a.1 in
+    let n = results_names h.id h.results (names_of blank) in
+    let behind = opening rs ++ regions_then [] h.id 0 rs n (closing_text rs ++ tail_then h (op_names (op h rs) (names_of blank)).named []) in
+    ap begins_module (whole_text (op h rs)) ∙ begins_head 0 h.results h n.named behind b.1 a.0 (are_bytes h.name w.0.bytes)
+
+-- a root is one whatever its ids
+root_with : (f : ℕ → ℕ) (t : Operation) → is_root (with_ids f t) ≡ is_root t
+root_with f (op h rs) = ap (λ (n : ℕ). is_table h.name && (n == 0 && length h.results == 0)) (length-map h.operands (value_with_id f))
+
+-- ---- modules
+
+explicit : (f : ℕ → ℕ) (t : Operation) → is_root t ≡ true → IsWritable t → IsSingleOp no_names 1048576 0 (text_of t) (with_ids f t) → IsExplicit (text_of t) (with_ids f t)
+unfolding IsExplicit IsSingleOp
+explicit f t root w single = (begins_so t root w, single, root_with f t ∙ root)
+
+pub module_again : (t : Operation) → IsFormed is_isolated t → HasDistinctIds t → is_root t ≡ true → IsWritable t → length (text_of t) ≤ most_bytes → Spells (text_of t) (renumbered t)
+module_again t formed distinct root w few =
+    let f = place_in (ids t) in
+    let test = dictionaries_rise key_before in
+    let single = single_again f t (fits t formed.counts w) formed.visible (places_run (ids t) distinct) distinct formed.shallow (few_ops t formed.counts) in
+    record {
+      text = text_is_within t w few;
+      spelled = inl (explicit f t root w single);
+      formed = formed_renumbered is_isolated t formed;
+      numbered = numbered t distinct;
+      sorted = every_with f test test (rise_with f key_before) t ∙ sorted_op t w;
+    }
+
+-- a module whose ids are in order is spelled as it is
+pub numbered_again : (t : Operation) → IsFormed is_isolated t → IsNumberedFrom 0 t → is_root t ≡ true → IsWritable t → length (text_of t) ≤ most_bytes → Spells (text_of t) t
+numbered_again t formed e root w few = subst (Spells (text_of t)) (renumbered_stays is_isolated t formed e) (module_again t formed (numbered_distinct 0 t e) root w few)

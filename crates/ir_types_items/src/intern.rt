@@ -1,0 +1,58 @@
+//! Interning by place.
+ghost use Rattle.std.specs.Prelude.{◌≡◌, ◌≤◌, ◌⊎◌, [], ◌∷◌, ◌++◌, Bool, true, false, IfOk, OnOk, OnErr, IsErrOf, IsOk, ◌↔◌};
+ghost use Rattle.std.specs.List.{position_or_len, list_any};
+ghost use Rattle.indexmap.specs.IndexMap.{keys, index_map_len};
+ghost use Rattle.ir_types_items.specs.Interned.{with_last};
+
+use crate::keyed::Keyed;
+use indexmap::IndexMap;
+use std::alloc::AllocFailed;
+use std::hash::Hash;
+
+/// Why a thing is not interned.
+#[derive(Clone, Copy, Debug, PartialEq, Eq)]
+pub enum InternFault {
+    /// The map is full, and the thing is not in it.
+    TooMany,
+    /// Memory was refused.
+    Memory,
+}
+
+impl<T: Drop> From<AllocFailed<T>> for InternFault {
+    ghost use Rattle.std.specs.Prelude.{◌≡◌};
+    ghost use Rattle.ir_types_items.specs.declared.intern.InternFault.TheVariants.{Memory};
+
+    ghost from_gives = { λ _ fault. fault ≡ Memory };
+
+    fn from(_error: AllocFailed<T>) -> InternFault {
+        InternFault::Memory
+    }
+}
+
+/// The place of a key in a map of at most `limit` keys. One that isn't there is put last, with the
+/// value. A key that is there takes no memory.
+pub fn intern<K: Eq + Hash + Drop, V: Drop>(
+    map: &mut IndexMap<K, V, Keyed>,
+    limit: u32,
+    key: K,
+    value: V,
+) -> Result<u32, InternFault>
+    requires { index_map_len map.old ≤ limit }
+    ensures place { IfOk result (λ n. n ≡ position_or_len (K.eq key) (keys map.old)) }
+    ensures keys { OnOk result (keys map.new ≡ with_last (K.eq key) key (keys map.old)) }
+    ensures entries { OnOk result ((map.new.entries ≡ map.old.entries) ⊎ (map.new.entries ≡ map.old.entries ++ (key, value) ∷ [])) }
+    ensures within { index_map_len map.new ≤ limit }
+    ensures full { IsErrOf result InternFault.TooMany ↔ ((limit ≤ index_map_len map.old) × (list_any (K.eq key) (keys map.old) ≡ false)) }
+    ensures known { list_any (K.eq key) (keys map.old) ≡ true → IsOk result }
+    ensures err { OnErr result (map.new.entries ≡ map.old.entries) }
+{
+    if let Some(index) = map.get_index_of(&key) {
+        return Ok(index as u32);
+    }
+    let count = map.len();
+    if count >= limit as usize {
+        return Err(InternFault::TooMany);
+    }
+    map.insert(key, value)?;
+    Ok(count as u32)
+}

@@ -1,0 +1,82 @@
+-- What an operation is and has around it, as it is gathered.
+use Rattle.std.specs.Prelude.{if◌then◌else◌, ℕ, zero, suc, ◌+◌, ◌*◌, List, [], ◌∷◌, length, map, Option, Some, None, option_map, option_and_then, IfSome}
+use Rattle.std.specs.List.{All}
+use Rattle.ir_types.specs.Things.{Things, IsType}
+use Rattle.ir_tree.specs.Tree.{OpOf, Op, head, regions, region_count}
+use Rattle.ir_tree_laws.specs.Reads.{ops_at}
+use Rattle.ir_tree_laws.specs.Stands.{stand_of}
+use Rattle.ir_types.specs.Terms.{TypeTerm, AttrTerm, name_term, type_term, attr_term}
+use Rattle.ir_tree.specs.Ids.{find}
+use Rattle.ir_event.specs.declared.event.Event.{Event}
+use Rattle.ir_event.specs.declared.event.Event.TheVariants.{Put, Take, SetOperand, SetEntry, Shift}
+use Rattle.ir_event.specs.Modules.{NodeIsOf}
+use Rattle.ir_event.specs.declared.world.World.{World}
+use Rattle.listeners_surroundings.specs.declared.around.Around.{Around}
+use Rattle.listeners_surroundings.specs.declared.around.Outer.{Outer}
+use Rattle.listeners_surroundings.specs.Mapped.{map_surroundings}
+use Rattle.listeners_surroundings.specs.Facts.{is_one_of}
+use Rattle.listeners_surroundings.specs.Surroundings.{SurroundingsOf, OuterOf, last_name, outer_of}
+
+-- what is gathered of the one that it stands in
+abbrev pub outer_in : Outer → OuterOf ℕ ℕ ℕ
+outer_in o = record { name = o.name; ended = o.ended }
+
+-- and of an operation
+abbrev pub gathered : Around → SurroundingsOf ℕ ℕ ℕ
+gathered a = record {
+  node = a.node;
+  lasts = a.lasts.items;
+  types = map Some a.types.items;
+  outer = option_map outer_in a.outer;
+}
+
+-- the numbers in what is gathered are of a context
+pub record AroundIsOf (c : Things) (a : Around) : Type 0 where
+  pub node : NodeIsOf c a.node
+  pub types : All (λ t. IsType c t) a.types.items
+  pub ended : IfSome (option_and_then (λ (o : Outer). o.ended) a.outer) (NodeIsOf c)
+
+-- the tree of a world's module, in numbers
+abbrev pub tree_in : World → Op
+tree_in w = w.store.module_of.tree
+
+-- the name of the last operation of the block of region r of operation x
+abbrev pub last_name_at : {N T A : Type 0} → ℕ → OpOf N T A → ℕ → Option N
+last_name_at x t r = option_and_then last_name (ops_at x r t)
+
+-- what a function gives for so many numbers from one on
+abbrev pub from_on : {X : Type 0} → (ℕ → X) → ℕ → ℕ → List X
+from_on f r zero = []
+from_on f r (suc k) = f r ∷ from_on f (r + 1) k
+
+-- what operation x of a tree sees of the one that it stands in
+abbrev pub outer_at : {N T A : Type 0} → ℕ → OpOf N T A → Option (OuterOf N T A)
+outer_at x t = option_and_then (λ s. outer_of s.path) (stand_of x t)
+
+-- how often is looked for what is gathered of an operation that there may be: once, or five times, once for each
+-- operand, and twice for each region
+abbrev pub gather_looks : {N T A : Type 0} → Option (OpOf N T A) → ℕ
+gather_looks None = 1
+gather_looks (Some o) = 5 + length (head o).operands + 2 * region_count (regions o)
+
+-- for each of a list, where one that stands there again isn't gathered again
+abbrev pub gathers_for : {N T A : Type 0} → OpOf N T A → List ℕ → ℕ
+gathers_for t [] = 0
+gathers_for t (x ∷ xs) = (if is_one_of x xs then 0 else gather_looks (find x t)) + gathers_for t xs
+
+-- how many regions an operation has that there may be
+abbrev pub regions_found : {N T A : Type 0} → Option (OpOf N T A) → ℕ
+regions_found None = 0
+regions_found (Some o) = region_count (regions o)
+
+-- how often is looked for the operations near an event
+abbrev pub near_looks : {N T A : Type 0} → Event → OpOf N T A → ℕ
+near_looks (Put x place fresh) t = 1
+near_looks (Take x place fresh) t = 1
+near_looks (SetOperand x k old new) t = 2 + regions_found (find x t)
+near_looks (SetEntry x part key old new) t = 2 + regions_found (find x t)
+near_looks (Shift x old new) t = 2
+
+-- what is gathered, in contents
+abbrev pub gathered_in : Things → Around → SurroundingsOf (List ℕ) TypeTerm AttrTerm
+gathered_in c a = map_surroundings (name_term c) (type_term c) (attr_term c) (gathered a)

@@ -1,0 +1,245 @@
+//! Facts about operations, and those of them that a table keeps.
+ghost use Rattle.std.specs.Prelude.{◌≡◌, ◌≤◌, ◌+◌, [], ◌∷◌, List, Option, Bool, ℕ, IfOk, OnOk, OnErr, true, false};
+ghost use Rattle.std.specs.Ordering.{nat_cmp};
+ghost use Rattle.std.specs.BTreeMap.{get};
+ghost use Rattle.ir_types.specs.Terms.{TypeTerm, AttrTerm, name_term};
+ghost use Rattle.ir_tree.specs.Ids.{find, has_id};
+ghost use Rattle.ir_event.specs.Modules.{module_in};
+ghost use Rattle.listeners_surroundings.specs.Surroundings.{SurroundingsOf};
+ghost use Rattle.listeners_surroundings.specs.Near.{near, somes, if_any, lasts_in};
+ghost use Rattle.listeners_surroundings.specs.Facts.{is_one_of, fact_of, if_kept, kept_of, Renewed, most_looks};
+ghost use Rattle.listeners_surroundings.specs.Gathered.{AroundIsOf, gathered_in, gather_looks, gathers_for, near_looks, regions_found, tree_in};
+
+use crate::around::Around;
+use crate::gather::{around_of, gather, shown};
+use ir_event::event::Event;
+use ir_event::view::View;
+use ir_types::context::Context;
+use ir_types::ids::{NameId, OpId};
+use op_registry::registry::Registry;
+use std::alloc::{AllocError, Global};
+use std::collections::BTreeMap;
+
+/// A fact about an operation that is read off its surroundings.
+pub trait Fact: Drop {
+    /// The fact, as a function of the surroundings.
+    ghost fact: { SurroundingsOf (List ℕ) TypeTerm AttrTerm → Self };
+
+    /// Whether a table keeps it. A fact that says nothing needs no entry.
+    ghost kept: { Self → Bool };
+
+    /// The fact about an operation, from what is around it.
+    fn of(ctx: &Context, registry: &Registry, around: &Around<'_>) -> Self
+        requires { AroundIsOf ctx.now around.now }
+        ensures { result ≡ fact (gathered_in ctx.now around.now) };
+
+    /// Whether a table may keep the fact about an operation with a name, whatever there is around it.
+    fn concerns(ctx: &Context, name: NameId) -> bool
+        ensures { result ≡ false → (s : SurroundingsOf (List ℕ) TypeTerm AttrTerm) → s.node.head.name ≡ name_term ctx.now name → kept (fact s) ≡ false };
+
+    /// Whether a table keeps it.
+    fn is_kept(&self) -> bool
+        ensures { result ≡ kept self.now };
+}
+
+/// The fact about an operation of the module that the view shows, or none where it isn't there. Memory is asked for
+/// only where it is.
+pub fn fact_at<F: Fact>(
+    alloc: Global,
+    view: &mut View<'_>,
+    op: OpId,
+) -> Result<Option<F>, AllocError>
+    ensures fact { IfOk result (λ f. f ≡ fact_of F.fact (module_in view.old.world.now).tree op) }
+    ensures refused { OnErr result (has_id op (tree_in view.old.world.now) ≡ true) }
+    ensures looks { view.new.looks ≤ view.old.looks + gather_looks (find op (tree_in view.old.world.now)) }
+    ensures world { view.new.world.now ≡ view.old.world.now }
+{
+    match gather(alloc, view, op)? {
+        None => Ok(None),
+        Some(around) => Ok(Some(F::of(view.context(), view.registry(), &around))),
+    }
+}
+
+/// What a table keeps about an operation of the module that the view shows: the fact about it, where that is kept.
+fn kept_at<F: Fact>(alloc: Global, view: &mut View<'_>, op: OpId) -> Result<Option<F>, AllocError>
+    ensures kept { IfOk result (λ f. f ≡ kept_of F.fact F.kept (module_in view.old.world.now).tree op) }
+    ensures looks { view.new.looks ≤ view.old.looks + gather_looks (find op (tree_in view.old.world.now)) }
+    ensures world { view.new.world.now ≡ view.old.world.now }
+{
+    let Some(node) = shown(view, op) else {
+        return Ok(None);
+    };
+    if !F::concerns(view.context(), node.name()) {
+        return Ok(None);
+    }
+    let around = around_of(alloc, view, op, node)?;
+    Ok(if_kept(F::of(view.context(), view.registry(), &around)))
+}
+
+/// A fact, where it is one that a table keeps.
+fn if_kept<F: Fact>(fact: F) -> Option<F>
+    ensures { result ≡ if_kept F.kept fact }
+{
+    if fact.is_kept() { Some(fact) } else { None }
+}
+
+/// Makes what is kept about an operation what it is in the module that the view shows.
+pub(crate) fn renew<F: Fact>(
+    alloc: Global,
+    table: &mut BTreeMap<u32, F>,
+    view: &mut View<'_>,
+    op: OpId,
+) -> Result<(), AllocError>
+    ensures renewed { OnOk result (Renewed (kept_of F.fact F.kept (module_in view.old.world.now).tree) (op ∷ []) (get nat_cmp table.old) (get nat_cmp table.new)) }
+    ensures looks { view.new.looks ≤ view.old.looks + gather_looks (find op (tree_in view.old.world.now)) }
+    ensures world { view.new.world.now ≡ view.old.world.now }
+{
+    match kept_at::<F>(alloc, view, op)? {
+        Some(fact) => {
+            table.insert(op.number(), fact)?;
+        }
+        None => {
+            table.remove(&op.number());
+        }
+    }
+    Ok(())
+}
+
+/// The same of an operation that there may be, where it isn't renewed later.
+fn renew_first<F: Fact>(
+    alloc: Global,
+    table: &mut BTreeMap<u32, F>,
+    view: &mut View<'_>,
+    op: &Option<OpId>,
+    later: &[Option<OpId>],
+) -> Result<(), AllocError>
+    ensures renewed { OnOk result ((final : ℕ → Option F) → Renewed (kept_of F.fact F.kept (module_in view.old.world.now).tree) (somes later.now) (get nat_cmp table.new) final
+        → Renewed (kept_of F.fact F.kept (module_in view.old.world.now).tree) (if_any op.now (somes later.now)) (get nat_cmp table.old) final) }
+    ensures looks { view.new.looks + gathers_for (tree_in view.old.world.now) (somes later.now) ≤ view.old.looks + gathers_for (tree_in view.old.world.now) (if_any op.now (somes later.now)) }
+    ensures world { view.new.world.now ≡ view.old.world.now }
+{
+    let Some(op) = op else {
+        return Ok(());
+    };
+    if is_one_of(*op, later) {
+        return Ok(());
+    }
+    renew(alloc, table, view, *op)
+}
+
+/// Whether an operation is one of a list.
+fn is_one_of(op: OpId, ops: &[Option<OpId>]) -> bool
+    ensures { result ≡ is_one_of op (somes ops.now) }
+{
+    let mut rest = ops;
+    while let [one, more @ ..] = rest {
+        if is_it(one, op) {
+            return true;
+        }
+        rest = more;
+    }
+    false
+}
+
+fn is_it(one: &Option<OpId>, op: OpId) -> bool
+    ensures { result ≡ is_one_of op (if_any one.now []) }
+{
+    match one {
+        None => false,
+        Some(one) => *one == op,
+    }
+}
+
+/// Makes what is kept about operations what it is in the module that the view shows.
+fn renew_each<F: Fact>(
+    alloc: Global,
+    table: &mut BTreeMap<u32, F>,
+    view: &mut View<'_>,
+    ops: &[Option<OpId>],
+) -> Result<(), AllocError>
+    ensures renewed { OnOk result (Renewed (kept_of F.fact F.kept (module_in view.old.world.now).tree) (somes ops.now) (get nat_cmp table.old) (get nat_cmp table.new)) }
+    ensures looks { view.new.looks ≤ view.old.looks + gathers_for (tree_in view.old.world.now) (somes ops.now) }
+    ensures world { view.new.world.now ≡ view.old.world.now }
+{
+    for place in 0..ops.len() {
+        renew_first(alloc, table, view, &ops[place], &ops[place + 1..])?;
+    }
+    Ok(())
+}
+
+/// How many regions an operation of the module has.
+fn region_count(view: &mut View<'_>, op: OpId) -> usize
+    ensures count { result ≡ regions_found (find op (tree_in view.old.world.now)) }
+    ensures few { result ≤ 16 }
+    ensures looks { view.new.looks ≤ view.old.looks + 2 }
+    ensures world { view.new.world.now ≡ view.old.world.now }
+{
+    if !view.in_tree(op) {
+        return 0;
+    }
+    match view.node(op) {
+        None => 0,
+        Some(node) => node.region_count(),
+    }
+}
+
+/// An operation, and the last one of each of its blocks.
+fn lasts(alloc: Global, view: &mut View<'_>, op: OpId) -> Result<Vec<Option<OpId>>, AllocError>
+    ensures ops { IfOk result (λ v. somes v.items ≡ op ∷ lasts_in op (tree_in view.old.world.now)) }
+    ensures looks { view.new.looks ≤ view.old.looks + (2 + regions_found (find op (tree_in view.old.world.now))) }
+    ensures world { view.new.world.now ≡ view.old.world.now }
+{
+    let mut ops = Vec::new(alloc);
+    ops.push(Some(op))?;
+    let count = region_count(view, op);
+    for region in 0..count {
+        let last = view.last(op, region as u32);
+        ops.push(last)?;
+    }
+    Ok(ops)
+}
+
+/// The operations near an event, which led to the module that the view shows.
+fn near_ops(
+    alloc: Global,
+    view: &mut View<'_>,
+    event: &Event,
+) -> Result<Vec<Option<OpId>>, AllocError>
+    ensures ops { IfOk result (λ v. somes v.items ≡ near event.now (tree_in view.old.world.now)) }
+    ensures looks { view.new.looks ≤ view.old.looks + near_looks event.now (tree_in view.old.world.now) }
+    ensures world { view.new.world.now ≡ view.old.world.now }
+{
+    match event {
+        Event::Put { op, place, .. } => {
+            let front = view.prev(*op);
+            [Some(*op), Some(place.parent), front].to_vec(alloc)
+        }
+        Event::Take { op, place, .. } => {
+            let last = view.last(place.parent, place.region);
+            [Some(*op), Some(place.parent), last].to_vec(alloc)
+        }
+        Event::SetOperand { op, .. } => lasts(alloc, view, *op),
+        Event::SetEntry { op, .. } => lasts(alloc, view, *op),
+        Event::Shift { op, old, new } => {
+            let last = view.last(old.parent, old.region);
+            let front = view.prev(*op);
+            [Some(*op), Some(old.parent), Some(new.parent), last, front].to_vec(alloc)
+        }
+    }
+}
+
+/// Makes what is kept about all operations near an event what it is in the module that the view shows, the
+/// one after the event.
+pub fn follow<F: Fact>(
+    alloc: Global,
+    table: &mut BTreeMap<u32, F>,
+    view: &mut View<'_>,
+    event: &Event,
+) -> Result<(), AllocError>
+    ensures renewed { OnOk result (Renewed (kept_of F.fact F.kept (module_in view.old.world.now).tree) (near event.now (module_in view.old.world.now).tree) (get nat_cmp table.old) (get nat_cmp table.new)) }
+    ensures looks { view.new.looks ≤ view.old.looks + most_looks event.now (module_in view.old.world.now).tree }
+    ensures world { view.new.world.now ≡ view.old.world.now }
+{
+    let ops = near_ops(alloc, view, event)?;
+    renew_each(alloc, table, view, &ops)
+}

@@ -1,0 +1,86 @@
+-- Tables to which the roles of operations are added, each behind that of the one that it stands in.
+use Rattle.std.proofs.Common.{◌≡◌, refl, ap, sym, ◌∙◌, subst, ℕ, Bool, true, false, true≢false, ◌||◌, eqb, eq-eqb, eqb-true, List, [], ◌∷◌, Option, Some, None, inl, inr}
+use Rattle.std.specs.Prelude.{option_map, is_some, IfSome}
+use Rattle.std.specs.List.{list_any}
+use Rattle.ir_types.specs.Things.{Things}
+use Rattle.ir_tree.specs.Ids.{ids, has_id}
+use Rattle.ir_tree.specs.Meaning.{Operation}
+use Rattle.ir_tree_laws.specs.Stands.{stands, stand_of}
+use Rattle.ir_tree_laws.proofs.Listed.{bool_cases, neither}
+use Rattle.ir_tree_laws.proofs.Members.{member}
+use Rattle.ir_tree_laws.proofs.Around.{stand_present}
+use Rattle.ir_event.specs.declared.world.World.{World}
+use Rattle.ir_event.specs.Modules.{module_in}
+use Rattle.listeners_symbols.specs.Roles.{Stand, role, role_of}
+use Rattle.listeners_symbols.specs.Table.{Table, Says, Keeps, Renewed, AreRight, Added, RoleIsOf, role_meaning}
+
+-- what is there is something
+pub there_is : {X : Type 0} (o : Option X) → is_some o ≡ true → (x : X) × (o ≡ Some x)
+there_is None e = absurd (true≢false (sym e))
+there_is (Some x) e = (x, refl)
+
+either_one : (a b : Bool) → a ≡ true → (a || b) ≡ true
+either_one a b e = ap (λ z. z || b) e
+
+other_one : (a b : Bool) → b ≡ true → (a || b) ≡ true
+other_one true b e = refl
+other_one false b e = e
+
+module _ (c : Things) (t : Operation) where
+  pub added_none : (f : Table) → Added c t [] f f
+  added_none f = record { right = λ h r. r; there = λ x e. absurd (true≢false (sym e)); others = λ x e. refl }
+
+  -- the table after one was renewed
+  renewed_right : (x : ℕ) (f g : Table) → Renewed c t x f g → has_id x t ≡ true → AreRight c t f → AreRight c t g
+  renewed_right x f g r has right y k e = elim (bool_cases (eqb x y)) [
+    | inr apart ↦ right y k (sym (r.others y apart) ∙ e)
+    | inl same ↦ (let i = eqb-true x y same in
+        let own : Says c (role_of t x) (g x) = r.own has (λ p j. let z = there_is (f p) (r.parent p j) in subst (Says c (role_of t p)) (sym z.1) (right p z.0 z.1)) in
+        subst (λ z. Says c (role_of t z) (Some k)) i (subst (Says c (role_of t x)) (ap g i ∙ e) own))
+  ]
+
+  pub added_one : (x : ℕ) (xs : List ℕ) (f g h : Table) → Renewed c t x f g → Added c t xs g h → Added c t (x ∷ xs) f h
+  added_one x xs f g h r a = record {
+    right = λ all right. a.right (λ y k. all y (other_one (eqb x y) (list_any (λ z. eqb z y) xs) k)) (renewed_right x f g r (all x (either_one (eqb x x) (list_any (λ z. eqb z x) xs) (eq-eqb x x refl))) right);
+    there = λ y k. there y k (list_any (λ z. eqb z y) xs) refl;
+    others = λ y k. (let n = neither (eqb x y) (list_any (λ z. eqb z y) xs) k in a.others y n.1 ∙ r.others y n.0);
+  }
+    where
+      there : (y : ℕ) → (eqb x y || list_any (λ z. eqb z y) xs) ≡ true → (b : Bool) → list_any (λ z. eqb z y) xs ≡ b → is_some (h y) ≡ true
+      there y k true e = a.there y e
+      there y k false e = elim (bool_cases (eqb x y)) [
+        | inl i ↦ ap is_some (a.others y e) ∙ ap (λ z. is_some (g z)) (sym (eqb-true x y i)) ∙ r.there
+        | inr i ↦ absurd (true≢false (sym k ∙ (λ j. i j || e j)))
+      ]
+
+  no_role : (y : ℕ) → list_any (λ z. eqb z y) (ids t) ≡ false → role_of t y ≡ None
+  no_role y e = go (stand_of y t) refl
+    where
+      go : (o : Option Stand) → stand_of y t ≡ o → role_of t y ≡ None
+      go None f = ap (option_map (role t)) f
+      go (Some s) f =
+          let m = member y (stands [] t) s f in
+          absurd (true≢false (sym (stand_present [] t s m.0) ∙ ap (λ k. list_any (λ z. eqb z k) (ids t)) m.1 ∙ e))
+
+  -- what is kept of a whole tree
+  pub all_added : (xs : List ℕ) (f g : Table) → xs ≡ ids t → ((y : ℕ) → f y ≡ None) → Added c t xs f g → Keeps c t g
+  all_added xs f g e vacant a y = go (list_any (λ z. eqb z y) xs) refl
+    where
+      right : AreRight c t g
+      right = a.right (λ x k. ap (list_any (λ z. eqb z x)) (sym e) ∙ k) (λ x k i. (let no : None ≡ Some k = sym (vacant x) ∙ i in absurd cc))
+
+      go : (b : Bool) → list_any (λ z. eqb z y) xs ≡ b → Says c (role_of t y) (g y)
+      go true i = (let z = there_is (g y) (a.there y i) in subst (Says c (role_of t y)) (sym z.1) (right y z.0 z.1))
+      go false i =
+          let none : g y ≡ None = a.others y i ∙ vacant y in
+          record { is = ap (option_map (role_meaning c)) none ∙ sym (no_role y (ap (list_any (λ z. eqb z y)) (sym e) ∙ i)); known = subst (λ o. IfSome o (RoleIsOf c)) (sym none) tt }
+
+-- the same in a world that is equal
+pub renewed_in : (u w : World) → u ≡ w → (x : ℕ) (f g : Table) → Renewed u.ctx (module_in u).tree x f g → Renewed w.ctx (module_in w).tree x f g
+renewed_in u w e x f g r = subst (λ (z : World). Renewed z.ctx (module_in z).tree x f g) e r
+
+pub added_as : (c : Things) (t : Operation) (xs ys : List ℕ) (f g : Table) → xs ≡ ys → Added c t xs f g → Added c t ys f g
+added_as c t xs ys f g e a = subst (λ l. Added c t l f g) e a
+
+pub added_in : (u w : World) → u ≡ w → (xs : List ℕ) (f g : Table) → Added u.ctx (module_in u).tree xs f g → Added w.ctx (module_in w).tree xs f g
+added_in u w e xs f g r = subst (λ (z : World). Added z.ctx (module_in z).tree xs f g) e r

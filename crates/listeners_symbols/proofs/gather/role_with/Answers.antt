@@ -1,0 +1,21 @@
+use Rattle.std.proofs.Common.{◌∙◌, ap}
+use Rattle.ir_types.specs.Terms.{name_term}
+use Rattle.ir_types.specs.Words.{is_table}
+use Rattle.listeners_symbols.proofs.Meant.{references_meant, call_meant, function_meant}
+use Rattle.listeners_symbols.proofs.gather.role_with.Goals as goal
+
+pub returns : goal.returns
+returns c types e =
+    let ctx = c.args.ctx.now in
+    record {
+      is = λ i. record {
+        home = c.args.tables.now.home;
+        table = c.args.tables.now.table;
+        is_table = (c.table.ensures ∙ ap (λ n. is_table (name_term ctx n)) c.name.ensures) i;
+        symbol = c.symbol_of.ensures.symbol i;
+        references = (references_meant ctx c.in_ok-references.references.items ∙ c.in_ok-references.ensures.references) i;
+        call = (call_meant ctx c.args.call ∙ e) i;
+        function = (function_meant ctx c.in_ok-function.function ∙ c.in_ok-function.ensures.signature) i;
+      };
+      known = record { symbol = c.symbol_of.ensures.known; references = c.in_ok-references.ensures.known; call = c.requires.call; function = c.in_ok-function.ensures.known };
+    }

@@ -1,0 +1,38 @@
+-- The rows that a table of roles gives, in numbers.
+use Rattle.std.specs.Prelude.{◌≡◌, ℕ, List, map, eqb, Option, option_map}
+use Rattle.std.specs.Ordering.{nat_cmp, ordering_then}
+use Rattle.std.specs.declared.cmp.Ordering.{Ordering}
+use Rattle.std.specs.BTreeMap.{BTreeMap}
+use Rattle.std.specs.BTreeMap as tree
+use Rattle.ir_event.specs.declared.row.Cell.{Cell}
+use Rattle.ir_event.specs.declared.row.Cell.TheVariants as cell
+use Rattle.ir_event.specs.declared.row.Row.{Row}
+use Rattle.listeners_symbols.specs.declared.role.Role.{Role as Numbers}
+use Rattle.listeners_symbols.specs.Table.{role_numbers}
+use Rattle.listeners_symbols.specs.Listeners.{kept_at}
+use Rattle.listeners_symbols.specs.Symbols.{RolesOf, RoleAt, LineOf, DefinitionOf, first_defined, line_cells}
+
+-- the roles of a table in the order of ids, and by their ids
+abbrev pub numbered : List (ℕ × Numbers) → RolesOf ℕ ℕ ℕ
+numbered es = map (λ (e : ℕ × Numbers). (e.0, role_numbers e.1)) es
+
+abbrev pub numbers_at : BTreeMap ℕ Numbers → RoleAt ℕ ℕ ℕ
+numbers_at m x = option_map role_numbers (kept_at m x)
+
+-- the cells of rows, and of lines
+abbrev pub cells_of : List Row → List (List Cell)
+cells_of rows = map (λ (r : Row). r.cells.items) rows
+
+abbrev pub lines_cells : List (LineOf ℕ ℕ) → List (List Cell)
+lines_cells ls = map (line_cells cell.Tag cell.Op cell.Name cell.Path) ls
+
+-- the order of names in tables, and what a map has at one
+abbrev pub key_cmp : ℕ × ℕ → ℕ × ℕ → Ordering
+key_cmp k l = ordering_then (nat_cmp k.0 l.0) (nat_cmp k.1 l.1)
+
+abbrev pub first_in : BTreeMap (ℕ × ℕ) ℕ → ℕ → ℕ → Option ℕ
+first_in m table name = tree.get key_cmp m (table, name)
+
+-- a map has the first definition of each name
+abbrev pub HasFirst : List (DefinitionOf ℕ) → BTreeMap (ℕ × ℕ) ℕ → Type 0
+HasFirst ds m = (table name : ℕ) → first_in m table name ≡ first_defined eqb table name ds

@@ -1,0 +1,29 @@
+-- What the listener means.
+use Rattle.std.specs.Prelude.{◌≡◌, ℕ, ◌+◌, false, None}
+use Rattle.std.specs.Ordering.{nat_cmp}
+use Rattle.std.specs.BTreeMap.{BTreeMap}
+use Rattle.std.specs.BTreeMap as tree
+use Rattle.ir_types.proofs.Growth.{grows_trans}
+use Rattle.ir_event.specs.Bounds.{operands_of}
+use Rattle.ir_event.specs.Listener.{Listener}
+use Rattle.listeners_symbols.specs.declared.role.Role.{Role as Numbers}
+use Rattle.listeners_symbols.specs.declared.symbols.Symbols.{Symbols}
+use Rattle.listeners_symbols.specs.Symbols.{symbol_rows}
+use Rattle.listeners_symbols.specs.Table.{Table, IsKept}
+
+-- what a map keeps of an operation
+abbrev pub kept_at : BTreeMap ℕ Numbers → Table
+kept_at m = tree.get nat_cmp m
+
+-- the table keeps the roles of the operations of the module
+abbrev pub symbols_listener : Symbols → Listener
+symbols_listener s = record {
+  kind = 2;
+  analysis = symbol_rows;
+  agrees = λ c m. (s.stale ≡ false) × IsKept c m.tree (kept_at s.roles);
+  stale = s.stale;
+  heard = None;
+  most = λ e m n. 2 + operands_of e m n;
+  fresh = λ c m h. h.0;
+  grows = λ c d m holds also g h. (h.0, record { from = h.1.from; sound = h.1.sound; grown = grows_trans h.1.from c d h.1.grown g; keeps = h.1.keeps });
+}

@@ -1,0 +1,149 @@
+-- What the operations of a tree have to do with symbols: where they stand among symbol tables, which symbols they are,
+-- which they refer to, and what they call (Symbols and Symbol Tables).
+use Rattle.std.specs.Prelude.{ℕ, List, [], ◌∷◌, ◌++◌, map, codes, Bool, ◌||◌, if◌then◌else◌, Option, Some, None, option_map, option_and_then}
+use Rattle.std.specs.List.{list_any}
+use Rattle.std.specs.Str.{bytes_eq}
+use Rattle.std.specs.Cmp.Lexicographic.{pointwise}
+use Rattle.ir_types.specs.Terms.{TypeTerm, AttrTerm, IntegerOf, String, TypeOf, Flag, Array, Dictionary, Symbol, DenseArray, Overflow, AttrTerms, no_attrs, next_attr, EntryTerms, no_entries, next_entry}
+use Rattle.ir_types.specs.Words.{is_table}
+use Rattle.ir_tree.specs.Tree.{HeadOf, head}
+use Rattle.ir_tree.specs.Meaning.{Operation}
+use Rattle.ir_tree_laws.specs.Values.{type_of_value}
+use Rattle.ir_tree_laws.specs.Stands.{StepOf, StandOf, stand_of, table_in}
+use Rattle.op_registry.specs.Registry.{beside}
+use Rattle.op_registry.specs.Properties.{string_of, type_of}
+use Rattle.listeners_symbols.specs.Types.{function_of}
+
+-- a symbol reference: the attribute, and its parts
+abbrev pub ReferenceOf : Type 0 → Type 0 → Type 0
+ReferenceOf N A = A × List N
+
+-- a call: the parts of the symbol that it calls, the types of its operands, as far as these have one, and of its results
+pub record CallOf (N T : Type 0) : Type 0 where
+  pub callee : List N
+  pub inputs : List (Option T)
+  pub outputs : List T
+
+-- what an operation has to do with symbols
+pub record RoleOf (N T A : Type 0) : Type 0 where
+  -- the symbol table whose symbol it can be: the operation around it, where that is one
+  pub home : Option ℕ
+  -- the symbol table in which its references are resolved
+  pub table : Option ℕ
+  -- whether it is a symbol table
+  pub is_table : Bool
+  -- the name that it has as a symbol
+  pub symbol : Option N
+  -- the symbol references in its dictionaries, each once
+  pub references : List (ReferenceOf N A)
+  -- its call, where it calls a symbol
+  pub call : Option (CallOf N T)
+  -- its inputs and outputs, where it is a function
+  pub function : Option (List T × List T)
+
+abbrev pub Role : Type 0
+Role = RoleOf (List ℕ) TypeTerm AttrTerm
+
+abbrev pub Head : Type 0
+Head = HeadOf (List ℕ) TypeTerm AttrTerm
+
+abbrev pub Stand : Type 0
+Stand = StandOf (List ℕ) TypeTerm AttrTerm
+
+-- the symbols are functions and modules, with a string as `sym_name`
+abbrev pub is_function : List ℕ → Bool
+is_function name = bytes_eq name (codes "func.func")
+
+abbrev pub is_call : List ℕ → Bool
+is_call name = bytes_eq name (codes "func.call")
+
+abbrev pub symbol_of : Head → Option (List ℕ)
+symbol_of h = if is_table h.name || is_function h.name then option_and_then string_of (beside (codes "sym_name") h.properties) else None
+
+-- the inputs and outputs of a function, by its `function_type`
+abbrev pub signature_of : Head → Option (List TypeTerm × List TypeTerm)
+signature_of h = if is_function h.name then option_and_then function_of (option_and_then type_of (beside (codes "function_type") h.properties)) else None
+
+-- the parts of a symbol reference
+abbrev pub parts_of : AttrTerm → Option (List (List ℕ))
+parts_of (Symbol parts) = Some parts
+parts_of _ = None
+
+-- what an operation calls, by its `callee`
+abbrev pub callee_of : Head → Option (List (List ℕ))
+callee_of h = if is_call h.name then option_and_then parts_of (beside (codes "callee") h.properties) else None
+
+-- the call of an operation whose operands have these types
+abbrev pub call_of : Head → List (Option TypeTerm) → Option (CallOf (List ℕ) TypeTerm)
+call_of h types = option_map (λ callee. record { callee = callee; inputs = types; outputs = h.results }) (callee_of h)
+
+abbrev pub References : Type 0
+References = List (ReferenceOf (List ℕ) AttrTerm)
+
+-- whether a reference has these parts
+abbrev pub has_parts : List (List ℕ) → ReferenceOf (List ℕ) AttrTerm → Bool
+has_parts parts p = pointwise bytes_eq parts p.1
+
+-- references with one more, where that isn't among them
+abbrev pub with_reference : References → ReferenceOf (List ℕ) AttrTerm → References
+with_reference seen p = if list_any (has_parts p.1) seen then seen else seen ++ p ∷ []
+
+-- references with those in an attribute, depth first
+abbrev mutual
+  pub with_symbols : References → AttrTerm → References
+  with_symbols seen (IntegerOf ty value) = seen
+  with_symbols seen (String bytes) = seen
+  with_symbols seen (TypeOf ty) = seen
+  with_symbols seen Flag = seen
+  with_symbols seen (Array items) = with_each seen items
+  with_symbols seen (Dictionary entries) = with_entries seen entries
+  with_symbols seen (Symbol parts) = with_reference seen (Symbol parts, parts)
+  with_symbols seen (DenseArray ty values) = seen
+  with_symbols seen (Overflow nsw nuw) = seen
+
+  pub with_each : References → AttrTerms → References
+  with_each seen no_attrs = seen
+  with_each seen (next_attr a rest) = with_each (with_symbols seen a) rest
+
+  pub with_entries : References → EntryTerms → References
+  with_entries seen no_entries = seen
+  with_entries seen (next_entry key a rest) = with_entries (with_symbols seen a) rest
+
+-- with those in a dictionary, in the order of its keys
+abbrev pub with_dictionary : References → List (List ℕ × AttrTerm) → References
+with_dictionary seen [] = seen
+with_dictionary seen (e ∷ es) = with_dictionary (with_symbols seen e.1) es
+
+-- those of an operation, each once, in the order in which they occur first: properties, then attributes
+abbrev pub references_of : Head → References
+references_of h = with_dictionary (with_dictionary [] h.properties) h.attributes
+
+-- the operation around, where it is a symbol table
+abbrev pub home_of : List (StepOf (List ℕ) TypeTerm AttrTerm) → Option ℕ
+home_of [] = None
+home_of (a ∷ path) = if is_table (head a.parent).name then Some (head a.parent).id else None
+
+-- the nearest symbol table around an operation; the root is its own, where it is one
+abbrev pub table_at : Head → List (StepOf (List ℕ) TypeTerm AttrTerm) → Option ℕ
+table_at h [] = if is_table h.name then Some h.id else None
+table_at h (a ∷ path) = table_in is_table (a ∷ path)
+
+-- the role of an operation with these tables, whose operands have these types
+abbrev pub role_from : Option ℕ → Option ℕ → Head → List (Option TypeTerm) → Role
+role_from home table h types = record {
+  home = home;
+  table = table;
+  is_table = is_table h.name;
+  symbol = symbol_of h;
+  references = references_of h;
+  call = call_of h types;
+  function = signature_of h;
+}
+
+-- the role of an operation where it stands in a tree
+abbrev pub role : Operation → Stand → Role
+role t s = role_from (home_of s.path) (table_at (head s.here) s.path) (head s.here) (map (λ v. type_of_value v t) (head s.here).operands)
+
+-- that of operation x, if it is there
+abbrev pub role_of : Operation → ℕ → Option Role
+role_of t x = option_map (role t) (stand_of x t)

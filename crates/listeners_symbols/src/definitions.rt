@@ -1,0 +1,115 @@
+//! The definitions of symbols.
+ghost use Rattle.std.specs.Prelude.{◌≡◌, ◌++◌, [], ◌∷◌, ℕ, eqb, OnOk, IfOk};
+ghost use Rattle.ir_tree.specs.Ids.{first_of};
+ghost use Rattle.listeners_symbols.specs.Symbols.{definitions, defined, first_defined};
+ghost use Rattle.listeners_symbols.specs.Lines.{HasFirst, first_in, numbered};
+
+use crate::role::Role;
+use ir_types::ids::{NameId, OpId};
+use std::alloc::{AllocError, Global};
+use std::collections::BTreeMap;
+use std::marker::Model;
+
+/// A definition: the table and the name, and the operation.
+pub(crate) type Definition = ((OpId, NameId), OpId);
+
+/// Definitions in the order of the operations' ids: a contract sees the list.
+#[derive(Drop)]
+pub(crate) struct Definitions {
+    list: Vec<Definition>,
+    /// Of each name in a table the first one.
+    first: BTreeMap<(OpId, NameId), OpId>,
+}
+
+impl Model for Definitions {
+    ghost use Rattle.std.specs.Prelude.{List, ℕ};
+
+    ghost Value = { List ((ℕ × ℕ) × ℕ) };
+
+    ghost use Rattle.listeners_symbols.specs.Lines.{HasFirst};
+
+    ghost view = { λ d. d.list.items };
+
+    ghost invariant = { λ d. HasFirst d.list.items d.first };
+}
+
+impl Definitions {
+    /// The definitions, in the order of the operations' ids.
+    pub(crate) fn list(&self) -> &[Definition]
+        ensures { result.now ≡ self.now }
+    {
+        &self.list
+    }
+
+    /// The operation that a name is in a table: of several definitions the first one.
+    pub(crate) fn first(&self, table: OpId, name: NameId) -> Option<OpId>
+        ensures { result ≡ first_defined eqb table name self.now }
+    {
+        self.first.get(&(table, name)).copied()
+    }
+}
+
+/// Adds the definition that an operation is, if it is one.
+fn push_definition(op: OpId, role: &Role, out: &mut Vec<Definition>) -> Result<(), AllocError>
+    ensures { OnOk result (out.new.items ≡ out.old.items ++ defined role.now.home role.now.symbol op) }
+{
+    let Some(table) = role.home else {
+        return Ok(());
+    };
+    let Some(name) = role.symbol else {
+        return Ok(());
+    };
+    out.push(((table, name), op))?;
+    Ok(())
+}
+
+/// The list of the definitions of a table of roles, in the order of the operations' ids.
+fn listed(alloc: Global, roles: &BTreeMap<OpId, Role>) -> Result<Vec<Definition>, AllocError>
+    ensures { IfOk result (λ v. v.items ≡ definitions (numbered roles.now.entries)) }
+{
+    let mut out = Vec::new(alloc);
+    for (op, role) in roles {
+        push_definition(*op, role, &mut out)?;
+    }
+    Ok(out)
+}
+
+/// Adds a definition, where none of its name in its table is there.
+fn add_first(
+    definition: &Definition,
+    first: &mut BTreeMap<(OpId, NameId), OpId>,
+) -> Result<(), AllocError>
+    ensures { OnOk result ((table name : ℕ) → first_in first.new table name ≡ first_of (first_in first.old table name) (first_defined eqb table name (definition.now ∷ []))) }
+{
+    let (key, op) = *definition;
+    if first.get(&key).is_some() {
+        return Ok(());
+    }
+    first.insert(key, op)?;
+    Ok(())
+}
+
+/// Of each name in a table the first definition.
+fn firsts(alloc: Global, list: &[Definition]) -> Result<BTreeMap<(OpId, NameId), OpId>, AllocError>
+    ensures { IfOk result (λ m. HasFirst list.now m) }
+{
+    let mut first = BTreeMap::new(alloc);
+    let mut rest = list;
+    while let [definition, more @ ..] = rest {
+        add_first(definition, &mut first)?;
+        rest = more;
+    }
+    Ok(first)
+}
+
+/// The definitions of a table of roles.
+pub(crate) fn definitions_of(
+    alloc: Global,
+    roles: &BTreeMap<OpId, Role>,
+) -> Result<Definitions, AllocError>
+    ensures { IfOk result (λ d. d ≡ definitions (numbered roles.now.entries)) }
+{
+    let list = listed(alloc, roles)?;
+    let first = firsts(alloc, &list)?;
+    Ok(Definitions { list, first })
+}

@@ -1,0 +1,173 @@
+//! What an operation has to do with symbols is gathered from a view, with at most two looks and one for each operand.
+ghost use Rattle.std.specs.Prelude.{◌≡◌, ◌≤◌, ◌+◌, ℕ, List, Option, Some, true, IfOk, IfSome, is_some, length, map, option_map};
+ghost use Rattle.std.specs.List.{All};
+ghost use Rattle.ir_types.specs.Things.{IsName, IsType};
+ghost use Rattle.ir_types.specs.Terms.{TypeTerm, type_term, name_term};
+ghost use Rattle.ir_tree_laws.specs.Reads.{parent_of};
+ghost use Rattle.ir_tree_laws.specs.Values.{type_of_value};
+ghost use Rattle.ir_store.specs.Nodes.{node_of};
+ghost use Rattle.ir_store.specs.Stored.{known};
+ghost use Rattle.ir_event.specs.Bounds.{operand_count};
+ghost use Rattle.ir_event.specs.Modules.{NodeIsOf, module_in};
+ghost use Rattle.listeners_symbols.specs.Roles.{call_of as call_from};
+ghost use Rattle.listeners_symbols.specs.Listeners.{kept_at};
+ghost use Rattle.listeners_symbols.specs.Table.{CallIsOf, IsReadAs, IsRight, call_meaning, head_meaning, tables_for, tables_in, tree_in};
+
+use crate::properties::{callee_of, function_of, symbol_of};
+use crate::references::references_of;
+use crate::role::{Call, Role, Tables};
+use ir_event::view::View;
+use ir_store::node::Node;
+use ir_tree::value::Value;
+use ir_types::context::Context;
+use ir_types::ids::{NameId, OpId, TypeId};
+use std::alloc::{AllocError, Global};
+use std::collections::BTreeMap;
+
+/// The tables of an operation that stands in another.
+fn tables_in(role: &Role, parent: OpId) -> Tables
+    ensures { result ≡ tables_in parent role.now }
+{
+    if role.is_table {
+        Tables {
+            home: Some(parent),
+            table: Some(parent),
+        }
+    } else {
+        Tables {
+            home: None,
+            table: role.table,
+        }
+    }
+}
+
+/// The tables of an operation that the view shows, or none where what it stands in isn't kept.
+fn tables_of(
+    roles: &BTreeMap<OpId, Role>,
+    view: &mut View<'_>,
+    op: OpId,
+    is_table: bool,
+) -> Option<Tables>
+    ensures tables { result ≡ tables_for (kept_at roles.now) op is_table (parent_of op (tree_in view.old.world.now)) }
+    ensures looks { view.new.looks ≤ view.old.looks + 1 }
+    ensures world { view.new.world.now ≡ view.old.world.now }
+{
+    match view.parent(op) {
+        Some(parent) => Some(tables_in(roles.get(&parent)?, parent)),
+        None => Some(Tables {
+            home: None,
+            table: if is_table { Some(op) } else { None },
+        }),
+    }
+}
+
+/// The types of the operands of an operation of the module.
+fn types_of(alloc: Global, view: &mut View<'_>, values: &[Value]) -> Result<Vec<TypeId>, AllocError>
+    ensures types { IfOk result (λ v. map Some v.items ≡ map (λ x. type_of_value x (tree_in view.old.world.now)) values.now) }
+    ensures known { IfOk result (λ v. All (λ t. IsType view.old.world.now.ctx t) v.items) }
+    ensures looks { view.new.looks ≤ view.old.looks + length values.now }
+    ensures world { view.new.world.now ≡ view.old.world.now }
+{
+    let mut types = Vec::with_capacity(alloc, values.len())?;
+    for value in values {
+        let ty = type_of(view, value)?;
+        types.push(ty)?;
+    }
+    Ok(types)
+}
+
+/// The type of a value of the module.
+fn type_of(view: &mut View<'_>, value: &Value) -> Result<TypeId, AllocError>
+    ensures ty { IfOk result (λ t. type_of_value value.now (tree_in view.old.world.now) ≡ Some t) }
+    ensures known { IfOk result (λ t. IsType view.old.world.now.ctx t) }
+    ensures looks { view.new.looks ≤ view.old.looks + 1 }
+    ensures world { view.new.world.now ≡ view.old.world.now }
+{
+    view.value_type(*value).ok_or(AllocError)
+}
+
+/// The call of these parts by an operation.
+fn call_with(
+    alloc: Global,
+    view: &mut View<'_>,
+    node: &Node<'_>,
+    callee: &[NameId],
+) -> Result<Call, AllocError>
+    requires node { NodeIsOf view.old.world.now.ctx node.now }
+    requires callee { All (IsName view.old.world.now.ctx) callee.now }
+    ensures call { IfOk result (λ k. call_meaning view.old.world.now.ctx k ≡ record { callee = map (name_term view.old.world.now.ctx) callee.now; inputs = map (λ v. type_of_value v (module_in view.old.world.now).tree) node.now.head.operands; outputs = map (type_term view.old.world.now.ctx) node.now.head.results }) }
+    ensures known { IfOk result (CallIsOf view.old.world.now.ctx) }
+    ensures looks { view.new.looks ≤ view.old.looks + length node.now.head.operands }
+    ensures world { view.new.world.now ≡ view.old.world.now }
+{
+    let callee = Vec::from_slice(alloc, callee)?;
+    let outputs = Vec::from_slice(alloc, node.results())?;
+    let inputs = types_of(alloc, view, node.operands())?;
+    Ok(Call {
+        callee,
+        inputs,
+        outputs,
+    })
+}
+
+/// The call of an operation, where it calls a symbol.
+fn call_of(alloc: Global, view: &mut View<'_>, node: &Node<'_>) -> Result<Option<Call>, AllocError>
+    requires { NodeIsOf view.old.world.now.ctx node.now }
+    ensures call { IfOk result (λ k. option_map (call_meaning view.old.world.now.ctx) k ≡ call_from (head_meaning view.old.world.now.ctx node.now.head) (map (λ v. type_of_value v (module_in view.old.world.now).tree) node.now.head.operands)) }
+    ensures known { IfOk result (λ k. IfSome k (CallIsOf view.old.world.now.ctx)) }
+    ensures looks { view.new.looks ≤ view.old.looks + length node.now.head.operands }
+    ensures world { view.new.world.now ≡ view.old.world.now }
+{
+    let Some(callee) = callee_of(view.context(), node) else {
+        return Ok(None);
+    };
+    Ok(Some(call_with(alloc, view, node, callee)?))
+}
+
+/// What an operation with these tables and this call has to do with symbols.
+fn role_with(
+    alloc: Global,
+    ctx: &Context,
+    node: &Node<'_>,
+    tables: &Tables,
+    call: Option<Call>,
+) -> Result<Role, AllocError>
+    requires node { NodeIsOf ctx.now node.now }
+    requires call { IfSome call (CallIsOf ctx.now) }
+    ensures { IfOk result (λ r. (types : List (Option TypeTerm)) → option_map (call_meaning ctx.now) call ≡ call_from (head_meaning ctx.now node.now.head) types → IsReadAs ctx.now (head_meaning ctx.now node.now.head) types tables.now r) }
+{
+    let references = references_of(alloc, ctx, node)?;
+    let function = function_of(alloc, ctx, node)?;
+    Ok(Role {
+        home: tables.home,
+        table: tables.table,
+        is_table: ctx.table(node.name()),
+        symbol: symbol_of(ctx, node),
+        references,
+        call,
+        function,
+    })
+}
+
+/// What an operation, which the view shows as this one, has to do with symbols. It is refused where memory is, or where
+/// what the operation stands in isn't kept.
+pub(crate) fn gather(
+    alloc: Global,
+    roles: &BTreeMap<OpId, Role>,
+    view: &mut View<'_>,
+    op: OpId,
+    node: &Node<'_>,
+) -> Result<Role, AllocError>
+    requires { option_map node_of (known op view.old.world.now.store) ≡ Some node.now }
+    ensures parent { IfOk result (λ _. (p : ℕ) → parent_of op (module_in view.old.world.now).tree ≡ Some p → is_some (kept_at roles.now p) ≡ true) }
+    ensures role { IfOk result (λ r. IsRight view.old.world.now.ctx (module_in view.old.world.now).tree op (kept_at roles.now) (Some r)) }
+    ensures looks { view.new.looks ≤ view.old.looks + (1 + operand_count (known op view.old.world.now.store)) }
+    ensures world { view.new.world.now ≡ view.old.world.now }
+{
+    let is_table = view.context().table(node.name());
+    let Some(tables) = tables_of(roles, view, op, is_table) else {
+        return Err(AllocError);
+    };
+    let call = call_of(alloc, view, node)?;
+    role_with(alloc, view.context(), node, &tables, call)
+}

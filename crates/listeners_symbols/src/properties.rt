@@ -1,0 +1,209 @@
+//! What an operation's properties say of symbols.
+ghost use Rattle.std.specs.Prelude.{◌≡◌, IfSome, IfOk, List, [], ℕ, map, slice_index_or};
+ghost use Rattle.std.specs.List.{All};
+ghost use Rattle.std.specs.Option.{option_map};
+ghost use Rattle.std.specs.Str.{bytes_eq};
+ghost use Rattle.ir_types.specs.Things.{Things, IsName, IsAttr, IsType, AttrIsOf, TypeIsOf};
+ghost use Rattle.ir_types.specs.Terms.{TypeTerm, AttrTerm, attr_from, attr_term, type_at, type_from, name_term, type_term};
+ghost use Rattle.ir_types.specs.WordNames.{word_bytes};
+ghost use Rattle.ir_tree.specs.Maps.{map_entry};
+ghost use Rattle.op_registry.specs.Registry.{beside};
+ghost use Rattle.op_registry.specs.Properties as properties;
+ghost use Rattle.ir_event.specs.Modules.{NodeIsOf};
+ghost use Rattle.listeners_symbols.specs.Types as types;
+ghost use Rattle.listeners_symbols.specs.Roles as roles;
+ghost use Rattle.listeners_symbols.specs.Table.{head_meaning, signature_meaning, SignatureIsOf};
+
+use crate::role::Signature;
+use ir_store::node::Node;
+use ir_types::context::Context;
+use ir_types::ids::{AttrId, NameId, TypeId};
+use ir_types::node::{AttrNode, TypeNode};
+use ir_types::word::Word;
+use op_registry::things::{attr_of, type_of};
+use std::alloc::{AllocError, Global};
+
+/// The attribute at a key of a dictionary, if there is one.
+fn entry(ctx: &Context, entries: &[(NameId, AttrId)], key: Word) -> Option<AttrId>
+    requires { All (λ e. IsName ctx.now e.0 × IsAttr ctx.now e.1) entries.now }
+    ensures entry { option_map (attr_term ctx.now) result ≡ beside (word_bytes key) (map (map_entry (name_term ctx.now) (attr_term ctx.now)) entries.now) }
+    ensures attr { IfSome result (λ a. IsAttr ctx.now a) }
+{
+    let mut rest = entries;
+    while let [(name, attr), tail @ ..] = rest {
+        if is_key(ctx, *name, key) {
+            return Some(*attr);
+        }
+        rest = tail;
+    }
+    None
+}
+
+/// Whether a name is that of a key.
+#[tactic(auto, using(crate::proofs::Names::turned))]
+fn is_key(ctx: &Context, name: NameId, key: Word) -> bool
+    ensures { result ≡ bytes_eq (word_bytes key) (name_term ctx.now name) }
+{
+    ctx.is_word(name, key)
+}
+
+/// The string that an attribute is, by the number of its bytes.
+fn string_of(ctx: &Context, attr: AttrId) -> Option<NameId>
+    requires { IsAttr ctx.now attr }
+    ensures string { option_map (name_term ctx.now) result ≡ properties.string_of (attr_term ctx.now attr) }
+    ensures known { IfSome result (λ n. IsName ctx.now n) }
+{
+    string_in(attr_of(ctx, attr))
+}
+
+fn string_in(node: &AttrNode) -> Option<NameId>
+    ensures string { (names : List (List ℕ)) (types : List TypeTerm) (attrs : List AttrTerm) → option_map (λ n. slice_index_or names n []) result ≡ properties.string_of (attr_from names types attrs node.now) }
+    ensures known { (c : Things) → AttrIsOf c node.now → IfSome result (λ n. IsName c n) }
+{
+    match node {
+        AttrNode::Int { .. } => None,
+        AttrNode::Str(name) => Some(*name),
+        AttrNode::Ty(_) => None,
+        AttrNode::Unit => None,
+        AttrNode::Array(_) => None,
+        AttrNode::Dict(_) => None,
+        AttrNode::Sym(_) => None,
+        AttrNode::Dense { .. } => None,
+        AttrNode::Overflow { .. } => None,
+    }
+}
+
+/// The name that an operation has as a symbol.
+pub(crate) fn symbol_of(ctx: &Context, node: &Node<'_>) -> Option<NameId>
+    requires { NodeIsOf ctx.now node.now }
+    ensures symbol { option_map (name_term ctx.now) result ≡ roles.symbol_of (head_meaning ctx.now node.now.head) }
+    ensures known { IfSome result (λ n. IsName ctx.now n) }
+{
+    if !ctx.table(node.name()) && !ctx.is_word(node.name(), Word::FuncFunc) {
+        return None;
+    }
+    let attr = entry(ctx, node.properties(), Word::SymName)?;
+    string_of(ctx, attr)
+}
+
+/// The parts of the symbol that an operation calls, if it calls one.
+pub(crate) fn callee_of<'a>(ctx: &'a Context, node: &Node<'_>) -> Option<&'a [NameId]>
+    requires { NodeIsOf ctx.now node.now }
+    ensures parts { option_map (λ parts. map (name_term ctx.now) parts.now) result ≡ roles.callee_of (head_meaning ctx.now node.now.head) }
+    ensures known { IfSome result (λ parts. All (IsName ctx.now) parts.now) }
+{
+    if !ctx.is_word(node.name(), Word::FuncCall) {
+        return None;
+    }
+    let attr = entry(ctx, node.properties(), Word::Callee)?;
+    parts_of(ctx, attr)
+}
+
+/// The parts of a symbol reference.
+fn parts_of(ctx: &Context, attr: AttrId) -> Option<&[NameId]>
+    requires { IsAttr ctx.now attr }
+    ensures parts { option_map (λ parts. map (name_term ctx.now) parts.now) result ≡ roles.parts_of (attr_term ctx.now attr) }
+    ensures known { IfSome result (λ parts. All (IsName ctx.now) parts.now) }
+{
+    parts_in(attr_of(ctx, attr))
+}
+
+fn parts_in(node: &AttrNode) -> Option<&[NameId]>
+    ensures parts { (names : List (List ℕ)) (types : List TypeTerm) (attrs : List AttrTerm) → option_map (λ parts. map (λ n. slice_index_or names n []) parts.now) result ≡ roles.parts_of (attr_from names types attrs node.now) }
+    ensures known { (c : Things) → AttrIsOf c node.now → IfSome result (λ parts. All (IsName c) parts.now) }
+{
+    match node {
+        AttrNode::Int { .. } => None,
+        AttrNode::Str(_) => None,
+        AttrNode::Ty(_) => None,
+        AttrNode::Unit => None,
+        AttrNode::Array(_) => None,
+        AttrNode::Dict(_) => None,
+        AttrNode::Sym(parts) => Some(parts.as_slice()),
+        AttrNode::Dense { .. } => None,
+        AttrNode::Overflow { .. } => None,
+    }
+}
+
+/// A function type, by its parts.
+#[derive(Clone, Copy)]
+struct Types<'a> {
+    inputs: &'a [TypeId],
+    outputs: &'a [TypeId],
+}
+
+/// The function type that an operation has as property, where it is a function.
+fn function_type<'a>(ctx: &'a Context, node: &Node<'_>) -> Option<Types<'a>>
+    requires { NodeIsOf ctx.now node.now }
+    ensures signature { option_map (λ s. (map (type_term ctx.now) s.inputs.now, map (type_term ctx.now) s.outputs.now)) result ≡ roles.signature_of (head_meaning ctx.now node.now.head) }
+    ensures inputs { IfSome result (λ s. All (λ t. IsType ctx.now t) s.inputs.now) }
+    ensures outputs { IfSome result (λ s. All (λ t. IsType ctx.now t) s.outputs.now) }
+{
+    if !ctx.is_word(node.name(), Word::FuncFunc) {
+        return None;
+    }
+    let attr = entry(ctx, node.properties(), Word::FunctionType)?;
+    types_of(ctx, type_in(attr_of(ctx, attr))?)
+}
+
+/// The type that an attribute is.
+fn type_in(node: &AttrNode) -> Option<TypeId>
+    ensures ty { (names : List (List ℕ)) (types : List TypeTerm) (attrs : List AttrTerm) → option_map (λ t. type_at types t) result ≡ properties.type_of (attr_from names types attrs node.now) }
+    ensures known { (c : Things) → AttrIsOf c node.now → IfSome result (λ t. IsType c t) }
+{
+    match node {
+        AttrNode::Int { .. } => None,
+        AttrNode::Str(_) => None,
+        AttrNode::Ty(ty) => Some(*ty),
+        AttrNode::Unit => None,
+        AttrNode::Array(_) => None,
+        AttrNode::Dict(_) => None,
+        AttrNode::Sym(_) => None,
+        AttrNode::Dense { .. } => None,
+        AttrNode::Overflow { .. } => None,
+    }
+}
+
+/// The inputs and outputs of a function type.
+fn types_of(ctx: &Context, ty: TypeId) -> Option<Types<'_>>
+    requires { IsType ctx.now ty }
+    ensures signature { option_map (λ s. (map (type_term ctx.now) s.inputs.now, map (type_term ctx.now) s.outputs.now)) result ≡ types.function_of (type_term ctx.now ty) }
+    ensures inputs { IfSome result (λ s. All (λ t. IsType ctx.now t) s.inputs.now) }
+    ensures outputs { IfSome result (λ s. All (λ t. IsType ctx.now t) s.outputs.now) }
+{
+    types_in(type_of(ctx, ty))
+}
+
+fn types_in(node: &TypeNode) -> Option<Types<'_>>
+    ensures signature { (known : List TypeTerm) → option_map (λ s. (map (type_at known) s.inputs.now, map (type_at known) s.outputs.now)) result ≡ types.function_of (type_from known node.now) }
+    ensures inputs { (c : Things) → TypeIsOf c node.now → IfSome result (λ s. All (λ t. IsType c t) s.inputs.now) }
+    ensures outputs { (c : Things) → TypeIsOf c node.now → IfSome result (λ s. All (λ t. IsType c t) s.outputs.now) }
+{
+    match node {
+        TypeNode::Int { .. } => None,
+        TypeNode::Index => None,
+        TypeNode::Func { inputs, outputs } => Some(Types {
+            inputs: inputs.as_slice(),
+            outputs: outputs.as_slice(),
+        }),
+        TypeNode::Memref { .. } => None,
+    }
+}
+
+/// The inputs and outputs of an operation that is a function.
+pub(crate) fn function_of(
+    alloc: Global,
+    ctx: &Context,
+    node: &Node<'_>,
+) -> Result<Option<Signature>, AllocError>
+    requires { NodeIsOf ctx.now node.now }
+    ensures signature { IfOk result (λ s. option_map (signature_meaning ctx.now) s ≡ roles.signature_of (head_meaning ctx.now node.now.head)) }
+    ensures known { IfOk result (λ s. IfSome s (SignatureIsOf ctx.now)) }
+{
+    let Some(types) = function_type(ctx, node) else {
+        return Ok(None);
+    };
+    let inputs = Vec::from_slice(alloc, types.inputs)?;
+    let outputs = Vec::from_slice(alloc, types.outputs)?;
+    Ok(Some(Signature { inputs, outputs }))
+}

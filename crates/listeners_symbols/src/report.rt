@@ -1,0 +1,280 @@
+//! The rows of the report.
+ghost use Rattle.std.specs.Prelude.{◌≡◌, ◌++◌, ◌∷◌, [], eqb, map, option_map, OnOk, IfOk};
+ghost use Rattle.std.specs.Ordering.{nat_cmp};
+ghost use Rattle.std.specs.BTreeMap as tree;
+ghost use Rattle.ir_event.specs.declared.row.Cell.TheVariants.{Tag, Op, Name, Path};
+ghost use Rattle.listeners_symbols.specs.Symbols.{all_reference_lines, call_line, definition_lines, duplicate_lines, is_duplicate, mismatch_line, mismatch_lines, reference_line, reference_lines, symbol_lines, lines_with};
+ghost use Rattle.listeners_symbols.specs.Table.{call_numbers, reference_of};
+ghost use Rattle.listeners_symbols.specs.Lines.{cells_of, lines_cells, numbered, numbers_at};
+
+use crate::definitions::{Definition, Definitions, definitions_of};
+use crate::resolve::{fits, resolve};
+use crate::role::{Call, Role};
+use ir_event::row::{Cell, Row};
+use ir_tree::value::Value;
+use ir_types::ids::{AttrId, NameId, OpId};
+use std::alloc::{AllocError, Global};
+use std::collections::BTreeMap;
+
+// The checker has no proof of the loans of a function that holds cells, unless the function has a value of each type in
+// a cell: so some make a `Value` that nothing uses.
+
+/// Adds the row of a definition, whose word has this number.
+fn push_definition(
+    alloc: Global,
+    tag: u8,
+    definition: &Definition,
+    out: &mut Vec<Row>,
+) -> Result<(), AllocError>
+    ensures { OnOk result (cells_of out.new.items ≡ cells_of out.old.items ++ (Tag tag ∷ Op definition.now.0.0 ∷ Name definition.now.0.1 ∷ Op definition.now.1 ∷ []) ∷ []) }
+{
+    let ((table, name), op) = *definition;
+    let _value = Value::Result(op, 0);
+    let mut cells = Vec::with_capacity(alloc, 4)?;
+    cells.push(Cell::Tag(tag))?;
+    cells.push(Cell::Op(table))?;
+    cells.push(Cell::Name(name))?;
+    cells.push(Cell::Op(op))?;
+    out.push(Row { cells })?;
+    Ok(())
+}
+
+/// Adds the rows of definitions.
+fn push_definitions(
+    alloc: Global,
+    definitions: &Definitions,
+    out: &mut Vec<Row>,
+) -> Result<(), AllocError>
+    ensures { OnOk result (cells_of out.new.items ≡ cells_of out.old.items ++ lines_cells (definition_lines definitions.now)) }
+{
+    let mut rest = definitions.list();
+    while let [definition, more @ ..] = rest {
+        push_definition(alloc, 0, definition, out)?;
+        rest = more;
+    }
+    Ok(())
+}
+
+/// Whether a definition isn't the one that counts.
+fn is_duplicate(definitions: &Definitions, definition: &Definition) -> bool
+    ensures { result ≡ is_duplicate eqb definitions.now definition.now }
+{
+    let ((table, name), op) = *definition;
+    match definitions.first(table, name) {
+        None => true,
+        Some(first) => first != op,
+    }
+}
+
+/// Adds the rows of duplicates.
+fn push_duplicates(
+    alloc: Global,
+    definitions: &Definitions,
+    out: &mut Vec<Row>,
+) -> Result<(), AllocError>
+    ensures { OnOk result (cells_of out.new.items ≡ cells_of out.old.items ++ lines_cells (duplicate_lines eqb definitions.now definitions.now)) }
+{
+    let mut rest = definitions.list();
+    while let [definition, more @ ..] = rest {
+        if is_duplicate(definitions, definition) {
+            push_definition(alloc, 1, definition, out)?;
+        }
+        rest = more;
+    }
+    Ok(())
+}
+
+/// Adds the row of a reference that resolves.
+fn push_use(
+    alloc: Global,
+    user: OpId,
+    path: AttrId,
+    op: OpId,
+    out: &mut Vec<Row>,
+) -> Result<(), AllocError>
+    ensures { OnOk result (cells_of out.new.items ≡ cells_of out.old.items ++ (Tag 2 ∷ Op user ∷ Path path ∷ Op op ∷ []) ∷ []) }
+{
+    let _value = Value::Result(op, 0);
+    let mut cells = Vec::with_capacity(alloc, 4)?;
+    cells.push(Cell::Tag(2))?;
+    cells.push(Cell::Op(user))?;
+    cells.push(Cell::Path(path))?;
+    cells.push(Cell::Op(op))?;
+    out.push(Row { cells })?;
+    Ok(())
+}
+
+/// Adds the row of a reference that doesn't resolve.
+fn push_unresolved(
+    alloc: Global,
+    user: OpId,
+    path: AttrId,
+    out: &mut Vec<Row>,
+) -> Result<(), AllocError>
+    ensures { OnOk result (cells_of out.new.items ≡ cells_of out.old.items ++ (Tag 3 ∷ Op user ∷ Path path ∷ []) ∷ []) }
+{
+    let _value = Value::Result(user, 0);
+    let mut cells = Vec::with_capacity(alloc, 3)?;
+    cells.push(Cell::Tag(3))?;
+    cells.push(Cell::Op(user))?;
+    cells.push(Cell::Path(path))?;
+    out.push(Row { cells })?;
+    Ok(())
+}
+
+/// Adds the row of a reference, where it resolves, or where it doesn't.
+fn push_reference(
+    alloc: Global,
+    resolved: bool,
+    user: OpId,
+    path: AttrId,
+    found: Option<OpId>,
+    out: &mut Vec<Row>,
+) -> Result<(), AllocError>
+    ensures { OnOk result (cells_of out.new.items ≡ cells_of out.old.items ++ lines_cells (reference_line resolved user path found)) }
+{
+    match found {
+        Some(op) => {
+            if resolved {
+                push_use(alloc, user, path, op, out)?;
+            }
+        }
+        None => {
+            if !resolved {
+                push_unresolved(alloc, user, path, out)?;
+            }
+        }
+    }
+    Ok(())
+}
+
+/// Adds the rows of the references of an operation.
+fn push_references(
+    alloc: Global,
+    resolved: bool,
+    roles: &BTreeMap<OpId, Role>,
+    definitions: &Definitions,
+    user: OpId,
+    role: &Role,
+    out: &mut Vec<Row>,
+) -> Result<(), AllocError>
+    ensures { OnOk result (cells_of out.new.items ≡ cells_of out.old.items ++ lines_cells (reference_lines eqb (numbers_at roles.now) definitions.now resolved user role.now.table (map reference_of role.now.references.items))) }
+{
+    let mut rest = role.references.as_slice();
+    while let [reference, more @ ..] = rest {
+        let found = resolve(roles, definitions, role.table, &reference.parts);
+        push_reference(alloc, resolved, user, reference.path, found, out)?;
+        rest = more;
+    }
+    Ok(())
+}
+
+/// Adds the rows of the references of all operations.
+fn push_all_references(
+    alloc: Global,
+    resolved: bool,
+    roles: &BTreeMap<OpId, Role>,
+    definitions: &Definitions,
+    out: &mut Vec<Row>,
+) -> Result<(), AllocError>
+    ensures { OnOk result (cells_of out.new.items ≡ cells_of out.old.items ++ lines_cells (all_reference_lines eqb (numbers_at roles.now) definitions.now resolved (numbered roles.now.entries))) }
+{
+    for (op, role) in roles {
+        push_references(alloc, resolved, roles, definitions, *op, role, out)?;
+    }
+    Ok(())
+}
+
+/// Adds the row of a mismatch.
+fn push_mismatch(alloc: Global, user: OpId, op: OpId, out: &mut Vec<Row>) -> Result<(), AllocError>
+    ensures { OnOk result (cells_of out.new.items ≡ cells_of out.old.items ++ (Tag 4 ∷ Op user ∷ Op op ∷ []) ∷ []) }
+{
+    let _value = Value::Result(op, 0);
+    let mut cells = Vec::with_capacity(alloc, 3)?;
+    cells.push(Cell::Tag(4))?;
+    cells.push(Cell::Op(user))?;
+    cells.push(Cell::Op(op))?;
+    out.push(Row { cells })?;
+    Ok(())
+}
+
+/// Adds the row of a call, where it resolves to what isn't a function of its types.
+fn push_call(
+    alloc: Global,
+    roles: &BTreeMap<OpId, Role>,
+    user: OpId,
+    call: &Call,
+    found: Option<OpId>,
+    out: &mut Vec<Row>,
+) -> Result<(), AllocError>
+    ensures { OnOk result (cells_of out.new.items ≡ cells_of out.old.items ++ lines_cells (mismatch_line eqb (numbers_at roles.now) user (call_numbers call.now) found)) }
+{
+    let Some(op) = found else {
+        return Ok(());
+    };
+    if fits(roles, call, op) {
+        return Ok(());
+    }
+    push_mismatch(alloc, user, op, out)
+}
+
+/// Adds the row of an operation's call, where there is one.
+fn push_call_of(
+    alloc: Global,
+    roles: &BTreeMap<OpId, Role>,
+    definitions: &Definitions,
+    user: OpId,
+    role: &Role,
+    out: &mut Vec<Row>,
+) -> Result<(), AllocError>
+    ensures { OnOk result (cells_of out.new.items ≡ cells_of out.old.items ++ lines_cells (call_line eqb eqb (numbers_at roles.now) definitions.now user role.now.table (option_map call_numbers role.now.call))) }
+{
+    let Some(call) = &role.call else {
+        return Ok(());
+    };
+    let found = resolve(roles, definitions, role.table, &call.callee);
+    push_call(alloc, roles, user, call, found, out)
+}
+
+/// Adds the rows of mismatches.
+fn push_mismatches(
+    alloc: Global,
+    roles: &BTreeMap<OpId, Role>,
+    definitions: &Definitions,
+    out: &mut Vec<Row>,
+) -> Result<(), AllocError>
+    ensures { OnOk result (cells_of out.new.items ≡ cells_of out.old.items ++ lines_cells (mismatch_lines eqb eqb (numbers_at roles.now) definitions.now (numbered roles.now.entries))) }
+{
+    for (op, role) in roles {
+        push_call_of(alloc, roles, definitions, *op, role, out)?;
+    }
+    Ok(())
+}
+
+/// The rows of all operations, by these definitions.
+fn push_lines(
+    alloc: Global,
+    roles: &BTreeMap<OpId, Role>,
+    definitions: &Definitions,
+    out: &mut Vec<Row>,
+) -> Result<(), AllocError>
+    ensures { OnOk result (cells_of out.new.items ≡ cells_of out.old.items ++ lines_cells (lines_with eqb eqb (numbers_at roles.now) definitions.now (numbered roles.now.entries))) }
+{
+    push_definitions(alloc, definitions, out)?;
+    push_duplicates(alloc, definitions, out)?;
+    push_all_references(alloc, true, roles, definitions, out)?;
+    push_all_references(alloc, false, roles, definitions, out)?;
+    push_mismatches(alloc, roles, definitions, out)
+}
+
+/// The rows of a table of roles.
+pub(crate) fn lines(alloc: Global, roles: &BTreeMap<OpId, Role>) -> Result<Vec<Row>, AllocError>
+    ensures rows { IfOk result (λ out. cells_of out.items ≡ lines_cells (symbol_lines eqb eqb (numbers_at roles.now) (numbered roles.now.entries))) }
+    ensures ordered { IfOk result (λ _. tree.IsOrdered nat_cmp roles.now) }
+{
+    let _ = roles.len();
+    let definitions = definitions_of(alloc, roles)?;
+    let mut out = Vec::new(alloc);
+    push_lines(alloc, roles, &definitions, &mut out)?;
+    Ok(out)
+}

@@ -1,0 +1,103 @@
+//! Symbol references are resolved in a table of roles.
+ghost use Rattle.std.specs.Prelude.{◌≡◌, eqb};
+ghost use Rattle.std.specs.Cmp.Lexicographic.{pointwise};
+ghost use Rattle.listeners_symbols.specs.Symbols as symbols;
+ghost use Rattle.listeners_symbols.specs.Symbols.{function_at, says_table};
+ghost use Rattle.listeners_symbols.specs.Table.{call_numbers};
+ghost use Rattle.listeners_symbols.specs.Lines.{numbers_at};
+
+use crate::definitions::Definitions;
+use crate::role::{Call, Role};
+use ir_types::ids::{NameId, OpId, TypeId};
+use std::collections::BTreeMap;
+
+/// Whether an operation is a symbol table.
+fn is_table(roles: &BTreeMap<OpId, Role>, op: OpId) -> bool
+    ensures { result ≡ says_table (numbers_at roles.now op) }
+{
+    match roles.get(&op) {
+        None => false,
+        Some(role) => role.is_table,
+    }
+}
+
+/// The operation that a name is in another.
+fn look_up(
+    roles: &BTreeMap<OpId, Role>,
+    definitions: &Definitions,
+    op: OpId,
+    name: NameId,
+) -> Option<OpId>
+    ensures { result ≡ symbols.look_up eqb (numbers_at roles.now) definitions.now op name }
+{
+    if !is_table(roles, op) {
+        return None;
+    }
+    definitions.first(op, name)
+}
+
+/// The same in what there may be.
+fn look_in(
+    roles: &BTreeMap<OpId, Role>,
+    definitions: &Definitions,
+    found: Option<OpId>,
+    name: NameId,
+) -> Option<OpId>
+    ensures { result ≡ symbols.look_in eqb (numbers_at roles.now) definitions.now found name }
+{
+    match found {
+        None => None,
+        Some(op) => look_up(roles, definitions, op, name),
+    }
+}
+
+/// What the parts of a reference resolve to: the first in a table, each further one in the symbol before it.
+pub(crate) fn resolve(
+    roles: &BTreeMap<OpId, Role>,
+    definitions: &Definitions,
+    table: Option<OpId>,
+    parts: &[NameId],
+) -> Option<OpId>
+    ensures { result ≡ symbols.resolve eqb (numbers_at roles.now) definitions.now table parts.now }
+{
+    let mut found = table;
+    let mut rest = parts;
+    while let [part, more @ ..] = rest {
+        found = look_in(roles, definitions, found, *part);
+        rest = more;
+    }
+    found
+}
+
+/// Whether two lists of types are one.
+fn same_types(ones: &[TypeId], others: &[TypeId]) -> bool
+    ensures { result ≡ pointwise eqb ones.now others.now }
+{
+    let mut left = ones;
+    let mut right = others;
+    while let [a, more @ ..] = left {
+        let [b, rest @ ..] = right else {
+            return false;
+        };
+        if *a != *b {
+            return false;
+        }
+        left = more;
+        right = rest;
+    }
+    right.is_empty()
+}
+
+/// Whether an operation is a function that has the types of a call's operands and results.
+#[tactic(auto, using(crate::proofs::Lines::some_types))]
+pub(crate) fn fits(roles: &BTreeMap<OpId, Role>, call: &Call, op: OpId) -> bool
+    ensures { result ≡ symbols.fits eqb (call_numbers call.now) (function_at (numbers_at roles.now op)) }
+{
+    let Some(role) = roles.get(&op) else {
+        return false;
+    };
+    let Some(function) = &role.function else {
+        return false;
+    };
+    same_types(&function.inputs, &call.inputs) && same_types(&function.outputs, &call.outputs)
+}

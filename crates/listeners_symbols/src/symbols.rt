@@ -1,0 +1,97 @@
+//! The listener that keeps symbols.
+ghost use Rattle.std.specs.Prelude.{◌≡◌, true};
+
+use crate::report::lines;
+use crate::role::Role;
+use crate::table::{follow, tabulate};
+use ir_event::analysis::Analysis;
+use ir_event::event::Event;
+use ir_event::row::{Kind, Memory, ReportFault, Row};
+use ir_event::view::View;
+use ir_event::world::World;
+use ir_types::ids::OpId;
+use std::alloc::Global;
+use std::collections::BTreeMap;
+
+/// The analysis `symbols`: which symbols a module defines, and what its references to symbols resolve to (Symbols and
+/// Symbol Tables).
+///
+/// It keeps of each operation what that has to do with symbols, by itself and by where it stands; a report resolves the
+/// references.
+#[derive(Drop)]
+pub struct Symbols {
+    alloc: Global,
+    roles: BTreeMap<OpId, Role>,
+    stale: bool,
+}
+
+impl Symbols {
+    ghost use Rattle.listeners_symbols.specs.Listeners.{symbols_listener};
+
+    /// A listener that has not begun, and is stale.
+    pub fn new(alloc: Global) -> Symbols
+        ensures { (symbols_listener result).stale ≡ true }
+    {
+        Symbols {
+            alloc,
+            roles: BTreeMap::new(alloc),
+            stale: true,
+        }
+    }
+}
+
+impl Analysis for Symbols {
+    ghost use Rattle.listeners_symbols.specs.Listeners.{symbols_listener};
+
+    ghost meaning = { symbols_listener };
+
+    fn kind(&self) -> Kind {
+        Kind::new(2)
+    }
+
+    fn begin(&mut self, world: &World) -> Result<(), Memory> {
+        // What was kept goes first, so that there is room for what is kept now.
+        self.roles = BTreeMap::new(self.alloc);
+        self.stale = true;
+        world.ctx.sound();
+        match tabulate(self.alloc, world) {
+            Ok(roles) => {
+                self.roles = roles;
+                self.stale = false;
+                Ok(())
+            }
+            Err(_) => Err(Memory),
+        }
+    }
+
+    /// It looks at the event's operation alone, at most twice and once for each operand; at one that was taken it
+    /// doesn't look.
+    fn told<'a>(&mut self, view: View<'a>, event: Event) -> View<'a> {
+        if self.stale {
+            return view;
+        }
+        let mut view = view;
+        view.context().sound();
+        match follow(self.alloc, &mut self.roles, &mut view, &event) {
+            Ok(()) => view,
+            Err(_) => {
+                self.stale = true;
+                view
+            }
+        }
+    }
+
+    fn stale(&self) -> bool {
+        self.stale
+    }
+
+    fn report(&self, alloc: Global) -> Result<Vec<Row>, ReportFault> {
+        if self.stale {
+            return Err(ReportFault::Stale);
+        }
+        match lines(alloc, &self.roles) {
+            Ok(rows) => Ok(rows),
+            Err(_) => Err(ReportFault::Memory),
+        }
+    }
+}

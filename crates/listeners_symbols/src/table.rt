@@ -1,0 +1,126 @@
+//! The table of roles follows a module.
+ghost use Rattle.std.specs.Prelude.{◌≡◌, ◌≤◌, ◌+◌, Some, true, option_map, OnOk, IfOk};
+ghost use Rattle.ir_store.specs.Nodes.{node_of};
+ghost use Rattle.ir_store.specs.Stored.{known};
+ghost use Rattle.ir_event.specs.Bounds.{op_of, operand_count};
+ghost use Rattle.ir_event.specs.Listener.{is_take};
+ghost use Rattle.ir_event.specs.Modules.{module_in};
+ghost use Rattle.listeners_symbols.specs.Listeners.{kept_at};
+ghost use Rattle.listeners_symbols.specs.Table.{Added, Followed, Keeps, OperandFollowed, Renewed};
+
+use crate::gather::gather;
+use crate::properties::callee_of;
+use crate::role::Role;
+use ir_event::event::Event;
+use ir_event::view::View;
+use ir_event::world::World;
+use ir_store::node::Node;
+use ir_types::ids::OpId;
+use std::alloc::{AllocError, Global};
+use std::collections::BTreeMap;
+
+/// Makes what is kept of an operation, which the view shows as this one, what it is in the module.
+fn renew_by(
+    alloc: Global,
+    roles: &mut BTreeMap<OpId, Role>,
+    view: &mut View<'_>,
+    op: OpId,
+    node: &Node<'_>,
+) -> Result<(), AllocError>
+    requires { option_map node_of (known op view.old.world.now.store) ≡ Some node.now }
+    ensures renewed { OnOk result (Renewed view.old.world.now.ctx (module_in view.old.world.now).tree op (kept_at roles.old) (kept_at roles.new)) }
+    ensures looks { view.new.looks ≤ view.old.looks + (1 + operand_count (known op view.old.world.now.store)) }
+    ensures world { view.new.world.now ≡ view.old.world.now }
+{
+    let role = gather(alloc, roles, view, op, node)?;
+    roles.insert(op, role)?;
+    Ok(())
+}
+
+/// Makes what is kept of an operation what it is in the module that the view shows.
+fn renew(
+    alloc: Global,
+    roles: &mut BTreeMap<OpId, Role>,
+    view: &mut View<'_>,
+    op: OpId,
+) -> Result<(), AllocError>
+    ensures renewed { OnOk result (Renewed view.old.world.now.ctx (module_in view.old.world.now).tree op (kept_at roles.old) (kept_at roles.new)) }
+    ensures looks { view.new.looks ≤ view.old.looks + (2 + operand_count (known op view.old.world.now.store)) }
+    ensures world { view.new.world.now ≡ view.old.world.now }
+{
+    let Some(node) = view.node(op) else {
+        return Err(AllocError);
+    };
+    renew_by(alloc, roles, view, op, &node)
+}
+
+/// Follows an operand that became another value. It matters at a call alone, whose operands have types.
+fn follow_operand(
+    alloc: Global,
+    roles: &mut BTreeMap<OpId, Role>,
+    view: &mut View<'_>,
+    op: OpId,
+) -> Result<(), AllocError>
+    ensures followed { OnOk result (OperandFollowed view.old.world.now.ctx (module_in view.old.world.now).tree op (kept_at roles.old) (kept_at roles.new)) }
+    ensures looks { view.new.looks ≤ view.old.looks + (2 + operand_count (known op view.old.world.now.store)) }
+    ensures world { view.new.world.now ≡ view.old.world.now }
+{
+    let Some(node) = view.node(op) else {
+        return Err(AllocError);
+    };
+    match callee_of(view.context(), &node) {
+        None => Ok(()),
+        Some(_) => renew_by(alloc, roles, view, op, &node),
+    }
+}
+
+/// Follows an event, which led to the module that the view shows. It looks at the event's operation alone.
+pub(crate) fn follow(
+    alloc: Global,
+    roles: &mut BTreeMap<OpId, Role>,
+    view: &mut View<'_>,
+    event: &Event,
+) -> Result<(), AllocError>
+    ensures followed { OnOk result (Followed view.old.world.now.ctx (module_in view.old.world.now).tree event.now (kept_at roles.old) (kept_at roles.new)) }
+    ensures looks { view.new.looks ≤ view.old.looks + (2 + operand_count (known (op_of event.now) view.old.world.now.store)) }
+    ensures take { is_take event.now ≡ true → view.new.looks ≡ view.old.looks }
+    ensures world { view.new.world.now ≡ view.old.world.now }
+{
+    match event {
+        Event::Put { op, .. } => renew(alloc, roles, view, *op),
+        Event::Take { op, .. } => {
+            roles.remove(op);
+            Ok(())
+        }
+        Event::SetOperand { op, .. } => follow_operand(alloc, roles, view, *op),
+        Event::SetEntry { op, .. } => renew(alloc, roles, view, *op),
+        Event::Shift { op, .. } => renew(alloc, roles, view, *op),
+    }
+}
+
+/// Makes what is kept of operations what they are in the module that the view shows. Each stands behind the one that it
+/// stands in.
+fn renew_all(
+    alloc: Global,
+    roles: &mut BTreeMap<OpId, Role>,
+    view: &mut View<'_>,
+    ops: &[OpId],
+) -> Result<(), AllocError>
+    ensures { OnOk result (Added view.old.world.now.ctx (module_in view.old.world.now).tree ops.now (kept_at roles.old) (kept_at roles.new)) }
+{
+    for op in ops {
+        renew(alloc, roles, view, *op)?;
+    }
+    Ok(())
+}
+
+/// The roles of the operations of a module.
+pub(crate) fn tabulate(alloc: Global, world: &World) -> Result<BTreeMap<OpId, Role>, AllocError>
+    ensures { IfOk result (λ roles. Keeps world.now.ctx (module_in world.now).tree (kept_at roles)) }
+{
+    let ops = world.store.operations()?;
+    let mut roles = BTreeMap::new(alloc);
+    let mut view = View::new(world);
+    renew_all(alloc, &mut roles, &mut view, &ops)?;
+    Ok(roles)
+}

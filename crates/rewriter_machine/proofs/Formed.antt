@@ -1,0 +1,22 @@
+-- Replacing a value, where no reason stands against it, leaves a module well-formed.
+use Rattle.std.proofs.Common.{◌≡◌, None}
+use Rattle.std.specs.Option.{option_eq}
+use Rattle.ir_types.specs.Things.{Things}
+use Rattle.ir_types.specs.declared.refusal.Refusal.TheVariants.{NoSuchValue, NotVisible, TypeDiffers}
+use Rattle.ir_tree.specs.declared.value.Value.{Value}
+use Rattle.ir_tree.specs.Meaning.{isolated_in}
+use Rattle.ir_tree.specs.WellFormed.{IsWellFormed, Module as Numbered}
+use Rattle.ir_tree_laws.specs.Values.{has_value, type_of_value}
+use Rattle.ir_tree_laws.proofs.Reasoned.{no_unless}
+use Rattle.ir_tree_laws.proofs.HeadForm.{replaced_keeps}
+use Rattle.ir_tree_laws.specs.Reasons.{users_see}
+use Rattle.rewriter_machine.specs.Edits.{Replace, edited_by, reason_by}
+use Rattle.rewriter_machine.specs.Contents.{tests_in}
+
+pub replace_keeps : (c : Things) (old new : Value) (m : Numbered) → IsWellFormed (isolated_in c) m → reason_by (tests_in c) (Replace old new) m ≡ None → IsWellFormed (isolated_in c) (edited_by (tests_in c) (Replace old new) m)
+replace_keeps c old new m w e =
+    let a = no_unless (has_value old m.tree) NoSuchValue _ e in
+    let b = no_unless (has_value new m.tree) NoSuchValue _ a.1 in
+    let d = no_unless (option_eq (tests_in c).same_type (type_of_value old m.tree) (type_of_value new m.tree)) TypeDiffers _ b.1 in
+    let f = no_unless (users_see (isolated_in c) old new m.tree) NotVisible None d.1 in
+    replaced_keeps (isolated_in c) old new m w f.0

@@ -1,0 +1,105 @@
+-- The commands of a script, and which call each is.
+use Rattle.std.specs.Prelude.{◌≡◌, ℕ, ◌≤◌, List, ◌⊎◌, Option, Some, None, Ok, Err}
+use Rattle.ir_types.specs.Terms.{AttrTerm}
+use Rattle.ir_types.specs.Refusals.{number_of}
+use Rattle.ir_types.specs.declared.refusal.Refusal.{Refusal}
+use Rattle.ir_types.specs.declared.refusal.Refusal.TheVariants.{TooMany, IdsExhausted, Memory}
+use Rattle.ir_tree.specs.declared.value.Value.{Value}
+use Rattle.ir_tree.specs.declared.place.Place.{Place}
+use Rattle.ir_tree.specs.Meaning.{Operation}
+use Rattle.ir_event.specs.Modules.{Module}
+use Rattle.rewriter_machine.specs.Edits as edit
+use Rattle.rewriter_machine.specs.Machine as call
+use Rattle.rewriter_machine.specs.Machine.{State, Call, Do, Reply, Shows, Nothing, Goes}
+use Rattle.rewriter_machine.specs.Spots.{Spot, spot_place}
+
+-- a command; the texts of operations and attributes are bytes
+pub data Command : Type 0 where
+  Erase : ℕ → Command
+  Move : ℕ → Spot → Command
+  Insert : Spot → List ℕ → Command
+  SetOperand : ℕ → ℕ → Value → Command
+  Replace : Value → Value → Command
+  SetAttr : ℕ → List ℕ → List ℕ → Command
+  DropAttr : ℕ → List ℕ → Command
+  Begin : Command
+  Commit : Command
+  Rollback : Command
+  Detach : ℕ → Command
+  Resync : ℕ → Command
+  Report : ℕ → Command
+  Print : Command
+
+-- what a command comes to in a module: a call, a refusal of its place, or a refusal of its text, which may have an
+-- offset
+pub data Asked : Type 0 where
+  Ask : Call → Asked
+  Misplaced : Refusal → Asked
+  Unread : Refusal → Option ℕ → Asked
+
+-- a text is refused with an offset for what is wrong with it, or without one for want of ids or of memory
+abbrev pub IsTextRefusal : Refusal → Option ℕ → Type 0
+IsTextRefusal refusal (Some offset) = number_of refusal ≤ 14
+IsTextRefusal refusal None = (refusal ≡ IdsExhausted) ⊎ (refusal ≡ Memory)
+
+-- a text was refused: nothing is spelled, or no room is left for what it names, or no memory
+abbrev pub TextRefused : {X : Type 0} → (X → Type 0) → Refusal → Option ℕ → Type 0
+TextRefused Spelled refusal offset = IsTextRefusal refusal offset × (((x : _) → Spelled x → ⊥) ⊎ ((refusal ≡ TooMany) ⊎ (refusal ≡ Memory)))
+
+-- `SpellsOp` tells which operation bytes spell beside a module, and `SpellsAttr` which attribute
+module _ (SpellsOp : Module → List ℕ → Operation → Type 0) (SpellsAttr : List ℕ → AttrTerm → Type 0) where
+  -- an operation that was read goes to its spot
+  abbrev pub Inserts : Spot → Operation → Module → Asked → Type 0
+  Inserts spot o m (Ask c) = (place : Place) × (spot_place None spot m.tree ≡ Ok place) × (c ≡ Do (edit.Insert place o))
+  Inserts spot o m (Misplaced refusal) = spot_place None spot m.tree ≡ Err refusal
+  Inserts spot o m (Unread refusal offset) = ⊥
+
+  -- an operation of the module goes to its spot
+  abbrev pub Moves : ℕ → Spot → Module → Asked → Type 0
+  Moves x spot m (Ask c) = (place : Place) × (spot_place (Some x) spot m.tree ≡ Ok place) × (c ≡ Do (edit.Move x place))
+  Moves x spot m (Misplaced refusal) = spot_place (Some x) spot m.tree ≡ Err refusal
+  Moves x spot m (Unread refusal offset) = ⊥
+
+  -- an operation's text is read before the spot is looked for
+  abbrev pub InsertsText : Spot → List ℕ → Module → Asked → Type 0
+  InsertsText spot text m (Unread refusal offset) = TextRefused (SpellsOp m text) refusal offset
+  InsertsText spot text m asked = (o : Operation) × SpellsOp m text o × Inserts spot o m asked
+
+  abbrev pub SetsText : ℕ → List ℕ → List ℕ → Asked → Type 0
+  SetsText x key text (Ask c) = (a : AttrTerm) × SpellsAttr text a × (c ≡ Do (edit.SetAttr x key a))
+  SetsText x key text (Misplaced refusal) = ⊥
+  SetsText x key text (Unread refusal offset) = TextRefused (SpellsAttr text) refusal offset
+
+  -- what a command comes to in a module
+  abbrev pub Asks : Command → Module → Asked → Type 0
+  Asks (Erase x) m asked = asked ≡ Ask (Do (edit.Erase x))
+  Asks (Move x spot) m asked = Moves x spot m asked
+  Asks (Insert spot text) m asked = InsertsText spot text m asked
+  Asks (SetOperand x k v) m asked = asked ≡ Ask (Do (edit.SetOperand x k v))
+  Asks (Replace old new) m asked = asked ≡ Ask (Do (edit.Replace old new))
+  Asks (SetAttr x key text) m asked = SetsText x key text asked
+  Asks (DropAttr x key) m asked = asked ≡ Ask (Do (edit.DropAttr x key))
+  Asks Begin m asked = asked ≡ Ask call.Mark
+  Asks Commit m asked = asked ≡ Ask call.Commit
+  Asks Rollback m asked = asked ≡ Ask call.Rollback
+  Asks (Detach kind) m asked = asked ≡ Ask (call.Detach kind)
+  Asks (Resync kind) m asked = asked ≡ Ask (call.Resync kind)
+  Asks (Report kind) m asked = asked ≡ Ask (call.Report kind)
+  Asks Print m asked = asked ≡ Ask call.Print
+
+-- how a line is replied to: as a call is, or with a refused text and its offset
+pub data Response : Type 0 where
+  Replied : Reply → Response
+  TextRefusedAt : Refusal → ℕ → Response
+
+-- a refused text with an offset or without
+abbrev pub text_response : Refusal → Option ℕ → Response
+text_response refusal None = Replied (call.Refused refusal)
+text_response refusal (Some offset) = TextRefusedAt refusal offset
+
+-- from s a command that comes to this may be replied to so, and lead to t; a refusal of a place or text leaves all
+abbrev pub Follows : State → Asked → Response → Shows → State → Type 0
+Follows s (Ask c) (Replied reply) shows t = Goes s c reply shows t
+Follows s (Ask c) (TextRefusedAt refusal offset) shows t = ⊥
+Follows s (Misplaced refusal) response shows t = (response ≡ Replied (call.Refused refusal)) × (shows ≡ Nothing) × (t ≡ s)
+Follows s (Unread refusal offset) response shows t = (response ≡ text_response refusal offset) × (shows ≡ Nothing) × (t ≡ s)

@@ -1,0 +1,202 @@
+-- The machine: what a bench is, and what each call makes of it, as a relation, since memory may be refused and an
+-- analysis may turn stale where it is told of an edit. All else is determined.
+use Rattle.std.specs.Prelude.{◌≡◌, ℕ, nat_lt, length, List, [], ◌∷◌, Bool, true, false, ◌⊎◌, Option, Some, None, if◌then◌else◌, filter, IsTrue}
+use Rattle.std.specs.List.{find}
+use Rattle.ir_types.specs.declared.refusal.Refusal.{Refusal}
+use Rattle.ir_types.specs.declared.refusal.Refusal.TheVariants.{Memory, Stale, NoSuchKind, KindTaken, TooManyMarks, NoMark}
+use Rattle.ir_tree.specs.Tree.{head}
+use Rattle.ir_tree.specs.Meaning.{Operation}
+use Rattle.ir_event.specs.Modules.{Module}
+use Rattle.ir_event.specs.Rows.{RowTerm}
+use Rattle.rewriter_machine.specs.Edits.{Insert, Make, Erase, Move, SetOperand, Replace, SetAttr, DropAttr}
+use Rattle.rewriter_machine.specs.Contents.{Edit, edited, edit_reason}
+use Rattle.rewriter_machine.specs.Panels.{Shown, AllAge, has_kind, is_kind, Attached, Detached, BegunAgain}
+
+-- ---- states
+
+-- an open mark: the module that was held when it was made, and whether it counts among those of which there may be
+-- only so many
+pub record OpenMark : Type 0 where
+  pub marked : Module
+  pub counted : Bool
+
+-- a module of contents, the open marks, the newest first, and the attached analyses in order
+pub record State : Type 0 where
+  pub held : Module
+  pub marks : List OpenMark
+  pub panel : List Shown
+
+-- the most counted marks that may be open
+abbrev pub most_marks : ℕ
+most_marks = 16
+
+abbrev pub counted_marks : List OpenMark → ℕ
+counted_marks marks = length (filter (λ k. k.counted) marks)
+
+-- ---- calls and answers
+
+-- a call
+pub data Call : Type 0 where
+  -- an edit
+  Do : Edit → Call
+  -- a mark of the module held, counted or not
+  Mark : Call
+  Step : Call
+  -- the newest mark dropped, and its module held again or not
+  Commit : Call
+  Rollback : Call
+  -- an analysis attached; the one of a kind dropped, begun again, or asked for its rows
+  Attach : Shown → Call
+  Detach : ℕ → Call
+  Resync : ℕ → Call
+  Report : ℕ → Call
+  -- the module asked for
+  Print : Call
+
+-- a reply: accepted, accepted with the id of a new operation, or refused
+pub data Reply : Type 0 where
+  Done : Reply
+  DoneAs : ℕ → Reply
+  Refused : Refusal → Reply
+
+-- what is shown beside it: nothing, rows, or the module's tree
+pub data Shows : Type 0 where
+  Nothing : Shows
+  Rows : List RowTerm → Shows
+  Tree : Operation → Shows
+
+-- a reply, what is shown beside it, and the module and the marks after it
+pub record Answer : Type 0 where
+  pub reply : Reply
+  pub shows : Shows
+  pub held : Module
+  pub marks : List OpenMark
+
+-- a refusal leaves the module and the marks
+abbrev pub refused : Refusal → State → Answer
+refused refusal s = record { reply = Refused refusal; shows = Nothing; held = s.held; marks = s.marks }
+
+-- accepted, with this module and these marks after it
+abbrev pub done : Module → List OpenMark → Answer
+done m marks = record { reply = Done; shows = Nothing; held = m; marks = marks }
+
+-- accepted, showing something, and all stays
+abbrev pub showing : Shows → State → Answer
+showing shows s = record { reply = Done; shows = shows; held = s.held; marks = s.marks }
+
+-- ---- what is due
+
+-- how an edit of a module is accepted: with the new id, where it puts an operation in
+abbrev pub accepted : Edit → Module → Reply
+accepted (Insert place o) m = DoneAs (head o).id
+accepted (Make place o) m = DoneAs m.next
+accepted (Erase x) m = Done
+accepted (Move x place) m = Done
+accepted (SetOperand x k v) m = Done
+accepted (Replace old new) m = Done
+accepted (SetAttr x k a) m = Done
+accepted (DropAttr x k) m = Done
+
+-- an edit is refused for its reason, if there is one
+abbrev pub due_edit : Option Refusal → Edit → State → Answer
+due_edit None e s = record { reply = accepted e s.held; shows = Nothing; held = edited e s.held; marks = s.marks }
+due_edit (Some refusal) e s = refused refusal s
+
+-- the module held, with a mark of it more
+abbrev pub marked : Bool → State → Answer
+marked counted s = done s.held (record { marked = s.held; counted = counted } ∷ s.marks)
+
+abbrev pub due_commit : List OpenMark → State → Answer
+due_commit [] s = refused NoMark s
+due_commit (k ∷ ks) s = done s.held ks
+
+abbrev pub due_rollback : List OpenMark → State → Answer
+due_rollback [] s = refused NoMark s
+due_rollback (k ∷ ks) s = done k.marked ks
+
+-- the rows of an analysis, if it is attached and isn't stale
+abbrev pub due_report : Option Shown → State → Answer
+due_report None s = refused NoSuchKind s
+due_report (Some a) s = if a.stale then refused Stale s else showing (Rows (a.analysis s.held.tree)) s
+
+-- the answer to a call where no memory is refused
+abbrev pub due : State → Call → Answer
+due s (Do e) = due_edit (edit_reason e s.held) e s
+due s Mark = if nat_lt (counted_marks s.marks) most_marks then marked true s else refused TooManyMarks s
+due s Step = marked false s
+due s Commit = due_commit s.marks s
+due s Rollback = due_rollback s.marks s
+due s (Attach a) = if has_kind a.kind s.panel then refused KindTaken s else showing Nothing s
+due s (Detach kind) = if has_kind kind s.panel then showing Nothing s else refused NoSuchKind s
+due s (Resync kind) = if has_kind kind s.panel then showing Nothing s else refused NoSuchKind s
+due s (Report kind) = due_report (find (is_kind kind) s.panel) s
+due s Print = showing (Tree s.held.tree) s
+
+-- ---- memory
+
+-- whether an edit takes memory of its own, also where no mark is open
+abbrev pub grows : Edit → Bool
+grows (Insert place o) = true
+grows (Make place o) = true
+grows (Erase x) = false
+grows (Move x place) = false
+grows (SetOperand x k v) = false
+grows (Replace old new) = false
+grows (SetAttr x k a) = true
+grows (DropAttr x k) = true
+
+-- and where these marks are open: there every edit is noted
+abbrev pub grows_under : List OpenMark → Edit → Bool
+grows_under [] e = grows e
+grows_under (k ∷ ks) e = true
+
+-- whether a call may be refused for want of memory
+abbrev pub takes_memory : State → Call → Bool
+takes_memory s (Do e) = grows_under s.marks e
+takes_memory s Mark = true
+takes_memory s Step = true
+takes_memory s Commit = false
+takes_memory s Rollback = false
+takes_memory s (Attach a) = true
+takes_memory s (Detach kind) = false
+takes_memory s (Resync kind) = true
+takes_memory s (Report kind) = true
+takes_memory s Print = true
+
+-- the answer that is due, or a refusal for want of memory
+abbrev pub IsAnswer : State → Call → Answer → Type 0
+IsAnswer s call a = (a ≡ due s call) ⊎ (IsTrue (takes_memory s call) × (a ≡ refused Memory s))
+
+-- ---- the analyses
+
+-- the analyses after a resync that was refused: without memory it may leave the analysis stale
+abbrev pub NotResynced : ℕ → Refusal → List Shown → List Shown → Type 0
+NotResynced kind refusal old new = (new ≡ old) ⊎ ((refusal ≡ Memory) × BegunAgain kind true old new)
+
+-- the analyses after a call and its reply: an edit, accepted or not, and a rollback may leave some stale
+abbrev pub PanelGoes : Call → Reply → List Shown → List Shown → Type 0
+PanelGoes (Do e) reply old new = AllAge old new
+PanelGoes Mark reply old new = new ≡ old
+PanelGoes Step reply old new = new ≡ old
+PanelGoes Commit reply old new = new ≡ old
+PanelGoes Rollback (Refused refusal) old new = new ≡ old
+PanelGoes Rollback Done old new = AllAge old new
+PanelGoes Rollback (DoneAs x) old new = ⊥
+PanelGoes (Attach a) (Refused refusal) old new = new ≡ old
+PanelGoes (Attach a) Done old new = Attached a old new
+PanelGoes (Attach a) (DoneAs x) old new = ⊥
+PanelGoes (Detach kind) (Refused refusal) old new = new ≡ old
+PanelGoes (Detach kind) Done old new = Detached kind old new
+PanelGoes (Detach kind) (DoneAs x) old new = ⊥
+PanelGoes (Resync kind) (Refused refusal) old new = NotResynced kind refusal old new
+PanelGoes (Resync kind) Done old new = BegunAgain kind false old new
+PanelGoes (Resync kind) (DoneAs x) old new = ⊥
+PanelGoes (Report kind) reply old new = new ≡ old
+PanelGoes Print reply old new = new ≡ old
+
+-- ---- the machine
+
+-- from s the machine may answer a call so, and go on to t
+pub record Goes (s : State) (call : Call) (reply : Reply) (shows : Shows) (t : State) : Type 0 where
+  pub answer : IsAnswer s call (record { reply = reply; shows = shows; held = t.held; marks = t.marks })
+  pub panel : PanelGoes call reply s.panel t.panel

@@ -1,7 +1,0 @@
-use Rattle.std.proofs.Common.{◌≡◌, ◌++◌}
-use Rattle.symbols.specs.Symbols.{definitions}
-use Rattle.symbols.specs.Lines.{numbered}
-use Rattle.symbols.proofs.definitions.listed.Given as goal
-
-abbrev pub invariant-loop-op : goal.invariant-loop-op
-invariant-loop-op l = l.out.items ++ definitions (numbered l.op-iterator) ≡ definitions (numbered l.fn.roles.entries)
