@@ -6,3 +6,5 @@ pub mod Bounds
 pub mod Panels
 pub mod Looks
 pub mod Facts
+pub mod Edits
+pub mod Undoing

@@ -1,27 +1,187 @@
-//! Worlds that are made, and edited.
-ghost use Rattle.std.specs.Prelude.{◌≡◌, ◌<◌, ◌⊎◌, IfOk, IfErr, OnOk, OnErr, MatchResult, Some, None, Err};
-ghost use Rattle.std.specs.List.{All};
+//! Operations are put and taken, operands and entries are set, each with its event.
+ghost use Rattle.std.specs.Prelude.{◌≡◌, Some, None, true, IfOk, OnOk, OnErr, IfSome, MatchResult, Err};
+ghost use Rattle.std.specs.FinMap as finmap;
 ghost use Rattle.ir_types.specs.Reasons.{IsRefusedFor};
-ghost use Rattle.ir_tree.specs.Ids.{ids, HasDistinctIds};
-ghost use Rattle.ir_tree.specs.Meaning.{isolated_in, IsSoundIn};
-ghost use Rattle.ir_tree.specs.WellFormed.{IsFormed, fault, IsWellFormed};
-ghost use Rattle.ir_tree_laws.specs.Reasons.{set_operand_reason};
-ghost use Rattle.ir_event.specs.Modules.{things_in, module_in};
-ghost use Rattle.ir_store.specs.Calls.{Loaded, after_operand};
+ghost use Rattle.ir_types.specs.Terms.{name_term};
+ghost use Rattle.ir_types.specs.Things.{IsName, IsAttr};
+ghost use Rattle.ir_types.specs.Words.{is_table};
+ghost use Rattle.ir_tree.specs.Edits.{entry_at};
+ghost use Rattle.ir_tree.specs.Meaning.{IsSoundIn, isolated_in, key_before_in};
+ghost use Rattle.ir_tree.specs.WellFormed.{IsWellFormed};
+ghost use Rattle.ir_tree_laws.specs.Changes.{entry_in};
+ghost use Rattle.ir_tree_laws.specs.Reasons.{holds_none, put_reason, set_entry_reason, set_operand_reason, shift_reason, take_reason};
+ghost use Rattle.ir_store.specs.Calls.{after_entry, after_operand, after_put, after_shift, after_take};
+ghost use Rattle.ir_event.specs.declared.event.Event.TheVariants.{Put};
+ghost use Rattle.ir_event.specs.Modules.{things_in, module_in, shown_in};
+ghost use Rattle.ir_event.specs.Listener.{ShowsTaken};
 ghost use Rattle.ir_event.specs.Step.{IsOperandEvent, IsOperandStep};
+ghost use Rattle.ir_event.specs.Edits.{IsEntryEvent, IsEntryStep, IsPutStep, IsShiftEvent, IsShiftStep, IsTakeStep};
 
 use crate::event::Event;
 use crate::world::World;
 use ir_store::store::Store;
+use ir_tree::place::{Part, Place};
+use ir_tree::sound::comes_before;
 use ir_tree::tree::TreeOp;
 use ir_tree::value::Value;
 use ir_types::context::Context;
-use ir_types::ids::OpId;
+use ir_types::ids::{AttrId, NameId, OpId};
 use ir_types::refusal::Refusal;
-use op_registry::registry::Registry;
-use std::alloc::{AllocError, Global};
 
-/// Sets an operand of a store's module, and gives the event.
+/// Puts an operation at a place of the module, and gives the event: one like a header, whose blocks hold none and
+/// whose id isn't looked at. Its id is the next free one.
+///
+/// Refusals: `NoSuchOp` where the place's parent isn't in the module; `NoSuchIndex` where that has no such place;
+/// `Full`; `IdsExhausted`; `TooDeepHere`; `NoSuchValue`; `NotVisible` where it wouldn't see an operand; in this
+/// order; and `Memory`.
+pub fn put(world: &mut World, place: Place, header: &TreeOp) -> Result<Event, Refusal>
+    requires sound { IsSoundIn world.old.ctx header.now }
+    requires bare { holds_none (Some header.now) ≡ true }
+    requires unheld { finmap.get world.old.store.held world.old.store.module_of.next ≡ None }
+    ensures step { IfOk result (λ e. IsPutStep place e (things_in world.old) (module_in world.old) (module_in world.new)) }
+    ensures store { OnOk result (world.new.store ≡ after_put place header.now world.old.store) }
+    ensures ctx { world.new.ctx ≡ world.old.ctx }
+    ensures refused { MatchResult result (λ _. put_reason (isolated_in world.old.ctx) place header.now world.old.store.module_of.next world.old.store.module_of.tree ≡ None)
+        (λ e. IsRefusedFor {A = Unit {0}} (put_reason (isolated_in world.old.ctx) place header.now world.old.store.module_of.next world.old.store.module_of.tree) (Err e)) }
+    ensures err { OnErr result (world.new.store ≡ world.old.store) }
+{
+    put_in(&world.ctx, &mut world.store, &place, header)
+}
+
+/// Puts an operation at a place of a store's module.
+fn put_in(
+    ctx: &Context,
+    store: &mut Store,
+    place: &Place,
+    header: &TreeOp,
+) -> Result<Event, Refusal>
+    requires sound { IsSoundIn ctx.now header.now }
+    requires bare { holds_none (Some header.now) ≡ true }
+    requires unheld { finmap.get store.old.held store.old.module_of.next ≡ None }
+    ensures ok { IfOk result (λ e. (e ≡ Put store.old.module_of.next place.now true) × (store.new ≡ after_put place.now header.now store.old)) }
+    ensures refused { MatchResult result (λ _. put_reason (isolated_in ctx.now) place.now header.now store.old.module_of.next store.old.module_of.tree ≡ None)
+        (λ e. IsRefusedFor {A = Unit {0}} (put_reason (isolated_in ctx.now) place.now header.now store.old.module_of.next store.old.module_of.tree) (Err e)) }
+    ensures formed { IsWellFormed (isolated_in ctx.now) store.old.module_of → IsWellFormed (isolated_in ctx.now) store.new.module_of }
+    ensures err { OnErr result (store.new ≡ store.old) }
+{
+    match store.put(ctx, *place, header) {
+        Ok(op) => Ok(Event::Put {
+            op,
+            place: *place,
+            fresh: true,
+        }),
+        Err(refusal) => Err(refusal),
+    }
+}
+
+/// Takes an operation out of the module, and gives the event. It is held then, and shown as it was.
+///
+/// Refusals, in order: `NoSuchOp`; `IsRoot`; `NotEmpty`; `HasUses`.
+pub fn take(world: &mut World, op: OpId) -> Result<Event, Refusal>
+    ensures step { IfOk result (λ e. IsTakeStep op e (things_in world.old) (module_in world.old) (module_in world.new)) }
+    ensures shown { IfOk result (λ e. ShowsTaken e (module_in world.old) (shown_in world.new)) }
+    ensures store { OnOk result (world.new.store ≡ after_take op world.old.store) }
+    ensures ctx { world.new.ctx ≡ world.old.ctx }
+    ensures refused { MatchResult result (λ _. take_reason op world.old.store.module_of.tree ≡ None) (λ e. take_reason op world.old.store.module_of.tree ≡ Some e) }
+    ensures err { OnErr result (world.new.store ≡ world.old.store) }
+{
+    let place = world.store.place(op);
+    match world.store.take(op) {
+        Ok(()) => {}
+        Err(refusal) => return Err(refusal),
+    }
+    let Some(place) = place else {
+        return Err(Refusal::NoSuchOp);
+    };
+    Ok(Event::Take {
+        op,
+        place,
+        fresh: false,
+    })
+}
+
+/// Sets a key of one dictionary of an operation to an attribute, or takes it out, and gives the event. It wants memory
+/// only where the key has no slot.
+///
+/// Refusals, in order: `NoSuchOp`; `NoSuchKey` where there is no entry to be taken out; `Full` where the dictionary has
+/// no room for one more; and `Memory`.
+pub fn set_entry(
+    world: &mut World,
+    op: OpId,
+    part: Part,
+    key: NameId,
+    value: Option<AttrId>,
+) -> Result<Event, Refusal>
+    requires key { IsName world.old.ctx key }
+    requires value { IfSome value (λ a. IsAttr world.old.ctx a) }
+    ensures step { IfOk result (λ e. IsEntryStep op part key value e (things_in world.old) (module_in world.old) (module_in world.new)) }
+    ensures store { OnOk result (world.new.store ≡ after_entry (key_before_in world.old.ctx) op part key value world.old.store) }
+    ensures ctx { world.new.ctx ≡ world.old.ctx }
+    ensures refused { MatchResult result (λ _. set_entry_reason (key_before_in world.old.ctx) op part key value world.old.store.module_of.tree ≡ None)
+        (λ e. IsRefusedFor {A = Unit {0}} (set_entry_reason (key_before_in world.old.ctx) op part key value world.old.store.module_of.tree) (Err e)) }
+    ensures err { OnErr result (world.new.store ≡ world.old.store) }
+{
+    enter_in(&world.ctx, &mut world.store, op, &part, key, &value)
+}
+
+/// Sets an entry of a store's module.
+fn enter_in(
+    ctx: &Context,
+    store: &mut Store,
+    op: OpId,
+    part: &Part,
+    key: NameId,
+    value: &Option<AttrId>,
+) -> Result<Event, Refusal>
+    requires key { IsName ctx.now key }
+    requires value { IfSome value.now (λ a. IsAttr ctx.now a) }
+    requires sound { IsSoundIn ctx.now store.old.module_of.tree }
+    ensures event { IfOk result (λ e. IsEntryEvent (key_before_in ctx.now) op part.now key value.now store.old.module_of.tree e) }
+    ensures store { OnOk result (store.new ≡ after_entry (key_before_in ctx.now) op part.now key value.now store.old) }
+    ensures refused { MatchResult result (λ _. set_entry_reason (key_before_in ctx.now) op part.now key value.now store.old.module_of.tree ≡ None)
+        (λ e. IsRefusedFor {A = Unit {0}} (set_entry_reason (key_before_in ctx.now) op part.now key value.now store.old.module_of.tree) (Err e)) }
+    ensures sound { IsSoundIn ctx.now store.new.module_of.tree }
+    ensures formed { IsWellFormed (isolated_in ctx.now) store.old.module_of → IsWellFormed (isolated_in ctx.now) store.new.module_of }
+    ensures err { OnErr result (store.new ≡ store.old) }
+{
+    let Some(old) = entry_of(ctx, store, op, *part, key) else {
+        return Err(Refusal::NoSuchOp);
+    };
+    match store.set_entry(ctx, op, *part, key, *value) {
+        Ok(()) => {}
+        Err(refusal) => return Err(refusal),
+    }
+    Ok(Event::SetEntry {
+        op,
+        part: *part,
+        key,
+        old,
+        new: *value,
+    })
+}
+
+/// Makes a value an operand of an operation, in place of the one that was there, and gives the event. It takes no
+/// memory.
+///
+/// Refusals, in order: `NoSuchOp`; `NoSuchIndex` where it has no such operand; `NoSuchValue`; `NotVisible` where the
+/// operation doesn't see the value.
+pub fn set_operand(
+    world: &mut World,
+    op: OpId,
+    operand: u32,
+    value: Value,
+) -> Result<Event, Refusal>
+    ensures step { IfOk result (λ e. IsOperandStep op operand value e (things_in world.old) (module_in world.old) (module_in world.new)) }
+    ensures store { OnOk result (world.new.store ≡ after_operand op operand value world.old.store) }
+    ensures ctx { world.new.ctx ≡ world.old.ctx }
+    ensures refused { MatchResult result (λ _. set_operand_reason (isolated_in world.old.ctx) op operand value world.old.store.module_of.tree ≡ None)
+        (λ e. set_operand_reason (isolated_in world.old.ctx) op operand value world.old.store.module_of.tree ≡ Some e) }
+    ensures err { OnErr result (world.new.store ≡ world.old.store) }
+{
+    set_in(&world.ctx, &mut world.store, op, operand, &value)
+}
+
+/// Sets an operand of a store's module.
 fn set_in(
     ctx: &Context,
     store: &mut Store,
@@ -32,11 +192,14 @@ fn set_in(
     ensures event { IfOk result (λ e. IsOperandEvent op operand value.now store.old.module_of.tree e) }
     ensures store { OnOk result (store.new ≡ after_operand op operand value.now store.old) }
     ensures refused { MatchResult result (λ _. set_operand_reason (isolated_in ctx.now) op operand value.now store.old.module_of.tree ≡ None)
-        (λ e. IsRefusedFor {A = Unit {0}} (set_operand_reason (isolated_in ctx.now) op operand value.now store.old.module_of.tree) (Err e)) }
+        (λ e. set_operand_reason (isolated_in ctx.now) op operand value.now store.old.module_of.tree ≡ Some e) }
     ensures formed { IsWellFormed (isolated_in ctx.now) store.old.module_of → IsWellFormed (isolated_in ctx.now) store.new.module_of }
     ensures err { OnErr result (store.new ≡ store.old) }
 {
-    let old = store.set_operand(ctx, op, operand, *value)?;
+    let old = match store.set_operand(ctx, op, operand, *value) {
+        Ok(old) => old,
+        Err(refusal) => return Err(refusal),
+    };
     Ok(Event::SetOperand {
         op,
         operand,
@@ -45,67 +208,77 @@ fn set_in(
     })
 }
 
-impl World {
-    /// A world with a context, the rows of its operations, and a module with a tree and a next free id.
-    ///
-    /// Refusals: `UnknownValue`, `TooDeep`, `TooMany` in this order; `Memory`.
-    pub fn load(
-        alloc: Global,
-        ctx: Context,
-        registry: Registry,
-        tree: &TreeOp,
-        next: u32,
-    ) -> Result<World, Refusal>
-        requires sound { IsSoundIn ctx tree.now }
-        requires distinct { HasDistinctIds tree.now }
-        requires below { All (λ x. x < next) (ids tree.now) }
-        ensures ctx { IfOk result (λ w. w.ctx ≡ ctx) }
-        ensures store { IfOk result (λ w. Loaded tree.now next w.store) }
-        ensures refused { IfErr result (λ e. (e ≡ Refusal.Memory) ⊎ (fault (isolated_in ctx) tree.now ≡ Some e)) }
-    {
-        let store = Store::load(alloc, &ctx, tree, next)?;
-        Ok(World {
-            ctx,
-            registry,
-            store,
-        })
-    }
+/// Shifts an operation, with what is inside it, to a place of the module, and gives the event. It takes no memory.
+///
+/// Refusals, in order: `NoSuchOp` where it, or the place's parent, isn't in the module; `IsRoot`; `NoSuchIndex` where
+/// there is no such place; `IntoItself`; `OtherTable` where another nearest symbol table is around the place;
+/// `TooDeepHere`; `NotVisible` where an operand wouldn't be visible any more.
+pub fn shift(world: &mut World, op: OpId, place: Place) -> Result<Event, Refusal>
+    ensures step { IfOk result (λ e. IsShiftStep op place e (things_in world.old) (module_in world.old) (module_in world.new)) }
+    ensures store { OnOk result (world.new.store ≡ after_shift op place world.old.store) }
+    ensures ctx { world.new.ctx ≡ world.old.ctx }
+    ensures refused { MatchResult result (λ _. shift_reason (isolated_in world.old.ctx) (λ n. is_table (name_term world.old.ctx n)) op place world.old.store.module_of.tree ≡ None)
+        (λ e. shift_reason (isolated_in world.old.ctx) (λ n. is_table (name_term world.old.ctx n)) op place world.old.store.module_of.tree ≡ Some e) }
+    ensures err { OnErr result (world.new.store ≡ world.old.store) }
+{
+    shift_in(&world.ctx, &mut world.store, op, &place)
+}
 
-    /// The same world of a tree that is handed over, and is known to be formed: it isn't checked again.
-    pub fn hold(
-        alloc: Global,
-        ctx: Context,
-        registry: Registry,
-        tree: TreeOp,
-        next: u32,
-    ) -> Result<World, AllocError>
-        requires sound { IsSoundIn ctx tree }
-        requires distinct { HasDistinctIds tree }
-        requires below { All (λ x. x < next) (ids tree) }
-        requires formed { IsFormed (isolated_in ctx) tree }
-        ensures ctx { IfOk result (λ w. w.ctx ≡ ctx) }
-        ensures store { IfOk result (λ w. Loaded tree next w.store) }
-    {
-        let store = Store::hold(alloc, &ctx, tree, next)?;
-        Ok(World {
-            ctx,
-            registry,
-            store,
-        })
+/// Shifts an operation in a store's module.
+fn shift_in(ctx: &Context, store: &mut Store, op: OpId, place: &Place) -> Result<Event, Refusal>
+    requires { IsWellFormed (isolated_in ctx.now) store.old.module_of }
+    ensures event { IfOk result (λ e. IsShiftEvent op place.now store.old.module_of.tree e) }
+    ensures store { OnOk result (store.new ≡ after_shift op place.now store.old) }
+    ensures refused { MatchResult result (λ _. shift_reason (isolated_in ctx.now) (λ n. is_table (name_term ctx.now n)) op place.now store.old.module_of.tree ≡ None)
+        (λ e. shift_reason (isolated_in ctx.now) (λ n. is_table (name_term ctx.now n)) op place.now store.old.module_of.tree ≡ Some e) }
+    ensures formed { IsWellFormed (isolated_in ctx.now) store.new.module_of }
+    ensures err { OnErr result (store.new ≡ store.old) }
+{
+    let old = store.place(op);
+    match store.shift(ctx, op, *place) {
+        Ok(()) => {}
+        Err(refusal) => return Err(refusal),
     }
+    let Some(old) = old else {
+        return Err(Refusal::NoSuchOp);
+    };
+    Ok(Event::Shift {
+        op,
+        old,
+        new: *place,
+    })
+}
 
-    /// Makes a value an operand of an operation, in place of the one that was there, and gives the event.
-    ///
-    /// Refusals: `NoSuchOp`; `NoSuchIndex` where it has no such operand; `NoSuchValue`; `NotVisible` where
-    /// the operation doesn't see the value; in this order; and `Memory`.
-    pub fn set_operand(&mut self, op: OpId, operand: u32, value: Value) -> Result<Event, Refusal>
-        ensures step { IfOk result (λ e. IsOperandStep op operand value e (things_in self.old) (module_in self.old) (module_in self.new)) }
-        ensures store { OnOk result (self.new.store ≡ after_operand op operand value self.old.store) }
-        ensures ctx { self.new.ctx ≡ self.old.ctx }
-        ensures refused { MatchResult result (λ _. set_operand_reason (isolated_in self.old.ctx) op operand value self.old.store.module_of.tree ≡ None)
-            (λ e. IsRefusedFor {A = Unit {0}} (set_operand_reason (isolated_in self.old.ctx) op operand value self.old.store.module_of.tree) (Err e)) }
-        ensures err { OnErr result (self.new.store ≡ self.old.store) }
-    {
-        set_in(&self.ctx, &mut self.store, op, operand, &value)
+/// The attribute at a key among entries, if there is one.
+fn entry_among(ctx: &Context, entries: &[(NameId, AttrId)], key: NameId) -> Option<AttrId>
+    ensures { result ≡ entry_at (key_before_in ctx.now) key entries.now }
+{
+    let mut rest = entries;
+    while let [entry, tail @ ..] = rest {
+        if !comes_before(ctx, key, entry.0) && !comes_before(ctx, entry.0, key) {
+            return Some(entry.1);
+        }
+        rest = tail;
+    }
+    None
+}
+
+/// What one dictionary of an operation has at a key, or none where the operation isn't in the module.
+fn entry_of(
+    ctx: &Context,
+    store: &Store,
+    op: OpId,
+    part: Part,
+    key: NameId,
+) -> Option<Option<AttrId>>
+    ensures { result ≡ entry_in (key_before_in ctx.now) op part key store.now.module_of.tree }
+{
+    if !store.in_tree(op) {
+        return None;
+    }
+    let node = store.node(op)?;
+    match part {
+        Part::Props => Some(entry_among(ctx, node.properties(), key)),
+        Part::Attrs => Some(entry_among(ctx, node.attributes(), key)),
     }
 }

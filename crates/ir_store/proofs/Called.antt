@@ -2,7 +2,7 @@
 use Rattle.std.proofs.Common.{◌≡◌, ℕ, ◌<◌, List, map, set, get_or, sym, ap, ◌∙◌, subst, length, false, Option, Some, None, arith}
 use Rattle.std.specs.FinMap as finmap
 use Rattle.std.proofs.lemmas.List.{get_or-map, get_or-set_same, get_or-set_other, length-set, map-set, length-map}
-use Rattle.chains.specs.Lists.{Lists, free, without as drop_node, IsItem}
+use Rattle.ir_store_lists.specs.Lists.{Lists, free, without as drop_node, IsItem}
 use Rattle.ir_tree.specs.Tree.{Op, Head, op, head}
 use Rattle.ir_tree.specs.Ids.{find}
 use Rattle.ir_tree.specs.Places.{without}

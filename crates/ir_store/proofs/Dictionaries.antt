@@ -20,7 +20,7 @@ use Rattle.ir_tree_laws.proofs.Listed.{all_each, both}
 use Rattle.ir_tree_laws.specs.Stands.{stands as all_stands}
 use Rattle.ir_tree_laws.proofs.Readings.{stands_every}
 use Rattle.ir_tree_laws.proofs.Members.{found_stands}
-use Rattle.entries.specs.Slots.{gone_after, has_key, has_slot as is_slot}
+use Rattle.ir_store_contents.specs.Slots.{gone_after, has_key, has_slot as is_slot}
 use Rattle.ir_store_slots.specs.declared.row.Row.{Row as Kept}
 use Rattle.ir_store.specs.declared.store.Store.TheInside.{Inside}
 use Rattle.ir_store_slots.specs.Nodes.{node_of}

@@ -4,7 +4,7 @@ use Rattle.std.specs.FinMap as finmap
 use Rattle.std.specs.Ordering.{nat_cmp}
 use Rattle.std.specs.Cmp.{nat_cmp_total}
 use Rattle.std.proofs.lemmas.Bool.{cases_eq, eq-eqb, ne_eqb, cond-true, cond-false, cond_both}
-use Rattle.chains.specs.Lists.{Lists}
+use Rattle.ir_store_lists.specs.Lists.{Lists}
 use Rattle.ir_tree.specs.Tree.{Head, Op}
 use Rattle.ir_tree.specs.Frames.{owner_of}
 use Rattle.ir_tree.specs.Ids.{has_id, op_count}

@@ -5,7 +5,7 @@ use Rattle.std.specs.Ordering.{nat_cmp}
 use Rattle.std.specs.Cmp.{nat_cmp_total}
 use Rattle.std.proofs.lemmas.Bool.{cases_Bool, cases_eq, eq-eqb, ne_eqb, cases_lt}
 use Rattle.ir_store_slots.proofs.Items.{eq_nat}
-use Rattle.chains.specs.Lists.{Laws, free}
+use Rattle.ir_store_lists.specs.Lists.{Laws, free}
 use Rattle.ir_tree.specs.Tree.{Op}
 use Rattle.ir_tree.specs.Ids.{HasDistinctIds, find, first_of, op_count}
 use Rattle.ir_store.specs.declared.store.Store.TheInside.{Inside}

@@ -5,7 +5,7 @@ use Rattle.std.specs.Cmp.{nat_cmp_total}
 use Rattle.std.specs.FinMap as finmap
 use Rattle.std.proofs.lemmas.Bool.{cases_eq, eq-eqb, ne_eqb, cond-true, cond-false, cases_Bool, false≢true}
 use Rattle.std.proofs.lemmas.List.{get_or-set_same, get_or-set_other, length-set}
-use Rattle.chains.specs.Lists.{Lists, Laws, list_at, home_at, free, has, IsHead, IsItem, IsFree}
+use Rattle.ir_store_lists.specs.Lists.{Lists, Laws, list_at, home_at, free, has, IsHead, IsItem, IsFree}
 use Rattle.ir_tree.specs.declared.place.Place.{Place}
 use Rattle.ir_tree.specs.Tree.{Op, op, Ops, no_ops}
 use Rattle.ir_tree.specs.Ids.{has_id, find}

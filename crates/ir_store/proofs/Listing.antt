@@ -3,8 +3,8 @@ use Rattle.std.proofs.Common.{◌≡◌, ℕ, zero, suc, ◌<◌, List, [], ◌�
 use Rattle.std.specs.Prelude.{option_map, option_and_then}
 use Rattle.std.proofs.lemmas.Bool.{cases_Bool, cases_eq, eq-eqb, ne_eqb, false≢true, or_left, or_right}
 use Rattle.std.proofs.lemmas.List.{get_or_past}
-use Rattle.chains.specs.Lists.{Lists, Laws, has, before, last_of, list_at, home_at, free, IsHead}
-use Rattle.order.specs.Labels.{goes_before as slot_before}
+use Rattle.ir_store_lists.specs.Lists.{Lists, Laws, has, before, last_of, list_at, home_at, free, IsHead}
+use Rattle.ir_store_lists.specs.Labels.{goes_before as slot_before}
 use Rattle.ir_tree.specs.declared.place.Place.{Place}
 use Rattle.ir_tree.specs.Tree.{Op, op, Regions, no_regions, region, empty, block, Ops, no_ops, next, head, regions, ops_of, op_list}
 use Rattle.ir_tree.specs.Ids.{HasDistinctIds, first_of}

@@ -2,7 +2,7 @@
 use Rattle.std.proofs.Common.{◌≡◌, ℕ, List, map, set, sym, ◌∙◌, subst, false, ◌&&◌, Option, Some}
 use Rattle.std.specs.Prelude.{is_some, IfSome}
 use Rattle.std.proofs.lemmas.Bool.{false≢true}
-use Rattle.chains.specs.Lists.{Lists, Laws, free, IsHead, IsItem, IsFree, without as drop_node}
+use Rattle.ir_store_lists.specs.Lists.{Lists, Laws, free, IsHead, IsItem, IsFree, without as drop_node}
 use Rattle.ir_tree.specs.declared.place.Place.{Place}
 use Rattle.ir_tree.specs.Places.{shifted}
 use Rattle.ir_store.specs.declared.store.Store.TheInside.{Inside}

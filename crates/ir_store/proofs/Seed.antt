@@ -5,7 +5,7 @@ use Rattle.std.specs.Cmp.{nat_cmp_total}
 use Rattle.std.specs.FinMap as finmap
 use Rattle.std.proofs.lemmas.Bool.{cases_eq, eq-eqb, ne_eqb, cond-true, cond-false, false≢true, or_left}
 use Rattle.std.proofs.lemmas.List.{length-set, get_or-set_same, get_or-set_other}
-use Rattle.chains.specs.Lists.{home_at, free}
+use Rattle.ir_store_lists.specs.Lists.{home_at, free}
 use Rattle.ir_store.proofs.Distinct.{bare_own, bare_count}
 use Rattle.ir_tree.specs.Ids.{HasDistinctIds, has_id, op_count}
 use Rattle.ir_tree.specs.Tree.{Op, op, head}

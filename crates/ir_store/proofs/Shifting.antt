@@ -4,8 +4,8 @@ use Rattle.std.specs.Prelude.{IfSome}
 use Rattle.std.specs.List.{list_any}
 use Rattle.std.proofs.lemmas.Bool.{cases_eq, eqb-false, eq-eqb, ne_eqb, cond-true, cond-false, cases_Bool, false≢true, or_left, or_right, or_cases}
 use Rattle.std.proofs.lemmas.List.{get_or-set_same, get_or-set_other, length-set}
-use Rattle.chains.specs.Lists.{Lists, Laws, list_at, home_at, free, has, IsHead, IsItem, IsFree, without as drop_node}
-use Rattle.chains.proofs.Cuts.{list_at-map}
+use Rattle.ir_store_lists.specs.Lists.{Lists, Laws, list_at, home_at, free, has, IsHead, IsItem, IsFree, without as drop_node}
+use Rattle.ir_store_lists.proofs.Cuts.{list_at-map}
 use Rattle.ir_tree.specs.declared.place.Place.{Place}
 use Rattle.ir_tree.specs.Tree.{Op, op, Regions, no_regions, region, Region, empty, block, Ops, no_ops, next, head}
 use Rattle.ir_tree.specs.Ids.{HasDistinctIds, has_id, find, ids, op_count, regions_ids}

@@ -4,7 +4,7 @@ use Rattle.std.specs.Prelude.{option_and_then}
 use Rattle.std.specs.FinMap as finmap
 use Rattle.std.proofs.lemmas.Bool.{cases_eq, eqb-true, false≢true}
 use Rattle.std.proofs.lemmas.List.{length-set, length-map}
-use Rattle.chains.specs.Lists.{Lists, Laws, home_at, free, IsHead, IsItem, IsFree}
+use Rattle.ir_store_lists.specs.Lists.{Lists, Laws, home_at, free, IsHead, IsItem, IsFree}
 use Rattle.ir_tree.specs.declared.place.Place.{Place}
 use Rattle.ir_tree.specs.Tree.{Op}
 use Rattle.ir_tree.specs.Places.{put}

@@ -4,7 +4,7 @@ use Rattle.std.specs.Prelude.{option_map, if◌then◌else◌}
 use Rattle.std.specs.List.{list_any}
 use Rattle.std.proofs.lemmas.Bool.{cases_Bool, cases_eq, eq-eqb, eqb-true, cond-true, cond-false, false≢true, or_left}
 use Rattle.std.proofs.lemmas.List.{append_assoc}
-use Rattle.chains.specs.Lists.{Lists, Laws, Once, has, after, list_at, home_at, IsHead, IsItem}
+use Rattle.ir_store_lists.specs.Lists.{Lists, Laws, Once, has, after, list_at, home_at, IsHead, IsItem}
 use Rattle.ir_tree.specs.declared.place.Place.{Place}
 use Rattle.ir_tree.specs.Tree.{Op, op, Regions, no_regions, region, Region, empty, block, Ops, no_ops, next, head}
 use Rattle.ir_tree.specs.Ids.{ids, regions_ids, has_id, first_of, HasDistinctIds}

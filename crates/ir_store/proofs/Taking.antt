@@ -8,8 +8,8 @@ use Rattle.std.specs.Cmp.{nat_cmp_total}
 use Rattle.std.specs.FinMap as finmap
 use Rattle.std.proofs.lemmas.Bool.{cases_eq, eq-eqb, ne_eqb, cond-true, cond-false, cases_Bool, false≢true}
 use Rattle.std.proofs.lemmas.List.{get_or-set_same, get_or-set_other, length-set}
-use Rattle.chains.specs.Lists.{Lists, list_at, home_at, free, IsHead, IsFree, without as drop_node}
-use Rattle.chains.proofs.Cuts.{list_at-map}
+use Rattle.ir_store_lists.specs.Lists.{Lists, list_at, home_at, free, IsHead, IsFree, without as drop_node}
+use Rattle.ir_store_lists.proofs.Cuts.{list_at-map}
 use Rattle.ir_types.specs.declared.refusal.Refusal.{Refusal}
 use Rattle.ir_tree.specs.Tree.{Op, op, Regions, no_regions, region, empty, block, Ops, no_ops, next, head, regions}
 use Rattle.ir_tree.specs.Ids.{has_id, find}

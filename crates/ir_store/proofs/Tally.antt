@@ -4,7 +4,7 @@ use Rattle.std.specs.Prelude.{is_some, option_and_then, if◌then◌else◌}
 use Rattle.std.specs.List.{list_any}
 use Rattle.std.proofs.lemmas.Bool.{cases_eq, eq-eqb, ne_eqb, cases_lt, false≢true, or_left, or_right}
 use Rattle.std.proofs.lemmas.List.{length-map}
-use Rattle.chains.specs.Lists.{Lists}
+use Rattle.ir_store_lists.specs.Lists.{Lists}
 use Rattle.ir_tree.specs.declared.value.Value.{Value}
 use Rattle.ir_tree.specs.declared.place.Place.{Place}
 use Rattle.ir_tree.specs.Frames.{owner_of}

@@ -4,8 +4,8 @@ use Rattle.std.specs.Prelude.{option_and_then, nat_lt, if◌then◌else◌, Resu
 use Rattle.std.specs.List.{list_all}
 use Rattle.std.proofs.lemmas.Bool.{eq-eqb, eqb-true, cases_Bool, false≢true, and_cases}
 use Rattle.std.proofs.lemmas.Bool.Decides.{nat_tests}
-use Rattle.chains.specs.Lists.{Lists, Laws, has, list_at, home_at, free, IsHead, IsItem}
-use Rattle.chains.proofs.Around.{home_inside}
+use Rattle.ir_store_lists.specs.Lists.{Lists, Laws, has, list_at, home_at, free, IsHead, IsItem}
+use Rattle.ir_store_lists.proofs.Around.{home_inside}
 use Rattle.ir_types.specs.declared.refusal.Refusal.{Refusal}
 use Rattle.ir_types.specs.declared.refusal.Refusal.TheVariants.{NoSuchOp, IsRoot, NotEmpty, HasUses}
 use Rattle.ir_tree.specs.declared.value.Value.{Value}

@@ -2,7 +2,7 @@
 use Rattle.std.proofs.Common.{◌≡◌, eqb, ℕ, zero, suc, ◌+◌, ◌-◌, ◌<◌, ◌≤◌, List, [], ◌∷◌, map, set, get_or, refl, sym, ap, ◌∙◌, subst, length, Bool, true, false, Option, Some, None, arith}
 use Rattle.std.specs.Prelude.{Result, Ok, Err}
 use Rattle.std.proofs.lemmas.List.{length-set, length-map}
-use Rattle.chains.specs.Lists.{Lists, Laws, free, without as drop_node}
+use Rattle.ir_store_lists.specs.Lists.{Lists, Laws, free, without as drop_node}
 use Rattle.ir_types.specs.declared.refusal.Refusal.{Refusal}
 use Rattle.ir_tree.specs.declared.value.Value.{Value}
 use Rattle.ir_store_slots.specs.declared.row.Row.{Row as Kept}
@@ -22,7 +22,7 @@ use Rattle.std.proofs.Common.{not, ◌&&◌, ⊎_elim}
 use Rattle.std.specs.Prelude.{is_some, nat_lt, if◌then◌else◌}
 use Rattle.std.specs.FinMap as finmap
 use Rattle.std.proofs.lemmas.Bool.{cases_eq, cases_Bool, false≢true}
-use Rattle.chains.specs.Lists.{IsItem, IsHead, IsFree}
+use Rattle.ir_store_lists.specs.Lists.{IsItem, IsHead, IsFree}
 use Rattle.ir_types.specs.declared.refusal.Refusal.TheVariants.{NoSuchIndex, NoSuchValue}
 use Rattle.ir_tree.specs.declared.place.Place.{Place}
 use Rattle.ir_tree.specs.Tree.{Head, Op, head}
@@ -53,7 +53,7 @@ use Rattle.ir_store.proofs.Spotted.{joint_distinct, joint_tree, joint_out, held_
 use Rattle.ir_store_slots.specs.Spots.{StandsIn}
 use Rattle.std.specs.Prelude.{IfSome}
 use Rattle.std.proofs.lemmas.List.{get_or-set_same, get_or-set_other}
-use Rattle.chains.specs.Lists.{home_at}
+use Rattle.ir_store_lists.specs.Lists.{home_at}
 use Rattle.ir_store.proofs.Cut.{not_item}
 use Rattle.ir_store.proofs.Joining.{FoundHeld}
 use Rattle.ir_store.proofs.Called.{rows_in, keys_in, stored, cut_tree, write_tree, right_after, write_fits, write_inside}

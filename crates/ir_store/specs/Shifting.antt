@@ -1,7 +1,7 @@
 -- What shifting an operation needs, and where it goes in the slots.
 use Rattle.std.specs.Prelude.{◌≡◌, ℕ, zero, suc, List, [], ◌∷◌, eqb, true, false, not, ◌&&◌, Bool, if◌then◌else◌, Option, Some, None, option_map, option_and_then}
 use Rattle.std.specs.List.{list_all}
-use Rattle.chains.specs.Lists.{list_at}
+use Rattle.ir_store_lists.specs.Lists.{list_at}
 use Rattle.ir_types.specs.declared.refusal.Refusal.{Refusal}
 use Rattle.ir_types.specs.declared.refusal.Refusal.TheVariants.{NoSuchOp, NoSuchIndex, IsRoot, IntoItself, OtherTable, TooDeepHere}
 use Rattle.ir_tree.specs.declared.place.Place.{Place}

@@ -28,7 +28,7 @@ use ir_tree::place::Place;
 use ir_types::context::Context;
 use ir_types::ids::OpId;
 use ir_types::refusal::Refusal;
-use order::Ordered;
+use ir_store_lists::Ordered;
 
 impl Store {
     /// Moves an operation of the module other than the root, with what stands in it, to a place outside of it. Whether

@@ -18,7 +18,7 @@ ghost use Rattle.ir_store.specs.Calls.{after_take, after_restore, after_retract,
 ghost use Rattle.ir_store_slots.specs.Emptied.{seeded};
 ghost use Rattle.ir_store.specs.Holds.{HoldsOf, HoldsOf-prop, GoneOf, GoneOf-prop};
 
-use chains::Chains;
+use ir_store_lists::Chains;
 use ir_store_ids::IdTable;
 use ir_store_slots::find::{Keys, find, slot};
 use ir_store_slots::grow::grow_slot;
@@ -37,7 +37,7 @@ use ir_tree::tree::TreeOp;
 use ir_tree::value::Value;
 use ir_types::ids::{OpId, TypeId};
 use ir_types::refusal::Refusal;
-use order::Ordered;
+use ir_store_lists::Ordered;
 use std::alloc::{AllocError, Global};
 use std::marker::Model;
 

@@ -10,7 +10,7 @@ ghost use Rattle.ir_tree.specs.Meaning.{IsSoundIn};
 ghost use Rattle.ir_tree_laws.specs.Reads.{ops_in};
 ghost use Rattle.ir_tree_laws.specs.Reasons.{has_place, holds_none, is_in_list};
 ghost use Rattle.ir_tree_laws.specs.Values.{has_value, region_at};
-ghost use Rattle.entries.specs.Slots.{has_key};
+ghost use Rattle.ir_store_contents.specs.Slots.{has_key};
 ghost use Rattle.ir_store.specs.Stored.{has_entry};
 ghost use Rattle.ir_store.specs.Calls.{CanRestore, CanRevert};
 

@@ -1,6 +1,6 @@
 //! The tree of a store.
 ghost use Rattle.std.specs.Prelude.{◌≡◌, ◌∷◌, [], ℕ, IfOk, IfSome, map};
-ghost use Rattle.chains.specs.Lists.{IsHead, list_at};
+ghost use Rattle.ir_store_lists.specs.Lists.{IsHead, list_at};
 ghost use Rattle.ir_tree.specs.Tree.{op, head, regions_of};
 ghost use Rattle.ir_tree.specs.View.{region_view};
 ghost use Rattle.ir_store_slots.specs.Rows.{row_of as the_row, rows_of, row_at, shape_of};
@@ -11,7 +11,7 @@ ghost use Rattle.ir_store_slots.specs.Spells.{SpellsOp, SpellsRegions, SpellsReg
 use ir_store_slots::row::{Area, Row};
 use ir_tree::place::Part;
 use ir_tree::tree::{TreeOp, TreeRegion};
-use order::Ordered;
+use ir_store_lists::Ordered;
 use std::alloc::{AllocError, Global};
 
 /// The operation of a slot, with all that stands in it, where that is at most so many levels deep.

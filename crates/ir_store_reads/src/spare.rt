@@ -1,7 +1,7 @@
 //! Slots that were given up and are written again. Whether a slot can be is looked at as it is, so nothing has to be
 //! known of it.
 ghost use Rattle.std.specs.Prelude.{◌≡◌, ◌<◌, ◌∷◌, [], ℕ, true, length, map, IfOk, IfSome};
-ghost use Rattle.chains.specs.Lists.{IsFree, IsHead, free, list_at};
+ghost use Rattle.ir_store_lists.specs.Lists.{IsFree, IsHead, free, list_at};
 ghost use Rattle.ir_tree.specs.View.{region_view};
 ghost use Rattle.ir_store_slots.specs.Rows.{row_of, rows_of, row_at, shape_of};
 ghost use Rattle.ir_store_slots.specs.Index.{cells_of, cell_at};
@@ -10,12 +10,12 @@ ghost use Rattle.ir_store_slots.specs.Grows.{parts_of, NewBlock, IsBlock, AreBlo
 ghost use Rattle.ir_store_reads.specs.Again.{HeadsOf, NodesOf, BlockFits, RowFits};
 ghost use Rattle.ir_tree.specs.Tree.{head};
 
-use chains::Chains;
+use ir_store_lists::Chains;
 use ir_store_slots::grow::held_row;
 use ir_store_slots::row::{Area, Cell, Row};
 use ir_tree::tree::{TreeOp, TreeRegion};
 use ir_types::ids::OpId;
-use order::Ordered;
+use ir_store_lists::Ordered;
 use std::alloc::{AllocError, Global};
 
 /// No slot.

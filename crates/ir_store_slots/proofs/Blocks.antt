@@ -2,7 +2,7 @@
 use Rattle.std.proofs.Common.{◌≡◌, ℕ, zero, suc, ◌+◌, ◌<◌, ◌≤◌, List, [], ◌∷◌, ◌++◌, refl, sym, ap, ◌∙◌, subst, length, true, ⊎_elim, arith, Some, None, slice_get}
 use Rattle.std.proofs.lemmas.Bool.{cases_lt, cases_eq}
 use Rattle.std.proofs.lemmas.List.{get_or_past}
-use Rattle.chains.specs.Lists.{Lists, home_at}
+use Rattle.ir_store_lists.specs.Lists.{Lists, home_at}
 use Rattle.ir_store_slots.specs.Rows.{Row, Shape, row_at}
 use Rattle.ir_store_slots.specs.Grows.{Parts, IsEven, Wider, NewHead, NewBlock, AreBlocks, IsBlock, Runs, AddsSlot, KeepsSlots, row_spare}
 use Rattle.ir_store_slots.proofs.Wide.{wide_then, head_stays, blocks_stay}

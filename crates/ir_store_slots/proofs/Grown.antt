@@ -2,7 +2,7 @@
 use Rattle.std.proofs.Common.{◌≡◌, ℕ, zero, suc, ◌+◌, ◌-◌, ◌<◌, ◌≤◌, List, [], ◌∷◌, ◌++◌, map, take, drop, refl, sym, ap, ◌∙◌, subst, length, true, false, arith, Option, Some, None, get_or}
 use Rattle.std.proofs.lemmas.List.{map-append, append_assoc}
 use Rattle.std.proofs.lemmas.Option.{slice_get_within}
-use Rattle.chains.specs.Lists.{Lists, home_at}
+use Rattle.ir_store_lists.specs.Lists.{Lists, home_at}
 use Rattle.ir_tree.specs.declared.tree.TreeRegion.{TreeRegion}
 use Rattle.ir_tree.specs.View.{region_view}
 use Rattle.ir_tree.specs.Tree.{Op, op, head, region, Region, empty, block, no_ops, regions_of}

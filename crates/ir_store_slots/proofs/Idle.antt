@@ -4,7 +4,7 @@ use Rattle.std.specs.Prelude.{is_some, nat_lt}
 use Rattle.std.proofs.lemmas.Bool.{false≢true}
 use Rattle.std.proofs.lemmas.Bool.Decides.{nat_tests}
 use Rattle.std.proofs.lemmas.List.{get_or-set_other, length-set}
-use Rattle.chains.specs.Lists.{list_at, home_at, free, IsHead, IsItem}
+use Rattle.ir_store_lists.specs.Lists.{list_at, home_at, free, IsHead, IsItem}
 use Rattle.ir_store_slots.specs.Plans.{is_nil}
 use Rattle.ir_store_slots.specs.Index.{AreHeads, CanFree, all_idle, freed}
 

@@ -7,7 +7,7 @@ use Rattle.std.proofs.lemmas.Bool.{cases_eq, cases_lt, cases_Bool, eq-eqb, ne_eq
 use Rattle.std.proofs.lemmas.Bool.Decides.{nat_tests}
 use Rattle.std.proofs.lemmas.List.{length-set, get_or_past, length-map}
 use Rattle.std.proofs.lemmas.Bool.{or_left, or_right}
-use Rattle.chains.specs.Lists.{Lists, Laws, IsHead, IsItem, home_at, list_at, has, without, Once, after, free}
+use Rattle.ir_store_lists.specs.Lists.{Lists, Laws, IsHead, IsItem, home_at, list_at, has, without, Once, after, free}
 use Rattle.ir_store_slots.specs.declared.row.Row.{Row as Kept}
 use Rattle.ir_store_slots.specs.Stored.{Gone, none_gone}
 use Rattle.ir_store_slots.specs.Releases.{is_given, given_up, forgetting, released, key_left, key_so_far, IsKeyed, ReleasesSlot, ReleasesSome, GivenUp, Forgets, Released}

@@ -3,7 +3,7 @@ use Rattle.std.proofs.Common.{◌≡◌, ◌⊎◌, ℕ, zero, suc, ◌+◌, ◌
 use Rattle.std.specs.Prelude.{if◌then◌else◌}
 use Rattle.std.proofs.lemmas.Bool.{cases_lt, cases_eq}
 use Rattle.std.proofs.lemmas.List.{get_or_past, get_or_append_left, get_or_push, length-append, append_assoc, append-nil, map-append}
-use Rattle.chains.specs.Lists.{Lists, list_at, home_at, free}
+use Rattle.ir_store_lists.specs.Lists.{Lists, list_at, home_at, free}
 use Rattle.ir_store_slots.specs.declared.row.Cell.{Cell}
 use Rattle.ir_store_slots.specs.Rows.{Row, row_at, no_row}
 use Rattle.ir_store_slots.specs.Index.{cell_at, cells_of}

@@ -8,7 +8,7 @@ use Rattle.ir_types.specs.declared.refusal.Refusal.TheVariants.{NoSuchIndex}
 use Rattle.ir_store_slots.specs.Plans.{operand_in, write_reason}
 use Rattle.std.proofs.lemmas.Bool.{cases_Bool, false≢true, cases_lt}
 use Rattle.std.proofs.lemmas.List.{get_or_past}
-use Rattle.chains.specs.Lists.{Lists}
+use Rattle.ir_store_lists.specs.Lists.{Lists}
 use Rattle.ir_tree.specs.Tree.{Op, op, Regions, no_regions, region, empty, block, head}
 use Rattle.ir_tree.specs.Ids.{has_id, find, first_of}
 use Rattle.ir_store_slots.specs.Nodes.{node_of, regions_arguments}

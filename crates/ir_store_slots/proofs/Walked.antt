@@ -5,7 +5,7 @@ use Rattle.std.specs.List.{list_all}
 use Rattle.std.proofs.lemmas.Bool.{false≢true, cond-true, cond-false, eq-eqb, ne_eqb, or_left, or_right, cases_eq, cases_lt, eqb-true}
 use Rattle.std.proofs.lemmas.Bool.Decides.{nat_tests}
 use Rattle.std.proofs.lemmas.List.{get_or_past}
-use Rattle.chains.specs.Lists.{free, Once, Laws, IsHead, IsItem, list_at, has, after}
+use Rattle.ir_store_lists.specs.Lists.{free, Once, Laws, IsHead, IsItem, list_at, has, after}
 use Rattle.ir_tree.specs.Tree.{Op, op, Regions, no_regions, region, empty, block, Ops, no_ops, next}
 use Rattle.ir_tree.specs.Limits.{depth, regions_depth, ops_depth}
 use Rattle.ir_store_slots.specs.Rows.{Row, Shape, row_at}

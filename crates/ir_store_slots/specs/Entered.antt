@@ -5,7 +5,7 @@ use Rattle.ir_types.specs.declared.refusal.Refusal.TheVariants.{NoSuchOp}
 use Rattle.ir_tree.specs.declared.place.Part.{Part}
 use Rattle.ir_tree.specs.Edits.{part_of, change_part, change_entry}
 use Rattle.ir_tree_laws.specs.Reasons.{entry_reason}
-use Rattle.contents.specs.Slots.{Slots, gone_after}
+use Rattle.ir_store_contents.specs.Slots.{Slots, gone_after}
 use Rattle.ir_store_slots.specs.Stored.{gone_in, change_gone}
 use Rattle.ir_store_slots.specs.Rows.{Row, row_at}
 

@@ -1,6 +1,6 @@
 -- Slots that are added, and what a row needs that is written into one.
 use Rattle.std.specs.Prelude.{◌≡◌, ◌⊎◌, ℕ, zero, suc, ◌+◌, ◌<◌, ◌≤◌, List, [], ◌∷◌, ◌++◌, map, length, slice_get, Bool, true, false, if◌then◌else◌, Option, Some, None}
-use Rattle.chains.specs.Lists.{Lists, IsHead, IsFree, list_at, home_at, free}
+use Rattle.ir_store_lists.specs.Lists.{Lists, IsHead, IsFree, list_at, home_at, free}
 use Rattle.ir_tree.specs.Tree.{Head, Op, Region, empty, block, no_ops}
 use Rattle.ir_store_slots.specs.Emptied.{emptied_region, emptied}
 use Rattle.ir_tree.specs.declared.value.Value.{Value}

@@ -14,4 +14,4 @@ pub mod Grows
 pub mod Releases
 pub mod Entered
 pub mod Walks
-pub use Rattle.contents.specs.declared.area.Area
+pub use Rattle.ir_store_contents.specs.declared.area.Area

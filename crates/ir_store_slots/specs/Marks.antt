@@ -1,6 +1,6 @@
 -- The slots that are looked at when what is held is given up, in two lists.
 use Rattle.std.specs.Prelude.{◌≡◌, ◌<◌, ◌⊎◌, ℕ, suc, List, length, nat_lt, Bool, ◌||◌, if◌then◌else◌, Option, Some, None, IfSome}
-use Rattle.chains.specs.Lists.{IsHead, home_at, free}
+use Rattle.ir_store_lists.specs.Lists.{IsHead, home_at, free}
 use Rattle.ir_store_slots.specs.Stored.{Gone}
 use Rattle.ir_store_slots.specs.Rows.{Row, row_at}
 use Rattle.ir_store_slots.specs.Right.{Used}

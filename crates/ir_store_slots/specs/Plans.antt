@@ -2,7 +2,7 @@
 use Rattle.std.specs.Prelude.{ℕ, List, [], ◌∷◌, eqb, nat_lt, length, not, ◌&&◌, Bool, true, false, if◌then◌else◌, Option, Some, None, Result, Ok, Err}
 use Rattle.ir_types.specs.declared.refusal.Refusal.{Refusal}
 use Rattle.ir_types.specs.declared.refusal.Refusal.TheVariants.{NoSuchOp, NoSuchIndex, IsRoot, NotEmpty}
-use Rattle.chains.specs.Lists.{list_at, IsHead}
+use Rattle.ir_store_lists.specs.Lists.{list_at, IsHead}
 use Rattle.ir_tree.specs.Tree.{OpOf, head}
 use Rattle.ir_tree.specs.Ids.{has_id, find}
 use Rattle.ir_store_slots.specs.Rows.{Row, Shape, row_at}

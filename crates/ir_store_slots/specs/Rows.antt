@@ -5,9 +5,9 @@ use Rattle.ir_store_slots.specs.Stored.{Gone, none_gone}
 use Rattle.ir_store_slots.specs.Nodes.{Node}
 use Rattle.ir_tree.specs.declared.value.Value.{Value}
 use Rattle.ir_tree.specs.Edits.{put_operand}
-use Rattle.contents.specs.Contents.{Contents}
+use Rattle.ir_store_contents.specs.Contents.{Contents}
 use Rattle.ir_store_slots.specs.declared.row.Row.{Row as Kept}
-pub use Rattle.contents.specs.Shapes.{Shape, shape_of}
+pub use Rattle.ir_store_contents.specs.Shapes.{Shape, shape_of}
 
 pub record Row : Type 0 where
   pub used : Bool

@@ -5,7 +5,7 @@ use Rattle.std.specs.Coded.{Coded-set, coded_ℕ, coded_bool, coded_list, ×_pro
 use mathlib.Core.HLevel.{Σ_prop_path, ⊥_prop}
 use Rattle.ir_tree.specs.Tree.{Op, op, Regions, no_regions, region, Region, empty, block, Ops, no_ops, next}
 use Rattle.ir_tree.specs.Code.{head_code}
-use Rattle.chains.specs.Lists.{list_at}
+use Rattle.ir_store_lists.specs.Lists.{list_at}
 use Rattle.ir_store_slots.specs.Rows.{Row, Shape, row_at}
 
 module _ (rows : List Row) (lists : List (List ℕ)) where

@@ -11,7 +11,7 @@ use Rattle.ir_tree.specs.Code.{op_code}
 use Rattle.ir_tree.specs.Ids.{find, first_of}
 use Rattle.ir_tree.specs.Edits.{part_of}
 use Rattle.ir_tree.specs.WellFormed.{Module, module_code}
-use Rattle.contents.specs.Slots.{has_key, is_gone}
+use Rattle.ir_store_contents.specs.Slots.{has_key, is_gone}
 
 -- the keys that were taken out of an operation's dictionaries and whose slots stand, in the order in which they went
 pub record Gone : Type 0 where

@@ -4,14 +4,14 @@ ghost use Rattle.std.specs.FinMap as finmap;
 ghost use Rattle.ir_tree.specs.Edits.{entry_at, part_of as the_part};
 ghost use Rattle.ir_tree.specs.Meaning.{key_before_in, rises};
 ghost use Rattle.ir_tree_laws.specs.Reasons.{entry_reason};
-ghost use Rattle.contents.specs.Slots.{has_key, has_slot as is_slot};
-ghost use Rattle.contents.specs.Contents.{no_slots};
+ghost use Rattle.ir_store_contents.specs.Slots.{has_key, has_slot as is_slot};
+ghost use Rattle.ir_store_contents.specs.Contents.{no_slots};
 ghost use Rattle.ir_store_slots.specs.Rows.{row_of, rows_of, row_at, live_slot};
 ghost use Rattle.ir_store_slots.specs.Entered.{slots_in, row_with_entry, entry_in};
 
 use crate::find::{Keys, find, slot};
 use crate::row::Row;
-use contents::Dictionary;
+use ir_store_contents::Dictionary;
 use ir_tree::limits::MOST_ITEMS;
 use ir_tree::place::Part;
 use ir_types::context::Context;

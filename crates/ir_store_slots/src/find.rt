@@ -10,7 +10,7 @@ use crate::row::{Area, Row};
 use ir_store_ids::IdTable;
 use ir_types::ids::OpId;
 use ir_types::refusal::Refusal;
-use order::Ordered;
+use ir_store_lists::Ordered;
 
 /// The slots of operations by their numbers.
 pub type Keys = IdTable;

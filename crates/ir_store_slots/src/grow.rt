@@ -6,16 +6,16 @@ ghost use Rattle.ir_store_slots.specs.Rows.{row_of, rows_of, shape_of};
 ghost use Rattle.ir_store_slots.specs.Index.{cells_of};
 ghost use Rattle.ir_store_slots.specs.Grows.{parts_of, IsEven, Wider, Runs, AddsSlot, KeepsSlots, AreBlocks, IsBlock, Grown, AreEmptied, row_spare, row_held, bare_region};
 ghost use Rattle.ir_store_slots.specs.Emptied.{emptied_region};
-ghost use Rattle.chains.specs.Lists.{free};
+ghost use Rattle.ir_store_lists.specs.Lists.{free};
 ghost use Rattle.std.specs.Prelude.{if◌then◌else◌};
 
 use crate::row::{Area, Cell, Row, push_row};
-use chains::Chains;
-use contents::Contents;
+use ir_store_lists::Chains;
+use ir_store_contents::Contents;
 use ir_tree::tree::{TreeOp, TreeRegion};
 use ir_tree::value::Value;
 use ir_types::ids::{NameId, OpId, TypeId};
-use order::Ordered;
+use ir_store_lists::Ordered;
 use std::alloc::{AllocError, Global};
 
 /// A row that holds nothing.

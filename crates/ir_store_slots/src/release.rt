@@ -1,14 +1,14 @@
 //! Held operations are given up.
 ghost use Rattle.std.specs.Prelude.{◌≡◌, ◌<◌, true, length, if◌then◌else◌, ◌-◌};
 ghost use Rattle.std.specs.FinMap as finmap;
-ghost use Rattle.chains.specs.Lists.{free, has, list_at, without};
+ghost use Rattle.ir_store_lists.specs.Lists.{free, has, list_at, without};
 ghost use Rattle.ir_store_slots.specs.Releases.{is_given, given_up, forgetting, IsKeyed, GivenUp, Forgets, Released, ReleasesSlot};
 ghost use Rattle.ir_store_slots.specs.Marks.{Marked};
 ghost use Rattle.ir_store_slots.specs.Rows.{row_of, rows_of, row_at};
 
 use crate::find::Keys;
 use crate::row::Row;
-use chains::Chains;
+use ir_store_lists::Chains;
 
 /// Gives up what a slot holds, where its id is one of those that are given up: it is spare then, as another was before
 /// it. Whether there was such an operation.

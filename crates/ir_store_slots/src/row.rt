@@ -2,8 +2,8 @@
 ghost use Rattle.std.specs.Prelude.{◌≡◌, ◌<◌, ◌++◌, ◌∷◌, [], OnOk, OnErr, Some, length, slice_get, slice_set};
 ghost use Rattle.ir_store_slots.specs.Rows.{row_of, rows_of, row_with_operand};
 
-pub use contents::Area;
-use contents::Contents;
+pub use ir_store_contents::Area;
+use ir_store_contents::Contents;
 use ir_tree::value::Value;
 use ir_types::ids::{NameId, OpId};
 use std::alloc::AllocError;

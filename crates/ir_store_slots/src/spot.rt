@@ -2,7 +2,7 @@
 ghost use Rattle.std.specs.Prelude.{◌≡◌, ◌<◌, eqb, length, map, slice_get, slice_set, option_and_then, IfSome, MatchOption, Some, is_some, ◌&&◌, false};
 ghost use Rattle.std.specs.FinMap as finmap;
 ghost use Rattle.std.specs.Ordering.{nat_cmp};
-ghost use Rattle.chains.specs.Lists.{IsFree, IsHead};
+ghost use Rattle.ir_store_lists.specs.Lists.{IsFree, IsHead};
 ghost use Rattle.ir_store_slots.specs.Rows.{rows_of, shape_of, head_in, held_slot};
 ghost use Rattle.ir_store_slots.specs.Spots.{spot_in, joined, stands, StandsIn};
 
@@ -10,7 +10,7 @@ use crate::find::{Keys, find, slot};
 use crate::row::{Area, Row};
 use ir_tree::place::Place;
 use ir_types::ids::OpId;
-use order::Ordered;
+use ir_store_lists::Ordered;
 
 /// The slot of a held operation.
 pub fn find_held(rows: &Vec<Row>, keys: &Keys, op: OpId) -> Option<usize>

@@ -5,7 +5,7 @@ ghost use Rattle.ir_store_slots.specs.Index.{AreHeads, ArgHeads, CanFree, HasHea
 ghost use Rattle.std.specs.Prelude.{eqb};
 ghost use Rattle.std.specs.FinMap as finmap;
 ghost use Rattle.std.specs.Ordering.{nat_cmp};
-ghost use Rattle.chains.specs.Lists.{free, IsHead};
+ghost use Rattle.ir_store_lists.specs.Lists.{free, IsHead};
 ghost use Rattle.ir_tree.specs.Frames.{owner_of};
 ghost use Rattle.ir_store_slots.specs.Rows.{live_slot};
 ghost use Rattle.ir_store_slots.specs.Right.{Live};
@@ -18,11 +18,11 @@ ghost use Rattle.ir_store_slots.specs.Index.{CanLead, all_led, value_head, use_a
 
 use crate::find::{Keys, find, find_leaf, find_operand, slot};
 use crate::row::{Area, Cell, Row};
-use chains::Chains;
+use ir_store_lists::Chains;
 use ir_tree::value::Value;
 use ir_types::ids::{OpId, TypeId};
 use ir_types::refusal::Refusal;
-use order::Ordered;
+use ir_store_lists::Ordered;
 use std::alloc::{AllocError, Global};
 
 /// Whether the lists of some heads are empty.

@@ -5,3 +5,13 @@ pub mod Meanings
 pub mod Wholes
 pub mod Readings
 pub mod Walks
+pub mod Lengths
+pub mod Fits
+pub mod Steps
+pub mod TypeRoom
+pub mod AttrRoom
+pub mod NameRoom
+pub mod EntryRoom
+pub mod OpRoom
+pub mod WholeRoom
+pub mod Sources

@@ -5,3 +5,4 @@ pub mod Naming
 pub mod Printing
 pub mod View
 pub mod Public
+pub mod Room

@@ -1,6 +1,8 @@
-//! What is printed for a module is the text of its tree, byte for byte.
+//! What is printed for a module is the text of its tree, byte for byte; what is read is the only tree that the
+//! text spells, and no text fills a context of its own.
 #![tactic(auto)]
 
+pub mod alone;
 pub mod attributes;
 mod between;
 mod naming;
@@ -8,5 +10,6 @@ mod numbers;
 mod operations;
 pub mod printer;
 pub mod reader;
+pub mod room;
 pub mod types;
 mod values;

@@ -12,7 +12,7 @@ pub use ir_text_attributes::single::parse_attr;
 use ir_text_operations::module;
 pub use ir_text_operations::single::read_op;
 pub use ir_text_grammar::error::ReadError;
-pub use ir_text_room::alone::read_new;
+pub use crate::alone::read_new;
 use ir_tree::tree::TreeOp;
 use ir_types::context::Context;
 use std::alloc::Global;

@@ -30,7 +30,7 @@ use Rattle.ir_text.specs.TypeText.{in_round}
 use Rattle.ir_text_roundtrip.proofs.Ahead.{Ahead, more_ahead, space, space_token}
 use Rattle.ir_text_roundtrip.proofs.Small.{lacks_token}
 use Rattle.ir_text_roundtrip.proofs.Words.{run_within, all_digits, digit_word}
-use Rattle.ir_tree_renumber.specs.Renumbered.{value_with_id}
+use Rattle.ir_tree_laws.specs.Renumbered.{value_with_id}
 use Rattle.ir_text_roundtrip.proofs.Texts.{Head, results_then, name_then}
 use Rattle.ir_text_roundtrip.proofs.ModuleWords.{argument_word}
 use Rattle.ir_text_roundtrip.proofs.Joined.{Here, IsSmall, IsSeen, word_of, place_of, term_of}

@@ -20,7 +20,7 @@ use Rattle.ir_text.specs.declared.naming.Source.TheVariants as source
 use Rattle.ir_text.specs.Naming.{Named, Naming, naming_of, same_source, source_of, result_name}
 use Rattle.ir_text_roundtrip.specs.Written.{FitsType}
 use Rattle.ir_text_roundtrip.proofs.Small.{both}
-use Rattle.ir_tree_renumber.specs.Renumbered.{value_with_id}
+use Rattle.ir_tree_laws.specs.Renumbered.{value_with_id}
 use Rattle.ir_text_roundtrip.proofs.Texts.{Names, argument_names}
 use Rattle.ir_text_roundtrip.proofs.ModuleWords.{argument_word, decimals_apart, arguments_apart, argument_no_decimal, decimal_no_argument, find_new, find_old, find_kept}
 use Rattle.ir_text_roundtrip.proofs.ModuleValues.{found, found_new, found_old, source_id}

@@ -22,7 +22,7 @@ use Rattle.ir_text.specs.Printing.{argument_text}
 use Rattle.ir_text.specs.TypeText.{type_text}
 use Rattle.ir_text_roundtrip.specs.Written.{FitsType}
 use Rattle.ir_text_roundtrip.proofs.Small.{both, lacks_token}
-use Rattle.ir_tree_renumber.specs.Renumbered.{ops_with_ids, with_ids}
+use Rattle.ir_tree_laws.specs.Renumbered.{ops_with_ids, with_ids}
 use Rattle.ir_text_roundtrip.proofs.Texts.{Names, Ops, arguments_names, arguments_then, label_then}
 use Rattle.ir_text_roundtrip.proofs.ModuleWords.{argument_word}
 use Rattle.ir_text_roundtrip.proofs.ModuleValues.{source_id}

@@ -20,10 +20,10 @@ use Rattle.ir_text.specs.Naming.{Named, value_text}
 use Rattle.ir_text.specs.Printing.{text_of, blank, opening, closing_text, properties_text}
 use Rattle.ir_text.specs.TypeText.{in_round}
 use Rattle.ir_text_roundtrip.proofs.Small.{both, are_bytes}
-use Rattle.ir_tree_renumber.specs.Renumbered.{value_with_id, with_ids, place_in, renumbered}
-use Rattle.ir_tree_renumber.proofs.Fixed.{renumbered_stays}
-use Rattle.ir_tree_renumber.proofs.Formed.{formed_renumbered}
-use Rattle.ir_tree_renumber.proofs.Kept.{numbered, every_with, rise_with}
+use Rattle.ir_tree_laws.specs.Renumbered.{value_with_id, with_ids, place_in, renumbered}
+use Rattle.ir_tree_laws.proofs.RenumberedFixed.{renumbered_stays}
+use Rattle.ir_tree_laws.proofs.RenumberedForm.{formed_renumbered}
+use Rattle.ir_tree_laws.proofs.RenumberedSame.{numbered, every_with, rise_with}
 use Rattle.ir_text_roundtrip.specs.WrittenTrees.{IsWritable}
 use Rattle.ir_text_roundtrip.proofs.Ascii.{text_is_within}
 use Rattle.ir_text_roundtrip.proofs.Texts.{Head, names_of, results_then, name_then, results_names, op_names, regions_then, tail_then}

@@ -4,8 +4,8 @@ use Rattle.std.specs.List.{AllByRecursion, IsDistinct, range_with_len}
 use Rattle.std.proofs.lemmas.Bool.Decides.{eqb_tells}
 use Rattle.ir_tree.specs.Ids.{op_count, HasDistinctIds, IsNumberedFrom}
 use Rattle.ir_tree.specs.Meaning.{Operation}
-use Rattle.ir_tree_renumber.specs.Renumbered.{place_in}
-use Rattle.ir_tree_renumber.proofs.Places.{places}
+use Rattle.ir_tree_laws.specs.Renumbered.{place_in}
+use Rattle.ir_tree_laws.proofs.RenumberedPlaces.{places}
 use Rattle.ir_text_roundtrip.specs.Runs.{Runs}
 
 runs_from : (f : ℕ → ℕ) (n : ℕ) (xs : List ℕ) → map f xs ≡ range_with_len n (length xs) → Runs f n xs

@@ -27,7 +27,7 @@ use Rattle.ir_text.specs.Printing.{deeper, opening, closing_text, properties_tex
 use Rattle.ir_text_roundtrip.proofs.Ahead.{space_token}
 use Rattle.ir_text_roundtrip.proofs.OpEntries.{properties_again}
 use Rattle.ir_text_roundtrip.proofs.Small.{both, lacks_token, are_bytes}
-use Rattle.ir_tree_renumber.specs.Renumbered.{with_ids, regions_with_ids, region_with_ids, ops_with_ids}
+use Rattle.ir_tree_laws.specs.Renumbered.{with_ids, regions_with_ids, region_with_ids, ops_with_ids}
 use Rattle.ir_text_roundtrip.proofs.Fitting.{FitsOp, FitsRegions, FitsRegion, FitsOps}
 use Rattle.ir_text_roundtrip.proofs.Texts.{Head, Names, Regions, Region, Ops, results_names, arguments_names, op_names, regions_names, region_names, tail_then, label_then, op_then, regions_then, region_then, ops_then}
 use Rattle.ir_text_roundtrip.proofs.ModuleValues.{source_id, Away, all_front, all_back, argument_away, results_names_keep, regions_keep, region_keeps, own_results}

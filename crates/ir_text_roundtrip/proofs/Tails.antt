@@ -29,7 +29,7 @@ use Rattle.ir_text_roundtrip.proofs.OpEntries.{attributes_again}
 use Rattle.ir_text_roundtrip.proofs.Small.{lacks_token}
 use Rattle.ir_text_roundtrip.proofs.Sorted.{properties_stay, attributes_stay}
 use Rattle.ir_text_roundtrip.proofs.Types.{function_type_again}
-use Rattle.ir_tree_renumber.specs.Renumbered.{regions_with_ids, with_ids}
+use Rattle.ir_tree_laws.specs.Renumbered.{regions_with_ids, with_ids}
 use Rattle.ir_text_roundtrip.proofs.Fitting.{FitsHead}
 use Rattle.ir_text_roundtrip.proofs.Texts.{Head, Regions, tail_then}
 use Rattle.ir_text_roundtrip.proofs.Front.{start_of, bound_of, bound_types, bound_values, result_words}

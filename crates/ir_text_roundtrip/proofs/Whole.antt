@@ -13,7 +13,7 @@ use Rattle.ir_text_operations.specs.Free.{no_names}
 use Rattle.ir_text_operations.specs.Seen.{seen_fresh}
 use Rattle.ir_text_operations.specs.Spelling.{IsSingleOp}
 use Rattle.ir_text.specs.Printing.{text_of, blank}
-use Rattle.ir_tree_renumber.specs.Renumbered.{with_ids}
+use Rattle.ir_tree_laws.specs.Renumbered.{with_ids}
 use Rattle.ir_text_roundtrip.specs.Runs.{Runs}
 use Rattle.ir_text_roundtrip.proofs.Fitting.{FitsOp}
 use Rattle.ir_text_roundtrip.proofs.Texts.{names_of, op_then, puts_op, nothing_behind}

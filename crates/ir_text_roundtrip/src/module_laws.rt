@@ -7,7 +7,7 @@ ghost use Rattle.ir_tree.specs.Limits.{counts_fit, depth, most_around};
 ghost use Rattle.ir_tree.specs.Meaning.{Operation};
 ghost use Rattle.ir_tree.specs.Sites.{operands_visible};
 ghost use Rattle.ir_tree.specs.WellFormed.{IsFormed};
-ghost use Rattle.ir_tree_renumber.specs.Renumbered.{renumbered, with_ids};
+ghost use Rattle.ir_tree_laws.specs.Renumbered.{renumbered, with_ids};
 ghost use Rattle.ir_text_tokens.specs.Limits.{most_bytes};
 ghost use Rattle.ir_text_operations.specs.Free.{no_names};
 ghost use Rattle.ir_text_operations.specs.Spelling.{IsSingleOp, Spells, is_root};

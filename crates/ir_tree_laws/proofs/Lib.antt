@@ -25,3 +25,8 @@ pub mod Reverted
 pub mod Neighbours
 pub mod Nested
 pub mod ShiftSight
+pub mod RenumberedPlaces
+pub mod RenumberedSame
+pub mod RenumberedSight
+pub mod RenumberedForm
+pub mod RenumberedFixed

@@ -9,3 +9,4 @@ pub mod Reasons
 pub mod Changes
 pub mod Restores
 pub mod Keys
+pub mod Renumbered

@@ -5,3 +5,12 @@ pub mod There
 pub mod Typed
 pub mod Tried
 pub mod Whole
+pub mod Panels
+pub mod Told
+pub mod OpenMarks
+pub mod Going
+pub mod Undo
+pub mod Listening
+pub mod Rolled
+pub mod Parts
+pub mod Contexts

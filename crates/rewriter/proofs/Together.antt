@@ -16,11 +16,11 @@ use Rattle.rewriter_machine.specs.Edits.{edited_by, reason_by}
 use Rattle.rewriter_machine.specs.Machine.{State, OpenMark, Do, Step, Commit, Rollback, Reply, Done, Refused, Nothing, Goes, accepted}
 use Rattle.rewriter_machine.specs.Panels.{AllAge, all_shown}
 use Rattle.rewriter_machine.proofs.Numbers.{edited_meaning, reason_meaning}
-use Rattle.rewriter_base.specs.Mark.{Mark}
-use Rattle.rewriter_base.specs.Held.{Held, module_held, open_mark, open_marks}
-use Rattle.rewriter_base.specs.Moves.{Edited}
-use Rattle.rewriter_base.specs.Benched.{Benched, Heard, Led, Made, reply_of, state_of}
-use Rattle.rewriter_base.specs.Rolling.{GivenUp}
+use Rattle.rewriter.specs.Mark.{Mark}
+use Rattle.rewriter.specs.Held.{Held, module_held, open_mark, open_marks}
+use Rattle.rewriter.specs.Moves.{Edited}
+use Rattle.rewriter.specs.Benched.{Benched, Heard, Led, Made, reply_of, state_of}
+use Rattle.rewriter.specs.Rolling.{GivenUp}
 use Rattle.rewriter.specs.Wholes.{IsDoneOrNoted, IsFinished, Onward}
 use Rattle.rewriter.proofs.Calls.{stepped, unstepped, committed, rolled_back, made_goes, refused_goes, unmade_goes, marked_grows}
 

@@ -15,9 +15,9 @@ use Rattle.ir_store.specs.Calls.{after_put}
 use Rattle.ir_event.specs.Listener.{Listener}
 use Rattle.rewriter_machine.specs.Contents.{tests_in}
 use Rattle.rewriter_machine.specs.Edits.{Make, TestsOf, edited_by}
-use Rattle.rewriter_base.specs.Held.{Held}
+use Rattle.rewriter.specs.Held.{Held}
 use Rattle.rewriter_laws.specs.Inserting.{all_made}
-use Rattle.rewriter_base.specs.Benched.{Benched, Made}
+use Rattle.rewriter.specs.Benched.{Benched, Made}
 use Rattle.rewriter.specs.Wholes.{Onward}
 use Rattle.rewriter.proofs.Together.{Composes, Stays, onward_none, onward_made}
 use Rattle.rewriter.specs.Trying.{AreHeadersOf, IsRefusedAmong}

@@ -22,9 +22,9 @@ use Rattle.rewriter_machine.specs.Edits.{Insert, edited_by, insert_reason, reaso
 use Rattle.rewriter_machine.specs.Machine.{State, OpenMark, Do, Reply, DoneAs, Refused, Nothing, Goes, due_edit, grows_under}
 use Rattle.rewriter_machine.specs.Panels.{AllAge}
 use Rattle.rewriter_machine.proofs.Numbers.{reason_meaning}
-use Rattle.rewriter_base.specs.Held.{module_held, open_marks}
+use Rattle.rewriter.specs.Held.{module_held, open_marks}
 use Rattle.rewriter_laws.specs.Inserting.{insert_fault}
-use Rattle.rewriter_base.specs.Benched.{Benched, Led, state_of}
+use Rattle.rewriter.specs.Benched.{Benched, Led, state_of}
 use Rattle.rewriter.specs.Wholes.{IsFinished, Onward}
 use Rattle.rewriter.proofs.Calls.{stepped, unmade_goes}
 use Rattle.rewriter.proofs.Together.{Ages, Composes, IsBegun, begun_held, goes_whole}

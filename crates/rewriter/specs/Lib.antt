@@ -1,7 +1,9 @@
+pub mod Benched
+pub mod Rolling
 pub mod Wholes
 pub mod Trying
-pub use Rattle.rewriter_base.specs.Benched
-pub use Rattle.rewriter_base.specs.Held
-pub use Rattle.rewriter_base.specs.Moves
-pub use Rattle.rewriter_base.specs.Journals
-pub use Rattle.rewriter_base.specs.Texts
+pub use Rattle.rewriter_desk.specs.Held
+pub use Rattle.rewriter_desk.specs.Moves
+pub use Rattle.rewriter_desk.specs.declared.mark.Mark
+pub use Rattle.rewriter_desk.specs.Journals
+pub use Rattle.rewriter_desk.specs.Texts

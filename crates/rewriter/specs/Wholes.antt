@@ -4,8 +4,8 @@ use Rattle.ir_types.specs.declared.refusal.Refusal.{Refusal}
 use Rattle.ir_types.specs.declared.refusal.Refusal.TheVariants.{Memory}
 use Rattle.ir_event.specs.Listener.{Listener}
 use Rattle.rewriter_machine.specs.Machine.{OpenMark}
-use Rattle.rewriter_base.specs.Held.{Held, module_held, open_marks}
-use Rattle.rewriter_base.specs.Benched.{Benched, Led}
+use Rattle.rewriter.specs.Held.{Held, module_held, open_marks}
+use Rattle.rewriter.specs.Benched.{Benched, Led}
 
 -- it went well, or was refused for want of memory, where a mark is open
 abbrev pub IsDoneOrNoted : {A : Type 0} → Held → Result A Refusal → Type 0

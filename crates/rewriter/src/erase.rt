@@ -3,7 +3,7 @@ ghost use Rattle.std.specs.Prelude.{◌≡◌, None, OnOk};
 ghost use Rattle.rewriter_machine.specs.Contents.{edit_meaning, tests_in};
 ghost use Rattle.rewriter_machine.specs.Edits.{Erase, edited_by, reason_by};
 ghost use Rattle.rewriter_machine.specs.Machine.{Do};
-ghost use Rattle.rewriter_base.specs.Benched.{Does, Led, reply_of};
+ghost use Rattle.rewriter.specs.Benched.{Does, Led, reply_of};
 ghost use Rattle.rewriter.specs.Wholes.{IsDoneOrNoted, Onward};
 
 use crate::faults::erase_fault;
@@ -12,8 +12,8 @@ use rewriter_laws::turns::erasing_by_last;
 use ir_event::analysis::Analysis;
 use ir_types::ids::OpId;
 use ir_types::refusal::Refusal;
-use rewriter_base::bench::Bench;
-use rewriter_base::laws::led_benches_are_kept;
+use crate::bench::Bench;
+use crate::laws::led_benches_are_kept;
 
 /// Takes an operation and those inside it, the last in pre-order first, where nothing stands against it.
 fn take_all<L: Analysis>(bench: &mut Bench<L>, op: OpId) -> Result<(), Refusal>

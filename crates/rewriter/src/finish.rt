@@ -3,11 +3,11 @@ ghost use Rattle.std.specs.Prelude.{◌≡◌};
 ghost use Rattle.ir_types.specs.Sound.{IsSound};
 ghost use Rattle.ir_tree.specs.Meaning.{IsSoundIn, isolated_in};
 ghost use Rattle.ir_tree.specs.WellFormed.{IsWellFormed};
-ghost use Rattle.rewriter_base.specs.Benched.{Led};
+ghost use Rattle.rewriter.specs.Benched.{Led};
 ghost use Rattle.rewriter.specs.Wholes.{IsFinished};
 
 use ir_event::analysis::Analysis;
-use rewriter_base::bench::Bench;
+use crate::bench::Bench;
 
 /// What is true of every bench: its module is well-formed and of its context, in which no thing stands twice.
 pub(crate) fn is_formed<L: Analysis>(bench: &Bench<L>)

@@ -5,7 +5,7 @@ ghost use Rattle.ir_tree.specs.Meaning.{IsSoundIn};
 ghost use Rattle.rewriter_machine.specs.Contents.{edit_meaning};
 ghost use Rattle.rewriter_machine.specs.Edits.{Insert};
 ghost use Rattle.rewriter_machine.specs.Machine.{Do};
-ghost use Rattle.rewriter_base.specs.Benched.{Does, Led, id_reply_of};
+ghost use Rattle.rewriter.specs.Benched.{Does, Led, id_reply_of};
 
 use crate::fault::insert_fault;
 use crate::finish::{finish, is_formed};
@@ -16,8 +16,8 @@ use ir_tree::place::Place;
 use ir_tree::tree::TreeOp;
 use ir_types::ids::OpId;
 use ir_types::refusal::Refusal;
-use rewriter_base::bench::Bench;
-use rewriter_base::laws::led_benches_are_kept;
+use crate::bench::Bench;
+use crate::laws::led_benches_are_kept;
 use std::alloc::Global;
 
 /// Puts an operation, with what is inside it, at a place of the module. Its ids are the next free ones, in pre-order. It

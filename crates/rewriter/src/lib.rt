@@ -1,15 +1,22 @@
-//! Edits of a bench that are several events, each whole or undone: replacing a value wherever it is used, erasing an
-//! operation and inserting one with what is inside it.
+//! The bench: a module under edits, with its marks, its journal and the listeners that follow it. An edit of several events,
+//! as replacing a value wherever it is used, erasing an operation and inserting one with what is inside it, is whole or
+//! undone.
 #![tactic(auto)]
 
-pub mod erase;
+mod attributes;
+pub mod bench;
+mod edits;
+mod erase;
 mod fault;
 pub mod faults;
 mod finish;
 mod headers;
-pub mod insert;
+mod insert;
+pub mod laws;
+mod listeners;
 mod making;
-pub mod replace;
+mod marks;
+mod replace;
+mod texts;
 
-pub use rewriter_base::bench::Bench;
-pub use rewriter_base::laws;
+pub use bench::Bench;

@@ -5,7 +5,7 @@ ghost use Rattle.ir_tree.specs.Ids.{IsNumberedFrom};
 ghost use Rattle.ir_tree.specs.Meaning.{IsSoundIn};
 ghost use Rattle.rewriter_machine.specs.Contents.{tests_in};
 ghost use Rattle.rewriter_machine.specs.Edits.{Insert, edited_by, reason_by};
-ghost use Rattle.rewriter_base.specs.Moves.{IsAnswered};
+ghost use Rattle.rewriter.specs.Moves.{IsAnswered};
 ghost use Rattle.rewriter_laws.specs.Inserting.{insert_fault};
 ghost use Rattle.rewriter.specs.Wholes.{Onward};
 ghost use Rattle.rewriter.specs.Trying.{AreHeadersOf, Tries};
@@ -18,8 +18,8 @@ use ir_event::analysis::Analysis;
 use ir_tree::place::Place;
 use ir_tree::tree::TreeOp;
 use ir_types::refusal::Refusal;
-use rewriter_base::bench::Bench;
-use rewriter_base::laws::led_benches_are_kept;
+use crate::bench::Bench;
+use crate::laws::led_benches_are_kept;
 use std::alloc::Global;
 
 /// Makes headers, one after another, until one is refused.

@@ -4,7 +4,7 @@ ghost use Rattle.ir_tree.specs.Uses.{same_value};
 ghost use Rattle.rewriter_machine.specs.Contents.{edit_meaning, tests_in};
 ghost use Rattle.rewriter_machine.specs.Edits.{Replace, edited_by, reason_by};
 ghost use Rattle.rewriter_machine.specs.Machine.{Do};
-ghost use Rattle.rewriter_base.specs.Benched.{Does, Led, reply_of};
+ghost use Rattle.rewriter.specs.Benched.{Does, Led, reply_of};
 ghost use Rattle.rewriter.specs.Wholes.{IsDoneOrNoted, Onward};
 
 use crate::faults::replace_fault;
@@ -14,8 +14,8 @@ use ir_event::analysis::Analysis;
 use ir_tree::uses::is_same;
 use ir_tree::value::Value;
 use ir_types::refusal::Refusal;
-use rewriter_base::bench::Bench;
-use rewriter_base::laws::led_benches_are_kept;
+use crate::bench::Bench;
+use crate::laws::led_benches_are_kept;
 
 /// Sets a value as each use of another, which differs from it, where nothing stands against it.
 fn set_uses<L: Analysis>(bench: &mut Bench<L>, old: &Value, new: &Value) -> Result<(), Refusal>

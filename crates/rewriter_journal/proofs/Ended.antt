@@ -5,8 +5,8 @@ use Rattle.ir_store.specs.Stored.{Stored}
 use Rattle.ir_event.specs.declared.event.Event.{Event}
 use Rattle.ir_event.specs.Modules.{Module, module_meaning}
 use Rattle.ir_event.specs.Step.{Step, Steps, inverse_of}
-use Rattle.world_edits.specs.Undoing.{CameFrom, undone}
-use Rattle.world_edits.proofs.Undoing.{led_back, undone_step}
+use Rattle.ir_event.specs.Undoing.{CameFrom, undone}
+use Rattle.ir_event.proofs.Undoing.{led_back, undone_step}
 use Rattle.rewriter_journal.specs.Journals.{IsForward, IsJournal, IsStoreOf, Noted, before, inverses, undone_all}
 use Rattle.rewriter_journal.proofs.Carries.{Carries}
 use Rattle.rewriter_journal.proofs.Undoings.{came_too, carries_undone, falls, same_module, store_undone}

@@ -20,7 +20,7 @@ use Rattle.ir_event.specs.Modules.{Module, module_meaning}
 use Rattle.ir_event.specs.Step.{EventIsOf, IsAttrOrNone, Step}
 use Rattle.ir_event.proofs.Growing.{formed_stays, held_stays, module_stays}
 use Rattle.ir_event.proofs.Steps.{step_stays}
-use Rattle.world_edits.specs.Undoing.{CameFrom, Keeps, undone}
+use Rattle.ir_event.specs.Undoing.{CameFrom, Keeps, undone}
 use Rattle.rewriter_journal.specs.Journals.{IsJournal, IsStoreOf, before, undone_all}
 use Rattle.rewriter_journal.proofs.Ended.{store_behind}
 use Rattle.rewriter_journal.proofs.Noting.{attr_is}

@@ -25,8 +25,8 @@ use Rattle.ir_event.specs.declared.event.Event.{Event}
 use Rattle.ir_event.specs.declared.event.Event.TheVariants.{Put, Take, SetOperand, SetEntry, Shift}
 use Rattle.ir_event.proofs.Shown.{known_there, none_found}
 use Rattle.ir_event.specs.Modules.{Module}
-use Rattle.world_edits.specs.Undoing.{CameFrom, undone}
-use Rattle.world_edits.proofs.Undoing.{led_back}
+use Rattle.ir_event.specs.Undoing.{CameFrom, undone}
+use Rattle.ir_event.proofs.Undoing.{led_back}
 use Rattle.rewriter_journal.specs.Journals.{IsSlotted, IsStoreOf, IsTidy}
 use Rattle.rewriter_journal.proofs.Maps.{set_here, set_other}
 use Rattle.rewriter_journal.proofs.Trees.{bare, found_op, found_present, present_inside}

@@ -8,7 +8,7 @@ use Rattle.std.specs.FinMap as finmap
 use Rattle.ir_tree.specs.Tree.{Op}
 use Rattle.ir_store.specs.Stored.{Gone}
 use Rattle.ir_store.specs.Calls.{hold, change_gone_of}
-use Rattle.world_edits.proofs.Maps.{eq_nat}
+use Rattle.ir_event.proofs.Maps.{eq_nat}
 
 module _ {X : Type 0} (m : finmap.FinMap nat_cmp X) (x : ℕ) where
   pub set_here : (a : X) → finmap.get (finmap.insert m x a) x ≡ Some a

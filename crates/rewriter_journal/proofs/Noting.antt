@@ -17,7 +17,7 @@ use Rattle.ir_tree.proofs.Mapped.{map_find}
 use Rattle.ir_tree.proofs.SoundEdits.{entry_sound, operand_sound, put_sound, without_sound}
 use Rattle.ir_tree_laws.specs.Reasons.{entry_reason, found_entry_reason, set_entry_reason, unless, with_id}
 use Rattle.ir_tree_laws.proofs.Contents.{map_entry_in}
-use Rattle.entries.specs.Slots.{has_key}
+use Rattle.ir_store_contents.specs.Slots.{has_key}
 use Rattle.ir_store.specs.Stored.{Stored, none_gone}
 use Rattle.ir_store.specs.Calls.{after_entry, after_operand, after_put, after_shift, after_take, hold}
 use Rattle.ir_event.specs.declared.event.Event.{Event}
@@ -27,9 +27,9 @@ use Rattle.ir_event.specs.Step.{IsAttrOrNone, IsOperandStep, Step}
 use Rattle.ir_event.proofs.Shown.{known_there}
 use Rattle.ir_event.proofs.Sounds.{found_sound, renamed_sound, shifted_sound}
 use Rattle.ir_event.proofs.Steps.{formed_numbers}
-use Rattle.world_edits.specs.Edits.{IsEntryStep, IsPutStep, IsShiftStep, IsTakeStep}
-use Rattle.world_edits.specs.Undoing.{undone}
-use Rattle.world_edits.proofs.Taking.{held_now, hold_sound}
+use Rattle.ir_event.specs.Edits.{IsEntryStep, IsPutStep, IsShiftStep, IsTakeStep}
+use Rattle.ir_event.specs.Undoing.{undone}
+use Rattle.ir_event.proofs.Taking.{held_now, hold_sound}
 use Rattle.rewriter_journal.specs.Journals.{IsJournal, IsSlotted, IsStoreOf, Noted}
 use Rattle.rewriter_journal.proofs.Maps.{cut_other, hold_other, mapped_is, set_other}
 use Rattle.rewriter_journal.proofs.Keys.{part_key}

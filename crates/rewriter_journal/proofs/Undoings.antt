@@ -36,10 +36,10 @@ use Rattle.ir_event.specs.declared.event.Event.TheVariants.{Put, Take, SetOperan
 use Rattle.ir_event.specs.Modules.{Module, module_meaning}
 use Rattle.ir_event.specs.Step.{Step}
 use Rattle.ir_event.proofs.Sounds.{found_sound}
-use Rattle.ir_step_laws.proofs.Undone.{relink_undone}
-use Rattle.world_edits.specs.Undoing.{CameFrom, Keeps, undone}
-use Rattle.world_edits.proofs.Taking.{held_now}
-use Rattle.world_edits.proofs.Undoing.{led_back, undone_formed, undone_held, undone_sound}
+use Rattle.ir_event.proofs.Undone.{relink_undone}
+use Rattle.ir_event.specs.Undoing.{CameFrom, Keeps, undone}
+use Rattle.ir_event.proofs.Taking.{held_now}
+use Rattle.ir_event.proofs.Undoing.{led_back, undone_formed, undone_held, undone_sound}
 use Rattle.rewriter_journal.specs.Journals.{IsForward, IsStoreOf}
 use Rattle.rewriter_journal.proofs.Maps.{cut_other, hold_other}
 use Rattle.rewriter_journal.proofs.Trees.{absent_too, found_op, found_present, moved_head}

@@ -11,7 +11,7 @@ use Rattle.ir_event.specs.declared.event.Event.TheVariants.{Put, Take, SetOperan
 use Rattle.ir_event.specs.Facts.{HeldIsSound}
 use Rattle.ir_event.specs.Modules.{Module, module_meaning}
 use Rattle.ir_event.specs.Step.{inverse_of}
-use Rattle.world_edits.specs.Undoing.{CameFrom, undone}
+use Rattle.ir_event.specs.Undoing.{CameFrom, undone}
 
 -- an event as an edit gives it: what is put has a new id, and what is taken keeps its own
 abbrev pub IsForward : Event → Type 0

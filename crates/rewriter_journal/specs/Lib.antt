@@ -1,3 +1,3 @@
 pub mod Journals
-pub use Rattle.world_edits.specs.Edits
-pub use Rattle.world_edits.specs.Undoing
+pub use Rattle.ir_event.specs.Edits
+pub use Rattle.ir_event.specs.Undoing

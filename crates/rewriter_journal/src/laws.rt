@@ -15,8 +15,8 @@ ghost use Rattle.ir_event.specs.declared.event.Event.{Event as Edit};
 ghost use Rattle.ir_event.specs.declared.world.World.{World as Whole};
 ghost use Rattle.ir_event.specs.Modules.{Module, module_meaning};
 ghost use Rattle.ir_event.specs.Step.{IsOperandStep, Steps, inverse_of};
-ghost use Rattle.world_edits.specs.Edits.{IsEntryStep, IsPutStep, IsShiftStep, IsTakeStep};
-ghost use Rattle.world_edits.specs.Undoing.{CameFrom, undone};
+ghost use Rattle.ir_event.specs.Edits.{IsEntryStep, IsPutStep, IsShiftStep, IsTakeStep};
+ghost use Rattle.ir_event.specs.Undoing.{CameFrom, undone};
 ghost use Rattle.rewriter_journal.specs.Journals.{IsForward, IsJournal, IsSlotted, IsStoreOf, IsTidy, Noted, before, inverses, undone_all};
 
 /// What is true of a store in its context is true of that of a world, and stays so where an event is undone, where the

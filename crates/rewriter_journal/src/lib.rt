@@ -3,4 +3,4 @@
 
 pub mod laws;
 
-pub use world_edits::{edits, undo};
+pub use ir_event::{edits, undo};

@@ -18,7 +18,7 @@ use Rattle.ir_event.specs.declared.event.Event.{Event}
 use Rattle.ir_event.specs.declared.event.Event.TheVariants as event
 use Rattle.ir_event.specs.Modules.{Module, module_meaning}
 use Rattle.ir_event.specs.Step.{Step, Steps}
-use Rattle.ir_step_laws.proofs.Stepped.{take_steps}
+use Rattle.ir_event.proofs.Stepped.{take_steps}
 use Rattle.rewriter_machine.specs.Edits.{Insert, Make, Erase, Move, SetOperand, Replace, SetAttr, DropAttr, edited_by, reason_by}
 use Rattle.rewriter_machine.specs.Contents.{tests_in, NumberedEdit, EditIsOf, IsElementary, edit_meaning, edited}
 use Rattle.rewriter_machine.proofs.Numbers.{edited_meaning}

@@ -18,8 +18,8 @@ use Rattle.ir_event.specs.declared.event.Event.TheVariants as event
 use Rattle.ir_event.specs.Modules.{Module, module_meaning}
 use Rattle.ir_event.specs.Step as steps
 use Rattle.ir_event.proofs.Steps.{operand_steps}
-use Rattle.ir_step_laws.proofs.Stepped.{put_steps, shift_steps}
-use Rattle.ir_step_laws.proofs.Entered.{entry_steps}
+use Rattle.ir_event.proofs.Stepped.{put_steps, shift_steps}
+use Rattle.ir_event.proofs.Entered.{entry_steps}
 use Rattle.rewriter_machine.specs.Edits.{Insert, Make, Erase, Move, SetOperand, Replace, SetAttr, DropAttr, part_for, edited_by, reason_by}
 use Rattle.rewriter_machine.specs.Contents.{tests_in, NumberedEdit, EditIsOf, edit_meaning, edited, IsElementary}
 use Rattle.rewriter_machine.proofs.Numbers.{edited_meaning}

@@ -1,5 +1,5 @@
 use Rattle.std.proofs.Common.{◌∙◌, ◌<◌, sym, ap, subst, length, arith}
-use Rattle.chains.specs.Lists.{list_at}
+use Rattle.ir_store_lists.specs.Lists.{list_at}
 use Rattle.ir_store_slots.specs.Rows.{rows_of}
 use Rattle.ir_store_slots.proofs.Listed.{forget_inside, forget_two, forget_item, forget_live, forget_less, forget_on, forgot_end, listed_without}
 use Rattle.ir_store_slots.proofs.release.forget_keys.Goals as goal

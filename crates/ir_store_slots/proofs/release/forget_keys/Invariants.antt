@@ -1,6 +1,6 @@
 use Rattle.std.proofs.Common.{◌≡◌, length}
 use Rattle.std.specs.Prelude.{slice_get}
-use Rattle.chains.specs.Lists.{list_at}
+use Rattle.ir_store_lists.specs.Lists.{list_at}
 use Rattle.ir_store_slots.specs.Rows.{rows_of}
 use Rattle.ir_store_slots.proofs.Listed.{Forgot}
 use Rattle.ir_store_slots.proofs.release.forget_keys.Given as goal

@@ -1,6 +1,6 @@
 use Rattle.std.proofs.Common.{◌<◌, ◌-◌, sym, subst, length, arith}
 use Rattle.std.specs.FinMap as finmap
-use Rattle.chains.specs.Lists.{list_at}
+use Rattle.ir_store_lists.specs.Lists.{list_at}
 use Rattle.ir_store_slots.specs.Releases.{is_given}
 use Rattle.ir_store_slots.specs.Rows.{rows_of, row_at}
 use Rattle.ir_store_slots.specs.Walks.{from_slot}

@@ -1,5 +1,5 @@
 use Rattle.std.specs.Prelude.{◌≡◌, ◌++◌, map, length}
-use Rattle.chains.specs.Lists.{list_at}
+use Rattle.ir_store_lists.specs.Lists.{list_at}
 use Rattle.ir_store_slots.specs.Rows.{rows_of}
 use Rattle.ir_store_slots.specs.Index.{cells_of}
 use Rattle.ir_store_slots.specs.Using.{use_in}

@@ -1,7 +1,7 @@
 use Rattle.std.proofs.Common.{◌∙◌, sym, ap, arith, ◌<◌, length}
 use Rattle.std.specs.Prelude.{option_and_then}
 use Rattle.std.specs.FinMap as finmap
-use Rattle.chains.specs.Lists.{free}
+use Rattle.ir_store_lists.specs.Lists.{free}
 use Rattle.ir_store_slots.specs.Rows.{rows_of}
 use Rattle.ir_store_slots.specs.Index.{slot_head}
 use Rattle.ir_store_slots.proofs.uses.value_head.Goals as goal

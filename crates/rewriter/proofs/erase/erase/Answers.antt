@@ -3,7 +3,7 @@ use Rattle.ir_tree.specs.Uses.{same_value}
 use Rattle.rewriter_machine.specs.Contents.{edit_meaning, tests_in}
 use Rattle.rewriter_machine.specs.Edits.{Replace, Erase, reason_by}
 use Rattle.rewriter_machine.specs.Machine.{Do, Goes, Refused, Nothing}
-use Rattle.rewriter_base.specs.Benched.{Benched, state_of}
+use Rattle.rewriter.specs.Benched.{Benched, state_of}
 use Rattle.rewriter.proofs.Calls.{unstepped}
 use Rattle.rewriter.proofs.Together.{IsBegun, reason_in, begun_free, goes_refused, goes_made, goes_plain, goes_settled, goes_whole, goes_undone, goes_unbegun, led_whole}
 use Rattle.rewriter.proofs.erase.erase.Goals as goal

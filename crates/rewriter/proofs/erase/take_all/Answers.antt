@@ -8,7 +8,7 @@ use Rattle.ir_store.specs.Stored.{Stored}
 use Rattle.ir_store.specs.Calls.{after_take}
 use Rattle.rewriter_machine.specs.Contents.{tests_in}
 use Rattle.rewriter_machine.specs.Edits.{Erase, erase_reason}
-use Rattle.rewriter_base.specs.Held.{Held}
+use Rattle.rewriter.specs.Held.{Held}
 use Rattle.rewriter_laws.specs.Erasing.{ids_in}
 use Rattle.rewriter.proofs.There.{not_gone}
 use Rattle.rewriter.proofs.Together.{onward_made, underway_none, underway_made, refused_on}

@@ -8,8 +8,8 @@ use Rattle.ir_tree_laws.specs.Reasons.{set_operand_reason}
 use Rattle.ir_tree.specs.Meaning.{isolated_in}
 use Rattle.rewriter_machine.specs.Contents.{tests_in}
 use Rattle.rewriter_machine.specs.Edits.{Replace}
-use Rattle.rewriter_base.specs.Held.{Held}
-use Rattle.rewriter_base.specs.Benched.{Benched}
+use Rattle.rewriter.specs.Held.{Held}
+use Rattle.rewriter.specs.Benched.{Benched}
 use Rattle.rewriter.proofs.Together.{underway_none, underway_made, refused_on}
 use Rattle.rewriter.proofs.replace.set_uses.Goals as goal
 

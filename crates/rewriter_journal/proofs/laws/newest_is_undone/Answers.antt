@@ -1,5 +1,5 @@
 use Rattle.ir_event.specs.Modules.{module_meaning}
-use Rattle.world_edits.specs.Undoing.{undone}
+use Rattle.ir_event.specs.Undoing.{undone}
 use Rattle.rewriter_journal.proofs.Ended.{before_last, journal_last}
 use Rattle.rewriter_journal.proofs.Undoings.{falls}
 use Rattle.rewriter_journal.proofs.laws.newest_is_undone.Goals as goal

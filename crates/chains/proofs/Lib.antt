@@ -1,9 +1,0 @@
-pub mod Fields
-pub mod Around
-pub mod Cuts
-pub mod Joins
-pub mod Readings
-pub mod Grown
-pub mod Walks
-pub mod Once
-pub mod Heads

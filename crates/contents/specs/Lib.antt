@@ -1,3 +1,0 @@
-pub mod Shapes
-pub mod Contents
-pub use Rattle.entries.specs.Slots

@@ -1,5 +1,0 @@
-pub mod Laws
-pub mod Made
-pub mod Marks
-pub mod Outcomes
-pub mod Released

@@ -1,0 +1,10 @@
+use Rattle.std.proofs.Common.{length}
+use Rattle.ir_tree.specs.Meaning.{key_before_in}
+use Rattle.ir_store_contents.proofs.Lookups.{Spot}
+use Rattle.ir_store_contents.proofs.lookup.find_spot.Given as goal
+
+abbrev pub invariant-loop-rest : goal.invariant-loop-rest
+invariant-loop-rest l = Spot (key_before_in l.ctx) l.key l.at l.rest l.entries
+
+abbrev pub decreases-loop-rest : goal.decreases-loop-rest
+decreases-loop-rest l = length l.rest

@@ -1,0 +1,15 @@
+pub mod Fields
+pub mod Around
+pub mod Cuts
+pub mod Joins
+pub mod Readings
+pub mod Grown
+pub mod Walks
+pub mod Once
+pub mod Heads
+pub mod Laws
+pub mod Spreads
+pub mod Parts
+pub mod Kept
+pub mod Parted
+pub mod LabelWalks

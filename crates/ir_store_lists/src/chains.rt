@@ -1,0 +1,277 @@
+ghost use Rattle.std.specs.Prelude.{◌≡◌, ℕ, ◌+◌, ◌<◌, ◌≤◌, List, [], ◌∷◌, ◌++◌, map, length, max, slice_set, IfOk, OnErr, OnOk, MatchOption, slice_get, None};
+ghost use Rattle.ir_store_lists.specs.Lists.{Lists, IsHead, IsItem, IsFree, free, list_at, home_at, without, put_before, after, before, last_of, let_go, with_node, Laws};
+ghost use Rattle.ir_store_lists.specs.Ring.{Linked, Linked-prop};
+
+use crate::link::Link;
+use crate::write::{FREE, close, grow, link_in, open, unlink};
+use std::alloc::{AllocError, Global};
+use std::marker::Model;
+
+/// Lists of nodes. A node is the head of a list, stands in one list, or is free.
+#[derive(Drop)]
+pub struct Chains {
+    links: Vec<Link>,
+    room: usize,
+    ghost linked: { Linked links.items } by { Linked-prop links.items },
+}
+
+impl Model for Chains {
+    ghost use Rattle.std.specs.Prelude.{length};
+    ghost use Rattle.std.specs.Vec.{vec_capacity};
+    ghost use Rattle.ir_store_lists.specs.Lists.{Lists, lists_code};
+    ghost use Rattle.ir_store_lists.specs.Ring.{homes, HasRoom};
+
+    ghost Value = { Lists };
+
+    ghost coded = { lists_code };
+
+    ghost view = { λ c. record { lists = c.linked.0; homes = homes c.links.items; room = c.room } };
+
+    ghost invariant = { λ c. HasRoom (length c.links.items) (vec_capacity c.links) c.room };
+}
+
+impl Chains {
+    /// No nodes.
+    pub fn new(alloc: Global) -> Chains
+        ensures { result ≡ record { lists = []; homes = []; room = 0 } }
+    {
+        Chains {
+            links: Vec::new(alloc),
+            room: 0,
+        }
+    }
+
+    /// No nodes. The first `count` ones come without moving the others, but not without a refusal.
+    pub fn with_capacity(alloc: Global, count: usize) -> Result<Chains, AllocError>
+        ensures { IfOk result (λ c. c ≡ record { lists = []; homes = []; room = 0 }) }
+    {
+        Ok(Chains {
+            links: Vec::with_capacity(alloc, count)?,
+            room: 0,
+        })
+    }
+
+    /// Takes a node out of its list. It is free then.
+    pub fn remove(&mut self, node: usize)
+        requires { IsItem self.old.homes node }
+        ensures lists { self.new.lists ≡ map (without node) self.old.lists }
+        ensures homes { self.new.homes ≡ slice_set self.old.homes node free }
+        ensures room { self.new.room ≡ self.old.room }
+    {
+        unlink(&mut self.links, node);
+    }
+}
+
+impl Chains {
+    /// Puts a free node before `at` in its list.
+    pub fn insert_before(&mut self, node: usize, at: usize)
+        requires free { IsFree self.old.homes node }
+        requires at { IsItem self.old.homes at }
+        ensures lists { self.new.lists ≡ map (put_before node at) self.old.lists }
+        ensures homes { self.new.homes ≡ slice_set self.old.homes node (home_at self.old.homes at) }
+        ensures room { self.new.room ≡ self.old.room }
+    {
+        let home = self.links[at].home;
+        link_in(&mut self.links, node, at, home);
+    }
+
+    /// Puts a free node at the end of a head's list.
+    pub fn push_back(&mut self, node: usize, head: usize)
+        requires free { IsFree self.old.homes node }
+        requires head { IsHead self.old.homes head }
+        ensures lists { self.new.lists ≡ slice_set self.old.lists head (list_at self.old.lists head ++ node ∷ []) }
+        ensures homes { self.new.homes ≡ slice_set self.old.homes node head }
+        ensures room { self.new.room ≡ self.old.room }
+    {
+        link_in(&mut self.links, node, head, head as u32);
+    }
+
+    /// The head of a node's list, or the node itself where it is a head.
+    pub fn home(&self, node: usize) -> Option<usize>
+        requires { node < length self.now.homes }
+        ensures { MatchOption result (home_at self.now.homes node ≡ free) (λ h. (h ≡ home_at self.now.homes node) × (h ≡ free → ⊥)) }
+    {
+        let home = self.links[node].home;
+        if home == FREE {
+            None
+        } else {
+            Some(home as usize)
+        }
+    }
+
+    /// The first node of a head's list.
+    pub fn first(&self, head: usize) -> Option<usize>
+        requires { IsHead self.now.homes head }
+        ensures { result ≡ slice_get (list_at self.now.lists head) 0 }
+    {
+        let node = self.links[head].next as usize;
+        if node == head { None } else { Some(node) }
+    }
+
+    /// The last node of a head's list.
+    pub fn last(&self, head: usize) -> Option<usize>
+        requires { IsHead self.now.homes head }
+        ensures { result ≡ last_of None (list_at self.now.lists head) }
+    {
+        let node = self.links[head].prev as usize;
+        if node == head { None } else { Some(node) }
+    }
+
+    /// The node after one that stands in a list.
+    pub fn next(&self, node: usize) -> Option<usize>
+        requires { IsItem self.now.homes node }
+        ensures { result ≡ after node (list_at self.now.lists (home_at self.now.homes node)) }
+    {
+        let link = self.links[node];
+        if link.next == link.home {
+            None
+        } else {
+            Some(link.next as usize)
+        }
+    }
+
+    /// The node before one that stands in a list.
+    pub fn prev(&self, node: usize) -> Option<usize>
+        requires { IsItem self.now.homes node }
+        ensures { result ≡ before node None (list_at self.now.lists (home_at self.now.homes node)) }
+    {
+        let link = self.links[node];
+        if link.prev == link.home {
+            None
+        } else {
+            Some(link.prev as usize)
+        }
+    }
+}
+
+impl Chains {
+    /// Makes a free node the head of an empty list.
+    pub fn make_head(&mut self, node: usize)
+        requires { IsFree self.old.homes node }
+        ensures { self.new ≡ record self.old { homes = slice_set self.old.homes node node } }
+    {
+        close(&mut self.links, node);
+    }
+
+    /// Frees the head of an empty list.
+    pub fn free_head(&mut self, head: usize)
+        requires head { IsHead self.old.homes head }
+        requires empty { list_at self.old.lists head ≡ [] }
+        ensures { self.new ≡ record self.old { homes = slice_set self.old.homes head free } }
+    {
+        open(&mut self.links, head);
+    }
+
+    /// Takes the first node of a head's list out. It is free then: so a list of nodes that nobody needs is a
+    /// store of nodes to use again.
+    pub fn pop_front(&mut self, head: usize) -> Option<usize>
+        requires { IsHead self.old.homes head }
+        ensures first { result ≡ slice_get (list_at self.old.lists head) 0 }
+        ensures taken { MatchOption result (self.new ≡ self.old) (λ n. self.new ≡ let_go n self.old) }
+    {
+        self.laws();
+        let Some(node) = self.first(head) else {
+            return None;
+        };
+        self.remove(node);
+        Some(node)
+    }
+}
+
+impl Chains {
+    /// Makes room for `count` further nodes, which then come without a refusal.
+    pub fn reserve(&mut self, count: usize) -> Result<(), AllocError>
+        ensures made { OnOk result (self.new ≡ record self.old { room = max self.old.room count }) }
+        ensures refused { OnErr result ((self.new ≡ self.old) × (self.old.room < count)) }
+    {
+        if count <= self.room {
+            return Ok(());
+        }
+        if count >= FREE as usize - self.links.len() {
+            return Err(AllocError);
+        }
+        match self.links.reserve(count) {
+            Ok(()) => {
+                self.room = count;
+                Ok(())
+            }
+            Err(e) => Err(e),
+        }
+    }
+
+    /// A new node, which is free, in the room that was made.
+    pub fn new_node(&mut self) -> usize
+        requires { 0 < self.old.room }
+        ensures node { result ≡ length self.old.homes }
+        ensures added { self.new ≡ with_node free self.old }
+    {
+        let node = self.links.len();
+        grow(&mut self.links, FREE);
+        self.room -= 1;
+        node
+    }
+
+    /// A new node, which is the head of an empty list, in the room that was made.
+    pub fn new_head(&mut self) -> usize
+        requires { 0 < self.old.room }
+        ensures node { result ≡ length self.old.homes }
+        ensures added { self.new ≡ with_node result self.old }
+    {
+        let node = self.links.len();
+        grow(&mut self.links, node as u32);
+        self.room -= 1;
+        node
+    }
+
+    /// A new node, which is free.
+    pub fn add_node(&mut self) -> Result<usize, AllocError>
+        ensures added { IfOk result (λ n. (n ≡ length self.old.homes) × (self.new ≡ with_node free self.old)) }
+        ensures refused { OnErr result ((self.new ≡ self.old) × (self.old.room ≡ 0)) }
+    {
+        match self.reserve(1) {
+            Ok(()) => Ok(self.new_node()),
+            Err(e) => Err(e),
+        }
+    }
+
+    /// A new node, which is the head of an empty list.
+    pub fn add_head(&mut self) -> Result<usize, AllocError>
+        ensures added { IfOk result (λ n. (n ≡ length self.old.homes) × (self.new ≡ with_node n self.old)) }
+        ensures refused { OnErr result ((self.new ≡ self.old) × (self.old.room ≡ 0)) }
+    {
+        match self.reserve(1) {
+            Ok(()) => Ok(self.new_head()),
+            Err(e) => Err(e),
+        }
+    }
+}
+
+impl Chains {
+    /// Adds the nodes of a head's list to `out`.
+    pub fn nodes(&self, head: usize, out: &mut Vec<usize>) -> Result<(), AllocError>
+        requires { IsHead self.now.homes head }
+        ensures { OnOk result (out.new.items ≡ out.old.items ++ list_at self.now.lists head) }
+    {
+        let links = &self.links;
+        let mut node = links[head].next as usize;
+        while node != head {
+            out.push(node)?;
+            node = links[node].next as usize;
+        }
+        Ok(())
+    }
+
+    /// How many nodes there are.
+    pub fn len(&self) -> usize
+        ensures { result ≡ length self.now.homes }
+    {
+        self.links.len()
+    }
+
+    /// Each node stands in the list of its head, and once.
+    pub fn laws(&self)
+        ensures { Laws self.now.lists self.now.homes }
+    {
+        let _ = &self.links;
+    }
+}

@@ -1,0 +1,79 @@
+-- No text within its limit fills a new context.
+use Rattle.std.proofs.Common.{◌≡◌, ◌≤◌, ℕ, List, [], length, subst, ⊎_elim, arith}
+use Rattle.std.specs.Str.{bytes_eq}
+use Rattle.ir_text_tokens.specs.declared.token.Mark.{Mark}
+use Rattle.ir_text_tokens.specs.declared.token.Mark.TheVariants.{End}
+use Rattle.ir_types.specs.Interning.{with_name}
+use Rattle.ir_types.specs.Reasons.{name_reason}
+use Rattle.ir_types.specs.Things.{Things}
+use Rattle.ir_types.specs.Words.{words}
+use Rattle.ir_types.proofs.WordNumbers.{word_count}
+use Rattle.ir_tree.specs.Tree.{Op}
+use Rattle.ir_text_grammar.specs.Outcomes.{Outcome, Read, Full}
+use Rattle.ir_text_grammar.specs.Typed.{name_step}
+use Rattle.ir_text_types.specs.TypeReading.{type_at, function_type_at}
+use Rattle.ir_text_attributes.specs.AttrReading.{attr_at}
+use Rattle.ir_text_names.specs.States.{State, fresh}
+use Rattle.ir_text_operations.specs.Filling.{new_things, RootFills, OpsFill, Fills}
+use Rattle.ir_text_operations.specs.Free.{free_bound, no_types}
+use Rattle.ir_text_operations.specs.FrontReading.{Frees}
+use Rattle.ir_text_operations.specs.OpReading.{op_at, ops_at}
+use Rattle.ir_text_operations.specs.Spelling.{module_word}
+use Rattle.ir_text.specs.Room.{Fits, HasRoom}
+use Rattle.ir_text.proofs.Fits.{fits_to, Good, never, text, things}
+use Rattle.ir_text.proofs.Steps.{with_name_fits, full_count, full_interned}
+use Rattle.ir_text.proofs.TypeRoom.{type_good, function_type_good}
+use Rattle.ir_text.proofs.AttrRoom.{attr_good}
+use Rattle.ir_text.proofs.OpRoom.{left, known, op_good, ops_good}
+
+-- what was read has the room that is left
+kept : {S A : Type 0} (bytes : S → List ℕ) (held : S → Things) (i j k : ℕ) (o : Outcome (A × S)) (x : A) (s : S) → o ≡ Read (x, s) → Good bytes held i j k o → HasRoom (bytes s) (held s)
+kept bytes held i j k o x s e g = let h = (subst (Good bytes held i j k) e g).still in fits_to h (omega arith) (omega arith) (omega arith)
+
+-- ---- types
+
+pub type_room : (depth : ℕ) (c : Things) (bytes : List ℕ) → HasRoom bytes c → type_at depth (bytes, c) ≡ Full → ⊥
+type_room depth c bytes h e = never text things (type_at depth (bytes, c)) e (type_good depth 0 0 0 (bytes, c) h)
+
+pub type_left : (depth n : ℕ) (c d : Things) (bytes rest : List ℕ) → HasRoom bytes c → type_at depth (bytes, c) ≡ Read (n, (rest, d)) → HasRoom rest d
+type_left depth n c d bytes rest h e = kept text things 1 0 1 (type_at depth (bytes, c)) n (rest, d) e (type_good depth 0 0 0 (bytes, c) h)
+
+pub function_type_room : (c : Things) (bytes : List ℕ) → HasRoom bytes c → function_type_at (bytes, c) ≡ Full → ⊥
+function_type_room c bytes h e = never text things (function_type_at (bytes, c)) e (function_type_good 0 0 0 (bytes, c) h)
+
+-- ---- attributes
+
+pub attr_room : (depth : ℕ) (c : Things) (bytes : List ℕ) → HasRoom bytes c → attr_at depth (bytes, c) ≡ Full → ⊥
+attr_room depth c bytes h e = never text things (attr_at depth (bytes, c)) e (attr_good depth 0 0 0 (bytes, c) h)
+
+pub attr_left : (depth n : ℕ) (c d : Things) (bytes rest : List ℕ) → HasRoom bytes c → attr_at depth (bytes, c) ≡ Read (n, (rest, d)) → HasRoom rest d
+attr_left depth n c d bytes rest h e = kept text things 0 0 0 (attr_at depth (bytes, c)) n (rest, d) e (attr_good depth 0 0 0 (bytes, c) h)
+
+-- ---- operations
+
+pub op_room : (free : Frees) (last depth first : ℕ) (c : Things) (bytes : List ℕ) → HasRoom bytes c → op_at free last depth (fresh first bytes c) ≡ Full → ⊥
+op_room free last depth first c bytes h e = never left known (op_at free last depth (fresh first bytes c)) e (op_good free last depth 0 0 0 (fresh first bytes c) h)
+
+pub op_left : (free : Frees) (last depth first : ℕ) (c : Things) (bytes : List ℕ) (o : Op) (s : State) → HasRoom bytes c → op_at free last depth (fresh first bytes c) ≡ Read (o, s) → HasRoom s.bytes s.things
+op_left free last depth first c bytes o s h e = kept left known 0 0 0 (op_at free last depth (fresh first bytes c)) o s e (op_good free last depth 0 0 0 (fresh first bytes c) h)
+
+pub ops_room : (free : Frees) (close : Mark) (last depth first : ℕ) (c : Things) (bytes : List ℕ) → HasRoom bytes c → ops_at close (op_at free last depth) 1048576 [] (fresh first bytes c) ≡ Full → ⊥
+ops_room free close last depth first c bytes h e =
+    never left known (ops_at close (op_at free last depth) 1048576 [] (fresh first bytes c)) e (ops_good close (op_at free last depth) (op_good free last depth) 1048576 0 0 0 [] (fresh first bytes c) h)
+
+-- ---- texts
+
+new_fits : (i : ℕ) (bytes : List ℕ) → i ≤ 2 → length bytes ≤ 16777216 → Fits i 0 0 bytes new_things
+new_fits i bytes few h = record { names = omega (arith, word_count, few, h); types = omega (arith, h); attrs = omega (arith, h) }
+
+no_name : name_step module_word new_things ≡ Full → ⊥
+unfolding name_step
+no_name e = let f = full_count (bytes_eq module_word) words (full_interned (name_reason module_word new_things) (with_name module_word new_things) e) in omega (arith, word_count, f)
+
+pub text_fits : (bytes : List ℕ) → length bytes ≤ 16777216 → Fills bytes → ⊥
+text_fits bytes h fills = ⊎_elim
+    (λ (r : RootFills bytes new_things). op_room (free_bound no_types) 1048576 129 0 new_things bytes (new_fits 0 bytes (omega arith) h) r)
+    (⊎_elim
+    (⊎_elim no_name (λ (r : OpsFill 128 1 bytes (with_name module_word new_things).1). ops_room (free_bound no_types) End 1048576 128 1 (with_name module_word new_things).1 bytes (with_name_fits 0 0 0 module_word bytes new_things (new_fits 2 bytes (omega arith) h)) r))
+    (λ (r : OpsFill 129 0 bytes new_things). ops_room (free_bound no_types) End 1048576 129 0 new_things bytes (new_fits 0 bytes (omega arith) h) r))
+    fills

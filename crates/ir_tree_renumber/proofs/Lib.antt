@@ -1,5 +1,0 @@
-pub mod Places
-pub mod Kept
-pub mod Sighted
-pub mod Formed
-pub mod Fixed

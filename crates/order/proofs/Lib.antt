@@ -1,6 +1,0 @@
-pub mod Laws
-pub mod Spreads
-pub mod Parts
-pub mod Kept
-pub mod Parted
-pub mod Walks

@@ -1,0 +1,160 @@
+-- How a bench goes where marks are made and dropped.
+use Rattle.std.proofs.Common.{◌≡◌, ◌∙◌, sym, ap, subst, refl, inl, inr, ◌⊎◌, ℕ, List, [], ◌∷◌, drop, Bool, true, false, cond, Some, None, Result, Ok, Err}
+use Rattle.std.specs.Prelude.{nat_lt, OnOk, OnErr}
+use Rattle.ir_types.specs.declared.refusal.Refusal.{Refusal}
+use Rattle.ir_types.specs.declared.refusal.Refusal.TheVariants.{Memory, NoMark, TooManyMarks}
+use Rattle.ir_event.specs.Listener.{Listener}
+use Rattle.ir_event.specs.Modules.{module_meaning}
+use Rattle.rewriter_machine.specs.Machine.{State, Mark, Step, Commit, Rollback, Done, Refused, IsAnswer, most_marks, marked, done, due, due_commit, due_rollback, refused}
+use Rattle.rewriter_desk.specs.Journals.{before, inverses}
+use Rattle.rewriter_desk.specs.declared.mark.Mark.{Mark as DeskMark}
+use Rattle.rewriter_desk.specs.Held.{Held, module_held, open_mark, open_marks}
+use Rattle.rewriter_desk.specs.Marked.{Closed, IsNewest, counted_among, mark_reason, with_mark}
+use Rattle.rewriter_desk.specs.Moves.{HoldsNone, IsAnswered, Tidied}
+use Rattle.rewriter.specs.Benched.{Benched, Does, Heard, Led, ToldBack, reply_of, state_of}
+use Rattle.rewriter.specs.Rolling.{GivenUp, UndoneTo}
+use Rattle.rewriter.proofs.OpenMarks.{open_none, counted_open, last_same, drop_taken}
+use Rattle.rewriter.proofs.Told.{heard_onward, led_ages, led_left, led_still}
+
+-- what is given up
+pub given_tidied : (from : ℕ) (g h : Held) → Tidied from g h → (g.marks ≡ [] → HoldsNone h.store) → GivenUp g h
+given_tidied from g h t none =
+    let marks : h.marks ≡ g.marks = ap (λ (k : Held). k.marks) t.held in
+    record {
+      ctx = ap (λ (k : Held). k.ctx) t.held;
+      journal = ap (λ (k : Held). k.journal) t.held;
+      marks = marks;
+      module_of = t.released.module_of;
+      opens = t.marked;
+      tidy = t.tidy;
+      none = λ e. none (sym marks ∙ e);
+    }
+
+given_same : (g h : Held) → GivenUp g h → module_held h ≡ module_held g
+given_same g h t = λ i. module_meaning (t.ctx i) (t.module_of i)
+
+closed_same : (g h : Held) → Closed g h → module_held h ≡ module_held g
+closed_same g h t = ap module_held t.held
+
+-- events that are undone, and then what is given up
+pub undone_given : (mark : ℕ) (g h k : Held) → UndoneTo mark g h → GivenUp h k → UndoneTo mark g k
+undone_given mark g h k u t = record { ctx = t.ctx ∙ u.ctx; journal = t.journal ∙ u.journal; marks = t.marks ∙ u.marks; module_of = given_same h k t ∙ u.module_of; opens = t.opens ∙ u.opens }
+
+module _ {B : Type 0} (meaning : B → Listener) where
+  abbrev at : Held → List B → Benched B
+  at h xs = record { desk = h; listeners = xs }
+
+  pub given_led : (g h : Held) (xs : List B) → GivenUp g h → Led meaning (at g xs) (at h xs)
+  given_led g h xs t = led_still meaning g h xs t.ctx (given_same g h t)
+
+  pub back_led : (mark : ℕ) (g h k : Held) (xs ys : List B) → GivenUp h k → Heard meaning (inverses (drop mark g.journal)) (at g xs) (at h ys) → Led meaning (at g xs) (at k ys)
+  back_led mark g h k xs ys t heard = (inverses (drop mark g.journal), heard_onward meaning (inverses (drop mark g.journal)) (at g xs) h k ys t.ctx (given_same h k t) heard)
+
+  -- ---- a mark more
+
+  pub mark_led : {A : Type 0} (counted : Bool) (g h : Held) (xs : List B) (r : Result A Refusal) → OnOk r (h ≡ with_mark counted g) → OnErr r (h ≡ g) → Led meaning (at g xs) (at h xs)
+  mark_led counted g h xs (Ok u) is same = led_still meaning g h xs (ap (λ (k : Held). k.ctx) is) (ap module_held is)
+  mark_led counted g h xs (Err e) is same = led_left meaning g h xs same
+
+  more : (counted : Bool) (g h : Held) (xs : List B) → h ≡ with_mark counted g → open_marks h ≡ record { marked = module_held g; counted = counted } ∷ open_marks g → done (module_held h) (open_marks h) ≡ marked counted (state_of meaning (at g xs))
+  more counted g h xs is opens = λ i. done (ap module_held is i) (opens i)
+
+  -- what is due, by the marks of the desk
+  due_mark : (g : Held) (xs : List B) → due (state_of meaning (at g xs)) Mark ≡ cond (nat_lt (counted_among g.marks) most_marks) (marked true (state_of meaning (at g xs))) (refused TooManyMarks (state_of meaning (at g xs)))
+  due_mark g xs = ap (λ n. cond (nat_lt n most_marks) (marked true (state_of meaning (at g xs))) (refused TooManyMarks (state_of meaning (at g xs)))) (counted_open g)
+
+  mark_goes : (g h : Held) (xs : List B) → mark_reason true g.marks ≡ None → h ≡ with_mark true g → open_marks h ≡ record { marked = module_held g; counted = true } ∷ open_marks g → Does meaning Mark Done (at g xs) (at h xs)
+  mark_goes g h xs free is opens = record { answer = inl (go (nat_lt (counted_among g.marks) most_marks) free ∙ sym (due_mark g xs)); panel = refl }
+    where
+      s : State
+      s = state_of meaning (at g xs)
+
+      go : (t : Bool) → cond t None (Some TooManyMarks) ≡ None → done (module_held h) (open_marks h) ≡ cond t (marked true s) (refused TooManyMarks s)
+      go true e = more true g h xs is opens
+      go false e = absurd cc
+
+  mark_refused : (b : Benched B) (r : Refusal) → (mark_reason true b.desk.marks ≡ Some r) ⊎ ((r ≡ Memory) × Unit {0}) → Does meaning Mark (Refused r) b b
+  mark_refused b r why = record { answer = go why; panel = refl }
+    where
+      s : State
+      s = state_of meaning b
+
+      one : (t : Bool) → cond t None (Some TooManyMarks) ≡ Some r → refused r s ≡ cond t (marked true s) (refused TooManyMarks s)
+      one true e = absurd cc
+      one false e = (let same : r ≡ TooManyMarks = cc in ap (λ q. refused q s) same)
+
+      go : (mark_reason true b.desk.marks ≡ Some r) ⊎ ((r ≡ Memory) × Unit {0}) → IsAnswer s Mark (refused r s)
+      go (inl h) = inl (one (nat_lt (counted_among b.desk.marks) most_marks) h ∙ sym (due_mark b.desk b.listeners))
+      go (inr (memory, u)) = inr (refl, ap (λ q. refused q s) memory)
+
+  step_goes : (g h : Held) (xs : List B) → h ≡ with_mark false g → open_marks h ≡ record { marked = module_held g; counted = false } ∷ open_marks g → Does meaning Step Done (at g xs) (at h xs)
+  step_goes g h xs is opens = record { answer = inl (more false g h xs is opens); panel = refl }
+
+  step_refused : (b : Benched B) (r : Refusal) → (mark_reason false b.desk.marks ≡ Some r) ⊎ ((r ≡ Memory) × Unit {0}) → Does meaning Step (Refused r) b b
+  step_refused b r why = record { answer = go why; panel = refl }
+    where
+      s : State
+      s = state_of meaning b
+
+      go : (mark_reason false b.desk.marks ≡ Some r) ⊎ ((r ≡ Memory) × Unit {0}) → IsAnswer s Step (refused r s)
+      go (inl h) = absurd (let n : None ≡ Some r = h in cc)
+      go (inr (memory, u)) = inr (refl, ap (λ q. refused q s) memory)
+
+  pub mark_does : {A : Type 0} (g h : Held) (xs : List B) (r : Result A Refusal) → OnOk r (h ≡ with_mark true g) → OnOk r (open_marks h ≡ record { marked = module_held g; counted = true } ∷ open_marks g) → OnErr r (h ≡ g) → IsAnswered (Unit {0}) (mark_reason true g.marks) r
+      → Does meaning Mark (reply_of r) (at g xs) (at h xs)
+  mark_does g h xs (Ok u) is opens same free = mark_goes g h xs free is opens
+  mark_does g h xs (Err e) is opens same why = subst (λ (h : Held). Does meaning Mark (Refused e) (at g xs) (at h xs)) (sym same) (mark_refused (at g xs) e why)
+
+  pub step_does : {A : Type 0} (g h : Held) (xs : List B) (r : Result A Refusal) → OnOk r (h ≡ with_mark false g) → OnOk r (open_marks h ≡ record { marked = module_held g; counted = false } ∷ open_marks g) → OnErr r (h ≡ g) → IsAnswered (Unit {0}) (mark_reason false g.marks) r
+      → Does meaning Step (reply_of r) (at g xs) (at h xs)
+  step_does g h xs (Ok u) is opens same free = step_goes g h xs is opens
+  step_does g h xs (Err e) is opens same why = subst (λ (h : Held). Does meaning Step (Refused e) (at g xs) (at h xs)) (sym same) (step_refused (at g xs) e why)
+
+  -- ---- the newest mark dropped
+
+  pub commit_goes : (g h k : Held) (xs : List B) → Closed g h → GivenUp h k → Does meaning Commit Done (at g xs) (at k xs)
+  commit_goes g h k xs shut t =
+      record {
+        answer = inl ((λ i. done ((given_same h k t ∙ closed_same g h shut) i) (t.opens i)) ∙ sym (ap (λ l. due_commit l (state_of meaning (at g xs))) shut.marked));
+        panel = refl;
+      }
+
+  pub commit_led : (g h k : Held) (xs : List B) → Closed g h → GivenUp h k → Led meaning (at g xs) (at k xs)
+  commit_led g h k xs shut t = led_still meaning g k xs (t.ctx ∙ ap (λ (l : Held). l.ctx) shut.held) (given_same h k t ∙ closed_same g h shut)
+
+  pub commit_none : (b : Benched B) → b.desk.marks ≡ [] → Does meaning Commit (Refused NoMark) b b
+  commit_none b e = record { answer = inl (sym (ap (λ l. due_commit l (state_of meaning b)) (open_none b.desk e))); panel = refl }
+
+  -- ---- and its module held again
+
+  pub rollback_none : (b : Benched B) → b.desk.marks ≡ [] → Does meaning Rollback (Refused NoMark) b b
+  rollback_none b e = record { answer = inl (sym (ap (λ l. due_rollback l (state_of meaning b)) (open_none b.desk e))); panel = refl }
+
+  module _ (mark : ℕ) (g d h k : Held) (xs ys : List B) (newest : IsNewest mark g) (u : UndoneTo mark g d) (shut : Closed d h) (t : GivenUp h k) (heard : Heard meaning (inverses (drop mark g.journal)) (at g xs) (at d ys)) where
+    held_again : module_held k ≡ module_held d
+    held_again = given_same h k t ∙ closed_same d h shut
+
+    length_is : shut.mark.length ≡ mark
+    length_is = ap (λ (m : DeskMark). m.length) (last_same h.marks newest.rest shut.mark (record { length = mark; counted = newest.counted }) (sym shut.marks ∙ u.marks ∙ newest.marks))
+
+    nothing_left : drop shut.mark.length d.journal ≡ []
+    nothing_left = (λ i. drop (length_is i) (u.journal i)) ∙ drop_taken mark g.journal
+
+    marked_is : (open_mark d shut.mark).marked ≡ module_held k
+    marked_is = ap (λ es. before d.ctx es d.store) nothing_left ∙ sym held_again
+
+    heard_back : Heard meaning (inverses (drop mark g.journal)) (at g xs) (at k ys)
+    heard_back = heard_onward meaning (inverses (drop mark g.journal)) (at g xs) d k ys (t.ctx ∙ ap (λ (l : Held). l.ctx) shut.held) held_again heard
+
+    pub rollback_told : ToldBack meaning (at g xs) (at k ys)
+    rollback_told = (mark, newest, heard_back)
+
+    pub rollback_led : Led meaning (at g xs) (at k ys)
+    rollback_led = (inverses (drop mark g.journal), heard_back)
+
+    pub rollback_goes : Does meaning Rollback Done (at g xs) (at k ys)
+    rollback_goes =
+        record {
+          answer = inl ((λ i. done (sym marked_is i) (t.opens i)) ∙ sym (ap (λ l. due_rollback l (state_of meaning (at g xs))) (sym u.opens ∙ shut.marked)));
+          panel = led_ages meaning (at g xs) (at k ys) rollback_led;
+        }

@@ -1,0 +1,7 @@
+use Rattle.std.proofs.Common.{subst, []}
+use Rattle.ir_types.specs.Sound.{Holds}
+use Rattle.rewriter.proofs.Told.{heard_grown}
+use Rattle.rewriter.proofs.bench.Bench.attr.Goals as goal
+
+pub returns-clause-led : goal.returns-clause-led
+returns-clause-led g c = rw (← c.self.view_is) ([], heard_grown g.L.Analysis.meaning _ _ _ (subst Holds c.world.ensures.ctx c.sound.ensures.holds) (subst Holds c.world-2.ensures.ctx c.sound-2.ensures.holds) c.attr-id.ensures.grows)

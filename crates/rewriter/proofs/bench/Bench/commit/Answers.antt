@@ -1,0 +1,17 @@
+use Rattle.std.proofs.Common.{[]}
+use Rattle.rewriter.proofs.Rolled.{commit_goes, commit_led}
+use Rattle.rewriter.proofs.Told.{heard_none}
+use Rattle.rewriter.proofs.Contexts.{commit_ctx}
+use Rattle.rewriter.proofs.bench.Bench.commit.Goals as goal
+
+pub returns-clause-does : goal.returns-clause-does
+returns-clause-does g c = rw (← c.self.view_is) (commit_goes g.L.Analysis.meaning _ _ _ _ c.close.ensures c.give_up.ensures)
+
+pub returns-clause-led : goal.returns-clause-led
+returns-clause-led g c = rw (← c.self.view_is) (commit_led g.L.Analysis.meaning _ _ _ _ c.close.ensures c.give_up.ensures)
+
+pub returns-then-not-is_marked-clause-led : goal.returns-then-not-is_marked-clause-led
+returns-then-not-is_marked-clause-led g c = ([], heard_none g.L.Analysis.meaning _)
+
+pub returns-clause-ctx : goal.returns-clause-ctx
+returns-clause-ctx g c = rw (← c.self.view_is) (commit_ctx _ _ _ c.close.ensures c.give_up.ensures)

@@ -1,0 +1,9 @@
+use Rattle.std.proofs.Common.{true}
+use Rattle.rewriter.proofs.Rolled.{mark_does, mark_led}
+use Rattle.rewriter.proofs.bench.Bench.mark.Goals as goal
+
+pub returns-clause-does : goal.returns-clause-does
+returns-clause-does g c = rw (← c.self.view_is) (mark_does g.L.Analysis.meaning _ _ _ c.mark.result c.mark.ensures.ok c.mark.ensures.marked c.mark.ensures.err c.mark.ensures.refused)
+
+pub returns-clause-led : goal.returns-clause-led
+returns-clause-led g c = rw (← c.self.view_is) (mark_led g.L.Analysis.meaning true _ _ _ c.mark.result c.mark.ensures.ok c.mark.ensures.err)

@@ -1,0 +1,23 @@
+use Rattle.std.proofs.Common.{[]}
+use Rattle.rewriter.proofs.Rolled.{rollback_goes, rollback_led, rollback_told, rollback_none}
+use Rattle.rewriter.proofs.Told.{heard_none}
+use Rattle.rewriter.proofs.Contexts.{rollback_ctx}
+use Rattle.rewriter.proofs.bench.Bench.rollback.Goals as goal
+
+pub returns-clause-does : goal.returns-clause-does
+returns-clause-does g c = rw (← c.self.view_is) (rollback_goes g.L.Analysis.meaning _ _ _ _ _ _ _ c.in-Some.ensures.some c.undo_to.ensures.undone c.close.ensures c.give_up.ensures c.undo_to.ensures.told)
+
+pub returns-clause-told : goal.returns-clause-told
+returns-clause-told g c = rw (← c.self.view_is) (rollback_told g.L.Analysis.meaning _ _ _ _ _ _ _ c.in-Some.ensures.some c.undo_to.ensures.undone c.close.ensures c.give_up.ensures c.undo_to.ensures.told)
+
+pub returns-clause-led : goal.returns-clause-led
+returns-clause-led g c = rw (← c.self.view_is) (rollback_led g.L.Analysis.meaning _ _ _ _ _ _ _ c.in-Some.ensures.some c.undo_to.ensures.undone c.close.ensures c.give_up.ensures c.undo_to.ensures.told)
+
+pub returns-in_default-clause-led : goal.returns-in_default-clause-led
+returns-in_default-clause-led g c = ([], heard_none g.L.Analysis.meaning _)
+
+pub returns-in_default-clause-does : goal.returns-in_default-clause-does
+returns-in_default-clause-does g c = rw (← c.self.view_is) (rollback_none g.L.Analysis.meaning (record { desk = c.self.inside.desk; listeners = c.self.inside.panel }) c.in_default.ensures.none)
+
+pub returns-clause-ctx : goal.returns-clause-ctx
+returns-clause-ctx g c = rw (← c.self.view_is) (rollback_ctx _ _ _ _ _ c.undo_to.ensures.undone c.close.ensures c.give_up.ensures)

@@ -1,0 +1,107 @@
+//! Entries of operations are set and taken out, in the dictionary in which their key belongs.
+ghost use Rattle.std.specs.Prelude.{◌≡◌, is_some, None, Some, OnOk, OnErr, IfSome};
+ghost use Rattle.ir_types.specs.Things.{IsName, IsAttr};
+ghost use Rattle.ir_tree.specs.Edits.{entry_at};
+ghost use Rattle.ir_tree.specs.Meaning.{key_before_in};
+ghost use Rattle.ir_store.specs.Calls.{after_entry};
+ghost use Rattle.rewriter_machine.specs.Contents.{edit_meaning, tests_in};
+ghost use Rattle.rewriter_machine.specs.Edits.{DropAttr, SetAttr, part_for};
+ghost use Rattle.ir_tree_laws.specs.Reasons.{set_entry_reason};
+ghost use Rattle.rewriter_machine.specs.Machine.{Do};
+ghost use Rattle.rewriter_desk.specs.Moves.{IsAnswered};
+ghost use Rattle.rewriter.specs.Benched.{Does, Led, Made, reply_of};
+
+use crate::bench::Bench;
+use ir_event::analysis::Analysis;
+use ir_store::store::Store;
+use ir_tree::place::Part;
+use ir_tree::sound::comes_before;
+use ir_types::context::Context;
+use ir_types::ids::{AttrId, NameId, OpId};
+use ir_types::refusal::Refusal;
+
+/// Whether one of some entries is at a key.
+fn has_entry(ctx: &Context, entries: &[(NameId, AttrId)], key: NameId) -> bool
+    ensures { result ≡ is_some (entry_at (key_before_in ctx.now) key entries.now) }
+{
+    let mut rest = entries;
+    while let [entry, tail @ ..] = rest {
+        if !comes_before(ctx, key, entry.0) && !comes_before(ctx, entry.0, key) {
+            return true;
+        }
+        rest = tail;
+    }
+    false
+}
+
+/// The dictionary of an operation in which a key belongs: the properties, where it is inherent or they have it, else the
+/// attributes.
+fn part_for(ctx: &Context, store: &Store, op: OpId, key: NameId) -> Part
+    ensures { result ≡ part_for (tests_in ctx.now) op key store.now.module_of.tree }
+{
+    if !store.in_tree(op) {
+        return Part::Attrs;
+    }
+    let Some(node) = store.node(op) else {
+        return Part::Attrs;
+    };
+    if ctx.inherent(node.name(), key) {
+        return Part::Props;
+    }
+    if has_entry(ctx, node.properties(), key) {
+        return Part::Props;
+    }
+    Part::Attrs
+}
+
+impl<L: Analysis> Bench<L> {
+    /// Sets a key of an operation to an attribute: a property, where the key is inherent to the operation or its
+    /// properties have it, else an attribute (Language Reference, "Operations", on inherent and discardable attributes).
+    ///
+    /// Refusals, in order: `NoSuchOp`; `Full` where the dictionary has no room for one more; and `Memory`.
+    pub fn set_attr(&mut self, op: OpId, key: NameId, attr: AttrId) -> Result<(), Refusal>
+        requires key { IsName self.old.desk.ctx key }
+        requires attr { IsAttr self.old.desk.ctx attr }
+        ensures ok { OnOk result (Made L.meaning (after_entry (key_before_in self.old.desk.ctx) op (part_for (tests_in self.old.desk.ctx) op key self.old.desk.store.module_of.tree) key (Some attr) self.old.desk.store) self.old self.new) }
+        ensures err { OnErr result (self.new ≡ self.old) }
+        ensures does { Does L.meaning (Do (edit_meaning self.old.desk.ctx (SetAttr op key attr))) (reply_of result) self.old self.new }
+        ensures led { Led L.meaning self.old self.new }
+    {
+        self.enter(op, key, Some(attr))
+    }
+
+    /// Takes the entry at a key of an operation out.
+    ///
+    /// Refusals, in order: `NoSuchOp`; `NoSuchKey`; and `Memory`.
+    pub fn drop_attr(&mut self, op: OpId, key: NameId) -> Result<(), Refusal>
+        requires key { IsName self.old.desk.ctx key }
+        ensures ok { OnOk result (Made L.meaning (after_entry (key_before_in self.old.desk.ctx) op (part_for (tests_in self.old.desk.ctx) op key self.old.desk.store.module_of.tree) key None self.old.desk.store) self.old self.new) }
+        ensures err { OnErr result (self.new ≡ self.old) }
+        ensures does { Does L.meaning (Do (edit_meaning self.old.desk.ctx (DropAttr op key))) (reply_of result) self.old self.new }
+        ensures led { Led L.meaning self.old self.new }
+    {
+        self.enter(op, key, None)
+    }
+}
+
+impl<L: Analysis> Bench<L> {
+    /// Sets the entry at a key of an operation, or takes it out.
+    fn enter(&mut self, op: OpId, key: NameId, value: Option<AttrId>) -> Result<(), Refusal>
+        requires key { IsName self.old.desk.ctx key }
+        requires value { IfSome value (λ a. IsAttr self.old.desk.ctx a) }
+        ensures ok { OnOk result (Made L.meaning (after_entry (key_before_in self.old.desk.ctx) op (part_for (tests_in self.old.desk.ctx) op key self.old.desk.store.module_of.tree) key value self.old.desk.store) self.old self.new) }
+        ensures refused { IsAnswered (Unit {0}) (set_entry_reason (key_before_in self.old.desk.ctx) op (part_for (tests_in self.old.desk.ctx) op key self.old.desk.store.module_of.tree) key value self.old.desk.store.module_of.tree) result }
+        ensures err { OnErr result (self.new ≡ self.old) }
+        ensures led { Led L.meaning self.old self.new }
+    {
+        let world = self.desk.world();
+        let part = part_for(&world.ctx, &world.store, op, key);
+        match self.desk.set_entry(op, part, key, value) {
+            Err(refusal) => Err(refusal),
+            Ok(event) => {
+                self.panel.tell(self.desk.world(), event);
+                Ok(())
+            }
+        }
+    }
+}

@@ -1,0 +1,150 @@
+//! The bench.
+ghost use Rattle.std.specs.Prelude.{◌≡◌, [], length, slice_get, ◌↔◌, ◌≢◌, IsTrue, OnErr, IfOk, IsOk, true, None};
+ghost use Rattle.ir_types.specs.Things.{TypeIsOf, AttrIsOf};
+ghost use Rattle.ir_types.specs.Interning.{with_name, with_type, with_attr, knows_name, knows_type, knows_attr};
+ghost use Rattle.ir_types.specs.Reasons.{IsRefusedFor, name_reason, type_reason, attr_reason};
+ghost use Rattle.ir_event.specs.Modules.{things_in};
+ghost use Rattle.rewriter_desk.specs.Journals.{IsSlotted, IsTidy};
+ghost use Rattle.rewriter_desk.specs.Moves.{Grown};
+ghost use Rattle.rewriter.specs.Benched.{Led};
+
+use rewriter_desk::desk::Desk;
+use ir_event::analysis::Analysis;
+use ir_event::event::Event;
+use ir_event::panel::Panel;
+use ir_event::world::World;
+use ir_types::ids::{AttrId, NameId, TypeId};
+use ir_types::node::{AttrNode, TypeNode};
+use ir_types::refusal::Refusal;
+use std::alloc::Global;
+use std::marker::Model;
+
+/// A module under edits, with its marks and the events since the oldest open one, and the listeners that follow it.
+#[derive(Drop)]
+pub struct Bench<L> {
+    pub(crate) desk: Desk,
+    pub(crate) panel: Panel<L>,
+}
+
+impl<L> Model for Bench<L> {
+    ghost use Rattle.rewriter.specs.Benched.{Benched};
+    ghost use Rattle.rewriter_desk.specs.Journals.{IsTidy};
+    ghost use Rattle.std.specs.Coded.{codes};
+    ghost use Rattle.ir_store.specs.Stored.{stored_code};
+
+    ghost Value = { Benched L };
+
+    ghost coded = { Prim.hlevel (codes, stored_code) };
+
+    ghost view = { λ b. record { desk = b.desk; listeners = b.panel } };
+
+    ghost invariant = { λ b. IsTidy b.desk.store };
+}
+
+impl<L: Analysis> Bench<L> {
+    /// A bench without marks or listeners.
+    pub fn new(alloc: Global, world: World) -> Bench<L>
+        requires slotted { IsSlotted world.store }
+        requires tidy { IsTidy world.store }
+        ensures { result ≡ record { desk = record { ctx = things_in world; store = world.store; journal = []; marks = [] }; listeners = [] } }
+    {
+        Bench {
+            desk: Desk::new(alloc, world),
+            panel: Panel::new(alloc),
+        }
+    }
+
+    /// The world.
+    pub fn world(&self) -> &World
+        ensures ctx { result.now.ctx ≡ self.now.desk.ctx }
+        ensures store { result.now.store ≡ self.now.desk.store }
+    {
+        self.desk.world()
+    }
+
+    /// The listeners, in the order in which they were attached.
+    pub fn listeners(&self) -> &[L]
+        ensures { result.now ≡ self.now.listeners }
+    {
+        self.panel.listeners()
+    }
+
+    /// Whether a mark is open.
+    pub fn is_marked(&self) -> bool
+        ensures { IsTrue result ↔ (self.now.desk.marks ≢ []) }
+    {
+        self.desk.is_marked()
+    }
+
+    /// How many events there are since the oldest open mark.
+    pub fn journal_len(&self) -> usize
+        ensures { result ≡ length self.now.desk.journal }
+    {
+        self.desk.journal_len()
+    }
+
+    /// One of them, the oldest first.
+    pub fn journal_at(&self, place: usize) -> Option<Event>
+        ensures { result ≡ slice_get self.now.desk.journal place }
+    {
+        self.desk.journal_at(place)
+    }
+}
+
+impl<L: Analysis> Bench<L> {
+    /// The number of a name in the context.
+    ///
+    /// Refusals: as for the context's call.
+    pub fn name(&mut self, bytes: &[u8]) -> Result<NameId, Refusal>
+        ensures ok { IfOk result (λ id. (id, self.new.desk.ctx) ≡ with_name bytes.now self.old.desk.ctx) }
+        ensures refused { IsRefusedFor (name_reason bytes.now self.old.desk.ctx) result }
+        ensures known { knows_name bytes.now self.old.desk.ctx ≡ true → IsOk result }
+        ensures err { OnErr result (self.new ≡ self.old) }
+        ensures grown { Grown self.old.desk self.new.desk }
+        ensures listeners { self.new.listeners ≡ self.old.listeners }
+        ensures led { Led L.meaning self.old self.new }
+    {
+        self.desk.world().ctx.sound();
+        let id = self.desk.name(bytes);
+        self.desk.world().ctx.sound();
+        id
+    }
+
+    /// The number of a type whose parts are types of the context.
+    ///
+    /// Refusals: as for the context's call.
+    pub fn ty(&mut self, node: TypeNode) -> Result<TypeId, Refusal>
+        requires { TypeIsOf self.old.desk.ctx node }
+        ensures ok { IfOk result (λ id. (id, self.new.desk.ctx) ≡ with_type node self.old.desk.ctx) }
+        ensures refused { IsRefusedFor (type_reason node self.old.desk.ctx) result }
+        ensures known { knows_type node self.old.desk.ctx ≡ true → type_reason node self.old.desk.ctx ≡ None → IsOk result }
+        ensures err { OnErr result (self.new ≡ self.old) }
+        ensures grown { Grown self.old.desk self.new.desk }
+        ensures listeners { self.new.listeners ≡ self.old.listeners }
+        ensures led { Led L.meaning self.old self.new }
+    {
+        self.desk.world().ctx.sound();
+        let id = self.desk.ty(node);
+        self.desk.world().ctx.sound();
+        id
+    }
+
+    /// The number of an attribute whose parts are names, types and attributes of the context.
+    ///
+    /// Refusals: as for the context's call.
+    pub fn attr(&mut self, node: AttrNode) -> Result<AttrId, Refusal>
+        requires { AttrIsOf self.old.desk.ctx node }
+        ensures ok { IfOk result (λ id. (id, self.new.desk.ctx) ≡ with_attr node self.old.desk.ctx) }
+        ensures refused { IsRefusedFor (attr_reason node self.old.desk.ctx) result }
+        ensures known { knows_attr node self.old.desk.ctx ≡ true → attr_reason node self.old.desk.ctx ≡ None → IsOk result }
+        ensures err { OnErr result (self.new ≡ self.old) }
+        ensures grown { Grown self.old.desk self.new.desk }
+        ensures listeners { self.new.listeners ≡ self.old.listeners }
+        ensures led { Led L.meaning self.old self.new }
+    {
+        self.desk.world().ctx.sound();
+        let id = self.desk.attr(node);
+        self.desk.world().ctx.sound();
+        id
+    }
+}

@@ -1,5 +1,0 @@
-use Rattle.rewriter_base.proofs.OpenMarks.{unmarked}
-use Rattle.rewriter_base.proofs.marks.give_up.Goals as goal
-
-pub settle-requires : goal.settle-requires
-settle-requires c = unmarked c.args.desk.now.marks c.if-is_marked.ensures.1

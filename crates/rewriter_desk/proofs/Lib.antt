@@ -1,0 +1,6 @@
+pub mod Laws
+pub mod Made
+pub mod Marks
+pub mod Outcomes
+pub mod Released
+pub mod Beside

@@ -1,0 +1,21 @@
+use Rattle.rewriter_desk.specs.Held.{Held}
+use Rattle.rewriter_desk.proofs.Outcomes.{settle_done, settle_good, settle_none}
+use Rattle.rewriter_desk.proofs.desk.Desk.settle.Goals as goal
+
+pub invariant_of-self : goal.invariant_of-self
+invariant_of-self c =
+    let w = c.self.inside.world in
+    let h : Held = record { ctx = w.ctx; store = w.store; journal = c.self.inside.journal.items; marks = c.self.inside.marks.items } in
+    settle_good h c.self.invariant c.release.new.world.ctx c.release.new.world.store c.release.ensures.ctx c.release.ensures.store (rw (← c.self.view_is) at c.requires)
+
+pub returns-clause-tidied : goal.returns-clause-tidied
+returns-clause-tidied c =
+    let w = c.self.inside.world in
+    let h : Held = record { ctx = w.ctx; store = w.store; journal = c.self.inside.journal.items; marks = c.self.inside.marks.items } in
+    rw (← c.self.view_is) (settle_done h c.self.invariant c.release.new.world.ctx c.release.new.world.store c.release.ensures.ctx c.release.ensures.store (rw (← c.self.view_is) at c.requires))
+
+pub returns-clause-none : goal.returns-clause-none
+returns-clause-none c =
+    let w = c.self.inside.world in
+    let h : Held = record { ctx = w.ctx; store = w.store; journal = c.self.inside.journal.items; marks = c.self.inside.marks.items } in
+    settle_none h c.self.invariant c.release.new.world.ctx c.release.new.world.store c.release.ensures.ctx c.release.ensures.store (rw (← c.self.view_is) at c.requires)

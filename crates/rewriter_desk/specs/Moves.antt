@@ -1,0 +1,69 @@
+-- Edits of a desk, and events that are undone.
+use Rattle.std.specs.Prelude.{◌≡◌, ℕ, List, [], ◌∷◌, ◌++◌, Option, Some, None, ◌⊎◌, Result, Ok, Err, MatchResult}
+use Rattle.std.specs.FinMap as map
+use Rattle.ir_types.specs.declared.refusal.Refusal.{Refusal}
+use Rattle.ir_types.specs.declared.refusal.Refusal.TheVariants.{Memory}
+use Rattle.ir_types.specs.Things.{Grows}
+use Rattle.ir_store.specs.Calls.{Releases}
+use Rattle.ir_store.specs.Stored.{Stored}
+use Rattle.ir_event.specs.declared.event.Event.{Event}
+use Rattle.ir_event.specs.Listener.{ShowsTaken}
+use Rattle.ir_event.specs.Step.{Step, inverse_of}
+use Rattle.rewriter_journal.specs.Undoing.{undone}
+use Rattle.rewriter_journal.specs.Journals.{IsTidy}
+use Rattle.rewriter_desk.specs.declared.mark.Mark.{Mark}
+use Rattle.rewriter_desk.specs.Held.{Held, module_held, open_marks, shown_of}
+
+-- a call is accepted where no reason stands; it is refused for its reason, or, where it takes memory, for want of it
+abbrev pub IsAnswered : {A : Type 0} → Type 0 → Option Refusal → Result A Refusal → Type 0
+IsAnswered takes reason result = MatchResult result (λ _. reason ≡ None) (λ e. (reason ≡ Some e) ⊎ ((e ≡ Memory) × takes))
+
+-- the journal after an event: it is kept only where a mark is open
+abbrev pub noted : List Mark → List Event → Event → List Event
+noted [] es e = es
+noted (k ∷ ks) es e = es ++ e ∷ []
+
+-- events with the one of an edit at the end, if it gave one
+abbrev pub written : List Event → Result Event Refusal → List Event
+written es (Ok e) = es ++ e ∷ []
+written es (Err r) = es
+
+-- the journal after an edit that gave an event, or was refused
+abbrev pub noted_as : List Mark → List Event → Result Event Refusal → List Event
+noted_as [] es made = es
+noted_as (k ∷ ks) es made = written es made
+
+-- an edit was made, which was this event and left this store: a step, and the modules of the marks stay
+pub record Edited (e : Event) (s : Stored) (old new : Held) : Type 0 where
+  pub held : new ≡ record { ctx = old.ctx; store = s; journal = noted old.marks old.journal e; marks = old.marks }
+  pub step : Step old.ctx e (module_held old) (module_held new)
+  pub shown : ShowsTaken e (module_held old) (shown_of new)
+  pub marked : open_marks new ≡ open_marks old
+
+-- the newest event of the journal was undone, by this event: a step back, and the modules of the marks stay
+pub record Undone (e : Event) (old new : Held) : Type 0 where
+  pub last : Event
+  pub is : e ≡ inverse_of last
+  pub journal : old.journal ≡ new.journal ++ last ∷ []
+  pub held : new ≡ record { ctx = old.ctx; store = undone old.ctx last old.store; journal = new.journal; marks = old.marks }
+  pub step : Step old.ctx e (module_held old) (module_held new)
+  pub shown : ShowsTaken e (module_held old) (shown_of new)
+  pub marked : open_marks new ≡ open_marks old
+
+-- what was held under ids from one on was given up
+pub record Tidied (from : ℕ) (old new : Held) : Type 0 where
+  pub released : Releases from old.store new.store
+  pub held : new ≡ record { ctx = old.ctx; store = new.store; journal = old.journal; marks = old.marks }
+  pub tidy : IsTidy new.store
+  pub marked : open_marks new ≡ open_marks old
+
+-- the context grew, and no more
+pub record Grown (old new : Held) : Type 0 where
+  pub grows : Grows old.ctx new.ctx
+  pub held : new ≡ record { ctx = new.ctx; store = old.store; journal = old.journal; marks = old.marks }
+  pub same : module_held new ≡ module_held old
+  pub marked : open_marks new ≡ open_marks old
+
+-- nothing is held of the module
+abbrev pub HoldsNone : Stored → Type 0
+HoldsNone s = (x : ℕ) → map.get s.held x ≡ None

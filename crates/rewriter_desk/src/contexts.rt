@@ -1,0 +1,63 @@
+//! A desk whose context grows: its module stays what it is, and so do those of its marks.
+ghost use Rattle.std.specs.Prelude.{◌≡◌, true, None, IfOk, IsOk, OnErr};
+ghost use Rattle.ir_types.specs.Things.{Grows, TypeIsOf, AttrIsOf};
+ghost use Rattle.ir_types.specs.Interning.{with_name, with_type, with_attr, knows_name, knows_type, knows_attr};
+ghost use Rattle.ir_types.specs.Reasons.{IsRefusedFor, name_reason, type_reason, attr_reason};
+ghost use Rattle.rewriter_desk.specs.Moves.{Grown};
+
+use crate::desk::Desk;
+use ir_types::ids::{AttrId, NameId, TypeId};
+use ir_types::node::{AttrNode, TypeNode};
+use ir_types::refusal::Refusal;
+
+impl Desk {
+    /// The number of a name in the context.
+    ///
+    /// Refusals: as for the context's call.
+    pub fn name(&mut self, bytes: &[u8]) -> Result<NameId, Refusal>
+        ensures ok { IfOk result (λ id. (id, self.new.ctx) ≡ with_name bytes.now self.old.ctx) }
+        ensures grows { Grown self.old self.new }
+        ensures refused { IsRefusedFor (name_reason bytes.now self.old.ctx) result }
+        ensures known { knows_name bytes.now self.old.ctx ≡ true → IsOk result }
+        ensures err { OnErr result (self.new ≡ self.old) }
+    {
+        self.world.ctx.sound();
+        let id = self.world.name(bytes);
+        self.world.ctx.sound();
+        id
+    }
+
+    /// The number of a type whose parts are types of the context.
+    ///
+    /// Refusals: as for the context's call.
+    pub fn ty(&mut self, node: TypeNode) -> Result<TypeId, Refusal>
+        requires { TypeIsOf self.old.ctx node }
+        ensures ok { IfOk result (λ id. (id, self.new.ctx) ≡ with_type node self.old.ctx) }
+        ensures grows { Grown self.old self.new }
+        ensures refused { IsRefusedFor (type_reason node self.old.ctx) result }
+        ensures known { knows_type node self.old.ctx ≡ true → type_reason node self.old.ctx ≡ None → IsOk result }
+        ensures err { OnErr result (self.new ≡ self.old) }
+    {
+        self.world.ctx.sound();
+        let id = self.world.ty(node);
+        self.world.ctx.sound();
+        id
+    }
+
+    /// The number of an attribute whose parts are names, types and attributes of the context.
+    ///
+    /// Refusals: as for the context's call.
+    pub fn attr(&mut self, node: AttrNode) -> Result<AttrId, Refusal>
+        requires { AttrIsOf self.old.ctx node }
+        ensures ok { IfOk result (λ id. (id, self.new.ctx) ≡ with_attr node self.old.ctx) }
+        ensures grows { Grown self.old self.new }
+        ensures refused { IsRefusedFor (attr_reason node self.old.ctx) result }
+        ensures known { knows_attr node self.old.ctx ≡ true → attr_reason node self.old.ctx ≡ None → IsOk result }
+        ensures err { OnErr result (self.new ≡ self.old) }
+    {
+        self.world.ctx.sound();
+        let id = self.world.attr(node);
+        self.world.ctx.sound();
+        id
+    }
+}

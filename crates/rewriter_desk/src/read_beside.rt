@@ -1,0 +1,49 @@
+//! Texts that are read beside a world's module.
+ghost use Rattle.std.specs.Prelude.{◌≡◌, IfOk, Err};
+ghost use Rattle.ir_types.specs.Things.{IsAttr};
+ghost use Rattle.ir_types.specs.Terms.{attr_term};
+ghost use Rattle.ir_tree.specs.Ids.{IsNumberedFrom};
+ghost use Rattle.ir_tree.specs.Meaning.{IsSoundIn, meaning};
+ghost use Rattle.ir_event.specs.Modules.{module_in};
+ghost use Rattle.ir_text_tokens.specs.declared.fault.Fault.{Fault as TextFault};
+ghost use Rattle.ir_text_attributes.specs.Claims.{IsNoAttr};
+ghost use Rattle.ir_text_attributes.specs.Spelling.{SpellsAttr};
+ghost use Rattle.ir_text_operations.specs.Claims.{IsNone};
+ghost use Rattle.rewriter_desk.specs.Texts.{Grown, SpellsBeside};
+
+use ir_event::world::World;
+use ir_text::reader::{self, ReadError};
+use ir_tree::tree::TreeOp;
+use ir_types::ids::AttrId;
+use std::alloc::Global;
+
+/// The attribute that a text spells, in the context of a world, whose module stays.
+///
+/// Refusals: as for the reader's call.
+pub fn parse_attr(alloc: Global, world: &mut World, text: &[u8]) -> Result<AttrId, ReadError>
+    ensures attr { IfOk result (λ a. IsAttr world.new.ctx a × SpellsAttr text.now (attr_term world.new.ctx a)) }
+    ensures refused { (f : TextFault) → result ≡ Err (ReadError.Refused f) → IsNoAttr (SpellsAttr text.now) }
+    ensures grown { Grown world.old world.new }
+{
+    world.ctx.sound();
+    let read = reader::parse_attr(alloc, &mut world.ctx, text);
+    world.ctx.sound();
+    read
+}
+
+/// The operation that a text spells beside a world's module, whose values it may name, numbered from the next free id;
+/// what it names is interned, and the module stays.
+///
+/// Refusals: as for the reader's call.
+pub fn read_op(alloc: Global, world: &mut World, text: &[u8]) -> Result<TreeOp, ReadError>
+    ensures read { IfOk result (λ t. SpellsBeside (module_in world.old) text.now (meaning world.new.ctx t)) }
+    ensures sound { IfOk result (λ t. IsSoundIn world.new.ctx t) }
+    ensures numbered { IfOk result (λ t. IsNumberedFrom world.old.store.module_of.next t) }
+    ensures refused { (f : TextFault) → result ≡ Err (ReadError.Refused f) → IsNone (SpellsBeside (module_in world.old) text.now) }
+    ensures grown { Grown world.old world.new }
+{
+    world.ctx.sound();
+    let read = reader::read_op(alloc, &mut world.ctx, text, &world.store);
+    world.ctx.sound();
+    read
+}

@@ -1,0 +1,52 @@
+//! Texts that are read beside the module of a desk, whose context grows.
+ghost use Rattle.std.specs.Prelude.{◌≡◌, IfOk, Err};
+ghost use Rattle.ir_types.specs.Things.{IsAttr};
+ghost use Rattle.ir_types.specs.Terms.{attr_term};
+ghost use Rattle.ir_tree.specs.Ids.{IsNumberedFrom};
+ghost use Rattle.ir_tree.specs.Meaning.{IsSoundIn, meaning};
+ghost use Rattle.ir_text_tokens.specs.declared.fault.Fault.{Fault as TextFault};
+ghost use Rattle.ir_text_attributes.specs.Claims.{IsNoAttr};
+ghost use Rattle.ir_text_attributes.specs.Spelling.{SpellsAttr};
+ghost use Rattle.ir_text_operations.specs.Claims.{IsNone};
+ghost use Rattle.rewriter_desk.specs.Texts.{SpellsBeside};
+ghost use Rattle.rewriter_desk.specs.Held.{module_held};
+ghost use Rattle.rewriter_desk.specs.Moves.{Grown};
+
+use crate::desk::Desk;
+use ir_tree::tree::TreeOp;
+use ir_types::ids::AttrId;
+use std::alloc::Global;
+use crate::read_beside;
+use ir_text::reader::ReadError;
+
+impl Desk {
+    /// The attribute that a text spells.
+    ///
+    /// Refusals: as for the reader's call.
+    pub fn parse_attr(&mut self, alloc: Global, text: &[u8]) -> Result<AttrId, ReadError>
+        ensures attr { IfOk result (λ a. IsAttr self.new.ctx a × SpellsAttr text.now (attr_term self.new.ctx a)) }
+        ensures refused { (f : TextFault) → result ≡ Err (ReadError.Refused f) → IsNoAttr (SpellsAttr text.now) }
+        ensures grown { Grown self.old self.new }
+    {
+        self.world.ctx.sound();
+        let read = read_beside::parse_attr(alloc, &mut self.world, text);
+        self.world.ctx.sound();
+        read
+    }
+
+    /// The operation that a text spells beside the module, whose values it may name, numbered from the next free id.
+    ///
+    /// Refusals: as for the reader's call.
+    pub fn read_op(&mut self, alloc: Global, text: &[u8]) -> Result<TreeOp, ReadError>
+        ensures read { IfOk result (λ t. SpellsBeside (module_held self.old) text.now (meaning self.new.ctx t)) }
+        ensures sound { IfOk result (λ t. IsSoundIn self.new.ctx t) }
+        ensures numbered { IfOk result (λ t. IsNumberedFrom self.old.store.module_of.next t) }
+        ensures refused { (f : TextFault) → result ≡ Err (ReadError.Refused f) → IsNone (SpellsBeside (module_held self.old) text.now) }
+        ensures grown { Grown self.old self.new }
+    {
+        self.world.ctx.sound();
+        let read = read_beside::read_op(alloc, &mut self.world, text);
+        self.world.ctx.sound();
+        read
+    }
+}
