@@ -1,4 +1,4 @@
-use Rattle.ir_verify_base.proofs.node.signature_of.Goals as goal
+use Rattle.op_registry.proofs.signature.signature_of.Goals as goal
 
 pub returns-clause-inputs : goal.returns-clause-inputs
 returns-clause-inputs c = c.signature_in.ensures.inputs c.args.ctx.now c.type_of.ensures.parts

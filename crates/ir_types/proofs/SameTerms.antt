@@ -11,8 +11,8 @@ use Rattle.ir_types.specs.Things.{Things, IsType}
 use Rattle.ir_types.specs.Terms.{TypeTerm, Integer, Index, Function, Memref, TypeTerms, no_types, next_type, type_term}
 use Rattle.ir_types.specs.Sound.{IsSound}
 use Rattle.ir_types.proofs.Terms.{type_term_one}
-use Rattle.ir_tree_laws.proofs.Listed.{bool_cases}
-use Rattle.rewriter_machine.specs.Types.{same_type, same_terms}
+use Rattle.std.proofs.lemmas.Bool.{cases_Bool}
+use Rattle.ir_types.specs.SameTypes.{same_type, same_terms}
 
 both : (a b : Bool) → a ≡ true → b ≡ true → (a && b) ≡ true
 both a b h k = cc
@@ -97,7 +97,7 @@ same_numbers c m n sound h k = go (same_type (type_term c m) (type_term c n)) re
   where
     go : (b : Bool) → same_type (type_term c m) (type_term c n) ≡ b → (m == n) ≡ same_type (type_term c m) (type_term c n)
     go true e = (unsigned_Decides m n).1 (type_term_one c m n sound h k (type_is (type_term c m) (type_term c n) e)) ∙ sym e
-    go false e = elim (bool_cases (m == n)) [
+    go false e = elim (cases_Bool (m == n)) [
       | inr f ↦ f ∙ sym e
       | inl f ↦ absurd (true≢false (sym (type_refl (type_term c m)) ∙ ap (λ z. same_type (type_term c m) (type_term c z)) (number_is m n f) ∙ e))
     ]

@@ -1,8 +1,8 @@
 use Rattle.std.proofs.Common.{◌∙◌, ap, sym, map, Some}
 use Rattle.ir_types.specs.Terms.{type_at, type_from}
-use Rattle.listeners_symbols.specs.Types.{function_of}
-use Rattle.listeners_symbols.proofs.Listed.{types_listed}
-use Rattle.listeners_symbols.proofs.properties.types_in.Goals as goal
+use Rattle.ir_types.specs.SameTypes.{function_of}
+use Rattle.op_registry.proofs.TypeLists.{types_listed}
+use Rattle.op_registry.proofs.signature.signature_in.Goals as goal
 
 pub returns-in-Func-clause-signature : goal.returns-in-Func-clause-signature
 returns-in-Func-clause-signature c known =

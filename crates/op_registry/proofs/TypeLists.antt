@@ -1,7 +1,7 @@
 -- What is read of an operation by numbers is read of what it stands for.
 use Rattle.std.proofs.Common.{◌≡◌, refl, ap, ℕ, List, [], ◌∷◌, map}
 use Rattle.ir_types.specs.Terms.{TypeTerm, type_at, types_at}
-use Rattle.listeners_symbols.specs.Types.{type_list}
+use Rattle.ir_types.specs.SameTypes.{type_list}
 
 -- the types that numbers stand for, in order
 pub types_listed : (known : List TypeTerm) (ns : List ℕ) → type_list (types_at known ns) ≡ map (type_at known) ns
