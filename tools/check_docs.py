@@ -1,7 +1,7 @@
 #!/usr/bin/env python3
 """Checks README.md, docs/*.md and crates/*/README.md:
 
-  - each file, folder or crate path that stands in backticks is there; NAME, CRATE and other words in capitals stand for any;
+  - each path of a file, a folder or a crate that stands in backticks is there (NAME, CRATE and their like stand for any);
   - a line has at most 120 columns, a cell of a table at most 200 (a row of a table can't be broken);
   - docs/MAP.md names each crate of crates/, and the crates that crates.txt has are those.
 
@@ -28,7 +28,8 @@ def alternatives(path):
     found = re.search(r"\{([^{}]*)\}", path)
     if not found:
         return [path]
-    return [it for one in found.group(1).split(",") for it in alternatives(path[:found.start()] + one + path[found.end():])]
+    before, behind = path[:found.start()], path[found.end():]
+    return [it for one in found.group(1).split(",") for it in alternatives(before + one + behind)]
 
 
 def is_path(text, of_crate):
@@ -41,10 +42,11 @@ def is_path(text, of_crate):
     return bool(slash) and (first in crates or (root / first).is_dir() or of_crate and first in INSIDE)
 
 
-def is_there(text, page):
-    """Whether it is there: from the top, from crates/, or from the page's folder."""
-    folders = [root, root / "crates", page.parent]
-    return any(next(folder.glob(text.rstrip("/")), None) for folder in folders)
+def is_there(text, page, of_crate):
+    """Whether it is there: from the top, from crates/, from the page's folder, or, of a page of docs/, in some crate."""
+    path = text.rstrip("/")
+    paths = [path, f"crates/{path}"] + ([] if of_crate else [f"crates/*/{path}"])
+    return any(next(root.glob(it), None) for it in paths) or next(page.parent.glob(path), None) is not None
 
 
 def pages():
@@ -66,7 +68,7 @@ def wrong_in(page):
             yield True, f"{at}: {len(line)} columns"
         for span in SPAN.findall(line):
             for path in alternatives(span):
-                if is_path(path, of_crate) and not is_there(path, page):
+                if is_path(path, of_crate) and not is_there(path, page, of_crate):
                     yield True, f"{at}: {path} isn't there"
         if PASSING.search(line):
             yield False, f"{at}: {line.strip()[:150]}"
