@@ -1,6 +1,6 @@
 #!/usr/bin/env python3
 """Gives crates other names: folders, crates.txt, paths in code, specs, proofs and edits, and paths in bench/ and docs/.
-Words in prose (`desk` in backticks) are left, and each line of docs/ that has one is printed. `rt fmt` in each crate comes
+Words in prose (`desk` in backticks) are left, and each line of a page that has one is printed. `rt fmt` in each crate comes
 behind it, and a whole check.
 
 usage: tools/rename_crates.py OLD=NEW..     at the top of a clean checkout"""
@@ -49,7 +49,7 @@ for name in filter(None, tracked):
         other = renamed(text, modules_of(name))
     if other != text:
         file.write_text(other)
-    if name.startswith("docs/") or name == "README.md":
+    if name.endswith(".md"):
         for number, line in enumerate(other.split("\n"), 1):
             if re.search(rf"`({one})`", line):
                 print(f"{name}:{number}: {line[:150]}")
