@@ -1,9 +1,10 @@
 #!/usr/bin/env python3
 """Checks README.md, docs/*.md and crates/*/README.md:
 
-  - each path of a file, a folder or a crate that stands in backticks is there (NAME, CRATE and their like stand for any);
+  - each path of a file, a folder or a crate in backticks is there (NAME, CRATE and their like stand for any);
   - a line has at most 120 columns, a cell of a table at most 200 (a row of a table can't be broken);
-  - docs/MAP.md names each crate of crates/, and the crates that crates.txt has are those.
+  - docs/MAP.md names each crate of crates/, the picture of docs/ARCHITECTURE.md each that is no program of cases and not
+    below one, and the crates that crates.txt has are those.
 
 It lists the lines with "yet", "at present" and "so far": what they say is to be looked at whenever something lands.
 
@@ -43,7 +44,7 @@ def is_path(text, of_crate):
 
 
 def is_there(text, page, of_crate):
-    """Whether it is there: from the top, from crates/, from the page's folder, or, of a page of docs/, in some crate."""
+    """Whether it is there: from the top, crates/ or the page's folder, or, of a page of docs/, in some crate."""
     path = text.rstrip("/")
     paths = [path, f"crates/{path}"] + ([] if of_crate else [f"crates/*/{path}"])
     return any(next(root.glob(it), None) for it in paths) or next(page.parent.glob(path), None) is not None
@@ -75,11 +76,13 @@ def wrong_in(page):
 
 
 def crates_apart():
-    """Where the map and crates.txt name other crates than there are."""
+    """Where the map, the picture or crates.txt have other crates than there are."""
     listed = {line.partition("#")[0].partition(":")[0].split()[0]
               for line in (root / "crates.txt").read_text().splitlines() if line.partition("#")[0].strip()}
     named = set(SPAN.findall((root / "docs/MAP.md").read_text()))
     yield from (f"docs/MAP.md: {name} isn't named" for name in sorted(crates - named))
+    drawn = set(re.findall(r"\w+", (root / "docs/ARCHITECTURE.md").read_text()))
+    yield from (f"docs/ARCHITECTURE.md: {name} isn't drawn" for name in sorted(crates - drawn) if "_cases" not in name)
     yield from (f"crates.txt: {name} is listed, or there, alone" for name in sorted(crates ^ listed))
 
 

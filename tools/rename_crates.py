@@ -1,7 +1,7 @@
 #!/usr/bin/env python3
 """Gives crates other names: folders, crates.txt, paths in code, specs, proofs and edits, and paths in bench/ and docs/.
-Words in prose (`desk` in backticks) are left, and each line of a page that has one is printed. `rt fmt` in each crate comes
-behind it, and a whole check.
+Words in prose (`desk` in backticks) are left, and each line of a page that has one is printed. `rt fmt` in each crate
+comes behind it, and a whole check.
 
 usage: tools/rename_crates.py OLD=NEW..     at the top of a clean checkout"""
 import pathlib
@@ -19,7 +19,7 @@ PATHS = [(re.compile(rf"\bRattle\.({one})\."), "Rattle.{}."), (re.compile(rf"(?<
 
 
 def renamed(text, modules):
-    """A text of a crate with these modules: `chains::` is a module in the crate `chains`, and that crate in any other."""
+    """A text of a crate with these modules: in the crate `chains`, `chains::` is its module, in others that crate."""
     def path_of(found):
         old = found.group(1)
         return found.group() if path == "{}::" and old in modules else path.format(pairs[old])
