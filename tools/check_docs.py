@@ -3,8 +3,8 @@
 
   - each path of a file, a folder or a crate in backticks is there (NAME, CRATE and their like stand for any);
   - a line has at most 120 columns, a cell of a table at most 200 (a row of a table can't be broken);
-  - docs/MAP.md names each crate of crates/, the picture of docs/ARCHITECTURE.md each that is no program of cases and not
-    below one, and the crates that crates.txt has are those.
+  - docs/MAP.md names each crate of crates/, and crates.txt no other; the picture of docs/ARCHITECTURE.md has each but
+    those of cases.
 
 It lists the lines with "yet", "at present" and "so far": what they say is to be looked at whenever something lands.
 
