@@ -23,3 +23,5 @@ mod walk;
 
 pub use ir_store_slots::row;
 pub use ir_store_reads::node;
+pub use ir_store_reads::uses;
+pub use ir_tree::place;

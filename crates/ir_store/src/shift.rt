@@ -24,6 +24,7 @@ use ir_store_slots::row::Row;
 use ir_store_slots::spot::{find_spot, link};
 use ir_store_slots::uses::id_at;
 use ir_store_reads::depth::op_fits;
+use ir_tree::limits::MOST_AROUND;
 use ir_tree::place::Place;
 use ir_types::context::Context;
 use ir_types::ids::OpId;
@@ -231,7 +232,7 @@ impl Store {
     {
         self.distinct();
         let mut at = op;
-        let mut room = 128;
+        let mut room = MOST_AROUND as u32;
         'around: while room > 0 {
             let Some(place) = self.place(at) else {
                 return room;

@@ -1,5 +1,5 @@
 //! Entries of dictionaries, set and taken out.
-ghost use Rattle.std.specs.Prelude.{◌≡◌, true, None, OnOk, OnErr, Some, is_some, MatchOption};
+ghost use Rattle.std.specs.Prelude.{◌≡◌, true, None, IsOk, OnOk, OnErr, Some, is_some, MatchOption};
 ghost use Rattle.std.specs.FinMap as finmap;
 ghost use Rattle.ir_tree.specs.Edits.{entry_at, part_of as the_part};
 ghost use Rattle.ir_tree.specs.Meaning.{key_before_in, rises};
@@ -129,6 +129,7 @@ pub fn change_row(
     requires { value ≡ None → is_some (entry_at (key_before_in ctx.now) key (the_part part (row_of row.old).head)) ≡ true }
     ensures ok { OnOk result (row_of row.new ≡ row_with_entry (key_before_in ctx.now) part key value (row_of row.old)) }
     ensures err { OnErr result (row_of row.new ≡ row_of row.old) }
+    ensures slot { rises (key_before_in ctx.now) (slots_in part (row_of row.old)).present ≡ true → is_slot key (slots_in part (row_of row.old)) ≡ true → IsOk result }
 {
     row.contents.change(alloc, ctx, part, key, value)
 }
