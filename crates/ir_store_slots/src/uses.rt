@@ -17,11 +17,10 @@ ghost use Rattle.ir_store_slots.specs.Index.{CanLead, all_led, value_head, use_a
 
 use crate::find::{Keys, find, find_leaf, find_operand, slot};
 use crate::row::{Area, Cell, Row};
-use ir_store_lists::Chains;
+use ir_store_lists::{Chains, Ordered};
 use ir_tree::value::Value;
 use ir_types::ids::{OpId, TypeId};
 use ir_types::refusal::Refusal;
-use ir_store_lists::Ordered;
 
 /// Whether the lists of some heads are empty.
 fn all_idle(uses: &Chains, base: usize, count: usize) -> bool
