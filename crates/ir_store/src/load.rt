@@ -32,7 +32,7 @@ impl Store {
     {
         let mut rest = values;
         'values: while let [value, tail @ ..] = rest {
-            if self.value_type(value).is_none() {
+            if self.value_type(*value).is_none() {
                 return false;
             }
             rest = tail;
