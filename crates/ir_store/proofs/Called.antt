@@ -1,7 +1,7 @@
 -- The same, as a function's calls tell it.
 use Rattle.std.proofs.Common.{◌≡◌, ℕ, ◌<◌, List, map, set, get_or, sym, ap, ◌∙◌, subst, length, false, Option, Some, None, arith}
 use Rattle.std.specs.FinMap as finmap
-use Rattle.std.proofs.lemmas.List.{get_or-map, get_or-set_same, get_or-set_other, length-set, map-set, length-map}
+use Rattle.std.proofs.lemmas.List.{length-set, length-map}
 use Rattle.ir_store_lists.specs.Lists.{Lists, free, without as drop_node, IsItem}
 use Rattle.ir_tree.specs.Tree.{Op, Head, op, head}
 use Rattle.ir_tree.specs.Ids.{find}
@@ -10,7 +10,7 @@ use Rattle.ir_store_slots.specs.declared.row.Row.{Row as Kept}
 use Rattle.ir_store.specs.declared.store.Store.TheInside.{Inside}
 use Rattle.ir_store_slots.specs.Stored.{Stored}
 use Rattle.ir_store.specs.Calls.{after_take, hold}
-use Rattle.ir_store_slots.specs.Rows.{Row, row_at, row_of, rows_of, no_row, held_in, gone_in}
+use Rattle.ir_store_slots.specs.Rows.{Row, row_at, row_of, rows_of, held_in, gone_in}
 use Rattle.ir_store_slots.specs.Spells.{SpellsOp, Spelled, Spelled-prop, spelled_is}
 use Rattle.ir_store.specs.Holds.{HoldsOf, HoldsOf-prop, GoneOf, GoneOf-prop, map_is}
 use Rattle.ir_store_slots.specs.Right.{Right}

@@ -1,7 +1,7 @@
 -- The operations beside an operation, by slots and in the tree.
 use Rattle.std.proofs.Common.{◌≡◌, ℕ, zero, suc, ◌<◌, List, [], ◌∷◌, ◌++◌, refl, sym, ap, ◌∙◌, subst, length, Bool, true, false, eqb, cond, ◌||◌, ⊎_elim, Option, Some, None, slice_get, arith}
 use Rattle.std.specs.Prelude.{option_map, option_and_then}
-use Rattle.std.proofs.lemmas.Bool.{cases_Bool, cases_eq, eq-eqb, ne_eqb, false≢true, or_left, or_right}
+use Rattle.std.proofs.lemmas.Bool.{cases_eq, eq-eqb, ne_eqb, or_left, or_right}
 use Rattle.std.proofs.lemmas.List.{get_or_past}
 use Rattle.ir_store_lists.specs.Lists.{Lists, Laws, has, before, last_of, list_at, home_at, free, IsHead}
 use Rattle.ir_store_lists.specs.Labels.{goes_before as slot_before}
@@ -21,7 +21,6 @@ use Rattle.ir_store_slots.specs.Spells.{SpellsOp, SpellsRegions, SpellsOps}
 use Rattle.ir_store_slots.specs.Spots.{id_in, slot_place}
 use Rattle.ir_store_slots.specs.Right.{Live, Right}
 use Rattle.ir_store_reads.specs.Heading.{block_in, CanStand}
-use Rattle.ir_store_reads.proofs.Apart.{not_behind}
 use Rattle.ir_store_slots.proofs.Slots.{Found, found, found_op, none_found, only, slot_of_live}
 use Rattle.ir_store.proofs.Cut.{head_id, live_of}
 use Rattle.ir_store.proofs.Standing.{some_place, root_placeless, place_missing}

@@ -1,6 +1,6 @@
 -- Steps of loading a tree.
 use Rattle.std.proofs.Common.{◌≡◌, ℕ, zero, suc, ◌+◌, ◌-◌, ◌<◌, ◌≤◌, List, [], ◌∷◌, ◌++◌, map, take, drop, get_or, refl, sym, ap, ◌∙◌, subst, length, Bool, true, false, eqb, cond, ◌||◌, ◌&&◌, ⊎_elim, arith, Some, None}
-use Rattle.std.specs.Prelude.{is_some, if◌then◌else◌, Result, Ok, Err, OnOk}
+use Rattle.std.specs.Prelude.{is_some, if◌then◌else◌}
 use Rattle.std.proofs.lemmas.List.{drop_more}
 use Rattle.std.specs.List.{All, AllByRecursion, list_any, list_all}
 use Rattle.std.specs.Ordering.{nat_cmp}

@@ -4,7 +4,7 @@ use Rattle.std.specs.Prelude.{option_and_then, option_map, is_some, if◌then◌
 use Rattle.std.specs.Ordering.{nat_cmp, eq_by_cmp}
 use Rattle.std.specs.Cmp.{nat_cmp_total}
 use Rattle.std.specs.FinMap as finmap
-use Rattle.std.proofs.lemmas.Bool.{eqb-true, false≢true}
+use Rattle.std.proofs.lemmas.Bool.{false≢true}
 use Rattle.std.proofs.lemmas.Bool.Decides.{nat_tests}
 use Rattle.ir_store_lists.specs.Lists.{Lists, list_at, home_at}
 use Rattle.ir_tree.specs.declared.value.Value.{Value}
@@ -14,7 +14,7 @@ use Rattle.ir_tree.specs.Tree.{Head, Op, op, Regions, no_regions, region, Region
 use Rattle.ir_tree.specs.Ids.{has_id, op_count, HasDistinctIds}
 use Rattle.ir_store_slots.specs.declared.row.Row.{Row as Kept}
 use Rattle.ir_store.specs.declared.store.Store.TheInside.{Inside}
-use Rattle.ir_store_slots.specs.Stored.{Stored, Gone, none_gone}
+use Rattle.ir_store_slots.specs.Stored.{Gone, none_gone}
 use Rattle.ir_store.specs.Calls.{Releases, gone_left}
 use Rattle.ir_store_slots.specs.Releases.{is_given, released, key_left}
 use Rattle.ir_store_slots.specs.Rows.{Row, Shape, row_at, rows_of, held_in, gone_in, bare, if_live}

@@ -7,12 +7,11 @@ use Rattle.ir_store_lists.specs.Lists.{Lists, Laws, has, list_at, home_at, free,
 use Rattle.ir_tree.specs.declared.value.Value.{Value}
 use Rattle.ir_tree.specs.declared.value.Value.TheVariants.{Result, Arg}
 use Rattle.ir_tree.specs.declared.place.Place.{Place}
-use Rattle.ir_tree.specs.Frames.{owner_of}
 use Rattle.ir_tree.specs.Tree.{Op, op, Regions, no_regions, region, empty, block, Ops, no_ops, next, head, regions}
 use Rattle.ir_tree_laws.specs.Values.{region_at, arguments_of, arguments_at, type_of_value, has_value}
 use Rattle.ir_tree_laws.specs.Reads.{ops_in, is_among}
 use Rattle.ir_tree_laws.specs.Reasons.{is_in_list, has_place}
-use Rattle.ir_store_slots.specs.Rows.{Row, Shape, row_at, live_slot, if_live, head_in}
+use Rattle.ir_store_slots.specs.Rows.{Row, Shape, row_at, live_slot, head_in}
 use Rattle.ir_store_slots.specs.Spells.{SpellsOp, SpellsRegions, SpellsOps}
 use Rattle.ir_store_slots.specs.Spots.{spot_in, before_in, at_slot, stands}
 use Rattle.ir_store_slots.specs.Right.{Live, Right}

@@ -58,8 +58,8 @@ use Rattle.ir_store.proofs.Cut.{not_item}
 use Rattle.ir_store.proofs.Joining.{FoundHeld}
 use Rattle.ir_store.proofs.Called.{rows_in, keys_in, stored, cut_tree, write_tree, right_after, write_fits, write_inside}
 use Rattle.ir_store_slots.proofs.Items.{read_row, other_row, own_row}
-use Rattle.ir_store_slots.specs.Marks.{mark, home_of, node_of_slot, Marked, Reaches}
-use Rattle.ir_store_slots.proofs.Marking.{marked_edit, marked_same, marked_more, marked_none}
+use Rattle.ir_store_slots.specs.Marks.{mark, home_of, node_of_slot}
+use Rattle.ir_store_slots.proofs.Marking.{marked_edit, marked_same}
 
 abbrev pub Whole : Inside → Type 0
 Whole a = Fits (rows_in a) (keys_in a) a.sibs a.root a.spelled.0 a.uses.homes (cells_of a.cells.items) a.count a.next a.marks.homes

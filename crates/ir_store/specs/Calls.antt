@@ -1,5 +1,5 @@
 -- What each call makes of a store.
-use Rattle.std.specs.Prelude.{◌≡◌, ℕ, ◌+◌, ◌<◌, eqb, nat_lt, Bool, true, false, if◌then◌else◌, Option, Some, None, is_some}
+use Rattle.std.specs.Prelude.{◌≡◌, ℕ, ◌+◌, ◌<◌, ◌⊎◌, eqb, nat_lt, Bool, true, false, if◌then◌else◌, Option, Some, None, is_some}
 use Rattle.std.specs.List.{list_all}
 use Rattle.std.specs.Ordering.{nat_cmp}
 use Rattle.std.specs.FinMap as map
@@ -123,6 +123,10 @@ pub record CanRetract (x : ℕ) (fresh : Bool) (s : Stored) : Type 0 where
   pub empty : holds_none (find x s.module_of.tree) ≡ true
   pub unused : unused x s.module_of.tree ≡ true
   pub newest : fresh ≡ true → s.module_of.next ≡ x + 1
+
+-- to set key k of operation x to a, or to take it out, wants no new slot: it is taken out, or there is a slot for it
+abbrev pub WantsNoSlot : ℕ → Part → ℕ → Option ℕ → Stored → Type 0
+WantsNoSlot x part k a s = (a ≡ None) ⊎ (has_slot x part k s ≡ true)
 
 -- operation x is there and has a slot for key k; what is taken out is there
 pub record CanRevert (x : ℕ) (part : Part) (k : ℕ) (a : Option ℕ) (s : Stored) : Type 0 where

@@ -18,8 +18,11 @@ ghost use Rattle.ir_store.specs.Calls.{after_take, after_restore, after_retract,
 ghost use Rattle.ir_store_slots.specs.Emptied.{seeded};
 ghost use Rattle.ir_store.specs.Holds.{HoldsOf, HoldsOf-prop, GoneOf, GoneOf-prop};
 
-use ir_store_lists::Chains;
 use ir_store_ids::IdTable;
+use ir_store_lists::{Chains, Ordered};
+use ir_store_reads::node::Node;
+use ir_store_reads::spare::NO_SLOT;
+use ir_store_reads::uses::{UsesOf, uses_from};
 use ir_store_slots::find::{Keys, find, slot};
 use ir_store_slots::grow::grow_slot;
 use ir_store_slots::marks::{new_marks, put_mark, reach};
@@ -27,17 +30,13 @@ use ir_store_slots::room::Room;
 use ir_store_slots::row::{Cell, Row, put_operand, put_row};
 use ir_store_slots::spot::{find_joint, link};
 use ir_store_slots::uses::{
-    find_idle, find_rewire, free_uses, lead_row, list_uses, live_type, use_node, use_run,
-    value_head,
+    find_idle, find_rewire, free_uses, lead_row, live_type, use_node, use_run, value_head,
 };
-use ir_store_reads::node::Node;
-use ir_store_reads::spare::NO_SLOT;
 use ir_tree::place::Place;
 use ir_tree::tree::TreeOp;
 use ir_tree::value::Value;
 use ir_types::ids::{OpId, TypeId};
 use ir_types::refusal::Refusal;
-use ir_store_lists::Ordered;
 use std::alloc::{AllocError, Global};
 use std::marker::Model;
 
@@ -210,21 +209,21 @@ impl Store {
 
 impl Store {
     /// The type of a value of the module.
-    pub fn value_type(&self, value: &Value) -> Option<TypeId>
-        ensures { result ≡ type_of_value value.now self.now.module_of.tree }
+    pub fn value_type(&self, value: Value) -> Option<TypeId>
+        ensures { result ≡ type_of_value value self.now.module_of.tree }
     {
-        live_type(&self.rows, &self.keys, value)
+        live_type(&self.rows, &self.keys, &value)
     }
 }
 
 impl Store {
     /// The uses of a value of the module, each once: the operations, and which operands.
-    pub fn uses(&self, value: &Value) -> Result<Vec<(OpId, usize)>, AllocError>
-        ensures { IfOk result (λ us. AreUses value.now self.now.module_of.tree us.items) }
+    pub fn uses(&self, value: Value) -> UsesOf<'_>
+        ensures { AreUses value self.now.module_of.tree result }
     {
         self.uses.laws();
-        let head = value_head(&self.rows, &self.keys, &self.uses, value);
-        list_uses(self.alloc, &self.rows, &self.cells, &self.uses, head)
+        let head = value_head(&self.rows, &self.keys, &self.uses, &value);
+        uses_from(&self.rows, &self.cells, &self.uses, head)
     }
 }
 

@@ -1,3 +1,4 @@
+//! A dictionary, with the slots of the keys that were taken out of it.
 ghost use Rattle.std.specs.Prelude.{◌≡◌, [], ◌||◌, true, length, nat_lt, IfOk, OnOk, OnErr, IsOk, Some, None, is_some};
 ghost use Rattle.ir_tree.specs.Edits.{entry_at};
 ghost use Rattle.ir_tree.specs.Meaning.{key_before_in, rises};

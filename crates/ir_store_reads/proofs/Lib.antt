@@ -3,3 +3,4 @@ pub mod Arguments
 pub mod Copied
 pub mod Adding
 pub mod Fitting
+pub mod Using

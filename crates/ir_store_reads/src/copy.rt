@@ -8,10 +8,10 @@ ghost use Rattle.ir_store_slots.specs.Plans.{AllHeads};
 ghost use Rattle.ir_store_slots.specs.Right.{Live};
 ghost use Rattle.ir_store_slots.specs.Spells.{SpellsOp, SpellsRegions, SpellsRegion};
 
+use ir_store_lists::Ordered;
 use ir_store_slots::row::{Area, Row};
 use ir_tree::place::Part;
 use ir_tree::tree::{TreeOp, TreeRegion};
-use ir_store_lists::Ordered;
 use std::alloc::{AllocError, Global};
 
 /// The operation of a slot, with all that stands in it, where that is at most so many levels deep.

@@ -7,8 +7,8 @@ ghost use Rattle.ir_store_slots.specs.Plans.{AllHeads};
 ghost use Rattle.ir_store_slots.specs.Right.{Live};
 ghost use Rattle.ir_store_slots.specs.Walks.{slot_fits, shapes_pass};
 
-use ir_store_slots::row::{Area, Row};
 use ir_store_lists::Ordered;
+use ir_store_slots::row::{Area, Row};
 
 /// Whether the operation of a slot has fewer levels inside it than there is room for.
 #[cycle(fit)]

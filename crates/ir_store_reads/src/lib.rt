@@ -8,4 +8,5 @@ pub mod node;
 pub mod spare;
 pub mod stand;
 pub mod users;
+pub mod uses;
 pub mod walk;

@@ -10,12 +10,11 @@ ghost use Rattle.ir_store_slots.specs.Grows.{parts_of, NewBlock, IsBlock, AreBlo
 ghost use Rattle.ir_store_reads.specs.Again.{HeadsOf, NodesOf, BlockFits, RowFits};
 ghost use Rattle.ir_tree.specs.Tree.{head};
 
-use ir_store_lists::Chains;
+use ir_store_lists::{Chains, Ordered};
 use ir_store_slots::grow::held_row;
 use ir_store_slots::row::{Area, Cell, Row};
 use ir_tree::tree::{TreeOp, TreeRegion};
 use ir_types::ids::OpId;
-use ir_store_lists::Ordered;
 use std::alloc::{AllocError, Global};
 
 /// No slot.

@@ -7,9 +7,9 @@ ghost use Rattle.ir_store_slots.specs.Right.{Live};
 ghost use Rattle.ir_store_reads.specs.Added.{AddsOp, AddsOps, AddsRegions};
 ghost use Rattle.ir_store_reads.specs.Ends.{last_in, later};
 
+use ir_store_lists::Ordered;
 use ir_store_slots::row::{Area, Row};
 use ir_types::ids::OpId;
-use ir_store_lists::Ordered;
 use std::alloc::AllocError;
 
 /// Adds the operation of a slot and those inside it, where that is at most so many levels deep.

@@ -8,9 +8,9 @@ ghost use Rattle.ir_store_slots.specs.Right.{Live};
 
 use crate::row::{Area, Row};
 use ir_store_ids::IdTable;
+use ir_store_lists::Ordered;
 use ir_types::ids::OpId;
 use ir_types::refusal::Refusal;
-use ir_store_lists::Ordered;
 
 /// The slots of operations by their numbers.
 pub type Keys = IdTable;

@@ -10,12 +10,11 @@ ghost use Rattle.ir_store_lists.specs.Lists.{free};
 ghost use Rattle.std.specs.Prelude.{if◌then◌else◌};
 
 use crate::row::{Area, Cell, Row, push_row};
-use ir_store_lists::Chains;
 use ir_store_contents::Contents;
+use ir_store_lists::{Chains, Ordered};
 use ir_tree::tree::{TreeOp, TreeRegion};
 use ir_tree::value::Value;
 use ir_types::ids::{NameId, OpId, TypeId};
-use ir_store_lists::Ordered;
 use std::alloc::{AllocError, Global};
 
 /// A row that holds nothing.

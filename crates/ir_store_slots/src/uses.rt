@@ -11,19 +11,16 @@ ghost use Rattle.ir_store_slots.specs.Rows.{live_slot};
 ghost use Rattle.ir_store_slots.specs.Right.{Live};
 ghost use Rattle.ir_store_slots.specs.Plans.{AllHeads, leaf_in, operand_in};
 ghost use Rattle.ir_store_slots.specs.Reasoned.{idle_in, with_head};
-ghost use Rattle.std.specs.Prelude.{IfOk, IfSome};
-ghost use Rattle.ir_store_slots.specs.Using.{use_in, uses_at};
+ghost use Rattle.ir_store_slots.specs.Using.{use_in};
 ghost use Rattle.ir_store_slots.specs.Index.{cells_of, shape_type, type_in};
 ghost use Rattle.ir_store_slots.specs.Index.{CanLead, all_led, value_head, use_at};
 
 use crate::find::{Keys, find, find_leaf, find_operand, slot};
 use crate::row::{Area, Cell, Row};
-use ir_store_lists::Chains;
+use ir_store_lists::{Chains, Ordered};
 use ir_tree::value::Value;
 use ir_types::ids::{OpId, TypeId};
 use ir_types::refusal::Refusal;
-use ir_store_lists::Ordered;
-use std::alloc::{AllocError, Global};
 
 /// Whether the lists of some heads are empty.
 fn all_idle(uses: &Chains, base: usize, count: usize) -> bool
@@ -290,31 +287,6 @@ pub fn use_in(rows: &Vec<Row>, cells: &Vec<Cell>, node: usize) -> (OpId, usize)
         None => (id_at(rows, 0), 0),
         Some(cell) => (id_at(rows, cell.row as usize), cell.place as usize),
     }
-}
-
-/// The operations and operands of the nodes in the list of a head, if there is one.
-pub fn list_uses(
-    alloc: Global,
-    rows: &Vec<Row>,
-    cells: &Vec<Cell>,
-    uses: &Chains,
-    head: Option<usize>,
-) -> Result<Vec<(OpId, usize)>, AllocError>
-    requires { IfSome head (λ h. IsHead uses.now.homes h) }
-    ensures { IfOk result (λ us. us.items ≡ uses_at (rows_of rows.now.items) (cells_of cells.now.items) uses.now.lists head) }
-{
-    let mut out = Vec::new(alloc);
-    let Some(head) = head else {
-        return Ok(out);
-    };
-    let mut nodes = Vec::new(alloc);
-    uses.nodes(head, &mut nodes)?;
-    let mut rest = &nodes[..];
-    'nodes: while let [node, tail @ ..] = rest {
-        out.push(use_in(rows, cells, *node))?;
-        rest = tail;
-    }
-    Ok(out)
 }
 
 /// The type of a value of the module.

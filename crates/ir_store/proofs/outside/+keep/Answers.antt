@@ -1,4 +1,4 @@
-use Rattle.std.proofs.Common.{◌≡◌, ◌<◌, ◌-◌, get_or, arith, ◌∙◌, sym, ap, subst, map, length, not, rules}
+use Rattle.std.proofs.Common.{◌≡◌, ◌<◌, ◌-◌, get_or, arith, ◌∙◌, sym, ap, subst, map, length, not}
 use Rattle.ir_store_lists.specs.Lists.{list_at, after}
 use Rattle.ir_store_slots.specs.Rows.{rows_of, shape_of}
 use Rattle.ir_store_slots.specs.Index.{ArgHeads, AreHeads, cells_of}
