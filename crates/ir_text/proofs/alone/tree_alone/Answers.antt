@@ -3,7 +3,7 @@ use Rattle.ir_text_grammar.specs.declared.error.ReadError.TheVariants as errors
 use Rattle.ir_text_operations.proofs.Modules.{spelled_of, none_of, source_none, error_is}
 use Rattle.ir_text.proofs.Sources.{within_limit}
 use Rattle.ir_text.proofs.WholeRoom.{text_fits}
-use Rattle.ir_text.proofs.alone.read_new.Goals as goal
+use Rattle.ir_text.proofs.alone.tree_alone.Goals as goal
 
 pub returns-in-Err-source_alone-clause-refused : goal.returns-in-Err-source_alone-clause-refused
 returns-in-Err-source_alone-clause-refused c = λ f e. source_none c.args.bytes.now (c.in-Err-source_alone.ensures.refused f e)
