@@ -1,13 +1,13 @@
 #!/bin/bash
-# Wrong bodies that the prover must refuse, beside those that the gate tries: `bench/wrong_bodies/CRATE/NAME.edit`, each an
-# edit as `crates/CRATE/must-fail` has them (`bench/wrong_bodies/README.md` says what each shows). They are copied into a
-# clone of the repository as it is committed, where `rt must-fail` tries them; what was proved of the libraries here is taken
-# along. Prints a line for each, and whether all were refused. Run it at the top of the repository:
+# Wrong bodies that the prover must refuse, beside those that the gate tries: `bench/wrong_bodies/CRATE/NAME.edit`, each
+# an edit as `crates/CRATE/must-fail` has them (`bench/wrong_bodies/README.md` says what each shows). They are copied
+# into a clone of the repository as it is committed, where `rt must-fail` tries them; what was proved of the libraries
+# here is taken along. Prints a line for each, and whether all were refused. Run it at the top of the repository:
 #
 #     bench/wrong_bodies.sh [CRATE..]      (each crate that has some)
 #
-# A crate's first edit is a check of the whole crate, so all of them take about an hour of one processor, and more where the
-# libraries below aren't proved.
+# A crate's first edit is a check of the whole crate, so all of them take about an hour of one processor, and more where
+# the libraries below aren't proved.
 set -eu
 cd "$(dirname "$0")/.."
 here=$PWD
