@@ -1,37 +1,29 @@
-#!/usr/bin/env python3
-"""Writes stdin and stdout of crates/analyses_cases: whole runs with some listeners, one a line, and what they write by the rules
-(bench/reference). Run it at the top of the repository.
+"""Whole runs with some listeners, and what they write by the rules (bench/reference); mlir_work_cases.py makes cases of them.
 
-For diagnostics there are the cases of verifier_cases.py. For each other listener there are modules by hand, modules by chance, and scripts that set operands; for all six together edits by hand
-that change rows elsewhere, and scripts of edits, marks and rollbacks with all rows after each command. By chance is from the
-seed below."""
+For diagnostics there are the cases of verifier_cases.py. For each other listener there are modules by hand, modules by
+chance, and scripts that set operands; for all six together edits by hand that change rows elsewhere, and scripts of edits,
+marks and rollbacks with all rows after each command. By chance is from the seed below."""
 import random
-import sys
 
-sys.dont_write_bytecode = True
-
-import verifier_cases  # noqa: E402
-from reference import chance, script  # noqa: E402
-from reference.lines import Table, given, told  # noqa: E402
-from reference.module import text_of  # noqa: E402
+import verifier_cases
+from reference import chance, script
+from reference.module import text_of
 
 SEED = 20
 MODULES, SCRIPTS, COMMANDS = 300, 100, 10
 KINDS = ("symbols", "effects", "dead", "constants")
 GROUPS = (("symbols",), ("effects", "dead"), ("constants",))
-TABLE = Table()
 
 
 class Cases:
-    """Cases with some listeners, and the commands that they are asked."""
+    """Cases with some listeners; `make` makes a case of these, a text, and whether only replies are written, and gives
+    what is written."""
 
-    def __init__(self, kinds, commands):
-        self.kinds, self.commands = kinds, commands
+    def __init__(self, kinds, make):
+        self.kinds, self.make = kinds, make
 
     def run(self, text, brief=True):
-        status, out = script.run(text, brief, self.kinds, self.commands)
-        TABLE.case(f"{','.join(self.kinds)} {'brief' if brief else 'full'} {given(text)}", f"{status} {told(out)}")
-        return out
+        return self.make(self.kinds, text, brief)
 
 
 def function(name, ty, args, body, more=""):
@@ -216,15 +208,15 @@ def by_scripts(cases, maker):
         cases.run(script_of(text, lines, asked(script.BOXES) if brief else ""), brief)
 
 
-print("seeds", SEED, verifier_cases.SEED)
-maker = random.Random(SEED)
-for kinds in GROUPS:
-    cases = Cases(("uses", *kinds), script.ALL)
-    for kind in kinds:
-        by_hand(cases, kind)
-        by_chance(cases, kind, maker)
-verifier_cases.all_cases(Cases(verifier_cases.BOXES, script.ALL).run)
-cases = Cases(script.BOXES, script.ALL)
-by_edits(cases)
-by_scripts(cases, maker)
-TABLE.write("analyses_cases")
+def all_cases(make):
+    """Makes all cases."""
+    maker = random.Random(SEED)
+    for kinds in GROUPS:
+        cases = Cases(("uses", *kinds), make)
+        for kind in kinds:
+            by_hand(cases, kind)
+            by_chance(cases, kind, maker)
+    verifier_cases.all_cases(Cases(verifier_cases.BOXES, make).run)
+    cases = Cases(script.BOXES, make)
+    by_edits(cases)
+    by_scripts(cases, maker)

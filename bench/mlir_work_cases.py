@@ -1,7 +1,9 @@
 #!/usr/bin/env python3
-"""Writes stdin and stdout of crates/mlir_work_cases: each case is a line, and its answer worked out here from the
-rules of scripts, inputs and replies by regular expressions and Python's own cuts. Run it at the top of the repository. The
-whole runs are compared with what the rules of bench/reference give for them."""
+"""Writes stdin and stdout of crates/mlir_work_cases: each case is a line, and its answer worked out here from the rules of
+scripts, inputs and replies by regular expressions and Python's own cuts. Run it at the top of the repository.
+
+The whole runs are written out here or in bench/worked_rows.txt, and compared with what the rules of bench/reference give
+for them, or are by chance, from the seeds below, analyses_cases.py and verifier_cases.py, and have what the rules give."""
 import itertools
 import pathlib
 import re
@@ -9,38 +11,16 @@ import sys
 
 sys.dont_write_bytecode = True
 
+import analyses_cases  # noqa: E402
+import heard_cases  # noqa: E402
 import refusals  # noqa: E402
+import verifier_cases  # noqa: E402
+import worked_rows  # noqa: E402
 from reference import script  # noqa: E402
+from reference.lines import Table, given, told  # noqa: E402
 
-cases = []
-seen = set()
-
-
-def case(line, want):
-    if line not in seen:
-        seen.add(line)
-        cases.append((line, want))
-
-
-NAMED = {b"\n": "\\n", b"\t": "\\t", b"\r": "\\r"}
-
-
-def shown(text, plain=b"\\"):
-    """Bytes as they stand in a line."""
-    out = ""
-    for code in text:
-        byte = bytes([code])
-        is_plain = 32 <= code < 127 and (byte != b"\\" or plain)
-        out += NAMED.get(byte) or (byte.decode() if is_plain else f"\\x{code:02x}")
-    return out
-
-
-def given(text):
-    return shown(text, b"")
-
-
-def told(text):
-    return f"[{shown(text)}]"
+TABLE = Table()
+case = TABLE.case
 
 
 # What a script's words say.
@@ -383,10 +363,10 @@ EMPTY = b"\"builtin.module\"() ({\n^bb0:\n}) : () -> ()\n"
 BOXES = ("uses", "diagnostics")
 
 
-def run(how, text, status, out):
+def run(how, text, status, out, boxes=BOXES):
     if how in ("brief", "full"):
-        assert script.run(text, how == "brief", BOXES, script.ALL) == (status, out), text
-    case(f"run {how} {given(text)}", f"{status} {told(out)}")
+        assert script.run(text, how == "brief", boxes, script.ALL) == (status, out), text
+    case(f"run {','.join(boxes)} {how} {given(text)}", f"{status} {told(out)}")
 
 
 def runs():
@@ -435,9 +415,12 @@ def runs():
     listed = b"-- uses\n%%a1.0.%d #2 0\n-- diagnostics\n"
     run("full", wrong, 0, b"1 ok\n2 ok\n" + other + listed % 1 + b"#2 V15\n3 ok\n#2 V15\n4 ok\n" + same + listed % 0 + b"5 ok\n")
     for count, want in ((0, b"1 refused 41 NoSuchKind\n"), (1, b"1 ok\n"), (2, b"attach uses refused 42 KindTaken\n1 ok\n")):
-        run(f"boxes {count}", DIVIDER + b"report uses\n", int(count != 1), want)
+        asked = DIVIDER + b"report uses\n"
+        case(f"bare {count} {given(asked)}", f"{int(count != 1)} {told(want)}")
+        case(f"run {','.join(['uses'] * count) or 'none'} brief {given(asked)}", f"{int(count != 1)} {told(want)}")
     again = b"attach uses refused 42 KindTaken\n" * 2
-    run("boxes 3", over + b"report uses\n", 1, again + b"1 ok\n" + USES)
+    for line in ("bare 3", "run uses,uses,uses brief"):
+        case(f"{line} {given(over + asked[len(DIVIDER):])}", f"1 {told(again + b'1 ok' + bytes([10]) + USES)}")
     # Readers and writers with faults.
     text, out = over + b"report uses\njump\n", b"1 ok\n" + USES + b"2 refused 60 BadCommand\n"
     needed = len(text) + 1
@@ -573,20 +556,29 @@ def refused():
         run("brief", text, 3 if answer.startswith("module") else 1, answer.encode() + b"\n")
 
 
-lines()
-words()
-cuts()
-writes()
-reads()
-runs()
-moves()
-entries()
-wholes()
-panels()
-command_lines()
-refused()
+def worked():
+    """Each row of bench/worked_rows.txt that holds where there are no later commands, with all listeners."""
+    for row in worked_rows.holding(()):
+        status, out = script.run(row.input, row.options == "--brief", script.BOXES, script.ALL)
+        assert (status, worked_rows.is_output(row, out)) == (row.status, True), row.input
+        run("brief" if row.options == "--brief" else "full", row.input, status, out, script.BOXES)
+    # The first text, cut behind each byte: a module, or none.
+    for count in range(len(TEXT)):
+        status, out = script.run(TEXT[:count], True, script.BOXES, script.ALL)
+        assert (status, out) == (0, b"") or status == 3 and re.fullmatch(rb"module refused [0-9]+ [A-Z][A-Za-z0-9]+ at [0-9]+\n", out), count
+        run("brief", TEXT[:count], status, out)
 
-folder = pathlib.Path("crates/mlir_work_cases")
-(folder / "stdin").write_text("".join(line + "\n" for line, _ in cases))
-(folder / "stdout").write_text("".join(want + "\n" for _, want in cases))
-print(len(cases), "cases")
+
+def analyses(kinds, text, brief=True):
+    """A case of a run with some listeners; gives what is written."""
+    status, out = script.run(text, brief, kinds, script.ALL)
+    case(f"run {','.join(kinds)} {'brief' if brief else 'full'} {given(text)}", f"{status} {told(out)}")
+    return out
+
+
+print("seeds", analyses_cases.SEED, verifier_cases.SEED, heard_cases.SEED)
+for part in (lines, words, cuts, writes, reads, runs, moves, entries, wholes, panels, command_lines, refused, worked):
+    part()
+analyses_cases.all_cases(analyses)
+heard_cases.all_cases(case)
+TABLE.write("mlir_work_cases")

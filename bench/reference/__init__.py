@@ -3,5 +3,6 @@ tables of cases don't come from the program that they test. Written from the rul
 
 module.py has modules as plain trees, read and printed by crates/ir_text_cases/rules.py and printing.py; operations.py the
 operation table; verifier.py the verifier's rules; analyses.py uses, symbols, effects, dead operations and constants, with
-folds.py; edits.py the edits and why they are refused; rewrites.py the rewrite rules; conversion.py dialect conversion; script.py whole runs;
-refused.py runs in which an allocation is refused; chance.py makes modules and scripts by chance."""
+folds.py; edits.py the edits and why they are refused; rewrites.py the rewrite rules; conversion.py dialect conversion;
+script.py whole runs; heard.py the events that each command tells, and listeners that go by them; refused.py runs in which
+an allocation is refused; chance.py makes modules and scripts by chance."""

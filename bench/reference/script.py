@@ -7,7 +7,7 @@ from .module import printing, read, read_attr, read_op, rules, text_of
 
 WORDS = {20: "NoSuchOp", 21: "NoSuchValue", 22: "HasUses", 23: "NotVisible", 24: "TypeDiffers", 25: "NoSuchIndex", 26: "NoSuchKey",
          27: "IntoItself", 28: "OtherTable", 29: "IsRoot", 30: "NotEmpty", 31: "Full", 32: "IdsExhausted", 33: "TooDeepHere",
-         34: "TooManyMarks", 35: "NoMark", 41: "NoSuchKind", 50: "BadLimit", 51: "NotLegalised", 52: "ChainTooDeep", 53: "Unreconciled",
+         34: "TooManyMarks", 35: "NoMark", 36: "Memory", 40: "Stale", 41: "NoSuchKind", 50: "BadLimit", 51: "NotLegalised", 52: "ChainTooDeep", 53: "Unreconciled",
          54: "BadTarget", 60: "BadCommand"}
 BOXES = tuple(KINDS.values())
 MOST_MARKS = 16
@@ -224,8 +224,11 @@ class Run:
         except edits.Refused as fault:
             return f" refused {fault.number} {WORDS[fault.number]}\n", word not in ("report", "print")
 
+    def listed(self, kind):
+        return f"-- {kind}\n{self.rows(kind)}"
+
     def all_rows(self):
-        return text_of(self.module) + "".join(f"-- {kind}\n{self.rows(kind)}" for kind in self.boxes)
+        return text_of(self.module) + "".join(map(self.listed, self.boxes))
 
 
 def split(text):
@@ -247,13 +250,8 @@ def lines_of(script):
             yield line.decode("latin-1")
 
 
-def run(text, brief=True, boxes=BOXES, commands=ALL, limit=LIMIT):
-    """The status of a run over an input, and what it writes."""
-    text, script = split(text)
-    try:
-        here = Run(read(text), boxes, commands, limit)
-    except rules.Refused as fault:
-        return 3, f"module refused {printing.refusal(fault)}\n".encode()
+def obey(here, script, brief):
+    """The status of a run from a state on, over the lines of a script, and what it writes."""
     out, status = [], 0
     for count, line in enumerate(lines_of(script), 1):
         reply, is_listed = here.reply(line) if line is not None else (" refused 60 BadCommand\n", True)
@@ -262,3 +260,13 @@ def run(text, brief=True, boxes=BOXES, commands=ALL, limit=LIMIT):
         if is_listed and not brief:
             out.append(here.all_rows())
     return status, "".join(out).encode()
+
+
+def run(text, brief=True, boxes=BOXES, commands=ALL, limit=LIMIT, make=Run):
+    """The status of a run over an input, and what it writes."""
+    text, script = split(text)
+    try:
+        here = make(read(text), boxes, commands, limit)
+    except rules.Refused as fault:
+        return 3, f"module refused {printing.refusal(fault)}\n".encode()
+    return obey(here, script, brief)

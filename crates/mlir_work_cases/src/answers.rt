@@ -1,5 +1,5 @@
 //! The answer to a line.
-use crate::{lines, options, readers, replies, runs, writers};
+use crate::{lines, options, readers, replies, runs, traces, writers};
 use mlir_work_cases_base::texts::first;
 use std::alloc::{AllocError, Global};
 
@@ -36,6 +36,9 @@ pub fn answer(alloc: Global, line: &str) -> Result<String, AllocError> {
         "read" => read(alloc, rest),
         "write" => write(alloc, rest),
         "run" => runs::answer(alloc, rest),
+        "bare" => runs::run_bare(alloc, rest),
+        "trace" => traces::trace(alloc, rest),
+        "check" => traces::checked(alloc, rest),
         _ => String::from_str(alloc, line),
     }
 }

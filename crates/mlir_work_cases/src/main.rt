@@ -4,11 +4,14 @@
 #![tactic(auto)]
 
 mod answers;
+mod boxes;
 mod lines;
 mod options;
 mod readers;
 mod replies;
 mod runs;
+mod traces;
+mod worlds;
 mod writers;
 
 use std::alloc::AllocError;

@@ -1,0 +1,90 @@
+//! Whole runs with the listeners that a line names.
+use constants::constants::Constants;
+use effects::dead::Dead;
+use effects::effects::Effects;
+use ir_event::analysis::Analysis;
+use ir_verify::diagnostics::Diagnostics;
+use listeners::uses::Uses;
+use listeners_example::additions::AdditionCount;
+use listeners_symbols::symbols::Symbols;
+use mlir_work_cases_base::at_most::AtMost;
+use mlir_work_cases_base::texts::number;
+use mlir_work_cases_base::witness::{Plan, Witness};
+use mlir_work_run::run::{Options, run};
+use std::alloc::{AllocError, Global};
+use std::io::{Read, Write};
+
+/// What a run of the program is told, but for the module.
+fn options(brief: bool) -> Options {
+    Options { brief, key: 7 }
+}
+
+/// The texts between `+`.
+fn texts(alloc: Global, text: &str) -> Result<Vec<String>, AllocError> {
+    let mut texts = Vec::new(alloc);
+    for part in text.split('+') {
+        texts.push(String::from_str(alloc, part)?)?;
+    }
+    Ok(texts)
+}
+
+/// The plan of a witness that is to hear certain events.
+fn wanted(alloc: Global, text: &str) -> Result<Plan, AllocError> {
+    Ok(Plan::These(texts(alloc, text)?))
+}
+
+/// Runs with a box for each word of a list of listeners: `uses`, or `uses:2` where it turns stale if it looks more often
+/// than twice at an event; `stale:3`, which turns stale at its third event; `hears:EVENTS`, which is to hear these, `+`
+/// between them, and turns stale at any other.
+pub fn status_of<R: Read, W: Write>(
+    alloc: Global,
+    names: &str,
+    brief: bool,
+    reader: &mut R,
+    writer: &mut W,
+) -> Result<u8, AllocError> {
+    let mut boxes: Vec<Box<dyn Analysis>> = Vec::new(alloc);
+    for name in names.split(',') {
+        let (word, more) = name.split_once(':').unwrap_or((name, ""));
+        let most = number(more);
+        match word {
+            "none" => {}
+            "symbols" => boxes.push(Box::new(alloc, AtMost::new(Symbols::new(alloc), most))?)?,
+            "diagnostics" => boxes.push(Box::new(alloc, Diagnostics::new(alloc))?)?,
+            "constants" => boxes.push(Box::new(alloc, Constants::new(alloc))?)?,
+            "effects" => boxes.push(Box::new(alloc, AtMost::new(Effects::new(alloc), most))?)?,
+            "dead" => boxes.push(Box::new(alloc, AtMost::new(Dead::new(alloc), most))?)?,
+            "additions" => boxes.push(Box::new(alloc, AdditionCount::new(alloc))?)?,
+            "stale" => {
+                let plan = Plan::Until(most as usize);
+                boxes.push(Box::new(alloc, Witness::new(alloc, 9, plan))?)?;
+            }
+            "hears" => {
+                let plan = wanted(alloc, more)?;
+                boxes.push(Box::new(alloc, Witness::new(alloc, 101, plan))?)?;
+            }
+            _ => boxes.push(Box::new(alloc, AtMost::new(Uses::new(alloc), most))?)?,
+        }
+    }
+    Ok(run(alloc, options(brief), reader, writer, boxes))
+}
+
+/// So many listeners of uses.
+fn many_uses(alloc: Global, count: u64) -> Result<Vec<Uses>, AllocError> {
+    let mut listeners = Vec::new(alloc);
+    for _ in 0..count {
+        listeners.push(Uses::new(alloc))?;
+    }
+    Ok(listeners)
+}
+
+/// Runs with so many listeners of uses, in no boxes.
+pub fn status_of_bare<R: Read, W: Write>(
+    alloc: Global,
+    count: u64,
+    reader: &mut R,
+    writer: &mut W,
+) -> Result<u8, AllocError> {
+    let listeners = many_uses(alloc, count)?;
+    Ok(run(alloc, options(true), reader, writer, listeners))
+}

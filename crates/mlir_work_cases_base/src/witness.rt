@@ -1,0 +1,129 @@
+//! A listener without rows, which remembers what it was told.
+ghost use Rattle.std.specs.Prelude.{◌≡◌, true};
+
+use crate::events::text_of;
+use ir_event::analysis::Analysis;
+use ir_event::event::Event;
+use ir_event::row::{Kind, Memory, ReportFault, Row};
+use ir_event::view::View;
+use ir_event::world::World;
+use ir_types::context::Context;
+use std::alloc::Global;
+
+/// What a witness goes by.
+#[derive(Drop)]
+pub enum Plan {
+    /// It hears whatever it is told.
+    All,
+    /// It turns stale at the event of this number, counted from 1.
+    Until(usize),
+    /// It is to hear these events, in order. It turns stale at any other, at one more, and where it is begun a second
+    /// time.
+    These(Vec<String>),
+}
+
+/// A listener without rows. It remembers each event that it was told, also where it is stale.
+#[derive(Drop)]
+pub struct Witness {
+    alloc: Global,
+    kind: Kind,
+    plan: Plan,
+    /// What it has heard, the oldest first.
+    heard: Vec<Event>,
+    begun: bool,
+    stale: bool,
+}
+
+/// Whether an event is the one at a place of a list.
+fn is_next(alloc: Global, ctx: &Context, texts: &[String], place: usize, event: &Event) -> bool {
+    let Ok(text) = text_of(alloc, ctx, event) else {
+        return false;
+    };
+    match texts.get(place) {
+        Some(next) => next.as_str() == text.as_str(),
+        None => false,
+    }
+}
+
+impl Plan {
+    /// Whether the event behind so many others may be heard.
+    fn allows(&self, alloc: Global, ctx: &Context, place: usize, event: &Event) -> bool {
+        match self {
+            Plan::All => true,
+            Plan::Until(number) => place.saturating_add(1) != *number,
+            Plan::These(texts) => is_next(alloc, ctx, texts, place, event),
+        }
+    }
+
+    /// Whether one may begin again.
+    fn is_lasting(&self) -> bool {
+        match self {
+            Plan::All | Plan::Until(_) => true,
+            Plan::These(_) => false,
+        }
+    }
+}
+
+impl Witness {
+    ghost use Rattle.mlir_work_cases_base.specs.Listeners.{witness_listener};
+
+    /// A listener that has not begun, and is stale.
+    pub fn new(alloc: Global, kind: u8, plan: Plan) -> Witness
+        ensures { (witness_listener result).stale ≡ true }
+    {
+        Witness {
+            alloc,
+            kind: Kind::new(kind),
+            plan,
+            heard: Vec::new(alloc),
+            begun: false,
+            stale: true,
+        }
+    }
+
+    /// What it has heard, the oldest first.
+    pub fn heard(&self) -> &[Event]
+        ensures { result.now ≡ self.now.heard.items }
+    {
+        &self.heard
+    }
+}
+
+impl Analysis for Witness {
+    ghost use Rattle.mlir_work_cases_base.specs.Listeners.{witness_listener};
+
+    ghost meaning = { witness_listener };
+
+    fn kind(&self) -> Kind {
+        self.kind
+    }
+
+    fn begin(&mut self, _world: &World) -> Result<(), Memory> {
+        self.stale = self.begun && !self.plan.is_lasting();
+        self.begun = true;
+        if self.stale { Err(Memory) } else { Ok(()) }
+    }
+
+    fn told<'a>(&mut self, view: View<'a>, event: Event) -> View<'a> {
+        let place = self.heard.len();
+        if !self.plan.allows(self.alloc, view.context(), place, &event) {
+            self.stale = true;
+        }
+        let Ok(()) = self.heard.push(event) else {
+            self.stale = true;
+            return view;
+        };
+        view
+    }
+
+    fn stale(&self) -> bool {
+        self.stale
+    }
+
+    fn report(&self, alloc: Global) -> Result<Vec<Row>, ReportFault> {
+        if self.stale {
+            return Err(ReportFault::Stale);
+        }
+        Ok(Vec::new(alloc))
+    }
+}
