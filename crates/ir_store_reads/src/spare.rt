@@ -303,8 +303,8 @@ fn spare_before(rows: &Vec<Row>, slot: u32) -> u32 {
     }
 }
 
-/// A spare slot for an operation like a header: the one that was given up behind it, if any; the slot; and the row to be
-/// written there. A few of those that were given up last are looked at.
+/// A spare slot for an operation like a header: the one that was given up behind it, if any; the slot; and the row to
+/// be written there. A few of those that were given up last are looked at.
 pub fn find_spare(
     alloc: Global,
     rows: &Vec<Row>,

@@ -222,9 +222,9 @@ fn live_head(rows: &Vec<Row>, keys: &Keys, uses: &Chains, value: &Value) -> Opti
     slot_head(rows, key, value)
 }
 
-/// The slot of an operation of the module that has this operand, and the head of the uses of a value of the module. The
-/// head is looked up first: values are mostly in the cache, and so what is read of the operation is read at once, by this
-/// and by who unlinks the operand.
+/// The slot of an operation of the module that has this operand, and the head of the uses of a value of the module.
+/// The head is looked up first: values are mostly in the cache, and so what is read of the operation is read at once,
+/// by this and by who unlinks the operand.
 pub fn find_rewire(
     rows: &Vec<Row>,
     keys: &Keys,
