@@ -1,5 +1,5 @@
 //! The module under edits.
-ghost use Rattle.std.specs.Prelude.{◌≡◌, ℕ, eqb, Some, None, MatchResult, MatchBool, option_map, IfOk, false, true, ◌<◌, OnOk, OnErr, []};
+ghost use Rattle.std.specs.Prelude.{◌≡◌, eqb, Some, None, MatchResult, option_map, IfOk, false, true, ◌<◌, []};
 ghost use Rattle.std.specs.FinMap as finmap;
 ghost use Rattle.std.specs.Ordering.{nat_cmp};
 ghost use Rattle.ir_tree.specs.Ids.{has_id, op_count};

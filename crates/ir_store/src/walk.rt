@@ -14,8 +14,8 @@ use ir_types::refusal::Refusal;
 const LEVELS: u32 = 1_000;
 
 impl Store {
-    /// All operations of the module in pre-order: each before those inside it, and these in the order of the regions and
-    /// of the blocks that they stand in.
+    /// All operations of the module in pre-order: each before those inside it, and these in the order of the regions
+    /// and of the blocks that they stand in.
     ///
     /// Refusals: `Memory`.
     pub fn operations(&self) -> Result<Vec<OpId>, Refusal>

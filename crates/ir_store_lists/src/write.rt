@@ -5,7 +5,6 @@ ghost use Rattle.ir_store_lists.specs.Ring.{nexts, prevs, homes, at as at_node};
 ghost use Rattle.ir_store_lists.specs.Lists.{free};
 
 use crate::link::Link;
-use std::alloc::AllocError;
 
 pub(crate) const FREE: u32 = u32::MAX;
 

@@ -1,5 +1,5 @@
 //! Slots by ids.
-ghost use Rattle.std.specs.Prelude.{◌≡◌, ◌<◌, ℕ, eqb, map, length, IfSome, Some};
+ghost use Rattle.std.specs.Prelude.{◌≡◌, ◌<◌, ℕ, eqb, map, length, Some};
 ghost use Rattle.std.specs.FinMap as finmap;
 ghost use Rattle.std.specs.Ordering.{nat_cmp};
 ghost use Rattle.ir_store_slots.specs.Rows.{rows_of, row_at, live_slot, shape_of};

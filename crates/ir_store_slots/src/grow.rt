@@ -1,5 +1,5 @@
 //! Slots and nodes that are added.
-ghost use Rattle.std.specs.Prelude.{◌≡◌, ℕ, ◌+◌, ◌<◌, ◌≤◌, ◌++◌, ◌∷◌, [], length, map, IfOk, MatchResult, IfSome};
+ghost use Rattle.std.specs.Prelude.{◌≡◌, ℕ, ◌+◌, ◌<◌, ◌++◌, ◌∷◌, [], length, map, IfOk, MatchResult};
 ghost use Rattle.ir_tree.specs.View.{region_view};
 ghost use Rattle.ir_tree.specs.Tree.{block, no_ops, head};
 ghost use Rattle.ir_store_slots.specs.Rows.{row_of, rows_of, shape_of};

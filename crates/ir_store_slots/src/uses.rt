@@ -1,5 +1,5 @@
 //! The uses of values.
-ghost use Rattle.std.specs.Prelude.{◌≡◌, ◌<◌, ℕ, List, map, length, slice_get, Some};
+ghost use Rattle.std.specs.Prelude.{◌≡◌, ◌<◌, ℕ, map, length, Some};
 ghost use Rattle.ir_store_slots.specs.Rows.{row_of, rows_of, row_at, shape_of};
 ghost use Rattle.ir_store_slots.specs.Index.{AreHeads, ArgHeads, CanFree, HasHeads, all_idle, args_idle, row_idle, freed, result_head, argument_head, slot_head};
 ghost use Rattle.std.specs.Prelude.{eqb};
@@ -11,12 +11,11 @@ ghost use Rattle.ir_store_slots.specs.Rows.{live_slot};
 ghost use Rattle.ir_store_slots.specs.Right.{Live};
 ghost use Rattle.ir_store_slots.specs.Plans.{AllHeads, leaf_in, operand_in};
 ghost use Rattle.ir_store_slots.specs.Reasoned.{idle_in, with_head};
-ghost use Rattle.ir_store_slots.specs.Using.{use_in};
-ghost use Rattle.ir_store_slots.specs.Index.{cells_of, shape_type, type_in};
+ghost use Rattle.ir_store_slots.specs.Index.{shape_type, type_in};
 ghost use Rattle.ir_store_slots.specs.Index.{CanLead, all_led, value_head, use_at};
 
 use crate::find::{Keys, find, find_leaf, find_operand, slot};
-use crate::row::{Area, Cell, Row};
+use crate::row::{Area, Row};
 use ir_store_lists::{Chains, Ordered};
 use ir_tree::value::Value;
 use ir_types::ids::{OpId, TypeId};
@@ -223,9 +222,9 @@ fn live_head(rows: &Vec<Row>, keys: &Keys, uses: &Chains, value: &Value) -> Opti
     slot_head(rows, key, value)
 }
 
-/// The slot of an operation of the module that has this operand, and the head of the uses of a value of the module. The
-/// head is looked up first: values are mostly in the cache, and so what is read of the operation is read at once, by this
-/// and by who unlinks the operand.
+/// The slot of an operation of the module that has this operand, and the head of the uses of a value of the module.
+/// The head is looked up first: values are mostly in the cache, and so what is read of the operation is read at once,
+/// by this and by who unlinks the operand.
 pub fn find_rewire(
     rows: &Vec<Row>,
     keys: &Keys,
@@ -276,16 +275,6 @@ pub fn id_at(rows: &Vec<Row>, key: usize) -> OpId
     match rows.get(key) {
         None => OpId::new(0),
         Some(row) => row.id,
-    }
-}
-
-/// The operation and the operand of a node.
-pub fn use_in(rows: &Vec<Row>, cells: &Vec<Cell>, node: usize) -> (OpId, usize)
-    ensures { result ≡ use_in (rows_of rows.now.items) (cells_of cells.now.items) node }
-{
-    match cells.get(node) {
-        None => (id_at(rows, 0), 0),
-        Some(cell) => (id_at(rows, cell.row as usize), cell.place as usize),
     }
 }
 

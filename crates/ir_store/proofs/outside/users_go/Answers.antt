@@ -17,7 +17,7 @@ returns-then-stays c =
     let ls = c.args.uses.now.lists in
     let left = without c.args.op c.args.store.now.module_of.tree in
     let p = λ (u : ℕ). not (leaves_use (rows_of c.args.rows.now.items) (cells_of c.args.cells.now.items) c.args.op c.args.store.now.module_of.tree u) in
-    sym (walk_stops ls p c.args.head (c.requires.chained.once c.args.head) c.in-Some.node (subst (Walks ls p c.args.head) c.in-Some.is c.users.invariant) (ap (λ z. not (has_id z.0 left)) (sym c.use_in-user.ensures) ∙ ap not (sym c.stays.ensures ∙ c.if-stays.true)))
+    sym (walk_stops ls p c.args.head (c.requires.chained.once c.args.head) c.in-Some.node (subst (Walks ls p c.args.head) c.in-Some.is c.users.invariant) (ap (λ z. not (has_id z.0 left)) (sym c.user_at-user.ensures) ∙ ap not (sym c.stays.ensures ∙ c.if-stays.true)))
 
 pub next-at-requires : goal.next-at-requires
 next-at-requires c = listed_item c.args.uses.now.lists c.args.uses.now.homes c.requires.chained c.args.head c.in-Some.node c.requires.head (c.users.invariant.there c.in-Some.node c.in-Some.is)
@@ -36,4 +36,4 @@ users-preserved c =
     let left = without c.args.op c.args.store.now.module_of.tree in
     let p = λ (u : ℕ). not (leaves_use (rows_of c.args.rows.now.items) (cells_of c.args.cells.now.items) c.args.op c.args.store.now.module_of.tree u) in
     let m = c.requires.chained.members c.args.head c.in-Some.node (c.users.invariant.there c.in-Some.node c.in-Some.is) in
-    walk_on ls p c.args.head (c.requires.chained.once c.args.head) c.in-Some.node (subst (Walks ls p c.args.head) c.in-Some.is c.users.invariant) (ap (λ z. not (has_id z.0 left)) (sym c.use_in-user.ensures) ∙ ap not (sym c.stays.ensures ∙ c.if-stays.false)) c.next-at.result (c.next-at.ensures ∙ ap (λ z. after c.in-Some.node (list_at ls z)) m.0)
+    walk_on ls p c.args.head (c.requires.chained.once c.args.head) c.in-Some.node (subst (Walks ls p c.args.head) c.in-Some.is c.users.invariant) (ap (λ z. not (has_id z.0 left)) (sym c.user_at-user.ensures) ∙ ap not (sym c.stays.ensures ∙ c.if-stays.false)) c.next-at.result (c.next-at.ensures ∙ ap (λ z. after c.in-Some.node (list_at ls z)) m.0)
