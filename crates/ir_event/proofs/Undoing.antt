@@ -26,7 +26,7 @@ use Rattle.ir_tree_laws.specs.Restores.{MayRestore, MayRetract}
 use Rattle.ir_tree_laws.proofs.Around.{absent_find}
 use Rattle.ir_tree_laws.proofs.Contents.{map_entry_in}
 use Rattle.ir_tree_laws.proofs.Keys.{keys_ordered}
-use Rattle.ir_store_contents.specs.Slots.{has_key}
+use Rattle.ir_store.specs.Slots.{has_key}
 use Rattle.ir_store.specs.Nodes.{node_of}
 use Rattle.ir_store.specs.Stored.{Stored, known, has_slot, is_some_with}
 use Rattle.ir_store.specs.Calls.{lowered, raised, put_held, CanRestore, CanRetract, CanRevert}

@@ -13,8 +13,8 @@ use Rattle.ir_tree.specs.Places.{put, without, shifted}
 use Rattle.ir_tree.specs.Limits.{most_next}
 use Rattle.ir_tree_laws.specs.Values.{has_value}
 use Rattle.ir_tree_laws.specs.Reasons.{with_id, has_place, holds_none, unused}
-use Rattle.ir_store_contents.specs.Slots.{gone_after}
-use Rattle.ir_store_slots.specs.Stored.{Stored, Gone, none_gone, change_gone, has_entry, has_slot}
+use Rattle.ir_store_reads.specs.Slots.{gone_after}
+use Rattle.ir_store_reads.specs.Stored.{Stored, Gone, none_gone, change_gone, has_entry, has_slot}
 
 -- a store as it is loaded: the module, with no operation held, and no key of its operations gone
 pub record Loaded (t : Op) (free : ℕ) (s : Stored) : Type 0 where

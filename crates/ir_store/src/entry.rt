@@ -5,13 +5,13 @@ ghost use Rattle.ir_types.specs.Things.{IsName, IsAttr};
 ghost use Rattle.ir_tree.specs.Meaning.{isolated_in, key_before_in, IsSoundIn};
 ghost use Rattle.ir_tree.specs.WellFormed.{IsWellFormed};
 ghost use Rattle.ir_tree_laws.specs.Reasons.{set_entry_reason};
-ghost use Rattle.ir_store_slots.specs.Stored.{has_slot};
+ghost use Rattle.ir_store_reads.specs.Stored.{has_slot};
 ghost use Rattle.ir_store.specs.Calls.{after_entry, CanRevert, WantsNoSlot};
 
 use crate::store::Store;
-use ir_store_slots::entry::{change_row, find_entry, has_slot_at, revert_row};
-use ir_store_slots::find::{find, slot};
-use ir_store_slots::marks::put_mark;
+use ir_store_reads::entry::{change_row, find_entry, has_slot_at, revert_row};
+use ir_store_reads::find::{find, slot};
+use ir_store_reads::marks::put_mark;
 use ir_tree::place::Part;
 use ir_types::context::Context;
 use ir_types::ids::{AttrId, NameId, OpId};

@@ -11,11 +11,11 @@ ghost use Rattle.ir_tree_laws.specs.Values.{has_value};
 ghost use Rattle.ir_tree.specs.Meaning.{isolated_in, IsSoundIn};
 ghost use Rattle.ir_tree.specs.WellFormed.{IsFormed, IsWellFormed, fault};
 ghost use Rattle.ir_store.specs.Calls.{Loaded};
-ghost use Rattle.ir_store_slots.specs.Emptied.{emptied};
+ghost use Rattle.ir_store_reads.specs.Emptied.{emptied};
 ghost use Rattle.ir_store.specs.Loads.{end_of, put_region, put_regions, MayRegion, MayRegions, Adds, AreBelow};
 
 use crate::store::Store;
-use ir_store_slots::room::room_for;
+use ir_store_reads::room::room_for;
 use ir_tree::check::check;
 use ir_tree::place::Place;
 use ir_tree::tree::{TreeOp, TreeRegion};

@@ -4,9 +4,9 @@ ghost use Rattle.ir_tree.specs.Ids.{find as the_first, has_id, ids};
 ghost use Rattle.ir_store.specs.Ends.{IsLastIn, ids_in};
 
 use crate::store::Store;
+use ir_store_reads::find::find;
+use ir_store_reads::use_lists::id_at;
 use ir_store_reads::walk::{last_slot, push_op};
-use ir_store_slots::find::find;
-use ir_store_slots::uses::id_at;
 use ir_types::ids::OpId;
 use ir_types::refusal::Refusal;
 

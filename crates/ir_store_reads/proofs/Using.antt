@@ -2,8 +2,8 @@
 use Rattle.std.proofs.Common.{◌≡◌, ℕ, ◌+◌, ◌<◌, ◌≤◌, List, [], ◌∷◌, map, refl, sym, ap, ◌∙◌, subst, length, Bool, true, false, eqb, arith, Option, Some, None, slice_get}
 use Rattle.std.specs.Prelude.{if◌then◌else◌}
 use Rattle.std.proofs.lemmas.List.{length-map}
-use Rattle.ir_store_lists.specs.Lists.{Lists, Laws, IsHead, IsItem, home_at, list_at, has, after, free}
-use Rattle.ir_store_lists.proofs.Kept.{list_short}
+use Rattle.ir_store_slots.specs.Lists.{Lists, Laws, IsHead, IsItem, home_at, list_at, has, after, free}
+use Rattle.ir_store_slots.proofs.Kept.{list_short}
 use Rattle.ir_store_slots.specs.Rows.{Row}
 use Rattle.ir_store_slots.specs.Using.{use_in, uses_at}
 use Rattle.ir_store_slots.specs.Walks.{from_slot}

@@ -1,6 +1,6 @@
 -- The uses of a value that are left.
 use Rattle.std.specs.Prelude.{ℕ, List, [], map, Option, Some, None}
-use Rattle.ir_store_lists.specs.Lists.{Lists, IsItem, list_at, home_at}
+use Rattle.ir_store_slots.specs.Lists.{Lists, IsItem, list_at, home_at}
 use Rattle.ir_store_slots.specs.Rows.{Row}
 use Rattle.ir_store_slots.specs.Using.{use_in}
 use Rattle.ir_store_slots.specs.Walks.{from_slot}

@@ -1,7 +1,7 @@
 //! Slots that were given up and are written again. Whether a slot can be is looked at as it is, so nothing has to be
 //! known of it.
 ghost use Rattle.std.specs.Prelude.{◌≡◌, ◌<◌, [], true, map, IfOk, IfSome};
-ghost use Rattle.ir_store_lists.specs.Lists.{IsFree, IsHead, list_at};
+ghost use Rattle.ir_store_slots.specs.Lists.{IsFree, IsHead, list_at};
 ghost use Rattle.ir_tree.specs.View.{region_view};
 ghost use Rattle.ir_store_slots.specs.Rows.{row_of, rows_of, shape_of};
 ghost use Rattle.ir_store_slots.specs.Index.{cells_of, cell_at};
@@ -10,9 +10,9 @@ ghost use Rattle.ir_store_slots.specs.Grows.{parts_of, IsBlock, AreBlocks, AreEm
 ghost use Rattle.ir_store_reads.specs.Again.{HeadsOf, NodesOf, BlockFits, RowFits};
 ghost use Rattle.ir_tree.specs.Tree.{head};
 
-use ir_store_lists::{Chains, Ordered};
 use ir_store_slots::grow::held_row;
 use ir_store_slots::row::{Area, Cell, Row};
+use ir_store_slots::{Chains, Ordered};
 use ir_tree::tree::{TreeOp, TreeRegion};
 use ir_types::ids::OpId;
 use std::alloc::{AllocError, Global};

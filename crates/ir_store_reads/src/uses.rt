@@ -1,13 +1,13 @@
 //! The uses of a value, one after another.
 ghost use Rattle.std.specs.Prelude.{◌≡◌, length, IfSome};
 ghost use Rattle.std.specs.Iterator.{YieldsFirst, item_count};
-ghost use Rattle.ir_store_lists.specs.Lists.{IsHead};
+ghost use Rattle.ir_store_slots.specs.Lists.{IsHead};
 ghost use Rattle.ir_store_slots.specs.Rows.{rows_of};
 ghost use Rattle.ir_store_slots.specs.Index.{cells_of};
 ghost use Rattle.ir_store_slots.specs.Using.{uses_at};
 
 use crate::users::user_at;
-use ir_store_lists::Chains;
+use ir_store_slots::Chains;
 use ir_store_slots::row::{Cell, Row};
 use ir_types::ids::OpId;
 use std::iter::FusedIterator;

@@ -1,6 +1,6 @@
 use Rattle.std.proofs.Common.{sym, ap, ◌∙◌, subst}
 use Rattle.std.specs.Prelude.{IfSome}
-use Rattle.ir_store_lists.specs.Lists.{IsHead}
+use Rattle.ir_store_slots.specs.Lists.{IsHead}
 use Rattle.ir_store_slots.specs.Rows.{rows_of}
 use Rattle.ir_store_slots.specs.Index.{cells_of}
 use Rattle.ir_store_slots.specs.Using.{uses_at}

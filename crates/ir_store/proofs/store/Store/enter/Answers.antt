@@ -5,11 +5,11 @@ use Rattle.ir_tree.specs.Limits.{every}
 use Rattle.ir_tree.specs.Meaning.{key_before_in, dictionaries_rise}
 use Rattle.ir_tree.specs.Edits.{part_of}
 use Rattle.ir_tree_laws.specs.Reasons.{entry_reason, set_entry_reason}
-use Rattle.ir_store_slots.specs.Stored.{has_slot}
+use Rattle.ir_store_reads.specs.Stored.{has_slot}
 use Rattle.ir_store.specs.Calls.{after_entry}
 use Rattle.ir_store.proofs.Called.{rows_in, keys_in, same_inside}
-use Rattle.ir_store_slots.proofs.Marking.{can_mark_used}
-use Rattle.ir_store_slots.proofs.Slots.{found}
+use Rattle.ir_store_reads.proofs.Marking.{can_mark_used}
+use Rattle.ir_store_reads.proofs.Slots.{found}
 use Rattle.ir_store.proofs.Dictionaries.{refused_some, refused_memory, revert_sorted, revert_slot, entry_found, entry_row, there_before, entry_given, same_given, entry_fits, same_fits, entry_done, same_done}
 use Rattle.ir_store.proofs.store.Store.enter.Goals as goal
 

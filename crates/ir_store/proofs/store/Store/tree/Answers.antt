@@ -1,5 +1,5 @@
 use Rattle.std.proofs.Common.{sym, ap, ◌∙◌}
-use Rattle.ir_store_slots.specs.Spells.{spelled_is}
+use Rattle.ir_store_reads.specs.Spells.{spelled_is}
 use Rattle.ir_store.proofs.Called.{rows_in, keys_in}
 use Rattle.ir_store.proofs.Taking.{heads_of}
 use Rattle.ir_store.proofs.store.Store.tree.Goals as goal

@@ -1,7 +1,7 @@
 use Rattle.std.proofs.Common.{◌≡◌, ◌+◌, ◌<◌, ap, arith, length, Some, None}
 use Rattle.std.specs.Prelude.{if◌then◌else◌}
 use Rattle.ir_store_slots.proofs.Idle.{is_below}
-use Rattle.ir_store_slots.proofs.uses.result_head.Goals as goal
+use Rattle.ir_store_slots.proofs.use_lists.result_head.Goals as goal
 
 pub overflow_add-result : goal.overflow_add-result
 overflow_add-result c =

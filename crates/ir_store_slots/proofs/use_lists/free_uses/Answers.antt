@@ -1,6 +1,6 @@
 use Rattle.std.proofs.Common.{◌≡◌, ◌∙◌, ◌-◌, arith, suc}
 use Rattle.ir_store_slots.proofs.Idle.{free_step, freed_step}
-use Rattle.ir_store_slots.proofs.uses.free_uses.Goals as goal
+use Rattle.ir_store_slots.proofs.use_lists.free_uses.Goals as goal
 
 pub nodes-preserved : goal.nodes-preserved
 nodes-preserved c =

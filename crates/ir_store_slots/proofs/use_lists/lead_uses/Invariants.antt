@@ -2,7 +2,7 @@ use Rattle.std.specs.Prelude.{◌≡◌, length}
 use Rattle.std.specs.FinMap as finmap
 use Rattle.ir_store_slots.specs.Rows.{rows_of}
 use Rattle.ir_store_slots.specs.Index.{CanLead, all_led, value_head}
-use Rattle.ir_store_slots.proofs.uses.lead_uses.Given as goal
+use Rattle.ir_store_slots.proofs.use_lists.lead_uses.Given as goal
 
 abbrev pub invariant-operands : goal.invariant-operands
 invariant-operands l =

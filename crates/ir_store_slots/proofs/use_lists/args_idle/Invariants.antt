@@ -1,7 +1,7 @@
 use Rattle.std.specs.Prelude.{◌≡◌, map, length}
 use Rattle.ir_store_slots.specs.Rows.{shape_of, rows_of}
 use Rattle.ir_store_slots.specs.Index.{ArgHeads, args_idle}
-use Rattle.ir_store_slots.proofs.uses.args_idle.Given as goal
+use Rattle.ir_store_slots.proofs.use_lists.args_idle.Given as goal
 
 abbrev pub invariant-areas : goal.invariant-areas
 invariant-areas l =

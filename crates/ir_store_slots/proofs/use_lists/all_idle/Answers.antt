@@ -1,6 +1,6 @@
 use Rattle.std.proofs.Common.{◌∙◌, sym, arith}
 use Rattle.ir_store_slots.proofs.Idle.{none_nil, idle_step, heads_step}
-use Rattle.ir_store_slots.proofs.uses.all_idle.Goals as goal
+use Rattle.ir_store_slots.proofs.use_lists.all_idle.Goals as goal
 
 pub heads-preserved : goal.heads-preserved
 heads-preserved c = (

@@ -3,7 +3,7 @@ use Rattle.std.specs.Prelude.{if◌then◌else◌}
 use Rattle.ir_store_slots.specs.Rows.{shape_of, rows_of, row_at}
 use Rattle.ir_store_slots.specs.Index.{argument_head}
 use Rattle.ir_store_slots.proofs.Idle.{is_below}
-use Rattle.ir_store_slots.proofs.uses.argument_head.Goals as goal
+use Rattle.ir_store_slots.proofs.use_lists.argument_head.Goals as goal
 
 pub overflow_add-result : goal.overflow_add-result
 overflow_add-result c =
