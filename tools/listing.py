@@ -13,7 +13,7 @@ NEXT_REGION = re.compile(r"\}, ((?:\{\}, )*)\{$")
 RESULTS = re.compile(r"(%\w+)(?::(\d+))? = ")
 ARGUMENT = re.compile(r"(%\w+):")
 NAMED = re.compile(r'("(?:[^"\\]|\\.)*"|%\w+(?:[#:]\d+)?)')
-MARGIN = 8
+MARGIN = 6
 
 
 def unused_key(module, script):
@@ -57,15 +57,16 @@ def numbered(module, script, count):
     for first in range(0, count, most):
         pairs = [cut(line, begins) for line in printed(module, script, begins, first, min(first + most, count))]
         lines = [line for line, _ in pairs]
-        numbers = [number if old is None else old for (_, number), old in zip(pairs, numbers or [None] * len(pairs))]
+        olds = numbers or [None] * len(pairs)
+        numbers = [number if old is None else old for (_, number), old in zip(pairs, olds)]
     return lines, numbers
 
 
 class Listing:
     """The lines of a module as `ids` shows them.
 
-    `keys` tells each line from all others: one that begins an operation by its number, another by the operation in whose
-    regions it is, and which region; and all by how far they are indented. So lines of two listings can be compared."""
+    `keys` tells each line from all others: one that begins an operation by its number, another by the operation in
+    whose regions it is, and which region; and all by how far they are indented. So two listings can be compared."""
 
     def __init__(self, module, script, count):
         self.texts, self.keys, self.places, self.names = [], [], {}, {}
@@ -78,10 +79,8 @@ class Listing:
         """Takes one more printed line, whose operation has this number."""
         text = line.lstrip(" ")
         if text[0] == "}":
-            self.go_on(text)
             key = owner, self.around[-1][1], "}"
-            if text[-1] != "{":
-                self.around.pop()
+            self.go_on(text)
         elif text[0] == "^":
             key = owner, self.around[-1][1], "^"
             names = ARGUMENT.findall(line)
@@ -101,10 +100,12 @@ class Listing:
             self.around.append([owner, OPENED.search(text).group().count("{}")])
 
     def go_on(self, text):
-        """Goes from one region of an operation to its next."""
+        """Goes from one region of an operation to its next, or out of its last one."""
         region = NEXT_REGION.match(text)
         if region:
             self.around[-1][1] += 1 + region.group(1).count("{}")
+        else:
+            self.around.pop()
 
     def bind(self, name, count, owner):
         """Says how a script names the results of an operation."""
@@ -115,7 +116,7 @@ class Listing:
             self.names.update((f"{name}#{place}", value) for place, value in enumerate(values))
 
     def line(self, place):
-        """A line as it is shown: with the number of the operation that begins in it, and values as a script names them."""
+        """A line as it is shown: the number of the operation that begins in it, and values as a script names them."""
         text, (key, _) = self.texts[place], self.keys[place]
         if "%" in text:
             parts = NAMED.split(text)
@@ -131,12 +132,14 @@ class Listing:
     def near(self, number, lines):
         """The lines around that of an operation, or None where it isn't in the module."""
         place = self.places.get(number)
-        return None if place is None else [self.line(at) for at in range(max(place - lines, 0), min(place + lines + 1, len(self.texts)))]
+        if place is None:
+            return None
+        return [self.line(at) for at in range(max(place - lines, 0), min(place + lines + 1, len(self.texts)))]
 
 
 def owners_of(lines, numbers):
-    """For each line the number of the operation that it belongs to. An operation with regions has its number in the line
-    where they end."""
+    """For each line the number of the operation that it belongs to. An operation with regions has its number in the
+    line where they end."""
     owners, opened = list(numbers), []
     for place, line in enumerate(lines):
         text = line.lstrip(" ")
@@ -171,7 +174,7 @@ def common(old, new):
 
 
 def changes(old, new):
-    """The lines that went between two listings, and those that came, in order; one that is another now is told as both."""
+    """The lines that went between two listings, and those that came, in order; one that changed is told as both."""
     out, was, now = [], 0, 0
     for old_place, new_place in common(old.keys, new.keys):
         out += ["-" + line for line in old.lines[was:old_place]]

@@ -26,7 +26,8 @@ PARTS = {
 # Words of the rest of a line: what is refused in it is told by a byte, counted from its first.
 TEXTS = {"OPERATION", "ATTRIBUTE"}
 # Words that are typed for commands which are named otherwise.
-MEANT = {"add": "insert", "abort": "rollback", "delete": "erase", "mark": "begin", "remove": "erase", "show": "print", "undo": "rollback"}
+MEANT = {"abort": "rollback", "add": "insert", "delete": "erase", "mark": "begin", "remove": "erase", "show": "print",
+         "undo": "rollback"}
 
 
 class Fault:

@@ -26,11 +26,12 @@ def words():
     """The program's words, and what its environment has besides."""
     named = os.environ.get("MLIR_WORK")
     if named == "reference":
-        return [sys.executable, "-m", "reference"], {"PYTHONPATH": str(ROOT / "bench"), "PYTHONDONTWRITEBYTECODE": "1"}
+        paths = {"PYTHONPATH": str(ROOT / "bench"), "PYTHONDONTWRITEBYTECODE": "1"}
+        return [sys.executable, "-m", "reference"], paths
     if named:
         return shlex.split(named), {}
     if not BUILT.exists():
-        raise Fault(f"{BUILT} isn't built: `./run --help` at the top builds it, or MLIR_WORK names another program")
+        raise Fault(f"{BUILT} isn't built: `./run --help` builds it, or MLIR_WORK names another program")
     return [str(BUILT)], {}
 
 
@@ -40,12 +41,12 @@ def joined(module, script):
 
 
 def inputs(names):
-    """The module and the script of one or two files, and the number of the line at which the script begins in the last."""
+    """The module and the script of one or two files, and the line at which the script begins in the last."""
     texts = [pathlib.Path(name).read_bytes() for name in names]
     if len(texts) == 1:
         return parted(texts[0])
     if DIVIDER in texts[0].split(b"\n"):
-        raise Fault(f"{names[0]}: a line `// -----` ends a module: cut the file apart there, or give it without a script")
+        raise Fault(f"{names[0]}: a line `// -----` ends a module: cut the file there, or give it without a script")
     return (*texts, 1)
 
 
@@ -77,7 +78,8 @@ def counted(script):
 def ran(text):
     """The status of a run over an input, with --brief, and the lines that it wrote."""
     program, more = words()
-    it = subprocess.run([*program, "--brief"], input=text, stdout=subprocess.PIPE, env={**os.environ, **more}, check=False)
+    environment = {**os.environ, **more}
+    it = subprocess.run([*program, "--brief"], input=text, stdout=subprocess.PIPE, env=environment, check=False)
     return it.returncode, it.stdout.decode("utf-8", "surrogateescape").splitlines()
 
 

@@ -18,6 +18,7 @@ Each line runs the edits so far again: the program keeps nothing between two lin
 import pathlib
 import re
 import sys
+import textwrap
 
 sys.dont_write_bytecode = True
 
@@ -27,6 +28,7 @@ import program  # noqa: E402
 from listing import Listing, changes  # noqa: E402
 
 PROMPT = "> "
+WIDTH = 100
 # Commands that change nothing, and so aren't run again.
 LOOKS = {"print", "report"}
 # Its reply says the next free number. It is asked behind each line, and never kept.
@@ -46,7 +48,8 @@ class Session:
     def __init__(self, module):
         self.module, self.entries, self.count = module, [], 1
         self.last, self.seen = (None, None), None
-        self.words = {"ids": self.ids, "at": self.at, "diff": self.diff, "undo": self.undo, "save": self.save, "help": self.help}
+        self.words = {"ids": self.ids, "at": self.at, "diff": self.diff, "undo": self.undo, "save": self.save,
+                      "help": self.help}
 
     def begin(self, script):
         """Takes over a script, and gives the status of its run, and the lines written."""
@@ -102,7 +105,8 @@ class Session:
             return [reply, *below]
         line = line.encode("utf-8", "surrogateescape")
         fault = mistakes.explained(reply, line)
-        return [f"refused {fault.words}", *(mistakes.pointed(line, fault.column) if fault.column is not None else [])]
+        words = textwrap.wrap(f"refused {fault.words}", WIDTH, subsequent_indent="    ", break_long_words=False)
+        return [*words, *(mistakes.pointed(line, fault.column) if fault.column is not None else [])]
 
     def rows(self, kind, word):
         """The rows of an analysis in which a word stands."""
@@ -120,7 +124,8 @@ class Session:
         found = re.fullmatch(r"#?(\d+)(?:\s+(\d+))?", rest)
         if not found:
             return ["write `at #N`, or `at #N K` for K lines before and behind it"]
-        return self.listing().near(int(found.group(1)), int(found.group(2) or 3)) or [f"#{found.group(1)} isn't in the module"]
+        number, lines = int(found.group(1)), int(found.group(2) or 3)
+        return self.listing().near(number, lines) or [f"#{number} isn't in the module"]
 
     def diff(self, _):
         """What changed since the last time."""
