@@ -6,7 +6,7 @@ import difflib
 import functools
 import re
 
-from program import ROOT
+from program import HELP, ROOT
 
 REFUSAL = re.compile(r"refused (\d+) (\w+)(?: at (\d+))?(?: (#\d+))?$")
 MOST_NUMBER = 4294967295
@@ -53,7 +53,7 @@ def sentence(number):
 @functools.lru_cache(maxsize=None)
 def help_part(title, end):
     """The rows of a part of the help: in each a word with its form, and what it is for."""
-    text = (ROOT / "bench/help.txt").read_text().partition(f"\n{title}")[2].partition(f"\n{end}")[0]
+    text = HELP.read_text().partition(f"\n{title}")[2].partition(f"\n{end}")[0]
     return {form.split()[0]: form for form in re.findall(r"^  ([a-z][\w-]*(?: \S+)*)(?:  |$)", text, re.M)}
 
 
@@ -68,22 +68,24 @@ def kinds():
 
 
 def part(word):
-    """What may stand for a word of a form, and what it is."""
+    """What may stand for a word of a form, and what it is; None where the word isn't known here."""
     if word == "KIND":
         return "|".join([*kinds(), r"kind[0-9]+"]), f"the kinds are {', '.join(kinds())}"
     if word in TEXTS:
         return ".+", f"the rest of the line is the {word.lower()}"
-    return PARTS.get(word, (r"[^ \t]+", ""))
+    return PARTS.get(word)
 
 
 def parts_of(line):
     """The words of a line, as bytes of Latin-1, by the form of its command: each with where it begins and ends; and the
-    fault that it has, or None."""
+    fault that it has, or None. A word of a form that isn't known here, as what may be left out, ends the search."""
     begin = BLANK.match(line).end()
     end = begin + len(re.match(r"[^ \t]*", line[begin:]).group())
     found, form = [], forms()[line[begin:end]]
     for word in form.split()[1:]:
         place = BLANK.match(line, end).end()
+        if part(word) is None:
+            return found, None
         it = re.compile(rf"(?:{part(word)[0]})(?=[ \t]|$)").match(line, place)
         if not it:
             return found, Fault(place, missing(word, line[place:], form))

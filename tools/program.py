@@ -11,6 +11,7 @@ import sys
 
 ROOT = pathlib.Path(__file__).resolve().parent.parent
 BUILT = ROOT / "crates/mlir_work/out/mlir_work"
+HELP = ROOT / "bench/help.txt"
 DIVIDER = b"// -----"
 MOST_SCRIPT = 16 * 1024 * 1024
 BLANKS = b" \t\r"
@@ -80,6 +81,8 @@ def ran(text):
     program, more = words()
     environment = {**os.environ, **more}
     it = subprocess.run([*program, "--brief"], input=text, stdout=subprocess.PIPE, env=environment, check=False)
+    if it.returncode not in (0, 1, 3) or not it.stdout and it.returncode:
+        raise Fault(f"{program[0]} wrote {len(it.stdout)} bytes and ended with status {it.returncode}")
     return it.returncode, it.stdout.decode("utf-8", "surrogateescape").splitlines()
 
 

@@ -31,6 +31,8 @@ PROMPT = "> "
 WIDTH = 100
 # Commands that change nothing, and so aren't run again.
 LOOKS = {"print", "report"}
+# Commands that edit what they don't name: behind them stands what `diff` says. None of today's does.
+WITH_DIFF = set()
 # Its reply says the next free number. It is asked behind each line, and never kept.
 PROBE = 'insert end #0 0 "workbench.probe"() : () -> ()'
 
@@ -101,8 +103,9 @@ class Session:
         """Runs a command of a script, and keeps it where it is accepted."""
         reply, below = self.run(line)
         if not reply.startswith("refused"):
-            self.entries.append(Entry(line, line.split()[0] not in LOOKS))
-            return [reply, *below]
+            word = line.split()[0]
+            self.entries.append(Entry(line, word not in LOOKS))
+            return [reply, *below, *(self.diff("") if word in WITH_DIFF else [])]
         line = line.encode("utf-8", "surrogateescape")
         fault = mistakes.explained(reply, line)
         words = textwrap.wrap(f"refused {fault.words}", WIDTH, subsequent_indent="    ", break_long_words=False)
@@ -178,24 +181,34 @@ def say(lines):
     sys.stdout.flush()
 
 
+def opened(names):
+    """A session over the files, once what its script does has been told; ends where the module is refused."""
+    module, script, first = program.inputs(names)
+    session = Session(module)
+    status, lines = session.begin(script)
+    if session.seen is None:
+        refused = program.REFUSED_MODULE.fullmatch(lines[0])
+        say(explain.module_refused(names[0], module, *refused.groups()))
+        sys.exit(status)
+    say(lines)
+    say(explain.commands_refused(names[-1], script, first, lines))
+    return session
+
+
 def main():
+    if sys.argv[1:] == ["--help"]:
+        print(__doc__)
+        return
     if len(sys.argv) not in (2, 3) or sys.argv[1].startswith("-"):
         sys.exit(__doc__)
     sys.stdin.reconfigure(errors="surrogateescape")
     sys.stdout.reconfigure(errors="surrogateescape")
     try:
-        module, script, first = program.inputs(sys.argv[1:])
-        session = Session(module)
-        status, lines = session.begin(script)
+        session = opened(sys.argv[1:])
+        for line in typed():
+            say(session.answer(line))
     except (OSError, program.Fault) as fault:
         sys.exit(str(fault))
-    if session.seen is None:
-        say(lines and explain.module_refused(sys.argv[1], module, *program.REFUSED_MODULE.fullmatch(lines[0]).groups()))
-        sys.exit(status)
-    say(lines)
-    say(explain.commands_refused(sys.argv[-1], script, first, lines))
-    for line in typed():
-        say(session.answer(line))
 
 
 if __name__ == "__main__":

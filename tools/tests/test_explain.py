@@ -3,6 +3,7 @@ import pathlib
 import re
 import tempfile
 import unittest
+import unittest.mock
 
 from support import ROOT, check_examples, explain, mistakes, program
 
@@ -66,13 +67,16 @@ class Words(unittest.TestCase):
         self.assertEqual(set(mistakes.sentences()), set(map(int, re.findall(r"^### (\d+) ", page, re.M))))
         self.assertTrue(all(mistakes.sentences().values()))
 
-    def test_each_word_of_a_form_is_known(self):
-        words = {word for form in mistakes.forms().values() for word in form.split()[1:]}
-        self.assertLessEqual(words, {*mistakes.PARTS, *mistakes.TEXTS, "KIND"})
+    def test_a_word_of_a_form_that_is_not_known(self):
+        forms = {"go": "go #N [limit N]"}
+        with unittest.mock.patch.object(mistakes, "forms", lambda: forms):
+            self.assertIsNone(mistakes.misspelt("go #3 limit 8"))
+            self.assertEqual(mistakes.misspelt("go 3").column, 3)
 
     def test_commands_and_kinds_of_the_help(self):
-        self.assertEqual(len(mistakes.forms()), 14)
-        self.assertEqual(mistakes.kinds(), ["uses", "symbols", "diagnostics", "effects", "dead", "constants"])
+        self.assertGreaterEqual(len(mistakes.forms()), 14)
+        self.assertLessEqual({"print", "report", "set-operand", "insert", "rollback"}, set(mistakes.forms()))
+        self.assertEqual(mistakes.kinds()[:6], ["uses", "symbols", "diagnostics", "effects", "dead", "constants"])
 
 
 class Explained(unittest.TestCase):

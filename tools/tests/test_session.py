@@ -2,6 +2,7 @@
 import pathlib
 import tempfile
 import unittest
+import unittest.mock
 
 from support import ROOT, listing, mistakes, program, session
 
@@ -87,6 +88,16 @@ class Changed(unittest.TestCase):
         self.assertEqual(here.answer("diff"), ["nothing changed"])
         here.answer("undo")
         self.assertEqual(here.answer("diff"), ["-" + LISTED[-2].replace("%v1.0", "%v1.1"), "+" + LISTED[-2]])
+
+    def test_behind_a_command(self):
+        here = begun(MODULE)
+        with unittest.mock.patch.object(session, "WITH_DIFF", {"erase"}):
+            self.assertEqual(here.answer("erase #6"), ["ok", "-" + LISTED[-2]])
+
+    def test_keys(self):
+        for name in ("hoist", "outline", "signature"):
+            keys = example(name).listing().keys
+            self.assertEqual(len(keys), len(set(keys)))
 
     def test_out_of_a_region(self):
         here = example("hoist")
