@@ -9,7 +9,9 @@ from support import ROOT, listing, mistakes, program, session
 # Operations with each form of regions, several results, a string that looks like a value, and dictionaries.
 MODULE = b'''%a:2 = "test.a"() {z = 1 : i8, a = "%0 %a"} : () -> (i32, i32)
 "test.regions"(%a#1) ({}, {^b(%x: i32, %y: i1): %s = "test.s"(%x, %a#0) : (i32, i32) -> i32}, {}, {^c:}) : (i32) -> ()
-"builtin.module"() ({ "func.func"() <{function_type = () -> (), sym_name = "f", sym_visibility = "private"}> ({}) {k} : () -> () }) : () -> ()
+"builtin.module"() ({
+"func.func"() <{function_type = () -> (), sym_name = "f", sym_visibility = "private"}> ({}) {k} : () -> ()
+}) : () -> ()
 "test.last"(%a#1, %a#0) {zz} : (i32, i32) -> ()
 '''
 LISTED = '''    #0  "builtin.module"() ({
@@ -52,7 +54,8 @@ class Listed(unittest.TestCase):
 
     def test_no_operation(self):
         self.assertEqual(begun(b"").answer("ids")[0], '    #0  "builtin.module"() ({')
-        self.assertEqual(begun(b'"builtin.module"() ({}) : () -> ()').answer("ids"), ['    #0  "builtin.module"() ({}) : () -> ()'])
+        empty = '"builtin.module"() ({}) : () -> ()'
+        self.assertEqual(begun(empty.encode()).answer("ids"), ["    #0  " + empty])
 
     def test_the_key_is_taken(self):
         line = '"test.a"() {workbench.id = 7 : i64} : () -> ()'
@@ -71,8 +74,9 @@ class Listed(unittest.TestCase):
 
     def test_values_can_be_named_so(self):
         here = begun(MODULE)
-        self.assertEqual(here.answer('insert after #3 "test.t"(%v3.0, %a2.1.1, %v1.1) : (i32, i1, i32) -> ()'), ["ok #7"])
-        self.assertEqual(here.answer("at #7 0"), ['    #7      "test.t"(%v3.0, %a2.1.1, %v1.1) : (i32, i1, i32) -> ()'])
+        line = '"test.t"(%v3.0, %a2.1.1, %v1.1) : (i32, i1, i32) -> ()'
+        self.assertEqual(here.answer("insert after #3 " + line), ["ok #7"])
+        self.assertEqual(here.answer("at #7 0"), ["    #7      " + line])
 
 
 class Changed(unittest.TestCase):
