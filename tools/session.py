@@ -14,7 +14,7 @@ Besides the commands of a script there are these, each on a line of its own:
   help         these words, and the commands of a script
   quit         the end, as that of the input is
 
-Each line runs the edits so far again: the program keeps nothing between two lines."""
+For each line all edits are run again: the program keeps nothing between two lines."""
 import pathlib
 import re
 import sys
@@ -68,11 +68,11 @@ class Session:
         return status, lines
 
     def kept(self):
-        """The edits so far."""
+        """The edits that were typed and accepted."""
         return [entry.line for entry in self.entries if entry.is_kept]
 
     def run(self, *typed):
-        """Runs the edits so far and a line behind them, and gives its reply, and what is written below it."""
+        """Runs the edits and a line behind them, and gives its reply, and what is written below it."""
         script = [*self.kept(), *typed]
         lines = program.asked(self.module, [*script, PROBE])[1]
         free = re.fullmatch(r"\d+ ok #(\d+)", lines[-1])
