@@ -14,11 +14,11 @@ BLANK = re.compile(r"[ \t]*")
 NUMBER = r"[0-9]+"
 VALUE = rf"%v{NUMBER}\.{NUMBER}|%a{NUMBER}\.{NUMBER}\.{NUMBER}"
 PLACE = rf"(?:before|after)[ \t]+#{NUMBER}|(?:start|end)[ \t]+#{NUMBER}[ \t]+{NUMBER}"
-KEY = r'"(?:[^"\\]|\\.)*"|[A-Za-z_][A-Za-z0-9_$.]*'
+KEY = r'"(?:[^"\\]|\\(?:[nt"\\]|[0-9A-Fa-f]{2}))*"|[A-Za-z_][A-Za-z0-9_$.]*'
 # What may stand for a word of a form, and what it is.
 PARTS = {
     "#N": (f"#{NUMBER}", "an operation is written as #3"),
-    "K": (NUMBER, "operands are counted from 0, as 0"),
+    "K": (NUMBER, "operands are counted from 0"),
     "VALUE": (VALUE, "a value is %vN.K, result K of #N, or %aN.R.K, argument K of the block of its region R"),
     "PLACE": (PLACE, "a place is `before #N`, `after #N`, `start #N R` or `end #N R`"),
     "KEY": (KEY, 'a key is a bare identifier, or a string as "a b"'),
@@ -52,7 +52,7 @@ def sentence(number):
 
 @functools.lru_cache(maxsize=None)
 def help_part(title, end):
-    """The rows of a part of the help: in each a word with its form, and what it is for."""
+    """The rows of a part of the help, from one title to another: the form of each, by its first word."""
     text = HELP.read_text().partition(f"\n{title}")[2].partition(f"\n{end}")[0]
     return {form.split()[0]: form for form in re.findall(r"^  ([a-z][\w-]*(?: \S+)*)(?:  |$)", text, re.M)}
 
@@ -70,7 +70,7 @@ def kinds():
 def part(word):
     """What may stand for a word of a form, and what it is; None where the word isn't known here."""
     if word == "KIND":
-        return "|".join([*kinds(), r"kind[0-9]+"]), f"the kinds are {', '.join(kinds())}"
+        return "|".join(kinds()), f"the kinds are {', '.join(kinds())}"
     if word in TEXTS:
         return ".+", f"the rest of the line is the {word.lower()}"
     return PARTS.get(word)

@@ -1,5 +1,9 @@
 """The runs that stand on docs/GUIDE.md and docs/REPORTS.md, typed as they stand there."""
+import os
 import re
+import shlex
+import shutil
+import subprocess
 import unittest
 
 from support import ROOT, program, session
@@ -43,6 +47,20 @@ class Guide(unittest.TestCase):
                     said = here.answer(line)
                     is_cut = wanted[-1:] == [".."]
                     self.assertEqual(said[:len(wanted) - 1] if is_cut else said, wanted[:-1] if is_cut else wanted)
+
+    @unittest.skipUnless(shutil.which("mlir-opt-22"), "mlir-opt-22 isn't installed")
+    def test_back_into_pretty_form(self):
+        lines = indented(sections("GUIDE.md")["A script by itself"])
+        run = next(line for line in lines if line.startswith("(cat module.mlir"))
+        back = next(line for line in lines if line.startswith(".. | "))
+        words, more = program.words()
+        names = {"crates/mlir_work/out/mlir_work": shlex.join(words), "module.mlir": "examples/fold.mlir",
+                 "FILE": "examples/fold.script", "mlir-opt": "mlir-opt-22"}
+        command = re.sub("|".join(map(re.escape, names)), lambda found: names[found.group()], run + back[2:])
+        environment = {**os.environ, **more}
+        it = subprocess.run(["sh", "-c", command], cwd=ROOT, env=environment, capture_output=True, check=False)
+        self.assertEqual((it.returncode, it.stderr), (0, b""))
+        self.assertIn(b"%0 = arith.muli %arg0, %c42_i32 : i32", it.stdout)
 
     def test_traps(self):
         module = (ROOT / "examples/strength.mlir").read_bytes()
