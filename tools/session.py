@@ -33,6 +33,8 @@ WIDTH = 100
 LOOKS = {"print", "report"}
 # Commands that edit what they don't name: behind them stands what `diff` says. None of today's does.
 WITH_DIFF = set()
+# A script that is too long has one reply in place of one for each line.
+REFUSED = ("refused", [])
 # Its reply says the next free number. It is asked behind each line, and never kept.
 PROBE = 'insert end #0 0 "workbench.probe"() : () -> ()'
 
@@ -60,7 +62,7 @@ class Session:
             return status, lines
         replies = iter(program.replies(lines))
         for line in script.rstrip(b"\n").split(b"\n") if script else []:
-            is_kept = program.is_counted(line) and not next(replies)[0].startswith("refused")
+            is_kept = program.is_counted(line) and not next(replies, REFUSED)[0].startswith("refused")
             text = line.decode("utf-8", "surrogateescape")
             self.entries.append(Entry(text, is_kept and text.split()[0] not in LOOKS))
         self.run()
@@ -195,6 +197,14 @@ def opened(names):
     return session
 
 
+def answer(session, line):
+    """Says what a session answers to a line, unless it is interrupted: then the line was never typed."""
+    try:
+        say(session.answer(line))
+    except KeyboardInterrupt:
+        say(["interrupted"])
+
+
 def main():
     if sys.argv[1:] == ["--help"]:
         print(__doc__)
@@ -206,7 +216,7 @@ def main():
     try:
         session = opened(sys.argv[1:])
         for line in typed():
-            say(session.answer(line))
+            answer(session, line)
     except (OSError, program.Fault) as fault:
         sys.exit(str(fault))
 

@@ -154,6 +154,12 @@ class Typed(unittest.TestCase):
         for word in [*session.Session(b"").words, *mistakes.forms()]:
             self.assertIn(f"\n  {word}", "\n" + text)
 
+    def test_a_script_that_is_too_long(self):
+        here = session.Session(b"")
+        with unittest.mock.patch.object(program, "ran", lambda text: (1, ["1 refused 60 BadCommand"])):
+            self.assertEqual(here.begin(b"begin\ncommit\n")[0], 1)
+        self.assertEqual(here.kept(), [])
+
     def test_a_module_that_is_refused(self):
         here = session.Session(b'"a"(')
         self.assertEqual(here.begin(b""), (3, ["module refused 2 Unexpected at 5"]))
