@@ -1,4 +1,4 @@
-"""The runs that stand on docs/GUIDE.md and docs/REPORTS.md, typed as they stand there."""
+"""The runs that stand on README.md, docs/GUIDE.md and docs/REPORTS.md, typed as they stand there."""
 import os
 import re
 import shlex
@@ -33,6 +33,20 @@ def typed(text):
         elif runs:
             runs[-1][1].append(line)
     return runs
+
+
+class Readme(unittest.TestCase):
+    def test_first_run(self):
+        """The module, and beside each command its reply, and what is written below that."""
+        lines = [line[4:] for line in BLOCK.search((ROOT / "README.md").read_text()).group().splitlines()]
+        place = lines.index("// -----") if "// -----" in lines else len(lines)
+        if not all(re.search(r"  +\d+ (ok|refused) *", line) for line in lines[place + 1:]):
+            self.skipTest("its first block has no replies beside its commands")
+        cells = [re.split("  +", line.strip()) + [""] for line in lines[place + 1:]]
+        module = "".join(line + "\n" for line in lines[:place])
+        said = program.asked(module.encode(), [command for command, *_ in cells])[1]
+        wanted = [cell[1].partition(" ")[2::2] + (cell[2],) for cell in cells]
+        self.assertEqual([(reply, ", ".join(below)) for reply, below in program.replies(said)], wanted)
 
 
 class Guide(unittest.TestCase):
