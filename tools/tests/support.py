@@ -1,4 +1,5 @@
-"""What the tests stand on: the tools, over the program where it is built, and else over bench/reference."""
+"""What the tests stand on: the tools, over the program where it is built, and else over bench/reference, which is called
+here for speed, in place of a process for each run."""
 import os
 import pathlib
 import sys
@@ -9,8 +10,18 @@ sys.path.insert(0, str(ROOT / "tools"))
 
 import program  # noqa: E402
 
-if not program.BUILT.exists():
-    os.environ.setdefault("MLIR_WORK", "reference")
+
+def referred(text):
+    """The status of a run by bench/reference, and the lines that it writes."""
+    from reference import script
+    status, out = script.run(text, True)
+    return status, out.decode().splitlines()
+
+
+if "MLIR_WORK" not in os.environ and not program.BUILT.exists():
+    os.environ["MLIR_WORK"] = "reference"
+    sys.path.insert(0, str(ROOT / "bench"))
+    program.ran = referred
 
 import check_examples  # noqa: E402, F401
 import explain  # noqa: E402, F401
