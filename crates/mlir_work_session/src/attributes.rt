@@ -21,29 +21,25 @@ use rewriter::laws::led_benches_are_kept;
 use std::alloc::Global;
 
 /// The attribute that a text spells.
-fn parse<L: Analysis>(alloc: Global, bench: &mut Bench<L>, text: &[u8]) -> Result<AttrId, ReadError>
+fn parse<L: Analysis>(bench: &mut Bench<L>, text: &[u8]) -> Result<AttrId, ReadError>
     ensures attr { IfOk result (λ a. IsAttr bench.new.desk.ctx a × SpellsAttr text.now (attr_term bench.new.desk.ctx a)) }
     ensures refused { (f : TextFault) → result ≡ Err (ReadError.Refused f) → IsNoAttr (SpellsAttr text.now) }
     ensures grown { Grown L.meaning bench.old bench.new }
 {
     led_benches_are_kept::<L>();
     bench.world().ctx.sound();
-    let read = bench.parse_attr(alloc, text);
+    let read = bench.parse_attr(text);
     bench.world().ctx.sound();
     read
 }
 
 /// The attribute that a text spells, or the reply where it isn't read.
-fn attribute_of<L: Analysis>(
-    alloc: Global,
-    bench: &mut Bench<L>,
-    text: &[u8],
-) -> Result<AttrId, Reply>
+fn attribute_of<L: Analysis>(bench: &mut Bench<L>, text: &[u8]) -> Result<AttrId, Reply>
     ensures attr { IfOk result (λ a. IsAttr bench.new.desk.ctx a × SpellsAttr text.now (attr_term bench.new.desk.ctx a)) }
     ensures unread { IfErr result (λ reply. NotRead (SpellsAttr text.now) (response_of reply)) }
     ensures grown { Grown L.meaning bench.old bench.new }
 {
-    match parse(alloc, bench, text) {
+    match parse(bench, text) {
         Ok(attribute) => Ok(attribute),
         Err(error) => Err(reply_unread(text.len(), &error)),
     }
@@ -93,7 +89,7 @@ pub(crate) fn entry_of<L: Analysis>(
     ensures unread { IfErr result (λ reply. NotRead (SpellsAttr text.now) (response_of reply)) }
     ensures grown { Grown L.meaning bench.old bench.new }
 {
-    let attribute = match attribute_of(alloc, bench, text) {
+    let attribute = match attribute_of(bench, text) {
         Ok(attribute) => attribute,
         Err(reply) => return Err(reply),
     };

@@ -16,10 +16,9 @@ use ir_text::reader::ReadError;
 use ir_tree::tree::TreeOp;
 use rewriter::Bench;
 use rewriter::laws::led_benches_are_kept;
-use std::alloc::Global;
 
 /// The operation that a text spells beside the module.
-fn read<L: Analysis>(alloc: Global, bench: &mut Bench<L>, text: &[u8]) -> Result<TreeOp, ReadError>
+fn read<L: Analysis>(bench: &mut Bench<L>, text: &[u8]) -> Result<TreeOp, ReadError>
     ensures read { IfOk result (λ t. SpellsBeside (module_held bench.old.desk) text.now (meaning bench.new.desk.ctx t)) }
     ensures sound { IfOk result (λ t. IsSoundIn bench.new.desk.ctx t) }
     ensures numbered { IfOk result (λ t. IsNumberedFrom bench.new.desk.store.module_of.next t) }
@@ -28,14 +27,13 @@ fn read<L: Analysis>(alloc: Global, bench: &mut Bench<L>, text: &[u8]) -> Result
 {
     led_benches_are_kept::<L>();
     bench.world().ctx.sound();
-    let read = bench.read_op(alloc, text);
+    let read = bench.read_op(text);
     bench.world().ctx.sound();
     read
 }
 
 /// The operation that a text spells beside the module, numbered from its next id, or the reply where it isn't read.
 pub(crate) fn operation_of<L: Analysis>(
-    alloc: Global,
     bench: &mut Bench<L>,
     text: &[u8],
 ) -> Result<TreeOp, Reply>
@@ -45,7 +43,7 @@ pub(crate) fn operation_of<L: Analysis>(
     ensures unread { IfErr result (λ reply. NotRead (SpellsBeside (module_held bench.old.desk) text.now) (response_of reply)) }
     ensures grown { Grown L.meaning bench.old bench.new }
 {
-    match read(alloc, bench, text) {
+    match read(bench, text) {
         Ok(tree) => Ok(tree),
         Err(error) => Err(reply_unread(text.len(), &error)),
     }

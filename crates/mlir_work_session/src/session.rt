@@ -75,6 +75,6 @@ pub fn run_session<L: Analysis, W: Write>(
     if script_is_too_long(script) {
         return refuse_script(writer);
     }
-    let mut bench = Bench::new(alloc, world);
+    let mut bench = Bench::over(alloc, world);
     attach_and_run(alloc, brief, &mut bench, script, writer, boxes)
 }

@@ -1,10 +1,11 @@
 //! Texts that are read beside the module of a desk, whose context grows.
-ghost use Rattle.std.specs.Prelude.{◌≡◌, IfOk, Err};
+ghost use Rattle.std.specs.Prelude.{◌≡◌, ℕ, IfOk, Err};
 ghost use Rattle.ir_types.specs.Things.{IsAttr};
 ghost use Rattle.ir_types.specs.Terms.{attr_term};
 ghost use Rattle.ir_tree.specs.Ids.{IsNumberedFrom};
 ghost use Rattle.ir_tree.specs.Meaning.{IsSoundIn, meaning};
 ghost use Rattle.ir_text_tokens.specs.declared.fault.Fault.{Fault as TextFault};
+ghost use Rattle.ir_text_grammar.specs.Laws.{IsFull};
 ghost use Rattle.ir_text_attributes.specs.Claims.{IsNoAttr};
 ghost use Rattle.ir_text_attributes.specs.Spelling.{SpellsAttr};
 ghost use Rattle.ir_text_operations.specs.Claims.{IsNone};
@@ -26,6 +27,7 @@ impl Desk {
     pub fn parse_attr(&mut self, alloc: Global, text: &[u8]) -> Result<AttrId, ReadError>
         ensures attr { IfOk result (λ a. IsAttr self.new.ctx a × SpellsAttr text.now (attr_term self.new.ctx a)) }
         ensures refused { (f : TextFault) → result ≡ Err (ReadError.Refused f) → IsNoAttr (SpellsAttr text.now) }
+        ensures full { (left : ℕ) → result ≡ Err (ReadError.Full left) → IsFull self.new.ctx }
         ensures grown { Grown self.old self.new }
     {
         self.world.ctx.sound();
@@ -42,6 +44,7 @@ impl Desk {
         ensures sound { IfOk result (λ t. IsSoundIn self.new.ctx t) }
         ensures numbered { IfOk result (λ t. IsNumberedFrom self.old.store.module_of.next t) }
         ensures refused { (f : TextFault) → result ≡ Err (ReadError.Refused f) → IsNone (SpellsBeside (module_held self.old) text.now) }
+        ensures full { (left : ℕ) → result ≡ Err (ReadError.Full left) → IsFull self.new.ctx }
         ensures grown { Grown self.old self.new }
     {
         self.world.ctx.sound();
