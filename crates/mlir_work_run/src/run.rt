@@ -1,5 +1,5 @@
 //! A whole run, from bytes to bytes.
-ghost use Rattle.std.specs.Prelude.{◌≡◌, ◌≤◌, ℕ, Bool, IsTrue, length, IfOk, IfErr, IfSome, None, Some, true};
+ghost use Rattle.std.specs.Prelude.{◌≡◌, ◌≤◌, ℕ, IsTrue, length, IfOk, IfErr, IfSome, None, Some, true};
 ghost use Rattle.std.specs.Io.KnownBytes.{Keeps};
 ghost use Rattle.ir_tree.specs.Ids.{IsNumberedFrom, op_count};
 ghost use Rattle.ir_tree.specs.Meaning.{meaning, isolated_in, IsSoundIn};
@@ -11,7 +11,7 @@ ghost use Rattle.rewriter_machine.specs.Panels.{all_shown};
 ghost use Rattle.mlir_work_script.specs.Lines.{lines_of};
 ghost use Rattle.mlir_work_script.specs.Parts.{module_text, script_text};
 ghost use Rattle.mlir_work_script.specs.declared.input.TheConstants.{MAX_SCRIPT_BYTES};
-ghost use Rattle.mlir_work_session.specs.Output.{IsSession};
+ghost use Rattle.mlir_work_session.specs.Output.{IsSession, Manner};
 ghost use Rattle.mlir_work_session.specs.PrintsAlone.{all_print, kinds_apart};
 ghost use Rattle.mlir_work_session.specs.Ran.{RanOut};
 ghost use Rattle.mlir_work_run.specs.Ends.{EndedSo, HasStatus, ended_of, status_of};
@@ -76,13 +76,13 @@ fn tree_of(alloc: Global, key: u64, text: &[u8]) -> Result<(Context, TreeOp), Un
             refusal: Refusal::Memory,
             offset: None,
         }),
-        Err(ReadError::Full(left)) => Err(Unread {
+        Err(ReadError::Full { offset }) => Err(Unread {
             refusal: Refusal::TooMany,
-            offset: Some(text.len().saturating_sub(left)),
+            offset: Some(offset),
         }),
-        Err(ReadError::Refused(fault)) => Err(Unread {
-            refusal: fault.refusal,
-            offset: Some(text.len().saturating_sub(fault.left)),
+        Err(ReadError::Refused { refusal, offset }) => Err(Unread {
+            refusal,
+            offset: Some(offset),
         }),
     }
 }
@@ -198,7 +198,7 @@ fn answer_prints<W: Write, L: Analysis>(
     requires short { length script.now ≤ MAX_SCRIPT_BYTES }
     requires prints { all_print (lines_of script.now) ≡ true }
     requires apart { kinds_apart L.meaning boxes.now ≡ true }
-    ensures { (brief : Bool) (next : ℕ) → RanOut (IsSession brief (all_shown L.meaning boxes.now) (record { tree = meaning ctx.now tree.now; next = next }) script.now) (W.contents writer.old) (W.contents writer.new) result }
+    ensures { (manner : Manner) (next : ℕ) → RanOut (IsSession manner (all_shown L.meaning boxes.now) (record { tree = meaning ctx.now tree.now; next = next }) script.now) (W.contents writer.old) (W.contents writer.new) result }
 {
     match print_session(alloc, ctx, tree, script, writer, boxes) {
         Ok(status) => finish(writer, status),
@@ -210,6 +210,7 @@ fn answer_prints<W: Write, L: Analysis>(
 fn answer_script<W: Write, L: Analysis>(
     alloc: Global,
     brief: bool,
+    bytes: usize,
     world: World,
     script: &[u8],
     writer: &mut W,
@@ -217,9 +218,9 @@ fn answer_script<W: Write, L: Analysis>(
 ) -> Result<u8, WriteFault>
     requires slotted { IsSlotted world.store }
     requires tidy { IsTidy world.store }
-    ensures { RanOut (IsSession brief (all_shown L.meaning boxes.items) (module_in world) script.now) (W.contents writer.old) (W.contents writer.new) result }
+    ensures { RanOut (IsSession (record { brief = brief; bytes = bytes }) (all_shown L.meaning boxes.items) (module_in world) script.now) (W.contents writer.old) (W.contents writer.new) result }
 {
-    match run_session(alloc, brief, world, script, writer, boxes) {
+    match run_session(alloc, brief, bytes, world, script, writer, boxes) {
         Ok(status) => finish(writer, status),
         Err(fault) => Err(fault),
     }
@@ -237,6 +238,7 @@ fn answer_input<W: Write, L: Analysis>(
     requires { length input.items ≤ MAX_INPUT_BYTES }
     ensures { RanOut (IsOutput brief (all_shown L.meaning boxes.items) input.items) (W.contents writer.old) (W.contents writer.new) result }
 {
+    let bytes = input.len();
     let ((ctx, tree), script) = match taken_apart(alloc, key, input) {
         Ok(parts) => parts,
         Err(unread) => return refuse(writer, unread),
@@ -247,7 +249,7 @@ fn answer_input<W: Write, L: Analysis>(
     let Some(world) = hold(alloc, ctx, tree) else {
         return refuse(writer, no_memory());
     };
-    answer_script(alloc, brief, world, &script, writer, boxes)
+    answer_script(alloc, brief, bytes, world, &script, writer, boxes)
 }
 
 fn ended(ran: Result<u8, WriteFault>) -> Result<u8, Fault>

@@ -65,6 +65,6 @@ impl<L: Analysis> Bench<L> {
             (λ rows. Goes (state_of L.meaning self.now) (Report kind) Done (Rows (rows_meaning self.now.desk.ctx rows.items)) (state_of L.meaning self.now))
             (λ e. Goes (state_of L.meaning self.now) (Report kind) (Refused e) Nothing (state_of L.meaning self.now)) }
     {
-        self.panel.report(self.alloc, kind)
+        self.panel.report(kind)
     }
 }

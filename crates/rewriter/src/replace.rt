@@ -28,7 +28,7 @@ fn set_uses<L: Analysis>(bench: &mut Bench<L>, old: &Value, new: &Value) -> Resu
     replacing_by_uses::<u32, u32, u32>();
     led_benches_are_kept::<L>();
     bench.is_formed();
-    'uses: while let Some(site) = bench.world().store.first_use(old) {
+    'uses: while let Some(site) = bench.world().store.first_use(*old) {
         if let Err(refusal) = bench.set_operand(site.0, site.1, *new) {
             return Err(refusal);
         }

@@ -1,6 +1,7 @@
 -- What edits, undone events and other calls leave of a desk.
 use Rattle.std.proofs.Common.{◌≡◌, Bool, true, false, cond, Option, Some, None, ℕ, ◌+◌, ◌-◌, ◌≤◌, List, [], ◌∷◌, ◌++◌, length, drop, map, refl, sym, subst, ap, ◌∙◌, arith, length-append}
 use Rattle.std.specs.FinMap as finmap
+use Rattle.std.specs.Ordering.{nat_cmp}
 use Rattle.std.specs.Prelude.{is_some, nat_lt, reverse, Result, Ok, Err, IfOk, OnOk, OnErr}
 use Rattle.std.proofs.lemmas.Bool.{cond-false}
 use Rattle.std.proofs.lemmas.Bool.Decides.{nat_tests}
@@ -235,7 +236,7 @@ module _ (h : Held) (good : IsGood h) where
     pub settle_alone : HoldsModuleAlone u
     settle_alone = record {
       module_of = refl;
-      held = finmap.same_map nat_cmp_total finmap.nat_cmp-IsAntisymmetric u.held finmap.empty settle_none;
+      held = finmap.same_map nat_cmp_total finmap.nat_cmp-IsAntisymmetric u.held finmap.empty (λ x. settle_none x ∙ sym (finmap.get-empty nat_cmp x));
       gone = λ x. settle_gone x (has_id x h.store.module_of.tree) refl ∙ ap (λ (m : Module). cond (has_id x m.tree) (Some none_gone) None) (sym r.module_of);
     }
 

@@ -12,7 +12,6 @@ use crate::release::release;
 use ir_event::event::{Event, inverse};
 use ir_event::world::World;
 use ir_types::refusal::Refusal;
-use rewriter_journal::undo::undo;
 use std::alloc::Global;
 use std::marker::Model;
 
@@ -87,6 +86,7 @@ impl Desk {
     pub fn is_good(&self)
         ensures { IsGood self.now }
     {
+        let _marks = &self.marks;
     }
 
     /// Makes a mark of the module held.
@@ -150,7 +150,7 @@ impl Desk {
             unreachable!()
         };
         self.world.ctx.sound();
-        undo(&mut self.world, &event);
+        self.world.undo(&event);
         inverse(event)
     }
 

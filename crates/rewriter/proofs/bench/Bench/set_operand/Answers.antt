@@ -16,10 +16,10 @@ pub returns-in-Err-clause-led : goal.returns-in-Err-clause-led
 returns-in-Err-clause-led g c = rw (← c.self.view_is) (led_left g.L.Analysis.meaning _ _ _ c.in-Err.ensures.err)
 
 pub returns-in-Ok-clause-does : goal.returns-in-Ok-clause-does
-returns-in-Ok-clause-does g c = rw (← c.self.view_is) (edit_goes g.L.Analysis.meaning (edit.SetOperand c.args.op c.args.operand c.args.value) _ _ _ _ refl c.in-Ok.ensures.refused refl (made_told g.L.Analysis.meaning _ _ _ _ _ c.world.result.now _ _ c.in-Ok.ensures.ok c.world.ensures.ctx c.world.ensures.store c.tell.ensures c.settle.ensures))
+returns-in-Ok-clause-does g c = rw (← c.self.view_is) (edit_goes g.L.Analysis.meaning (edit.SetOperand c.args.op c.args.k c.args.value) _ _ _ _ refl c.in-Ok.ensures.refused refl (made_told g.L.Analysis.meaning _ _ _ _ _ c.world.result.now _ _ c.in-Ok.ensures.ok c.world.ensures.ctx c.world.ensures.store c.tell.ensures c.settle.ensures))
 
 pub returns-in-Err-clause-does : goal.returns-in-Err-clause-does
-returns-in-Err-clause-does g c = rw (← c.self.view_is) (refused_marked g.L.Analysis.meaning (edit.SetOperand c.args.op c.args.operand c.args.value) _ _ _ _ c.in-Err.ensures.refused c.in-Err.ensures.err)
+returns-in-Err-clause-does g c = rw (← c.self.view_is) (refused_marked g.L.Analysis.meaning (edit.SetOperand c.args.op c.args.k c.args.value) _ _ _ _ c.in-Err.ensures.refused c.in-Err.ensures.err)
 
 pub returns-in-Ok-clause-ctx : goal.returns-in-Ok-clause-ctx
 returns-in-Ok-clause-ctx g c = rw (← c.self.view_is) (made_ctx g.L.Analysis.meaning _ _ _ (made_told g.L.Analysis.meaning _ _ _ _ _ c.world.result.now _ _ c.in-Ok.ensures.ok c.world.ensures.ctx c.world.ensures.store c.tell.ensures c.settle.ensures))
