@@ -89,11 +89,11 @@ def stale(cases):
 def looks(cases):
     """How often listeners look where one of 10,000 operations has an entry set, and that more is noticed."""
     ops = '"test.n"() : () -> ()\n'
-    for line in ("set-attr #5000 k 1 : i32", "set-attr #10000 k @f", "set-attr #1 k {a = @f, b = [@g, @f]}"):
-        boxes = ["uses:2", "symbols:2", "effects:4", "dead:4"]
-        asked = "report uses\nreport symbols\nreport dead\n"
-        status, out = cases.copies(boxes, 10000, ops, DIVIDER + line + "\n" + asked + line + "\n" + asked)
-        assert status == 0, out
+    boxes = ["uses:2", "symbols:2", "effects:4", "dead:4"]
+    asked = "report uses\nreport symbols\nreport dead\n"
+    lines = ("set-attr #5000 k 1 : i32", "set-attr #10000 k @f", "set-attr #1 k {a = @f, b = [@g, @f]}", "set-attr #5000 k unit", "drop-attr #10000 k")
+    status, out = cases.copies(boxes, 10000, ops, DIVIDER + asked + "".join(line + "\n" + asked for line in lines))
+    assert status == 0, out
     boxes = ["uses:0", "symbols:0", "effects:0", "dead:0"]
     status, out = cases.copies(boxes, 100, ops, DIVIDER + ops.replace('"test.n"', 'insert end #0 0 "test.n"') + "".join(f"report {box[:-2]}\nresync {box[:-2]}\nreport {box[:-2]}\n" for box in boxes))
     assert out.count("40 Stale") == 4, out

@@ -1,5 +1,5 @@
 #!/usr/bin/env python3
-"""Compares the verifier's rules with MLIR's verifier: prints each module of the table of crates/analyses_cases, written by hand
+"""Compares the verifier's rules with MLIR's verifier: prints each module of the table of bench/verifier_cases.py, written by hand
 or one change away from a right one, that one of the two finds fault with and the other doesn't.
 
 usage: bench/mlir_verifier.py MLIR_OPT"""

@@ -10,6 +10,7 @@ use crate::reads::{put_reads, sum};
 use crate::state::{Show, State};
 use crate::undone::{restore_line, retract_line, revert_line};
 use ir_store::store::Store;
+use ir_tree::check::check;
 use ir_tree::find::list_ids;
 use ir_tree::numbered::distinct;
 use ir_tree::sound::sound;
@@ -47,11 +48,26 @@ fn load(alloc: Global, context: &Context, tree: &TreeOp, next: u32) -> Result<St
     Store::load(alloc, context, tree, next)
 }
 
-/// `9 : op block end end`: the next free id, and the tree.
-fn load_line(alloc: Global, state: &mut State, text: &str) -> Result<String, Refusal> {
+/// A module with a tree that is handed over once it was looked at.
+fn hold(alloc: Global, context: &Context, tree: TreeOp, next: u32) -> Result<Store, Refusal> {
+    suit(alloc, context, &tree, next)?;
+    check(alloc, context, &tree)?;
+    Store::hold(alloc, context, tree, next)
+}
+
+/// A module with a copy of a tree, or with the tree.
+fn made(alloc: Global, ctx: &Context, call: &str, text: &str) -> Result<Store, Refusal> {
     let (next, words) = text.split_once(" : ").unwrap_or((text, ""));
     let tree = build::tree(alloc, words)?;
-    match load(alloc, &state.context, &tree, number(next)) {
+    if call == "hold" {
+        return hold(alloc, ctx, tree, number(next));
+    }
+    load(alloc, ctx, &tree, number(next))
+}
+
+/// `9 : op block end end`: the next free id, and the tree.
+fn load_line(alloc: Global, state: &mut State, call: &str, text: &str) -> Result<String, Refusal> {
+    match made(alloc, &state.context, call, text) {
         Ok(store) => {
             state.hold(store);
             Ok(written::word(alloc, "ok")?)
@@ -172,7 +188,7 @@ fn edit_line(alloc: Global, state: &mut State, line: &str) -> Result<String, Ref
 pub fn answer(alloc: Global, state: &mut State, line: &str) -> Result<String, Refusal> {
     let (call, rest) = first(line);
     match call {
-        "load" => load_line(alloc, state, rest),
+        "load" | "hold" => load_line(alloc, state, call, rest),
         "show" => show_line(alloc, state, rest),
         _ => edit_line(alloc, state, line),
     }

@@ -170,12 +170,12 @@ fn put_op(out: &mut String, ctx: &Context, store: &Store, op: OpId) -> Result<()
     out.push_str("\n")
 }
 
-/// Writes all that is read of a module.
+/// Writes all that is read of a module, also of an operation that it doesn't have.
 pub fn put_reads(out: &mut String, ctx: &Context, store: &Store) -> Result<(), AllocError> {
     put_number(out, "\n", u64::from(store.next_id()))?;
     put_number(out, " ", store.op_count())?;
     out.push_str("\n")?;
-    for op in 0..store.next_id() {
+    for op in 0..store.next_id().saturating_add(1) {
         put_op(out, ctx, store, OpId::new(op))?;
     }
     Ok(())

@@ -1,8 +1,6 @@
 //! The answer to a line.
+use crate::edits;
 use crate::state::{State, add_attrs, add_name, add_types, renew};
-use crate::{edits, stored};
-use ir_tree_cases_base::words::{first, number, op_id, value};
-use ir_tree_cases_base::{build, written};
 use ir_tree::check::check;
 use ir_tree::copy::copy;
 use ir_tree::count::{depth, op_count};
@@ -13,6 +11,8 @@ use ir_tree::sound::sound;
 use ir_tree::tree::TreeOp;
 use ir_tree::uses::list_uses;
 use ir_tree::visible::visible;
+use ir_tree_cases_base::words::{first, number, op_id, value};
+use ir_tree_cases_base::{build, written};
 use ir_types::context::Context;
 use ir_types::refusal::Refusal;
 use std::alloc::{AllocError, Global};
@@ -72,7 +72,7 @@ fn sees(alloc: Global, state: &State, text: &str) -> Result<String, AllocError> 
     written::truth(alloc, answer)
 }
 
-/// What is asked of a tree alone; what is no call of it is for the module.
+/// What is asked of a tree.
 fn asked(alloc: Global, state: &State, call: &str, rest: &str) -> Result<String, AllocError> {
     let tree = &state.tree;
     match call {
@@ -87,7 +87,7 @@ fn asked(alloc: Global, state: &State, call: &str, rest: &str) -> Result<String,
         "visible" => sees(alloc, state, rest),
         "sound" => written::truth(alloc, sound(&state.context, tree)),
         "check" => written::done(alloc, check(alloc, &state.context, tree)),
-        _ => stored::asked(alloc, state, call, rest),
+        _ => written::word(alloc, "no call"),
     }
 }
 
@@ -98,9 +98,6 @@ pub fn answer(alloc: Global, state: &mut State, line: &str) -> Result<String, Al
         "context" => written::done(alloc, grow(alloc, &mut state.context, rest)),
         "tree" => tree(alloc, state, rest),
         "edit" => edits::edited(alloc, state, rest),
-        "load" => stored::loaded(alloc, state, rest),
-        "hold" => stored::held(alloc, state, rest),
-        "set" => stored::set(alloc, state, rest),
         _ => asked(alloc, state, call, rest),
     }
 }

@@ -1,11 +1,9 @@
-//! Answers the calls of trees and of a module under edits that standard input has, one a line, one answer
-//! a line.
+//! Answers the calls of trees that standard input has, one a line, one answer a line.
 #![tactic(auto)]
 
 mod calls;
 mod edits;
 mod state;
-mod stored;
 
 use crate::state::State;
 use ir_types::refusal::Refusal;

@@ -1,39 +1,31 @@
-//! What lines speak of: a context, a tree and a module.
-use ir_tree_cases_base::build::bare;
-use ir_store::store::Store;
+//! What lines speak of: a context and a tree.
 use ir_tree::tree::TreeOp;
+use ir_tree_cases_base::build::bare;
 use ir_types::context::Context;
 use ir_types::node::{AttrNode, Sign, TypeNode};
 use ir_types::refusal::Refusal;
 use std::alloc::Global;
 
-/// A context, a tree, and a module if one was loaded.
+/// A context and a tree.
 #[derive(Drop)]
 pub struct State {
     pub context: Context,
     pub tree: TreeOp,
-    pub store: Option<Store>,
 }
 
 impl State {
-    /// A new context, a bare operation, and no module.
+    /// A new context and a bare operation.
     pub fn new(alloc: Global) -> Result<State, Refusal> {
         let context = Context::new(alloc)?;
         Ok(State {
             context,
             tree: bare(alloc, 0),
-            store: None,
         })
     }
 
     /// Takes a tree in place of the one that there was.
     pub fn take(&mut self, tree: TreeOp) {
         self.tree = tree;
-    }
-
-    /// Takes a module in place of the one that there was.
-    pub fn hold(&mut self, store: Store) {
-        self.store = Some(store);
     }
 }
 
