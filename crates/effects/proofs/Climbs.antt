@@ -4,7 +4,7 @@ use Rattle.std.specs.Prelude.{nat_lt}
 use Rattle.std.specs.Map.{lookup, set_value}
 use Rattle.std.proofs.lemmas.Bool.{eq-eqb, cases_eq}
 use Rattle.ir_tree.proofs.Moves.{neither}
-use Rattle.effects.specs.declared.kinds.Kinds.{Kinds}
+use Rattle.effects.specs.declared.kinds.EffectKinds.{EffectKinds}
 use Rattle.op_registry.specs.declared.own.Own.{Own}
 use Rattle.effects.specs.declared.row.Counts.{Counts}
 use Rattle.effects.specs.declared.row.Row.{Row}
@@ -16,7 +16,7 @@ use Rattle.effects.proofs.Laws.{has_union, some_of_sum, one_counts}
 
 -- ---- a map's entries
 
-pub set_total : (f : Kinds → ℕ) (test : ℕ → Bool) (es : List (ℕ × Row)) (w r : Row) → lookup test es ≡ Some r → total f (set_value test es w) + f r.has ≡ total f es + f w.has
+pub set_total : (f : EffectKinds → ℕ) (test : ℕ → Bool) (es : List (ℕ × Row)) (w r : Row) → lookup test es ≡ Some r → total f (set_value test es w) + f r.has ≡ total f es + f w.has
 set_total f test [] w r h = absurd cc
 set_total f test (e ∷ es) w r h = go (set_total f test es w r) (test e.0) refl
   where
@@ -34,14 +34,14 @@ set_total f test (e ∷ es) w r h = go (set_total f test es w r) (test e.0) refl
 
 -- ---- sets, one effect at a time
 
-pub has_minus : (e : Effect) (a b : Kinds) → has e (minus a b) ≡ (has e a && not (has e b))
+pub has_minus : (e : Effect) (a b : EffectKinds) → has e (minus a b) ≡ (has e a && not (has e b))
 has_minus unknown a b = refl
 has_minus allocate a b = refl
 has_minus free a b = refl
 has_minus read a b = refl
 has_minus write a b = refl
 
-has_both : (e : Effect) (a b : Kinds) → has e (both a b) ≡ (has e a && has e b)
+has_both : (e : Effect) (a b : EffectKinds) → has e (both a b) ≡ (has e a && has e b)
 has_both unknown a b = refl
 has_both allocate a b = refl
 has_both free a b = refl
@@ -55,14 +55,14 @@ has_present free c = refl
 has_present read c = refl
 has_present write c = refl
 
-count_lowered : (e : Effect) (c : Counts) (s : Kinds) → count_of e (lowered c s) ≡ count_of e c - one_if (has e s)
+count_lowered : (e : Effect) (c : Counts) (s : EffectKinds) → count_of e (lowered c s) ≡ count_of e c - one_if (has e s)
 count_lowered unknown c s = refl
 count_lowered allocate c s = refl
 count_lowered free c s = refl
 count_lowered read c s = refl
 count_lowered write c s = refl
 
-count_raised : (e : Effect) (c : Counts) (s : Kinds) → count_of e (raised c s) ≡ count_of e c + one_if (has e s)
+count_raised : (e : Effect) (c : Counts) (s : EffectKinds) → count_of e (raised c s) ≡ count_of e c + one_if (has e s)
 count_raised unknown c s = refl
 count_raised allocate c s = refl
 count_raised free c s = refl
@@ -73,7 +73,7 @@ not_false : (b : Bool) → not b ≡ true → b ≡ false
 not_false true h = sym h
 not_false false h = refl
 
-pub none_has : (a : Kinds) → is_none a ≡ true → (e : Effect) → has e a ≡ false
+pub none_has : (a : EffectKinds) → is_none a ≡ true → (e : Effect) → has e a ≡ false
 none_has a h e = pick e
   where
     p1 : (a.unknown ≡ false) × ((a.allocate || (a.free || (a.read || a.write))) ≡ false)
@@ -110,7 +110,7 @@ less_of true true = refl
 less_of true false = refl
 less_of false x = refl
 
-within : (r : Row) (less : Kinds) (b : Bool) → r.recursive ≡ b → (e : Effect) → (x : Bool) × (has e (lost_row r less).has ≡ (has e r.has && x))
+within : (r : Row) (less : EffectKinds) (b : Bool) → r.recursive ≡ b → (e : Effect) → (x : Bool) × (has e (lost_row r less).has ≡ (has e r.has && x))
 within r less true is e = (has e (present (lowered r.counts less)), ap (λ b. has e (cond b (both r.has (present (lowered r.counts less))) r.has)) is ∙ has_both e r.has (present (lowered r.counts less)))
 within r less false is e = (true, ap (λ b. has e (cond b (both r.has (present (lowered r.counts less))) r.has)) is ∙ and_true (has e r.has))
   where
@@ -118,7 +118,7 @@ within r less false is e = (true, ap (λ b. has e (cond b (both r.has (present (
     and_true true = refl
     and_true false = refl
 
-pub lost_changed : (r : Row) (less : Kinds) (e : Effect) → one_if (has e (lost_row r less).has) + one_if (has e (minus r.has (lost_row r less).has)) ≡ one_if (has e r.has)
+pub lost_changed : (r : Row) (less : EffectKinds) (e : Effect) → one_if (has e (lost_row r less).has) + one_if (has e (minus r.has (lost_row r less).has)) ≡ one_if (has e r.has)
 lost_changed r less e =
     let w = within r less r.recursive refl e in
     (λ i. one_if (w.1 i) + one_if ((has_minus e r.has (lost_row r less).has ∙ ap (λ b. has e r.has && not b) w.1) i)) ∙ less_of (has e r.has) w.0
@@ -129,7 +129,7 @@ and_fewer m n h = elim (cases_eq m 0) [
   | inr q ↦ let t : nat_lt 0 m ≡ true = grind (arith, q) in ap (λ b. b && nat_lt 0 n) t
 ]
 
-lost_shown : (r : Row) (less : Kinds) (o : Own) → r.recursive ≡ is_recursive o → ((e : Effect) → has e r.has ≡ given e o (count_of e r.counts)) → (e : Effect) → has e (lost_row r less).has ≡ given e o (count_of e (lowered r.counts less))
+lost_shown : (r : Row) (less : EffectKinds) (o : Own) → r.recursive ≡ is_recursive o → ((e : Effect) → has e r.has ≡ given e o (count_of e r.counts)) → (e : Effect) → has e (lost_row r less).has ≡ given e o (count_of e (lowered r.counts less))
 lost_shown r less o is was e = go (is_recursive o) refl is
   where
     go : (b : Bool) → is_recursive o ≡ b → r.recursive ≡ is_recursive o → has e (lost_row r less).has ≡ given e o (count_of e (lowered r.counts less))
@@ -146,7 +146,7 @@ lost_shown r less o is was e = go (is_recursive o) refl is
         ∙ ap (λ b. cond b (nat_lt 0 (count_of e r.counts)) (has e (own_kinds o))) rec
         ∙ sym (ap (λ b. cond b (nat_lt 0 (count_of e (lowered r.counts less))) (has e (own_kinds o))) rec)
 
-pub lose_step : (rows after : Rows) (p : ℕ) (less : Kinds) (r : Row) → rows p ≡ Some r → ((x : ℕ) → after x ≡ with_row p (Some (lost_row r less)) rows x) → (ns : List Spot) → Apart ns → Holds rows ns (Some p) none less
+pub lose_step : (rows after : Rows) (p : ℕ) (less : EffectKinds) (r : Row) → rows p ≡ Some r → ((x : ℕ) → after x ≡ with_row p (Some (lost_row r less)) rows x) → (ns : List Spot) → Apart ns → Holds rows ns (Some p) none less
     → Holds after ns r.parent none (minus r.has (lost_row r less).has)
 lose_step rows after p less r here is ns apart h =
     let enough : (e : Effect) → one_if (has e less) ≤ count_of e r.counts = λ e. elim (spot_of p ns) [
@@ -164,7 +164,7 @@ lose_step rows after p less r here is ns apart h =
     (λ n rec was. lost_shown r less n.own rec was)
     (λ e. let c = lost_changed r less e in let z : one_if (has e none) ≡ 0 = ap one_if (has_none e) in omega (arith, c, z)))
 
-pub lost_size : (r : Row) (less : Kinds) → is_none (minus r.has (lost_row r less).has) ≡ false → size (lost_row r less).has < size r.has
+pub lost_size : (r : Row) (less : EffectKinds) → is_none (minus r.has (lost_row r less).has) ≡ false → size (lost_row r less).has < size r.has
 lost_size r less h =
     let s = minus r.has (lost_row r less).has in
     let one = some_size s.unknown s.allocate s.free s.read s.write h in
@@ -177,7 +177,7 @@ more_of true x = refl
 more_of false true = refl
 more_of false false = refl
 
-beyond : (r : Row) (more : Kinds) (b : Bool) → r.recursive ≡ b → (e : Effect) → (x : Bool) × (has e (gained_row r more).has ≡ (has e r.has || x))
+beyond : (r : Row) (more : EffectKinds) (b : Bool) → r.recursive ≡ b → (e : Effect) → (x : Bool) × (has e (gained_row r more).has ≡ (has e r.has || x))
 beyond r more true is e = (has e more, ap (λ b. has e (cond b (union r.has more) r.has)) is ∙ has_union e r.has more)
 beyond r more false is e = (false, ap (λ b. has e (cond b (union r.has more) r.has)) is ∙ or_false (has e r.has))
   where
@@ -185,12 +185,12 @@ beyond r more false is e = (false, ap (λ b. has e (cond b (union r.has more) r.
     or_false true = refl
     or_false false = refl
 
-pub gained_changed : (r : Row) (more : Kinds) (e : Effect) → one_if (has e (gained_row r more).has) ≡ one_if (has e r.has) + one_if (has e (minus (gained_row r more).has r.has))
+pub gained_changed : (r : Row) (more : EffectKinds) (e : Effect) → one_if (has e (gained_row r more).has) ≡ one_if (has e r.has) + one_if (has e (minus (gained_row r more).has r.has))
 gained_changed r more e =
     let w = beyond r more r.recursive refl e in
     ap one_if w.1 ∙ more_of (has e r.has) w.0 ∙ ap (λ b. one_if (has e r.has) + one_if b) (sym (has_minus e (gained_row r more).has r.has ∙ ap (λ b. b && not (has e r.has)) w.1))
 
-gained_shown : (r : Row) (more : Kinds) (o : Own) → r.recursive ≡ is_recursive o → ((e : Effect) → has e r.has ≡ given e o (count_of e r.counts)) → (e : Effect) → has e (gained_row r more).has ≡ given e o (count_of e (raised r.counts more))
+gained_shown : (r : Row) (more : EffectKinds) (o : Own) → r.recursive ≡ is_recursive o → ((e : Effect) → has e r.has ≡ given e o (count_of e r.counts)) → (e : Effect) → has e (gained_row r more).has ≡ given e o (count_of e (raised r.counts more))
 gained_shown r more o is was e = go (is_recursive o) refl is
   where
     go : (b : Bool) → is_recursive o ≡ b → r.recursive ≡ is_recursive o → has e (gained_row r more).has ≡ given e o (count_of e (raised r.counts more))
@@ -207,7 +207,7 @@ gained_shown r more o is was e = go (is_recursive o) refl is
         ∙ ap (λ b. cond b (nat_lt 0 (count_of e r.counts)) (has e (own_kinds o))) rec
         ∙ sym (ap (λ b. cond b (nat_lt 0 (count_of e (raised r.counts more))) (has e (own_kinds o))) rec)
 
-pub gain_step : (rows after : Rows) (p : ℕ) (more : Kinds) (r : Row) → rows p ≡ Some r → ((x : ℕ) → after x ≡ with_row p (Some (gained_row r more)) rows x) → (ns : List Spot) → Apart ns → Holds rows ns (Some p) more none
+pub gain_step : (rows after : Rows) (p : ℕ) (more : EffectKinds) (r : Row) → rows p ≡ Some r → ((x : ℕ) → after x ≡ with_row p (Some (gained_row r more)) rows x) → (ns : List Spot) → Apart ns → Holds rows ns (Some p) more none
     → Holds after ns r.parent (minus (gained_row r more).has r.has) none
 gain_step rows after p more r here is ns apart h =
     subst (λ (z : Rows). Holds z ns r.parent (minus (gained_row r more).has r.has) none) (sym (λ i x. is x i))
@@ -220,7 +220,7 @@ one_not : (b : Bool) → one_if b + one_if (not b) ≡ 1
 one_not true = refl
 one_not false = refl
 
-pub gained_room : (r : Row) (more : Kinds) → is_none (minus (gained_row r more).has r.has) ≡ false → room (gained_row r more).has < room r.has
+pub gained_room : (r : Row) (more : EffectKinds) → is_none (minus (gained_row r more).has r.has) ≡ false → room (gained_row r more).has < room r.has
 gained_room r more h =
     let g = (gained_row r more).has in
     let s = minus g r.has in
@@ -247,25 +247,25 @@ gained_room r more h =
 
 -- ---- as the loops read them
 
-pub lose_on : (rows after : Rows) (at : Option ℕ) (p : ℕ) (less s : Kinds) (r next : Row) → at ≡ Some p → rows p ≡ Some r → next ≡ lost_row r less → s ≡ minus r.has next.has
+pub lose_on : (rows after : Rows) (at : Option ℕ) (p : ℕ) (less s : EffectKinds) (r next : Row) → at ≡ Some p → rows p ≡ Some r → next ≡ lost_row r less → s ≡ minus r.has next.has
     → ((k : Row) → rows p ≡ Some k → (x : ℕ) → after x ≡ with_row p (Some next) rows x) → (ns : List Spot) → Apart ns → Holds rows ns at none less → Holds after ns r.parent none s
 lose_on rows after at p less s r next here is made gone written ns apart h =
     let step = lose_step rows after p less r is (λ x. written r is x ∙ ap (λ k. with_row p (Some k) rows x) made) ns apart (subst (λ q. Holds rows ns q none less) here h) in
     subst (λ z. Holds after ns r.parent none z) (sym (gone ∙ ap (λ (k : Row). minus r.has k.has) made)) step
 
-pub lose_smaller : (new old : ℕ) (less s : Kinds) (r next : Row) → next ≡ lost_row r less → s ≡ minus r.has next.has → is_none s ≡ false → new + size r.has ≡ old + size next.has → new < old
+pub lose_smaller : (new old : ℕ) (less s : EffectKinds) (r next : Row) → next ≡ lost_row r less → s ≡ minus r.has next.has → is_none s ≡ false → new + size r.has ≡ old + size next.has → new < old
 lose_smaller new old less s r next made gone some sum =
     let fewer = lost_size r less (ap is_none (sym (gone ∙ ap (λ (k : Row). minus r.has k.has) made)) ∙ some) in
     let same : size next.has ≡ size (lost_row r less).has = ap (λ (k : Row). size k.has) made in
     omega (arith, fewer, same, sum)
 
-pub gain_on : (rows after : Rows) (at : Option ℕ) (p : ℕ) (more s : Kinds) (r next : Row) → at ≡ Some p → rows p ≡ Some r → next ≡ gained_row r more → s ≡ minus next.has r.has
+pub gain_on : (rows after : Rows) (at : Option ℕ) (p : ℕ) (more s : EffectKinds) (r next : Row) → at ≡ Some p → rows p ≡ Some r → next ≡ gained_row r more → s ≡ minus next.has r.has
     → ((k : Row) → rows p ≡ Some k → (x : ℕ) → after x ≡ with_row p (Some next) rows x) → (ns : List Spot) → Apart ns → Holds rows ns at more none → Holds after ns r.parent s none
 gain_on rows after at p more s r next here is made gone written ns apart h =
     let step = gain_step rows after p more r is (λ x. written r is x ∙ ap (λ k. with_row p (Some k) rows x) made) ns apart (subst (λ q. Holds rows ns q more none) here h) in
     subst (λ z. Holds after ns r.parent z none) (sym (gone ∙ ap (λ (k : Row). minus k.has r.has) made)) step
 
-pub gain_smaller : (new old : ℕ) (more s : Kinds) (r next : Row) → next ≡ gained_row r more → s ≡ minus next.has r.has → is_none s ≡ false → new + room r.has ≡ old + room next.has → new < old
+pub gain_smaller : (new old : ℕ) (more s : EffectKinds) (r next : Row) → next ≡ gained_row r more → s ≡ minus next.has r.has → is_none s ≡ false → new + room r.has ≡ old + room next.has → new < old
 gain_smaller new old more s r next made gone some sum =
     let fewer = gained_room r more (ap is_none (sym (gone ∙ ap (λ (k : Row). minus k.has r.has) made)) ∙ some) in
     let same : room next.has ≡ room (gained_row r more).has = ap (λ (k : Row). room k.has) made in

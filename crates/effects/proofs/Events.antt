@@ -9,7 +9,7 @@ use Rattle.ir_tree.specs.Edits.{each_head, regions_each_head, region_each_head, 
 use Rattle.ir_tree.specs.WellFormed.{ModuleOf}
 use Rattle.ir_tree.proofs.Moves.{Absent}
 use Rattle.ir_tree_laws.specs.Changes.{HoldNone, Takes, Shifts}
-use Rattle.effects.specs.declared.kinds.Kinds.{Kinds}
+use Rattle.effects.specs.declared.kinds.EffectKinds.{EffectKinds}
 use Rattle.op_registry.specs.declared.own.Own.{Own}
 use Rattle.ir_tree_laws.specs.Members.{In}
 use Rattle.effects.specs.Spots.{Spot, spots, regions_spots, region_spots, ops_spots, one_if, is_in, weight, Lacks, Childless, Apart, Rows, has_at, Holds}
@@ -33,7 +33,7 @@ lacks_then : (x : ℕ) (ns : List Spot) (n : Spot) → Lacks x ns → In n ns �
 lacks_then x [] n l a e = absurd a
 lacks_then x (m ∷ ms) n l a e = elim a [ inl eq ↦ l.0 (ap (λ (s : Spot). s.id) (sym eq) ∙ e) | inr b ↦ lacks_then x ms n l.1 b e ]
 
-pub holds_alike : (rows : Rows) (ns ms : List Spot) (p : Option ℕ) (more less : Kinds) → Alike ns ms → Holds rows ns p more less → Holds rows ms p more less
+pub holds_alike : (rows : Rows) (ns ms : List Spot) (p : Option ℕ) (more less : EffectKinds) → Alike ns ms → Holds rows ns p more less → Holds rows ms p more less
 holds_alike rows ns ms p more less s h = record {
   known = λ n a. h.known n (s.back n a);
   only = λ x l. h.only x (lacks_if x ns (λ n a. lacks_then x ms n l (s.there n a)));

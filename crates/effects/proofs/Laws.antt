@@ -8,7 +8,7 @@ use Rattle.ir_tree.specs.Tree.{HeadOf, OpOf, op, RegionsOf, no_regions, region, 
 use Rattle.ir_tree.specs.Ids.{ids, regions_ids, region_ids, ops_ids}
 use Rattle.ir_tree.proofs.Moves.{Absent, absent_parts, neither}
 use Rattle.ir_tree.proofs.Returns.{Present, halves, differ, absent_first}
-use Rattle.effects.specs.declared.kinds.Kinds.{Kinds}
+use Rattle.effects.specs.declared.kinds.EffectKinds.{EffectKinds}
 use Rattle.op_registry.specs.declared.own.Own.{Own}
 use Rattle.effects.specs.Effects.{Effect, unknown, allocate, free, read, write, has, union, effects_by, effects, regions_effects, region_effects, ops_effects, own_kinds, is_recursive}
 use Rattle.effects.specs.Spots.{Spot, spots, regions_spots, region_spots, ops_spots, one_if, is_in, weight, Childless, given}
@@ -18,29 +18,29 @@ use Rattle.ir_tree_laws.proofs.Listed.{or_right}
 
 -- each operation of a tree with its effects, in pre-order
 abbrev mutual
-  pub listed : {N T A : Type 0} → (N → Own) → OpOf N T A → List (ℕ × Kinds)
+  pub listed : {N T A : Type 0} → (N → Own) → OpOf N T A → List (ℕ × EffectKinds)
   listed own (op h rs) = (h.id, effects own (op h rs)) ∷ regions_listed own rs
 
-  pub regions_listed : {N T A : Type 0} → (N → Own) → RegionsOf N T A → List (ℕ × Kinds)
+  pub regions_listed : {N T A : Type 0} → (N → Own) → RegionsOf N T A → List (ℕ × EffectKinds)
   regions_listed own no_regions = []
   regions_listed own (region r rs) = region_listed own r ++ regions_listed own rs
 
-  pub region_listed : {N T A : Type 0} → (N → Own) → RegionOf N T A → List (ℕ × Kinds)
+  pub region_listed : {N T A : Type 0} → (N → Own) → RegionOf N T A → List (ℕ × EffectKinds)
   region_listed own empty = []
   region_listed own (block args os) = ops_listed own os
 
-  pub ops_listed : {N T A : Type 0} → (N → Own) → OpsOf N T A → List (ℕ × Kinds)
+  pub ops_listed : {N T A : Type 0} → (N → Own) → OpsOf N T A → List (ℕ × EffectKinds)
   ops_listed own no_ops = []
   ops_listed own (next o os) = listed own o ++ ops_listed own os
 
-pub has_union : (e : Effect) (a b : Kinds) → has e (union a b) ≡ (has e a || has e b)
+pub has_union : (e : Effect) (a b : EffectKinds) → has e (union a b) ≡ (has e a || has e b)
 has_union unknown a b = refl
 has_union allocate a b = refl
 has_union free a b = refl
 has_union read a b = refl
 has_union write a b = refl
 
-given_effects : (e : Effect) (o : Own) (w : ℕ) (s : Kinds) → nat_lt 0 w ≡ has e s → given e o w ≡ has e (effects_by o s)
+given_effects : (e : Effect) (o : Own) (w : ℕ) (s : EffectKinds) → nat_lt 0 w ≡ has e s → given e o w ≡ has e (effects_by o s)
 given_effects e o w s h = elim (is_recursive o) as (λ b. cond b (nat_lt 0 w) (has e (own_kinds o)) ≡ has e (cond b s (own_kinds o))) [ true ↦ h | false ↦ refl ]
 
 pub some_of_sum : (m n : ℕ) → nat_lt 0 (m + n) ≡ (nat_lt 0 m || nat_lt 0 n)
@@ -77,8 +77,8 @@ module _ (e : Effect) (f : ℕ → Bool) (c : ℕ → ℕ) where
   abbrev pub Counted : List ℕ → List Spot → Type 0
   Counted xs ns = (x : ℕ) → Present x xs → c x ≡ weight f x ns
 
-  abbrev pub Says : List (ℕ × Kinds) → Type 0
-  Says ls = AllByRecursion (λ (l : ℕ × Kinds). f l.0 ≡ has e l.1) ls
+  abbrev pub Says : List (ℕ × EffectKinds) → Type 0
+  Says ls = AllByRecursion (λ (l : ℕ × EffectKinds). f l.0 ≡ has e l.1) ls
 
   front_counted : (xs ys : List ℕ) (ms ns : List Spot) → ((x : ℕ) → Present x xs → Childless x ns) → Counted (xs ++ ys) (ms ++ ns) → Counted xs ms
   front_counted xs ys ms ns h k x p =

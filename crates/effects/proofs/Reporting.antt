@@ -20,7 +20,7 @@ use Rattle.ir_event.specs.declared.row.Cell.{Cell}
 use Rattle.ir_event.specs.declared.row.Cell.TheVariants as cell
 use Rattle.ir_event.specs.declared.row.Row.{Row as Line}
 use Rattle.ir_event.specs.Rows.{CellTerm, Op, Tag, cell_meaning, rows_meaning, CellIsOf, RowIsOf, Shows}
-use Rattle.effects.specs.declared.kinds.Kinds.{Kinds}
+use Rattle.effects.specs.declared.kinds.EffectKinds.{EffectKinds}
 use Rattle.effects.specs.declared.row.Row.{Row}
 use Rattle.effects.specs.Effects.{effects}
 use Rattle.effects.specs.Spots.{spots}
@@ -77,7 +77,7 @@ module _ (c : Things) where
   term_more : (xs : List Cell) (ys : List CellTerm) (b : Bool) (n : ℕ) → map (cell_meaning c) xs ≡ ys → map (cell_meaning c) (xs ++ tag_if cell.Tag b n) ≡ ys ++ tag_if Tag b n
   term_more xs ys b n e = map-append (cell_meaning c) xs (tag_if cell.Tag b n) ∙ λ i. e i ++ term_tag b n i
 
-  row_says : (p : ℕ × Kinds) → map (cell_meaning c) (cells_of cell.Op cell.Tag p) ≡ cells_of Op Tag p
+  row_says : (p : ℕ × EffectKinds) → map (cell_meaning c) (cells_of cell.Op cell.Tag p) ≡ cells_of Op Tag p
   row_says p =
       let x0 : List Cell = cell.Op p.0 ∷ [] in
       let x1 : List Cell = x0 ++ tag_if cell.Tag p.1.unknown 5 in
@@ -96,7 +96,7 @@ module _ (c : Things) where
       All-append (CellIsOf c) xs (tag_if cell.Tag b n) a
       (elim b as (λ b. All (CellIsOf c) (tag_if cell.Tag b n)) [ true ↦ All-cons (CellIsOf c) (cell.Tag n) [] l (All-nil (CellIsOf c)) | false ↦ All-nil (CellIsOf c) ])
 
-  row_known : (p : ℕ × Kinds) → All (CellIsOf c) (cells_of cell.Op cell.Tag p)
+  row_known : (p : ℕ × EffectKinds) → All (CellIsOf c) (cells_of cell.Op cell.Tag p)
   row_known p =
       let x0 : List Cell = cell.Op p.0 ∷ [] in
       let x1 : List Cell = x0 ++ tag_if cell.Tag p.1.unknown 5 in
@@ -106,7 +106,7 @@ module _ (c : Things) where
       known_more x4 p.1.write 9 (omega arith) (known_more x3 p.1.read 8 (omega arith) (known_more x2 p.1.free 7 (omega arith) (known_more x1 p.1.allocate 6 (omega arith)
       (known_more x0 p.1.unknown 5 (omega arith) (All-cons (CellIsOf c) (cell.Op p.0) [] (tt {0}) (All-nil (CellIsOf c)))))))
 
-  rows_say : (rows : List Line) (ps : List (ℕ × Kinds)) → map (λ (r : Line). r.cells.items) rows ≡ map (cells_of cell.Op cell.Tag) ps → rows_meaning c rows ≡ map (cells_of Op Tag) ps
+  rows_say : (rows : List Line) (ps : List (ℕ × EffectKinds)) → map (λ (r : Line). r.cells.items) rows ≡ map (cells_of cell.Op cell.Tag) ps → rows_meaning c rows ≡ map (cells_of Op Tag) ps
   rows_say [] [] e = refl
   rows_say [] (p ∷ ps) e = absurd cc
   rows_say (r ∷ rs) [] e = absurd cc
@@ -115,7 +115,7 @@ module _ (c : Things) where
       let rest : map (λ (r : Line). r.cells.items) rs ≡ map (cells_of cell.Op cell.Tag) ps = cc in
       λ i. (ap (map (cell_meaning c)) one ∙ row_says p) i ∷ rows_say rs ps rest i
 
-  rows_known : (rows : List Line) (ps : List (ℕ × Kinds)) → map (λ (r : Line). r.cells.items) rows ≡ map (cells_of cell.Op cell.Tag) ps → All (RowIsOf c) rows
+  rows_known : (rows : List Line) (ps : List (ℕ × EffectKinds)) → map (λ (r : Line). r.cells.items) rows ≡ map (cells_of cell.Op cell.Tag) ps → All (RowIsOf c) rows
   rows_known [] ps e = All-nil (RowIsOf c)
   rows_known (r ∷ rs) [] e = absurd cc
   rows_known (r ∷ rs) (p ∷ ps) e =

@@ -10,7 +10,7 @@ use Rattle.ir_tree.specs.Ids.{ids, regions_ids, region_ids, ops_ids, HasDistinct
 use Rattle.ir_tree_laws.specs.Stands.{StepOf, StandOf, stand_id, stands, regions_stands, region_stands, ops_stands, stand_in}
 use Rattle.ir_tree_laws.proofs.Readings.{step, stands_ids, stands_find}
 use Rattle.std.proofs.lemmas.Bool.Decides.{nat_tests}
-use Rattle.effects.specs.declared.kinds.Kinds.{Kinds}
+use Rattle.effects.specs.declared.kinds.EffectKinds.{EffectKinds}
 use Rattle.op_registry.specs.declared.own.Own.{Own}
 use Rattle.effects.specs.declared.row.Row.{Row}
 use Rattle.effects.specs.Effects.{Effect, unknown, allocate, free, read, write, has}
@@ -25,9 +25,9 @@ use Rattle.effects.proofs.Laws.{listed, regions_listed, region_listed, ops_liste
 use Rattle.effects.proofs.Sorted.{look, Rising, NotIn, AllApart, by_id_rising, by_id_look}
 
 abbrev Pair : Type 0
-Pair = ℕ × Kinds
+Pair = ℕ × EffectKinds
 
-kinds_same : (a b : Kinds) → ((e : Effect) → has e a ≡ has e b) → a ≡ b
+kinds_same : (a b : EffectKinds) → ((e : Effect) → has e a ≡ has e b) → a ≡ b
 kinds_same a b h = λ i. record { unknown = h unknown i; allocate = h allocate i; free = h free i; read = h read i; write = h write i }
 
 -- ---- the ids of what is listed
@@ -72,7 +72,7 @@ lacks_not_in x (s ∷ ns) (p ∷ ps) e n =
 
 -- ---- what a table says of what is listed
 
-abbrev shown_at : Rows → ℕ → Option Kinds
+abbrev shown_at : Rows → ℕ → Option EffectKinds
 shown_at rows x = option_map (λ (r : Row). r.has) (rows x)
 
 look_in : (rows : Rows) (ps : List Pair) → AllByRecursion (λ (p : Pair). shown_at rows p.0 ≡ Some p.1) ps → (x : ℕ) → (look x ps ≡ shown_at rows x) ⊎ (NotIn x ps × (look x ps ≡ None))

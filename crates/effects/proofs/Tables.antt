@@ -1,7 +1,7 @@
 -- Tables that hold lists of operations, as these change.
 use Rattle.std.proofs.Common.{◌≡◌, ℕ, ◌+◌, List, [], ◌∷◌, Bool, true, false, Option, Some, None, ◌⊎◌, inl, inr, refl, sym, ap, ◌∙◌, subst, arith, cond, eqb, ◌&&◌}
 use Rattle.std.proofs.lemmas.Bool.{eq-eqb, ne_eqb, cases_eq}
-use Rattle.effects.specs.declared.kinds.Kinds.{Kinds}
+use Rattle.effects.specs.declared.kinds.EffectKinds.{EffectKinds}
 use Rattle.effects.specs.declared.row.Row.{Row}
 use Rattle.effects.specs.Effects.{Effect, unknown, allocate, free, read, write, has, none, is_recursive}
 use Rattle.ir_tree_laws.specs.Members.{In}
@@ -66,7 +66,7 @@ weight_change f g y (m ∷ ms) n d a same = elim a [
 
 -- ---- the end of a walk
 
-pub settle : (rows : Rows) (ns : List Spot) (p : Option ℕ) (more less : Kinds) → ((e : Effect) → has e more ≡ false) → ((e : Effect) → has e less ≡ false) → Holds rows ns p more less → Holds rows ns None none none
+pub settle : (rows : Rows) (ns : List Spot) (p : Option ℕ) (more less : EffectKinds) → ((e : Effect) → has e more ≡ false) → ((e : Effect) → has e less ≡ false) → Holds rows ns p more less → Holds rows ns None none none
 settle rows ns p more less m l h = record {
   known = h.known;
   only = h.only;
@@ -74,10 +74,10 @@ settle rows ns p more less m l h = record {
   each = h.each;
 }
 
-pub rooted : (rows : Rows) (ns : List Spot) (more less : Kinds) → Holds rows ns None more less → Holds rows ns None none none
+pub rooted : (rows : Rows) (ns : List Spot) (more less : EffectKinds) → Holds rows ns None more less → Holds rows ns None none none
 rooted rows ns more less h = record { known = h.known; only = h.only; counts = h.counts; each = h.each }
 
-pub missing : (rows : Rows) (ns : List Spot) (p : ℕ) (more less : Kinds) → rows p ≡ None → Holds rows ns (Some p) more less → Holds rows ns None none none
+pub missing : (rows : Rows) (ns : List Spot) (p : ℕ) (more less : EffectKinds) → rows p ≡ None → Holds rows ns (Some p) more less → Holds rows ns None none none
 missing rows ns p more less gone h = record {
   known = h.known;
   only = h.only;
@@ -97,7 +97,7 @@ masked : (b h i m l : Bool) → one_if i + one_if l ≡ one_if h + one_if m → 
 masked true h i m l e = e
 masked false h i m l e = refl
 
-module _ (rows : Rows) (ns : List Spot) (p : ℕ) (more less next lost : Kinds) (r s : Row) (apart : Apart ns) (h : Holds rows ns (Some p) more less) (here : rows p ≡ Some r)
+module _ (rows : Rows) (ns : List Spot) (p : ℕ) (more less next lost : EffectKinds) (r s : Row) (apart : Apart ns) (h : Holds rows ns (Some p) more less) (here : rows p ≡ Some r)
     (parent : s.parent ≡ r.parent) (recursive : s.recursive ≡ r.recursive)
     (counts : (e : Effect) → count_of e s.counts + one_if (has e less) ≡ count_of e r.counts + one_if (has e more))
     (shown : (n : Spot) → r.recursive ≡ is_recursive n.own → ((e : Effect) → has e r.has ≡ given e n.own (count_of e r.counts)) → (e : Effect) → has e s.has ≡ given e n.own (count_of e s.counts))
@@ -267,7 +267,7 @@ module _ (rows : Rows) (n m : Spot) (ns : List Spot) (r s : Row) (id : m.id ≡ 
     | inr b ↦ (k, inr b, refl, refl)
   ]
 
-  pub moved : (p : Option ℕ) (more less : Kinds)
+  pub moved : (p : Option ℕ) (more less : EffectKinds)
       → ((e : Effect) (x : ℕ) → one_if (is_in x n.parent && has e r.has) + one_if (is_in x p && has e more) ≡ one_if (is_in x m.parent && has e r.has) + one_if (is_in x p && has e less))
       → Holds (with_row n.id (Some s) rows) (m ∷ ns) p more less
   moved p more less due = record {

@@ -10,7 +10,7 @@ use Rattle.ir_tree.specs.Limits.{every}
 use Rattle.ir_tree.specs.Meaning.{Operation}
 use Rattle.op_registry.specs.declared.definition.Trait.TheVariants.{Terminator}
 use Rattle.op_registry.specs.Registry.{own_of, has_trait}
-use Rattle.effects.specs.declared.kinds.Kinds.{Kinds}
+use Rattle.effects.specs.declared.kinds.EffectKinds.{EffectKinds}
 use Rattle.effects.specs.Effects.{effects}
 
 -- whether a value is a result of operation x
@@ -27,7 +27,7 @@ abbrev pub is_kept : List ℕ → Bool
 is_kept name = has_trait Terminator name || (bytes_eq name (codes "builtin.module") || bytes_eq name (codes "func.func"))
 
 -- whether there is no effect but those that nobody would miss: an allocation and a read
-abbrev pub may_go : Kinds → Bool
+abbrev pub may_go : EffectKinds → Bool
 may_go s = not (s.unknown || (s.free || s.write))
 
 -- whether an operation of a whole tree is dead

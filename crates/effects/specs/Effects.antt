@@ -3,7 +3,7 @@ use Rattle.std.specs.Prelude.{ℕ, Bool, true, false, ◌||◌, not, if◌then�
 use Rattle.ir_types.specs.Things.{Things}
 use Rattle.ir_types.specs.Terms.{name_term}
 use Rattle.ir_tree.specs.Tree.{OpOf, op, RegionsOf, no_regions, region, RegionOf, empty, block, OpsOf, no_ops, next}
-use Rattle.effects.specs.declared.kinds.Kinds.{Kinds}
+use Rattle.effects.specs.declared.kinds.EffectKinds.{EffectKinds}
 use Rattle.op_registry.specs.declared.own.Own.{Own}
 use Rattle.op_registry.specs.declared.own.Own.TheVariants.{Pure, Only, Recursive, Unknown}
 use Rattle.op_registry.specs.Registry.{own_of}
@@ -17,7 +17,7 @@ pub data Effect : Type 0 where
   write : Effect
 
 -- whether a set has it
-abbrev pub has : Effect → Kinds → Bool
+abbrev pub has : Effect → EffectKinds → Bool
 has unknown s = s.unknown
 has allocate s = s.allocate
 has free s = s.free
@@ -25,19 +25,19 @@ has read s = s.read
 has write s = s.write
 
 -- the empty set
-abbrev pub none : Kinds
+abbrev pub none : EffectKinds
 none = record { unknown = false; allocate = false; free = false; read = false; write = false }
 
 -- whether a set is empty
-abbrev pub is_none : Kinds → Bool
+abbrev pub is_none : EffectKinds → Bool
 is_none a = not (a.unknown || (a.allocate || (a.free || (a.read || a.write))))
 
 -- what is in one of two sets
-abbrev pub union : Kinds → Kinds → Kinds
+abbrev pub union : EffectKinds → EffectKinds → EffectKinds
 union a b = record { unknown = a.unknown || b.unknown; allocate = a.allocate || b.allocate; free = a.free || b.free; read = a.read || b.read; write = a.write || b.write }
 
 -- what an operation has by itself, as a set; where that is what others have it is empty
-abbrev pub own_kinds : Own → Kinds
+abbrev pub own_kinds : Own → EffectKinds
 own_kinds Pure = none
 own_kinds (Only s) = record { unknown = false; allocate = s.allocate; free = s.free; read = s.read; write = s.write }
 own_kinds Recursive = none
@@ -51,7 +51,7 @@ is_recursive Recursive = true
 is_recursive Unknown = false
 
 -- what an operation has, where this is what the operations directly inside have
-abbrev pub effects_by : Own → Kinds → Kinds
+abbrev pub effects_by : Own → EffectKinds → EffectKinds
 effects_by own inner = if is_recursive own then inner else own_kinds own
 
 -- what an operation has by itself, by the number of its name in a context
@@ -60,17 +60,17 @@ own_by c n = own_of (name_term c n)
 
 -- the effects of an operation: its own, or those of the operations directly inside
 abbrev mutual
-  pub effects : {N T A : Type 0} → (N → Own) → OpOf N T A → Kinds
+  pub effects : {N T A : Type 0} → (N → Own) → OpOf N T A → EffectKinds
   effects own (op h rs) = effects_by (own h.name) (regions_effects own rs)
 
-  pub regions_effects : {N T A : Type 0} → (N → Own) → RegionsOf N T A → Kinds
+  pub regions_effects : {N T A : Type 0} → (N → Own) → RegionsOf N T A → EffectKinds
   regions_effects own no_regions = none
   regions_effects own (region r rs) = union (region_effects own r) (regions_effects own rs)
 
-  pub region_effects : {N T A : Type 0} → (N → Own) → RegionOf N T A → Kinds
+  pub region_effects : {N T A : Type 0} → (N → Own) → RegionOf N T A → EffectKinds
   region_effects own empty = none
   region_effects own (block args os) = ops_effects own os
 
-  pub ops_effects : {N T A : Type 0} → (N → Own) → OpsOf N T A → Kinds
+  pub ops_effects : {N T A : Type 0} → (N → Own) → OpsOf N T A → EffectKinds
   ops_effects own no_ops = none
   ops_effects own (next o os) = union (effects own o) (ops_effects own os)

@@ -5,7 +5,7 @@ use Rattle.ir_tree.specs.Meaning.{Operation}
 use Rattle.ir_tree_laws.specs.Stands.{stand_id, stands}
 use Rattle.ir_event.specs.Rows.{RowTerm, Op, Tag}
 use Rattle.op_registry.specs.Registry.{own_of}
-use Rattle.effects.specs.declared.kinds.Kinds.{Kinds}
+use Rattle.effects.specs.declared.kinds.EffectKinds.{EffectKinds}
 use Rattle.effects.specs.Effects.{effects, is_none}
 use Rattle.effects.specs.Dead.{is_dead}
 
@@ -23,12 +23,12 @@ by_id [] = []
 by_id (p ∷ ps) = put_by_id p (by_id ps)
 
 -- those that have an effect
-abbrev pub having : List (ℕ × Kinds) → List (ℕ × Kinds)
+abbrev pub having : List (ℕ × EffectKinds) → List (ℕ × EffectKinds)
 having [] = []
 having (p ∷ ps) = if is_none p.1 then having ps else p ∷ having ps
 
 -- each operation of a tree that has effects, with what it has, by id
-abbrev pub effects_of : Operation → List (ℕ × Kinds)
+abbrev pub effects_of : Operation → List (ℕ × EffectKinds)
 effects_of t = having (by_id (of_each (effects own_of) t))
 
 -- those of which something is true
@@ -45,7 +45,7 @@ abbrev pub tag_if : {C : Type 0} → (ℕ → C) → Bool → ℕ → List C
 tag_if tag b n = if b then tag n ∷ [] else []
 
 -- the row of an operation with effects: the operation, and the words unknown, allocate, free, read, write
-abbrev pub cells_of : {C : Type 0} → (ℕ → C) → (ℕ → C) → ℕ × Kinds → List C
+abbrev pub cells_of : {C : Type 0} → (ℕ → C) → (ℕ → C) → ℕ × EffectKinds → List C
 cells_of op tag p = ((((op p.0 ∷ [] ++ tag_if tag p.1.unknown 5) ++ tag_if tag p.1.allocate 6) ++ tag_if tag p.1.free 7) ++ tag_if tag p.1.read 8) ++ tag_if tag p.1.write 9
 
 -- the row of an operation alone

@@ -2,7 +2,7 @@
 use Rattle.std.specs.Prelude.{◌≡◌, ℕ, ◌+◌, List, [], ◌∷◌, ◌++◌, eqb, nat_lt, Bool, false, ◌&&◌, if◌then◌else◌, Option, Some, None}
 use Rattle.ir_tree_laws.specs.Members.{In}
 use Rattle.ir_tree.specs.Tree.{OpOf, op, RegionsOf, no_regions, region, RegionOf, empty, block, OpsOf, no_ops, next}
-use Rattle.effects.specs.declared.kinds.Kinds.{Kinds}
+use Rattle.effects.specs.declared.kinds.EffectKinds.{EffectKinds}
 use Rattle.op_registry.specs.declared.own.Own.{Own}
 use Rattle.effects.specs.declared.row.Counts.{Counts}
 use Rattle.effects.specs.declared.row.Row.{Row}
@@ -106,7 +106,7 @@ pub record Keeps (rows : Rows) (n : Spot) : Type 0 where
 
 -- a table keeps a list of operations and no others; each has its effects by its count; and each count is right, but
 -- for that of p, which lacks one for each of `more` and has one too many for each of `less`
-pub record Holds (rows : Rows) (ns : List Spot) (p : Option ℕ) (more less : Kinds) : Type 0 where
+pub record Holds (rows : Rows) (ns : List Spot) (p : Option ℕ) (more less : EffectKinds) : Type 0 where
   pub known : (n : Spot) → In n ns → Keeps rows n
   pub only : (x : ℕ) → Lacks x ns → rows x ≡ None
   pub counts : (e : Effect) (n : Spot) → In n ns →

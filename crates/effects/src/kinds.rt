@@ -7,7 +7,7 @@ use op_registry::own::Own;
 
 /// Which effects an operation has (Rationale, "Side Effects & Speculation").
 #[derive(Clone, Copy)]
-pub struct Kinds {
+pub struct EffectKinds {
     pub unknown: bool,
     pub allocate: bool,
     pub free: bool,
@@ -22,12 +22,12 @@ pub(crate) fn recursive(own: &Own) -> bool
     matches!(own, Own::Recursive)
 }
 
-impl Kinds {
+impl EffectKinds {
     /// The empty set.
-    pub fn none() -> Kinds
+    pub fn none() -> EffectKinds
         ensures { result ≡ none }
     {
-        Kinds {
+        EffectKinds {
             unknown: false,
             allocate: false,
             free: false,
@@ -37,19 +37,19 @@ impl Kinds {
     }
 
     /// What an operation has by itself.
-    pub fn of(own: &Own) -> Kinds
+    pub fn of(own: &Own) -> EffectKinds
         ensures { result ≡ own_kinds own.now }
     {
         match own {
-            Own::Pure | Own::Recursive => Kinds::none(),
-            Own::Only(set) => Kinds {
+            Own::Pure | Own::Recursive => EffectKinds::none(),
+            Own::Only(set) => EffectKinds {
                 unknown: false,
                 allocate: set.allocate,
                 free: set.free,
                 read: set.read,
                 write: set.write,
             },
-            Own::Unknown => Kinds {
+            Own::Unknown => EffectKinds {
                 unknown: true,
                 allocate: false,
                 free: false,
@@ -67,10 +67,10 @@ impl Kinds {
     }
 
     /// What is in it and not in another.
-    pub fn minus(&self, other: &Kinds) -> Kinds
+    pub fn minus(&self, other: &EffectKinds) -> EffectKinds
         ensures { result ≡ minus self.now other.now }
     {
-        Kinds {
+        EffectKinds {
             unknown: self.unknown && !other.unknown,
             allocate: self.allocate && !other.allocate,
             free: self.free && !other.free,

@@ -4,7 +4,7 @@ ghost use Rattle.effects.specs.Spots.{one_if};
 ghost use Rattle.effects.specs.Walks.{lowered, lost_row, raised, gained_row, present, both, new_row};
 ghost use Rattle.effects.specs.Effects.{union};
 
-use crate::kinds::{Kinds, recursive};
+use crate::kinds::{EffectKinds, recursive};
 use ir_types::ids::OpId;
 use op_registry::own::Own;
 
@@ -24,7 +24,7 @@ pub struct Counts {
 pub struct Row {
     pub parent: Option<OpId>,
     pub recursive: bool,
-    pub has: Kinds,
+    pub has: EffectKinds,
     pub counts: Counts,
 }
 
@@ -48,7 +48,7 @@ fn raise(count: u32, more: bool) -> Option<u32>
 
 impl Counts {
     /// One less of each of these effects.
-    fn lowered(&self, less: &Kinds) -> Counts
+    fn lowered(&self, less: &EffectKinds) -> Counts
         ensures { result ≡ lowered self.now less.now }
     {
         Counts {
@@ -61,7 +61,7 @@ impl Counts {
     }
 
     /// One more of each of these effects, unless a count would pass its type.
-    fn raised(&self, more: &Kinds) -> Option<Counts>
+    fn raised(&self, more: &EffectKinds) -> Option<Counts>
         ensures { IfSome result (λ c. c ≡ raised self.now more.now) }
     {
         let unknown = raise(self.unknown, more.unknown)?;
@@ -79,10 +79,10 @@ impl Counts {
     }
 
     /// The effects that are counted.
-    fn present(&self) -> Kinds
+    fn present(&self) -> EffectKinds
         ensures { result ≡ present self.now }
     {
-        Kinds {
+        EffectKinds {
             unknown: self.unknown > 0,
             allocate: self.allocate > 0,
             free: self.free > 0,
@@ -93,10 +93,10 @@ impl Counts {
 }
 
 /// What is in both of two sets.
-fn both(a: &Kinds, b: &Kinds) -> Kinds
+fn both(a: &EffectKinds, b: &EffectKinds) -> EffectKinds
     ensures { result ≡ both a.now b.now }
 {
-    Kinds {
+    EffectKinds {
         unknown: a.unknown && b.unknown,
         allocate: a.allocate && b.allocate,
         free: a.free && b.free,
@@ -106,10 +106,10 @@ fn both(a: &Kinds, b: &Kinds) -> Kinds
 }
 
 /// What is in one of two sets.
-fn union_of(a: &Kinds, b: &Kinds) -> Kinds
+fn union_of(a: &EffectKinds, b: &EffectKinds) -> EffectKinds
     ensures { result ≡ union a.now b.now }
 {
-    Kinds {
+    EffectKinds {
         unknown: a.unknown || b.unknown,
         allocate: a.allocate || b.allocate,
         free: a.free || b.free,
@@ -133,7 +133,7 @@ impl Row {
         Row {
             parent,
             recursive: recursive(own),
-            has: Kinds::of(own),
+            has: EffectKinds::of(own),
             counts,
         }
     }
@@ -151,7 +151,7 @@ impl Row {
     }
 
     /// The row where one operation less directly inside has each of these effects.
-    pub fn without(&self, less: &Kinds) -> Row
+    pub fn without(&self, less: &EffectKinds) -> Row
         ensures { result ≡ lost_row self.now less.now }
     {
         let counts = self.counts.lowered(less);
@@ -169,7 +169,7 @@ impl Row {
     }
 
     /// The row where one operation more directly inside has each of these effects.
-    pub fn with(&self, more: &Kinds) -> Option<Row>
+    pub fn with(&self, more: &EffectKinds) -> Option<Row>
         ensures { IfSome result (λ r. r ≡ gained_row self.now more.now) }
     {
         let counts = self.counts.raised(more)?;

@@ -7,23 +7,7 @@ use Rattle.std.proofs.lemmas.Map.Keys.{IsDistinct-head, IsDistinct-tail}
 use Rattle.ir_tree.specs.Tree.{HeadOf, OpOf, op, RegionsOf, no_regions, region, RegionOf, empty, block, OpsOf, no_ops, next, head}
 use Rattle.ir_tree.specs.Ids.{ids, regions_ids, region_ids, ops_ids, first_of, find, regions_find, region_find, ops_find}
 use Rattle.ir_tree.specs.Edits.{each_head, regions_each_head, region_each_head, ops_each_head}
-
--- the heads in pre-order
-abbrev mutual
-  pub heads_in : {N T A : Type 0} → OpOf N T A → List (HeadOf N T A)
-  heads_in (op h rs) = h ∷ regions_heads rs
-
-  pub regions_heads : {N T A : Type 0} → RegionsOf N T A → List (HeadOf N T A)
-  regions_heads no_regions = []
-  regions_heads (region r rs) = region_heads r ++ regions_heads rs
-
-  pub region_heads : {N T A : Type 0} → RegionOf N T A → List (HeadOf N T A)
-  region_heads empty = []
-  region_heads (block args os) = ops_heads os
-
-  pub ops_heads : {N T A : Type 0} → OpsOf N T A → List (HeadOf N T A)
-  ops_heads no_ops = []
-  ops_heads (next o os) = heads_in o ++ ops_heads os
+use Rattle.ir_event.specs.Heads.{heads, regions_heads, region_heads, ops_heads}
 
 -- the first head with id x
 abbrev pub first_head : {N T A : Type 0} → ℕ → List (HeadOf N T A) → Option (HeadOf N T A)
@@ -35,7 +19,7 @@ module _ {N T A : Type 0} where
   id_of h = h.id
 
   mutual
-    pub heads_ids : (t : OpOf N T A) → map (λ (h : HeadOf N T A). h.id) (heads_in t) ≡ ids t
+    pub heads_ids : (t : OpOf N T A) → map (λ (h : HeadOf N T A). h.id) (heads t) ≡ ids t
     heads_ids (op h rs) = ap (λ l. h.id ∷ l) (regions_heads_ids rs)
 
     regions_heads_ids : (rs : RegionsOf N T A) → map (λ (h : HeadOf N T A). h.id) (regions_heads rs) ≡ regions_ids rs
@@ -48,12 +32,12 @@ module _ {N T A : Type 0} where
 
     ops_heads_ids : (os : OpsOf N T A) → map (λ (h : HeadOf N T A). h.id) (ops_heads os) ≡ ops_ids os
     ops_heads_ids no_ops = refl
-    ops_heads_ids (next o os) = map-append id_of (heads_in o) (ops_heads os) ∙ λ i. heads_ids o i ++ ops_heads_ids os i
+    ops_heads_ids (next o os) = map-append id_of (heads o) (ops_heads os) ∙ λ i. heads_ids o i ++ ops_heads_ids os i
 
   -- an edit of each head
   module _ (f : HeadOf N T A → HeadOf N T A) where
     mutual
-      pub heads_each : (t : OpOf N T A) → heads_in (each_head f t) ≡ map f (heads_in t)
+      pub heads_each : (t : OpOf N T A) → heads (each_head f t) ≡ map f (heads t)
       heads_each (op h rs) = ap (λ l. f h ∷ l) (regions_heads_each rs)
 
       regions_heads_each : (rs : RegionsOf N T A) → regions_heads (regions_each_head f rs) ≡ map f (regions_heads rs)
@@ -66,7 +50,7 @@ module _ {N T A : Type 0} where
 
       ops_heads_each : (os : OpsOf N T A) → ops_heads (ops_each_head f os) ≡ map f (ops_heads os)
       ops_heads_each no_ops = refl
-      ops_heads_each (next o os) = (λ i. heads_each o i ++ ops_heads_each os i) ∙ sym (map-append f (heads_in o) (ops_heads os))
+      ops_heads_each (next o os) = (λ i. heads_each o i ++ ops_heads_each os i) ∙ sym (map-append f (heads o) (ops_heads os))
 
   -- the first of two lists
   first_joined : (x : ℕ) (hs gs : List (HeadOf N T A)) → first_head x (hs ++ gs) ≡ first_of (first_head x hs) (first_head x gs)
@@ -84,7 +68,7 @@ module _ {N T A : Type 0} where
 
   mutual
     -- the operation that is found has the first head
-    pub found_head : (x : ℕ) (t : OpOf N T A) → option_map head_of (find x t) ≡ first_head x (heads_in t)
+    pub found_head : (x : ℕ) (t : OpOf N T A) → option_map head_of (find x t) ≡ first_head x (heads t)
     found_head x (op h rs) =
         elim (eqb h.id x) as (λ b. option_map head_of (cond b (Some (op h rs)) (regions_find x rs)) ≡ cond b (Some h) (first_head x (regions_heads rs))) [ true ↦ refl | false ↦ regions_found_head x rs ]
 
@@ -99,7 +83,7 @@ module _ {N T A : Type 0} where
 
     ops_found_head : (x : ℕ) (os : OpsOf N T A) → option_map head_of (ops_find x os) ≡ first_head x (ops_heads os)
     ops_found_head x no_ops = refl
-    ops_found_head x (next o os) = mapped_first (find x o) (ops_find x os) ∙ (λ i. first_of (found_head x o i) (ops_found_head x os i)) ∙ sym (first_joined x (heads_in o) (ops_heads os))
+    ops_found_head x (next o os) = mapped_first (find x o) (ops_find x os) ∙ (λ i. first_of (found_head x o i) (ops_found_head x os i)) ∙ sym (first_joined x (heads o) (ops_heads os))
 
   -- two edits, one after the other
   module _ (f g : HeadOf N T A → HeadOf N T A) where
@@ -134,7 +118,7 @@ module _ {N T A : Type 0} where
     IsLeft h = f h ≡ h
 
     mutual
-      pub each_left : (t : OpOf N T A) → AllByRecursion IsLeft (heads_in t) → each_head f t ≡ t
+      pub each_left : (t : OpOf N T A) → AllByRecursion IsLeft (heads t) → each_head f t ≡ t
       each_left (op h rs) a = λ i. op (a.0 i) (regions_each_left rs a.1 i)
 
       regions_each_left : (rs : RegionsOf N T A) → AllByRecursion IsLeft (regions_heads rs) → regions_each_head f rs ≡ rs
@@ -147,7 +131,7 @@ module _ {N T A : Type 0} where
 
       ops_each_left : (os : OpsOf N T A) → AllByRecursion IsLeft (ops_heads os) → ops_each_head f os ≡ os
       ops_each_left no_ops a = refl
-      ops_each_left (next o os) a = λ i. next (each_left o (all_front IsLeft (heads_in o) (ops_heads os) a) i) (ops_each_left os (all_back IsLeft (heads_in o) (ops_heads os) a) i)
+      ops_each_left (next o os) a = λ i. next (each_left o (all_front IsLeft (heads o) (ops_heads os) a) i) (ops_each_left os (all_back IsLeft (heads o) (ops_heads os) a) i)
 
   -- what is true of the operation that is found, where no two ids are equal, is true of each with its id
   none_else : (P : HeadOf N T A → Type 0) (x y : ℕ) → eqb y x ≡ true → (hs : List (HeadOf N T A)) → AllByRecursion (λ z. eqb y z ≡ false) (map (λ (h : HeadOf N T A). h.id) hs) → AllByRecursion (λ h. eqb h.id x ≡ true → P h) hs

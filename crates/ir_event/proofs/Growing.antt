@@ -1,5 +1,5 @@
 -- Worlds whose context grows, and what is held.
-use Rattle.std.proofs.Common.{◌≡◌, refl, ap, sym, ◌∙◌, subst, ℕ, Option, Some, None}
+use Rattle.std.proofs.Common.{◌≡◌, ap, sym, ◌∙◌, subst, ℕ, Some, None}
 use Rattle.std.specs.Prelude.{Result, Ok, Err, OnOk, OnErr}
 use Rattle.std.specs.Ordering.{nat_cmp}
 use Rattle.std.specs.FinMap as finmap
@@ -9,7 +9,7 @@ use Rattle.ir_types.specs.Sound.{Holds}
 use Rattle.ir_types.specs.Words.{is_isolated}
 use Rattle.ir_tree.specs.declared.value.Value.{Value}
 use Rattle.ir_tree.specs.Tree.{Op}
-use Rattle.ir_tree.specs.Meaning.{IsSoundIn, isolated_in, meaning}
+use Rattle.ir_tree.specs.Meaning.{IsSoundIn, isolated_in}
 use Rattle.ir_tree.specs.WellFormed.{IsWellFormed, Module as Numbered}
 use Rattle.ir_tree.proofs.Meanings.{stable, stays_sound}
 use Rattle.ir_store.specs.Stored.{Stored}

@@ -1,15 +1,15 @@
 -- What nodes have, and what it stands for.
-use Rattle.std.proofs.Common.{◌≡◌, refl, ap, sym, ◌∙◌, subst, ℕ, zero, suc, ◌<◌, Bool, true, ◌&&◌, List, [], ◌∷◌, length, map, Option, Some, None}
+use Rattle.std.proofs.Common.{◌≡◌, refl, ap, ◌∙◌, subst, ℕ, zero, suc, Bool, true, List, [], ◌∷◌, length, map, Option, Some, None}
 use Rattle.std.specs.Prelude.{All, option_map, slice_get}
 use Rattle.std.specs.List.{list_all}
 use Rattle.std.proofs.lemmas.Bool.{ltb-true}
 use Rattle.std.proofs.lemmas.List.Elements.{All-cons, All-nil}
 use Rattle.std.specs.FinMap as finmap
 use Rattle.ir_types.specs.Things.{Things, IsName, IsType, IsAttr}
-use Rattle.ir_types.specs.Terms.{TypeTerm, AttrTerm, name_term, type_term, attr_term}
-use Rattle.ir_tree.specs.Tree.{Head, Op, op, head, Regions, no_regions, region, empty, block}
+use Rattle.ir_types.specs.Terms.{name_term, type_term, attr_term}
+use Rattle.ir_tree.specs.Tree.{Op, op, Regions, no_regions, region, empty, block}
 use Rattle.ir_tree.specs.Ids.{find, first_of}
-use Rattle.ir_tree.specs.Limits.{all_arguments_pass, every, regions_every}
+use Rattle.ir_tree.specs.Limits.{all_arguments_pass, regions_every}
 use Rattle.ir_tree.specs.Maps.{map_regions}
 use Rattle.ir_tree.specs.Meaning.{IsSoundIn, is_attr, is_name, is_type, meaning}
 use Rattle.ir_tree.specs.Passing.{entry_passes, head_passes, op_passes}

@@ -8,7 +8,8 @@ use Rattle.ir_tree.specs.Ids.{HasDistinctIds, find}
 use Rattle.ir_tree.specs.Edits.{each_head, at, put_operand, with_operand}
 use Rattle.ir_tree.proofs.Heads.{alike_operand, head_find}
 use Rattle.ir_tree_laws.specs.Changes.{operand_at}
-use Rattle.ir_event.proofs.Flat.{heads_in, first_head, heads_ids, found_head, each_twice, each_left, the_only}
+use Rattle.ir_event.specs.Heads.{heads}
+use Rattle.ir_event.proofs.Flat.{first_head, heads_ids, found_head, each_twice, each_left, the_only}
 
 -- an item that is set back
 pub set_back : {X : Type 0} (xs : List X) (k : ℕ) (old new : X) → slice_get xs k ≡ Some old → slice_set (slice_set xs k new) k old ≡ xs
@@ -59,10 +60,10 @@ module _ {N T A : Type 0} (x k : ℕ) (old new : Value) where
   pub undone : (t : OpOf N T A) → HasDistinctIds t → operand_at x k t ≡ Some old → with_operand x k old (with_operand x k new t) ≡ t
   undone t d e =
       let o = holder t e in
-      let first : first_head x (heads_in t) ≡ Some (head o.here) = sym (found_head x t) ∙ ap (option_map (λ p. head p)) o.found in
-      let apart : IsDistinct eqb (map (λ (h : HeadOf N T A). h.id) (heads_in t)) = subst (IsDistinct eqb) (sym (heads_ids t)) d in
+      let first : first_head x (heads t) ≡ Some (head o.here) = sym (found_head x t) ∙ ap (option_map (λ p. head p)) o.found in
+      let apart : IsDistinct eqb (map (λ (h : HeadOf N T A). h.id) (heads t)) = subst (IsDistinct eqb) (sym (heads_ids t)) d in
       each_twice (at x (put_operand k new)) (at x (put_operand k old)) t
-      ∙ each_left back_and_forth t (all_stay (heads_in t) (the_only (λ h. slice_get h.operands k ≡ Some old) x (head o.here) (heads_in t) apart first o.has))
+      ∙ each_left back_and_forth t (all_stay (heads t) (the_only (λ h. slice_get h.operands k ≡ Some old) x (head o.here) (heads t) apart first o.has))
 
   id_of_first : (g : HeadOf N T A) (hs : List (HeadOf N T A)) → first_head x hs ≡ Some g → eqb g.id x ≡ true
   id_of_first g [] e = absurd cc
@@ -82,8 +83,8 @@ module _ {N T A : Type 0} (x k : ℕ) (old new : Value) where
   pub set_there : (t : OpOf N T A) → operand_at x k t ≡ Some old → operand_at x k (with_operand x k new t) ≡ Some new
   set_there t e =
       let o = holder t e in
-      let first : first_head x (heads_in t) ≡ Some (head o.here) = sym (found_head x t) ∙ ap (option_map (λ p. head p)) o.found in
-      let is : eqb (head o.here).id x ≡ true = id_of_first (head o.here) (heads_in t) first in
+      let first : first_head x (heads t) ≡ Some (head o.here) = sym (found_head x t) ∙ ap (option_map (λ p. head p)) o.found in
+      let is : eqb (head o.here).id x ≡ true = id_of_first (head o.here) (heads t) first in
       let f : HeadOf N T A → HeadOf N T A = at x (put_operand k new) in
       ap (option_and_then (λ p. slice_get (head p).operands k)) (head_find f (alike_operand x k new) x t ∙ ap (option_map (each_head f)) o.found)
       ∙ ap (λ (h : HeadOf N T A). slice_get h.operands k) (head_each f o.here)

@@ -1,5 +1,5 @@
 -- A world into which an operation is put.
-use Rattle.std.proofs.Common.{◌≡◌, sym, subst, ℕ, ◌+◌, true, None}
+use Rattle.std.proofs.Common.{◌≡◌, sym, subst, true, None}
 use Rattle.std.specs.Prelude.{Result, Ok, Err, IfOk, OnErr, MatchResult}
 use Rattle.ir_types.specs.declared.refusal.Refusal.{Refusal}
 use Rattle.ir_types.specs.Reasons.{IsRefusedFor}
@@ -7,8 +7,7 @@ use Rattle.ir_types.specs.Things.{Things}
 use Rattle.ir_tree.specs.declared.place.Place.{Place}
 use Rattle.ir_tree.specs.Tree.{Op, regions}
 use Rattle.ir_tree.specs.Meaning.{IsSoundIn, isolated_in}
-use Rattle.ir_tree.specs.Places.{put}
-use Rattle.ir_tree.specs.WellFormed.{IsWellFormed, Module as Numbered}
+use Rattle.ir_tree.specs.WellFormed.{IsWellFormed}
 use Rattle.ir_tree.proofs.SoundEdits.{put_sound}
 use Rattle.ir_tree_laws.specs.Reasons.{hold_none, put_reason, with_id}
 use Rattle.ir_store.specs.Stored.{Stored}

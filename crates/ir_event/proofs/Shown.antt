@@ -1,11 +1,10 @@
 -- Operations that a store knows, and what they have.
-use Rattle.std.proofs.Common.{◌≡◌, refl, ap, sym, ◌∙◌, ℕ, Bool, true, false, true≢false, cond, ◌||◌, ⊎_elim, eqb, List, [], ◌∷◌, map, Option, Some, None}
-use Rattle.std.proofs.lemmas.Bool.{cases_Bool}
+use Rattle.std.proofs.Common.{◌≡◌, refl, ap, sym, ◌∙◌, ℕ, Bool, true, false, true≢false, cond, ◌||◌, eqb, List, [], ◌∷◌, Option, Some, None}
 use Rattle.std.specs.Prelude.{option_map}
 use Rattle.std.specs.List.{list_any}
 use Rattle.std.specs.FinMap as finmap
 use Rattle.ir_tree.specs.Tree.{Op, OpOf}
-use Rattle.ir_tree.specs.Ids.{ids, has_id, find, first_of}
+use Rattle.ir_tree.specs.Ids.{has_id, find, first_of}
 use Rattle.ir_tree_laws.specs.Stands.{StandOf, stand_id, stand_in, stands}
 use Rattle.ir_tree_laws.proofs.Around.{any_ids}
 use Rattle.ir_tree_laws.proofs.Readings.{stands_find, stands_ids}

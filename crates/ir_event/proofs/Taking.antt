@@ -1,7 +1,7 @@
 -- A world from which an operation is taken.
-use Rattle.std.proofs.Common.{◌≡◌, refl, ap, sym, ◌∙◌, subst, ℕ, Bool, true, false, true≢false, cond, eqb, ⊎_elim, Option, Some, None}
+use Rattle.std.proofs.Common.{◌≡◌, refl, ap, sym, ◌∙◌, subst, ℕ, true, false, true≢false, eqb, ⊎_elim, Option, Some, None}
 use Rattle.std.proofs.lemmas.Bool.{cases_eq, eq-eqb, ne_eqb, cond-true, cond-false}
-use Rattle.std.specs.Prelude.{Result, Ok, Err, OnOk, OnErr, MatchResult, option_map}
+use Rattle.std.specs.Prelude.{Result, Ok, Err, MatchResult, option_map}
 use Rattle.std.specs.Ordering.{nat_cmp}
 use Rattle.std.specs.FinMap as finmap
 use Rattle.std.specs.Cmp.{nat_cmp_total}
@@ -9,24 +9,24 @@ use Rattle.ir_types.specs.declared.refusal.Refusal.{Refusal}
 use Rattle.ir_types.specs.Things.{Things}
 use Rattle.ir_types.specs.Terms.{name_term, type_term, attr_term}
 use Rattle.ir_tree.specs.declared.place.Place.{Place}
-use Rattle.ir_tree.specs.Tree.{Op, OpOf, head}
+use Rattle.ir_tree.specs.Tree.{Op, head}
 use Rattle.ir_tree.specs.Ids.{find, first_of, has_id}
-use Rattle.ir_tree.specs.Places.{place_of, without}
+use Rattle.ir_tree.specs.Places.{place_of}
 use Rattle.ir_tree.specs.Meaning.{IsSoundIn, isolated_in, meaning}
-use Rattle.ir_tree.specs.WellFormed.{IsWellFormed, Module as Numbered}
+use Rattle.ir_tree.specs.WellFormed.{IsWellFormed}
 use Rattle.ir_tree.proofs.Mapped.{map_find}
 use Rattle.ir_tree.proofs.SoundEdits.{without_sound}
 use Rattle.ir_tree_laws.specs.Reasons.{take_reason}
 use Rattle.ir_tree_laws.specs.Changes.{Takes}
 use Rattle.ir_tree_laws.proofs.Changed.{take_changes}
-use Rattle.ir_tree_laws.proofs.Reasoned.{NoTakeReason, no_take_reason}
+use Rattle.ir_tree_laws.proofs.Reasoned.{no_take_reason}
 use Rattle.ir_tree_laws.proofs.WellKept.{take_keeps}
 use Rattle.ir_store.specs.Nodes.{node_of}
 use Rattle.ir_store.specs.Stored.{Stored, known}
 use Rattle.ir_store.specs.Calls.{after_take, hold}
 use Rattle.ir_event.specs.declared.event.Event.TheVariants.{Take}
 use Rattle.ir_event.specs.Facts.{HeldIsSound}
-use Rattle.ir_event.specs.Modules.{Node, module_meaning}
+use Rattle.ir_event.specs.Modules.{module_meaning}
 use Rattle.ir_event.specs.Step.{Step}
 use Rattle.ir_event.proofs.Shown.{none_found}
 use Rattle.ir_event.proofs.Sounds.{found_sound}

@@ -2,7 +2,6 @@
 use Rattle.std.proofs.Common.{◌≡◌, refl, ap, sym, ◌∙◌, subst, ℕ, ◌+◌, Bool, true, false, true≢false, cond, eqb, not, ◌&&◌, ◌||◌, ⊎_elim, length, List, [], ◌∷◌, Option, Some, None}
 use Rattle.std.specs.Prelude.{option_map, is_some, IfSome}
 use Rattle.std.specs.List.{AllByRecursion, list_all}
-use Rattle.std.specs.Ordering.{nat_cmp}
 use Rattle.std.specs.Cmp.{nat_cmp_total}
 use Rattle.std.specs.FinMap as finmap
 use Rattle.std.proofs.lemmas.Bool.{lt-ltb, cases_eq, cases_Bool, eq-eqb, ne_eqb, cond-true, cond-false}
@@ -12,25 +11,24 @@ use Rattle.ir_types.specs.Sound.{IsSound}
 use Rattle.ir_types.specs.Terms.{name_term, type_term, attr_term}
 use Rattle.ir_types.specs.Words.{is_isolated}
 use Rattle.ir_types.proofs.Terms.{name_term_one}
-use Rattle.ir_tree.specs.declared.value.Value.{Value}
 use Rattle.ir_tree.specs.declared.place.Place.{Place}
 use Rattle.ir_tree.specs.declared.place.Part.{Part}
 use Rattle.ir_tree.specs.declared.place.Part.TheVariants.{Props, Attrs}
 use Rattle.ir_tree.specs.Tree.{Op, op, head}
 use Rattle.ir_tree.specs.Ids.{find, first_of, has_id}
-use Rattle.ir_tree.specs.Edits.{entry_at, part_of, same_key, with_entry}
-use Rattle.ir_tree.specs.Places.{put, without}
+use Rattle.ir_tree.specs.Edits.{entry_at, part_of, same_key}
+use Rattle.ir_tree.specs.Places.{without}
 use Rattle.ir_tree.specs.Meaning.{IsSoundIn, is_attr, isolated_in, key_before, key_before_in, meaning}
-use Rattle.ir_tree.specs.WellFormed.{IsWellFormed, Module as Numbered}
+use Rattle.ir_tree.specs.WellFormed.{IsWellFormed}
 use Rattle.ir_tree.proofs.SoundEdits.{operand_sound, entry_sound, put_sound, without_sound}
 use Rattle.ir_tree_laws.specs.Values.{has_value}
 use Rattle.ir_tree_laws.specs.Restores.{MayRestore, MayRetract}
 use Rattle.ir_tree_laws.proofs.Around.{absent_find}
 use Rattle.ir_tree_laws.proofs.Contents.{map_entry_in}
 use Rattle.ir_tree_laws.proofs.Keys.{keys_ordered}
-use Rattle.ir_store_contents.specs.Slots.{has_key}
+use Rattle.ir_store.specs.Slots.{has_key}
 use Rattle.ir_store.specs.Nodes.{node_of}
-use Rattle.ir_store.specs.Stored.{Stored, known, has_entry, has_slot, is_some_with}
+use Rattle.ir_store.specs.Stored.{Stored, known, has_slot, is_some_with}
 use Rattle.ir_store.specs.Calls.{lowered, raised, put_held, CanRestore, CanRetract, CanRevert}
 use Rattle.ir_event.specs.declared.event.Event.{Event}
 use Rattle.ir_event.specs.declared.event.Event.TheVariants.{Put, Take, SetOperand, SetEntry, Shift}
@@ -44,7 +42,7 @@ use Rattle.ir_event.proofs.Steps.{formed_numbers}
 use Rattle.ir_event.proofs.Maps.{eq_nat}
 use Rattle.ir_event.proofs.Taking.{hold_sound, still_shown}
 use Rattle.ir_event.proofs.Undone.{put_undone, take_undone, operand_undone, entry_undone, shift_undone, relink_undone}
-use Rattle.ir_event.specs.Undoing.{CameFrom, Keeps, MayUndo, undone}
+use Rattle.ir_event.specs.Undoing.{CameFrom, MayUndo, undone}
 
 -- a key that a dictionary of the context has an attribute at is one of its keys
 no_test : (a b : Bool) → (not a && not b) ≡ true → (a ≡ false) × (b ≡ false)

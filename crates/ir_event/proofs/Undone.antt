@@ -1,7 +1,5 @@
 -- Undoing an event in a module of numbers leads back to what stood there before.
-use Rattle.std.proofs.Common.{◌≡◌, refl, sym, ◌∙◌, subst, ℕ, ◌+◌, ◌<◌, Bool, true, false, cond, eqb, Option, Some, None, arith}
-use Rattle.std.specs.Prelude.{All}
-use Rattle.std.specs.List.{IsDistinct}
+use Rattle.std.proofs.Common.{◌≡◌, refl, sym, ◌∙◌, subst, ℕ, ◌+◌, Bool, true, false, cond, Option, Some, None}
 use Rattle.ir_types.specs.Things.{Things}
 use Rattle.ir_types.specs.Terms.{name_term, type_term, attr_term}
 use Rattle.ir_types.specs.Words.{is_isolated, is_table}
@@ -14,7 +12,6 @@ use Rattle.ir_tree.specs.Edits.{with_operand, with_entry}
 use Rattle.ir_tree.specs.Places.{put, shifted, without}
 use Rattle.ir_tree.specs.Meaning.{IsSoundIn, isolated_in, key_before, key_before_in, meaning}
 use Rattle.ir_tree.specs.WellFormed.{IsWellFormed, Module as Numbered}
-use Rattle.ir_tree.proofs.Mapped.{map_ids, map_depth, map_counts, map_operands_visible}
 use Rattle.ir_tree.proofs.MappedEdits.{map_with_operand, map_with_entry, map_put, map_shifted, map_without}
 use Rattle.ir_tree.proofs.SoundEdits.{without_sound}
 use Rattle.ir_tree_laws.specs.Changes.{NextAfter, Shifts, Takes}
@@ -30,7 +27,7 @@ use Rattle.ir_store.specs.Shifting.{CanRelink}
 use Rattle.ir_event.specs.declared.event.Event.TheVariants.{Put, Take, SetOperand, SetEntry, Shift}
 use Rattle.ir_event.specs.Modules.{Module, module_meaning}
 use Rattle.ir_event.specs.Step.{Step}
-use Rattle.ir_event.proofs.Steps.{formed_meaning, formed_numbers, sorted_meaning}
+use Rattle.ir_event.proofs.Steps.{formed_meaning, sorted_meaning}
 use Rattle.ir_event.proofs.Mapped.{shifts_mapped, takes_mapped}
 
 left_sound : (c : Things) (x : ℕ) (place : Place) (fresh : Bool) (m n : Numbered) → IsSoundIn c m.tree → Takes x place fresh m n → IsSoundIn c n.tree

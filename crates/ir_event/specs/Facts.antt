@@ -1,7 +1,7 @@
 -- What is true of a world, and that there is at most one proof of it.
-use Rattle.std.specs.Prelude.{◌≡◌, ℕ, Bool, Option, Some}
+use Rattle.std.specs.Prelude.{◌≡◌, ℕ, Bool, Some}
 use Rattle.std.proofs.Props.{props}
-use Rattle.std.specs.Coded.{Coded-set, coded_option, Π_prop}
+use Rattle.std.specs.Coded.{Π_prop}
 use Rattle.std.specs.List.{IsDistinct-prop}
 use Rattle.std.specs.Ordering.{nat_cmp}
 use Rattle.std.specs.FinMap as map

@@ -1,6 +1,8 @@
 pub mod Modules
 pub mod Step
 pub mod Rows
+pub mod Tags
+pub mod Heads
 pub mod Listener
 pub mod Bounds
 pub mod Panels

@@ -1,5 +1,5 @@
 -- The rows of reports.
-use Rattle.std.specs.Prelude.{◌≡◌, ℕ, ◌<◌, List, map}
+use Rattle.std.specs.Prelude.{◌≡◌, ℕ, ◌<◌, List, [], ◌∷◌, map, nat_lt, if◌then◌else◌}
 use Rattle.std.specs.List.{All}
 use Rattle.ir_types.specs.Things.{Things, IsName, IsAttr}
 use Rattle.ir_types.specs.Terms.{AttrTerm, IntegerOf, String, TypeOf, Flag, Array, Dictionary, Symbol, DenseArray, Overflow, name_term, attr_term}
@@ -72,3 +72,12 @@ RowIsOf c row = All (CellIsOf c) row.cells.items
 pub record Shows (c : Things) (rows : List Row) (terms : List RowTerm) : Type 0 where
   pub says : rows_meaning c rows ≡ terms
   pub known : All (RowIsOf c) rows
+
+-- pairs in order of their first parts
+abbrev pub put_by_id : {V : Type 0} → ℕ × V → List (ℕ × V) → List (ℕ × V)
+put_by_id p [] = p ∷ []
+put_by_id p (q ∷ qs) = if nat_lt q.0 p.0 then q ∷ put_by_id p qs else p ∷ q ∷ qs
+
+abbrev pub by_id : {V : Type 0} → List (ℕ × V) → List (ℕ × V)
+by_id [] = []
+by_id (p ∷ ps) = put_by_id p (by_id ps)

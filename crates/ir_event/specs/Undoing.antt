@@ -1,5 +1,5 @@
 -- Undoing an event in a store.
-use Rattle.std.specs.Prelude.{◌≡◌, ℕ, Bool, true, Option, Some, None, IfSome, is_some}
+use Rattle.std.specs.Prelude.{◌≡◌, true, Some, None, IfSome, is_some}
 use Rattle.std.specs.FinMap as map
 use Rattle.ir_types.specs.Things.{Things, IsName, IsAttr}
 use Rattle.ir_tree.specs.Tree.{Op}

@@ -11,7 +11,6 @@ use crate::event::Event;
 use crate::row::{Kind, Memory, ReportFault, Row};
 use crate::view::View;
 use crate::world::World;
-use std::alloc::Global;
 
 /// A listener that keeps one analysis of the module up to date. A new one is stale until it begins.
 pub trait Analysis: Drop {
@@ -40,8 +39,8 @@ pub trait Analysis: Drop {
     fn stale(&self) -> bool
         ensures { result ≡ (meaning self.now).stale };
 
-    /// The rows of its analysis.
-    fn report(&self, alloc: Global) -> Result<Vec<Row>, ReportFault>
+    /// The rows of its analysis, in memory of the allocator that the listener was made with.
+    fn report(&self) -> Result<Vec<Row>, ReportFault>
         ensures agreed { (c : Things) (m : Module) → (meaning self.now).agrees c m → MatchResult result (λ rows. Shows c rows.items ((meaning self.now).analysis m.tree)) (λ e. e ≡ NoMemory) }
         ensures stale { (meaning self.now).stale ≡ true → MatchResult result (λ _. ⊥) (λ e. e ≡ Stale) };
 }
@@ -66,7 +65,7 @@ impl Analysis for Box<dyn Analysis> {
         (**self).stale()
     }
 
-    fn report(&self, alloc: Global) -> Result<Vec<Row>, ReportFault> {
-        (**self).report(alloc)
+    fn report(&self) -> Result<Vec<Row>, ReportFault> {
+        (**self).report()
     }
 }

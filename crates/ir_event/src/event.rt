@@ -22,10 +22,10 @@ pub enum Event {
         place: Place,
         fresh: bool,
     },
-    /// An operand of an operation, by its number, was set to a new value.
+    /// Operand k of an operation, counted from 0, was set to a new value.
     SetOperand {
         op: OpId,
-        operand: u32,
+        k: u32,
         old: Value,
         new: Value,
     },
@@ -52,14 +52,9 @@ pub fn inverse(event: Event) -> Event
     match event {
         Event::Put { op, place, fresh } => Event::Take { op, place, fresh },
         Event::Take { op, place, fresh } => Event::Put { op, place, fresh },
-        Event::SetOperand {
+        Event::SetOperand { op, k, old, new } => Event::SetOperand {
             op,
-            operand,
-            old,
-            new,
-        } => Event::SetOperand {
-            op,
-            operand,
+            k,
             old: new,
             new: old,
         },

@@ -41,9 +41,9 @@ pub fn operands_are_set_by_steps()
         → operand_at x k m.tree ≡ Some old → Step c (SetOperand x k old new) (module_meaning c m) (module_meaning c (record m { tree = with_operand x k new m.tree })) }
 {}
 
-/// Where listeners each agree or are stale and are all told of an event that leads from one module to another,
-/// while a taken operation is shown as it was, each agrees with the other or is stale, and the kinds are the same. Being told of one event after another
-/// is following them.
+/// Where listeners each agree or are stale and are all told of an event that leads from one module to another, while a
+/// taken operation is shown as it was, each agrees with the other or is stale, and the kinds are the same. Being told
+/// of one event after another is following them.
 pub fn told_listeners_follow<L: Analysis>()
     ensures kept { (e : Edit) (c : Things) (m n : Module) (shown : ℕ → Option Node) (xs ys : List L) → Step c e m n → ShowsTaken e m shown → AllTold L.meaning e c n shown xs ys → AllKept L.meaning c m xs → AllKept L.meaning c n ys }
     ensures kinds { (e : Edit) (c : Things) (m n : Module) (shown : ℕ → Option Node) (xs ys : List L) → Step c e m n → ShowsTaken e m shown → AllTold L.meaning e c n shown xs ys → kinds_of L.meaning ys ≡ kinds_of L.meaning xs }

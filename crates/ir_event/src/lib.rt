@@ -4,13 +4,14 @@
 
 pub mod analysis;
 pub mod contexts;
-pub mod edits;
+mod edits;
 pub mod event;
 pub mod laws;
 mod loads;
 pub mod panel;
 pub mod row;
 pub mod step_laws;
-pub mod undo;
+pub mod tag;
+mod undo;
 pub mod view;
 pub mod world;

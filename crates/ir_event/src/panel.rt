@@ -1,5 +1,5 @@
 //! The panel, which owns listeners.
-ghost use Rattle.std.specs.Prelude.{◌≡◌, [], OnOk, OnErr, IfErr, true, false, position, MatchResult, IsErrOf};
+ghost use Rattle.std.specs.Prelude.{◌≡◌, ◌⊎◌, [], OnOk, OnErr, IfErr, true, false, position, MatchResult, IsErrOf};
 ghost use Rattle.ir_types.specs.Things.{Things};
 ghost use Rattle.ir_types.specs.declared.refusal.Refusal.TheVariants.{NoSuchKind, Stale, Memory as NoMemory};
 ghost use Rattle.ir_event.specs.Modules.{Module, things_in, module_in, shown_in};
@@ -43,7 +43,7 @@ fn place_of_kind<L: Analysis>(listeners: &[L], kind: Kind) -> Option<usize>
     listeners.iter().position(
         |listener: &L| -> bool
             ensures { result ≡ is_kind L.meaning kind listener.now }
-        { listener.kind().number() == kind.number() },
+        { listener.kind() == kind },
     )
 }
 
@@ -66,11 +66,13 @@ impl<L: Analysis> Panel<L> {
 
     /// Begins a listener and adds it last, or hands it back.
     ///
-    /// Refusals: `KindTaken` where one of its kind is attached, and then it is as it was; `Memory`.
+    /// Refusals: `KindTaken` where one of its kind is attached, and then it is as it was; `Memory`, and then it is
+    /// stale, or it has begun and there was no room for it.
     pub fn attach(&mut self, world: &World, listener: L) -> Result<(), (Refusal, L)>
         ensures ok { OnOk result (AttachedLast L.meaning (things_in world.now) (module_in world.now) listener self.old self.new) }
         ensures err { OnErr result (self.new ≡ self.old) }
         ensures back { IfErr result (λ e. HandedBack L.meaning self.old listener e.0 e.1) }
+        ensures begun { IfErr result (λ e. e.0 ≡ NoMemory → ((L.meaning e.1).stale ≡ true) ⊎ (L.meaning e.1).agrees (things_in world.now) (module_in world.now)) }
     {
         if place_of_kind(&self.listeners, listener.kind()).is_some() {
             return Err((Refusal::KindTaken, listener));
@@ -121,14 +123,14 @@ impl<L: Analysis> Panel<L> {
     /// The rows of the listener of a kind.
     ///
     /// Refusals: `NoSuchKind`; `Stale`; `Memory`.
-    pub fn report(&self, alloc: Global, kind: Kind) -> Result<Vec<Row>, Refusal>
+    pub fn report(&self, kind: Kind) -> Result<Vec<Row>, Refusal>
         ensures missing { has_kind L.meaning kind self.now ≡ false → IsErrOf result NoSuchKind }
         ensures agreed { (b : L) (c : Things) (m : Module) → IsListener L.meaning kind self.now b → (L.meaning b).agrees c m → MatchResult result (λ rows. Shows c rows.items ((L.meaning b).analysis m.tree)) (λ e. e ≡ NoMemory) }
         ensures stale { (b : L) → IsListener L.meaning kind self.now b → (L.meaning b).stale ≡ true → IsErrOf result Stale }
     {
         match place_of_kind(&self.listeners, kind) {
             None => Err(Refusal::NoSuchKind),
-            Some(place) => match self.listeners[place].report(alloc) {
+            Some(place) => match self.listeners[place].report() {
                 Ok(rows) => Ok(rows),
                 Err(ReportFault::Stale) => Err(Refusal::Stale),
                 Err(ReportFault::Memory) => Err(Refusal::Memory),

@@ -5,6 +5,7 @@ use ir_tree::value::Value;
 use ir_types::bits::Bits;
 use ir_types::ids::{AttrId, NameId, OpId};
 use std::marker::Model;
+use thiserror::Error;
 
 /// One cell of a row.
 #[derive(Clone, Copy, Debug, PartialEq, Eq)]
@@ -23,7 +24,7 @@ pub enum Cell {
     Bits(Bits),
     /// A rule of the verifier, by its number.
     Rule(u8),
-    /// A word, counted from 0: def, duplicate, use, unresolved, mismatch, unknown, allocate, free, read, write.
+    /// A word, by its number as a `Tag`.
     Tag(u8),
 }
 
@@ -33,9 +34,9 @@ pub struct Row {
     pub cells: Vec<Cell>,
 }
 
-/// The kind of an analysis.
+/// The kind of an analysis, by its number.
 #[derive(Clone, Copy, Debug, PartialEq, Eq)]
-pub struct Kind(u8);
+pub struct Kind(pub u8);
 
 impl Model for Kind {
     ghost Value = { ℕ };
@@ -46,6 +47,24 @@ impl Model for Kind {
 }
 
 impl Kind {
+    /// The uses of values.
+    pub const USES: Kind = Kind(1);
+
+    /// The symbols of a module.
+    pub const SYMBOLS: Kind = Kind(2);
+
+    /// The rules that operations break.
+    pub const DIAGNOSTICS: Kind = Kind(3);
+
+    /// The effects of operations.
+    pub const EFFECTS: Kind = Kind(4);
+
+    /// The operations that nobody would miss.
+    pub const DEAD: Kind = Kind(5);
+
+    /// The values that are known.
+    pub const CONSTANTS: Kind = Kind(6);
+
     /// The kind with a number.
     pub fn new(number: u8) -> Kind
         ensures { result ≡ number }
@@ -62,14 +81,17 @@ impl Kind {
 }
 
 /// Want of memory.
-#[derive(Clone, Copy, Debug, PartialEq, Eq)]
+#[derive(Clone, Copy, Debug, PartialEq, Eq, Error)]
+#[error("memory was refused")]
 pub struct Memory;
 
 /// Why there is no report.
-#[derive(Clone, Copy, Debug, PartialEq, Eq)]
+#[derive(Clone, Copy, Debug, PartialEq, Eq, Error)]
 pub enum ReportFault {
     /// The analysis no longer follows the module.
+    #[error("the analysis no longer follows the module")]
     Stale,
     /// Memory was refused.
+    #[error("memory was refused")]
     Memory,
 }

@@ -10,18 +10,20 @@ use crate::world::World;
 use ir_store::store::Store;
 use ir_types::context::Context;
 
-/// Undoes an event that led to the module, by a step back: what was put is taken, what was taken is put back with its
-/// id, an operand or entry is set back, and what was shifted is moved back. It takes no memory.
-pub fn undo(world: &mut World, event: &Event)
-    requires { (p : Module) × CameFrom (things_in world.old) event.now p world.old.store }
-    ensures back { (p : Module) → CameFrom (things_in world.old) event.now p world.old.store → module_in world.new ≡ p }
-    ensures step { Step (things_in world.old) (inverse_of event.now) (module_in world.old) (module_in world.new) }
-    ensures shown { ShowsTaken (inverse_of event.now) (module_in world.old) (shown_in world.new) }
-    ensures store { world.new.store ≡ undone (things_in world.old) event.now world.old.store }
-    ensures ctx { world.new.ctx ≡ world.old.ctx }
-{
-    world.ctx.sound();
-    undo_in(&world.ctx, &mut world.store, event);
+impl World {
+    /// Undoes an event that led to the module, by a step back: what was put is taken, what was taken is put back with
+    /// its id, an operand or entry is set back, and what was shifted is moved back. It takes no memory.
+    pub fn undo(&mut self, event: &Event)
+        requires { (p : Module) × CameFrom (things_in self.old) event.now p self.old.store }
+        ensures back { (p : Module) → CameFrom (things_in self.old) event.now p self.old.store → module_in self.new ≡ p }
+        ensures step { Step (things_in self.old) (inverse_of event.now) (module_in self.old) (module_in self.new) }
+        ensures shown { ShowsTaken (inverse_of event.now) (module_in self.old) (shown_in self.new) }
+        ensures store { self.new.store ≡ undone (things_in self.old) event.now self.old.store }
+        ensures ctx { self.new.ctx ≡ self.old.ctx }
+    {
+        self.ctx.sound();
+        undo_in(&self.ctx, &mut self.store, event);
+    }
 }
 
 /// Undoes an event in a store.
@@ -32,12 +34,7 @@ fn undo_in(ctx: &Context, store: &mut Store, event: &Event)
     match *event {
         Event::Put { op, fresh, .. } => store.retract(op, fresh),
         Event::Take { op, place, fresh } => store.restore(op, place, fresh),
-        Event::SetOperand {
-            op,
-            operand,
-            old,
-            ..
-        } => match store.set_operand(ctx, op, operand, old) {
+        Event::SetOperand { op, k, old, .. } => match store.set_operand(ctx, op, k, old) {
             Ok(_) => {}
             Err(_) => {}
         },

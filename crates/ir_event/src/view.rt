@@ -1,5 +1,5 @@
 //! What a listener is shown when it is told of an event.
-ghost use Rattle.std.specs.Prelude.{◌≡◌, ◌+◌, length, option_map, IfOk, MatchResult};
+ghost use Rattle.std.specs.Prelude.{◌≡◌, ◌+◌, length, option_map};
 ghost use Rattle.ir_tree.specs.Ids.{has_id};
 ghost use Rattle.ir_store.specs.Nodes.{node_of};
 ghost use Rattle.ir_store.specs.Stored.{known};
@@ -10,11 +10,11 @@ ghost use Rattle.ir_event.specs.Looks.{more_looks, one_more};
 
 use crate::world::World;
 use ir_store::node::Node;
+use ir_store::uses::UsesOf;
 use ir_tree::value::Value;
 use ir_types::context::Context;
 use ir_types::ids::{OpId, TypeId};
 use op_registry::registry::Registry;
-use std::alloc::AllocError;
 
 /// A look at a world. It counts the calls that read the module, and can't be copied.
 #[derive(Drop)]
@@ -131,18 +131,18 @@ impl<'a> View<'a> {
         ensures world { self.new.world.now ≡ self.old.world.now }
     {
         self.looks = self.looks.saturating_add(1);
-        self.world.store.value_type(&value)
+        self.world.store.value_type(value)
     }
 
-    /// The uses of a value, each once: the operations, and the numbers of the operands. Each is a look too.
-    pub fn uses(&mut self, value: Value) -> Result<Vec<(OpId, usize)>, AllocError>
-        ensures answer { IfOk result (λ us. AreUses value self.old.world.now.store.module_of.tree us.items) }
-        ensures looks { MatchResult result (λ us. self.new.looks ≡ more_looks (length us.items + 1) self.old.looks) (λ _. self.new.looks ≡ one_more self.old.looks) }
+    /// The uses of a value, each once: the operations, and the numbers of the operands. Each is a look too, counted here.
+    pub fn uses(&mut self, value: Value) -> UsesOf<'a>
+        ensures answer { AreUses value self.old.world.now.store.module_of.tree result }
+        ensures looks { self.new.looks ≡ more_looks (length result + 1) self.old.looks }
         ensures world { self.new.world.now ≡ self.old.world.now }
     {
         self.looks = self.looks.saturating_add(1);
-        let uses = self.world.store.uses(&value)?;
+        let uses = self.world.store.uses(value);
         self.looks = self.looks.saturating_add(uses.len() as u64);
-        Ok(uses)
+        uses
     }
 }

@@ -11,7 +11,7 @@ use Rattle.ir_tree_laws.proofs.Without.{same_head}
 use Rattle.ir_tree_laws.proofs.Changed.{spot_left}
 use Rattle.ir_tree_laws.proofs.Reverted.{inside_goes, spot_parent, spot_before, spot_was}
 use Rattle.ir_tree_laws.proofs.Shift.{Inner, inner_of, inner_place, is_put, shift_distinct, shift_found, shift_rest}
-use Rattle.ir_store_slots.specs.Stored.{Stored}
+use Rattle.ir_store_reads.specs.Stored.{Stored}
 use Rattle.ir_store.specs.Calls.{after_shift}
 use Rattle.ir_store.specs.Shifting.{CanRelink}
 use Rattle.ir_store.proofs.Tabled.{found_there}

@@ -1,32 +1,32 @@
 -- The same, as a function's calls tell it.
 use Rattle.std.proofs.Common.{◌≡◌, ℕ, ◌<◌, List, map, set, get_or, sym, ap, ◌∙◌, subst, length, false, Option, Some, None, arith}
 use Rattle.std.specs.FinMap as finmap
-use Rattle.std.proofs.lemmas.List.{get_or-map, get_or-set_same, get_or-set_other, length-set, map-set, length-map}
-use Rattle.ir_store_lists.specs.Lists.{Lists, free, without as drop_node, IsItem}
+use Rattle.std.proofs.lemmas.List.{length-set, length-map}
+use Rattle.ir_store_reads.specs.Lists.{Lists, free, without as drop_node, IsItem}
 use Rattle.ir_tree.specs.Tree.{Op, Head, op, head}
 use Rattle.ir_tree.specs.Ids.{find}
 use Rattle.ir_tree.specs.Places.{without}
-use Rattle.ir_store_slots.specs.declared.row.Row.{Row as Kept}
+use Rattle.ir_store_reads.specs.Row.{Row as Kept}
 use Rattle.ir_store.specs.declared.store.Store.TheInside.{Inside}
-use Rattle.ir_store_slots.specs.Stored.{Stored}
+use Rattle.ir_store_reads.specs.Stored.{Stored}
 use Rattle.ir_store.specs.Calls.{after_take, hold}
-use Rattle.ir_store_slots.specs.Rows.{Row, row_at, row_of, rows_of, no_row, held_in, gone_in}
-use Rattle.ir_store_slots.specs.Spells.{SpellsOp, Spelled, Spelled-prop, spelled_is}
+use Rattle.ir_store_reads.specs.Rows.{Row, row_at, row_of, rows_of, held_in, gone_in}
+use Rattle.ir_store_reads.specs.Spells.{SpellsOp, Spelled, Spelled-prop, spelled_is}
 use Rattle.ir_store.specs.Holds.{HoldsOf, HoldsOf-prop, GoneOf, GoneOf-prop, map_is}
-use Rattle.ir_store_slots.specs.Right.{Right}
-use Rattle.ir_store_slots.proofs.Slots.{found_op, node_known, used_inside}
+use Rattle.ir_store_reads.specs.Right.{Right}
+use Rattle.ir_store_reads.proofs.Slots.{found_op, node_known, used_inside}
 use Rattle.std.specs.Prelude.{option_and_then, option_map, slice_get}
-use Rattle.ir_store_slots.specs.Nodes.{node_of}
-use Rattle.ir_store_slots.specs.Stored.{known}
-use Rattle.ir_store_slots.specs.Rows.{node_row, row_with_operand, live_slot}
+use Rattle.ir_store_reads.specs.Nodes.{node_of}
+use Rattle.ir_store_reads.specs.Stored.{known}
+use Rattle.ir_store_reads.specs.Rows.{node_row, row_with_operand, live_slot}
 use Rattle.ir_tree.specs.declared.value.Value.{Value}
 use Rattle.ir_tree.specs.Edits.{with_operand}
 use Rattle.ir_store.specs.Calls.{after_operand}
 use Rattle.ir_tree_laws.specs.Changes.{operand_at}
-use Rattle.ir_store_slots.proofs.Slots.{Found, found}
+use Rattle.ir_store_reads.proofs.Slots.{Found, found}
 use Rattle.ir_store.proofs.Writing.{write_spells, write_right, write_holds, write_gone}
 use Rattle.ir_store.proofs.Taking.{IsLeaf, cut_spells, cut_right, cut_holds, cut_gone}
-use Rattle.ir_store_slots.proofs.Items.{read_row, other_row, own_row}
+use Rattle.ir_store_reads.proofs.Items.{read_row, other_row, own_row}
 
 abbrev pub rows_in : Inside → List Row
 rows_in a = rows_of a.rows.items

@@ -12,7 +12,7 @@ use Rattle.ir_tree.proofs.SoundEdits.{entry_sound}
 use Rattle.ir_tree_laws.specs.Reasons.{set_entry_reason}
 use Rattle.ir_tree_laws.proofs.Keys.{key_before_trans}
 use Rattle.ir_tree_laws.proofs.HeadForm.{entry_keeps}
-use Rattle.ir_store_slots.specs.Stored.{Stored}
+use Rattle.ir_store_reads.specs.Stored.{Stored}
 use Rattle.ir_store.specs.Calls.{after_entry}
 
 less_is : (a b : ℕ) → a < b → nat_lt a b ≡ true

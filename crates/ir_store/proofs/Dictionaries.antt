@@ -20,24 +20,24 @@ use Rattle.ir_tree_laws.proofs.Listed.{all_each, both}
 use Rattle.ir_tree_laws.specs.Stands.{stands as all_stands}
 use Rattle.ir_tree_laws.proofs.Readings.{stands_every}
 use Rattle.ir_tree_laws.proofs.Members.{found_stands}
-use Rattle.ir_store_contents.specs.Slots.{gone_after, has_key, has_slot as is_slot}
-use Rattle.ir_store_slots.specs.declared.row.Row.{Row as Kept}
+use Rattle.ir_store_reads.specs.Slots.{gone_after, has_key, has_slot as is_slot}
+use Rattle.ir_store_reads.specs.Row.{Row as Kept}
 use Rattle.ir_store.specs.declared.store.Store.TheInside.{Inside}
-use Rattle.ir_store_slots.specs.Nodes.{node_of}
-use Rattle.ir_store_slots.specs.Stored.{Stored, Gone, change_gone, known, has_entry, has_slot, stands, is_some_with}
+use Rattle.ir_store_reads.specs.Nodes.{node_of}
+use Rattle.ir_store_reads.specs.Stored.{Stored, Gone, change_gone, known, has_entry, has_slot, stands, is_some_with}
 use Rattle.ir_store.specs.Calls.{after_entry, change_gone_of}
-use Rattle.ir_store_slots.specs.Rows.{Row, row_at, row_of, rows_of, node_row, live_slot, held_in, gone_in}
-use Rattle.ir_store_slots.specs.Spells.{SpellsOp, Spelled, spelled_is}
+use Rattle.ir_store_reads.specs.Rows.{Row, row_at, row_of, rows_of, node_row, live_slot, held_in, gone_in}
+use Rattle.ir_store_reads.specs.Spells.{SpellsOp, Spelled, spelled_is}
 use Rattle.ir_store.specs.Holds.{HoldsOf, GoneOf, map_is}
-use Rattle.ir_store_slots.specs.Marks.{mark, home_of, node_of_slot}
-use Rattle.ir_store_slots.proofs.Celled.{celled_edit}
-use Rattle.ir_store_slots.proofs.Marking.{marked_edit}
-use Rattle.ir_store_slots.specs.Index.{Fits, cells_of}
-use Rattle.ir_store_slots.specs.Entered.{slots_in, row_with_entry, slot_unless, entry_in}
+use Rattle.ir_store_reads.specs.Marks.{mark, home_of, node_of_slot}
+use Rattle.ir_store_reads.proofs.Celled.{celled_edit}
+use Rattle.ir_store_reads.proofs.Marking.{marked_edit}
+use Rattle.ir_store_reads.specs.Index.{Fits, cells_of}
+use Rattle.ir_store_reads.specs.Entered.{slots_in, row_with_entry, slot_unless, entry_in}
 use Rattle.ir_store.proofs.Distinct.{each_distinct}
-use Rattle.ir_store_slots.proofs.Slots.{Found, found, found_op, none_found, node_known, in_tree_is}
+use Rattle.ir_store_reads.proofs.Slots.{Found, found, found_op, none_found, node_known, in_tree_is}
 use Rattle.ir_store.proofs.Called.{rows_in, keys_in, stored}
-use Rattle.ir_store_slots.proofs.Items.{read_row, other_row, own_row}
+use Rattle.ir_store_reads.proofs.Items.{read_row, other_row, own_row}
 use Rattle.ir_store.proofs.Whole.{Whole}
 use Rattle.ir_store.proofs.Entering.{Inner, same_at, retold_spells, retold_right, retold_holds, retold_gone, retold_index, retold_below, retold_owned, retold_counted}
 

@@ -9,7 +9,7 @@ use Rattle.ir_tree.specs.Edits.{each_head, regions_each_head, region_each_head, 
 use Rattle.ir_tree.specs.Places.{put}
 use Rattle.ir_tree.proofs.Gained.{gained_distinct}
 use Rattle.ir_tree.proofs.Returns.{cons_distinct, nil_distinct}
-use Rattle.ir_store_slots.specs.Rows.{Row, Shape, bare, bare_regions}
+use Rattle.ir_store_reads.specs.Rows.{Row, Shape, bare, bare_regions}
 
 bare_ids : (xs : List Shape) → regions_ids (bare_regions xs) ≡ []
 bare_ids [] = refl

@@ -1,12 +1,12 @@
 -- What stands last in an operation, in slots and in the tree.
 use Rattle.std.proofs.Common.{◌≡◌, ℕ, ◌<◌, List, [], ◌∷◌, ◌++◌, refl, sym, ap, ◌∙◌, subst, length, length-append, append_assoc, append-nil, Option, Some, None, arith}
-use Rattle.ir_store_lists.specs.Lists.{last_of, list_at}
+use Rattle.ir_store_reads.specs.Lists.{last_of, list_at}
 use Rattle.ir_tree.specs.Tree.{Op, op, Regions, no_regions, region, empty, block, Ops, no_ops, next}
 use Rattle.ir_tree.specs.Ids.{ids, regions_ids, ops_ids, find, first_of}
-use Rattle.ir_store_slots.specs.Rows.{Row, Shape, row_at, live_slot}
-use Rattle.ir_store_slots.specs.Spells.{SpellsOp, SpellsRegions, SpellsOps, SpellsOp-one}
-use Rattle.ir_store_slots.specs.Right.{Live}
-use Rattle.ir_store_slots.proofs.Slots.{Found, found, found_op, slot_of_live}
+use Rattle.ir_store_reads.specs.Rows.{Row, Shape, row_at, live_slot}
+use Rattle.ir_store_reads.specs.Spells.{SpellsOp, SpellsRegions, SpellsOps, SpellsOp-one}
+use Rattle.ir_store_reads.specs.Right.{Live}
+use Rattle.ir_store_reads.proofs.Slots.{Found, found, found_op, slot_of_live}
 use Rattle.ir_store_reads.specs.Ends.{later, last_in}
 use Rattle.ir_store.specs.declared.store.Store.TheInside.{Inside}
 use Rattle.ir_store.specs.Ends.{IsLastIn, ids_in}

@@ -4,24 +4,24 @@ use Rattle.std.specs.FinMap as finmap
 use Rattle.std.specs.Ordering.{nat_cmp}
 use Rattle.std.specs.Cmp.{nat_cmp_total}
 use Rattle.std.proofs.lemmas.Bool.{cases_eq, eq-eqb, ne_eqb, cond-true, cond-false, cond_both}
-use Rattle.ir_store_lists.specs.Lists.{Lists}
+use Rattle.ir_store_reads.specs.Lists.{Lists}
 use Rattle.ir_tree.specs.Tree.{Head, Op}
 use Rattle.ir_tree.specs.Frames.{owner_of}
 use Rattle.ir_tree.specs.Ids.{has_id, op_count}
 use Rattle.ir_tree.specs.Edits.{each_head, at}
-use Rattle.ir_store_slots.specs.Stored.{Gone}
+use Rattle.ir_store_reads.specs.Stored.{Gone}
 use Rattle.ir_store.specs.Calls.{change_gone_of}
-use Rattle.ir_store_slots.specs.Rows.{Row, row_at, held_in, gone_in}
-use Rattle.ir_store_slots.specs.Spells.{SpellsOp}
-use Rattle.ir_store_slots.specs.Right.{Live, Used, Right}
-use Rattle.ir_store_slots.specs.Index.{Index, HasIdsBelow, HasOwners, lives}
+use Rattle.ir_store_reads.specs.Rows.{Row, row_at, held_in, gone_in}
+use Rattle.ir_store_reads.specs.Spells.{SpellsOp}
+use Rattle.ir_store_reads.specs.Right.{Live, Used, Right}
+use Rattle.ir_store_reads.specs.Index.{Index, HasIdsBelow, HasOwners, lives}
 use Rattle.ir_store.proofs.Distinct.{each_ids}
 use Rattle.ir_store.proofs.Tally.{live_stays}
-use Rattle.ir_store_slots.proofs.Mapped.{map_spells}
-use Rattle.ir_store_slots.proofs.Founds.{has_is}
-use Rattle.ir_store_slots.proofs.Slots.{Found, only}
+use Rattle.ir_store_reads.proofs.Mapped.{map_spells}
+use Rattle.ir_store_reads.proofs.Founds.{has_is}
+use Rattle.ir_store_reads.proofs.Slots.{Found, only}
 use Rattle.ir_store.proofs.Steps.{row_step}
-use Rattle.ir_store_slots.proofs.Items.{eq_nat}
+use Rattle.ir_store_reads.proofs.Items.{eq_nat}
 use Rattle.ir_store.proofs.Writing.{has_each}
 
 -- a change of a head that keeps what others see of the operation

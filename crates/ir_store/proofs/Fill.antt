@@ -6,20 +6,20 @@ use Rattle.std.specs.Cmp.{nat_cmp_total}
 use Rattle.std.specs.FinMap as finmap
 use Rattle.std.proofs.lemmas.Bool.{cases_eq, eq-eqb, ne_eqb, cond-true, cond-false, false≢true}
 use Rattle.std.proofs.lemmas.Bool.Decides.{nat_tests}
-use Rattle.ir_store_lists.specs.Lists.{IsHead, IsFree, home_at, free}
+use Rattle.ir_store_reads.specs.Lists.{IsHead, IsFree, home_at, free}
 use Rattle.ir_tree.specs.declared.value.Value.{Value}
 use Rattle.ir_tree.specs.declared.value.Value.TheVariants.{Result, Arg}
 use Rattle.ir_tree.specs.Frames.{owner_of}
 use Rattle.ir_tree.specs.Ids.{has_id}
 use Rattle.ir_tree.specs.Tree.{Op}
-use Rattle.ir_store_slots.specs.Stored.{Gone}
-use Rattle.ir_store_slots.specs.Rows.{Row, Shape, row_at, held_in, gone_in, bare}
-use Rattle.ir_store_slots.specs.Spells.{SpellsOp}
-use Rattle.ir_store_slots.specs.Right.{Live, Used, HoldsId, Right}
-use Rattle.ir_store_slots.specs.Index.{operand_at, use_at, argument_head, slot_head, value_head, CellOf, LinkedTo, Index, Celled, cell_at, lives}
-use Rattle.ir_store_slots.specs.Grows.{Parts, IsEven, NewHead, NewUse, Ready}
-use Rattle.ir_store_slots.proofs.Items.{eq_nat}
-use Rattle.ir_store_slots.proofs.Wide.{Keyed, keyed_of, same_spells}
+use Rattle.ir_store_reads.specs.Stored.{Gone}
+use Rattle.ir_store_reads.specs.Rows.{Row, Shape, row_at, held_in, gone_in, bare}
+use Rattle.ir_store_reads.specs.Spells.{SpellsOp}
+use Rattle.ir_store_reads.specs.Right.{Live, Used, HoldsId, Right}
+use Rattle.ir_store_reads.specs.Index.{operand_at, use_at, argument_head, slot_head, value_head, CellOf, LinkedTo, Index, Celled, cell_at, lives}
+use Rattle.ir_store_reads.specs.Grows.{Parts, IsEven, NewHead, NewUse, Ready}
+use Rattle.ir_store_reads.proofs.Items.{eq_nat}
+use Rattle.ir_store_reads.proofs.Wide.{Keyed, keyed_of, same_spells}
 
 some_one : {X : Type 0} (x y : X) → Some x ≡ Some y → x ≡ y
 some_one x y e = cc

@@ -4,29 +4,29 @@ use Rattle.std.specs.FinMap as finmap
 use Rattle.std.specs.Ordering.{nat_cmp}
 use Rattle.std.specs.Cmp.{nat_cmp_total}
 use Rattle.std.proofs.lemmas.Bool.{cases_Bool, cases_eq, eq-eqb, ne_eqb, cases_lt}
-use Rattle.ir_store_slots.proofs.Items.{eq_nat}
-use Rattle.ir_store_lists.specs.Lists.{Laws, free}
+use Rattle.ir_store_reads.proofs.Items.{eq_nat}
+use Rattle.ir_store_reads.specs.Lists.{Laws, free}
 use Rattle.ir_tree.specs.Tree.{Op}
 use Rattle.ir_tree.specs.Ids.{HasDistinctIds, find, first_of, op_count}
 use Rattle.ir_store.specs.declared.store.Store.TheInside.{Inside}
-use Rattle.ir_store_slots.specs.Stored.{Stored, known}
-use Rattle.ir_store_slots.specs.Emptied.{after_grow}
-use Rattle.ir_store_slots.specs.Rows.{Row, no_row, row_at, held_in, gone_in, if_live, bare}
-use Rattle.ir_store_slots.specs.Spells.{SpellsOp, Spelled, spelled_is}
+use Rattle.ir_store_reads.specs.Stored.{Stored, known}
+use Rattle.ir_store_reads.specs.Emptied.{after_grow}
+use Rattle.ir_store_reads.specs.Rows.{Row, no_row, row_at, held_in, gone_in, if_live, bare}
+use Rattle.ir_store_reads.specs.Spells.{SpellsOp, Spelled, spelled_is}
 use Rattle.ir_store.specs.Holds.{HoldsOf, GoneOf, map_is}
-use Rattle.ir_store_slots.specs.Right.{Right}
-use Rattle.ir_store_slots.specs.Index.{Index, Celled, Fits, lives, HasOwners}
-use Rattle.ir_store_slots.specs.Grows.{Parts, parts_of, IsEven, Wider, Ready, Grown}
-use Rattle.ir_store_slots.proofs.Slots.{found, found_op}
+use Rattle.ir_store_reads.specs.Right.{Right}
+use Rattle.ir_store_reads.specs.Index.{Index, Celled, Fits, lives, HasOwners}
+use Rattle.ir_store_reads.specs.Grows.{Parts, parts_of, IsEven, Wider, Ready, Grown}
+use Rattle.ir_store_reads.proofs.Slots.{found, found_op}
 use Rattle.ir_store.proofs.Called.{rows_in, keys_in, stored}
 use Rattle.ir_store.proofs.Whole.{Whole}
 use Rattle.std.specs.Prelude.{if◌then◌else◌}
-use Rattle.ir_store_slots.specs.Marks.{mark, has_gone, home_of, node_of_slot, Marked, CanMark, Reaches}
-use Rattle.ir_store_slots.proofs.Marking.{marked_edit, marked_same, marked_more, can_mark}
+use Rattle.ir_store_reads.specs.Marks.{mark, has_gone, home_of, node_of_slot, Marked, CanMark, Reaches}
+use Rattle.ir_store_reads.proofs.Marking.{marked_edit, marked_same, marked_more, can_mark}
 use Rattle.std.proofs.lemmas.List.{get_or_past}
-use Rattle.ir_store_slots.proofs.Wide.{Keyed, keyed_of, wide_spells, wide_right, wide_holds, wide_gone, wide_index, wide_bound}
+use Rattle.ir_store_reads.proofs.Wide.{Keyed, keyed_of, wide_spells, wide_right, wide_holds, wide_gone, wide_index, wide_bound}
 use Rattle.ir_store.proofs.Tally.{wide_below, wide_owned, fill_below, fill_owned}
-use Rattle.ir_store_slots.proofs.Celled.{wide_celled}
+use Rattle.ir_store_reads.proofs.Celled.{wide_celled}
 use Rattle.ir_store.proofs.Fill.{IsApart, bound_apart, fill_spells, fill_right, fill_holds, fill_gone, fill_index, fill_celled}
 use Rattle.ir_store.proofs.Refill.{cells_apart}
 

@@ -5,19 +5,19 @@ use Rattle.std.specs.Cmp.{nat_cmp_total}
 use Rattle.std.specs.FinMap as finmap
 use Rattle.std.proofs.lemmas.Bool.{cases_eq, eq-eqb, ne_eqb, cond-true, cond-false, cases_Bool, false≢true}
 use Rattle.std.proofs.lemmas.List.{get_or-set_same, get_or-set_other, length-set}
-use Rattle.ir_store_lists.specs.Lists.{Lists, Laws, list_at, home_at, free, has, IsHead, IsItem, IsFree}
+use Rattle.ir_store_reads.specs.Lists.{Lists, Laws, list_at, home_at, free, has, IsHead, IsItem, IsFree}
 use Rattle.ir_tree.specs.declared.place.Place.{Place}
 use Rattle.ir_tree.specs.Tree.{Op, op, Ops, no_ops}
 use Rattle.ir_tree.specs.Ids.{has_id, find}
 use Rattle.ir_tree.specs.Places.{put, put_here, put_in, is_in_block}
-use Rattle.ir_store_slots.specs.Rows.{Row, Shape, row_at, bare, bare_regions, held_in, gone_in}
-use Rattle.ir_store_slots.specs.Spells.{SpellsOp, SpellsRegions, SpellsOps}
-use Rattle.ir_store_slots.specs.Spots.{joined}
-use Rattle.ir_store_slots.specs.Right.{Live, Used, Placed, BlockOf, Right}
-use Rattle.ir_store_slots.proofs.Mapped.{has_op, lists_spells, rows_spells}
-use Rattle.ir_store_slots.proofs.Founds.{has_is, Spelt, find_spelt, has_live}
-use Rattle.ir_store_slots.proofs.Slots.{Found, there}
-use Rattle.ir_store_slots.proofs.Items.{eq_nat}
+use Rattle.ir_store_reads.specs.Rows.{Row, Shape, row_at, bare, bare_regions, held_in, gone_in}
+use Rattle.ir_store_reads.specs.Spells.{SpellsOp, SpellsRegions, SpellsOps}
+use Rattle.ir_store_reads.specs.Spots.{joined}
+use Rattle.ir_store_reads.specs.Right.{Live, Used, Placed, BlockOf, Right}
+use Rattle.ir_store_reads.proofs.Mapped.{has_op, lists_spells, rows_spells}
+use Rattle.ir_store_reads.proofs.Founds.{has_is, Spelt, find_spelt, has_live}
+use Rattle.ir_store_reads.proofs.Slots.{Found, there}
+use Rattle.ir_store_reads.proofs.Items.{eq_nat}
 use Rattle.ir_store.proofs.Join.{joins, joined_same, joined_other, AtHome, Names, put_spells, has_put, In, within, listed_op, has_end, has_new}
 
 -- the slot k holds the operation x, which is held

@@ -5,7 +5,7 @@ use Rattle.std.specs.List.{list_all, list_any}
 use Rattle.std.proofs.lemmas.Bool.{and_cases, or_cases, or_left, or_right}
 use Rattle.std.proofs.lemmas.Bool.Decides.{nat_tests}
 use Rattle.std.proofs.lemmas.List.Folds.{list_all-append}
-use Rattle.ir_store_lists.specs.Lists.{Laws, has, list_at, home_at}
+use Rattle.ir_store_reads.specs.Lists.{Laws, has, list_at, home_at}
 use Rattle.ir_tree.specs.declared.value.Value.{Value}
 use Rattle.ir_tree.specs.declared.value.Value.TheVariants.{Result as ResultOf, Arg}
 use Rattle.ir_tree.specs.Tree.{Op, op, Regions, no_regions, region, empty, block, Ops, no_ops, next, head}
@@ -21,15 +21,15 @@ use Rattle.ir_tree_laws.proofs.Listed.{any_one, bool_cases, both, each_all}
 use Rattle.ir_tree_laws.proofs.Members.{stand_found}
 use Rattle.ir_tree_laws.proofs.Around.{stand_present}
 use Rattle.ir_store.specs.declared.store.Store.TheInside.{Inside}
-use Rattle.ir_store_slots.specs.Stored.{Stored}
-use Rattle.ir_store_slots.specs.Rows.{Row, Shape, row_at, live_slot}
-use Rattle.ir_store_slots.specs.Right.{Live}
-use Rattle.ir_store_slots.specs.Index.{operand_at, use_at, cell_at, cells_of, argument_head, slot_head, value_head}
-use Rattle.ir_store_slots.specs.Spells.{SpellsOp, SpellsRegions, SpellsOps}
-use Rattle.ir_store_slots.specs.Using.{use_in}
+use Rattle.ir_store_reads.specs.Stored.{Stored}
+use Rattle.ir_store_reads.specs.Rows.{Row, Shape, row_at, live_slot}
+use Rattle.ir_store_reads.specs.Right.{Live}
+use Rattle.ir_store_reads.specs.Index.{operand_at, use_at, cell_at, cells_of, argument_head, slot_head, value_head}
+use Rattle.ir_store_reads.specs.Spells.{SpellsOp, SpellsRegions, SpellsOps}
+use Rattle.ir_store_reads.specs.Using.{use_in}
 use Rattle.ir_store.specs.Outside.{leaves_use, lists_pass, shapes_keep, slot_keeps}
-use Rattle.ir_store_slots.proofs.Idle.{is_below}
-use Rattle.ir_store_slots.proofs.Slots.{found, found_op, in_tree_is, slot_of_live}
+use Rattle.ir_store_reads.proofs.Idle.{is_below}
+use Rattle.ir_store_reads.proofs.Slots.{found, found_op, in_tree_is, slot_of_live}
 use Rattle.ir_store.proofs.Called.{rows_in, keys_in, stored}
 use Rattle.ir_store.proofs.Leaving.{depth_within, each_outside, kept_stays, none_outside, stays_kept}
 use Rattle.ir_store.proofs.Unused.{all_at, all_get, listed_item, some_one}

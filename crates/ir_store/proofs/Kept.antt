@@ -1,8 +1,8 @@
 -- Steps of the walk over the uses of what stands in an operation.
 use Rattle.std.proofs.Common.{◌≡◌, ℕ, zero, suc, ◌+◌, ◌-◌, List, refl, ap, ◌∙◌, length, Bool, true, false, ◌&&◌, arith}
 use Rattle.std.specs.List.{list_all}
-use Rattle.ir_store_lists.specs.Lists.{list_at}
-use Rattle.ir_store_slots.specs.Rows.{Row, row_at}
+use Rattle.ir_store_reads.specs.Lists.{list_at}
+use Rattle.ir_store_reads.specs.Rows.{Row, row_at}
 use Rattle.ir_store.specs.Outside.{lists_pass, shapes_keep, slot_keeps}
 
 -- a slot whose row is read, where there are levels left

@@ -1,10 +1,10 @@
 -- The operations beside an operation, by slots and in the tree.
 use Rattle.std.proofs.Common.{◌≡◌, ℕ, zero, suc, ◌<◌, List, [], ◌∷◌, ◌++◌, refl, sym, ap, ◌∙◌, subst, length, Bool, true, false, eqb, cond, ◌||◌, ⊎_elim, Option, Some, None, slice_get, arith}
 use Rattle.std.specs.Prelude.{option_map, option_and_then}
-use Rattle.std.proofs.lemmas.Bool.{cases_Bool, cases_eq, eq-eqb, ne_eqb, false≢true, or_left, or_right}
+use Rattle.std.proofs.lemmas.Bool.{cases_eq, eq-eqb, ne_eqb, or_left, or_right}
 use Rattle.std.proofs.lemmas.List.{get_or_past}
-use Rattle.ir_store_lists.specs.Lists.{Lists, Laws, has, before, last_of, list_at, home_at, free, IsHead}
-use Rattle.ir_store_lists.specs.Labels.{goes_before as slot_before}
+use Rattle.ir_store_reads.specs.Lists.{Lists, Laws, has, before, last_of, list_at, home_at, free, IsHead}
+use Rattle.ir_store_reads.specs.Labels.{goes_before as slot_before}
 use Rattle.ir_tree.specs.declared.place.Place.{Place}
 use Rattle.ir_tree.specs.Tree.{Op, op, Regions, no_regions, region, empty, block, Ops, no_ops, next, head, regions, ops_of, op_list}
 use Rattle.ir_tree.specs.Ids.{HasDistinctIds, first_of}
@@ -16,13 +16,12 @@ use Rattle.ir_tree_laws.specs.Reads.{ops_in, ops_at, last_id, is_among, goes_bef
 use Rattle.ir_tree_laws.proofs.Members.{stand}
 use Rattle.ir_tree_laws.proofs.Around.{member_of_place}
 use Rattle.ir_tree_laws.proofs.Neighbours.{list_there}
-use Rattle.ir_store_slots.specs.Rows.{Row, Shape, row_at, live_slot, head_in}
-use Rattle.ir_store_slots.specs.Spells.{SpellsOp, SpellsRegions, SpellsOps}
-use Rattle.ir_store_slots.specs.Spots.{id_in, slot_place}
-use Rattle.ir_store_slots.specs.Right.{Live, Right}
+use Rattle.ir_store_reads.specs.Rows.{Row, Shape, row_at, live_slot, head_in}
+use Rattle.ir_store_reads.specs.Spells.{SpellsOp, SpellsRegions, SpellsOps}
+use Rattle.ir_store_reads.specs.Spots.{id_in, slot_place}
+use Rattle.ir_store_reads.specs.Right.{Live, Right}
 use Rattle.ir_store_reads.specs.Heading.{block_in, CanStand}
-use Rattle.ir_store_reads.proofs.Apart.{not_behind}
-use Rattle.ir_store_slots.proofs.Slots.{Found, found, found_op, none_found, only, slot_of_live}
+use Rattle.ir_store_reads.proofs.Slots.{Found, found, found_op, none_found, only, slot_of_live}
 use Rattle.ir_store.proofs.Cut.{head_id, live_of}
 use Rattle.ir_store.proofs.Standing.{some_place, root_placeless, place_missing}
 

@@ -16,7 +16,7 @@ use Rattle.ir_tree_laws.specs.Reasons.{is_in_list}
 use Rattle.ir_tree_laws.specs.Values.{region_at}
 use Rattle.ir_tree_laws.specs.Restores.{MayPut}
 use Rattle.ir_tree_laws.proofs.Nested.{put_along, may_along, put_at_end}
-use Rattle.ir_store_slots.specs.Emptied.{emptied_regions, emptied}
+use Rattle.ir_store_reads.specs.Emptied.{emptied_regions, emptied}
 use Rattle.ir_store.specs.Loads.{end_of, put_ops, put_regions, MayOps, MayRegions}
 
 any_parts : (p : ℕ → Bool) (xs ys : List ℕ) → list_any p (xs ++ ys) ≡ (list_any p xs || list_any p ys)

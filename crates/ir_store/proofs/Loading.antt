@@ -1,6 +1,6 @@
 -- Steps of loading a tree.
 use Rattle.std.proofs.Common.{◌≡◌, ℕ, zero, suc, ◌+◌, ◌-◌, ◌<◌, ◌≤◌, List, [], ◌∷◌, ◌++◌, map, take, drop, get_or, refl, sym, ap, ◌∙◌, subst, length, Bool, true, false, eqb, cond, ◌||◌, ◌&&◌, ⊎_elim, arith, Some, None}
-use Rattle.std.specs.Prelude.{is_some, if◌then◌else◌, Result, Ok, Err, OnOk}
+use Rattle.std.specs.Prelude.{is_some, if◌then◌else◌}
 use Rattle.std.proofs.lemmas.List.{drop_more}
 use Rattle.std.specs.List.{All, AllByRecursion, list_any, list_all}
 use Rattle.std.specs.Ordering.{nat_cmp}
@@ -18,13 +18,13 @@ use Rattle.std.proofs.lemmas.List.Elements.{recursion_from_All}
 use Rattle.ir_tree_laws.specs.Reasons.{with_id}
 use Rattle.ir_tree_laws.specs.Restores.{MayPut}
 use Rattle.ir_tree_laws.specs.Values.{has_value}
-use Rattle.ir_store_slots.specs.Stored.{Stored, Gone, none_gone, known}
-use Rattle.ir_store_slots.specs.Emptied.{seeded, emptied_regions, emptied, after_grow}
+use Rattle.ir_store_reads.specs.Stored.{Stored, Gone, none_gone, known}
+use Rattle.ir_store_reads.specs.Emptied.{seeded, emptied_regions, emptied, after_grow}
 use Rattle.ir_store.specs.Calls.{Loaded, CanRestore, after_restore, put_held}
 use Rattle.ir_store.specs.Loads.{end_of, put_ops, put_region, put_regions, MayOps, MayRegion, MayRegions, gone_with, Adds, AreBelow, RegionsLeft, OpsLeft}
-use Rattle.ir_store_slots.proofs.Founds.{has_is, not_found}
-use Rattle.ir_store_slots.proofs.Items.{eq_nat}
-use Rattle.ir_store_slots.proofs.Grown.{take_all}
+use Rattle.ir_store_reads.proofs.Founds.{has_is, not_found}
+use Rattle.ir_store_reads.proofs.Items.{eq_nat}
+use Rattle.ir_store_reads.proofs.Grown.{take_all}
 use Rattle.ir_store.proofs.Loaded.{may_inside, put_inside, whole_inside}
 
 any_parts : (p : ℕ → Bool) (xs ys : List ℕ) → list_any p (xs ++ ys) ≡ (list_any p xs || list_any p ys)

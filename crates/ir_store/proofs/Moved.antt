@@ -2,19 +2,19 @@
 use Rattle.std.proofs.Common.{◌≡◌, ℕ, List, map, set, sym, ◌∙◌, subst, false, ◌&&◌, Option, Some}
 use Rattle.std.specs.Prelude.{is_some, IfSome}
 use Rattle.std.proofs.lemmas.Bool.{false≢true}
-use Rattle.ir_store_lists.specs.Lists.{Lists, Laws, free, IsHead, IsItem, IsFree, without as drop_node}
+use Rattle.ir_store_reads.specs.Lists.{Lists, Laws, free, IsHead, IsItem, IsFree, without as drop_node}
 use Rattle.ir_tree.specs.declared.place.Place.{Place}
 use Rattle.ir_tree.specs.Places.{shifted}
 use Rattle.ir_store.specs.declared.store.Store.TheInside.{Inside}
-use Rattle.ir_store_slots.specs.Stored.{Stored}
+use Rattle.ir_store_reads.specs.Stored.{Stored}
 use Rattle.ir_store.specs.Calls.{after_shift}
-use Rattle.ir_store_slots.specs.Rows.{live_slot, held_in, gone_in}
-use Rattle.ir_store_slots.specs.Spells.{SpellsOp, Spelled, spelled_is}
+use Rattle.ir_store_reads.specs.Rows.{live_slot, held_in, gone_in}
+use Rattle.ir_store_reads.specs.Spells.{SpellsOp, Spelled, spelled_is}
 use Rattle.ir_store.specs.Holds.{HoldsOf, GoneOf, map_is}
-use Rattle.ir_store_slots.specs.Spots.{spot_in, joined, StandsIn}
+use Rattle.ir_store_reads.specs.Spots.{spot_in, joined, StandsIn}
 use Rattle.ir_store.specs.Shifting.{CanRelink}
-use Rattle.ir_store_slots.specs.Index.{Fits, cells_of}
-use Rattle.ir_store_slots.proofs.Slots.{Found, found, in_tree_is}
+use Rattle.ir_store_reads.specs.Index.{Fits, cells_of}
+use Rattle.ir_store_reads.proofs.Slots.{Found, found, in_tree_is}
 use Rattle.ir_store.proofs.Joining.{Spot}
 use Rattle.ir_store.proofs.Spotted.{spotted}
 use Rattle.ir_store.proofs.Valued.{place_is}

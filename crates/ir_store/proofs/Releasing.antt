@@ -4,31 +4,31 @@ use Rattle.std.specs.Prelude.{option_and_then, option_map, is_some, if◌then◌
 use Rattle.std.specs.Ordering.{nat_cmp, eq_by_cmp}
 use Rattle.std.specs.Cmp.{nat_cmp_total}
 use Rattle.std.specs.FinMap as finmap
-use Rattle.std.proofs.lemmas.Bool.{eqb-true, false≢true}
+use Rattle.std.proofs.lemmas.Bool.{false≢true}
 use Rattle.std.proofs.lemmas.Bool.Decides.{nat_tests}
-use Rattle.ir_store_lists.specs.Lists.{Lists, list_at, home_at}
+use Rattle.ir_store_reads.specs.Lists.{Lists, list_at, home_at}
 use Rattle.ir_tree.specs.declared.value.Value.{Value}
 use Rattle.ir_tree.specs.declared.value.Value.TheVariants.{Result, Arg}
 use Rattle.ir_tree.specs.Frames.{owner_of}
 use Rattle.ir_tree.specs.Tree.{Head, Op, op, Regions, no_regions, region, Region, empty, block, Ops, no_ops, next}
 use Rattle.ir_tree.specs.Ids.{has_id, op_count, HasDistinctIds}
-use Rattle.ir_store_slots.specs.declared.row.Row.{Row as Kept}
+use Rattle.ir_store_reads.specs.Row.{Row as Kept}
 use Rattle.ir_store.specs.declared.store.Store.TheInside.{Inside}
-use Rattle.ir_store_slots.specs.Stored.{Stored, Gone, none_gone}
+use Rattle.ir_store_reads.specs.Stored.{Gone, none_gone}
 use Rattle.ir_store.specs.Calls.{Releases, gone_left}
-use Rattle.ir_store_slots.specs.Releases.{is_given, released, key_left}
-use Rattle.ir_store_slots.specs.Rows.{Row, Shape, row_at, rows_of, held_in, gone_in, bare, if_live}
-use Rattle.ir_store_slots.specs.Spells.{SpellsOp, SpellsRegions, SpellsRegion, SpellsOps, Spelled, spelled_is}
+use Rattle.ir_store_reads.specs.Releases.{is_given, released, key_left}
+use Rattle.ir_store_reads.specs.Rows.{Row, Shape, row_at, rows_of, held_in, gone_in, bare, if_live}
+use Rattle.ir_store_reads.specs.Spells.{SpellsOp, SpellsRegions, SpellsRegion, SpellsOps, Spelled, spelled_is}
 use Rattle.ir_store.specs.Holds.{HoldsOf, GoneOf, map_is}
-use Rattle.ir_store_slots.specs.Right.{Live, Used, Right}
-use Rattle.ir_store_slots.specs.Index.{operand_at, cell_at, LinkedTo, argument_head, slot_head, value_head, Index, Celled, Fits, lives, HasOwners, HasIdsBelow, cells_of}
+use Rattle.ir_store_reads.specs.Right.{Live, Used, Right}
+use Rattle.ir_store_reads.specs.Index.{operand_at, cell_at, LinkedTo, argument_head, slot_head, value_head, Index, Celled, Fits, lives, HasOwners, HasIdsBelow, cells_of}
 use Rattle.ir_store.proofs.Called.{rows_in, keys_in, stored}
-use Rattle.ir_store_slots.specs.Marks.{Marked}
-use Rattle.ir_store_slots.proofs.Celled.{celled_same}
-use Rattle.ir_store_slots.proofs.Slots.{in_tree_is}
+use Rattle.ir_store_reads.specs.Marks.{Marked}
+use Rattle.ir_store_reads.proofs.Celled.{celled_same}
+use Rattle.ir_store_reads.proofs.Slots.{in_tree_is}
 use Rattle.ir_store.proofs.Tally.{live_stays, some_live}
 use Rattle.ir_store.proofs.Whole.{Whole}
-use Rattle.ir_store_slots.proofs.Items.{some_same}
+use Rattle.ir_store_reads.proofs.Items.{some_same}
 
 abbrev result_with : ℕ → Head → ℕ → Option ℕ
 result_with i h b = if nat_lt i (length h.results) then Some (b + i) else None

@@ -5,28 +5,28 @@ use Rattle.std.specs.Cmp.{nat_cmp_total}
 use Rattle.std.specs.FinMap as finmap
 use Rattle.std.proofs.lemmas.Bool.{cases_eq, eq-eqb, ne_eqb, cond-true, cond-false, false≢true, or_left}
 use Rattle.std.proofs.lemmas.List.{length-set, get_or-set_same, get_or-set_other}
-use Rattle.ir_store_lists.specs.Lists.{home_at, free}
+use Rattle.ir_store_reads.specs.Lists.{home_at, free}
 use Rattle.ir_store.proofs.Distinct.{bare_own, bare_count}
 use Rattle.ir_tree.specs.Ids.{HasDistinctIds, has_id, op_count}
 use Rattle.ir_tree.specs.Tree.{Op, op, head}
 use Rattle.ir_tree_laws.specs.Reasons.{with_id}
-use Rattle.ir_store_slots.specs.Stored.{Gone, none_gone}
-use Rattle.ir_store_slots.specs.Emptied.{emptied}
-use Rattle.ir_store_slots.specs.Rows.{Row, row_at, no_row, held_in, gone_in, bare, bare_regions}
-use Rattle.ir_store_slots.specs.Spells.{SpellsOp, SpellsRegions}
-use Rattle.ir_store_slots.specs.Right.{Live, Used, HoldsId, Right}
+use Rattle.ir_store_reads.specs.Stored.{Gone, none_gone}
+use Rattle.ir_store_reads.specs.Emptied.{emptied}
+use Rattle.ir_store_reads.specs.Rows.{Row, row_at, no_row, held_in, gone_in, bare, bare_regions}
+use Rattle.ir_store_reads.specs.Spells.{SpellsOp, SpellsRegions}
+use Rattle.ir_store_reads.specs.Right.{Live, Used, HoldsId, Right}
 use Rattle.std.specs.Prelude.{if◌then◌else◌}
-use Rattle.ir_store_slots.specs.Marks.{mark, has_gone, home_of, node_of_slot, Reaches}
-use Rattle.ir_store_slots.proofs.Marking.{marked_edit, marked_same, marked_none, set_as_is}
+use Rattle.ir_store_reads.specs.Marks.{mark, has_gone, home_of, node_of_slot, Reaches}
+use Rattle.ir_store_reads.proofs.Marking.{marked_edit, marked_same, marked_none, set_as_is}
 use Rattle.ir_store.proofs.Growing.{spare_mark}
-use Rattle.ir_store_slots.specs.Index.{value_head, all_led, Index, Celled, lives, Fits}
-use Rattle.ir_store_slots.specs.Grows.{Parts, Spare, IsEven, Wider, Ready, Grown}
-use Rattle.ir_store_slots.proofs.Items.{eq_nat}
+use Rattle.ir_store_reads.specs.Index.{value_head, all_led, Index, Celled, lives, Fits}
+use Rattle.ir_store_reads.specs.Grows.{Parts, Spare, IsEven, Wider, Ready, Grown}
+use Rattle.ir_store_reads.proofs.Items.{eq_nat}
 use Rattle.ir_store.proofs.Joining.{bare_spells}
 use Rattle.ir_store.proofs.Used.{join_index}
-use Rattle.ir_store_slots.proofs.Wide.{Keyed, wide_index, wide_bound}
+use Rattle.ir_store_reads.proofs.Wide.{Keyed, wide_index, wide_bound}
 use Rattle.ir_store.proofs.Fill.{bound_apart, fill_index, fill_celled}
-use Rattle.ir_store_slots.proofs.Celled.{celled_edit}
+use Rattle.ir_store_reads.proofs.Celled.{celled_edit}
 
 some_same : {X : Type 0} (x y : X) → Some x ≡ Some y → x ≡ y
 some_same x y e = cc

@@ -4,8 +4,8 @@ use Rattle.std.specs.Prelude.{IfSome}
 use Rattle.std.specs.List.{list_any}
 use Rattle.std.proofs.lemmas.Bool.{cases_eq, eqb-false, eq-eqb, ne_eqb, cond-true, cond-false, cases_Bool, false≢true, or_left, or_right, or_cases}
 use Rattle.std.proofs.lemmas.List.{get_or-set_same, get_or-set_other, length-set}
-use Rattle.ir_store_lists.specs.Lists.{Lists, Laws, list_at, home_at, free, has, IsHead, IsItem, IsFree, without as drop_node}
-use Rattle.ir_store_lists.proofs.Cuts.{list_at-map}
+use Rattle.ir_store_reads.specs.Lists.{Lists, Laws, list_at, home_at, free, has, IsHead, IsItem, IsFree, without as drop_node}
+use Rattle.ir_store_reads.proofs.Cuts.{list_at-map}
 use Rattle.ir_tree.specs.declared.place.Place.{Place}
 use Rattle.ir_tree.specs.Tree.{Op, op, Regions, no_regions, region, Region, empty, block, Ops, no_ops, next, head}
 use Rattle.ir_tree.specs.Ids.{HasDistinctIds, has_id, find, ids, op_count, regions_ids}
@@ -16,14 +16,14 @@ use Rattle.ir_tree_laws.specs.Reads.{is_within}
 use Rattle.ir_tree_laws.specs.Reasons.{leads_inside, before_within}
 use Rattle.ir_tree_laws.proofs.Shift.{own_distinct, is_put, may_shift, shift_distinct, shift_found}
 use Rattle.ir_tree_laws.proofs.Edited.{taken_order, taken_op_count, put_op_count}
-use Rattle.ir_store_slots.specs.Rows.{Row, Shape, row_at}
-use Rattle.ir_store_slots.specs.Spells.{SpellsOp, SpellsRegions, SpellsRegion, SpellsOps}
-use Rattle.ir_store_slots.specs.Spots.{joined, StandsIn}
+use Rattle.ir_store_reads.specs.Rows.{Row, Shape, row_at}
+use Rattle.ir_store_reads.specs.Spells.{SpellsOp, SpellsRegions, SpellsRegion, SpellsOps}
+use Rattle.ir_store_reads.specs.Spots.{joined, StandsIn}
 use Rattle.ir_store.specs.Shifting.{CanRelink}
-use Rattle.ir_store_slots.specs.Right.{Live, Used, Placed, BlockOf, Right}
-use Rattle.ir_store_slots.proofs.Mapped.{has_op, has_regions, has_region, has_ops, neither, lists_spells}
-use Rattle.ir_store_slots.proofs.Founds.{has_is}
-use Rattle.ir_store_slots.proofs.Slots.{Found, found_op, only, root_id}
+use Rattle.ir_store_reads.specs.Right.{Live, Used, Placed, BlockOf, Right}
+use Rattle.ir_store_reads.proofs.Mapped.{has_op, has_regions, has_region, has_ops, neither, lists_spells}
+use Rattle.ir_store_reads.proofs.Founds.{has_is}
+use Rattle.ir_store_reads.proofs.Slots.{Found, found_op, only, root_id}
 use Rattle.ir_store.proofs.Cut.{not_item, head_id, cut_lists}
 use Rattle.ir_store.proofs.Join.{joins, joined_same, joined_other, AtHome, Names, put_spells, has_put, In, within}
 use Rattle.ir_store.proofs.Joining.{Before, Spot}

@@ -4,24 +4,24 @@ use Rattle.std.specs.Prelude.{option_and_then}
 use Rattle.std.specs.FinMap as finmap
 use Rattle.std.proofs.lemmas.Bool.{cases_eq, eqb-true, false≢true}
 use Rattle.std.proofs.lemmas.List.{length-set, length-map}
-use Rattle.ir_store_lists.specs.Lists.{Lists, Laws, home_at, free, IsHead, IsItem, IsFree}
+use Rattle.ir_store_reads.specs.Lists.{Lists, Laws, home_at, free, IsHead, IsItem, IsFree}
 use Rattle.ir_tree.specs.declared.place.Place.{Place}
 use Rattle.ir_tree.specs.Tree.{Op}
 use Rattle.ir_tree.specs.Places.{put}
-use Rattle.ir_store_slots.specs.declared.row.Row.{Row as Kept}
+use Rattle.ir_store_reads.specs.Row.{Row as Kept}
 use Rattle.ir_store.specs.declared.store.Store.TheInside.{Inside}
-use Rattle.ir_store_slots.specs.Stored.{Stored}
+use Rattle.ir_store_reads.specs.Stored.{Stored}
 use Rattle.ir_store.specs.Calls.{after_restore, put_held}
-use Rattle.ir_store_slots.specs.Rows.{Row, Shape, row_at, row_of, rows_of, live_slot, held_slot, if_held, head_in, held_in, gone_in, bare}
-use Rattle.ir_store_slots.specs.Spells.{SpellsOp, Spelled, spelled_is}
+use Rattle.ir_store_reads.specs.Rows.{Row, Shape, row_at, row_of, rows_of, live_slot, held_slot, if_held, head_in, held_in, gone_in, bare}
+use Rattle.ir_store_reads.specs.Spells.{SpellsOp, Spelled, spelled_is}
 use Rattle.ir_store.specs.Holds.{HoldsOf, GoneOf, map_is}
-use Rattle.ir_store_slots.specs.Spots.{spot_in, before_in, at_slot, stands, joined, StandsIn}
-use Rattle.ir_store_slots.specs.Right.{Live, Right}
-use Rattle.ir_store_slots.proofs.Slots.{found, used_inside}
-use Rattle.ir_store_slots.proofs.Items.{read_row, other_row, own_row}
+use Rattle.ir_store_reads.specs.Spots.{spot_in, before_in, at_slot, stands, joined, StandsIn}
+use Rattle.ir_store_reads.specs.Right.{Live, Right}
+use Rattle.ir_store_reads.proofs.Slots.{found, used_inside}
+use Rattle.ir_store_reads.proofs.Items.{read_row, other_row, own_row}
 use Rattle.ir_store.proofs.Called.{rows_in, keys_in, IsRight, stored}
 use Rattle.ir_tree.specs.Ids.{HasDistinctIds, has_id}
-use Rattle.ir_store_slots.proofs.Founds.{has_is}
+use Rattle.ir_store_reads.proofs.Founds.{has_is}
 use Rattle.ir_store.proofs.Distinct.{bare_distinct}
 use Rattle.ir_store.proofs.Joining.{x_out, FoundHeld, Before, Spot, spot_head, slot_free, join_spells, join_right, join_holds, was_held, join_gone}
 

@@ -1,22 +1,22 @@
 -- Where operations stand, by slots and in the tree.
-use Rattle.std.proofs.Common.{◌≡◌, ℕ, zero, suc, ◌+◌, List, [], ◌∷◌, ◌++◌, refl, sym, ap, ◌∙◌, subst, length, Bool, true, false, eqb, cond, ◌||◌, ⊎_elim, arith, Option, Some, None, slice_get}
+use Rattle.std.proofs.Common.{◌≡◌, ℕ, suc, ◌+◌, List, [], ◌∷◌, ◌++◌, refl, sym, ap, ◌∙◌, subst, Bool, true, false, eqb, ◌||◌, ⊎_elim, arith, Option, Some, None, slice_get}
 use Rattle.std.specs.Prelude.{option_map, if◌then◌else◌}
 use Rattle.std.specs.List.{list_any}
-use Rattle.std.proofs.lemmas.Bool.{cases_Bool, cases_eq, eq-eqb, eqb-true, cond-true, cond-false, false≢true, or_left}
+use Rattle.std.proofs.lemmas.Bool.{cases_Bool, eq-eqb, eqb-true, cond-true, cond-false, false≢true, or_left}
 use Rattle.std.proofs.lemmas.List.{append_assoc}
-use Rattle.ir_store_lists.specs.Lists.{Lists, Laws, Once, has, after, list_at, home_at, IsHead, IsItem}
+use Rattle.ir_store_reads.specs.Lists.{Lists, Laws, Once, has, after, list_at, home_at}
 use Rattle.ir_tree.specs.declared.place.Place.{Place}
 use Rattle.ir_tree.specs.Tree.{Op, op, Regions, no_regions, region, Region, empty, block, Ops, no_ops, next, head}
-use Rattle.ir_tree.specs.Ids.{ids, regions_ids, has_id, first_of, HasDistinctIds}
+use Rattle.ir_tree.specs.Ids.{regions_ids, first_of, HasDistinctIds}
 use Rattle.ir_tree.specs.Places.{place_of, regions_place, region_place, ops_place, first_id}
 use Rattle.ir_tree.proofs.Returns.{absent_first}
-use Rattle.ir_store_slots.specs.Rows.{Row, Shape, row_at, live_slot}
-use Rattle.ir_store_slots.specs.Spells.{SpellsOp, SpellsRegions, SpellsRegion, SpellsOps}
-use Rattle.ir_store_slots.specs.Spots.{id_in, slot_place}
-use Rattle.ir_store_slots.specs.Right.{Live, Used, Right}
-use Rattle.ir_store_slots.proofs.Mapped.{has_op, has_regions, has_region, has_ops, neither}
-use Rattle.ir_store_slots.proofs.Founds.{has_is_regions}
-use Rattle.ir_store_slots.proofs.Slots.{Found, found, only, there, missing}
+use Rattle.ir_store_reads.specs.Rows.{Row, Shape, row_at, live_slot}
+use Rattle.ir_store_reads.specs.Spells.{SpellsOp, SpellsRegions, SpellsRegion, SpellsOps}
+use Rattle.ir_store_reads.specs.Spots.{id_in, slot_place}
+use Rattle.ir_store_reads.specs.Right.{Live, Right}
+use Rattle.ir_store_reads.proofs.Mapped.{has_op, has_regions, has_region, has_ops, neither}
+use Rattle.ir_store_reads.proofs.Founds.{has_is_regions}
+use Rattle.ir_store_reads.proofs.Slots.{Found, found, only, there, missing}
 use Rattle.ir_store.proofs.Cut.{head_id, live_of}
 
 either : (a b : Bool) → (a || b) ≡ true → a ≡ false → b ≡ true

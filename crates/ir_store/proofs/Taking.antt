@@ -1,29 +1,28 @@
 -- What taking an operation makes of the slots.
 use Rattle.std.proofs.Common.{◌≡◌, ℕ, zero, suc, List, [], ◌∷◌, map, set, refl, sym, ap, ◌∙◌, subst, length, true, false, eqb, cond, ◌&&◌, ⊎_elim, arith, Option, Some, None, slice_get}
 use Rattle.std.specs.Prelude.{Result, Ok, Err, if◌then◌else◌}
-use Rattle.std.proofs.lemmas.Bool.Decides.{nat_tests}
 use Rattle.ir_types.specs.declared.refusal.Refusal.TheVariants.{NotEmpty}
-use Rattle.std.specs.Ordering.{nat_cmp, eq_by_cmp}
+use Rattle.std.specs.Ordering.{nat_cmp}
 use Rattle.std.specs.Cmp.{nat_cmp_total}
 use Rattle.std.specs.FinMap as finmap
 use Rattle.std.proofs.lemmas.Bool.{cases_eq, eq-eqb, ne_eqb, cond-true, cond-false, cases_Bool, false≢true}
 use Rattle.std.proofs.lemmas.List.{get_or-set_same, get_or-set_other, length-set}
-use Rattle.ir_store_lists.specs.Lists.{Lists, list_at, home_at, free, IsHead, IsFree, without as drop_node}
-use Rattle.ir_store_lists.proofs.Cuts.{list_at-map}
+use Rattle.ir_store_reads.specs.Lists.{Lists, list_at, home_at, free, IsHead, IsFree, without as drop_node}
+use Rattle.ir_store_reads.proofs.Cuts.{list_at-map}
 use Rattle.ir_types.specs.declared.refusal.Refusal.{Refusal}
 use Rattle.ir_tree.specs.Tree.{Op, op, Regions, no_regions, region, empty, block, Ops, no_ops, next, head, regions}
 use Rattle.ir_tree.specs.Ids.{has_id, find}
 use Rattle.ir_tree.specs.Places.{without}
 use Rattle.ir_tree_laws.specs.Reasons.{hold_none, holds_none}
-use Rattle.ir_store_slots.specs.Rows.{Row, Shape, row_at, held_in, gone_in, live_slot}
-use Rattle.ir_store_slots.specs.Spells.{SpellsOp, SpellsRegions, SpellsOps}
-use Rattle.ir_store_slots.specs.Right.{Live, Used, Right}
-use Rattle.ir_store_slots.specs.Plans.{is_nil, AllHeads, all_bare, leaf_in, cut_reason}
-use Rattle.ir_store_slots.proofs.Mapped.{rows_spells}
-use Rattle.ir_store_slots.proofs.Founds.{has_is}
-use Rattle.ir_store_slots.proofs.Slots.{Found, found, only, there, missing, root_id, root_live, found_op}
+use Rattle.ir_store_reads.specs.Rows.{Row, Shape, row_at, held_in, gone_in, live_slot}
+use Rattle.ir_store_reads.specs.Spells.{SpellsOp, SpellsRegions, SpellsOps}
+use Rattle.ir_store_reads.specs.Right.{Live, Used, Right}
+use Rattle.ir_store_reads.specs.Plans.{is_nil, AllHeads, all_bare, leaf_in, cut_reason}
+use Rattle.ir_store_reads.proofs.Mapped.{rows_spells}
+use Rattle.ir_store_reads.proofs.Founds.{has_is}
+use Rattle.ir_store_reads.proofs.Slots.{Found, found, only, there, missing, root_id, root_live, found_op}
 use Rattle.ir_store.proofs.Cut.{not_item, has_cut, cut_lists, has_others, bare_is}
-use Rattle.ir_store_slots.proofs.Items.{eq_nat}
+use Rattle.ir_store_reads.proofs.Items.{eq_nat}
 
 -- the heads of blocks
 all_heads : (homes : List ℕ) (xs : List Shape) → ((r : ℕ) (a : List ℕ × ℕ) → slice_get xs r ≡ Some (Some a) → IsHead homes a.1) → AllHeads homes xs

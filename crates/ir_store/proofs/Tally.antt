@@ -4,7 +4,7 @@ use Rattle.std.specs.Prelude.{is_some, option_and_then, if◌then◌else◌}
 use Rattle.std.specs.List.{list_any}
 use Rattle.std.proofs.lemmas.Bool.{cases_eq, eq-eqb, ne_eqb, cases_lt, false≢true, or_left, or_right}
 use Rattle.std.proofs.lemmas.List.{length-map}
-use Rattle.ir_store_lists.specs.Lists.{Lists}
+use Rattle.ir_store_reads.specs.Lists.{Lists}
 use Rattle.ir_tree.specs.declared.value.Value.{Value}
 use Rattle.ir_tree.specs.declared.place.Place.{Place}
 use Rattle.ir_tree.specs.Frames.{owner_of}
@@ -14,15 +14,15 @@ use Rattle.ir_tree.specs.Places.{put, without}
 use Rattle.ir_tree_laws.specs.Reasons.{has_place, leaves, unused}
 use Rattle.ir_tree_laws.proofs.Formed.{no_more}
 use Rattle.ir_tree_laws.proofs.Edited.{put_op_count, taken_op_count}
-use Rattle.ir_store_slots.specs.Rows.{Row, row_at, if_live, live_slot, bare, row_with_operand}
-use Rattle.ir_store_slots.specs.Spells.{SpellsOp}
-use Rattle.ir_store_slots.specs.Right.{Live, Right}
-use Rattle.ir_store_slots.specs.Index.{operand_at, value_head, slot_head, HasOwners, HasIdsBelow}
-use Rattle.ir_store_slots.specs.Grows.{Parts, Wider, Ready}
+use Rattle.ir_store_reads.specs.Rows.{Row, row_at, if_live, live_slot, bare, row_with_operand}
+use Rattle.ir_store_reads.specs.Spells.{SpellsOp}
+use Rattle.ir_store_reads.specs.Right.{Live, Right}
+use Rattle.ir_store_reads.specs.Index.{operand_at, value_head, slot_head, HasOwners, HasIdsBelow}
+use Rattle.ir_store_reads.specs.Grows.{Parts, Wider, Ready}
 use Rattle.ir_store.proofs.Cut.{bare_is, has_cut}
-use Rattle.ir_store_slots.proofs.Founds.{has_is}
+use Rattle.ir_store_reads.proofs.Founds.{has_is}
 use Rattle.ir_store.proofs.Distinct.{bare_own, bare_count, bare_apart}
-use Rattle.ir_store_slots.proofs.Slots.{found, found_op, in_tree_is, live_inside, only, root_id, root_live}
+use Rattle.ir_store_reads.proofs.Slots.{found, found_op, in_tree_is, live_inside, only, root_id, root_live}
 use Rattle.ir_store.proofs.Taking.{IsLeaf}
 use Rattle.ir_store.proofs.Unused.{Passes, all_get, every_find}
 

@@ -4,8 +4,8 @@ use Rattle.std.specs.Prelude.{option_and_then, nat_lt, if◌then◌else◌, Resu
 use Rattle.std.specs.List.{list_all}
 use Rattle.std.proofs.lemmas.Bool.{eq-eqb, eqb-true, cases_Bool, false≢true, and_cases}
 use Rattle.std.proofs.lemmas.Bool.Decides.{nat_tests}
-use Rattle.ir_store_lists.specs.Lists.{Lists, Laws, has, list_at, home_at, free, IsHead, IsItem}
-use Rattle.ir_store_lists.proofs.Around.{home_inside}
+use Rattle.ir_store_reads.specs.Lists.{Lists, Laws, has, list_at, home_at, free, IsHead, IsItem}
+use Rattle.ir_store_reads.proofs.Around.{home_inside}
 use Rattle.ir_types.specs.declared.refusal.Refusal.{Refusal}
 use Rattle.ir_types.specs.declared.refusal.Refusal.TheVariants.{NoSuchOp, IsRoot, NotEmpty, HasUses}
 use Rattle.ir_tree.specs.declared.value.Value.{Value}
@@ -15,15 +15,15 @@ use Rattle.ir_tree.specs.Limits.{every, regions_every, region_every, ops_every}
 use Rattle.ir_tree.specs.Tree.{Head, Op, op, Regions, no_regions, region, Region, empty, block, Ops, no_ops, next, head}
 use Rattle.ir_tree.specs.Ids.{has_id, find, regions_find, region_find, ops_find, first_of}
 use Rattle.ir_tree_laws.specs.Reasons.{leaves, unused, take_reason, holds_none, unless}
-use Rattle.ir_store_slots.specs.Rows.{Row, Shape, row_at, live_slot}
-use Rattle.ir_store_slots.specs.Spells.{SpellsOp, SpellsRegions, SpellsRegion, SpellsOps}
-use Rattle.ir_store_slots.specs.Right.{Live, Right}
-use Rattle.ir_store_slots.specs.Plans.{is_nil, leaf_in}
-use Rattle.ir_store_slots.specs.Reasoned.{idle_in}
-use Rattle.ir_store_slots.specs.Index.{operand_at, use_at, argument_head, slot_head, value_head, Index, lives, all_idle, args_idle, row_idle}
-use Rattle.ir_store_slots.proofs.Slots.{Found, found, found_op}
+use Rattle.ir_store_reads.specs.Rows.{Row, Shape, row_at, live_slot}
+use Rattle.ir_store_reads.specs.Spells.{SpellsOp, SpellsRegions, SpellsRegion, SpellsOps}
+use Rattle.ir_store_reads.specs.Right.{Live, Right}
+use Rattle.ir_store_reads.specs.Plans.{is_nil, leaf_in}
+use Rattle.ir_store_reads.specs.Reasoned.{idle_in}
+use Rattle.ir_store_reads.specs.Index.{operand_at, use_at, argument_head, slot_head, value_head, Index, lives, all_idle, args_idle, row_idle}
+use Rattle.ir_store_reads.proofs.Slots.{Found, found, found_op}
 use Rattle.ir_store.proofs.Taking.{IsLeaf, planned}
-use Rattle.ir_store_slots.proofs.Idle.{is_below}
+use Rattle.ir_store_reads.proofs.Idle.{is_below}
 
 pub both_true : (a b : Bool) → (a && b) ≡ true → (a ≡ true) × (b ≡ true)
 both_true true b e = (refl, e)

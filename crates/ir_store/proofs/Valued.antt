@@ -3,21 +3,20 @@ use Rattle.std.proofs.Common.{◌≡◌, ℕ, zero, suc, ◌+◌, List, [], ◌�
 use Rattle.std.specs.Prelude.{option_and_then, nat_lt, is_some, if◌then◌else◌}
 use Rattle.std.proofs.lemmas.Bool.{eq-eqb, ne_eqb, eqb-true, cases_Bool, false≢true, or_cases, or_left, or_right}
 use Rattle.std.proofs.lemmas.Bool.Decides.{nat_tests}
-use Rattle.ir_store_lists.specs.Lists.{Lists, Laws, has, list_at, home_at, free, IsHead, IsItem}
+use Rattle.ir_store_reads.specs.Lists.{Lists, Laws, has, list_at, home_at, free, IsHead, IsItem}
 use Rattle.ir_tree.specs.declared.value.Value.{Value}
 use Rattle.ir_tree.specs.declared.value.Value.TheVariants.{Result, Arg}
 use Rattle.ir_tree.specs.declared.place.Place.{Place}
-use Rattle.ir_tree.specs.Frames.{owner_of}
 use Rattle.ir_tree.specs.Tree.{Op, op, Regions, no_regions, region, empty, block, Ops, no_ops, next, head, regions}
 use Rattle.ir_tree_laws.specs.Values.{region_at, arguments_of, arguments_at, type_of_value, has_value}
 use Rattle.ir_tree_laws.specs.Reads.{ops_in, is_among}
 use Rattle.ir_tree_laws.specs.Reasons.{is_in_list, has_place}
-use Rattle.ir_store_slots.specs.Rows.{Row, Shape, row_at, live_slot, if_live, head_in}
-use Rattle.ir_store_slots.specs.Spells.{SpellsOp, SpellsRegions, SpellsOps}
-use Rattle.ir_store_slots.specs.Spots.{spot_in, before_in, at_slot, stands}
-use Rattle.ir_store_slots.specs.Right.{Live, Right}
-use Rattle.ir_store_slots.specs.Index.{slot_head, result_head, argument_head, value_head, shape_type, slot_type, type_in}
-use Rattle.ir_store_slots.proofs.Slots.{found, found_op, none_found, slot_of_live}
+use Rattle.ir_store_reads.specs.Rows.{Row, Shape, row_at, live_slot, head_in}
+use Rattle.ir_store_reads.specs.Spells.{SpellsOp, SpellsRegions, SpellsOps}
+use Rattle.ir_store_reads.specs.Spots.{spot_in, before_in, at_slot, stands}
+use Rattle.ir_store_reads.specs.Right.{Live, Right}
+use Rattle.ir_store_reads.specs.Index.{slot_head, result_head, argument_head, value_head, shape_type, slot_type, type_in}
+use Rattle.ir_store_reads.proofs.Slots.{found, found_op, none_found, slot_of_live}
 use Rattle.ir_store.proofs.Cut.{head_id, live_of}
 use Rattle.ir_store.proofs.Spotted.{item_of}
 

@@ -2,19 +2,19 @@
 use Rattle.std.proofs.Common.{◌≡◌, eqb, ℕ, zero, suc, ◌+◌, ◌-◌, ◌<◌, ◌≤◌, List, [], ◌∷◌, map, set, get_or, refl, sym, ap, ◌∙◌, subst, length, Bool, true, false, Option, Some, None, arith}
 use Rattle.std.specs.Prelude.{Result, Ok, Err}
 use Rattle.std.proofs.lemmas.List.{length-set, length-map}
-use Rattle.ir_store_lists.specs.Lists.{Lists, Laws, free, without as drop_node}
+use Rattle.ir_store_reads.specs.Lists.{Lists, Laws, free, without as drop_node}
 use Rattle.ir_types.specs.declared.refusal.Refusal.{Refusal}
 use Rattle.ir_tree.specs.declared.value.Value.{Value}
-use Rattle.ir_store_slots.specs.declared.row.Row.{Row as Kept}
+use Rattle.ir_store_reads.specs.Row.{Row as Kept}
 use Rattle.ir_store.specs.declared.store.Store.TheInside.{Inside}
-use Rattle.ir_store_slots.specs.Rows.{Row, row_at, row_of, rows_of, row_with_operand, live_slot}
-use Rattle.ir_store_slots.specs.Right.{Live, Used}
-use Rattle.ir_store_slots.specs.Spells.{Spelled, Spelled-prop}
-use Rattle.ir_store_slots.specs.Plans.{leaf_in}
-use Rattle.ir_store_slots.specs.Reasoned.{idle_in}
-use Rattle.ir_store_slots.specs.Index.{Index, Fits, HasIdsBelow, lives, cells_of, HasHeads, CanFree, freed, led_to, all_led, value_head}
-use Rattle.ir_store_slots.proofs.Celled.{celled_same, celled_edit}
-use Rattle.ir_store_slots.proofs.Slots.{Found, found}
+use Rattle.ir_store_reads.specs.Rows.{Row, row_at, row_of, rows_of, row_with_operand, live_slot}
+use Rattle.ir_store_reads.specs.Right.{Live, Used}
+use Rattle.ir_store_reads.specs.Spells.{Spelled, Spelled-prop}
+use Rattle.ir_store_reads.specs.Plans.{leaf_in}
+use Rattle.ir_store_reads.specs.Reasoned.{idle_in}
+use Rattle.ir_store_reads.specs.Index.{Index, Fits, HasIdsBelow, lives, cells_of, HasHeads, CanFree, freed, led_to, all_led, value_head}
+use Rattle.ir_store_reads.proofs.Celled.{celled_same, celled_edit}
+use Rattle.ir_store_reads.proofs.Slots.{Found, found}
 use Rattle.ir_store.proofs.Taking.{IsLeaf}
 use Rattle.ir_store.proofs.Unused.{TakePlanned, take_planned}
 use Rattle.ir_store.proofs.Used.{has_heads, can_free, take_index}
@@ -22,7 +22,7 @@ use Rattle.std.proofs.Common.{not, ◌&&◌, ⊎_elim}
 use Rattle.std.specs.Prelude.{is_some, nat_lt, if◌then◌else◌}
 use Rattle.std.specs.FinMap as finmap
 use Rattle.std.proofs.lemmas.Bool.{cases_eq, cases_Bool, false≢true}
-use Rattle.ir_store_lists.specs.Lists.{IsItem, IsHead, IsFree}
+use Rattle.ir_store_reads.specs.Lists.{IsItem, IsHead, IsFree}
 use Rattle.ir_types.specs.declared.refusal.Refusal.TheVariants.{NoSuchIndex, NoSuchValue}
 use Rattle.ir_tree.specs.declared.place.Place.{Place}
 use Rattle.ir_tree.specs.Tree.{Head, Op, head}
@@ -35,31 +35,31 @@ use Rattle.ir_store.proofs.Tally.{lower_below, count_within, cut_counted, cut_be
 use Rattle.ir_store.proofs.Distinct.{each_distinct, each_ids}
 use Rattle.ir_tree.specs.Ids.{find}
 use Rattle.ir_tree_laws.specs.Values.{has_value}
-use Rattle.ir_store_slots.specs.Stored.{Stored}
+use Rattle.ir_store_reads.specs.Stored.{Stored}
 use Rattle.ir_store.specs.Calls.{CanRestore, after_restore, raised}
 use Rattle.ir_tree_laws.specs.Reasons.{operand_reason, unless, unused}
-use Rattle.ir_store_slots.specs.Reasoned.{with_head, rewire_reason}
-use Rattle.ir_store_slots.specs.Plans.{operand_in}
-use Rattle.ir_store_slots.specs.Rows.{held_slot, held_in, if_held, bare}
+use Rattle.ir_store_reads.specs.Reasoned.{with_head, rewire_reason}
+use Rattle.ir_store_reads.specs.Plans.{operand_in}
+use Rattle.ir_store_reads.specs.Rows.{held_slot, held_in, if_held, bare}
 use Rattle.ir_store.specs.Holds.{HoldsOf, GoneOf}
-use Rattle.ir_store_slots.specs.Spots.{spot_in, joined}
-use Rattle.ir_store_slots.specs.Index.{CanLead, operand_at, use_at}
-use Rattle.ir_store_slots.proofs.Slots.{operand_found}
+use Rattle.ir_store_reads.specs.Spots.{spot_in, joined}
+use Rattle.ir_store_reads.specs.Index.{CanLead, operand_at, use_at}
+use Rattle.ir_store_reads.proofs.Slots.{operand_found}
 use Rattle.ir_store.proofs.Unused.{all_get}
 use Rattle.ir_store.proofs.Used.{can_lead, join_index, use_item, write_index}
 use Rattle.ir_store.proofs.Valued.{value_is, place_is}
-use Rattle.ir_store_slots.proofs.Heads.{live_head}
+use Rattle.ir_store_reads.proofs.Heads.{live_head}
 use Rattle.ir_store.proofs.Spotted.{joint_distinct, joint_tree, joint_out, held_found, joint_right, joint_done, joint_inside, joint_before}
-use Rattle.ir_store_slots.specs.Spots.{StandsIn}
+use Rattle.ir_store_reads.specs.Spots.{StandsIn}
 use Rattle.std.specs.Prelude.{IfSome}
 use Rattle.std.proofs.lemmas.List.{get_or-set_same, get_or-set_other}
-use Rattle.ir_store_lists.specs.Lists.{home_at}
+use Rattle.ir_store_reads.specs.Lists.{home_at}
 use Rattle.ir_store.proofs.Cut.{not_item}
 use Rattle.ir_store.proofs.Joining.{FoundHeld}
 use Rattle.ir_store.proofs.Called.{rows_in, keys_in, stored, cut_tree, write_tree, right_after, write_fits, write_inside}
-use Rattle.ir_store_slots.proofs.Items.{read_row, other_row, own_row}
-use Rattle.ir_store_slots.specs.Marks.{mark, home_of, node_of_slot, Marked, Reaches}
-use Rattle.ir_store_slots.proofs.Marking.{marked_edit, marked_same, marked_more, marked_none}
+use Rattle.ir_store_reads.proofs.Items.{read_row, other_row, own_row}
+use Rattle.ir_store_reads.specs.Marks.{mark, home_of, node_of_slot}
+use Rattle.ir_store_reads.proofs.Marking.{marked_edit, marked_same}
 
 abbrev pub Whole : Inside → Type 0
 Whole a = Fits (rows_in a) (keys_in a) a.sibs a.root a.spelled.0 a.uses.homes (cells_of a.cells.items) a.count a.next a.marks.homes

@@ -1,5 +1,5 @@
 -- What each call makes of a store.
-use Rattle.std.specs.Prelude.{◌≡◌, ℕ, ◌+◌, ◌<◌, eqb, nat_lt, Bool, true, false, if◌then◌else◌, Option, Some, None, is_some}
+use Rattle.std.specs.Prelude.{◌≡◌, ℕ, ◌+◌, ◌<◌, ◌⊎◌, eqb, nat_lt, Bool, true, false, if◌then◌else◌, Option, Some, None, is_some}
 use Rattle.std.specs.List.{list_all}
 use Rattle.std.specs.Ordering.{nat_cmp}
 use Rattle.std.specs.FinMap as map
@@ -13,8 +13,8 @@ use Rattle.ir_tree.specs.Places.{put, without, shifted}
 use Rattle.ir_tree.specs.Limits.{most_next}
 use Rattle.ir_tree_laws.specs.Values.{has_value}
 use Rattle.ir_tree_laws.specs.Reasons.{with_id, has_place, holds_none, unused}
-use Rattle.ir_store_contents.specs.Slots.{gone_after}
-use Rattle.ir_store_slots.specs.Stored.{Stored, Gone, none_gone, change_gone, has_entry, has_slot}
+use Rattle.ir_store_reads.specs.Slots.{gone_after}
+use Rattle.ir_store_reads.specs.Stored.{Stored, Gone, none_gone, change_gone, has_entry, has_slot}
 
 -- a store as it is loaded: the module, with no operation held, and no key of its operations gone
 pub record Loaded (t : Op) (free : ℕ) (s : Stored) : Type 0 where
@@ -123,6 +123,10 @@ pub record CanRetract (x : ℕ) (fresh : Bool) (s : Stored) : Type 0 where
   pub empty : holds_none (find x s.module_of.tree) ≡ true
   pub unused : unused x s.module_of.tree ≡ true
   pub newest : fresh ≡ true → s.module_of.next ≡ x + 1
+
+-- to set key k of operation x to a, or to take it out, wants no new slot: it is taken out, or there is a slot for it
+abbrev pub WantsNoSlot : ℕ → Part → ℕ → Option ℕ → Stored → Type 0
+WantsNoSlot x part k a s = (a ≡ None) ⊎ (has_slot x part k s ≡ true)
 
 -- operation x is there and has a slot for key k; what is taken out is there
 pub record CanRevert (x : ℕ) (part : Part) (k : ℕ) (a : Option ℕ) (s : Stored) : Type 0 where

@@ -7,7 +7,7 @@ use Rattle.ir_tree.specs.Tree.{Op, Regions, no_regions, region, Region, empty, b
 use Rattle.ir_tree.specs.Ids.{ops_ids, regions_ids}
 use Rattle.ir_tree.specs.Places.{put}
 use Rattle.ir_tree_laws.specs.Restores.{MayPut}
-use Rattle.ir_store_slots.specs.Stored.{Stored, Gone, none_gone}
+use Rattle.ir_store_reads.specs.Stored.{Stored, Gone, none_gone}
 
 -- the end of the block of a region
 abbrev pub end_of : ℕ → ℕ → Place

@@ -1,12 +1,12 @@
 -- What uses values of an operation, or of those inside it, where that is taken out.
 use Rattle.std.specs.Prelude.{ℕ, zero, suc, ◌+◌, List, [], ◌∷◌, length, Bool, true, false, ◌&&◌, Some, None}
 use Rattle.std.specs.List.{list_all}
-use Rattle.ir_store_lists.specs.Lists.{list_at}
+use Rattle.ir_store_reads.specs.Lists.{list_at}
 use Rattle.ir_tree.specs.Tree.{Op}
 use Rattle.ir_tree.specs.Ids.{has_id}
 use Rattle.ir_tree.specs.Places.{without}
-use Rattle.ir_store_slots.specs.Rows.{Row, Shape, row_at}
-use Rattle.ir_store_slots.specs.Using.{use_in}
+use Rattle.ir_store_reads.specs.Rows.{Row, Shape, row_at}
+use Rattle.ir_store_reads.specs.Using.{use_in}
 
 -- whether the operation of a node among uses stays where operation x is taken out
 abbrev pub leaves_use : List Row → List (ℕ × ℕ) → ℕ → Op → ℕ → Bool

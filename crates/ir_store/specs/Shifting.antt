@@ -1,7 +1,5 @@
 -- What shifting an operation needs, and where it goes in the slots.
-use Rattle.std.specs.Prelude.{◌≡◌, ℕ, zero, suc, List, [], ◌∷◌, eqb, true, false, not, ◌&&◌, Bool, if◌then◌else◌, Option, Some, None, option_map, option_and_then}
-use Rattle.std.specs.List.{list_all}
-use Rattle.ir_store_lists.specs.Lists.{list_at}
+use Rattle.std.specs.Prelude.{◌≡◌, ℕ, eqb, true, false, not, ◌&&◌, Bool, if◌then◌else◌, Option, Some, None, option_map, option_and_then}
 use Rattle.ir_types.specs.declared.refusal.Refusal.{Refusal}
 use Rattle.ir_types.specs.declared.refusal.Refusal.TheVariants.{NoSuchOp, NoSuchIndex, IsRoot, IntoItself, OtherTable, TooDeepHere}
 use Rattle.ir_tree.specs.declared.place.Place.{Place}
@@ -12,7 +10,6 @@ use Rattle.ir_tree.specs.Places.{shifted}
 use Rattle.ir_tree_laws.specs.Reads.{around}
 use Rattle.ir_tree_laws.specs.Tables.{table_of}
 use Rattle.ir_tree_laws.specs.Reasons.{unless, has_place, leads_inside, same_table, fits_around, levels_in}
-use Rattle.ir_store_slots.specs.Rows.{Row, Shape, row_at}
 
 -- operation x is there and not the root, and the place is there and not within it
 pub record CanRelink (x : ℕ) (place : Place) (t : Op) : Type 0 where

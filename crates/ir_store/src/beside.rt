@@ -3,8 +3,8 @@ ghost use Rattle.std.specs.Prelude.{◌≡◌};
 ghost use Rattle.ir_tree_laws.specs.Reads.{first_at, last_at, prev_of, is_before};
 
 use crate::store::Store;
-use ir_store_slots::find::find;
 use ir_store_reads::beside::{find_block, goes_before, id_of};
+use ir_store_reads::find::find;
 use ir_types::ids::OpId;
 
 impl Store {

@@ -1,19 +1,23 @@
 //! The tree of a store.
-ghost use Rattle.std.specs.Prelude.{◌≡◌, IfOk};
+ghost use Rattle.std.specs.Prelude.{◌≡◌, IfOk, IfErr};
 
 use crate::store::Store;
 use ir_store_reads::copy::copy_op;
 use ir_tree::tree::TreeOp;
-use std::alloc::AllocError;
+use ir_types::refusal::Refusal;
 
 /// More levels than an operation of a module has inside it.
 const LEVELS: u32 = 1_000;
 
 impl Store {
     /// The tree of the module, copied.
-    pub fn tree(&self) -> Result<TreeOp, AllocError>
-        ensures { IfOk result (λ t. t ≡ self.now.module_of.tree) }
+    ///
+    /// Refusals: `Memory`.
+    pub fn tree(&self) -> Result<TreeOp, Refusal>
+        ensures tree { IfOk result (λ t. t ≡ self.now.module_of.tree) }
+        ensures refused { IfErr result (λ e. e ≡ Refusal.Memory) }
     {
-        copy_op(self.alloc, &self.rows, &self.sibs, &self.root, LEVELS)
+        let tree = copy_op(self.alloc, &self.rows, &self.sibs, &self.root, LEVELS)?;
+        Ok(tree)
     }
 }

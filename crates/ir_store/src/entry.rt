@@ -1,17 +1,17 @@
 //! Entries of dictionaries, set and taken out.
-ghost use Rattle.std.specs.Prelude.{◌≡◌, None, OnOk, OnErr, IfSome, MatchResult, Some};
+ghost use Rattle.std.specs.Prelude.{◌≡◌, None, OnOk, OnErr, IfErr, IfSome, MatchResult, Some};
 ghost use Rattle.ir_types.specs.Reasons.{IsRefusedFor};
 ghost use Rattle.ir_types.specs.Things.{IsName, IsAttr};
 ghost use Rattle.ir_tree.specs.Meaning.{isolated_in, key_before_in, IsSoundIn};
 ghost use Rattle.ir_tree.specs.WellFormed.{IsWellFormed};
 ghost use Rattle.ir_tree_laws.specs.Reasons.{set_entry_reason};
-ghost use Rattle.ir_store_slots.specs.Stored.{has_slot};
-ghost use Rattle.ir_store.specs.Calls.{after_entry, CanRevert};
+ghost use Rattle.ir_store_reads.specs.Stored.{has_slot};
+ghost use Rattle.ir_store.specs.Calls.{after_entry, CanRevert, WantsNoSlot};
 
 use crate::store::Store;
-use ir_store_slots::entry::{change_row, find_entry, has_slot_at, revert_row};
-use ir_store_slots::find::{find, slot};
-use ir_store_slots::marks::put_mark;
+use ir_store_reads::entry::{change_row, find_entry, has_slot_at, revert_row};
+use ir_store_reads::find::{find, slot};
+use ir_store_reads::marks::put_mark;
 use ir_tree::place::Part;
 use ir_types::context::Context;
 use ir_types::ids::{AttrId, NameId, OpId};
@@ -29,7 +29,7 @@ impl Store {
     }
 
     /// Sets a key of one dictionary of an operation of the module to an attribute, or takes it out: its slot stands
-    /// then. It wants memory only where the key has no slot.
+    /// then. It wants memory only where a key is set that has no slot.
     ///
     /// Refusals, in order: `NoSuchOp`; `NoSuchKey` where there is no entry to be taken out; `Full` where the
     /// dictionary has no room for one more; and `Memory`.
@@ -50,6 +50,7 @@ impl Store {
         ensures sound { IsSoundIn ctx.now self.new.module_of.tree }
         ensures formed { IsWellFormed (isolated_in ctx.now) self.old.module_of → IsWellFormed (isolated_in ctx.now) self.new.module_of }
         ensures err { OnErr result (self.new ≡ self.old) }
+        ensures slot { WantsNoSlot op part key value self.old → IfErr result (λ e. set_entry_reason (key_before_in ctx.now) op part key value self.old.module_of.tree ≡ Some e) }
     {
         self.enter(ctx, op, part, key, value)
     }
@@ -65,9 +66,10 @@ impl Store {
         key: NameId,
         value: Option<AttrId>,
     ) -> Result<(), Refusal>
-        ensures { MatchResult result
+        ensures done { MatchResult result
             (λ _. (set_entry_reason (key_before_in ctx.now) op part key value self.old.module_of.tree ≡ None) × (self.new ≡ after_entry (key_before_in ctx.now) op part key value self.old))
             (λ e. IsRefusedFor {A = Unit {0}} (set_entry_reason (key_before_in ctx.now) op part key value self.old.module_of.tree) (Err e) × (self.new ≡ self.old)) }
+        ensures slot { IsSoundIn ctx.now self.old.module_of.tree → WantsNoSlot op part key value self.old → IfErr result (λ e. set_entry_reason (key_before_in ctx.now) op part key value self.old.module_of.tree ≡ Some e) }
     {
         let at = match find_entry(ctx, &self.rows, &self.keys, op, part, key, &value) {
             Ok(at) => at,

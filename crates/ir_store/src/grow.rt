@@ -1,12 +1,12 @@
 //! Operations that come, and are held.
 ghost use Rattle.std.specs.Prelude.{◌≡◌, None, IfOk, OnOk, OnErr, if◌then◌else◌};
-ghost use Rattle.ir_store_slots.specs.Stored.{known};
-ghost use Rattle.ir_store_slots.specs.Emptied.{after_grow};
+ghost use Rattle.ir_store_reads.specs.Stored.{known};
+ghost use Rattle.ir_store_reads.specs.Emptied.{after_grow};
 
 use crate::store::Store;
-use ir_store_slots::grow::grow_slot;
-use ir_store_slots::marks::{put_mark, reach};
-use ir_store_slots::row::put_row;
+use ir_store_reads::grow::grow_slot;
+use ir_store_reads::marks::{put_mark, reach};
+use ir_store_reads::row::put_row;
 use ir_store_reads::spare::{find_spare, take_spare};
 use ir_tree::tree::TreeOp;
 use ir_types::ids::OpId;

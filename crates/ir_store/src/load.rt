@@ -11,11 +11,11 @@ ghost use Rattle.ir_tree_laws.specs.Values.{has_value};
 ghost use Rattle.ir_tree.specs.Meaning.{isolated_in, IsSoundIn};
 ghost use Rattle.ir_tree.specs.WellFormed.{IsFormed, IsWellFormed, fault};
 ghost use Rattle.ir_store.specs.Calls.{Loaded};
-ghost use Rattle.ir_store_slots.specs.Emptied.{emptied};
+ghost use Rattle.ir_store_reads.specs.Emptied.{emptied};
 ghost use Rattle.ir_store.specs.Loads.{end_of, put_region, put_regions, MayRegion, MayRegions, Adds, AreBelow};
 
 use crate::store::Store;
-use ir_store_slots::room::room_for;
+use ir_store_reads::room::room_for;
 use ir_tree::check::check;
 use ir_tree::place::Place;
 use ir_tree::tree::{TreeOp, TreeRegion};
@@ -32,7 +32,7 @@ impl Store {
     {
         let mut rest = values;
         'values: while let [value, tail @ ..] = rest {
-            if self.value_type(value).is_none() {
+            if self.value_type(*value).is_none() {
                 return false;
             }
             rest = tail;
@@ -156,14 +156,18 @@ impl Store {
     }
 
     /// The same module of a tree that is handed over, and is known to be formed: it isn't checked again.
-    pub fn hold(alloc: Global, ctx: &Context, tree: TreeOp, next: u32) -> Result<Store, AllocError>
+    ///
+    /// Refusals: `Memory`.
+    pub fn hold(alloc: Global, ctx: &Context, tree: TreeOp, next: u32) -> Result<Store, Refusal>
         requires sound { IsSoundIn ctx.now tree }
         requires distinct { HasDistinctIds tree }
         requires below { All (λ x. x < next) (ids tree) }
         requires formed { IsFormed (isolated_in ctx.now) tree }
         ensures ok { IfOk result (λ s. Loaded tree next s) }
         ensures formed { IfOk result (λ s. IsWellFormed (isolated_in ctx.now) s.module_of) }
+        ensures refused { IfErr result (λ e. e ≡ Refusal.Memory) }
     {
-        spread(alloc, &tree, next)
+        let store = spread(alloc, &tree, next)?;
+        Ok(store)
     }
 }

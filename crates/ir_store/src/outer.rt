@@ -12,7 +12,7 @@ impl Outer for Store {
     ghost next = { λ s. s.module_of.next };
 
     fn value_type(&self, value: Value) -> Option<TypeId> {
-        Store::value_type(self, &value)
+        Store::value_type(self, value)
     }
 
     fn next_id(&self) -> u32 {

@@ -2,7 +2,7 @@
 ghost use Rattle.ir_store.specs.Calls.{Releases};
 
 use crate::store::Store;
-use ir_store_slots::release::release_slots;
+use ir_store_reads::release::release_slots;
 
 impl Store {
     /// Gives up the held operations with an id from `from` on. From 0 on, the slots of the keys that were taken out of

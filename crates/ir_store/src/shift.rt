@@ -14,21 +14,22 @@ ghost use Rattle.ir_tree.specs.WellFormed.{IsWellFormed};
 ghost use Rattle.ir_tree_laws.specs.Reads.{around, is_within};
 ghost use Rattle.ir_tree_laws.specs.Reasons.{fits_around, leads_inside, levels_in, same_table, shift_reason};
 ghost use Rattle.ir_store.specs.Calls.{after_shift};
-ghost use Rattle.ir_store_slots.specs.Rows.{rows_of, live_slot};
-ghost use Rattle.ir_store_slots.specs.Spots.{spot_in};
+ghost use Rattle.ir_store_reads.specs.Rows.{rows_of, live_slot};
+ghost use Rattle.ir_store_reads.specs.Spots.{spot_in};
 ghost use Rattle.ir_store.specs.Shifting.{CanRelink, level, relink_reason, table_at, unseen_reason};
 
 use crate::store::Store;
-use ir_store_slots::find::{Keys, find};
-use ir_store_slots::row::Row;
-use ir_store_slots::spot::{find_spot, link};
-use ir_store_slots::uses::id_at;
+use ir_store_reads::Ordered;
 use ir_store_reads::depth::op_fits;
+use ir_store_reads::find::{Keys, find};
+use ir_store_reads::row::Row;
+use ir_store_reads::spot::{find_spot, link};
+use ir_store_reads::use_lists::id_at;
+use ir_tree::limits::MOST_AROUND;
 use ir_tree::place::Place;
 use ir_types::context::Context;
 use ir_types::ids::OpId;
 use ir_types::refusal::Refusal;
-use ir_store_lists::Ordered;
 
 impl Store {
     /// Moves an operation of the module other than the root, with what stands in it, to a place outside of it. Whether
@@ -231,7 +232,7 @@ impl Store {
     {
         self.distinct();
         let mut at = op;
-        let mut room = 128;
+        let mut room = MOST_AROUND as u32;
         'around: while room > 0 {
             let Some(place) = self.place(at) else {
                 return room;

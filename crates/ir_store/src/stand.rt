@@ -4,7 +4,7 @@ ghost use Rattle.ir_tree.specs.Places.{place_of};
 ghost use Rattle.ir_tree_laws.specs.Reads.{parent_of, next_of};
 
 use crate::store::Store;
-use ir_store_slots::find::find;
+use ir_store_reads::find::find;
 use ir_store_reads::stand::place_at;
 use ir_tree::place::Place;
 use ir_types::ids::OpId;

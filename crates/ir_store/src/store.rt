@@ -1,43 +1,41 @@
 //! The module under edits.
-ghost use Rattle.std.specs.Prelude.{◌≡◌, ℕ, eqb, Some, None, MatchResult, MatchBool, option_map, IfOk, false, true, ◌<◌, OnOk, OnErr, []};
+ghost use Rattle.std.specs.Prelude.{◌≡◌, eqb, Some, None, MatchResult, option_map, IfOk, false, true, ◌<◌, []};
 ghost use Rattle.std.specs.FinMap as finmap;
 ghost use Rattle.std.specs.Ordering.{nat_cmp};
 ghost use Rattle.ir_tree.specs.Ids.{has_id, op_count};
 ghost use Rattle.ir_tree.specs.Tree.{head};
-ghost use Rattle.ir_store_slots.specs.Rows.{rows_of, row_of};
-ghost use Rattle.ir_store_slots.specs.Spells.{Spelled, Spelled-prop};
+ghost use Rattle.ir_store_reads.specs.Rows.{rows_of, row_of};
+ghost use Rattle.ir_store_reads.specs.Spells.{Spelled, Spelled-prop};
 ghost use Rattle.ir_tree_laws.specs.Values.{type_of_value};
-ghost use Rattle.ir_store_slots.specs.Using.{AreUses};
-ghost use Rattle.ir_store_slots.specs.Reasoned.{rewire_reason};
+ghost use Rattle.ir_store_reads.specs.Using.{AreUses};
+ghost use Rattle.ir_store_reads.specs.Reasoned.{rewire_reason};
 ghost use Rattle.ir_tree.specs.Limits.{most_next};
 ghost use Rattle.ir_tree_laws.specs.Changes.{operand_at};
 ghost use Rattle.ir_tree_laws.specs.Reasons.{take_reason};
-ghost use Rattle.ir_store_slots.specs.Nodes.{node_of};
-ghost use Rattle.ir_store_slots.specs.Stored.{known};
+ghost use Rattle.ir_store_reads.specs.Nodes.{node_of};
+ghost use Rattle.ir_store_reads.specs.Stored.{known};
 ghost use Rattle.ir_store.specs.Calls.{after_take, after_restore, after_retract, after_operand, CanRestore, CanRetract, raised};
-ghost use Rattle.ir_store_slots.specs.Emptied.{seeded};
+ghost use Rattle.ir_store_reads.specs.Emptied.{seeded};
 ghost use Rattle.ir_store.specs.Holds.{HoldsOf, HoldsOf-prop, GoneOf, GoneOf-prop};
 
-use ir_store_lists::Chains;
-use ir_store_ids::IdTable;
-use ir_store_slots::find::{Keys, find, slot};
-use ir_store_slots::grow::grow_slot;
-use ir_store_slots::marks::{new_marks, put_mark, reach};
-use ir_store_slots::room::Room;
-use ir_store_slots::row::{Cell, Row, put_operand, put_row};
-use ir_store_slots::spot::{find_joint, link};
-use ir_store_slots::uses::{
-    find_idle, find_rewire, free_uses, lead_row, list_uses, live_type, use_node, use_run,
-    value_head,
-};
+use ir_store_reads::find::{Keys, find, slot};
+use ir_store_reads::grow::grow_slot;
+use ir_store_reads::marks::{new_marks, put_mark, reach};
 use ir_store_reads::node::Node;
+use ir_store_reads::room::Room;
+use ir_store_reads::row::{Cell, Row, put_operand, put_row};
 use ir_store_reads::spare::NO_SLOT;
+use ir_store_reads::spot::{find_joint, link};
+use ir_store_reads::use_lists::{
+    find_idle, find_rewire, free_uses, lead_row, live_type, use_node, use_run, value_head,
+};
+use ir_store_reads::uses::{UsesOf, uses_from};
+use ir_store_reads::{Chains, IdTable, Ordered};
 use ir_tree::place::Place;
 use ir_tree::tree::TreeOp;
 use ir_tree::value::Value;
 use ir_types::ids::{OpId, TypeId};
 use ir_types::refusal::Refusal;
-use ir_store_lists::Ordered;
 use std::alloc::{AllocError, Global};
 use std::marker::Model;
 
@@ -68,9 +66,9 @@ impl Model for Store {
     ghost use Rattle.std.specs.Prelude.{eqb};
     ghost use Rattle.std.specs.FinMap as finmap;
     ghost use Rattle.std.specs.Ordering.{nat_cmp};
-    ghost use Rattle.ir_store_slots.specs.Stored.{Stored, stored_code};
-    ghost use Rattle.ir_store_slots.specs.Rows.{rows_of};
-    ghost use Rattle.ir_store_slots.specs.Index.{Fits, cells_of};
+    ghost use Rattle.ir_store_reads.specs.Stored.{Stored, stored_code};
+    ghost use Rattle.ir_store_reads.specs.Rows.{rows_of};
+    ghost use Rattle.ir_store_reads.specs.Index.{Fits, cells_of};
 
     ghost Value = { Stored };
 
@@ -210,21 +208,21 @@ impl Store {
 
 impl Store {
     /// The type of a value of the module.
-    pub fn value_type(&self, value: &Value) -> Option<TypeId>
-        ensures { result ≡ type_of_value value.now self.now.module_of.tree }
+    pub fn value_type(&self, value: Value) -> Option<TypeId>
+        ensures { result ≡ type_of_value value self.now.module_of.tree }
     {
-        live_type(&self.rows, &self.keys, value)
+        live_type(&self.rows, &self.keys, &value)
     }
 }
 
 impl Store {
     /// The uses of a value of the module, each once: the operations, and which operands.
-    pub fn uses(&self, value: &Value) -> Result<Vec<(OpId, usize)>, AllocError>
-        ensures { IfOk result (λ us. AreUses value.now self.now.module_of.tree us.items) }
+    pub fn uses(&self, value: Value) -> UsesOf<'_>
+        ensures { AreUses value self.now.module_of.tree result }
     {
         self.uses.laws();
-        let head = value_head(&self.rows, &self.keys, &self.uses, value);
-        list_uses(self.alloc, &self.rows, &self.cells, &self.uses, head)
+        let head = value_head(&self.rows, &self.keys, &self.uses, &value);
+        uses_from(&self.rows, &self.cells, &self.uses, head)
     }
 }
 

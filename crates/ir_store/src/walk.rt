@@ -1,23 +1,26 @@
 //! The operations of the module, one after another.
-ghost use Rattle.std.specs.Prelude.{◌≡◌, ◌∷◌, ◌++◌, [], ℕ, List, IfOk, MatchOption, None, true};
+ghost use Rattle.std.specs.Prelude.{◌≡◌, ◌∷◌, ◌++◌, [], ℕ, List, IfOk, IfErr, MatchOption, None, true};
 ghost use Rattle.ir_tree.specs.Ids.{find as the_first, has_id, ids};
 ghost use Rattle.ir_store.specs.Ends.{IsLastIn, ids_in};
 
 use crate::store::Store;
-use ir_store_slots::find::find;
-use ir_store_slots::uses::id_at;
+use ir_store_reads::find::find;
+use ir_store_reads::use_lists::id_at;
 use ir_store_reads::walk::{last_slot, push_op};
 use ir_types::ids::OpId;
-use std::alloc::AllocError;
+use ir_types::refusal::Refusal;
 
 /// More levels than an operation of a module has inside it.
 const LEVELS: u32 = 1_000;
 
 impl Store {
-    /// All operations of the module in pre-order: each before those inside it, and these in the order of the regions and
-    /// of the blocks that they stand in.
-    pub fn operations(&self) -> Result<Vec<OpId>, AllocError>
-        ensures { IfOk result (λ v. v.items ≡ ids self.now.module_of.tree) }
+    /// All operations of the module in pre-order: each before those inside it, and these in the order of the regions
+    /// and of the blocks that they stand in.
+    ///
+    /// Refusals: `Memory`.
+    pub fn operations(&self) -> Result<Vec<OpId>, Refusal>
+        ensures listed { IfOk result (λ v. v.items ≡ ids self.now.module_of.tree) }
+        ensures refused { IfErr result (λ e. e ≡ Refusal.Memory) }
     {
         self.sibs.laws();
         let mut ops = Vec::with_capacity(self.alloc, self.count as usize)?;

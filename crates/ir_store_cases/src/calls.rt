@@ -9,21 +9,21 @@ use crate::moves::{release_line, shift_line};
 use crate::reads::{put_reads, sum};
 use crate::state::{Show, State};
 use crate::undone::{restore_line, retract_line, revert_line};
-use ir_tree_cases_base::build::bare;
-use ir_tree_cases_base::words::{first, number};
-use ir_tree_cases_base::{build, written};
 use ir_store::store::Store;
 use ir_tree::check::check;
 use ir_tree::find::list_ids;
 use ir_tree::numbered::distinct;
 use ir_tree::sound::sound;
 use ir_tree::tree::TreeOp;
+use ir_tree_cases_base::build::bare;
+use ir_tree_cases_base::words::{first, number};
+use ir_tree_cases_base::{build, written};
 use ir_types::context::Context;
 use ir_types::refusal::Refusal;
-use std::alloc::{AllocError, Global};
+use std::alloc::Global;
 
 /// Whether the ids of a tree are below a number.
-pub fn are_below(alloc: Global, tree: &TreeOp, next: u32) -> Result<bool, AllocError>
+pub fn are_below(alloc: Global, tree: &TreeOp, next: u32) -> Result<bool, Refusal>
     ensures { IfOk result (λ b. IsTrue b → All (λ x. x < next) (ids tree.now)) }
 {
     let ids = list_ids(alloc, tree)?;
@@ -71,24 +71,24 @@ fn load_line(
     state: &mut State,
     call: &str,
     text: &str,
-) -> Result<String, AllocError> {
+) -> Result<String, Refusal> {
     match made(alloc, &state.context, call, text) {
         Ok(store) => {
             state.hold(store);
-            written::word(alloc, "ok")
+            Ok(written::word(alloc, "ok")?)
         }
-        Err(refusal) => written::refusal(alloc, refusal),
+        Err(refusal) => Ok(written::refusal(alloc, refusal)?),
     }
 }
 
 /// `tree`, `sum`, or nothing for anything else.
-fn show_line(alloc: Global, state: &mut State, text: &str) -> Result<String, AllocError> {
+fn show_line(alloc: Global, state: &mut State, text: &str) -> Result<String, Refusal> {
     state.show = match text {
         "tree" => Show::Tree,
         "sum" => Show::Sum,
         _ => Show::Nothing,
     };
-    written::word(alloc, "ok")
+    Ok(written::word(alloc, "ok")?)
 }
 
 /// Makes an edit.
@@ -99,7 +99,7 @@ fn edit(
     taken: &mut Vec<TreeOp>,
     tree: &TreeOp,
     line: &str,
-) -> Result<Told, AllocError> {
+) -> Result<Told, Refusal> {
     let (call, rest) = first(line);
     match call {
         "put" => put_line(alloc, ctx, store, tree, rest),
@@ -123,17 +123,17 @@ fn put_shown(
     store: &Store,
     show: Show,
     words: &str,
-) -> Result<(), AllocError> {
+) -> Result<(), Refusal> {
     match show {
         Show::Tree => {
             written::put_number(out, " ", u64::from(store.next_id()))?;
             out.push_str(" : ")?;
-            out.push_str(words)
+            Ok(out.push_str(words)?)
         }
         _ => {
             let mut text = String::from_str(alloc, words)?;
             put_reads(&mut text, ctx, store)?;
-            written::put_number(out, " ", u64::from(sum(text.as_bytes())))
+            Ok(written::put_number(out, " ", u64::from(sum(text.as_bytes())))?)
         }
     }
 }
@@ -146,7 +146,7 @@ fn edited(
     taken: &mut Vec<TreeOp>,
     show: Show,
     line: &str,
-) -> Result<String, AllocError> {
+) -> Result<String, Refusal> {
     let tree = store.tree()?;
     let told = edit(alloc, ctx, store, taken, &tree, line)?;
     let after = store.tree()?;
@@ -167,13 +167,13 @@ fn edited_briefly(
     store: &mut Store,
     taken: &mut Vec<TreeOp>,
     line: &str,
-) -> Result<String, AllocError> {
+) -> Result<String, Refusal> {
     let told = edit(alloc, ctx, store, taken, &bare(alloc, 0), line)?;
     Ok(told.answer)
 }
 
 /// Makes an edit of the module, if there is one.
-fn edit_line(alloc: Global, state: &mut State, line: &str) -> Result<String, AllocError> {
+fn edit_line(alloc: Global, state: &mut State, line: &str) -> Result<String, Refusal> {
     let State {
         context,
         store,
@@ -181,7 +181,7 @@ fn edit_line(alloc: Global, state: &mut State, line: &str) -> Result<String, All
         show,
     } = state;
     let Some(store) = store else {
-        return written::word(alloc, "no module");
+        return Ok(written::word(alloc, "no module")?);
     };
     match show {
         Show::Nothing => edited_briefly(alloc, context, store, taken, line),
@@ -190,7 +190,7 @@ fn edit_line(alloc: Global, state: &mut State, line: &str) -> Result<String, All
 }
 
 /// The answer to a line.
-pub fn answer(alloc: Global, state: &mut State, line: &str) -> Result<String, AllocError> {
+pub fn answer(alloc: Global, state: &mut State, line: &str) -> Result<String, Refusal> {
     let (call, rest) = first(line);
     match call {
         "load" | "hold" => load_line(alloc, state, call, rest),

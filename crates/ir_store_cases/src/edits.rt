@@ -1,7 +1,5 @@
 //! The edits of a module, each beside what the plain program makes of its tree.
 use crate::may::{may_put, may_set};
-use ir_tree_cases_base::words::{first, name_id, number, op_id, part, place, some_attr, value};
-use ir_tree_cases_base::{build, written};
 use ir_store::store::Store;
 use ir_tree::changes::{put, with_operand_set, without};
 use ir_tree::copy::copy;
@@ -9,10 +7,12 @@ use ir_tree::entries::with_entry_set;
 use ir_tree::find::find;
 use ir_tree::place::Place;
 use ir_tree::tree::TreeOp;
+use ir_tree_cases_base::words::{first, name_id, number, op_id, part, place, some_attr, value};
+use ir_tree_cases_base::{build, written};
 use ir_types::context::Context;
 use ir_types::ids::OpId;
 use ir_types::refusal::Refusal;
-use std::alloc::{AllocError, Global};
+use std::alloc::Global;
 
 /// An answer, and the tree that the module should have then.
 #[derive(Drop)]
@@ -22,7 +22,7 @@ pub struct Told {
 }
 
 /// What an accepted edit tells.
-pub fn accepted(alloc: Global, answer: &str, tree: TreeOp) -> Result<Told, AllocError> {
+pub fn accepted(alloc: Global, answer: &str, tree: TreeOp) -> Result<Told, Refusal> {
     Ok(Told {
         answer: written::word(alloc, answer)?,
         tree,
@@ -30,7 +30,7 @@ pub fn accepted(alloc: Global, answer: &str, tree: TreeOp) -> Result<Told, Alloc
 }
 
 /// What a refused edit tells: the tree stays.
-pub fn refused(alloc: Global, refusal: Refusal, tree: &TreeOp) -> Result<Told, AllocError> {
+pub fn refused(alloc: Global, refusal: Refusal, tree: &TreeOp) -> Result<Told, Refusal> {
     Ok(Told {
         answer: written::refusal(alloc, refusal)?,
         tree: copy(tree)?,
@@ -38,7 +38,7 @@ pub fn refused(alloc: Global, refusal: Refusal, tree: &TreeOp) -> Result<Told, A
 }
 
 /// What is told where the module isn't asked.
-pub fn unasked(alloc: Global, tree: &TreeOp) -> Result<Told, AllocError> {
+pub fn unasked(alloc: Global, tree: &TreeOp) -> Result<Told, Refusal> {
     accepted(alloc, "unasked", copy(tree)?)
 }
 
@@ -49,10 +49,10 @@ fn with_header(
     place: &Place,
     header: TreeOp,
     id: OpId,
-) -> Result<TreeOp, AllocError> {
+) -> Result<TreeOp, Refusal> {
     let mut op = header;
     op.id = id;
-    put(alloc, tree, place, &op)
+    Ok(put(alloc, tree, place, &op)?)
 }
 
 /// `2 0 4 : op use:1.0 end`: the place, and the header that is put there.
@@ -62,7 +62,7 @@ pub fn put_line(
     store: &mut Store,
     tree: &TreeOp,
     text: &str,
-) -> Result<Told, AllocError> {
+) -> Result<Told, Refusal> {
     let (at, words) = text.split_once(" : ").unwrap_or((text, ""));
     let header = build::tree(alloc, words)?;
     let place = place(at);
@@ -76,7 +76,7 @@ pub fn put_line(
 }
 
 /// Keeps a copy of an operation that is taken.
-fn keep(taken: &mut Vec<TreeOp>, tree: &TreeOp, op: OpId) -> Result<(), AllocError> {
+fn keep(taken: &mut Vec<TreeOp>, tree: &TreeOp, op: OpId) -> Result<(), Refusal> {
     match find(tree, op) {
         Some(found) => Ok(taken.push(copy(found)?)?),
         None => Ok(()),
@@ -90,7 +90,7 @@ pub fn take_line(
     taken: &mut Vec<TreeOp>,
     tree: &TreeOp,
     text: &str,
-) -> Result<Told, AllocError> {
+) -> Result<Told, Refusal> {
     let op = op_id(text);
     match store.take(op) {
         Ok(()) => {
@@ -108,7 +108,7 @@ pub fn set_line(
     store: &mut Store,
     tree: &TreeOp,
     text: &str,
-) -> Result<Told, AllocError> {
+) -> Result<Told, Refusal> {
     let (op, rest) = first(text);
     let (operand, word) = first(rest);
     let (op, operand, value) = (op_id(op), number(operand), value(word));
@@ -129,7 +129,7 @@ pub fn entry_line(
     store: &mut Store,
     tree: &TreeOp,
     text: &str,
-) -> Result<Told, AllocError> {
+) -> Result<Told, Refusal> {
     let (op, rest) = first(text);
     let (dictionary, rest) = first(rest);
     let (key, attr) = first(rest);

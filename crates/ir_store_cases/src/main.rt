@@ -12,12 +12,11 @@ mod undone;
 
 use crate::state::State;
 use ir_types::refusal::Refusal;
-use std::alloc::AllocError;
 use std::io;
 use std::io::{ErrorKind, Read};
 
 /// Prints the answer to a line.
-fn print_answer(rt: &HostRuntime, state: &mut State, line: &str) -> Result<(), AllocError> {
+fn print_answer(rt: &HostRuntime, state: &mut State, line: &str) -> Result<(), Refusal> {
     let answer = calls::answer(rt.alloc(), state, line)?;
     let _ = println!(rt; "{answer}");
     Ok(())

@@ -23,7 +23,7 @@ use ir_tree::tree::{TreeOp, TreeRegion};
 use ir_tree::value::Value;
 use ir_types::context::Context;
 use ir_types::ids::{AttrId, NameId, OpId};
-use std::alloc::AllocError;
+use ir_types::refusal::Refusal;
 
 /// Whether nothing stands in an operation.
 fn is_bare(header: &TreeOp) -> bool
@@ -102,7 +102,7 @@ fn has_values(store: &Store, values: &[Value]) -> bool
 {
     let mut rest = values;
     'values: while let [value, tail @ ..] = rest {
-        if store.value_type(value).is_none() {
+        if store.value_type(*value).is_none() {
             return false;
         }
         rest = tail;
@@ -139,7 +139,7 @@ fn fits_next(store: &Store, op: OpId, fresh: bool) -> bool
 }
 
 /// Whether a held operation may be put back at a place of a module.
-pub fn may_restore(store: &Store, op: OpId, place: &Place, fresh: bool) -> Result<bool, AllocError>
+pub fn may_restore(store: &Store, op: OpId, place: &Place, fresh: bool) -> Result<bool, Refusal>
     ensures { IfOk result (λ b. b ≡ true → CanRestore op place.now fresh store.now) }
 {
     let tree = store.tree()?;
@@ -152,7 +152,7 @@ pub fn may_set(
     store: &Store,
     key: NameId,
     value: Option<AttrId>,
-) -> Result<bool, AllocError>
+) -> Result<bool, Refusal>
     ensures key { IfOk result (λ b. b ≡ true → IsName ctx.now key) }
     ensures value { IfOk result (λ b. b ≡ true → IfSome value (λ a. IsAttr ctx.now a)) }
     ensures sound { IfOk result (λ b. b ≡ true → IsSoundIn ctx.now store.now.module_of.tree) }

@@ -5,18 +5,19 @@ ghost use Rattle.ir_tree.specs.WellFormed.{IsWellFormed};
 
 use crate::calls::are_below;
 use crate::edits::{Told, accepted, refused, unasked};
-use ir_tree_cases_base::words::{first, number, op_id, place};
 use ir_store::store::Store;
 use ir_tree::changes::shifted;
 use ir_tree::check::check;
 use ir_tree::copy::copy;
 use ir_tree::numbered::distinct;
 use ir_tree::tree::TreeOp;
+use ir_tree_cases_base::words::{first, number, op_id, place};
 use ir_types::context::Context;
-use std::alloc::{AllocError, Global};
+use ir_types::refusal::Refusal;
+use std::alloc::Global;
 
 /// Whether a tree with a next free id is a well-formed module.
-fn is_formed(alloc: Global, ctx: &Context, tree: &TreeOp, next: u32) -> Result<bool, AllocError>
+fn is_formed(alloc: Global, ctx: &Context, tree: &TreeOp, next: u32) -> Result<bool, Refusal>
     ensures { IfOk result (λ b. b ≡ true → IsWellFormed (isolated_in ctx.now) (record { tree = tree.now; next = next })) }
 {
     if !distinct(alloc, tree)? {
@@ -32,7 +33,7 @@ fn is_formed(alloc: Global, ctx: &Context, tree: &TreeOp, next: u32) -> Result<b
 }
 
 /// Whether a module may be asked to shift an operation: it is well-formed.
-fn may_shift(alloc: Global, ctx: &Context, store: &Store) -> Result<bool, AllocError>
+fn may_shift(alloc: Global, ctx: &Context, store: &Store) -> Result<bool, Refusal>
     ensures { IfOk result (λ b. b ≡ true → IsWellFormed (isolated_in ctx.now) store.now.module_of) }
 {
     let tree = store.tree()?;
@@ -46,7 +47,7 @@ pub fn shift_line(
     store: &mut Store,
     tree: &TreeOp,
     text: &str,
-) -> Result<Told, AllocError> {
+) -> Result<Told, Refusal> {
     let (op, at) = first(text);
     let (op, place) = (op_id(op), place(at));
     if !may_shift(alloc, ctx, store)? {
@@ -64,7 +65,7 @@ pub fn release_line(
     store: &mut Store,
     tree: &TreeOp,
     text: &str,
-) -> Result<Told, AllocError> {
+) -> Result<Told, Refusal> {
     store.release(number(text));
     accepted(alloc, "ok", copy(tree)?)
 }

@@ -1,9 +1,10 @@
 //! A sum over all that is read of a module.
-use ir_tree_cases_base::written::{put_entries, put_number, put_types, put_values};
 use ir_store::node::Node;
 use ir_store::store::Store;
+use ir_store::uses::UsesOf;
 use ir_tree::place::{Part, Place};
 use ir_tree::value::Value;
+use ir_tree_cases_base::written::{put_entries, put_number, put_types, put_values};
 use ir_types::context::Context;
 use ir_types::ids::{NameId, OpId, TypeId};
 use std::alloc::AllocError;
@@ -103,12 +104,12 @@ fn put_slots(out: &mut String, store: &Store, op: OpId) -> Result<(), AllocError
 }
 
 /// A sum over uses, in whatever order.
-fn sum_of_uses(uses: &[(OpId, usize)]) -> u64 {
+fn sum_of_uses(uses: UsesOf<'_>) -> u64 {
     let mut sum: u64 = 0;
-    for user in uses {
-        let one = u64::from(user.0.number())
+    for (op, operand) in uses {
+        let one = u64::from(op.number())
             .wrapping_mul(256)
-            .wrapping_add(user.1 as u64);
+            .wrapping_add(u64::from(operand));
         sum = sum.wrapping_add(one.wrapping_mul(one));
     }
     sum
@@ -116,13 +117,13 @@ fn sum_of_uses(uses: &[(OpId, usize)]) -> u64 {
 
 /// Writes the type of a value, and a sum over its uses.
 fn put_value_reads(out: &mut String, store: &Store, value: Value) -> Result<(), AllocError> {
-    match store.value_type(&value) {
+    match store.value_type(value) {
         Some(ty) => put_number(out, " ", u64::from(ty.number()))?,
         None => out.push_str(" -")?,
     }
-    let uses = store.uses(&value)?;
+    let uses = store.uses(value);
     put_number(out, " ", uses.len() as u64)?;
-    put_number(out, " ", sum_of_uses(&uses))
+    put_number(out, " ", sum_of_uses(uses))
 }
 
 /// Writes what is read of values of an operation.

@@ -1,7 +1,7 @@
 //! What lines speak of: a context, a module, the operations that were taken out of it, and what is shown of it.
-use ir_tree_cases_base::build::bare;
 use ir_store::store::Store;
 use ir_tree::tree::TreeOp;
+use ir_tree_cases_base::build::bare;
 use ir_types::context::Context;
 use ir_types::node::{AttrNode, Sign, TypeNode};
 use ir_types::refusal::Refusal;

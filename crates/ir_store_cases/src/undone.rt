@@ -4,7 +4,6 @@ ghost use Rattle.ir_store.specs.Calls.{CanRetract};
 
 use crate::edits::{Told, accepted, refused, unasked};
 use crate::may::{may_restore, may_revert, may_set};
-use ir_tree_cases_base::words::{first, name_id, op_id, part, place, some_attr};
 use ir_store::store::Store;
 use ir_tree::changes::{put, without};
 use ir_tree::copy::copy;
@@ -13,10 +12,11 @@ use ir_tree::find::find;
 use ir_tree::numbered::distinct;
 use ir_tree::place::Place;
 use ir_tree::tree::TreeOp;
+use ir_tree_cases_base::words::{first, name_id, op_id, part, place, some_attr};
 use ir_types::context::Context;
 use ir_types::ids::OpId;
 use ir_types::refusal::Refusal;
-use std::alloc::{AllocError, Global};
+use std::alloc::Global;
 
 /// The tree with an operation that was taken, at a place.
 fn with_taken(
@@ -25,10 +25,10 @@ fn with_taken(
     tree: &TreeOp,
     op: OpId,
     place: &Place,
-) -> Result<TreeOp, AllocError> {
+) -> Result<TreeOp, Refusal> {
     match taken.iter().rev().find(|found| found.id == op) {
-        Some(found) => put(alloc, tree, place, found),
-        None => copy(tree),
+        Some(found) => Ok(put(alloc, tree, place, found)?),
+        None => Ok(copy(tree)?),
     }
 }
 
@@ -39,7 +39,7 @@ pub fn restore_line(
     taken: &[TreeOp],
     tree: &TreeOp,
     text: &str,
-) -> Result<Told, AllocError> {
+) -> Result<Told, Refusal> {
     let (age, rest) = first(text);
     let (op, at) = first(rest);
     let (fresh, op, place) = (age == "new", op_id(op), place(at));
@@ -114,7 +114,7 @@ pub fn retract_line(
     taken: &mut Vec<TreeOp>,
     tree: &TreeOp,
     text: &str,
-) -> Result<Told, AllocError> {
+) -> Result<Told, Refusal> {
     let (age, op) = first(text);
     let op = op_id(op);
     match retract(alloc, store, op, age == "new") {
@@ -137,7 +137,7 @@ pub fn revert_line(
     store: &mut Store,
     tree: &TreeOp,
     text: &str,
-) -> Result<Told, AllocError> {
+) -> Result<Told, Refusal> {
     let (op, rest) = first(text);
     let (dictionary, rest) = first(rest);
     let (key, attr) = first(rest);

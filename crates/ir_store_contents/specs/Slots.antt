@@ -1,5 +1,5 @@
 -- A dictionary with the slots of the keys that were taken out of it.
-use Rattle.std.specs.Prelude.{ℕ, List, [], ◌∷◌, ◌++◌, map, take, drop, eqb, Bool, ◌||◌, if◌then◌else◌, Option, Some, None, refl}
+use Rattle.std.specs.Prelude.{◌≡◌, ◌⊎◌, ℕ, true, List, [], ◌∷◌, ◌++◌, map, take, drop, eqb, Bool, ◌||◌, if◌then◌else◌, Option, Some, None, refl}
 use Rattle.std.specs.Coded.{Coded, code_by, coded×, coded_list, coded_ℕ}
 use Rattle.std.specs.List.{list_any}
 use Rattle.ir_tree.specs.Edits.{change_entry}
@@ -35,6 +35,10 @@ is_gone k ls = list_any (λ l. eqb l k) ls
 -- whether there is a slot for key k: the key is there, or its slot still stands
 abbrev pub has_slot : ℕ → Slots → Bool
 has_slot k s = has_key k s.present || is_gone k s.gone
+
+-- to set key k to a, or to take it out, wants no new slot: it is taken out, or there is a slot for it
+abbrev pub WantsNoSlot : ℕ → Option ℕ → Slots → Type 0
+WantsNoSlot k a s = (a ≡ None) ⊎ (has_slot k s ≡ true)
 
 -- the keys that are gone, without the first that is k
 abbrev pub keep_gone : ℕ → List ℕ → List ℕ

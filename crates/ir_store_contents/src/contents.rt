@@ -1,9 +1,9 @@
 //! What an operation in a slot has, beside its name and its places.
-ghost use Rattle.std.specs.Prelude.{◌≡◌, ◌<◌, [], true, false, ◌||◌, nat_lt, map, length, slice_get, slice_set, Some, None, is_some, IfOk, OnOk, OnErr, MatchOption};
+ghost use Rattle.std.specs.Prelude.{◌≡◌, ◌<◌, [], true, false, ◌||◌, nat_lt, map, length, slice_get, slice_set, Some, None, is_some, IfOk, IsOk, OnOk, OnErr, MatchOption};
 ghost use Rattle.ir_tree.specs.Edits.{entry_at};
 ghost use Rattle.ir_tree.specs.Meaning.{key_before_in, rises};
 ghost use Rattle.ir_tree.specs.Tree.{head};
-ghost use Rattle.ir_store_contents.specs.Slots.{has_key, has_slot as is_slot, with_change};
+ghost use Rattle.ir_store_contents.specs.Slots.{has_key, has_slot as is_slot, with_change, WantsNoSlot};
 ghost use Rattle.ir_store_contents.specs.Shapes.{shape_of};
 ghost use Rattle.ir_store_contents.specs.Contents.{no_slots, no_contents, head_contents, contents_of, contents_with, dictionary_in, with_dictionary, without_gone, no_entries, entries_with, entries_at, with_part, entries_kept};
 
@@ -214,6 +214,7 @@ impl Contents {
         requires { value ≡ None → is_some (entry_at (key_before_in ctx.now) key (dictionary_in part self.old).present) ≡ true }
         ensures ok { OnOk result (self.new ≡ with_dictionary part (with_change (key_before_in ctx.now) key value (dictionary_in part self.old)) self.old) }
         ensures err { OnErr result (self.new ≡ self.old) }
+        ensures slot { rises (key_before_in ctx.now) (dictionary_in part self.old).present ≡ true → WantsNoSlot key value (dictionary_in part self.old) → IsOk result }
     {
         match widen(alloc, &mut self.held) {
             Ok(()) => {}
@@ -329,6 +330,7 @@ impl Entries {
         requires { value ≡ None → is_some (entry_at (key_before_in ctx.now) key (entries_at part self.old).present) ≡ true }
         ensures ok { OnOk result (self.new ≡ with_part part (with_change (key_before_in ctx.now) key value (entries_at part self.old)) self.old) }
         ensures err { OnErr result (self.new ≡ self.old) }
+        ensures slot { rises (key_before_in ctx.now) (entries_at part self.old).present ≡ true → WantsNoSlot key value (entries_at part self.old) → IsOk result }
     {
         match part {
             Part::Props => change(ctx, &mut self.props, key, value),
@@ -409,7 +411,8 @@ fn held_whole(alloc: Global, header: &TreeOp, areas: Vec<Area>) -> Result<Held, 
 
 /// Makes room for entries of an operation that has none.
 fn widen(alloc: Global, held: &mut Held) -> Result<(), AllocError>
-    ensures { contents_of held.new ≡ contents_of held.old }
+    ensures same { contents_of held.new ≡ contents_of held.old }
+    ensures none { OnErr result ((contents_of held.old).properties ≡ no_slots × (contents_of held.old).attributes ≡ no_slots) }
 {
     let wide = match held {
         Held::Plain(plain) => widened(alloc, plain)?,
@@ -447,6 +450,7 @@ fn change(
     requires { value ≡ None → is_some (entry_at (key_before_in ctx.now) key entries.old.present) ≡ true }
     ensures ok { OnOk result (entries.new ≡ with_change (key_before_in ctx.now) key value entries.old) }
     ensures err { OnErr result (entries.new ≡ entries.old) }
+    ensures slot { rises (key_before_in ctx.now) entries.old.present ≡ true → WantsNoSlot key value entries.old → IsOk result }
 {
     match value {
         None => {

@@ -1,7 +1,8 @@
-ghost use Rattle.std.specs.Prelude.{◌≡◌, [], ◌||◌, true, length, nat_lt, IfOk, OnOk, OnErr, IsOk, Some, None, is_some};
+//! A dictionary, with the slots of the keys that were taken out of it.
+ghost use Rattle.std.specs.Prelude.{◌≡◌, [], true, length, nat_lt, IfOk, OnOk, OnErr, IsOk, Some, None, is_some};
 ghost use Rattle.ir_tree.specs.Edits.{entry_at};
 ghost use Rattle.ir_tree.specs.Meaning.{key_before_in, rises};
-ghost use Rattle.ir_store_contents.specs.Slots.{has_key, is_gone, has_slot, with_change};
+ghost use Rattle.ir_store_contents.specs.Slots.{has_key, has_slot, with_change};
 
 use crate::lookup::{contains, find_entry, find_spot, forget, value_at};
 use ir_types::context::Context;

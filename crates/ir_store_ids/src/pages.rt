@@ -1,5 +1,5 @@
-//! Slots of ids that came in order. Of each page of ids the first ones are counted whose slots follow each other, but that
-//! in up to three places one slot is left out, as the head of a block takes one.
+//! Slots of ids that came in order. Of each page of ids the first ones are counted whose slots follow each other, but
+//! that in up to three places one slot is left out, as the head of a block takes one.
 ghost use Rattle.std.specs.Prelude.{◌≡◌, ℕ, ◌+◌, ◌*◌, ◌<◌, ◌++◌, ◌∷◌, [], length, MatchResult};
 ghost use Rattle.ir_store_ids.specs.Pages.{step_at, behind, slot_by, TellsFirst, Counted, Forgotten, Learnt};
 
@@ -128,8 +128,8 @@ pub(crate) fn forget(pages: &mut Vec<Page>, id: u32)
     }
 }
 
-/// Counts an id with its slot, where those of all before it in its page are counted, and it follows them. Where there is
-/// no memory for a page, it isn't counted.
+/// Counts an id with its slot, where those of all before it in its page are counted, and it follows them. Where there
+/// is no memory for a page, it isn't counted.
 pub(crate) fn learn(pages: &mut Vec<Page>, id: u32, slot: u32)
     ensures { Learnt id slot pages.old.items pages.new.items }
 {

@@ -1,4 +1,5 @@
-ghost use Rattle.std.specs.Prelude.{◌≡◌, ◌<◌, ◌≤◌, ◌+◌, ◌*◌, ◌∷◌, ◌++◌, [], length, take, IfSome};
+//! The labels of nodes, which rise along each list.
+ghost use Rattle.std.specs.Prelude.{◌≡◌, ◌<◌, ◌≤◌, ◌+◌, ◌∷◌, ◌++◌, [], take, IfSome};
 ghost use Rattle.std.specs.Vec.{vec_capacity, vec_len};
 ghost use Rattle.ir_store_lists.specs.Lists.{IsHead, IsItem, home_at, list_at};
 ghost use Rattle.ir_store_lists.specs.Labels.{IsRoom, Rising, from, label_at, label_before, last_label, spread, spread_end, step};

@@ -1,9 +1,10 @@
-ghost use Rattle.std.specs.Prelude.{◌≡◌, ℕ, ◌+◌, ◌<◌, ◌≤◌, [], ◌∷◌, ◌++◌, map, length, max, slice_set, IfOk, OnErr, OnOk, MatchOption, slice_get, None};
+//! Lists of nodes, of which two of one list can be told which stands first.
+ghost use Rattle.std.specs.Prelude.{◌≡◌, ◌+◌, ◌<◌, [], ◌∷◌, ◌++◌, map, length, max, slice_set, IfOk, OnErr, OnOk, MatchOption, slice_get, None};
 ghost use Rattle.ir_store_lists.specs.Lists.{IsHead, IsItem, IsFree, free, list_at, home_at, without, put_before, after, before, last_of, let_go, with_node, Laws};
 ghost use Rattle.ir_store_lists.specs.Labels.{goes_before};
 
-use crate::label::{end_label, label_for, more};
 use crate::chains::Chains;
+use crate::label::{end_label, label_for, more};
 use std::alloc::{AllocError, Global};
 use std::marker::Model;
 

@@ -1,10 +1,10 @@
+//! How the links of nodes are written.
 ghost use Rattle.std.specs.Prelude.{◌≡◌, ◌+◌, ◌<◌, ◌≤◌, ◌∷◌, ◌++◌, [], length, slice_set};
 ghost use Rattle.std.specs.Vec.{vec_capacity, vec_len};
 ghost use Rattle.ir_store_lists.specs.Ring.{nexts, prevs, homes, at as at_node};
 ghost use Rattle.ir_store_lists.specs.Lists.{free};
 
 use crate::link::Link;
-use std::alloc::AllocError;
 
 pub(crate) const FREE: u32 = u32::MAX;
 

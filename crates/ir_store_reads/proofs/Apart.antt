@@ -1,8 +1,8 @@
 -- A node that isn't in a list stands before none of it.
 use Rattle.std.proofs.Common.{◌≡◌, ℕ, List, [], ◌∷◌, refl, sym, ◌∙◌, Bool, true, false, eqb, cond, ◌||◌, ⊎_elim}
 use Rattle.std.proofs.lemmas.Bool.{cases_Bool, false≢true}
-use Rattle.ir_store_lists.specs.Lists.{Laws, has, list_at, home_at}
-use Rattle.ir_store_lists.specs.Labels.{goes_before as slot_before}
+use Rattle.ir_store_slots.specs.Lists.{Laws, has, list_at, home_at}
+use Rattle.ir_store_slots.specs.Labels.{goes_before as slot_before}
 
 -- where a node isn't in a list, none stands before it
 pub not_behind : (a b : ℕ) (ks : List ℕ) → has b ks ≡ false → slot_before a b ks ≡ false

@@ -1,6 +1,5 @@
 -- Copies of what slots spell.
 use Rattle.std.proofs.Common.{◌≡◌, ℕ, zero, suc, ◌+◌, ◌<◌, List, [], ◌∷◌, ◌++◌, map, take, get_or, sym, ap, ◌∙◌, subst, length, arith, Some, None}
-use Rattle.std.specs.Prelude.{Result, Ok, Err, IfOk}
 use Rattle.std.proofs.lemmas.List.{take_more, map-append, map_more}
 use Rattle.ir_tree.specs.declared.tree.TreeRegion.{TreeRegion}
 use Rattle.ir_tree.specs.View.{region_view}
@@ -52,7 +51,3 @@ heads_at homes (y ∷ areas) (suc n) x l e h = heads_at homes areas n x (omega (
     others : (a : Shape) (xs : List Shape) → AllHeads homes (a ∷ xs) → AllHeads homes xs
     others None xs h = h
     others (Some a) xs h = h.1
-
-pub if_ok : {A E : Type 0} {P Q : A → Type 0} (r : Result A E) → ((a : A) → P a → Q a) → IfOk r P → IfOk r Q
-if_ok (Ok a) f p = f a p
-if_ok (Err e) f p = tt

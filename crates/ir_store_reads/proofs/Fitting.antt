@@ -4,7 +4,7 @@ use Rattle.std.specs.Prelude.{IfSome}
 use Rattle.std.proofs.lemmas.Bool.{cases_eq}
 use Rattle.std.proofs.lemmas.List.{get_or-map}
 use Rattle.std.proofs.lemmas.Option.{slice_get_within}
-use Rattle.ir_store_lists.specs.Lists.{IsHead, IsFree}
+use Rattle.ir_store_slots.specs.Lists.{IsHead, IsFree}
 use Rattle.ir_tree.specs.Tree.{Op, op, head, Region, regions_of}
 use Rattle.ir_tree_laws.specs.Reasons.{with_id}
 use Rattle.ir_store_slots.specs.declared.row.Cell.{Cell}

@@ -3,3 +3,17 @@ pub mod Arguments
 pub mod Copied
 pub mod Adding
 pub mod Fitting
+pub mod Using
+pub use Rattle.ir_store_slots.proofs.Around
+pub use Rattle.ir_store_slots.proofs.Celled
+pub use Rattle.ir_store_slots.proofs.Cuts
+pub use Rattle.ir_store_slots.proofs.Founds
+pub use Rattle.ir_store_slots.proofs.Grown
+pub use Rattle.ir_store_slots.proofs.Heads
+pub use Rattle.ir_store_slots.proofs.Idle
+pub use Rattle.ir_store_slots.proofs.Items
+pub use Rattle.ir_store_slots.proofs.Mapped
+pub use Rattle.ir_store_slots.proofs.Marking
+pub use Rattle.ir_store_slots.proofs.Slots
+pub use Rattle.ir_store_slots.proofs.Walked
+pub use Rattle.ir_store_slots.proofs.Wide

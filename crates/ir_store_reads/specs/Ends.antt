@@ -1,6 +1,6 @@
 -- The last slots of blocks.
 use Rattle.std.specs.Prelude.{ℕ, List, [], ◌∷◌, Option, None, Some}
-use Rattle.ir_store_lists.specs.Lists.{last_of, list_at}
+use Rattle.ir_store_slots.specs.Lists.{last_of, list_at}
 use Rattle.ir_tree.specs.Ids.{first_of}
 use Rattle.ir_store_slots.specs.Rows.{Shape}
 

@@ -1,6 +1,6 @@
 -- The lists of blocks, in slots.
 use Rattle.std.specs.Prelude.{◌≡◌, ◌<◌, ℕ, List, length, Option, option_and_then, slice_get}
-use Rattle.ir_store_lists.specs.Lists.{home_at}
+use Rattle.ir_store_slots.specs.Lists.{home_at}
 use Rattle.ir_store_slots.specs.Rows.{Row, row_at, head_in}
 
 -- the head of the list of the block of region n of operation p, if it has one: `slots` tells the slots of operations

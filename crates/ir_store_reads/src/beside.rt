@@ -1,18 +1,18 @@
 //! The blocks of operations, and what stands beside what in them.
 ghost use Rattle.std.specs.Prelude.{◌≡◌, option_map};
 ghost use Rattle.std.specs.FinMap as finmap;
-ghost use Rattle.ir_store_lists.specs.Lists.{home_at, list_at};
-ghost use Rattle.ir_store_lists.specs.Labels.{goes_before};
+ghost use Rattle.ir_store_slots.specs.Lists.{home_at, list_at};
+ghost use Rattle.ir_store_slots.specs.Labels.{goes_before};
 ghost use Rattle.ir_store_slots.specs.Rows.{rows_of, live_slot};
 ghost use Rattle.ir_store_slots.specs.Spots.{id_in};
 ghost use Rattle.ir_store_reads.specs.Heading.{block_in, CanStand};
 
+use ir_store_slots::Ordered;
 use ir_store_slots::find::{Keys, find};
 use ir_store_slots::row::Row;
 use ir_store_slots::spot::block_head;
-use ir_store_slots::uses::id_at;
+use ir_store_slots::use_lists::id_at;
 use ir_types::ids::OpId;
-use ir_store_lists::Ordered;
 
 /// The head of the list of the block of a region of an operation of the module, if it has one.
 pub fn find_block(rows: &Vec<Row>, keys: &Keys, op: OpId, region: u32) -> Option<usize>

@@ -1,14 +1,14 @@
 //! How deep operations of the module are.
 ghost use Rattle.std.specs.Prelude.{◌≡◌, ℕ, ◌∷◌, [], map};
 ghost use Rattle.std.specs.List.{list_all};
-ghost use Rattle.ir_store_lists.specs.Lists.{IsHead, Laws, list_at};
+ghost use Rattle.ir_store_slots.specs.Lists.{IsHead, Laws, list_at};
 ghost use Rattle.ir_store_slots.specs.Rows.{rows_of, row_at, shape_of};
 ghost use Rattle.ir_store_slots.specs.Plans.{AllHeads};
 ghost use Rattle.ir_store_slots.specs.Right.{Live};
 ghost use Rattle.ir_store_slots.specs.Walks.{slot_fits, shapes_pass};
 
+use ir_store_slots::Ordered;
 use ir_store_slots::row::{Area, Row};
-use ir_store_lists::Ordered;
 
 /// Whether the operation of a slot has fewer levels inside it than there is room for.
 #[cycle(fit)]

@@ -8,4 +8,9 @@ pub mod node;
 pub mod spare;
 pub mod stand;
 pub mod users;
+pub mod uses;
 pub mod walk;
+
+pub use ir_store_slots::{
+    Chains, IdTable, Ordered, entry, find, grow, marks, release, room, row, spot, use_lists,
+};

@@ -1,21 +1,20 @@
 //! Slots that were given up and are written again. Whether a slot can be is looked at as it is, so nothing has to be
 //! known of it.
-ghost use Rattle.std.specs.Prelude.{◌≡◌, ◌<◌, ◌∷◌, [], ℕ, true, length, map, IfOk, IfSome};
-ghost use Rattle.ir_store_lists.specs.Lists.{IsFree, IsHead, free, list_at};
+ghost use Rattle.std.specs.Prelude.{◌≡◌, ◌<◌, [], true, map, IfOk, IfSome};
+ghost use Rattle.ir_store_slots.specs.Lists.{IsFree, IsHead, list_at};
 ghost use Rattle.ir_tree.specs.View.{region_view};
-ghost use Rattle.ir_store_slots.specs.Rows.{row_of, rows_of, row_at, shape_of};
+ghost use Rattle.ir_store_slots.specs.Rows.{row_of, rows_of, shape_of};
 ghost use Rattle.ir_store_slots.specs.Index.{cells_of, cell_at};
 ghost use Rattle.ir_store_slots.specs.Emptied.{emptied_region};
-ghost use Rattle.ir_store_slots.specs.Grows.{parts_of, NewBlock, IsBlock, AreBlocks, AreEmptied, Grown, bare_region};
+ghost use Rattle.ir_store_slots.specs.Grows.{parts_of, IsBlock, AreBlocks, AreEmptied, Grown, bare_region};
 ghost use Rattle.ir_store_reads.specs.Again.{HeadsOf, NodesOf, BlockFits, RowFits};
 ghost use Rattle.ir_tree.specs.Tree.{head};
 
-use ir_store_lists::Chains;
 use ir_store_slots::grow::held_row;
 use ir_store_slots::row::{Area, Cell, Row};
+use ir_store_slots::{Chains, Ordered};
 use ir_tree::tree::{TreeOp, TreeRegion};
 use ir_types::ids::OpId;
-use ir_store_lists::Ordered;
 use std::alloc::{AllocError, Global};
 
 /// No slot.
@@ -304,8 +303,8 @@ fn spare_before(rows: &Vec<Row>, slot: u32) -> u32 {
     }
 }
 
-/// A spare slot for an operation like a header: the one that was given up behind it, if any; the slot; and the row to be
-/// written there. A few of those that were given up last are looked at.
+/// A spare slot for an operation like a header: the one that was given up behind it, if any; the slot; and the row to
+/// be written there. A few of those that were given up last are looked at.
 pub fn find_spare(
     alloc: Global,
     rows: &Vec<Row>,

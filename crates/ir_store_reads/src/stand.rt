@@ -1,14 +1,14 @@
 //! Where operations of the module stand.
 ghost use Rattle.std.specs.Prelude.{◌≡◌, ◌<◌, Some, option_map};
-ghost use Rattle.ir_store_lists.specs.Lists.{IsItem, after, home_at, list_at};
+ghost use Rattle.ir_store_slots.specs.Lists.{IsItem, after, home_at, list_at};
 ghost use Rattle.ir_store_slots.specs.Rows.{rows_of, row_at};
 ghost use Rattle.ir_store_slots.specs.Spots.{id_in, slot_place};
 
+use ir_store_slots::Ordered;
 use ir_store_slots::row::Row;
-use ir_store_slots::uses::id_at;
+use ir_store_slots::use_lists::id_at;
 use ir_tree::place::Place;
 use ir_types::ids::OpId;
-use ir_store_lists::Ordered;
 
 /// Where the operation of a slot stands.
 pub fn place_at(rows: &Vec<Row>, sibs: &Ordered, key: usize) -> Option<Place>

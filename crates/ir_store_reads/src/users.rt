@@ -5,7 +5,7 @@ ghost use Rattle.ir_store_slots.specs.Index.{cells_of};
 ghost use Rattle.ir_store_slots.specs.Using.{use_in};
 
 use ir_store_slots::row::{Cell, Row};
-use ir_store_slots::uses::id_at;
+use ir_store_slots::use_lists::id_at;
 use ir_types::ids::OpId;
 
 /// The heads of the uses of a slot's results: the first, and how many.

@@ -1,15 +1,15 @@
 //! The operations of the module, one after another.
 ghost use Rattle.std.specs.Prelude.{◌≡◌, ℕ, ◌∷◌, [], None, map, IfSome, OnOk};
-ghost use Rattle.ir_store_lists.specs.Lists.{IsHead, Laws, list_at};
+ghost use Rattle.ir_store_slots.specs.Lists.{IsHead, Laws, list_at};
 ghost use Rattle.ir_store_slots.specs.Rows.{row_of as the_row, rows_of, row_at, shape_of};
 ghost use Rattle.ir_store_slots.specs.Plans.{AllHeads};
 ghost use Rattle.ir_store_slots.specs.Right.{Live};
 ghost use Rattle.ir_store_reads.specs.Added.{AddsOp, AddsOps, AddsRegions};
 ghost use Rattle.ir_store_reads.specs.Ends.{last_in, later};
 
+use ir_store_slots::Ordered;
 use ir_store_slots::row::{Area, Row};
 use ir_types::ids::OpId;
-use ir_store_lists::Ordered;
 use std::alloc::AllocError;
 
 /// Adds the operation of a slot and those inside it, where that is at most so many levels deep.

@@ -1,11 +1,11 @@
 -- Rows, as a function's calls tell them, and what else is plain.
-use Rattle.std.proofs.Common.{◌≡◌, ℕ, ◌<◌, List, map, set, get_or, sym, ap, ◌∙◌, length, eqb, Bool, Option, Some, arith}
+use Rattle.std.proofs.Common.{◌≡◌, ℕ, ◌<◌, List, set, get_or, sym, ap, ◌∙◌, length, eqb, Some, arith}
 use Rattle.std.specs.Prelude.{Result, Ok, Err, OnOk}
 use Rattle.std.specs.Ordering.{nat_cmp, eq_by_cmp}
 use Rattle.std.proofs.lemmas.Bool.Decides.{nat_tests}
 use Rattle.std.proofs.lemmas.List.{get_or-map, get_or-set_same, get_or-set_other, length-map, map-set}
 use Rattle.ir_store_slots.specs.declared.row.Row.{Row as Kept}
-use Rattle.ir_store_slots.specs.Rows.{Row, row_at, row_of, rows_of, no_row}
+use Rattle.ir_store_slots.specs.Rows.{row_at, row_of, rows_of, no_row}
 
 pub read_row : (items : List Kept) (k : ℕ) (n : Kept) → k < length items → n ≡ get_or items k n → row_at (rows_of items) k ≡ row_of n
 read_row items k n l e = get_or-map row_of items k n no_row l ∙ ap row_of (sym e)

@@ -1,19 +1,18 @@
 -- Slots are looked at in the order of their lists.
-use Rattle.std.proofs.Common.{◌≡◌, ℕ, zero, suc, ◌+◌, ◌-◌, ◌<◌, ◌≤◌, List, [], ◌∷◌, ◌++◌, map, set, get_or, refl, sym, ap, ◌∙◌, subst, length, Bool, true, false, not, ◌&&◌, ◌||◌, eqb, cond, arith, Option, Some, None, ⊎_elim, slice_get}
-use Rattle.std.specs.Prelude.{if◌then◌else◌, is_some, nat_lt}
+use Rattle.std.proofs.Common.{◌≡◌, ℕ, zero, suc, ◌-◌, ◌<◌, ◌≤◌, List, [], ◌∷◌, ◌++◌, map, set, get_or, refl, sym, ap, ◌∙◌, subst, length, Bool, true, false, not, ◌&&◌, ◌||◌, eqb, cond, arith, Option, Some, None, ⊎_elim, slice_get}
+use Rattle.std.specs.Prelude.{if◌then◌else◌, nat_lt}
 use Rattle.std.specs.Ordering.{nat_cmp}
 use Rattle.std.specs.FinMap as finmap
-use Rattle.std.proofs.lemmas.Bool.{cases_eq, cases_lt, cases_Bool, eq-eqb, ne_eqb, eqb-true, cond-true, cond-false, false≢true}
+use Rattle.std.proofs.lemmas.Bool.{cases_eq, cases_lt, eq-eqb, ne_eqb, cond-true, cond-false, false≢true}
 use Rattle.std.proofs.lemmas.Bool.Decides.{nat_tests}
 use Rattle.std.proofs.lemmas.List.{length-set, get_or_past, length-map}
 use Rattle.std.proofs.lemmas.Bool.{or_left, or_right}
-use Rattle.ir_store_lists.specs.Lists.{Lists, Laws, IsHead, IsItem, home_at, list_at, has, without, Once, after, free}
+use Rattle.ir_store_lists.specs.Lists.{Laws, IsItem, home_at, list_at, has, without, Once, after, free}
 use Rattle.ir_store_slots.specs.declared.row.Row.{Row as Kept}
 use Rattle.ir_store_slots.specs.Stored.{Gone, none_gone}
-use Rattle.ir_store_slots.specs.Releases.{is_given, given_up, forgetting, released, key_left, key_so_far, IsKeyed, ReleasesSlot, ReleasesSome, GivenUp, Forgets, Released}
-use Rattle.ir_store_slots.specs.Rows.{Row, row_at, row_of, rows_of, no_row}
+use Rattle.ir_store_slots.specs.Releases.{is_given, forgetting, IsKeyed, ReleasesSlot, ReleasesSome, GivenUp, Forgets, Released}
+use Rattle.ir_store_slots.specs.Rows.{Row, row_at, row_of, rows_of}
 use Rattle.ir_store_slots.specs.Marks.{has_gone, mark, home_of, node_of_slot, Marked}
-use Rattle.ir_store_slots.specs.Right.{Used, Live}
 use Rattle.ir_store_slots.specs.Walks.{from_slot}
 use Rattle.ir_store_slots.proofs.Items.{read_row, other_row, own_row}
 use Rattle.ir_store_slots.proofs.Marking.{marked_edit, marked_same}

@@ -1,10 +1,10 @@
 -- The lists of slots that are looked at when what is held is given up.
-use Rattle.std.proofs.Common.{◌≡◌, ◌⊎◌, ℕ, zero, suc, ◌+◌, ◌<◌, ◌≤◌, List, [], ◌∷◌, ◌++◌, set, refl, sym, ap, ◌∙◌, subst, length, Bool, true, false, cond, arith, Option, Some, None, ⊎_elim, inl, inr, get_or}
-use Rattle.std.specs.Prelude.{if◌then◌else◌, IfSome, is_some}
-use Rattle.std.proofs.lemmas.Bool.{cases_eq, cases_Bool, false≢true}
+use Rattle.std.proofs.Common.{◌≡◌, ◌⊎◌, ℕ, zero, suc, ◌<◌, List, [], ◌∷◌, ◌++◌, set, refl, sym, ap, ◌∙◌, subst, length, Bool, true, false, arith, Option, Some, None, ⊎_elim, inl, inr}
+use Rattle.std.specs.Prelude.{if◌then◌else◌, IfSome}
+use Rattle.std.proofs.lemmas.Bool.{cases_eq, false≢true}
 use Rattle.std.proofs.lemmas.List.{get_or-set_same, get_or-set_other, length-set, length-append}
 use Rattle.ir_store_lists.specs.Lists.{IsHead, IsItem, IsFree, home_at, free}
-use Rattle.ir_store_slots.specs.Rows.{Row, row_at, no_row}
+use Rattle.ir_store_slots.specs.Rows.{Row, row_at}
 use Rattle.ir_store_slots.specs.Right.{Used}
 use Rattle.ir_store_slots.specs.Marks.{has_gone, mark, home_of, node_of_slot, Marked, CanMark, CanPut, Reaches}
 

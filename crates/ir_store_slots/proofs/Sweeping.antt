@@ -1,16 +1,14 @@
 -- Slots are given up one by one.
-use Rattle.std.proofs.Common.{◌≡◌, ℕ, ◌+◌, ◌<◌, ◌≤◌, List, refl, sym, ap, ◌∙◌, subst, length, Bool, true, false, not, ◌&&◌, eqb, cond, arith, Option, Some, None, ⊎_elim, map, set, get_or}
-use Rattle.std.specs.Prelude.{if◌then◌else◌, nat_lt}
+use Rattle.std.proofs.Common.{◌≡◌, ℕ, ◌<◌, List, refl, sym, ap, ◌∙◌, length, Bool, true, false, ◌&&◌, eqb, cond, Option, Some, None, ⊎_elim, set, get_or}
+use Rattle.std.specs.Prelude.{if◌then◌else◌}
 use Rattle.std.specs.Ordering.{nat_cmp}
 use Rattle.std.specs.Cmp.{nat_cmp_total}
 use Rattle.std.specs.FinMap as finmap
-use Rattle.std.proofs.lemmas.Bool.{cases_eq, cases_Bool, eq-eqb, ne_eqb, cond-true, cond-false, false≢true}
-use Rattle.std.proofs.lemmas.Bool.Decides.{nat_tests}
-use Rattle.std.proofs.lemmas.List.{length-set, length-map, get_or_past}
+use Rattle.std.proofs.lemmas.Bool.{cases_eq, eq-eqb, ne_eqb, cond-true, cond-false, false≢true}
+use Rattle.std.proofs.lemmas.List.{length-set, length-map}
 use Rattle.ir_store_slots.specs.declared.row.Row.{Row as Kept}
 use Rattle.ir_store_slots.specs.Releases.{is_given, given_up, key_left, key_so_far, IsKeyed, ReleasesSlot, ReleasesSome, GivenUp}
-use Rattle.ir_store_slots.specs.Rows.{Row, row_at, row_of, rows_of, no_row}
-use Rattle.ir_store_slots.specs.Right.{Used}
+use Rattle.ir_store_slots.specs.Rows.{Row, row_at, row_of, rows_of}
 use Rattle.ir_store_slots.proofs.Items.{read_row, other_row, own_row}
 use Rattle.ir_store_slots.proofs.Items.{some_same}
 use Rattle.ir_store_slots.proofs.Items.{eq_nat}

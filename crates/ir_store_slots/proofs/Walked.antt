@@ -23,7 +23,7 @@ pub record Goes (k : ℕ) (ks : List ℕ) : Type 0 where
   pub is : from_slot (Some k) ks ≡ k ∷ rest
   pub later : from_slot (after k ks) ks ≡ rest
 
-after_in : (k m : ℕ) (ks : List ℕ) → after k ks ≡ Some m → has m ks ≡ true
+pub after_in : (k m : ℕ) (ks : List ℕ) → after k ks ≡ Some m → has m ks ≡ true
 after_in k m [] e = absurd cc
 after_in k m (x ∷ xs) e = go (eqb x k) refl e (after_in k m xs)
   where

@@ -1,10 +1,10 @@
 //! Entries of dictionaries, set and taken out.
-ghost use Rattle.std.specs.Prelude.{◌≡◌, true, None, OnOk, OnErr, Some, is_some, MatchOption};
+ghost use Rattle.std.specs.Prelude.{◌≡◌, true, None, IsOk, OnOk, OnErr, Some, is_some, MatchOption};
 ghost use Rattle.std.specs.FinMap as finmap;
 ghost use Rattle.ir_tree.specs.Edits.{entry_at, part_of as the_part};
 ghost use Rattle.ir_tree.specs.Meaning.{key_before_in, rises};
 ghost use Rattle.ir_tree_laws.specs.Reasons.{entry_reason};
-ghost use Rattle.ir_store_contents.specs.Slots.{has_key, has_slot as is_slot};
+ghost use Rattle.ir_store_contents.specs.Slots.{has_key, has_slot as is_slot, WantsNoSlot};
 ghost use Rattle.ir_store_contents.specs.Contents.{no_slots};
 ghost use Rattle.ir_store_slots.specs.Rows.{row_of, rows_of, row_at, live_slot};
 ghost use Rattle.ir_store_slots.specs.Entered.{slots_in, row_with_entry, entry_in};
@@ -129,6 +129,7 @@ pub fn change_row(
     requires { value ≡ None → is_some (entry_at (key_before_in ctx.now) key (the_part part (row_of row.old).head)) ≡ true }
     ensures ok { OnOk result (row_of row.new ≡ row_with_entry (key_before_in ctx.now) part key value (row_of row.old)) }
     ensures err { OnErr result (row_of row.new ≡ row_of row.old) }
+    ensures slot { rises (key_before_in ctx.now) (slots_in part (row_of row.old)).present ≡ true → WantsNoSlot key value (slots_in part (row_of row.old)) → IsOk result }
 {
     row.contents.change(alloc, ctx, part, key, value)
 }

@@ -1,5 +1,5 @@
 //! Slots by ids.
-ghost use Rattle.std.specs.Prelude.{◌≡◌, ◌<◌, ℕ, eqb, map, length, IfSome, Some};
+ghost use Rattle.std.specs.Prelude.{◌≡◌, ◌<◌, ℕ, eqb, map, length, Some};
 ghost use Rattle.std.specs.FinMap as finmap;
 ghost use Rattle.std.specs.Ordering.{nat_cmp};
 ghost use Rattle.ir_store_slots.specs.Rows.{rows_of, row_at, live_slot, shape_of};
@@ -8,9 +8,9 @@ ghost use Rattle.ir_store_slots.specs.Right.{Live};
 
 use crate::row::{Area, Row};
 use ir_store_ids::IdTable;
+use ir_store_lists::Ordered;
 use ir_types::ids::OpId;
 use ir_types::refusal::Refusal;
-use ir_store_lists::Ordered;
 
 /// The slots of operations by their numbers.
 pub type Keys = IdTable;

@@ -1,5 +1,5 @@
 //! Slots and nodes that are added.
-ghost use Rattle.std.specs.Prelude.{◌≡◌, ℕ, ◌+◌, ◌<◌, ◌≤◌, ◌++◌, ◌∷◌, [], length, map, IfOk, MatchResult, IfSome};
+ghost use Rattle.std.specs.Prelude.{◌≡◌, ℕ, ◌+◌, ◌<◌, ◌++◌, ◌∷◌, [], length, map, IfOk, MatchResult};
 ghost use Rattle.ir_tree.specs.View.{region_view};
 ghost use Rattle.ir_tree.specs.Tree.{block, no_ops, head};
 ghost use Rattle.ir_store_slots.specs.Rows.{row_of, rows_of, shape_of};
@@ -10,12 +10,11 @@ ghost use Rattle.ir_store_lists.specs.Lists.{free};
 ghost use Rattle.std.specs.Prelude.{if◌then◌else◌};
 
 use crate::row::{Area, Cell, Row, push_row};
-use ir_store_lists::Chains;
 use ir_store_contents::Contents;
+use ir_store_lists::{Chains, Ordered};
 use ir_tree::tree::{TreeOp, TreeRegion};
 use ir_tree::value::Value;
 use ir_types::ids::{NameId, OpId, TypeId};
-use ir_store_lists::Ordered;
 use std::alloc::{AllocError, Global};
 
 /// A row that holds nothing.

@@ -1,5 +1,5 @@
 //! Two lists of slots: those of the held operations, and those of the operations of the module that have gone keys.
-ghost use Rattle.std.specs.Prelude.{◌≡◌, ℕ, suc, ◌+◌, ◌<◌, ◌∷◌, [], length, slice_set, IfOk, OnOk, MatchResult};
+ghost use Rattle.std.specs.Prelude.{◌≡◌, suc, ◌+◌, ◌<◌, ◌∷◌, [], length, slice_set, IfOk, OnOk};
 ghost use Rattle.ir_store_lists.specs.Lists.{free};
 ghost use Rattle.ir_store_slots.specs.Rows.{row_of, rows_of, row_at};
 ghost use Rattle.ir_store_slots.specs.Marks.{mark, home_of, node_of_slot, CanMark, CanPut, Reaches};

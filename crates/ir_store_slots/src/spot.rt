@@ -8,9 +8,9 @@ ghost use Rattle.ir_store_slots.specs.Spots.{spot_in, joined, stands, StandsIn};
 
 use crate::find::{Keys, find, slot};
 use crate::row::{Area, Row};
+use ir_store_lists::Ordered;
 use ir_tree::place::Place;
 use ir_types::ids::OpId;
-use ir_store_lists::Ordered;
 
 /// The slot of a held operation.
 pub fn find_held(rows: &Vec<Row>, keys: &Keys, op: OpId) -> Option<usize>

@@ -15,3 +15,4 @@ pub mod EntryRoom
 pub mod OpRoom
 pub mod WholeRoom
 pub mod Sources
+pub mod Errors

@@ -3,8 +3,8 @@ use Rattle.std.proofs.Common.{◌≡◌, ◌≤◌, ℕ, Bool, true, false, List
 use Rattle.std.specs.Prelude.{Result, Ok, Err, IfOk, if◌then◌else◌, nat_lt, not, ◌==◌}
 use Rattle.std.specs.Str.Lossy.{utf8_valid_len}
 use Rattle.std.proofs.lemmas.Bool.Decides.{nat_tests}
-use Rattle.ir_types.specs.declared.refusal.Refusal.{Refusal}
-use Rattle.ir_types.specs.declared.refusal.Refusal.TheVariants.{TooMany, NotUtf8}
+use Rattle.ir_text_tokens.specs.declared.refusal.TextRefusal.{TextRefusal}
+use Rattle.ir_text_tokens.specs.declared.refusal.TextRefusal.TheVariants.{TooMany, NotUtf8}
 use Rattle.ir_types.specs.Things.{Things}
 use Rattle.ir_tree.specs.Tree.{Op}
 use Rattle.ir_text_tokens.specs.Limits.{most_bytes, text_reason}
@@ -22,7 +22,7 @@ pub within_limit : (bytes : List ℕ) → None ≡ text_reason bytes → length 
 within_limit bytes e = by (nat_lt most_bytes (length bytes)) refl e
   where
     Reason : Type 0
-    Reason = Option (Refusal × ℕ)
+    Reason = Option (TextRefusal × ℕ)
 
     too_many : Reason
     too_many = Some (TooMany, most_bytes)

@@ -4,5 +4,6 @@ pub mod AttrText
 pub mod Naming
 pub mod Printing
 pub mod View
+pub mod Answers
 pub mod Public
 pub mod Room

@@ -4,10 +4,11 @@ ghost use Rattle.ir_tree.specs.Meaning.{IsSoundIn};
 ghost use Rattle.ir_text_tokens.specs.declared.fault.Fault.{Fault as TextFault};
 ghost use Rattle.ir_text_operations.specs.Claims.{IsOnly, IsNone, IsRootOrNone, IsBody, IsSource};
 ghost use Rattle.ir_text_operations.specs.Filling.{new_things, RootFills, BodyFills, OpsFill, Fills};
+ghost use Rattle.ir_text_operations.specs.Limits.{most_levels};
 ghost use Rattle.ir_text_operations.specs.Spelling.{Spells};
 
-use ir_text_operations::module::{Root, as_written, explicit, implicit, looked_at};
 use ir_text_grammar::error::{ReadError, within_limits};
+use ir_text_operations::module::{Root, as_written, explicit, implicit, looked_at};
 use ir_text_tokens::fault::Fault;
 use ir_tree::tree::TreeOp;
 use ir_types::context::Context;
@@ -58,7 +59,7 @@ fn body_alone(alloc: Global, key: u64, bytes: &[u8]) -> Result<(Context, TreeOp)
 
 /// The fault of a text as it is written.
 fn fault_alone(alloc: Global, key: u64, bytes: &[u8], fault: Fault) -> Result<Fault, ReadError>
-    ensures { (left : ℕ) → result ≡ Err (ReadError.Full left) → OpsFill 129 0 bytes.now new_things }
+    ensures { (left : ℕ) → result ≡ Err (ReadError.Full left) → OpsFill most_levels 0 bytes.now new_things }
 {
     let mut ctx = match new_context(alloc, key) {
         Ok(ctx) => ctx,
@@ -111,14 +112,12 @@ fn source_alone(alloc: Global, key: u64, bytes: &[u8]) -> Result<(Context, TreeO
     }
 }
 
-/// The tree that a text spells, numbered from 0 in pre-order, and a context that holds what it names. A text
-/// that is one `builtin.module` without operands and results has it as its root; any other is the body of an
-/// implicit root. The context hashes with a key, on which no answer depends; to whoever writes the text it is to be
-/// unknown, so that no text has names that collide.
-///
-/// Refusals: those of reading into a context that is there. `Full` is none of them: no text within its limit
-/// fills a new context.
-pub fn read_new(alloc: Global, key: u64, bytes: &[u8]) -> Result<(Context, TreeOp), ReadError>
+/// The tree that a text spells, and a context that holds what it names. No text within its limit fills it.
+pub(crate) fn tree_alone(
+    alloc: Global,
+    key: u64,
+    bytes: &[u8],
+) -> Result<(Context, TreeOp), ReadError>
     ensures read { IfOk result (λ x. IsOnly (Spells bytes.now) x.0 x.1) }
     ensures sound { IfOk result (λ x. IsSoundIn x.0 x.1) }
     ensures refused { (f : TextFault) → result ≡ Err (ReadError.Refused f) → IsNone (Spells bytes.now) }

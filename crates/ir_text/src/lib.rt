@@ -2,9 +2,10 @@
 //! text spells, and no text fills a context of its own.
 #![tactic(auto)]
 
-pub mod alone;
+mod alone;
 pub mod attributes;
 mod between;
+pub mod error;
 mod naming;
 mod numbers;
 mod operations;

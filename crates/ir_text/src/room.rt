@@ -2,7 +2,9 @@
 //! reading by its definition, which the contracts of the functions that read name.
 ghost use Rattle.std.specs.Prelude.{◌≡◌, ◌≤◌, ℕ, List, [], length};
 ghost use Rattle.ir_types.specs.Things.{Things};
+ghost use Rattle.ir_tree.specs.Limits.{most_ops};
 ghost use Rattle.ir_tree.specs.Tree.{Op};
+ghost use Rattle.ir_text_tokens.specs.Limits.{most_bytes};
 ghost use Rattle.ir_text_tokens.specs.declared.token.Mark.{Mark};
 ghost use Rattle.ir_text_grammar.specs.Outcomes.{Read, Full};
 ghost use Rattle.ir_text_types.specs.TypeReading.{type_at, function_type_at};
@@ -31,10 +33,10 @@ pub fn attributes_fit()
 pub fn operations_fit()
     ensures room { (free : Frees) (last depth first : ℕ) (c : Things) (bytes : List ℕ) → HasRoom bytes c → op_at free last depth (fresh first bytes c) ≡ Full → ⊥ }
     ensures left { (free : Frees) (last depth first : ℕ) (c : Things) (bytes : List ℕ) (o : Op) (s : State) → HasRoom bytes c → op_at free last depth (fresh first bytes c) ≡ Read (o, s) → HasRoom s.bytes s.things }
-    ensures all { (free : Frees) (close : Mark) (last depth first : ℕ) (c : Things) (bytes : List ℕ) → HasRoom bytes c → ops_at close (op_at free last depth) 1048576 [] (fresh first bytes c) ≡ Full → ⊥ }
+    ensures all { (free : Frees) (close : Mark) (last depth first : ℕ) (c : Things) (bytes : List ℕ) → HasRoom bytes c → ops_at close (op_at free last depth) most_ops [] (fresh first bytes c) ≡ Full → ⊥ }
 {}
 
 /// A text within its limit fills no new context.
 pub fn texts_fit()
-    ensures { (bytes : List ℕ) → length bytes ≤ 16777216 → Fills bytes → ⊥ }
+    ensures { (bytes : List ℕ) → length bytes ≤ most_bytes → Fills bytes → ⊥ }
 {}

@@ -4,7 +4,7 @@ use Rattle.std.proofs.Common.{◌≡◌, ℕ, List, [], Option, Some, None, refl
 use Rattle.ir_text_tokens.specs.declared.fault.Fault.{Fault}
 use Rattle.ir_text_tokens.specs.declared.token.Mark.TheVariants.{End}
 use Rattle.ir_text_tokens.specs.Limits.{text_reason}
-use Rattle.ir_types.specs.declared.refusal.Refusal.{Refusal}
+use Rattle.ir_text_tokens.specs.declared.refusal.TextRefusal.{TextRefusal}
 use Rattle.ir_types.specs.Things.{Things, Grows}
 use Rattle.ir_types.specs.Sound.{IsSound}
 use Rattle.ir_types.specs.Terms.{AttrTerm, attr_term}
@@ -105,7 +105,7 @@ module _ (bytes : List ℕ) where
   pub none_spelled : IsNoAttr (IsSingleAttr bytes) → IsNoAttr (SpellsAttr bytes)
   none_spelled none y s = none y s.spelled
 
-  pub no_text : (r : Refusal × ℕ) → text_reason bytes ≡ Some r → IsNoAttr (SpellsAttr bytes)
+  pub no_text : (r : TextRefusal × ℕ) → text_reason bytes ≡ Some r → IsNoAttr (SpellsAttr bytes)
   no_text r e y s = let t = s.text in absurd cc
 
 -- ---- and what is answered

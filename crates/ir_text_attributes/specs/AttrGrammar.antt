@@ -8,6 +8,7 @@ use Rattle.ir_text_tokens.specs.Tokens.{Lexeme, mark, integer, string, bare, has
 use Rattle.ir_text_tokens.specs.Strings.{string_bytes}
 use Rattle.ir_text_tokens.specs.Numbers.{integer_of, below_limit}
 use Rattle.ir_types.specs.declared.node.Sign.TheVariants.{Signless}
+use Rattle.ir_types.specs.Limits.{most_depth, most_entries}
 use Rattle.ir_types.specs.Terms.{TypeTerm, Integer, AttrTerm, IntegerOf, String, TypeOf, Flag, Array, Dictionary, Symbol, DenseArray, Overflow, AttrTerms, no_attrs, next_attr, EntryTerms, no_entries, next_entry}
 use Rattle.ir_types.specs.Readings.{literal_bits, reading_of}
 use Rattle.ir_types.specs.Reasons.{attr_fault}
@@ -33,7 +34,7 @@ IsTypeAttr depth = Then (IsType depth) (λ t. IsFine (TypeOf t))
 
 -- the type behind a colon, or 64 bits where none follows
 abbrev pub IsSuffix : Grammar Text TypeTerm
-IsSuffix = Either IsMark Colon (IsType 32) (Done (Integer Signless 64))
+IsSuffix = Either IsMark Colon (IsType most_depth) (Done (Integer Signless 64))
 
 -- a magnitude, with a minus before it or none, as a literal of a type, which has bits of it
 abbrev pub IsLiteralOf : Bool → ℕ → TypeTerm → Grammar Text AttrTerm
@@ -138,9 +139,9 @@ module _ (depth : ℕ) (P : Grammar Text AttrTerm) where
   abbrev pub IsEntry : List EntryTerm → Grammar Text EntryTerm
   IsEntry before = Then IsKey (λ k. When (has_key bytes_eq k before ≡ false) (Then IsValue (λ a. Done (k, a))))
 
-  -- behind the opening brace: at most 256 entries
+  -- behind the opening brace: at most as many entries as a dictionary may have
   unfoldable pub IsDictionary : Grammar Text AttrTerm
-  IsDictionary = Then (IsList IsMark CloseCurly IsEntry 256) (λ es. IsFine (Dictionary (entries_of (in_order key_before es))))
+  IsDictionary = Then (IsList IsMark CloseCurly IsEntry most_entries) (λ es. IsFine (Dictionary (entries_of (in_order key_before es))))
 
   -- behind the opening bracket
   unfoldable pub IsArray : Grammar Text AttrTerm

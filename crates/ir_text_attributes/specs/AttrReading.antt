@@ -11,6 +11,7 @@ use Rattle.ir_types.specs.declared.node.TypeNode.TheVariants as type
 use Rattle.ir_types.specs.declared.node.AttrNode.{AttrNode}
 use Rattle.ir_types.specs.declared.node.AttrNode.TheVariants as attr
 use Rattle.ir_types.specs.Things.{Things}
+use Rattle.ir_types.specs.Limits.{most_depth, most_entries}
 use Rattle.ir_types.specs.Terms.{TypeTerm, type_term}
 use Rattle.ir_types.specs.Readings.{literal_bits, reading_of}
 use Rattle.ir_text_attributes.specs.declared.flag.Flag.{Flag}
@@ -53,7 +54,7 @@ type_attr_at depth s = do
 -- ---- literals
 
 abbrev pub suffix_from : Typed → Option Typed → Outcome (ℕ × Typed)
-suffix_from s (Some c) = type_at 32 c
+suffix_from s (Some c) = type_at most_depth c
 suffix_from s None = type_done (type.Int Signless 64) s
 
 -- the type of a literal: 64 bits where no colon follows
@@ -232,7 +233,7 @@ module _ (depth : ℕ) (p : Parse Typed ℕ) where
 
   -- entries up to the closing brace
   unfoldable pub entries_by : Parse Typed Entries
-  entries_by s = list_at after_typed CloseCurly entry_by 256 s
+  entries_by s = list_at after_typed CloseCurly entry_by most_entries s
 
   -- behind the opening brace
   unfoldable pub dictionary_by : Parse Typed ℕ

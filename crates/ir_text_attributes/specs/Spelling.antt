@@ -2,13 +2,14 @@
 use Rattle.std.specs.Prelude.{◌≡◌, ℕ, List, None}
 use Rattle.ir_text_tokens.specs.declared.token.Mark.TheVariants.{End}
 use Rattle.ir_text_tokens.specs.Limits.{text_reason}
+use Rattle.ir_types.specs.Limits.{most_depth}
 use Rattle.ir_types.specs.Terms.{AttrTerm}
 use Rattle.ir_text_grammar.specs.Grammars.{IsMark}
 use Rattle.ir_text_attributes.specs.AttrGrammar.{IsAttr}
 
--- the text is one attribute of a depth of at most 32 and nothing after it
+-- the text is one attribute, no deeper than it may be, and nothing after it
 unfoldable pub IsSingleAttr : List ℕ → AttrTerm → Type 0
-IsSingleAttr bytes y = (rest end : List ℕ) × IsAttr 32 y bytes rest × IsMark End rest end
+IsSingleAttr bytes y = (rest end : List ℕ) × IsAttr most_depth y bytes rest × IsMark End rest end
 
 -- a text spells an attribute that stands alone, and passes no limit of a text
 pub record SpellsAttr (bytes : List ℕ) (y : AttrTerm) : Type 0 where

@@ -5,15 +5,15 @@ ghost use Rattle.ir_text_grammar.specs.Outcomes.{Gives};
 ghost use Rattle.ir_text_attributes.specs.AttrReading.{attrs_by, array_by, attr_at};
 
 use crate::attributes::{attr, kept};
-use ir_types_items::lists::Items;
 use ir_text_grammar::error::{ReadError, wrong};
 use ir_text_grammar::steps::{after, expect};
+use ir_text_tokens::refusal::TextRefusal;
 use ir_text_tokens::token::Mark;
 use ir_text_types::types::MANY;
 use ir_types::context::Context;
 use ir_types::ids::AttrId;
 use ir_types::node::AttrNode;
-use ir_types::refusal::Refusal;
+use ir_types_items::lists::Items;
 use std::alloc::Global;
 
 /// Attributes up to a closing bracket.
@@ -44,7 +44,7 @@ fn attrs<'a>(
         }
         rest = expect(tail, Mark::Comma)?;
     }
-    Err(ReadError::Refused(wrong(Refusal::TooMany, rest)))
+    Err(ReadError::Refused(wrong(TextRefusal::TooMany, rest)))
 }
 
 /// An array behind its opening bracket, of attributes of at most that depth.

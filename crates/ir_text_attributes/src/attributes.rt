@@ -14,13 +14,13 @@ use crate::literals::{literal, negative};
 use crate::symbols::symbol;
 use ir_text_grammar::error::{ReadError, wrong};
 use ir_text_grammar::steps::{self, expect, token};
+use ir_text_tokens::refusal::TextRefusal;
 use ir_text_tokens::strings::string_value;
 use ir_text_tokens::token::{Mark, Token};
 use ir_text_types::types::{self, token_refusal, ty};
 use ir_types::context::Context;
 use ir_types::ids::AttrId;
 use ir_types::node::{AttrNode, Sign, TypeNode};
-use ir_types::refusal::Refusal;
 use std::alloc::Global;
 
 /// The number of an attribute that stands in front of these bytes.
@@ -170,7 +170,7 @@ fn mark_attr<'a>(
         Mark::OpenRound => type_attr(alloc, ctx, bytes, types),
         Mark::OpenSquare => array(alloc, ctx, rest, depth),
         Mark::OpenCurly => dictionary(alloc, ctx, rest, depth),
-        _ => Err(ReadError::Refused(wrong(Refusal::Unexpected, bytes))),
+        _ => Err(ReadError::Refused(wrong(TextRefusal::Unexpected, bytes))),
     }
 }
 
@@ -189,7 +189,7 @@ fn hash_attr<'a>(
     if word == b"arith.overflow".as_slice() {
         return overflow(alloc, ctx, rest);
     }
-    Err(ReadError::Refused(wrong(Refusal::LeftOut, bytes)))
+    Err(ReadError::Refused(wrong(TextRefusal::LeftOut, bytes)))
 }
 
 /// Whether a mark begins an attribute.
@@ -204,18 +204,18 @@ fn mark_begins(mark: Mark) -> bool {
 }
 
 /// Why no attribute may begin here: it is too deep, where one begins.
-fn past_refusal(bytes: &[u8]) -> Refusal {
+fn past_refusal(bytes: &[u8]) -> TextRefusal {
     let Ok((found, _)) = token(bytes) else {
-        return Refusal::Unexpected;
+        return TextRefusal::Unexpected;
     };
     match found {
-        Token::Bare(_) => Refusal::TooDeep,
-        Token::Integer(_) => Refusal::TooDeep,
-        Token::String(_) => Refusal::TooDeep,
-        Token::Symbol(_) => Refusal::TooDeep,
-        Token::Quoted(_) => Refusal::TooDeep,
-        Token::Mark(mark) if mark_begins(mark) => Refusal::TooDeep,
-        Token::Hash(word) if word == b"arith.overflow".as_slice() => Refusal::TooDeep,
+        Token::Bare(_) => TextRefusal::TooDeep,
+        Token::Integer(_) => TextRefusal::TooDeep,
+        Token::String(_) => TextRefusal::TooDeep,
+        Token::Symbol(_) => TextRefusal::TooDeep,
+        Token::Quoted(_) => TextRefusal::TooDeep,
+        Token::Mark(mark) if mark_begins(mark) => TextRefusal::TooDeep,
+        Token::Hash(word) if word == b"arith.overflow".as_slice() => TextRefusal::TooDeep,
         _ => token_refusal(&found),
     }
 }

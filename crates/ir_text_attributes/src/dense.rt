@@ -11,10 +11,10 @@ ghost use Rattle.ir_text_attributes.specs.AttrReading.{element_at, truth_item, n
 
 use crate::attributes::kept;
 use crate::element::Element;
-use ir_types_items::lists::Items;
 use ir_text_grammar::error::{ReadError, wrong};
 use ir_text_grammar::steps::{after, expect, token};
 use ir_text_tokens::numbers::integer_value;
+use ir_text_tokens::refusal::TextRefusal;
 use ir_text_tokens::token::{Mark, Token};
 use ir_text_types::scalars::word_refusal;
 use ir_text_types::types::{self, MANY, token_refusal};
@@ -22,7 +22,7 @@ use ir_types::context::Context;
 use ir_types::ids::AttrId;
 use ir_types::node::{AttrNode, Sign, TypeNode};
 use ir_types::readings::{literal_bits, signed_number};
-use ir_types::refusal::Refusal;
+use ir_types_items::lists::Items;
 use std::alloc::Global;
 
 /// The element type that a word names.
@@ -73,7 +73,9 @@ fn element(bytes: &[u8]) -> Result<(Element, &[u8]), ReadError>
             Some(element) => Ok((element, rest)),
             None => Err(ReadError::Refused(wrong(word_refusal(word), bytes))),
         },
-        Token::Mark(Mark::OpenRound) => { Err(ReadError::Refused(wrong(Refusal::LeftOut, bytes))) }
+        Token::Mark(Mark::OpenRound) => {
+            Err(ReadError::Refused(wrong(TextRefusal::LeftOut, bytes)))
+        }
         _ => Err(ReadError::Refused(wrong(token_refusal(&found), bytes))),
     }
 }
@@ -127,7 +129,7 @@ fn number_item<'a>(
 {
     match item_value(element, negative, digits) {
         Some(value) => Ok((value, rest)),
-        None => Err(ReadError::Refused(wrong(Refusal::BadValue, start))),
+        None => Err(ReadError::Refused(wrong(TextRefusal::BadValue, start))),
     }
 }
 
@@ -155,7 +157,7 @@ fn truth_item<'a>(
     if is_bit && word == b"false".as_slice() {
         return Ok((truth_value(false), rest));
     }
-    Err(ReadError::Refused(wrong(Refusal::Unexpected, bytes)))
+    Err(ReadError::Refused(wrong(TextRefusal::Unexpected, bytes)))
 }
 
 /// An item behind its minus, which stands at `start`.
@@ -170,7 +172,7 @@ fn minus_item<'a>(
     let (found, rest) = token(bytes)?;
     match found {
         Token::Integer(digits) => number_item(element, true, digits, start, rest),
-        _ => Err(ReadError::Refused(wrong(Refusal::Unexpected, bytes))),
+        _ => Err(ReadError::Refused(wrong(TextRefusal::Unexpected, bytes))),
     }
 }
 
@@ -185,7 +187,7 @@ fn mark_item<'a>(
 {
     match mark {
         Mark::Minus => minus_item(element, bytes, rest),
-        _ => Err(ReadError::Refused(wrong(Refusal::Unexpected, bytes))),
+        _ => Err(ReadError::Refused(wrong(TextRefusal::Unexpected, bytes))),
     }
 }
 
@@ -199,7 +201,7 @@ fn item<'a>(element: &Element, bytes: &'a [u8]) -> Result<(i64, &'a [u8]), ReadE
         Token::Bare(word) => truth_item(element, word, bytes, rest),
         Token::Integer(digits) => number_item(element, false, digits, bytes, rest),
         Token::Mark(mark) => mark_item(element, mark, bytes, rest),
-        _ => Err(ReadError::Refused(wrong(Refusal::Unexpected, bytes))),
+        _ => Err(ReadError::Refused(wrong(TextRefusal::Unexpected, bytes))),
     }
 }
 
@@ -225,7 +227,7 @@ fn some_items<'a>(
         }
         rest = expect(tail, Mark::Comma)?;
     }
-    Err(ReadError::Refused(wrong(Refusal::TooMany, rest)))
+    Err(ReadError::Refused(wrong(TextRefusal::TooMany, rest)))
 }
 
 /// No items: the closing mark behind the element type.

@@ -7,23 +7,21 @@ ghost use Rattle.ir_text_attributes.specs.AttrReading.{key_at, unit_value_at, va
 
 use crate::attributes::{attr, kept};
 use crate::symbols::named;
-use ir_types_items::lists::Items;
 use ir_text_grammar::error::{ReadError, wrong};
 use ir_text_grammar::steps::{after, expect, token};
 use ir_text_tokens::fault::Fault;
+use ir_text_tokens::refusal::TextRefusal;
 use ir_text_tokens::strings::string_value;
 use ir_text_tokens::token::{Mark, Token};
 use ir_types::context::Context;
 use ir_types::ids::{AttrId, NameId};
+use ir_types::limits::MOST_ENTRIES;
 use ir_types::node::AttrNode;
-use ir_types::refusal::Refusal;
+use ir_types_items::lists::Items;
 use std::alloc::Global;
 
 /// A key and an attribute.
 pub type Entry = (NameId, AttrId);
-
-/// The most entries of a dictionary.
-pub const MOST_ENTRIES: usize = 256;
 
 /// The number of a key: a bare identifier or a string.
 ///
@@ -44,7 +42,7 @@ pub fn key<'a>(
             let word = string_value(alloc, raw)?;
             named(ctx, word.as_slice(), rest)
         }
-        _ => Err(ReadError::Refused(wrong(Refusal::Unexpected, bytes))),
+        _ => Err(ReadError::Refused(wrong(TextRefusal::Unexpected, bytes))),
     }
 }
 
@@ -67,7 +65,7 @@ fn unit_value<'a>(
     ensures grows { Grows ctx.old ctx.new }
 {
     if depth == 0 {
-        return Err(ReadError::Refused(wrong(Refusal::TooDeep, start)));
+        return Err(ReadError::Refused(wrong(TextRefusal::TooDeep, start)));
     }
     kept(ctx, AttrNode::Unit, bytes)
 }
@@ -112,7 +110,7 @@ fn entry<'a>(
         Err(e) => return Err(e),
     };
     if has_key(key, before) {
-        return Err(ReadError::Refused(wrong(Refusal::DuplicateKey, bytes)));
+        return Err(ReadError::Refused(wrong(TextRefusal::DuplicateKey, bytes)));
     }
     let (attr, rest) = match value(alloc, ctx, bytes, rest, depth) {
         Ok(found) => found,
@@ -129,13 +127,13 @@ fn past_fault(alloc: Global, ctx: &mut Context, before: &[Entry], bytes: &[u8]) 
     let (key, _) = match key(alloc, ctx, bytes) {
         Ok(found) => found,
         Err(ReadError::Refused(fault)) => return fault,
-        Err(_) => return wrong(Refusal::TooMany, bytes),
+        Err(_) => return wrong(TextRefusal::TooMany, bytes),
     };
     let is_known = has_key(key, before);
     if is_known {
-        return wrong(Refusal::DuplicateKey, bytes);
+        return wrong(TextRefusal::DuplicateKey, bytes);
     }
-    wrong(Refusal::TooMany, bytes)
+    wrong(TextRefusal::TooMany, bytes)
 }
 
 /// Entries up to the closing brace.

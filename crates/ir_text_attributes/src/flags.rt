@@ -8,9 +8,9 @@ ghost use Rattle.ir_text_attributes.specs.AttrReading.{flag_at, some_flags_at, n
 use crate::flag::Flag;
 use ir_text_grammar::error::{ReadError, wrong};
 use ir_text_grammar::steps::{after, expect, token};
+use ir_text_tokens::refusal::TextRefusal;
 use ir_text_tokens::token::{Mark, Token};
 use ir_text_types::types::MANY;
-use ir_types::refusal::Refusal;
 use std::alloc::Global;
 
 /// The flag that a word is.
@@ -67,9 +67,9 @@ fn flag(bytes: &[u8]) -> Result<(Flag, &[u8]), ReadError>
     match found {
         Token::Bare(word) => match flag_of(word) {
             Some(flag) => Ok((flag, rest)),
-            None => Err(ReadError::Refused(wrong(Refusal::Unexpected, bytes))),
+            None => Err(ReadError::Refused(wrong(TextRefusal::Unexpected, bytes))),
         },
-        _ => Err(ReadError::Refused(wrong(Refusal::Unexpected, bytes))),
+        _ => Err(ReadError::Refused(wrong(TextRefusal::Unexpected, bytes))),
     }
 }
 
@@ -91,7 +91,7 @@ fn some_flags(alloc: Global, bytes: &[u8]) -> Result<(Vec<Flag>, &[u8]), ReadErr
         }
         rest = expect(tail, Mark::Comma)?;
     }
-    Err(ReadError::Refused(wrong(Refusal::TooMany, rest)))
+    Err(ReadError::Refused(wrong(TextRefusal::TooMany, rest)))
 }
 
 /// No flags: the closing mark behind `none`.
@@ -119,6 +119,6 @@ pub(crate) fn flags(alloc: Global, bytes: &[u8]) -> Result<(Vec<Flag>, &[u8]), R
                 some_flags(alloc, bytes)
             }
         }
-        _ => Err(ReadError::Refused(wrong(Refusal::Unexpected, bytes))),
+        _ => Err(ReadError::Refused(wrong(TextRefusal::Unexpected, bytes))),
     }
 }

@@ -9,12 +9,13 @@ use ir_text_grammar::error::{ReadError, wrong};
 use ir_text_grammar::steps::{after, token};
 use ir_text_tokens::fault::Fault;
 use ir_text_tokens::numbers::integer_value;
+use ir_text_tokens::refusal::TextRefusal;
 use ir_text_tokens::token::{Mark, Token};
-use ir_text_types::types::{self, MOST_DEPTH, ty};
+use ir_text_types::types::{self, ty};
 use ir_types::context::Context;
 use ir_types::ids::{AttrId, TypeId};
+use ir_types::limits::MOST_DEPTH;
 use ir_types::node::{AttrNode, Sign, TypeNode};
-use ir_types::refusal::Refusal;
 use std::alloc::Global;
 
 /// The type of a literal behind a colon, or `i64` where none follows.
@@ -56,11 +57,11 @@ fn misfit(ctx: &Context, ty: TypeId, start: &[u8], bytes: &[u8]) -> Fault
     requires { IsType ctx.now ty }
 {
     if has_literals(ctx, ty) {
-        return wrong(Refusal::BadValue, start);
+        return wrong(TextRefusal::BadValue, start);
     }
     match after(bytes, Mark::Colon) {
-        Some(at) => wrong(Refusal::TypeMismatch, at),
-        None => wrong(Refusal::BadValue, start),
+        Some(at) => wrong(TextRefusal::TypeMismatch, at),
+        None => wrong(TextRefusal::BadValue, start),
     }
 }
 
@@ -79,7 +80,7 @@ pub(crate) fn literal<'a>(
 {
     ctx.sound();
     let Some(magnitude) = integer_value(digits) else {
-        return Err(ReadError::Refused(wrong(Refusal::BadValue, start)));
+        return Err(ReadError::Refused(wrong(TextRefusal::BadValue, start)));
     };
     let (ty, rest) = match suffix(alloc, ctx, bytes) {
         Ok(found) => found,
@@ -107,7 +108,7 @@ pub(crate) fn negative<'a>(
     let (found, rest) = token(bytes)?;
     match found {
         Token::Integer(digits) => literal(alloc, ctx, start, true, digits, rest),
-        Token::Float(_) => Err(ReadError::Refused(wrong(Refusal::LeftOut, bytes))),
-        _ => Err(ReadError::Refused(wrong(Refusal::Unexpected, bytes))),
+        Token::Float(_) => Err(ReadError::Refused(wrong(TextRefusal::LeftOut, bytes))),
+        _ => Err(ReadError::Refused(wrong(TextRefusal::Unexpected, bytes))),
     }
 }

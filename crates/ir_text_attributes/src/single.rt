@@ -13,9 +13,9 @@ use ir_text_grammar::error::{ReadError, within_limits};
 use ir_text_grammar::steps::expect;
 use ir_text_tokens::token::Mark;
 use ir_text_types::full::told;
-use ir_text_types::types::MOST_DEPTH;
 use ir_types::context::Context;
 use ir_types::ids::AttrId;
+use ir_types::limits::MOST_DEPTH;
 use std::alloc::Global;
 
 /// The attribute of a text in which nothing stands after it.

@@ -6,16 +6,16 @@ ghost use Rattle.ir_text_types.specs.TypeReading.{many};
 ghost use Rattle.ir_text_attributes.specs.AttrReading.{name_done, part_at, parts_at, symbol_attr_at};
 
 use crate::attributes::kept;
-use ir_types_items::lists::Items;
 use ir_text_grammar::error::{ReadError, wrong};
 use ir_text_grammar::steps::{self, after, token};
+use ir_text_tokens::refusal::TextRefusal;
 use ir_text_tokens::strings::string_value;
 use ir_text_tokens::token::{Mark, Token};
 use ir_text_types::types::MANY;
 use ir_types::context::Context;
 use ir_types::ids::{AttrId, NameId};
 use ir_types::node::AttrNode;
-use ir_types::refusal::Refusal;
+use ir_types_items::lists::Items;
 use std::alloc::Global;
 
 /// The number of a name that stands in front of these bytes.
@@ -49,7 +49,7 @@ fn part<'a>(
             let name = string_value(alloc, raw)?;
             named(ctx, name.as_slice(), rest)
         }
-        _ => Err(ReadError::Refused(wrong(Refusal::Unexpected, bytes))),
+        _ => Err(ReadError::Refused(wrong(TextRefusal::Unexpected, bytes))),
     }
 }
 
@@ -76,7 +76,7 @@ fn parts<'a>(
         };
         rest = next;
     }
-    Err(ReadError::Refused(wrong(Refusal::TooMany, rest)))
+    Err(ReadError::Refused(wrong(TextRefusal::TooMany, rest)))
 }
 
 /// A symbol reference: `@a`, `@a::@b` and so on.

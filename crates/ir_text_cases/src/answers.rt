@@ -46,7 +46,7 @@ fn attribute_text(alloc: Global, ctx: &mut Context, attr: AttrId) -> Result<Stri
 fn attribute(alloc: Global, ctx: &mut Context, bytes: &[u8]) -> Result<String, Refusal> {
     match parse_attr(alloc, ctx, bytes) {
         Ok(attr) => attribute_text(alloc, ctx, attr),
-        Err(error) => refused(alloc, bytes, error),
+        Err(error) => refused(alloc, error),
     }
 }
 
@@ -70,7 +70,7 @@ fn module_text(alloc: Global, ctx: &Context, tree: &TreeOp) -> Result<String, Re
 fn module(alloc: Global, ctx: &mut Context, bytes: &[u8]) -> Result<String, Refusal> {
     match read(alloc, ctx, bytes) {
         Ok(tree) => module_text(alloc, ctx, &tree),
-        Err(error) => refused(alloc, bytes, error),
+        Err(error) => refused(alloc, error),
     }
 }
 
@@ -91,13 +91,13 @@ fn operation(
     let near = near_of(ctx, words);
     match read_op(alloc, ctx, bytes, &near) {
         Ok(op) => operation_text(alloc, ctx, &op),
-        Err(error) => refused(alloc, bytes, error),
+        Err(error) => refused(alloc, error),
     }
 }
 
 fn cut(alloc: Global, ctx: &mut Context, front: &[u8], out: &mut String) -> Result<(), Refusal> {
     let answer = read(alloc, ctx, front).map(|_| ());
-    put_cut(out, front, answer)?;
+    put_cut(out, answer)?;
     Ok(())
 }
 

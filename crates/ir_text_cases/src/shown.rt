@@ -10,15 +10,12 @@ use std::fmt::Write;
 /// The longest text that is shown whole.
 const MOST_SHOWN: usize = 4_096;
 
-/// Why a text of these bytes is refused, and where.
-pub fn refused(alloc: Global, bytes: &[u8], error: ReadError) -> Result<String, Refusal> {
+/// Why a text is refused, and where.
+pub fn refused(alloc: Global, error: ReadError) -> Result<String, Refusal> {
     match error {
         ReadError::Memory => Err(Refusal::Memory),
-        ReadError::Full(left) => Ok(format!(in alloc; "full with {left} left")?),
-        ReadError::Refused(fault) => {
-            let offset = fault.offset(bytes);
-            Ok(format!(in alloc; "{} at {offset}", fault.refusal)?)
-        }
+        ReadError::Full { offset } => Ok(format!(in alloc; "full at {offset}")?),
+        ReadError::Refused { refusal, offset } => Ok(format!(in alloc; "{refusal} at {offset}")?),
     }
 }
 
@@ -114,16 +111,11 @@ pub fn shown_op(alloc: Global, op: &TreeOp, text: &[u8]) -> Result<String, Alloc
 }
 
 /// Whether a text is read, or the number of its refusal, and where.
-pub fn put_cut(
-    out: &mut String,
-    bytes: &[u8],
-    answer: Result<(), ReadError>,
-) -> Result<(), AllocError> {
+pub fn put_cut(out: &mut String, answer: Result<(), ReadError>) -> Result<(), AllocError> {
     match answer {
         Ok(()) => out.push_str("read "),
-        Err(ReadError::Refused(fault)) => {
-            let number = fault.refusal.number();
-            let offset = fault.offset(bytes);
+        Err(ReadError::Refused { refusal, offset }) => {
+            let number = refusal.number();
             write!(out, "{number}@{offset} ")
         }
         Err(_) => out.push_str("lost "),

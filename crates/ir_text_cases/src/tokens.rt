@@ -59,6 +59,10 @@ fn shown_token(alloc: Global, found: &Token<'_>, rest: &[u8]) -> Result<String, 
 pub fn front(alloc: Global, bytes: &[u8]) -> Result<String, Refusal> {
     match token(bytes) {
         Ok((found, rest)) => Ok(shown_token(alloc, &found, rest)?),
-        Err(fault) => refused(alloc, bytes, ReadError::Refused(fault)),
+        Err(fault) => {
+            let refusal = fault.refusal.refusal();
+            let offset = fault.offset(bytes);
+            refused(alloc, ReadError::Refused { refusal, offset })
+        }
     }
 }

@@ -1,6 +1,7 @@
 -- Words of the laws of reading.
 use Rattle.std.specs.Prelude.{ℕ, ◌≤◌, ◌⊎◌, List, [], ◌∷◌, length}
 use Rattle.ir_types.specs.Things.{Things}
+use Rattle.ir_types.specs.Limits.{most_things}
 use Rattle.ir_types.specs.Terms.{TypeTerm}
 use Rattle.ir_text_grammar.specs.Standing.{TypeStands}
 
@@ -22,4 +23,4 @@ SignatureStands c x y = TypesStand c x.0 y.0 × TypesStand c x.1 y.1
 
 -- no more names, types or attributes can be added
 abbrev pub IsFull : Things → Type 0
-IsFull c = (16777216 ≤ length c.names) ⊎ ((16777216 ≤ length c.types) ⊎ (16777216 ≤ length c.attrs))
+IsFull c = (most_things ≤ length c.names) ⊎ ((most_things ≤ length c.types) ⊎ (most_things ≤ length c.attrs))

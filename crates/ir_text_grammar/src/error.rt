@@ -9,17 +9,22 @@ ghost use Rattle.ir_text_grammar.specs.declared.error.ReadError.TheVariants.{Mem
 use ir_text_tokens::fault::Fault;
 use ir_text_tokens::lexer::{skip, token};
 use ir_text_tokens::limits::check_text;
+use ir_text_tokens::refusal::TextRefusal;
 use ir_types::refusal::Refusal;
 use std::alloc::{AllocError, AllocFailed};
+use thiserror::Error;
 
-/// Why a text is not read.
-#[derive(Clone, Copy, PartialEq, Eq)]
+/// Why a text is not read, with how many bytes of it are left there.
+#[derive(Clone, Copy, Debug, PartialEq, Eq, Error)]
 pub enum ReadError {
     /// There is no memory.
+    #[error("memory was refused")]
     Memory,
     /// The context is full; so many bytes of the text are left.
+    #[error("the context is full, with {0} bytes left")]
     Full(usize),
     /// The text is wrong.
+    #[error(transparent)]
     Refused(Fault),
 }
 
@@ -41,7 +46,7 @@ impl<T: Drop> From<AllocFailed<T>> for ReadError {
 
 /// A refusal at the first byte that is no blank, where a token begins that doesn't fit; where none
 /// begins there, the refusal of what stands there.
-pub fn wrong(refusal: Refusal, bytes: &[u8]) -> Fault {
+pub fn wrong(refusal: TextRefusal, bytes: &[u8]) -> Fault {
     match token(bytes) {
         Ok(_) => Fault::at(refusal, skip(bytes)),
         Err(fault) => fault,
@@ -55,7 +60,7 @@ pub fn refused_by_context(refusal: Refusal, rest: &[u8]) -> ReadError
     match refusal {
         Refusal::Memory => ReadError::Memory,
         Refusal::TooMany => ReadError::Full(rest.len()),
-        _ => ReadError::Refused(Fault::at(refusal, rest)),
+        _ => ReadError::Refused(Fault::at(TextRefusal::of(refusal), rest)),
     }
 }
 

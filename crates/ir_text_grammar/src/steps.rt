@@ -8,11 +8,11 @@ ghost use Rattle.ir_text_grammar.specs.Typed.{name_step, type_step, attr_step};
 
 use crate::error::{ReadError, refused_by_context, wrong};
 use ir_text_tokens::lexer;
+use ir_text_tokens::refusal::TextRefusal;
 use ir_text_tokens::token::{Mark, Token};
 use ir_types::context::Context;
 use ir_types::ids::{AttrId, NameId, TypeId};
 use ir_types::node::{AttrNode, TypeNode};
-use ir_types::refusal::Refusal;
 
 fn code(mark: Mark) -> u8
     ensures { result ≡ mark_code mark }
@@ -82,7 +82,7 @@ pub fn expect(bytes: &[u8], mark: Mark) -> Result<&[u8], ReadError>
 {
     match after(bytes, mark) {
         Some(rest) => Ok(rest),
-        None => Err(ReadError::Refused(wrong(Refusal::Unexpected, bytes))),
+        None => Err(ReadError::Refused(wrong(TextRefusal::Unexpected, bytes))),
     }
 }
 

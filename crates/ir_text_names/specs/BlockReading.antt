@@ -3,6 +3,8 @@ use Rattle.std.specs.Prelude.{ℕ, ◌+◌, ◌==◌, Bool, if◌then◌else◌,
 use Rattle.ir_text_tokens.specs.declared.token.Mark.TheVariants.{OpenRound, CloseRound, OpenCurly, Colon}
 use Rattle.ir_text_tokens.specs.Tokens.{Lexeme, label, next}
 use Rattle.ir_text_tokens.specs.Scopes.{Scopes, bound, find}
+use Rattle.ir_types.specs.Limits.{most_depth}
+use Rattle.ir_tree.specs.Limits.{most_items}
 use Rattle.ir_tree.specs.declared.value.Value.TheVariants as values
 use Rattle.ir_text_grammar.specs.Outcomes.{Outcome, Read, Wrong, ◌>>=◌, of_option, Parse}
 use Rattle.ir_text_grammar.specs.Lists.{list_at}
@@ -38,12 +40,12 @@ finish id (Some names) outputs s = if counts names == length outputs then bind_r
 
 -- a colon and a type
 unfoldable pub colon_type_at : Parse Typed ℕ
-colon_type_at s = of_option (after_typed Colon s) >>= type_at 32
+colon_type_at s = of_option (after_typed Colon s) >>= type_at most_depth
 
 abbrev pub arg_behind_name : ℕ → ℕ → ℕ → State → List ℕ → Outcome (ℕ × State)
 arg_behind_name id r k s name = do
   c ← of_option (after_in Colon s)
-  y ← type_at 32 (typed c)
+  y ← type_at most_depth (typed c)
   scopes ← bind name ((record { value = values.Arg id r k; ty = y.0 }) ∷ []) s.scopes
   Read (y.0, with_scopes (with_typed s y.1) scopes)
 
@@ -52,7 +54,7 @@ unfoldable pub arg_at : ℕ → ℕ → List ℕ → Parse State ℕ
 arg_at id r before s = value_name_at s.bytes >>= λ n. arg_behind_name id r (length before) (to_bytes s n.1) n.0
 
 unfoldable pub args_at : ℕ → ℕ → Parse State (List ℕ)
-args_at id r = list_at after_in CloseRound (arg_at id r) 256
+args_at id r = list_at after_in CloseRound (arg_at id r) most_items
 
 abbrev pub label_args_from : ℕ → ℕ → State → Option State → Outcome (List ℕ × State)
 label_args_from id r s (Some c) = args_at id r c

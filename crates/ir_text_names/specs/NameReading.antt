@@ -3,6 +3,7 @@ use Rattle.std.specs.Prelude.{ℕ, ◌+◌, nat_le, if◌then◌else◌, List, [
 use Rattle.ir_text_tokens.specs.declared.token.Mark.TheVariants.{Equal, Colon}
 use Rattle.ir_text_tokens.specs.Tokens.{Lexeme, integer, value, next}
 use Rattle.ir_text_tokens.specs.Numbers.{integer_of}
+use Rattle.ir_tree.specs.Limits.{most_items}
 use Rattle.ir_text_grammar.specs.Marks.{after}
 use Rattle.ir_text_grammar.specs.Outcomes.{Outcome, Read, Wrong, ◌>>=◌, of_option, Parse}
 use Rattle.ir_text_grammar.specs.Lists.{more_at}
@@ -30,7 +31,7 @@ some_count bytes (Some c) = nonzero_at c
 some_count bytes None = Read (1, bytes)
 
 abbrev pub count_within : ℕ → ℕ × Text → Outcome (ℕ × Text)
-count_within before k = if nat_le (before + k.0) 256 then Read k else Wrong
+count_within before k = if nat_le (before + k.0) most_items then Read k else Wrong
 
 -- the count behind a colon, behind names of so many results
 abbrev pub written_at : ℕ → Parse Text ℕ
@@ -46,9 +47,9 @@ result_at before bytes = do
   k ← count_at before n.1
   Read ((n.0, k.0), k.1)
 
--- names up to an equal sign, of at most 256 results
+-- names up to an equal sign, of as many results as an operation may have
 unfoldable pub names_at : Parse Text (List Counted)
-names_at = more_at after Equal (λ before. result_at (counts before)) 256 []
+names_at = more_at after Equal (λ before. result_at (counts before)) most_items []
 
 abbrev pub results_from : Text → Lexeme → Outcome (Option (List Counted) × Text)
 results_from bytes (value n) = names_at bytes >>= λ x. Read (Some x.0, x.1)

@@ -6,7 +6,7 @@ use crate::pack::Pack;
 use ir_text_grammar::error::ReadError;
 use ir_text_tokens::fault::Fault;
 use ir_text_tokens::names::Names;
-use ir_types::refusal::Refusal;
+use ir_text_tokens::refusal::TextRefusal;
 
 /// Binds a name that is not bound yet; so many bytes are left where it stands.
 #[tactic(auto, unfolding(crate::specs::BlockReading::bind))]
@@ -20,7 +20,7 @@ pub fn bind<'a>(
 {
     if names.find(name).is_some() {
         return Err(ReadError::Refused(Fault {
-            refusal: Refusal::Redefined,
+            refusal: TextRefusal::Redefined,
             left,
         }));
     }

@@ -1,6 +1,7 @@
 //! What stands before the operations of a block. Language Reference, "Blocks".
 ghost use Rattle.std.specs.Prelude.{◌≡◌, ◌≤◌, ◌+◌, [], length, option_map, OnOk};
 ghost use Rattle.ir_types.specs.Things.{Grows};
+ghost use Rattle.ir_tree.specs.Limits.{most_items};
 ghost use Rattle.ir_text_grammar.specs.Outcomes.{Gives, of_option};
 ghost use Rattle.ir_text_names.specs.Alike.{IsAlike};
 ghost use Rattle.ir_text_grammar.specs.Marks.{after};
@@ -18,12 +19,14 @@ use crate::scope::Scope;
 use ir_text_grammar::error::{ReadError, wrong};
 use ir_text_grammar::steps::{after, expect, token};
 use ir_text_tokens::lexer::{self, skip};
+use ir_text_tokens::refusal::TextRefusal;
 use ir_text_tokens::token::{Mark, Token};
-use ir_text_types::types::{MOST_DEPTH, ty};
+use ir_text_types::types::ty;
+use ir_tree::limits::MOST_ITEMS;
 use ir_tree::value::Value;
 use ir_types::context::Context;
 use ir_types::ids::{OpId, TypeId};
-use ir_types::refusal::Refusal;
+use ir_types::limits::MOST_DEPTH;
 use std::alloc::Global;
 
 /// The fault at the name of an argument, where it is bound already, or else the one behind it.
@@ -32,17 +35,17 @@ fn sooner<'a>(scope: &Scope<'a>, name: &'a [u8], bytes: &'a [u8], error: ReadErr
 {
     match error {
         ReadError::Refused(_) if scope.names.find(name).is_some() => {
-            ReadError::Refused(wrong(Refusal::Redefined, bytes))
+            ReadError::Refused(wrong(TextRefusal::Redefined, bytes))
         }
         _ => error,
     }
 }
 
 /// Why a token does not fit behind a type: a location is left out.
-pub fn location_refusal(bytes: &[u8]) -> Refusal {
+pub fn location_refusal(bytes: &[u8]) -> TextRefusal {
     match lexer::token(bytes) {
-        Ok((Token::Bare(word), _)) if word == b"loc".as_slice() => Refusal::LeftOut,
-        _ => Refusal::Unexpected,
+        Ok((Token::Bare(word), _)) if word == b"loc".as_slice() => TextRefusal::LeftOut,
+        _ => TextRefusal::Unexpected,
     }
 }
 
@@ -96,7 +99,7 @@ fn argument<'a>(
     before: &[TypeId],
     bytes: &'a [u8],
 ) -> Result<(TypeId, &'a [u8]), ReadError>
-    requires { length before.now ≤ 256 }
+    requires { length before.now ≤ most_items }
     ensures reads { Gives (λ x. (x.0, state_of x.1.now scope.new ctx.new)) result (arg_at id region before.now (state_of bytes.now scope.old ctx.old)) }
     ensures grows { Grows ctx.old ctx.new }
 {
@@ -127,7 +130,7 @@ fn push_argument<'a>(
     items: &mut Vec<TypeId>,
     bytes: &'a [u8],
 ) -> Result<Behind<'a>, ReadError>
-    requires { length items.old.items ≤ 256 }
+    requires { length items.old.items ≤ most_items }
     ensures steps { Steps after_in CloseRound (arg_at id region) items.old.items (state_of bytes.now scope.old ctx.old) result items.new.items (λ rest. state_of rest scope.new ctx.new) }
     ensures one { OnOk result (length items.new.items ≡ length items.old.items + 1) }
     ensures grows { Grows ctx.old ctx.new }
@@ -140,7 +143,7 @@ fn push_argument<'a>(
     behind_argument(rest)
 }
 
-/// Puts arguments behind each other up to the closing parenthesis, at most 256.
+/// Puts arguments behind each other up to the closing parenthesis, as many as a block may have.
 #[tactic(auto, using(ir_types::proofs::Growth::grows_refl, ir_types::proofs::Growth::grows_trans), unfolding(ir_text_grammar::specs::Lists::list_at, crate::specs::BlockReading::args_at))]
 fn push_arguments<'a>(
     alloc: Global,
@@ -159,7 +162,7 @@ fn push_arguments<'a>(
         return Ok(rest);
     }
     let mut rest = bytes;
-    'items: for _ in 0..256usize {
+    'items: for _ in 0..MOST_ITEMS {
         match push_argument(alloc, scope, ctx, id, region, items, rest) {
             Ok(Behind::More(more)) => rest = more,
             Ok(Behind::End(end)) => return Ok(end),
@@ -169,7 +172,7 @@ fn push_arguments<'a>(
     Err(ReadError::Refused(one_too_many(rest)))
 }
 
-/// Arguments up to the closing parenthesis, at most 256.
+/// Arguments up to the closing parenthesis, as many as a block may have.
 #[tactic(auto, using(ir_types::proofs::Growth::grows_refl, ir_types::proofs::Growth::grows_trans))]
 fn arguments<'a>(
     alloc: Global,

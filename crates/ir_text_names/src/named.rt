@@ -1,5 +1,6 @@
 //! The names of results, and for how many each stands. Language Reference, "Operations".
 ghost use Rattle.std.specs.Prelude.{◌≡◌, ◌+◌, ◌≤◌, [], map, option_map, SomeIff};
+ghost use Rattle.ir_tree.specs.Limits.{most_items};
 ghost use Rattle.ir_text_tokens.specs.Numbers.{integer_of};
 ghost use Rattle.ir_text_grammar.specs.Outcomes.{Gives};
 ghost use Rattle.ir_text_names.specs.Packs.{named_view};
@@ -11,9 +12,13 @@ use ir_text_grammar::steps::{after, token};
 use ir_text_tokens::fault::Fault;
 use ir_text_tokens::lexer;
 use ir_text_tokens::numbers::integer_value;
+use ir_text_tokens::refusal::TextRefusal;
 use ir_text_tokens::token::{Mark, Token};
-use ir_types::refusal::Refusal;
+use ir_tree::limits::MOST_ITEMS;
 use std::alloc::Global;
+
+/// The most results of an operation.
+const MOST_RESULTS: u32 = MOST_ITEMS as u32;
 
 /// A name, and for how many results it stands.
 #[derive(Clone, Copy)]
@@ -29,7 +34,7 @@ pub fn name(bytes: &[u8]) -> Result<(&[u8], &[u8]), ReadError>
 {
     match token(bytes) {
         Ok((Token::Value(name), rest)) => Ok((name, rest)),
-        Ok(_) => Err(ReadError::Refused(wrong(Refusal::Unexpected, bytes))),
+        Ok(_) => Err(ReadError::Refused(wrong(TextRefusal::Unexpected, bytes))),
         Err(e) => Err(e),
     }
 }
@@ -37,18 +42,18 @@ pub fn name(bytes: &[u8]) -> Result<(&[u8], &[u8]), ReadError>
 /// The fault at a name that is one too many, or at what is no name.
 pub fn one_too_many(bytes: &[u8]) -> Fault {
     match lexer::token(bytes) {
-        Ok((Token::Value(_), _)) => wrong(Refusal::TooMany, bytes),
-        _ => wrong(Refusal::Unexpected, bytes),
+        Ok((Token::Value(_), _)) => wrong(TextRefusal::TooMany, bytes),
+        _ => wrong(TextRefusal::Unexpected, bytes),
     }
 }
 
-/// The count that digits write, where it isn't 0 and there are at most 256 with those before.
+/// The count that digits write, where it isn't 0 and an operation may have so many results behind those before.
 pub fn counted(digits: &[u8], before: u32) -> Option<u32>
-    requires { before ≤ 256 }
-    ensures { SomeIff result ((1 ≤ integer_of digits.now) × (before + integer_of digits.now ≤ 256)) (integer_of digits.now) }
+    requires { before ≤ most_items }
+    ensures { SomeIff result ((1 ≤ integer_of digits.now) × (before + integer_of digits.now ≤ most_items)) (integer_of digits.now) }
 {
     let number = integer_value(digits)?;
-    if number >= 1 && number <= (256 - before) as u128 {
+    if number >= 1 && number <= (MOST_RESULTS - before) as u128 {
         Some(number as u32)
     } else {
         None
@@ -56,19 +61,19 @@ pub fn counted(digits: &[u8], before: u32) -> Option<u32>
 }
 
 /// Why a count is none.
-fn count_refusal(digits: &[u8]) -> Refusal {
+fn count_refusal(digits: &[u8]) -> TextRefusal {
     match integer_value(digits) {
-        Some(0) => Refusal::BadValue,
-        _ => Refusal::TooMany,
+        Some(0) => TextRefusal::BadValue,
+        _ => TextRefusal::TooMany,
     }
 }
 
 /// The count behind a colon.
 ///
-/// Refusals: `BadValue` at 0, `TooMany` where it passes 256 with those before, `Unexpected`.
+/// Refusals: `BadValue` at 0, `TooMany` where it passes the most results with those before, `Unexpected`.
 #[tactic(auto, unfolding(crate::specs::NameReading::nonzero_at))]
 fn written_count(bytes: &[u8], before: u32) -> Result<(u32, &[u8]), ReadError>
-    requires { before ≤ 256 }
+    requires { before ≤ most_items }
     ensures { Gives (λ x. (x.0, x.1.now)) result (written_at before bytes.now) }
 {
     match token(bytes) {
@@ -76,7 +81,7 @@ fn written_count(bytes: &[u8], before: u32) -> Result<(u32, &[u8]), ReadError>
             Some(count) => Ok((count, rest)),
             None => Err(ReadError::Refused(wrong(count_refusal(digits), bytes))),
         },
-        Ok(_) => Err(ReadError::Refused(wrong(Refusal::Unexpected, bytes))),
+        Ok(_) => Err(ReadError::Refused(wrong(TextRefusal::Unexpected, bytes))),
         Err(e) => Err(e),
     }
 }
@@ -84,14 +89,14 @@ fn written_count(bytes: &[u8], before: u32) -> Result<(u32, &[u8]), ReadError>
 /// For how many results the name stands that begins at `start`, behind names of so many.
 #[tactic(auto, unfolding(crate::specs::NameReading::count_at))]
 fn count<'a>(start: &[u8], bytes: &'a [u8], before: u32) -> Result<(u32, &'a [u8]), ReadError>
-    requires { before ≤ 256 }
+    requires { before ≤ most_items }
     ensures { Gives (λ x. (x.0, x.1.now)) result (count_at before bytes.now) }
 {
     if let Some(rest) = after(bytes, Mark::Colon) {
         return written_count(rest, before);
     }
-    if before == 256 {
-        return Err(ReadError::Refused(wrong(Refusal::TooMany, start)));
+    if before == MOST_RESULTS {
+        return Err(ReadError::Refused(wrong(TextRefusal::TooMany, start)));
     }
     Ok((1, bytes))
 }
@@ -99,7 +104,7 @@ fn count<'a>(start: &[u8], bytes: &'a [u8], before: u32) -> Result<(u32, &'a [u8
 /// A name with its count, behind names of so many results.
 #[tactic(auto, unfolding(crate::specs::NameReading::result_at))]
 fn counted_name(bytes: &[u8], before: u32) -> Result<(Named<'_>, &[u8]), ReadError>
-    requires { before ≤ 256 }
+    requires { before ≤ most_items }
     ensures { Gives (λ x. (named_view x.0, x.1.now)) result (result_at before bytes.now) }
 {
     match name(bytes) {
@@ -111,15 +116,16 @@ fn counted_name(bytes: &[u8], before: u32) -> Result<(Named<'_>, &[u8]), ReadErr
     }
 }
 
-/// The fault of one more name behind 256, or of what is none: at its count, where it has one.
+/// The fault of one more name behind as many results as there may be, or of what is none: at its count, where it
+/// has one.
 fn past_names(bytes: &[u8]) -> Fault {
-    match counted_name(bytes, 256) {
+    match counted_name(bytes, MOST_RESULTS) {
         Err(ReadError::Refused(fault)) => fault,
         _ => one_too_many(bytes),
     }
 }
 
-/// Puts names behind each other up to an equal sign, of at most 256 results.
+/// Puts names behind each other up to an equal sign, of as many results as an operation may have.
 #[tactic(auto, unfolding(crate::specs::NameReading::names_at))]
 fn push_names<'a>(items: &mut Vec<Named<'a>>, bytes: &'a [u8]) -> Result<&'a [u8], ReadError>
     requires { items.old.items ≡ [] }
@@ -127,7 +133,7 @@ fn push_names<'a>(items: &mut Vec<Named<'a>>, bytes: &'a [u8]) -> Result<&'a [u8
 {
     let mut rest = bytes;
     let mut total = 0u32;
-    'items: for _ in 0..256usize {
+    'items: for _ in 0..MOST_ITEMS {
         let (item, tail) = match counted_name(rest, total) {
             Ok(found) => found,
             Err(e) => return Err(e),
@@ -143,7 +149,7 @@ fn push_names<'a>(items: &mut Vec<Named<'a>>, bytes: &'a [u8]) -> Result<&'a [u8
     Err(ReadError::Refused(past_names(rest)))
 }
 
-/// Names up to an equal sign, of at most 256 results.
+/// Names up to an equal sign, of as many results as an operation may have.
 fn names<'a>(alloc: Global, bytes: &'a [u8]) -> Result<(Vec<Named<'a>>, &'a [u8]), ReadError>
     ensures { Gives (λ x. (map named_view x.0.items, x.1.now)) result (names_at bytes.now) }
 {

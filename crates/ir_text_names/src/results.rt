@@ -1,6 +1,7 @@
 //! The names of results. Language Reference, "Operations".
 ghost use Rattle.std.specs.Prelude.{◌≡◌, ◌+◌, ◌≤◌, ◌==◌, map, option_map, length, IfOk};
 ghost use Rattle.ir_text_grammar.specs.Outcomes.{Gives};
+ghost use Rattle.ir_tree.specs.Limits.{most_items};
 ghost use Rattle.ir_text_names.specs.Packs.{counts, named_view};
 ghost use Rattle.ir_text_names.specs.BlockReading.{results_of, bind_results, finish};
 
@@ -11,9 +12,9 @@ use crate::pack::Pack;
 use ir_text_grammar::error::ReadError;
 use ir_text_tokens::fault::Fault;
 use ir_text_tokens::names::Names;
+use ir_text_tokens::refusal::TextRefusal;
 use ir_tree::value::Value;
 use ir_types::ids::{OpId, TypeId};
-use ir_types::refusal::Refusal;
 use std::alloc::{AllocError, Global};
 
 /// The results of an operation from a place on, by their types.
@@ -24,7 +25,7 @@ fn many_results(
     place: u32,
     types: &[TypeId],
 ) -> Result<Vec<Bound>, AllocError>
-    requires { place + length types.now ≤ 256 }
+    requires { place + length types.now ≤ most_items }
     ensures { IfOk result (λ v. v.items ≡ results_of id place types.now) }
 {
     let mut values = Vec::with_capacity(alloc, types.len())?;
@@ -42,7 +43,7 @@ fn many_results(
 /// The pack of the results of an operation from a place on. One alone takes no memory.
 #[tactic(auto, unfolding(crate::specs::BlockReading::results_of))]
 fn results_of(alloc: Global, id: u32, place: u32, types: &[TypeId]) -> Result<Pack, AllocError>
-    requires { place + length types.now ≤ 256 }
+    requires { place + length types.now ≤ most_items }
     ensures { IfOk result (λ p. p ≡ results_of id place types.now) }
 {
     if let [ty] = types {
@@ -63,7 +64,7 @@ fn bind_results<'a>(
     types: &[TypeId],
     left: usize,
 ) -> Result<(), ReadError>
-    requires few { length types.now ≤ 256 }
+    requires few { length types.now ≤ most_items }
     requires counted { counts (map named_view results.now) ≡ length types.now }
     ensures { Gives (λ _. names.new) result (bind_results id 0 (map named_view results.now) types.now names.old) }
 {
@@ -111,7 +112,7 @@ pub fn finish<'a>(
     types: &[TypeId],
     left: usize,
 ) -> Result<(), ReadError>
-    requires { length types.now ≤ 256 }
+    requires { length types.now ≤ most_items }
     ensures { Gives (λ _. names.new) result (finish id (option_map (λ v. map named_view v.items) results.now) types.now names.old) }
 {
     match results {
@@ -119,7 +120,7 @@ pub fn finish<'a>(
         Some(results) => {
             if !is_total(results, types.len()) {
                 return Err(ReadError::Refused(Fault {
-                    refusal: Refusal::TypeMismatch,
+                    refusal: TextRefusal::TypeMismatch,
                     left,
                 }));
             }

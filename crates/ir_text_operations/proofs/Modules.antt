@@ -18,7 +18,7 @@ use Rattle.ir_text_grammar.specs.declared.error.ReadError.TheVariants as errors
 use Rattle.std.specs.Prelude.{Result, Err}
 use Rattle.ir_tree.specs.Tree.{op, Op, region, block, no_regions, ops_of, next}
 use Rattle.std.specs.List.{range_with_len}
-use Rattle.ir_types.specs.declared.refusal.Refusal.{Refusal}
+use Rattle.ir_text_tokens.specs.declared.refusal.TextRefusal.{TextRefusal}
 use Rattle.ir_types.specs.declared.refusal.Refusal.TheVariants.{TooMany}
 use Rattle.ir_types.specs.Reasons.{name_reason}
 use Rattle.ir_text_grammar.specs.Typed.{name_step}
@@ -294,5 +294,5 @@ module _ (c : Things) where
 pub source_none : (bytes : List ℕ) → IsNone (IsSource bytes) → IsNone (Spells bytes)
 source_none bytes none y s = none y s.spelled
 
-pub text_none : (bytes : List ℕ) (r : Refusal × ℕ) → text_reason bytes ≡ Some r → IsNone (Spells bytes)
+pub text_none : (bytes : List ℕ) (r : TextRefusal × ℕ) → text_reason bytes ≡ Some r → IsNone (Spells bytes)
 text_none bytes r e y s = let t = s.text in absurd cc

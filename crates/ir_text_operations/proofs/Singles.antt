@@ -1,10 +1,10 @@
 -- One operation of a text, by the laws of operations.
-use Rattle.std.specs.Prelude.{IsTrue, IfSome, option_map, option_and_then}
+use Rattle.std.specs.Prelude.{IsTrue, IfSome, Result, Err, option_map, option_and_then}
 use Rattle.std.specs.List.{range_with_len}
 use Rattle.std.proofs.Common.{◌≡◌, ◌≤◌, ℕ, List, length, Option, Some, None, refl, sym, ap, subst, ◌∙◌, ⊎_elim, arith}
 use Rattle.ir_text_tokens.specs.declared.token.Mark.TheVariants.{End}
 use Rattle.ir_text_tokens.specs.Limits.{text_reason}
-use Rattle.ir_types.specs.declared.refusal.Refusal.{Refusal}
+use Rattle.ir_text_tokens.specs.declared.refusal.TextRefusal.{TextRefusal}
 use Rattle.ir_types.specs.Things.{Things, Grows, IsType}
 use Rattle.ir_types.specs.Sound.{IsSound}
 use Rattle.ir_types.specs.Terms.{name_term, type_term, attr_term}
@@ -23,6 +23,9 @@ use Rattle.ir_text_grammar.specs.Worlds.{From}
 use Rattle.ir_text_grammar.proofs.TextLaws.{after_found, after_only}
 use Rattle.ir_text_grammar.proofs.Worlds.{bind_read, option_read, Step}
 use Rattle.ir_text_names.specs.States.{State, fresh}
+use Rattle.ir_text_grammar.specs.declared.error.ReadError.{ReadError}
+use Rattle.ir_text_operations.specs.declared.single.OpError.{OpError}
+use Rattle.ir_text_operations.specs.declared.single.OpError.TheVariants.{Text}
 use Rattle.ir_text_operations.specs.Free.{value_named, free_bound, free_term, bound_term}
 use Rattle.ir_text_operations.specs.FrontReading.{Frees}
 use Rattle.ir_text_operations.specs.OpReading.{op_at}
@@ -35,6 +38,10 @@ use Rattle.ir_text_operations.specs.Claims.{IsOnly, IsNone, IsLoneTree}
 use Rattle.ir_text_operations.proofs.NameLaws.{held, bytes_now}
 use Rattle.ir_text_operations.proofs.OpLaws.{op_exact}
 use Rattle.ir_text_operations.proofs.Modules.{fresh_agrees, read_parts, all_rise, numbers_are}
+
+-- an error of a text is the one that was met
+pub text_is : {X Y : Type 0} (e g : ReadError) → ◌≡◌ {A = Result X OpError} (Err (Text e)) (Err (Text g)) → ◌≡◌ {A = Result Y ReadError} (Err e) (Err g)
+text_is {X} {Y} e g k = let same : e ≡ g = cc in λ i. Err (same i)
 
 -- ---- what free names stand for
 
@@ -156,5 +163,5 @@ module _ (outer : FreeTerms) (first : ℕ) (bytes : List ℕ) where
   pub single_none : IsNone (IsSingleOp outer (last_from first) first bytes) → IsNone (SpellsOp outer first bytes)
   single_none none y s = none y s.spelled
 
-  pub no_text : (r : Refusal × ℕ) → text_reason bytes ≡ Some r → IsNone (SpellsOp outer first bytes)
+  pub no_text : (r : TextRefusal × ℕ) → text_reason bytes ≡ Some r → IsNone (SpellsOp outer first bytes)
   no_text r e y s = let t = s.text in absurd cc

@@ -4,7 +4,7 @@ use Rattle.ir_text_tokens.specs.declared.token.Mark.TheVariants.{End}
 use Rattle.ir_types.specs.Things.{Things}
 use Rattle.ir_tree.specs.Tree.{Op, op, region, block, no_regions, ops_of}
 use Rattle.ir_tree.specs.Ids.{IsNumberedFrom}
-use Rattle.ir_tree.specs.Limits.{depth, counts_fit, most_around}
+use Rattle.ir_tree.specs.Limits.{depth, counts_fit, most_around, most_ops}
 use Rattle.ir_tree.specs.Meaning.{Operation, meaning, is_known, isolated_in, IsSoundIn}
 use Rattle.ir_tree.specs.WellFormed.{IsFormed}
 use Rattle.ir_text_operations.specs.declared.module.Root.{Root}
@@ -31,7 +31,7 @@ IsRootOrNone bytes c (root.Other fault) = IsNone (IsExplicit bytes)
 
 -- the operations of an implicit root
 unfoldable pub IsBody : List ℕ → Operation → Type 0
-IsBody bytes t = (os : List Operation) × (end : Seen) × IsOps End (IsOp no_names 1048576 128) 1048576 [] os (seen_fresh 1 bytes) end × (t ≡ module_of os)
+IsBody bytes t = (os : List Operation) × (end : Seen) × IsOps End (IsOp no_names most_ops most_around) most_ops [] os (seen_fresh 1 bytes) end × (t ≡ module_of os)
 
 -- the one or the other
 abbrev pub IsSource : List ℕ → Operation → Type 0

@@ -2,12 +2,14 @@
 use Rattle.std.specs.Prelude.{ℕ, nat_eq, Bool, false, if◌then◌else◌, List, [], Option, Some, None}
 use Rattle.ir_text_tokens.specs.declared.token.Mark.TheVariants.{OpenCurly, CloseCurly, Less, Greater}
 use Rattle.ir_types.specs.Things.{Things}
+use Rattle.ir_types.specs.Limits.{most_depth}
 use Rattle.ir_types.specs.Terms.{name_term}
 use Rattle.ir_types.specs.Words.{is_inherent}
 use Rattle.ir_text_grammar.specs.Outcomes.{Outcome, Read, Wrong, ◌>>=◌, of_option, Parse}
 use Rattle.ir_text_grammar.specs.Lists.{list_at}
 use Rattle.ir_text_grammar.specs.Typed.{Typed, after_typed}
 use Rattle.ir_text_attributes.specs.AttrReading.{Entries, key_at, value_at}
+use Rattle.ir_text_operations.specs.Limits.{most_written}
 use Rattle.ir_text_operations.specs.Entries as keyed
 
 -- whether a key is a property of an operation wherever it stands; no key is where no operation is given
@@ -22,12 +24,12 @@ refused_in c op properties k es = keyed.is_refused nat_eq (is_property_in c op) 
 unfoldable pub entry_at : Option ℕ → Entries → Entries → Parse Typed (ℕ × ℕ)
 entry_at op properties before s = do
   k ← key_at s
-  a ← (if refused_in k.1.1 op properties k.0 before then Wrong else value_at 32 k.1)
+  a ← (if refused_in k.1.1 op properties k.0 before then Wrong else value_at most_depth k.1)
   Read ((k.0, a.0), a.1)
 
--- entries up to the closing brace; more than 512 are refused before
+-- entries up to the closing brace
 unfoldable pub entries_at : Option ℕ → Entries → Parse Typed Entries
-entries_at op properties = list_at after_typed CloseCurly (entry_at op properties) 513
+entries_at op properties = list_at after_typed CloseCurly (entry_at op properties) most_written
 
 unfoldable pub some_properties : Parse Typed Entries
 some_properties s = do

@@ -4,10 +4,12 @@ use Rattle.ir_text_tokens.specs.declared.token.Mark.TheVariants.{End}
 use Rattle.ir_types.specs.Things.{Things}
 use Rattle.ir_types.specs.Interning.{with_name}
 use Rattle.ir_types.specs.Words.{words}
+use Rattle.ir_tree.specs.Limits.{most_ops, most_around}
 use Rattle.ir_text_grammar.specs.Outcomes.{Full}
 use Rattle.ir_text_grammar.specs.Typed.{name_step}
 use Rattle.ir_text_names.specs.States.{fresh}
 use Rattle.ir_text_operations.specs.Free.{free_bound, no_types}
+use Rattle.ir_text_operations.specs.Limits.{most_levels}
 use Rattle.ir_text_operations.specs.OpReading.{op_at, ops_at}
 use Rattle.ir_text_operations.specs.Spelling.{module_word}
 
@@ -17,16 +19,16 @@ new_things = record { names = words; types = []; attrs = [] }
 
 -- so it is where the text is read as one operation, with ids from 0 on
 abbrev pub RootFills : List ℕ → Things → Type 0
-RootFills bytes c = op_at (free_bound no_types) 1048576 129 (fresh 0 bytes c) ≡ Full
+RootFills bytes c = op_at (free_bound no_types) most_ops most_levels (fresh 0 bytes c) ≡ Full
 
 -- where it is read as operations up to its end, at most so deep, with ids from `first` on
 abbrev pub OpsFill : ℕ → ℕ → List ℕ → Things → Type 0
-OpsFill depth first bytes c = ops_at End (op_at (free_bound no_types) 1048576 depth) 1048576 [] (fresh first bytes c) ≡ Full
+OpsFill depth first bytes c = ops_at End (op_at (free_bound no_types) most_ops depth) most_ops [] (fresh first bytes c) ≡ Full
 
 -- where it is read as the operations of a module, whose name comes first
 abbrev pub BodyFills : List ℕ → Things → Type 0
-BodyFills bytes c = (name_step module_word c ≡ Full) ⊎ OpsFill 128 1 bytes (with_name module_word c).1
+BodyFills bytes c = (name_step module_word c ≡ Full) ⊎ OpsFill most_around 1 bytes (with_name module_word c).1
 
 -- in one of the ways in which a text is read, each with a new context
 abbrev pub Fills : List ℕ → Type 0
-Fills bytes = RootFills bytes new_things ⊎ (BodyFills bytes new_things ⊎ OpsFill 129 0 bytes new_things)
+Fills bytes = RootFills bytes new_things ⊎ (BodyFills bytes new_things ⊎ OpsFill most_levels 0 bytes new_things)

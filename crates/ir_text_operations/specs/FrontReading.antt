@@ -8,6 +8,7 @@ use Rattle.ir_text_tokens.specs.Tokens.{Lexeme, value, string, hash, next}
 use Rattle.ir_text_tokens.specs.Strings.{string_bytes}
 use Rattle.ir_text_tokens.specs.Numbers.{place_value}
 use Rattle.ir_text_tokens.specs.Scopes.{Binding}
+use Rattle.ir_tree.specs.Limits.{most_items}
 use Rattle.ir_text_grammar.specs.Marks.{after}
 use Rattle.ir_text_grammar.specs.Outcomes.{Outcome, Read, Wrong, ◌>>=◌, of_option, Parse}
 use Rattle.ir_text_grammar.specs.Lists.{list_at}
@@ -62,7 +63,7 @@ unfoldable pub use_at : Frees → List (Binding (List Bound)) → Parse Text Bou
 use_at free here bytes = of_option (next bytes) >>= λ t. use_from free here t.0 t.1
 
 unfoldable pub uses_at : Frees → List (Binding (List Bound)) → Parse Text (List Bound)
-uses_at free here = list_at after CloseRound (λ before. use_at free here) 256
+uses_at free here = list_at after CloseRound (λ before. use_at free here) most_items
 
 pub record Start : Type 0 where
   pub results : Option (List Counted)

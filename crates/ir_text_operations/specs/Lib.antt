@@ -1,3 +1,4 @@
+pub mod Limits
 pub mod Free
 pub mod FrontReading
 pub mod Entries

@@ -10,15 +10,18 @@ use Rattle.ir_text_tokens.specs.Tokens.{Lexeme, integer, value, string, label, h
 use Rattle.ir_text_tokens.specs.Strings.{string_bytes}
 use Rattle.ir_text_tokens.specs.Numbers.{integer_of, place_value}
 use Rattle.ir_text_tokens.specs.Scopes.{Binding, Scopes}
+use Rattle.ir_types.specs.Limits.{most_depth}
 use Rattle.ir_types.specs.Terms.{TypeTerm, AttrTerm}
 use Rattle.ir_types.specs.Words.{is_isolated, is_inherent}
 use Rattle.ir_tree.specs.declared.value.Value.TheVariants as values
+use Rattle.ir_tree.specs.Limits.{most_items, most_regions, most_ops}
 use Rattle.ir_tree.specs.Tree.{RegionOf}
 use Rattle.ir_tree.specs.Meaning.{Operation, key_before}
 use Rattle.ir_text_grammar.specs.Grammars.{When, Grammar, Then, Done, After, Not, Either, IsMore, IsList, Token, IsMark}
 use Rattle.ir_text_grammar.specs.Typed.{Text}
 use Rattle.ir_text_types.specs.TypeGrammar.{IsType, IsFunctionType}
 use Rattle.ir_text_attributes.specs.AttrGrammar.{EntryTerm, IsKey, IsValue, IsAttr}
+use Rattle.ir_text_operations.specs.Limits.{most_written}
 use Rattle.ir_text_operations.specs.Entries.{is_refused}
 use Rattle.ir_text_operations.specs.Made.{region_of, made}
 use Rattle.ir_text_operations.specs.Free.{seen_as}
@@ -35,16 +38,17 @@ IsName n old new = Token (value n) old new
 abbrev pub IsNumber : Grammar Text ℕ
 IsNumber k old new = (digits : List ℕ) × Token (integer digits) old new × (k ≡ integer_of digits) × (1 ≤ k)
 
--- how many results a name stands for, behind names of so many: 1 where no count stands; all have at most 256
+-- how many results a name stands for, behind names of so many: 1 where no count stands; all have no more than an
+-- operation may
 abbrev pub IsCount : ℕ → Grammar Text ℕ
-IsCount before = Then (Either IsMark Colon IsNumber (Done 1)) (λ k. When (before + k ≤ 256) (Done k))
+IsCount before = Then (Either IsMark Colon IsNumber (Done 1)) (λ k. When (before + k ≤ most_items) (Done k))
 
 abbrev pub IsResult : ℕ → Grammar Text Counted
 IsResult before = Then IsName (λ n. Then (IsCount before) (λ k. Done (n, k)))
 
 -- names up to an equal sign
 abbrev pub IsNames : Grammar Text (List Counted)
-IsNames = IsMore IsMark Equal (λ before. IsResult (counts before)) 256 []
+IsNames = IsMore IsMark Equal (λ before. IsResult (counts before)) most_items []
 
 abbrev pub IsResultsFrom : Lexeme → Grammar Text (Option (List Counted))
 IsResultsFrom (value n) y old new = (ns : List Counted) × IsNames ns old new × (y ≡ Some ns)
@@ -80,7 +84,7 @@ pub record StartTerm : Type 0 where
 
 abbrev pub IsStart : FreeTerms → List (Binding PackTerm) → Grammar Text StartTerm
 IsStart free here =
-    Then IsResults (λ results. Then IsOpName (λ name. After IsMark OpenRound (Then (IsList IsMark CloseRound (λ before. IsUse free here) 256) (λ operands.
+    Then IsResults (λ results. Then IsOpName (λ name. After IsMark OpenRound (Then (IsList IsMark CloseRound (λ before. IsUse free here) most_items) (λ operands.
     Done (record { results = results; name = name; operands = operands })))))
 
 -- ---- dictionaries
@@ -90,9 +94,9 @@ abbrev pub is_property : Option (List ℕ) → List ℕ → Bool
 is_property None k = false
 is_property (Some op) k = is_inherent op k
 
--- the attribute of an entry, which may be 32 deep
+-- the attribute of an entry
 abbrev pub IsEntryValue : Grammar Text AttrTerm
-IsEntryValue = IsValue 32 (IsAttr 32)
+IsEntryValue = IsValue most_depth (IsAttr most_depth)
 
 -- an entry whose key does not stand before it, nor among the properties, and for which there is room
 abbrev pub IsOpEntry : Option (List ℕ) → List EntryTerm → List EntryTerm → Grammar Text EntryTerm
@@ -100,7 +104,7 @@ IsOpEntry op properties before =
     Then IsKey (λ k. When (is_refused bytes_eq (is_property op) properties k before ≡ false) (Then IsEntryValue (λ a. Done (k, a))))
 
 abbrev pub IsEntries : Option (List ℕ) → List EntryTerm → Grammar Text (List EntryTerm)
-IsEntries op properties = IsList IsMark CloseCurly (IsOpEntry op properties) 513
+IsEntries op properties = IsList IsMark CloseCurly (IsOpEntry op properties) most_written
 
 -- the properties, where they are written
 abbrev pub IsProperties : Grammar Text (List EntryTerm)
@@ -114,14 +118,14 @@ IsAttributes op properties = Either IsMark OpenCurly (IsEntries (Some op) proper
 
 -- an argument, whose name can be seen from then on
 abbrev pub IsArg : ℕ → ℕ → List TypeTerm → Grammar Seen TypeTerm
-IsArg id r before = Then (InText IsName) (λ n. After IsMarkSeen Colon (Then (InText (IsType 32)) (λ t. binds n t)))
+IsArg id r before = Then (InText IsName) (λ n. After IsMarkSeen Colon (Then (InText (IsType most_depth)) (λ t. binds n t)))
   where
     binds : List ℕ → TypeTerm → Grammar Seen TypeTerm
     binds n t y old new = (scopes : Scopes PackTerm) × IsBound n ((record { value = values.Arg id r (length before); type = t }) ∷ []) old.scopes scopes × (y ≡ t) × (new ≡ seen_scopes old scopes)
 
 -- arguments in parentheses or none, and a colon
 abbrev pub IsLabelArgs : ℕ → ℕ → Grammar Seen (List TypeTerm)
-IsLabelArgs id r = Then (Either IsMarkSeen OpenRound (IsList IsMarkSeen CloseRound (IsArg id r) 256) (Done [])) (λ args. After IsMarkSeen Colon (Done args))
+IsLabelArgs id r = Then (Either IsMarkSeen OpenRound (IsList IsMarkSeen CloseRound (IsArg id r) most_items) (Done [])) (λ args. After IsMarkSeen Colon (Done args))
 
 abbrev pub IsHeadFrom : ℕ → ℕ → Lexeme → Text → Grammar Seen (Option (List TypeTerm))
 IsHeadFrom id r (label l) rest y old new = (args : List TypeTerm) × IsLabelArgs id r args (seen_rest old rest) new × (y ≡ Some args)
@@ -155,7 +159,7 @@ IsRegion P id isolated before = After IsMarkSeen OpenCurly inner
 
 -- regions in parentheses, or none
 abbrev pub IsRegions : Grammar Seen (List Operation) → ℕ → Bool → Grammar Seen (List RegionTerm)
-IsRegions P id isolated = Either IsMarkSeen OpenRound (IsMore IsMarkSeen CloseRound (IsRegion P id isolated) 16 []) (Done [])
+IsRegions P id isolated = Either IsMarkSeen OpenRound (IsMore IsMarkSeen CloseRound (IsRegion P id isolated) most_regions []) (Done [])
 
 -- ---- operations
 
@@ -193,4 +197,4 @@ IsOpWith free P y old new =
 -- an operation with at most that many levels, of which it is one; ids are given in pre-order, each below `last`
 unfoldable pub IsOp : FreeTerms → ℕ → ℕ → Grammar Seen Operation
 IsOp free last zero y old new = ⊥
-IsOp free last (suc depth) y old new = (old.next < last) × IsOpWith free (IsOps CloseCurly (IsOp free last depth) 1048576 []) y old new
+IsOp free last (suc depth) y old new = (old.next < last) × IsOpWith free (IsOps CloseCurly (IsOp free last depth) most_ops []) y old new

@@ -6,6 +6,7 @@ use Rattle.ir_text_tokens.specs.declared.token.Mark.TheVariants.{OpenRound, Clos
 use Rattle.ir_types.specs.Things.{Things}
 use Rattle.ir_tree.specs.declared.value.Value.{Value}
 use Rattle.ir_tree.specs.Tree.{Op, Region}
+use Rattle.ir_tree.specs.Limits.{most_ops, most_regions}
 use Rattle.ir_tree.specs.Meaning.{isolated_in, key_before_in}
 use Rattle.ir_text_grammar.specs.Outcomes.{Outcome, Read, Wrong, ◌>>=◌, of_option, Parse}
 use Rattle.ir_text_grammar.specs.Lists.{more_at}
@@ -40,7 +41,7 @@ region_at p id isolated before s = do
 
 abbrev pub regions_from : Parse State (List Op) → ℕ → Bool → State → Option State → Outcome (List Region × State)
 regions_from p id isolated s None = Read ([], s)
-regions_from p id isolated s (Some c) = more_at after_in CloseRound (region_at p id isolated) 16 [] c
+regions_from p id isolated s (Some c) = more_at after_in CloseRound (region_at p id isolated) most_regions [] c
 
 unfoldable pub regions_at : Parse State (List Op) → ℕ → Bool → Parse State (List Region)
 regions_at p id isolated s = regions_from p id isolated s (after_in OpenRound s)
@@ -82,4 +83,4 @@ op_with free p s = do
 -- an operation with at most that many levels, of which it is one; ids are below `last`
 unfoldable pub op_at : Frees → ℕ → ℕ → Parse State Op
 op_at free last zero s = Wrong
-op_at free last (suc depth) s = if nat_lt s.next last then op_with free (ops_at CloseCurly (op_at free last depth) 1048576 []) s else Wrong
+op_at free last (suc depth) s = if nat_lt s.next last then op_with free (ops_at CloseCurly (op_at free last depth) most_ops []) s else Wrong

@@ -7,7 +7,8 @@ use Rattle.ir_text_grammar.specs.Marks.{after}
 use Rattle.ir_text_grammar.specs.Outcomes.{Outcome, Read, ◌>>=◌, of_option}
 use Rattle.ir_text_names.specs.States.{State}
 use Rattle.ir_text_operations.specs.FrontReading.{Frees}
+use Rattle.ir_text_operations.specs.Limits.{most_levels}
 use Rattle.ir_text_operations.specs.OpReading.{op_at}
 
 unfoldable pub single_op_at : Frees → ℕ → State → Outcome (Op × Things)
-single_op_at free last s = op_at free last 129 s >>= λ x. of_option (after End x.1.bytes) >>= λ rest. Read (x.0, x.1.things)
+single_op_at free last s = op_at free last most_levels s >>= λ x. of_option (after End x.1.bytes) >>= λ rest. Read (x.0, x.1.things)

@@ -7,13 +7,14 @@ use Rattle.ir_text_tokens.specs.Strings.{string_bytes}
 use Rattle.ir_text_tokens.specs.Limits.{text_reason}
 use Rattle.ir_types.specs.Words.{is_isolated, is_table}
 use Rattle.ir_tree.specs.Tree.{op, region, no_regions, block, ops_of, head}
-use Rattle.ir_tree.specs.Limits.{every, depth, counts_fit, most_around}
+use Rattle.ir_tree.specs.Limits.{every, depth, counts_fit, most_around, most_ops, most_next}
 use Rattle.ir_tree.specs.Meaning.{Operation, key_before, dictionaries_rise}
 use Rattle.ir_tree.specs.Ids.{IsNumberedFrom}
 use Rattle.ir_tree.specs.WellFormed.{IsFormed}
 use Rattle.ir_text_grammar.specs.Grammars.{IsMark}
 use Rattle.ir_text_operations.specs.Seen.{Seen, seen_fresh}
 use Rattle.ir_text_operations.specs.Free.{no_names}
+use Rattle.ir_text_operations.specs.Limits.{most_levels}
 use Rattle.ir_text_operations.specs.OpGrammar.{FreeTerms, IsOp, IsOps}
 
 abbrev pub module_word : List ℕ
@@ -38,7 +39,7 @@ is_root t = is_table (head t).name && (length (head t).operands == 0 && length (
 -- the text is one operation, and that is such a module: it is the root
 unfoldable pub IsExplicit : List ℕ → Operation → Type 0
 IsExplicit bytes t =
-    (begins_module bytes ≡ true) × ((end : Seen) × (rest : List ℕ) × IsOp no_names 1048576 129 t (seen_fresh 0 bytes) end × IsMark End end.bytes rest) × (is_root t ≡ true)
+    (begins_module bytes ≡ true) × ((end : Seen) × (rest : List ℕ) × IsOp no_names most_ops most_levels t (seen_fresh 0 bytes) end × IsMark End end.bytes rest) × (is_root t ≡ true)
 
 -- a module of these operations
 abbrev pub module_of : List Operation → Operation
@@ -48,7 +49,7 @@ module_of os = op (record { id = 0; name = module_word; operands = []; results =
 unfoldable pub IsImplicit : List ℕ → Operation → Type 0
 IsImplicit bytes t =
     ((o : Operation) → IsExplicit bytes o → ⊥)
-    × ((os : List Operation) × (end : Seen) × IsOps End (IsOp no_names 1048576 128) 1048576 [] os (seen_fresh 1 bytes) end × (t ≡ module_of os))
+    × ((os : List Operation) × (end : Seen) × IsOps End (IsOp no_names most_ops most_around) most_ops [] os (seen_fresh 1 bytes) end × (t ≡ module_of os))
 
 -- a text spells a tree whose ids are 0, 1, .. in pre-order, whose operations see their operands, which passes
 -- no limit, and whose dictionaries are sorted, each key once
@@ -61,15 +62,16 @@ pub record Spells (bytes : List ℕ) (t : Operation) : Type 0 where
 
 -- ---- one operation alone
 
--- the first id that none may have, where ids begin with the next one: so many are read, and all are below the limit of ids
+-- the first id that none may have, where ids begin with the next one: so many are read, and all are below the
+-- limit of ids
 abbrev pub last_from : ℕ → ℕ
-last_from next = min (next + 1048576) 4294967295
+last_from next = min (next + most_ops) most_next
 
 -- the text is one operation and nothing after it; the names that it leaves free stand for values of the module around
 unfoldable pub IsSingleOp : FreeTerms → ℕ → ℕ → List ℕ → Operation → Type 0
-IsSingleOp free last next bytes t = (end : Seen) × (rest : List ℕ) × IsOp free last 129 t (seen_fresh next bytes) end × IsMark End end.bytes rest
+IsSingleOp free last next bytes t = (end : Seen) × (rest : List ℕ) × IsOp free last most_levels t (seen_fresh next bytes) end × IsMark End end.bytes rest
 
--- a text spells an operation whose ids are next, next + 1, .. in pre-order, each below 4,294,967,295, which
+-- a text spells an operation whose ids are next, next + 1, .. in pre-order, each below the greatest, which
 -- passes no limit, and whose dictionaries are sorted, each key once. Its operands are seen where they stand,
 -- as the grammar has it, or free
 pub record SpellsOp (free : FreeTerms) (next : ℕ) (bytes : List ℕ) (t : Operation) : Type 0 where

@@ -6,10 +6,11 @@ ghost use Rattle.ir_text_attributes.specs.Keyed.{put_among, put_all};
 ghost use Rattle.ir_text_operations.specs.Entries.{moved, staying, no_room, properties_of, attributes_of};
 ghost use Rattle.ir_text_operations.specs.EntryReading.{is_property_in, refused_in};
 
-use ir_text_attributes::dictionaries::{Entry, MOST_ENTRIES};
+use ir_text_attributes::dictionaries::Entry;
 use ir_tree::sound::comes_before;
 use ir_types::context::Context;
 use ir_types::ids::NameId;
+use ir_types::limits::MOST_ENTRIES;
 use std::alloc::{AllocError, Global};
 
 /// Whether a key is a property of an operation wherever it is written.

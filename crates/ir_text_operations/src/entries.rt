@@ -5,15 +5,16 @@ ghost use Rattle.ir_text_grammar.specs.Outcomes.{Gives};
 ghost use Rattle.ir_text_operations.specs.EntryReading.{refused_in, entry_at, entries_at, some_properties, properties_at, attributes_at};
 
 use crate::dictionaries::no_room;
+use crate::limits::MOST_WRITTEN;
 use ir_text_attributes::dictionaries::{Entry, has_key, key, value};
-use ir_text_names::lists::{Behind, behind_item};
 use ir_text_grammar::error::{ReadError, wrong};
 use ir_text_grammar::steps::{after, expect};
+use ir_text_names::lists::{Behind, behind_item};
+use ir_text_tokens::refusal::TextRefusal;
 use ir_text_tokens::token::Mark;
-use ir_text_types::types::MOST_DEPTH;
 use ir_types::context::Context;
 use ir_types::ids::NameId;
-use ir_types::refusal::Refusal;
+use ir_types::limits::MOST_DEPTH;
 use std::alloc::Global;
 
 /// Why a key may not come behind these entries: it stands there, or there is no room.
@@ -23,14 +24,14 @@ fn refusal(
     properties: &[Entry],
     key: NameId,
     before: &[Entry],
-) -> Option<Refusal>
+) -> Option<TextRefusal>
     ensures { is_some result ≡ refused_in ctx.now op.now properties.now key before.now }
 {
     if has_key(key, properties) || has_key(key, before) {
-        return Some(Refusal::DuplicateKey);
+        return Some(TextRefusal::DuplicateKey);
     }
     if no_room(ctx, op, properties, key, before) {
-        return Some(Refusal::TooMany);
+        return Some(TextRefusal::TooMany);
     }
     None
 }
@@ -79,7 +80,7 @@ fn entries<'a>(
         return Ok((items, rest));
     }
     let mut rest = bytes;
-    'items: for _ in 0..513usize {
+    'items: for _ in 0..MOST_WRITTEN {
         let (item, tail) = match entry(alloc, ctx, op, properties, &items, rest) {
             Ok(found) => found,
             Err(e) => return Err(e),
@@ -91,7 +92,7 @@ fn entries<'a>(
             Err(e) => return Err(e),
         }
     }
-    Err(ReadError::Refused(wrong(Refusal::TooMany, rest)))
+    Err(ReadError::Refused(wrong(TextRefusal::TooMany, rest)))
 }
 
 /// The properties behind their opening sign.

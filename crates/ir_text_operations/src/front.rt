@@ -11,19 +11,20 @@ ghost use Rattle.ir_text_operations.specs.Openings.{called_at};
 ghost use Rattle.ir_text_operations.specs.FrontReading.{op_name_at, first_at, member_at, member_of, use_at, uses_at, start_at, start_view};
 
 use crate::free::free_bound;
+use ir_text_grammar::error::{ReadError, wrong};
+use ir_text_grammar::steps::{after, expect, token};
 use ir_text_names::bound::Bound;
 use ir_text_names::lists::{Behind, behind_item};
 use ir_text_names::named::{Named, name, one_too_many, results};
 use ir_text_names::pack::Pack;
-use ir_text_grammar::error::{ReadError, wrong};
-use ir_text_grammar::steps::{after, expect, token};
 use ir_text_tokens::lexer;
 use ir_text_tokens::names::Names;
 use ir_text_tokens::numbers::{are_digits, integer_value};
+use ir_text_tokens::refusal::TextRefusal;
 use ir_text_tokens::strings::string_value;
 use ir_text_tokens::token::{Mark, Token};
+use ir_tree::limits::MOST_ITEMS;
 use ir_tree::outer::Outer;
-use ir_types::refusal::Refusal;
 use std::alloc::{AllocError, Global};
 use std::borrow::CowSlice;
 
@@ -36,13 +37,13 @@ pub struct Front<'a> {
 }
 
 /// Why no name of an operation begins with a token, which may stand behind the names of results.
-pub(crate) fn begin_refusal(found: &Token<'_>, named: bool) -> Refusal {
+pub(crate) fn begin_refusal(found: &Token<'_>, named: bool) -> TextRefusal {
     match found {
-        Token::Bare(_) => Refusal::LeftOut,
-        Token::Hash(_) if !named => Refusal::LeftOut,
-        Token::Bang(_) if !named => Refusal::LeftOut,
-        Token::Label(_) if !named => Refusal::MultipleBlocks,
-        _ => Refusal::Unexpected,
+        Token::Bare(_) => TextRefusal::LeftOut,
+        Token::Hash(_) if !named => TextRefusal::LeftOut,
+        Token::Bang(_) if !named => TextRefusal::LeftOut,
+        Token::Label(_) if !named => TextRefusal::MultipleBlocks,
+        _ => TextRefusal::Unexpected,
     }
 }
 
@@ -78,7 +79,7 @@ fn op_name<'a>(
         Ok((Token::String(raw), rest)) => {
             let name = spelled(alloc, raw)?;
             if name.len() == 0 {
-                return Err(ReadError::Refused(wrong(Refusal::Unexpected, bytes)));
+                return Err(ReadError::Refused(wrong(TextRefusal::Unexpected, bytes)));
             }
             Ok((name, rest))
         }
@@ -127,7 +128,7 @@ fn numbered_member<'a>(pack: &Pack, bytes: &'a [u8]) -> Result<(Bound, &'a [u8])
     let (found, rest) = match lexer::token(bytes) {
         Ok((Token::Hash(digits), rest)) => {
             if !are_digits(digits) {
-                return Err(ReadError::Refused(wrong(Refusal::Unexpected, bytes)));
+                return Err(ReadError::Refused(wrong(TextRefusal::Unexpected, bytes)));
             }
             (numbered(pack, digits), rest)
         }
@@ -135,7 +136,7 @@ fn numbered_member<'a>(pack: &Pack, bytes: &'a [u8]) -> Result<(Bound, &'a [u8])
     };
     match found {
         Some(value) => Ok((value, rest)),
-        None => Err(ReadError::Refused(wrong(Refusal::UnknownValue, bytes))),
+        None => Err(ReadError::Refused(wrong(TextRefusal::UnknownValue, bytes))),
     }
 }
 
@@ -145,7 +146,7 @@ fn first_member<'a>(pack: &Pack, bytes: &'a [u8]) -> Result<(Bound, &'a [u8]), R
 {
     match pack.get(0) {
         Some(value) => Ok((*value, bytes)),
-        None => Err(ReadError::Refused(wrong(Refusal::UnknownValue, bytes))),
+        None => Err(ReadError::Refused(wrong(TextRefusal::UnknownValue, bytes))),
     }
 }
 
@@ -172,7 +173,7 @@ fn free_member<'a, O: Outer>(
 {
     match free_bound(outer, name) {
         Some(value) => member(&Pack::one(value), bytes),
-        None => Err(ReadError::Refused(wrong(Refusal::UnknownValue, start))),
+        None => Err(ReadError::Refused(wrong(TextRefusal::UnknownValue, start))),
     }
 }
 
@@ -194,7 +195,7 @@ fn operand<'a, O: Outer>(
     }
 }
 
-/// Operands up to the closing parenthesis, at most 256.
+/// Operands up to the closing parenthesis, as many as an operation may have.
 #[tactic(auto, unfolding(ir_text_grammar::specs::Lists::list_at, crate::specs::FrontReading::uses_at))]
 fn operands<'a, O: Outer>(
     alloc: Global,
@@ -209,7 +210,7 @@ fn operands<'a, O: Outer>(
         return Ok((items, rest));
     }
     let mut rest = bytes;
-    'items: for _ in 0..256usize {
+    'items: for _ in 0..MOST_ITEMS {
         let (item, tail) = match operand(outer, names, rest) {
             Ok(found) => found,
             Err(e) => return Err(e),

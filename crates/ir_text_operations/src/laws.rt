@@ -7,6 +7,7 @@ ghost use Rattle.ir_types.specs.Sound.{IsSound};
 ghost use Rattle.ir_types.specs.Things.{Things, Grows};
 ghost use Rattle.ir_tree.specs.Meaning.{Operation, meaning, is_known};
 ghost use Rattle.ir_tree.specs.Tree.{Op};
+ghost use Rattle.ir_tree.specs.Limits.{most_ops};
 ghost use Rattle.ir_text_grammar.specs.Laws.{Each};
 ghost use Rattle.ir_text_grammar.specs.Outcomes.{Read, Full};
 ghost use Rattle.ir_text_grammar.specs.Worlds.{From};
@@ -27,6 +28,6 @@ pub fn operations_are_read_as_spelled()
 
 /// So it is with all operations up to the end of a text, of which there are at most 1,048,576.
 pub fn texts_are_read_as_spelled()
-    ensures found { (free : Frees) (outer : FreeTerms) (last depth next : ℕ) (c : Things) (bytes : List ℕ) (os : List Op) (s : State) → IsSound c → From (λ z. FreeStands z free outer) c → ops_at End (op_at free last depth) 1048576 [] (fresh next bytes c) ≡ Read (os, s) → Grows c s.things × IsSound s.things × IsTrue (list_all (is_known s.things) os) × (t : Seen) × IsOps End (IsOp outer last depth) 1048576 [] (map (meaning s.things) os) (seen_fresh next bytes) t × StateStands s.things s t }
-    ensures only { (free : Frees) (outer : FreeTerms) (last depth next : ℕ) (c : Things) (bytes : List ℕ) (ys : List Operation) (t : Seen) → IsSound c → From (λ z. FreeStands z free outer) c → IsOps End (IsOp outer last depth) 1048576 [] ys (seen_fresh next bytes) t → (ops_at End (op_at free last depth) 1048576 [] (fresh next bytes c) ≡ Full) ⊎ ((os : List Op) × (s : State) × (ops_at End (op_at free last depth) 1048576 [] (fresh next bytes c) ≡ Read (os, s)) × Grows c s.things × IsSound s.things × Each OpStands s.things os ys × StateStands s.things s t) }
+    ensures found { (free : Frees) (outer : FreeTerms) (last depth next : ℕ) (c : Things) (bytes : List ℕ) (os : List Op) (s : State) → IsSound c → From (λ z. FreeStands z free outer) c → ops_at End (op_at free last depth) most_ops [] (fresh next bytes c) ≡ Read (os, s) → Grows c s.things × IsSound s.things × IsTrue (list_all (is_known s.things) os) × (t : Seen) × IsOps End (IsOp outer last depth) most_ops [] (map (meaning s.things) os) (seen_fresh next bytes) t × StateStands s.things s t }
+    ensures only { (free : Frees) (outer : FreeTerms) (last depth next : ℕ) (c : Things) (bytes : List ℕ) (ys : List Operation) (t : Seen) → IsSound c → From (λ z. FreeStands z free outer) c → IsOps End (IsOp outer last depth) most_ops [] ys (seen_fresh next bytes) t → (ops_at End (op_at free last depth) most_ops [] (fresh next bytes c) ≡ Full) ⊎ ((os : List Op) × (s : State) × (ops_at End (op_at free last depth) most_ops [] (fresh next bytes c) ≡ Read (os, s)) × Grows c s.things × IsSound s.things × Each OpStands s.things os ys × StateStands s.things s t) }
 {}

@@ -6,6 +6,7 @@ mod entries;
 pub mod free;
 pub mod front;
 pub mod laws;
+pub mod limits;
 pub mod module;
 mod opening;
 mod operands;

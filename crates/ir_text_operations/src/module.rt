@@ -10,20 +10,23 @@ ghost use Rattle.ir_types.specs.Words.{is_table};
 ghost use Rattle.ir_tree.specs.Meaning.{meaning, IsSoundIn, Operation};
 ghost use Rattle.ir_tree.specs.Tree.{head};
 ghost use Rattle.ir_text_tokens.specs.declared.fault.Fault.{Fault as TextFault};
+ghost use Rattle.ir_text_operations.specs.Limits.{most_levels};
 ghost use Rattle.ir_text_operations.specs.Spelling.{begins_module, is_root, module_word, Spells};
 ghost use Rattle.ir_text_grammar.specs.Laws.{IsFull};
 ghost use Rattle.ir_text_operations.specs.Filling.{RootFills, BodyFills, OpsFill};
 ghost use Rattle.ir_text_operations.specs.Claims.{IsOnly, IsNone, IsRootOrNone, IsBody, IsSource, IsModuleTree, module_with};
 
 use crate::free::{Around, NoOuter};
-use crate::ops::{MOST_OPS, op, ops};
+use crate::limits::{MOST_LEVELS, MOST_OPS};
+use crate::ops::{op, ops};
 use crate::places::is_outside;
-use ir_text_names::scope::Scope;
 use ir_text_grammar::error::{ReadError, within_limits, wrong};
 use ir_text_grammar::steps::after;
+use ir_text_names::scope::Scope;
 use ir_text_tokens::fault::Fault;
 use ir_text_tokens::lexer::token;
 use ir_text_tokens::names::Names;
+use ir_text_tokens::refusal::TextRefusal;
 use ir_text_tokens::strings::string_value;
 use ir_text_tokens::token::{Mark, Token};
 use ir_text_types::full::told;
@@ -112,7 +115,7 @@ pub fn explicit(alloc: Global, ctx: &mut Context, bytes: &[u8]) -> Result<Root, 
         outer: &NoOuter,
         last: MOST_OPS,
     };
-    match op(alloc, &mut scope, ctx, &around, bytes, 129) {
+    match op(alloc, &mut scope, ctx, &around, bytes, MOST_LEVELS) {
         Ok((tree, rest)) => {
             if is_whole(ctx, &tree, rest) {
                 Ok(Root::Is(tree))
@@ -164,7 +167,15 @@ pub fn implicit(alloc: Global, ctx: &mut Context, bytes: &[u8]) -> Result<TreeOp
         outer: &NoOuter,
         last: MOST_OPS,
     };
-    let (body, _) = match ops(alloc, &mut scope, ctx, &around, Mark::End, bytes, 128) {
+    let (body, _) = match ops(
+        alloc,
+        &mut scope,
+        ctx,
+        &around,
+        Mark::End,
+        bytes,
+        MOST_LEVELS - 1,
+    ) {
         Ok(found) => found,
         Err(e) => return Err(e),
     };
@@ -177,8 +188,8 @@ pub fn implicit(alloc: Global, ctx: &mut Context, bytes: &[u8]) -> Result<TreeOp
 /// The fault with a label outside any region as one that does not fit.
 pub(crate) fn fault_of_label(bytes: &[u8], fault: Fault) -> Fault {
     match fault.refusal {
-        Refusal::MultipleBlocks if is_outside(bytes, fault.left) => Fault {
-            refusal: Refusal::Unexpected,
+        TextRefusal::MultipleBlocks if is_outside(bytes, fault.left) => Fault {
+            refusal: TextRefusal::Unexpected,
             left: fault.left,
         },
         _ => fault,
@@ -194,7 +205,7 @@ fn without_root(
     fault: Fault,
 ) -> Result<Fault, ReadError>
     ensures grows { Grows ctx.old ctx.new }
-    ensures full { (left : ℕ) → result ≡ Err (ReadError.Full left) → OpsFill 129 0 bytes.now ctx.old }
+    ensures full { (left : ℕ) → result ≡ Err (ReadError.Full left) → OpsFill most_levels 0 bytes.now ctx.old }
 {
     let mut scope = Scope {
         names: Names::new(alloc, ctx.hasher()),
@@ -204,7 +215,15 @@ fn without_root(
         outer: &NoOuter,
         last: MOST_OPS,
     };
-    match ops(alloc, &mut scope, ctx, &around, Mark::End, bytes, 129) {
+    match ops(
+        alloc,
+        &mut scope,
+        ctx,
+        &around,
+        Mark::End,
+        bytes,
+        MOST_LEVELS,
+    ) {
         Ok(_) => Ok(Fault {
             refusal: fault.refusal,
             left: 0,
@@ -223,10 +242,10 @@ pub fn as_written(
     fault: Fault,
 ) -> Result<Fault, ReadError>
     ensures grows { Grows ctx.old ctx.new }
-    ensures full { (left : ℕ) → result ≡ Err (ReadError.Full left) → OpsFill 129 0 bytes.now ctx.old }
+    ensures full { (left : ℕ) → result ≡ Err (ReadError.Full left) → OpsFill most_levels 0 bytes.now ctx.old }
 {
     match fault.refusal {
-        Refusal::TooDeep | Refusal::TooMany => without_root(alloc, ctx, bytes, fault),
+        TextRefusal::TooDeep | TextRefusal::TooMany => without_root(alloc, ctx, bytes, fault),
         _ => Ok(fault_of_label(bytes, fault)),
     }
 }
@@ -266,11 +285,16 @@ pub fn looked_at(alloc: Global, ctx: &Context, tree: &TreeOp) -> Result<(), Read
     match check(alloc, ctx, tree) {
         Ok(()) => {}
         Err(Refusal::Memory) => return Err(ReadError::Memory),
-        Err(refusal) => return Err(ReadError::Refused(Fault { refusal, left: 0 })),
+        Err(refusal) => {
+            return Err(ReadError::Refused(Fault {
+                refusal: TextRefusal::of(refusal),
+                left: 0,
+            }));
+        }
     }
     if !numbered(tree, 0) || !sound(ctx, tree) {
         return Err(ReadError::Refused(Fault {
-            refusal: Refusal::Unexpected,
+            refusal: TextRefusal::Unexpected,
             left: 0,
         }));
     }

@@ -2,6 +2,7 @@
 ghost use Rattle.std.specs.Prelude.{◌≡◌, ◌<◌, [], List, length, map, option_map};
 ghost use Rattle.ir_text_tokens.specs.declared.token.Mark.TheVariants.{CloseCurly};
 ghost use Rattle.ir_tree.specs.Tree.{Region};
+ghost use Rattle.ir_tree.specs.Limits.{most_ops};
 ghost use Rattle.ir_tree.specs.View.{region_view};
 ghost use Rattle.ir_types.specs.Things.{Grows};
 ghost use Rattle.ir_text_grammar.specs.Outcomes.{Gives};
@@ -11,24 +12,22 @@ ghost use Rattle.ir_text_operations.specs.Made.{region_of};
 ghost use Rattle.ir_text_operations.specs.OpReading.{region_at, regions_at, ops_at, op_with, op_at};
 
 use crate::free::Around;
+use crate::limits::{MOST_OPS, MOST_REGIONS};
 use crate::opening::read_opening;
 use crate::places::{error_at_name, past_ops, region_too_many};
 use crate::tail::closing;
+use ir_text_grammar::error::ReadError;
+use ir_text_grammar::steps::after;
 use ir_text_names::blocks::region_head;
 use ir_text_names::lists::{Behind, behind_item};
 use ir_text_names::scope::Scope;
-use ir_text_grammar::error::ReadError;
-use ir_text_grammar::steps::after;
+use ir_text_tokens::refusal::TextRefusal;
 use ir_text_tokens::token::Mark;
 use ir_tree::outer::Outer;
 use ir_tree::tree::{TreeOp, TreeRegion};
 use ir_types::context::Context;
 use ir_types::ids::TypeId;
-use ir_types::refusal::Refusal;
 use std::alloc::Global;
-
-/// The most operations of a module.
-pub const MOST_OPS: u32 = 1_048_576;
 
 /// A region: without a label and without an operation it has no block.
 fn region_of(alloc: Global, args: Option<Vec<TypeId>>, ops: Vec<TreeOp>) -> TreeRegion
@@ -60,7 +59,7 @@ fn region<'a, O: Outer>(
     bytes: &'a [u8],
     depth: u32,
 ) -> Result<(TreeRegion, &'a [u8]), ReadError>
-    ensures reads { (before : List Region) → length before ≡ region → Gives (λ x. (region_view x.0, state_of x.1.now scope.new ctx.new)) result (region_at (ops_at CloseCurly (op_at (free_bound (O.types around.now.outer.now)) around.now.last depth) MOST_OPS []) id isolated before (state_of bytes.now scope.old ctx.old)) }
+    ensures reads { (before : List Region) → length before ≡ region → Gives (λ x. (region_view x.0, state_of x.1.now scope.new ctx.new)) result (region_at (ops_at CloseCurly (op_at (free_bound (O.types around.now.outer.now)) around.now.last depth) most_ops []) id isolated before (state_of bytes.now scope.old ctx.old)) }
     ensures grows { Grows ctx.old ctx.new }
 {
     let (args, rest) = match region_head(alloc, scope, ctx, id, region, isolated, bytes) {
@@ -75,7 +74,7 @@ fn region<'a, O: Outer>(
     Ok((region_of(alloc, args, ops), rest))
 }
 
-/// Regions in parentheses, at most 16, or none.
+/// Regions in parentheses, as many as an operation may have, or none.
 #[cycle(op)]
 #[tactic(auto, using(ir_types::proofs::Growth::grows_refl, ir_types::proofs::Growth::grows_trans), unfolding(crate::specs::OpReading::regions_at))]
 fn regions<'a, O: Outer>(
@@ -88,7 +87,7 @@ fn regions<'a, O: Outer>(
     bytes: &'a [u8],
     depth: u32,
 ) -> Result<(Vec<TreeRegion>, &'a [u8]), ReadError>
-    ensures reads { Gives (λ x. (map region_view x.0.items, state_of x.1.now scope.new ctx.new)) result (regions_at (ops_at CloseCurly (op_at (free_bound (O.types around.now.outer.now)) around.now.last depth) MOST_OPS []) id isolated (state_of bytes.now scope.old ctx.old)) }
+    ensures reads { Gives (λ x. (map region_view x.0.items, state_of x.1.now scope.new ctx.new)) result (regions_at (ops_at CloseCurly (op_at (free_bound (O.types around.now.outer.now)) around.now.last depth) most_ops []) id isolated (state_of bytes.now scope.old ctx.old)) }
     ensures grows { Grows ctx.old ctx.new }
 {
     let mut items = Vec::new(alloc);
@@ -96,7 +95,7 @@ fn regions<'a, O: Outer>(
         return Ok((items, bytes));
     };
     let mut rest = rest;
-    'items: for count in 0..16 {
+    'items: for count in 0..MOST_REGIONS {
         let (item, tail) = match region(
             alloc, scope, ctx, around, id, count, isolated, rest, depth,
         ) {
@@ -128,7 +127,7 @@ pub fn ops<'a, O: Outer>(
     bytes: &'a [u8],
     depth: u32,
 ) -> Result<(Vec<TreeOp>, &'a [u8]), ReadError>
-    ensures reads { Gives (λ x. (x.0.items, state_of x.1.now scope.new ctx.new)) result (ops_at close (op_at (free_bound (O.types around.now.outer.now)) around.now.last depth) MOST_OPS [] (state_of bytes.now scope.old ctx.old)) }
+    ensures reads { Gives (λ x. (x.0.items, state_of x.1.now scope.new ctx.new)) result (ops_at close (op_at (free_bound (O.types around.now.outer.now)) around.now.last depth) most_ops [] (state_of bytes.now scope.old ctx.old)) }
     ensures grows { Grows ctx.old ctx.new }
 {
     let mut items = Vec::new(alloc);
@@ -161,7 +160,7 @@ fn op_with<'a, O: Outer>(
     depth: u32,
 ) -> Result<(TreeOp, &'a [u8]), ReadError>
     requires { scope.old.next < around.now.last }
-    ensures reads { Gives (λ x. (x.0, state_of x.1.now scope.new ctx.new)) result (op_with (free_bound (O.types around.now.outer.now)) (ops_at CloseCurly (op_at (free_bound (O.types around.now.outer.now)) around.now.last depth) MOST_OPS []) (state_of bytes.now scope.old ctx.old)) }
+    ensures reads { Gives (λ x. (x.0, state_of x.1.now scope.new ctx.new)) result (op_with (free_bound (O.types around.now.outer.now)) (ops_at CloseCurly (op_at (free_bound (O.types around.now.outer.now)) around.now.last depth) most_ops []) (state_of bytes.now scope.old ctx.old)) }
     ensures grows { Grows ctx.old ctx.new }
 {
     let id = scope.next;
@@ -193,10 +192,10 @@ pub fn op<'a, O: Outer>(
     ensures grows { Grows ctx.old ctx.new }
 {
     if depth == 0 {
-        return Err(error_at_name(alloc, Refusal::TooDeep, bytes));
+        return Err(error_at_name(alloc, TextRefusal::TooDeep, bytes));
     }
     if scope.next >= around.last {
-        return Err(error_at_name(alloc, Refusal::TooMany, bytes));
+        return Err(error_at_name(alloc, TextRefusal::TooMany, bytes));
     }
     op_with(alloc, scope, ctx, around, bytes, depth - 1)
 }

@@ -2,23 +2,24 @@
 ghost use Rattle.ir_text_operations.specs.Openings.{IsOfText};
 
 use crate::front::begin_refusal;
-use ir_text_names::named::{counted, results};
-use ir_text_names::pack::Pack;
 use ir_text_grammar::error::{ReadError, wrong};
 use ir_text_grammar::steps::after;
+use ir_text_names::named::{counted, results};
+use ir_text_names::pack::Pack;
 use ir_text_tokens::fault::Fault;
 use ir_text_tokens::lexer::{skip, token};
 use ir_text_tokens::names::Names;
+use ir_text_tokens::refusal::TextRefusal;
 use ir_text_tokens::token::{Mark, Token};
+use ir_tree::limits::MOST_ITEMS;
 use ir_tree::value::Value;
 use ir_types::ids::OpId;
-use ir_types::refusal::Refusal;
 use std::alloc::{AllocError, Global};
 
 /// The fault at the name of an operation, or at what is none.
-fn fault_at(refusal: Refusal, bytes: &[u8], named: bool) -> Fault {
+fn fault_at(refusal: TextRefusal, bytes: &[u8], named: bool) -> Fault {
     match token(bytes) {
-        Ok((Token::String([]), _)) => wrong(Refusal::Unexpected, bytes),
+        Ok((Token::String([]), _)) => wrong(TextRefusal::Unexpected, bytes),
         Ok((Token::String(_), _)) => wrong(refusal, bytes),
         Ok((found, _)) => wrong(begin_refusal(&found, named), bytes),
         Err(fault) => fault,
@@ -26,7 +27,7 @@ fn fault_at(refusal: Refusal, bytes: &[u8], named: bool) -> Fault {
 }
 
 /// The error of an operation that may not stand here: it is told at the name.
-pub(crate) fn error_at_name(alloc: Global, refusal: Refusal, bytes: &[u8]) -> ReadError
+pub(crate) fn error_at_name(alloc: Global, refusal: TextRefusal, bytes: &[u8]) -> ReadError
     ensures { IsOfText result }
 {
     match results(alloc, bytes) {
@@ -39,8 +40,8 @@ pub(crate) fn error_at_name(alloc: Global, refusal: Refusal, bytes: &[u8]) -> Re
 /// The fault behind as many operations as there may be: at the name of one more, or where they end.
 pub(crate) fn past_ops(alloc: Global, close: Mark, bytes: &[u8]) -> Result<Fault, AllocError> {
     match after(bytes, close) {
-        Some(_) => Ok(wrong(Refusal::TooMany, bytes)),
-        None => match error_at_name(alloc, Refusal::TooMany, bytes) {
+        Some(_) => Ok(wrong(TextRefusal::TooMany, bytes)),
+        None => match error_at_name(alloc, TextRefusal::TooMany, bytes) {
             ReadError::Refused(fault) => Ok(fault),
             _ => Err(AllocError),
         },
@@ -73,21 +74,21 @@ fn behind_name(bytes: &[u8]) -> (u32, &[u8]) {
 fn redefined<'a>(names: &Names<'a, Pack>, id: u32, bytes: &'a [u8]) -> Fault {
     let mut rest = bytes;
     let mut place = 0u32;
-    for _ in 0..256usize {
+    for _ in 0..MOST_ITEMS {
         let Ok((Token::Value(name), tail)) = token(rest) else {
-            return wrong(Refusal::Redefined, rest);
+            return wrong(TextRefusal::Redefined, rest);
         };
         if !is_result(names, name, id, place) {
-            return wrong(Refusal::Redefined, rest);
+            return wrong(TextRefusal::Redefined, rest);
         }
         let (count, tail) = behind_name(tail);
         place = place.saturating_add(count);
         match after(tail, Mark::Comma) {
             Some(next) => rest = next,
-            None => return wrong(Refusal::Redefined, rest),
+            None => return wrong(TextRefusal::Redefined, rest),
         }
     }
-    wrong(Refusal::Redefined, rest)
+    wrong(TextRefusal::Redefined, rest)
 }
 
 /// The fault behind an operation's regions: `Successors` where they stand behind its operands, and a
@@ -100,10 +101,10 @@ pub(crate) fn placed<'a>(
     fault: Fault,
 ) -> Fault {
     if after(behind_operands, Mark::OpenSquare).is_some() {
-        return wrong(Refusal::Successors, behind_operands);
+        return wrong(TextRefusal::Successors, behind_operands);
     }
     match fault.refusal {
-        Refusal::Redefined => redefined(names, id, bytes),
+        TextRefusal::Redefined => redefined(names, id, bytes),
         _ => fault,
     }
 }
@@ -111,8 +112,8 @@ pub(crate) fn placed<'a>(
 /// The fault at a region that is one too many, or at what is none.
 pub(crate) fn region_too_many(bytes: &[u8]) -> Fault {
     match after(bytes, Mark::OpenCurly) {
-        Some(_) => wrong(Refusal::TooMany, bytes),
-        None => wrong(Refusal::Unexpected, bytes),
+        Some(_) => wrong(TextRefusal::TooMany, bytes),
+        None => wrong(TextRefusal::Unexpected, bytes),
     }
 }
 

@@ -13,14 +13,16 @@ ghost use Rattle.ir_text_operations.specs.Spelling.{last_from, SpellsOp};
 ghost use Rattle.ir_text_operations.specs.Claims.{IsOnly, IsNone, IsLoneTree};
 
 use crate::free::Around;
+use crate::limits::{MOST_LEVELS, MOST_OPS};
 use crate::module::fault_of_label;
-use crate::ops::{MOST_OPS, op};
-use ir_text_names::blocks::location_refusal;
-use ir_text_names::scope::Scope;
+use crate::ops::op;
 use ir_text_grammar::error::{ReadError, within_limits, wrong};
 use ir_text_grammar::steps::after;
+use ir_text_names::blocks::location_refusal;
+use ir_text_names::scope::Scope;
 use ir_text_tokens::fault::Fault;
 use ir_text_tokens::names::Names;
+use ir_text_tokens::refusal::TextRefusal;
 use ir_text_tokens::token::Mark;
 use ir_text_types::full::told;
 use ir_tree::count::depth;
@@ -30,11 +32,22 @@ use ir_tree::outer::Outer;
 use ir_tree::sound::sound;
 use ir_tree::tree::TreeOp;
 use ir_types::context::Context;
-use ir_types::refusal::Refusal;
 use std::alloc::Global;
+use thiserror::Error;
 
 /// No operation has this id or a greater one.
-const MOST_ID: u32 = 4_294_967_295;
+const MOST_ID: u32 = u32::MAX;
+
+/// Why the text of an operation is not read.
+#[derive(Clone, Copy, Debug, PartialEq, Eq, Error)]
+pub enum OpError {
+    /// An error of the text, of the context or of memory.
+    #[error(transparent)]
+    Text(ReadError),
+    /// The ids of the module around run out.
+    #[error("no operation id is left")]
+    IdsExhausted,
+}
 
 /// The first id that none may have, where ids begin with the next one.
 fn last_from(next: u32) -> u32
@@ -66,7 +79,7 @@ fn single<O: Outer>(
         next,
     };
     let around = Around { outer, last };
-    match op(alloc, &mut scope, ctx, &around, bytes, 129) {
+    match op(alloc, &mut scope, ctx, &around, bytes, MOST_LEVELS) {
         Ok((tree, rest)) => match after(rest, Mark::End) {
             Some(_) => Ok(tree),
             None => Err(ReadError::Refused(wrong(location_refusal(rest), rest))),
@@ -85,19 +98,16 @@ fn before_ids<O: Outer>(
     outer: &O,
     next: u32,
     fault: Fault,
-) -> Result<Fault, ReadError>
+) -> Result<Fault, OpError>
     ensures { Grows ctx.old ctx.new }
 {
-    if next <= MOST_ID - MOST_OPS || fault.refusal != Refusal::TooMany {
+    if next <= MOST_ID - MOST_OPS || fault.refusal != TextRefusal::TooMany {
         return Ok(fault);
     }
     match single(alloc, ctx, bytes, outer, 0, MOST_OPS) {
-        Ok(_) => Ok(Fault {
-            refusal: Refusal::IdsExhausted,
-            left: 0,
-        }),
+        Ok(_) => Err(OpError::IdsExhausted),
         Err(ReadError::Refused(fault)) => Ok(fault),
-        Err(e) => Err(e),
+        Err(e) => Err(OpError::Text(e)),
     }
 }
 
@@ -109,19 +119,19 @@ fn looked_at(ctx: &Context, tree: &TreeOp, next: u32) -> Result<(), ReadError>
 {
     if depth(tree) > MOST_AROUND {
         return Err(ReadError::Refused(Fault {
-            refusal: Refusal::TooDeep,
+            refusal: TextRefusal::TooDeep,
             left: 0,
         }));
     }
     if !counts_are_within(tree) {
         return Err(ReadError::Refused(Fault {
-            refusal: Refusal::TooMany,
+            refusal: TextRefusal::TooMany,
             left: 0,
         }));
     }
     if !numbered(tree, next) || !sound(ctx, tree) {
         return Err(ReadError::Refused(Fault {
-            refusal: Refusal::Unexpected,
+            refusal: TextRefusal::Unexpected,
             left: 0,
         }));
     }
@@ -135,16 +145,17 @@ fn op_of_text<O: Outer>(
     ctx: &mut Context,
     bytes: &[u8],
     outer: &O,
-) -> Result<TreeOp, ReadError>
+) -> Result<TreeOp, OpError>
     requires { (v : TreeValue) → IfSome (O.types outer.now v) (λ ty. IsType ctx.old ty) }
     ensures read { IfOk result (λ t. IsOnly (SpellsOp (free_term (O.types outer.now) ctx.old) (O.next outer.now) bytes.now) ctx.new t) }
     ensures sound { IfOk result (λ t. IsSoundIn ctx.new t) }
-    ensures refused { (f : TextFault) → result ≡ Err (ReadError.Refused f) → IsNone (SpellsOp (free_term (O.types outer.now) ctx.old) (O.next outer.now) bytes.now) }
+    ensures refused { (f : TextFault) → result ≡ Err (OpError.Text (ReadError.Refused f)) → IsNone (SpellsOp (free_term (O.types outer.now) ctx.old) (O.next outer.now) bytes.now) }
+    ensures exhausted { result ≡ Err OpError.IdsExhausted → IsNone (SpellsOp (free_term (O.types outer.now) ctx.old) (O.next outer.now) bytes.now) }
     ensures grows { Grows ctx.old ctx.new }
 {
     match within_limits(bytes) {
         Ok(()) => {}
-        Err(error) => return Err(error),
+        Err(error) => return Err(OpError::Text(error)),
     }
     ctx.sound();
     let next = outer.next_id();
@@ -153,15 +164,18 @@ fn op_of_text<O: Outer>(
         Ok(tree) => tree,
         Err(ReadError::Refused(fault)) => {
             return match before_ids(alloc, ctx, bytes, outer, next, fault) {
-                Ok(fault) => Err(ReadError::Refused(fault_of_label(bytes, fault))),
+                Ok(fault) => {
+                    let fault = fault_of_label(bytes, fault);
+                    Err(OpError::Text(ReadError::Refused(fault)))
+                }
                 Err(e) => Err(e),
             };
         }
-        Err(e) => return Err(e),
+        Err(e) => return Err(OpError::Text(e)),
     };
     match looked_at(ctx, &tree, next) {
         Ok(()) => Ok(tree),
-        Err(e) => Err(e),
+        Err(e) => Err(OpError::Text(e)),
     }
 }
 
@@ -176,16 +190,18 @@ pub fn read_op<O: Outer>(
     ctx: &mut Context,
     bytes: &[u8],
     outer: &O,
-) -> Result<TreeOp, ReadError>
+) -> Result<TreeOp, OpError>
     requires { (v : TreeValue) → IfSome (O.types outer.now v) (λ ty. IsType ctx.old ty) }
     ensures read { IfOk result (λ t. IsOnly (SpellsOp (free_term (O.types outer.now) ctx.old) (O.next outer.now) bytes.now) ctx.new t) }
     ensures sound { IfOk result (λ t. IsSoundIn ctx.new t) }
-    ensures refused { (f : TextFault) → result ≡ Err (ReadError.Refused f) → IsNone (SpellsOp (free_term (O.types outer.now) ctx.old) (O.next outer.now) bytes.now) }
+    ensures refused { (f : TextFault) → result ≡ Err (OpError.Text (ReadError.Refused f)) → IsNone (SpellsOp (free_term (O.types outer.now) ctx.old) (O.next outer.now) bytes.now) }
+    ensures exhausted { result ≡ Err OpError.IdsExhausted → IsNone (SpellsOp (free_term (O.types outer.now) ctx.old) (O.next outer.now) bytes.now) }
     ensures grows { Grows ctx.old ctx.new }
-    ensures full { (left : ℕ) → result ≡ Err (ReadError.Full left) → IsFull ctx.new }
+    ensures full { (left : ℕ) → result ≡ Err (OpError.Text (ReadError.Full left)) → IsFull ctx.new }
 {
     match op_of_text(alloc, ctx, bytes, outer) {
         Ok(tree) => Ok(tree),
-        Err(e) => Err(told(ctx, e)),
+        Err(OpError::Text(e)) => Err(OpError::Text(told(ctx, e))),
+        Err(OpError::IdsExhausted) => Err(OpError::IdsExhausted),
     }
 }

@@ -15,18 +15,18 @@ use crate::opening::Opening;
 use crate::operands::{agrees, values_of};
 use crate::places::placed;
 use ir_text_attributes::dictionaries::Entry;
+use ir_text_grammar::error::{ReadError, wrong};
+use ir_text_grammar::steps::expect;
 use ir_text_names::bound::Bound;
 use ir_text_names::results::finish;
 use ir_text_names::scope::Scope;
-use ir_text_grammar::error::{ReadError, wrong};
-use ir_text_grammar::steps::expect;
 use ir_text_tokens::lexer::skip;
+use ir_text_tokens::refusal::TextRefusal;
 use ir_text_tokens::token::Mark;
 use ir_text_types::types::function_type;
 use ir_tree::tree::{TreeOp, TreeRegion};
 use ir_types::context::Context;
 use ir_types::ids::{NameId, OpId, TypeId};
-use ir_types::refusal::Refusal;
 use std::alloc::{AllocError, Global};
 
 /// The types of the results, in a function type behind a colon. `TypeMismatch` at the colon where the
@@ -50,7 +50,7 @@ fn outputs<'a>(
         Err(e) => return Err(e),
     };
     if !agrees(operands, &inputs) {
-        return Err(ReadError::Refused(wrong(Refusal::TypeMismatch, bytes)));
+        return Err(ReadError::Refused(wrong(TextRefusal::TypeMismatch, bytes)));
     }
     Ok((results, rest))
 }

@@ -12,8 +12,8 @@ use Rattle.std.proofs.lemmas.Str.{IsAscii-append, IsUtf8-from_ascii, utf8_valid_
 use Rattle.std.proofs.lemmas.Str.Ascii.{IsAscii-nil, IsAscii-cons}
 use Rattle.ir_types.specs.declared.node.Sign.{Sign}
 use Rattle.ir_types.specs.declared.node.Sign.TheVariants.{Signless, Signed, Unsigned}
-use Rattle.ir_types.specs.declared.refusal.Refusal.{Refusal}
-use Rattle.ir_types.specs.declared.refusal.Refusal.TheVariants.{TooMany, NotUtf8}
+use Rattle.ir_text_tokens.specs.declared.refusal.TextRefusal.{TextRefusal}
+use Rattle.ir_text_tokens.specs.declared.refusal.TextRefusal.TheVariants.{TooMany, NotUtf8}
 use Rattle.ir_types.specs.Readings.{reading_of}
 use Rattle.ir_types.specs.Terms.{TypeTerm, Integer, Index, Function, Memref, TypeTerms, no_types, next_type, AttrTerm, IntegerOf, String, TypeOf, Flag, Array, Dictionary, Symbol, DenseArray, Overflow, AttrTerms, no_attrs, next_attr, EntryTerms, no_entries, next_entry}
 use Rattle.ir_tree.specs.declared.value.Value.{Value}
@@ -381,7 +381,7 @@ text_is_within t w few =
     few_not n h e = grind (arith, nat_tests)
 
     Reason : Type 0
-    Reason = Option (Refusal × ℕ)
+    Reason = Option (TextRefusal × ℕ)
 
     too_many : Reason
     too_many = Some (TooMany, most_bytes)

@@ -11,9 +11,9 @@ abbrev pub types_list : TypeTerms → List TypeTerm
 types_list no_types = []
 types_list (next_type t ts) = t ∷ types_list ts
 
--- integer types have 1 to 128 bits; a memref has at most 16,777,216 dimensions, each at most 2^63 - 1, and an
--- integer or index element; a function type has at most 16,777,216 inputs and as many outputs, which are such
--- types
+-- integer types have widths that there are; a memref has at most as many dimensions as a text has bytes, each in its
+-- limit, and an integer or index element; a function type has at most as many inputs as a text has bytes, and so many
+-- outputs, which are such types
 abbrev mutual
   pub is_written_type : TypeTerm → Bool
   is_written_type (Integer sign width) = is_width width

@@ -3,6 +3,7 @@ use Rattle.std.specs.Prelude.{◌≡◌, ◌≤◌, ℕ, nat_le, nat_lt, Bool, t
 use Rattle.std.specs.List.{AllByRecursion, list_all}
 use Rattle.std.specs.Str.{bytes_eq}
 use Rattle.ir_types.specs.declared.node.Sign.TheVariants.{Signless}
+use Rattle.ir_types.specs.Limits.{most_depth, most_entries}
 use Rattle.ir_types.specs.Terms.{TypeTerm, Integer, AttrTerm, IntegerOf, String, TypeOf, Flag, Array, Dictionary, Symbol, DenseArray, Overflow, AttrTerms, no_attrs, next_attr, EntryTerms, no_entries, next_entry}
 use Rattle.ir_types.specs.Depths.{attr_depth}
 use Rattle.ir_types.specs.Ranges.{is_value_number}
@@ -30,7 +31,7 @@ entries_list (next_entry key a es) = (key, a) ∷ entries_list es
 abbrev pub are_bytes : List ℕ → Bool
 are_bytes v = list_all (λ c. nat_lt c 256) v
 
--- the parts of a symbol reference: one or more, at most 16,777,216
+-- the parts of a symbol reference: one or more, at most as many as a text has bytes
 abbrev pub are_parts : List (List ℕ) → Bool
 are_parts parts = (not (length parts == 0) && nat_le (length parts) many) && list_all are_bytes parts
 
@@ -39,9 +40,9 @@ abbrev pub is_element : TypeTerm → Bool
 is_element (Integer Signless w) = (((w == 1 || w == 8) || w == 16) || w == 32) || w == 64
 is_element _ = false
 
--- an integer is the bits of one of its type; names are of bytes; an array has at most 16,777,216 items; a dictionary
--- has at most 256 entries, in the order of their keys, each key once; the items of a dense array are values of
--- their type
+-- an integer is the bits of one of its type; names are of bytes; an array has at most as many items as a text has
+-- bytes; a dictionary has no more entries than it may, in the order of their keys, each key once; the items of a dense
+-- array are values of their type
 abbrev mutual
   pub is_written : AttrTerm → Bool
   is_written (IntegerOf ty bits) = is_written_type ty && is_bits_of ty bits
@@ -49,7 +50,7 @@ abbrev mutual
   is_written (TypeOf ty) = is_written_type ty
   is_written Flag = true
   is_written (Array items) = nat_le (length (attrs_list items)) many && are_written items
-  is_written (Dictionary entries) = (nat_le (length (entries_list entries)) 256 && rises key_before (entries_list entries)) && are_written_entries entries
+  is_written (Dictionary entries) = (nat_le (length (entries_list entries)) most_entries && rises key_before (entries_list entries)) && are_written_entries entries
   is_written (Symbol parts) = are_parts parts
   is_written (DenseArray elem zs) = is_element elem && (nat_le (length zs) many && list_all (is_value_number elem) zs)
   is_written (Overflow nsw nuw) = true
@@ -75,7 +76,7 @@ EndsAttr rest = Stops is_suffix rest × Not IsMark DoubleColon rest
 pub record IsWritableDictionary (es : List (List ℕ × AttrTerm)) : Type 0 where
   pub sorted : rises key_before es ≡ true
   pub keys : AllByRecursion (λ e. are_bytes e.0 ≡ true) es
-  pub values : AllByRecursion (λ e. FitsAttr 32 e.1) es
+  pub values : AllByRecursion (λ e. FitsAttr most_depth e.1) es
 
 -- attributes that are no properties of the operation, neither by their keys nor since they stand there
 abbrev pub AreOthers : List ℕ → List (List ℕ × AttrTerm) → List (List ℕ × AttrTerm) → Type 0

@@ -1,6 +1,7 @@
 -- Trees that a text can spell: what a text asks of a tree, beside the limits of a formed one.
 use Rattle.std.specs.Prelude.{◌≡◌, ℕ, false, true, ◌==◌, List, length}
 use Rattle.std.specs.List.{AllByRecursion}
+use Rattle.ir_types.specs.Limits.{most_depth}
 use Rattle.ir_types.specs.Terms.{TypeTerm, AttrTerm}
 use Rattle.ir_tree.specs.Tree.{HeadOf, op, RegionsOf, no_regions, region, RegionOf, empty, block, OpsOf, no_ops, next}
 use Rattle.ir_tree.specs.Meaning.{Operation}
@@ -12,7 +13,7 @@ use Rattle.ir_text_roundtrip.specs.WrittenAttributes.{are_bytes, IsWritableDicti
 pub record IsWritableHead (h : HeadOf (List ℕ) TypeTerm AttrTerm) : Type 0 where
   pub named : (length h.name == 0) ≡ false
   pub bytes : are_bytes h.name ≡ true
-  pub types : AllByRecursion (FitsType 32) h.results
+  pub types : AllByRecursion (FitsType most_depth) h.results
   pub properties : IsWritableDictionary h.properties
   pub attributes : IsWritableDictionary h.attributes
   pub others : AreOthers h.name h.properties h.attributes
@@ -28,7 +29,7 @@ abbrev mutual
 
   pub IsWritableRegion : RegionOf (List ℕ) TypeTerm AttrTerm → Type 0
   IsWritableRegion empty = Unit {0}
-  IsWritableRegion (block args os) = AllByRecursion (FitsType 32) args × AreWritableOps os
+  IsWritableRegion (block args os) = AllByRecursion (FitsType most_depth) args × AreWritableOps os
 
   pub AreWritableOps : OpsOf (List ℕ) TypeTerm AttrTerm → Type 0
   AreWritableOps no_ops = Unit {0}

@@ -3,7 +3,7 @@ ghost use Rattle.std.specs.Prelude.{◌≡◌, ◌≤◌, ◌++◌, ℕ, List, [
 ghost use Rattle.std.specs.Str.{IsAscii};
 ghost use Rattle.ir_types.specs.Words.{is_isolated};
 ghost use Rattle.ir_tree.specs.Ids.{HasDistinctIds, IsNumberedFrom, ids};
-ghost use Rattle.ir_tree.specs.Limits.{counts_fit, depth, most_around};
+ghost use Rattle.ir_tree.specs.Limits.{counts_fit, depth, most_around, most_ops};
 ghost use Rattle.ir_tree.specs.Meaning.{Operation};
 ghost use Rattle.ir_tree.specs.Sites.{operands_visible};
 ghost use Rattle.ir_tree.specs.WellFormed.{IsFormed};
@@ -24,7 +24,7 @@ pub fn operations_are_appended()
 /// An operation that a text can spell, whose operands are visible and which passes no limit of a formed tree, is
 /// spelled by its text, with the ids 0, 1, .. in pre-order.
 pub fn operations_are_read_back()
-    ensures { (f : ℕ → ℕ) (t : Operation) → IsWritable t → counts_fit t ≡ true → operands_visible is_isolated t ≡ true → Runs f 0 (ids t) → HasDistinctIds t → depth t ≤ most_around → IsSingleOp no_names 1048576 0 (text_of t) (with_ids f t) }
+    ensures { (f : ℕ → ℕ) (t : Operation) → IsWritable t → counts_fit t ≡ true → operands_visible is_isolated t ≡ true → Runs f 0 (ids t) → HasDistinctIds t → depth t ≤ most_around → IsSingleOp no_names most_ops 0 (text_of t) (with_ids f t) }
 {}
 
 /// What is printed for a tree that a text can spell is ASCII.

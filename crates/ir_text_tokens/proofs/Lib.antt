@@ -7,3 +7,4 @@ pub mod Fronts
 pub mod Wholes
 pub mod Marks
 pub mod Blanks
+pub mod Reasons

@@ -8,3 +8,4 @@ pub mod Printing
 pub mod Scopes
 pub mod Places
 pub mod Inside
+pub mod Refusals

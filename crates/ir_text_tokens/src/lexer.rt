@@ -3,13 +3,13 @@ ghost use Rattle.std.specs.Prelude.{◌≡◌, ◌+◌, ◌≤◌, ◌∷◌, �
 ghost use Rattle.std.specs.List.{prefix_len};
 ghost use Rattle.ir_text_tokens.specs.Reading.{GivesOrNone};
 ghost use Rattle.ir_text_tokens.specs.Tokens.{behind_first, begins_other, exponent_len, fraction_len, hex_len, lexeme_of, longer, mark, mark_at, mark_of, name_parts, next, next_mark, number_at, sign_at, sign_len, skip, skip_line, string_parts, suffix_len, symbol_at, token_at};
-ghost use Rattle.ir_types.specs.declared.refusal.Refusal.{Refusal};
+ghost use Rattle.ir_text_tokens.specs.declared.refusal.TextRefusal.{TextRefusal};
 
 use crate::fault::Fault;
+use crate::refusal::TextRefusal;
 use crate::runs::{Class, is_blank, is_letter, run_len};
 use crate::strings::closing;
 use crate::token::{Mark, Token};
-use ir_types::refusal::Refusal;
 
 /// What follows a comment's line feed.
 #[tactic(auto, unfolding(crate::specs::Tokens::skip_line))]
@@ -287,7 +287,7 @@ fn token_at<'a>(byte: u8, all: &'a [u8], tail: &'a [u8]) -> Result<(Token<'a>, &
 #[tactic(auto, unfolding(crate::specs::Tokens::next))]
 pub fn token(bytes: &[u8]) -> Result<(Token<'_>, &[u8]), Fault>
     ensures token { GivesOrNone (λ x. (lexeme_of x.0, x.1.now)) result (next bytes.now) }
-    ensures refusal { IfErr result (λ fault. fault.refusal ≡ Refusal.BadToken) }
+    ensures refusal { IfErr result (λ fault. fault.refusal ≡ TextRefusal.BadToken) }
 {
     let all = skip(bytes);
     let [byte, tail @ ..] = all else {
@@ -296,7 +296,7 @@ pub fn token(bytes: &[u8]) -> Result<(Token<'_>, &[u8]), Fault>
     match token_at(*byte, all, tail) {
         Ok(found) => Ok(found),
         Err(left) => Err(Fault {
-            refusal: Refusal::BadToken,
+            refusal: TextRefusal::BadToken,
             left,
         }),
     }

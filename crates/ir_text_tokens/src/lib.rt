@@ -9,6 +9,7 @@ pub mod limits;
 pub mod names;
 pub mod numbers;
 pub mod print;
+pub mod refusal;
 mod runs;
 pub mod strings;
 pub mod token;

@@ -3,7 +3,7 @@ ghost use Rattle.std.specs.Prelude.{◌≡◌};
 ghost use Rattle.std.specs.Result.{result_err};
 ghost use Rattle.ir_text_tokens.specs.Limits.{most_bytes, text_reason};
 
-use ir_types::refusal::Refusal;
+use crate::refusal::TextRefusal;
 use std::str::from_utf8;
 
 /// The most bytes of a text.
@@ -11,14 +11,14 @@ pub const MOST_BYTES: usize = 16_777_216;
 
 /// Refuses a text of too many bytes at the first that is too many, and a text that is not UTF-8 at
 /// its first bad byte.
-pub fn check_text(bytes: &[u8]) -> Result<(), (Refusal, usize)>
+pub fn check_text(bytes: &[u8]) -> Result<(), (TextRefusal, usize)>
     ensures { result_err result ≡ text_reason bytes.now }
 {
     if bytes.len() > MOST_BYTES {
-        return Err((Refusal::TooMany, MOST_BYTES));
+        return Err((TextRefusal::TooMany, MOST_BYTES));
     }
     match from_utf8(bytes) {
         Ok(_) => Ok(()),
-        Err(error) => Err((Refusal::NotUtf8, error.valid_up_to())),
+        Err(error) => Err((TextRefusal::NotUtf8, error.valid_up_to())),
     }
 }

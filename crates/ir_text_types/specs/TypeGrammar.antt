@@ -5,6 +5,8 @@ use Rattle.std.specs.Str.{bytes_eq}
 use Rattle.ir_text_tokens.specs.declared.token.Mark.TheVariants.{OpenRound, CloseRound, Less, Greater, Arrow}
 use Rattle.ir_text_tokens.specs.Tokens.{bare}
 use Rattle.ir_types.specs.declared.node.TypeNode.{TypeNode}
+use Rattle.ir_tree.specs.Limits.{most_items}
+use Rattle.ir_types.specs.Limits.{most_depth}
 use Rattle.ir_types.specs.Terms.{TypeTerm, TypeTerms, no_types, next_type, Function, Memref, type_from}
 use Rattle.ir_types.specs.Reasons.{type_fault}
 use Rattle.ir_text_grammar.specs.Grammars.{Grammar, Then, Done, DoneIf, After, Either, IsList, Token, IsMark}
@@ -57,6 +59,6 @@ unfoldable pub IsType : ℕ → Grammar Text TypeTerm
 IsType zero y old new = ⊥
 IsType (suc depth) y old new = Either IsMark OpenRound (IsFunction (IsType depth)) IsWordType y old new
 
--- the function type of an operation, with at most 256 outputs
+-- the function type of an operation, with at most as many outputs as it may have results
 unfoldable pub IsFunctionType : Grammar Text (List TypeTerm × List TypeTerm)
-IsFunctionType = After IsMark OpenRound (IsSignature (IsType 32) 256)
+IsFunctionType = After IsMark OpenRound (IsSignature (IsType most_depth) most_items)

@@ -2,9 +2,12 @@
 use Rattle.std.specs.Prelude.{ℕ, zero, suc, Bool, true, false, List, [], ◌∷◌, Option, Some, None}
 use Rattle.std.specs.Str.{bytes_eq}
 use Rattle.ir_text_tokens.specs.declared.token.Mark.TheVariants.{OpenRound, CloseRound, Less, Greater, Arrow}
+use Rattle.ir_text_tokens.specs.Limits.{most_bytes}
 use Rattle.ir_text_tokens.specs.Tokens.{Lexeme, bare, next}
+use Rattle.ir_tree.specs.Limits.{most_items}
 use Rattle.ir_types.specs.declared.node.TypeNode.{TypeNode}
 use Rattle.ir_types.specs.declared.node.TypeNode.TheVariants.{Func, Memref}
+use Rattle.ir_types.specs.Limits.{most_depth}
 use Rattle.ir_types.specs.Things.{Things}
 use Rattle.ir_text_grammar.specs.Outcomes.{Outcome, Read, Wrong, ◌>>=◌, of_option, Parse}
 use Rattle.ir_text_grammar.specs.Lists.{list_at}
@@ -14,7 +17,7 @@ use Rattle.ir_text_types.specs.ShapeReading.{dimensions_at}
 
 -- the most items of a list that has no limit of its own: no text has more
 abbrev pub many : ℕ
-many = 16777216
+many = most_bytes
 
 -- a node is interned, and the text stays where it is
 unfoldable pub type_done : TypeNode → Parse Typed ℕ
@@ -94,8 +97,8 @@ unfoldable pub type_at : ℕ → Parse Typed ℕ
 type_at zero s = Wrong
 type_at (suc depth) s = type_from (type_at depth) s (after_typed OpenRound s)
 
--- the function type of an operation, with at most 256 outputs
+-- the function type of an operation, with at most as many outputs as it may have results
 unfoldable pub function_type_at : Parse Typed (List ℕ × List ℕ)
 function_type_at s = do
   c ← of_option (after_typed OpenRound s)
-  signature_at (type_at 32) 256 c
+  signature_at (type_at most_depth) most_items c

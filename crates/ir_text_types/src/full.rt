@@ -5,9 +5,10 @@ ghost use Rattle.ir_text_grammar.specs.Laws.{IsFull};
 use ir_text_grammar::error::ReadError;
 use ir_types::context::Context;
 use ir_types::ids::{AttrId, NameId, TypeId};
+use ir_types::limits::MOST_THINGS;
 
 /// The last number that a name, a type or an attribute can have.
-const LAST: u32 = 16_777_215;
+const LAST: u32 = MOST_THINGS - 1;
 
 /// Whether there are as many names, types or attributes as there may be.
 pub fn is_full(ctx: &Context) -> bool

@@ -8,9 +8,9 @@ ghost use Rattle.ir_text_tokens.specs.Numbers.{below_limit, integer_of};
 ghost use Rattle.ir_text_types.specs.Scalars.{width_of, signed_of_word, integer_type_of, scalar_of, within, begins_zero, memref_word};
 
 use ir_text_tokens::numbers::{are_digits, integer_value};
+use ir_text_tokens::refusal::TextRefusal;
 use ir_types::limits::MOST_WIDTH;
 use ir_types::node::{Sign, TypeNode};
-use ir_types::refusal::Refusal;
 
 fn begins_zero(digits: &[u8]) -> bool
     ensures { result ≡ begins_zero digits.now }
@@ -132,16 +132,16 @@ fn writes_bad_width(digits: &[u8]) -> bool {
 
 /// Why a word is no type that may stand where it does: an integer type with a bad width, or a type that is
 /// left out.
-pub fn word_refusal(word: &[u8]) -> Refusal {
+pub fn word_refusal(word: &[u8]) -> TextRefusal {
     match integer_parts(word) {
         Some((_, digits)) => {
             if writes_bad_width(digits) {
-                Refusal::BadWidth
+                TextRefusal::BadWidth
             } else {
-                Refusal::LeftOut
+                TextRefusal::LeftOut
             }
         }
-        None => Refusal::LeftOut,
+        None => TextRefusal::LeftOut,
     }
 }
 

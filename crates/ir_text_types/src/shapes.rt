@@ -8,15 +8,11 @@ ghost use Rattle.ir_text_types.specs.TypeReading.{many};
 
 use ir_text_grammar::error::{ReadError, wrong};
 use ir_text_tokens::lexer::skip;
+use ir_text_tokens::limits::MOST_BYTES;
 use ir_text_tokens::numbers::integer_value;
-use ir_types::refusal::Refusal;
+use ir_text_tokens::refusal::TextRefusal;
+use ir_types::limits::MOST_DIMENSION;
 use std::alloc::Global;
-
-/// The most dimensions of a memref: a text has no more bytes.
-const MOST_DIMENSIONS: usize = 16_777_216;
-
-/// The greatest dimension.
-const MOST_SIZE: u128 = 9_223_372_036_854_775_807;
 
 /// How many decimal digits stand at the front.
 fn digits_len(bytes: &[u8]) -> usize
@@ -45,7 +41,7 @@ fn cross(bytes: &[u8]) -> Result<&[u8], ReadError>
 {
     match skip(bytes) {
         [b'x', rest @ ..] => Ok(rest),
-        _ => Err(ReadError::Refused(wrong(Refusal::Unexpected, bytes))),
+        _ => Err(ReadError::Refused(wrong(TextRefusal::Unexpected, bytes))),
     }
 }
 
@@ -54,7 +50,7 @@ fn size_of(digits: &[u8]) -> Option<u64>
     ensures { result ≡ size_of digits.now }
 {
     let size = integer_value(digits)?;
-    if size <= MOST_SIZE {
+    if size <= u128::from(MOST_DIMENSION) {
         Some(size as u64)
     } else {
         None
@@ -71,7 +67,7 @@ fn sized(bytes: &[u8]) -> Result<(Option<u64>, &[u8]), ReadError>
             let rest = cross(tail)?;
             Ok((Some(size), rest))
         }
-        None => Err(ReadError::Refused(wrong(Refusal::BadValue, bytes))),
+        None => Err(ReadError::Refused(wrong(TextRefusal::BadValue, bytes))),
     }
 }
 
@@ -89,11 +85,11 @@ fn dimension(bytes: &[u8]) -> Result<(Option<u64>, &[u8]), ReadError>
             Ok((None, rest))
         }
         [byte, ..] if byte.is_ascii_digit() => sized(all),
-        _ => Err(ReadError::Refused(wrong(Refusal::Unexpected, bytes))),
+        _ => Err(ReadError::Refused(wrong(TextRefusal::Unexpected, bytes))),
     }
 }
 
-/// The dimensions that stand here, each with its `x`.
+/// The dimensions that stand here, each with its `x`: at most as many as a text has bytes.
 pub(crate) fn dimensions(
     alloc: Global,
     bytes: &[u8],
@@ -102,7 +98,7 @@ pub(crate) fn dimensions(
 {
     let mut items = Vec::new(alloc);
     let mut rest = bytes;
-    'items: for _ in 0..MOST_DIMENSIONS {
+    'items: for _ in 0..MOST_BYTES {
         if !begins_dimension(rest) {
             return Ok((items, rest));
         }
@@ -114,7 +110,7 @@ pub(crate) fn dimensions(
         rest = tail;
     }
     if begins_dimension(rest) {
-        return Err(ReadError::Refused(wrong(Refusal::TooMany, rest)));
+        return Err(ReadError::Refused(wrong(TextRefusal::TooMany, rest)));
     }
     Ok((items, rest))
 }

@@ -10,21 +10,21 @@ ghost use Rattle.ir_text_types.specs.TypeReading.{type_done, scalar_done, scalar
 
 use crate::scalars::{is_memref, scalar_of, word_refusal};
 use crate::shapes::dimensions;
-use ir_types_items::lists::Items;
 use ir_text_grammar::error::{ReadError, wrong};
 use ir_text_grammar::steps::{self, after, expect, token};
+use ir_text_tokens::limits::MOST_BYTES;
+use ir_text_tokens::refusal::TextRefusal;
 use ir_text_tokens::token::{Mark, Token};
+use ir_tree::limits::MOST_ITEMS;
 use ir_types::context::Context;
 use ir_types::ids::TypeId;
+use ir_types::limits::MOST_DEPTH;
 use ir_types::node::TypeNode;
-use ir_types::refusal::Refusal;
+use ir_types_items::lists::Items;
 use std::alloc::{AllocError, Global};
 
 /// The most items of a list that has no limit of its own: a text has no more bytes.
-pub const MANY: usize = 16_777_216;
-
-/// How deep a type or an attribute may be.
-pub const MOST_DEPTH: u32 = 32;
+pub const MANY: usize = MOST_BYTES;
 
 /// The number of a type that stands in front of these bytes.
 #[tactic(auto, using(ir_types::proofs::Growth::grows_refl, ir_types::proofs::Growth::grows_trans), unfolding(crate::specs::TypeReading::type_done))]
@@ -139,30 +139,30 @@ fn word_type<'a>(
 }
 
 /// Why a token begins no type: a type or attribute that is left out, or nothing that fits.
-pub fn token_refusal(found: &Token<'_>) -> Refusal {
+pub fn token_refusal(found: &Token<'_>) -> TextRefusal {
     match found {
-        Token::Bare(_) => Refusal::LeftOut,
-        Token::Bang(_) => Refusal::LeftOut,
-        Token::Hash(_) => Refusal::LeftOut,
-        Token::Float(_) => Refusal::LeftOut,
-        _ => Refusal::Unexpected,
+        Token::Bare(_) => TextRefusal::LeftOut,
+        Token::Bang(_) => TextRefusal::LeftOut,
+        Token::Hash(_) => TextRefusal::LeftOut,
+        Token::Float(_) => TextRefusal::LeftOut,
+        _ => TextRefusal::Unexpected,
     }
 }
 
 /// Why a token is no memref's element.
-fn element_refusal(found: &Token<'_>) -> Refusal {
+fn element_refusal(found: &Token<'_>) -> TextRefusal {
     match found {
-        Token::Mark(Mark::OpenRound) => Refusal::LeftOut,
-        Token::Mark(Mark::Star) => Refusal::LeftOut,
+        Token::Mark(Mark::OpenRound) => TextRefusal::LeftOut,
+        Token::Mark(Mark::Star) => TextRefusal::LeftOut,
         _ => token_refusal(found),
     }
 }
 
 /// Why a memref isn't closed behind its element.
-fn closing_refusal(bytes: &[u8]) -> Refusal {
+fn closing_refusal(bytes: &[u8]) -> TextRefusal {
     match after(bytes, Mark::Comma) {
-        Some(_) => Refusal::LeftOut,
-        None => Refusal::Unexpected,
+        Some(_) => TextRefusal::LeftOut,
+        None => TextRefusal::Unexpected,
     }
 }
 
@@ -195,7 +195,7 @@ fn types<'a>(
         }
         rest = expect(tail, Mark::Comma)?;
     }
-    Err(ReadError::Refused(wrong(past_refusal(rest, Refusal::TooMany), rest)))
+    Err(ReadError::Refused(wrong(past_refusal(rest, TextRefusal::TooMany), rest)))
 }
 
 fn one(alloc: Global, item: TypeId) -> Result<Vec<TypeId>, AllocError>
@@ -296,7 +296,7 @@ pub fn ty<'a>(
     ensures grows { Grows ctx.old ctx.new }
 {
     if depth == 0 {
-        return Err(ReadError::Refused(wrong(past_refusal(bytes, Refusal::TooDeep), bytes)));
+        return Err(ReadError::Refused(wrong(past_refusal(bytes, TextRefusal::TooDeep), bytes)));
     }
     match after(bytes, Mark::OpenRound) {
         Some(rest) => function(alloc, ctx, rest, depth - 1),
@@ -305,16 +305,16 @@ pub fn ty<'a>(
 }
 
 /// Why no type may begin here: it is past a limit, where one begins.
-fn past_refusal(bytes: &[u8], limit: Refusal) -> Refusal {
+fn past_refusal(bytes: &[u8], limit: TextRefusal) -> TextRefusal {
     match token(bytes) {
         Ok((Token::Bare(_), _)) => limit,
         Ok((Token::Mark(Mark::OpenRound), _)) => limit,
         Ok((found, _)) => token_refusal(&found),
-        Err(_) => Refusal::Unexpected,
+        Err(_) => TextRefusal::Unexpected,
     }
 }
 
-/// The function type of an operation: its inputs, and at most 256 outputs.
+/// The function type of an operation: its inputs, and at most as many outputs as it may have results.
 #[tactic(auto, using(ir_types::proofs::Growth::grows_refl, ir_types::proofs::Growth::grows_trans), unfolding(crate::specs::TypeReading::function_type_at))]
 pub fn function_type<'a>(
     alloc: Global,
@@ -325,5 +325,5 @@ pub fn function_type<'a>(
     ensures grows { Grows ctx.old ctx.new }
 {
     let rest = expect(bytes, Mark::OpenRound)?;
-    signature(alloc, ctx, rest, MOST_DEPTH, 256)
+    signature(alloc, ctx, rest, MOST_DEPTH, MOST_ITEMS)
 }

@@ -1,12 +1,14 @@
 //! Whether ids are consecutive, and whether they are distinct.
-ghost use Rattle.std.specs.Prelude.{◌≡◌, ◌≤◌, ◌↔◌, ◌^◌, IsTrue, IfSome, IfOk};
+ghost use Rattle.std.specs.Prelude.{◌≡◌, ◌≤◌, ◌↔◌, ◌^◌, IsTrue, IfSome, IfOk, IfErr};
+ghost use Rattle.ir_types.specs.declared.refusal.Refusal.TheVariants.{Memory};
 ghost use Rattle.ir_tree.specs.Ids.{IsNumberedFrom, HasDistinctIds};
 ghost use Rattle.ir_tree.specs.Numbered.{number_after as after, region_after};
 ghost use Rattle.ir_tree.specs.View.{region_view};
 
 use crate::find::list_ids;
 use crate::tree::{TreeOp, TreeRegion};
-use std::alloc::{AllocError, Global};
+use ir_types::refusal::Refusal;
+use std::alloc::Global;
 use std::collections::HashSet;
 
 /// Whether the ids are `from`, `from + 1`, .. in pre-order: each operation before those inside it.
@@ -56,8 +58,11 @@ fn number_after_region(region: &TreeRegion, from: u64) -> Option<u64>
 }
 
 /// Whether no two operations have one id. It takes memory for the ids.
-pub fn distinct(alloc: Global, root: &TreeOp) -> Result<bool, AllocError>
-    ensures { IfOk result (λ b. IsTrue b ↔ HasDistinctIds root.now) }
+///
+/// Refusals: `Memory`.
+pub fn distinct(alloc: Global, root: &TreeOp) -> Result<bool, Refusal>
+    ensures distinct { IfOk result (λ b. IsTrue b ↔ HasDistinctIds root.now) }
+    ensures refused { IfErr result (λ e. e ≡ Memory) }
 {
     let ids = list_ids(alloc, root)?;
     let different: HashSet<u32> = ids.iter().map(|id| id.number()).collect(alloc)?;

@@ -36,8 +36,10 @@ fn tree(alloc: Global, state: &mut State, text: &str) -> Result<String, AllocErr
 }
 
 fn is_distinct(alloc: Global, tree: &TreeOp) -> Result<String, AllocError> {
-    let answer = distinct(alloc, tree)?;
-    written::truth(alloc, answer)
+    match distinct(alloc, tree) {
+        Ok(answer) => written::truth(alloc, answer),
+        Err(_) => Err(AllocError),
+    }
 }
 
 fn ids(alloc: Global, tree: &TreeOp) -> Result<String, AllocError> {
@@ -66,7 +68,7 @@ fn copied(alloc: Global, tree: &TreeOp) -> Result<String, AllocError> {
 
 fn sees(alloc: Global, state: &State, text: &str) -> Result<String, AllocError> {
     let (op, word) = first(text);
-    let answer = visible(&state.context, &state.tree, op_id(op), &value(word));
+    let answer = visible(&state.context, &state.tree, op_id(op), value(word));
     written::truth(alloc, answer)
 }
 

@@ -20,3 +20,4 @@ pub mod Widths
 pub mod ReadingLaws
 pub mod KindLaws
 pub mod Beginning
+pub mod SameTerms

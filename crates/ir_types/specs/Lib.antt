@@ -2,6 +2,7 @@ pub mod Refusals
 pub mod Things
 pub mod Terms
 pub mod Same
+pub mod SameTypes
 pub mod Depths
 pub mod Limits
 pub mod Ranges

@@ -4,11 +4,11 @@ ghost use Rattle.ir_types.specs.Refusals.{number_of, word_of};
 
 use ir_types_items::intern::InternFault;
 use std::alloc::{AllocError, AllocFailed};
-use std::error::Error;
 use std::fmt;
+use thiserror::Error;
 
 /// Why a call is refused. Every refusal of the workbench has a number and a word.
-#[derive(Clone, Copy, PartialEq, Eq)]
+#[derive(Clone, Copy, PartialEq, Eq, Error)]
 pub enum Refusal {
     /// What stands there begins no token.
     BadToken = 1,
@@ -167,8 +167,6 @@ impl fmt::Display for Refusal {
         write!(f, "{number} {word}")
     }
 }
-
-impl Error for Refusal {}
 
 impl From<InternFault> for Refusal {
     ghost use Rattle.std.specs.Prelude.{◌≡◌};

@@ -8,13 +8,16 @@ use crate::keyed::Keyed;
 use indexmap::IndexMap;
 use std::alloc::AllocFailed;
 use std::hash::Hash;
+use thiserror::Error;
 
 /// Why a thing is not interned.
-#[derive(Clone, Copy, Debug, PartialEq, Eq)]
+#[derive(Clone, Copy, Debug, PartialEq, Eq, Error)]
 pub enum InternFault {
     /// The map is full, and the thing is not in it.
+    #[error("the map is full")]
     TooMany,
     /// Memory was refused.
+    #[error("memory was refused")]
     Memory,
 }
 

@@ -1,3 +1,1 @@
-pub mod SameTypes
 pub mod Words
-pub mod Nodes

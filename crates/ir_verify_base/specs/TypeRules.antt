@@ -5,7 +5,8 @@ use Rattle.std.specs.Cmp.Lexicographic.{pointwise}
 use Rattle.ir_types.specs.Terms.{TypeTerm, AttrTerm, DenseArray}
 use Rattle.op_registry.specs.Rows.{Row, RegionRow}
 use Rattle.op_registry.specs.Properties.{integer_of}
-use Rattle.ir_verify_base.specs.Types.{same_type, width_of, is_index, is_number, memref_of}
+use Rattle.ir_types.specs.SameTypes.{same_type}
+use Rattle.ir_verify_base.specs.Types.{width_of, is_index, is_number, memref_of}
 use Rattle.ir_verify_base.specs.Fits.{Node, Surroundings, Known, known_of, is_named, property, block_at, any_region, there, types_fit}
 
 -- rule 2: the first operand that the row calls a number is none, or an operand's type isn't what the row calls it

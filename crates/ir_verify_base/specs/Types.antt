@@ -1,33 +1,14 @@
 -- Types, as rules look at them (Builtin Dialect, "Types").
-use Rattle.std.specs.Prelude.{ℕ, ◌+◌, length, List, [], ◌∷◌, Bool, true, false, ◌==◌, ◌&&◌, ◌||◌, Option, Some, None}
+use Rattle.std.specs.Prelude.{ℕ, ◌+◌, length, List, [], ◌∷◌, Bool, true, false, ◌==◌, ◌||◌, Option, Some, None}
 use Rattle.std.specs.Option.{option_eq}
 use Rattle.std.specs.Cmp.Lexicographic.{pointwise}
 use Rattle.ir_types.specs.declared.node.Sign.TheVariants.{Signless}
-use Rattle.ir_types.specs.Terms.{TypeTerm, Integer, Index, Function, Memref, TypeTerms, no_types, next_type}
-use Rattle.ir_types.specs.Same.{same_sign}
+use Rattle.ir_types.specs.Terms.{TypeTerm, Integer, Index, Memref}
+use Rattle.ir_types.specs.SameTypes.{same_type}
 
--- whether two types are one
-abbrev mutual
-  pub same_type : TypeTerm → TypeTerm → Bool
-  same_type (Integer s v) (Integer t w) = same_sign s t && (v == w)
-  same_type Index Index = true
-  same_type (Function is os) (Function js ps) = same_terms is js && same_terms os ps
-  same_type (Memref ds e) (Memref es f) = pointwise (option_eq ◌==◌) ds es && same_type e f
-  same_type _ _ = false
-
-  pub same_terms : TypeTerms → TypeTerms → Bool
-  same_terms no_types no_types = true
-  same_terms (next_type t ts) (next_type u us) = same_type t u && same_terms ts us
-  same_terms _ _ = false
-
--- and whether two lists of types, which there may be, are one
+-- whether two lists of types, which there may be, are one
 abbrev pub same_types : List (Option TypeTerm) → List (Option TypeTerm) → Bool
 same_types = pointwise (option_eq same_type)
-
--- the types of a list, in order
-abbrev pub type_list : TypeTerms → List TypeTerm
-type_list no_types = []
-type_list (next_type t ts) = t ∷ type_list ts
 
 -- the width of a signless integer type
 abbrev pub width_of : TypeTerm → Option ℕ
@@ -64,8 +45,3 @@ unknown_count (Some d ∷ dims) = unknown_count dims
 abbrev pub memref_of : TypeTerm → Option (ℕ × ℕ × TypeTerm)
 memref_of (Memref dims elem) = Some (length dims, unknown_count dims, elem)
 memref_of _ = None
-
--- the inputs and outputs of a function type
-abbrev pub function_of : TypeTerm → Option (List TypeTerm × List TypeTerm)
-function_of (Function inputs outputs) = Some (type_list inputs, type_list outputs)
-function_of _ = None

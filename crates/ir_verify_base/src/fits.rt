@@ -6,7 +6,7 @@ ghost use Rattle.ir_types.specs.Things.{IsType};
 ghost use Rattle.ir_types.specs.Terms.{type_term};
 ghost use Rattle.op_registry.specs.Registry.{types_row};
 ghost use Rattle.ir_verify_base.specs.Numbers.{typed, known_in, AreKnown};
-ghost use Rattle.ir_verify_base.specs.Types.{same_type};
+ghost use Rattle.ir_types.specs.SameTypes.{same_type};
 ghost use Rattle.ir_verify_base.specs.Fits as fits;
 
 use crate::types::{is_boolean, is_index, is_integer, is_memref, is_number, same, same_types};

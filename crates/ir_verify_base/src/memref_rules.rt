@@ -21,8 +21,8 @@ use ir_types::context::Context;
 use ir_types::ids::TypeId;
 use ir_types::node::{AttrNode, TypeNode};
 use ir_types::word::Word;
-use op_registry::things::{attr_of, type_of};
 use listeners_surroundings::around::Around;
+use op_registry::things::{attr_of, type_of};
 
 /// What a memref type says.
 #[derive(Clone, Copy)]

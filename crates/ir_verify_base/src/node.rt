@@ -3,22 +3,22 @@ ghost use Rattle.std.specs.Prelude.{◌≡◌, IfSome, List, [], ℕ, map, is_so
 ghost use Rattle.std.specs.List.{All};
 ghost use Rattle.std.specs.Option.{option_map};
 ghost use Rattle.std.specs.Str.{bytes_eq};
-ghost use Rattle.ir_types.specs.Things.{Things, IsName, IsAttr, IsType, AttrIsOf, TypeIsOf};
-ghost use Rattle.ir_types.specs.Terms.{TypeTerm, AttrTerm, attr_from, attr_term, type_at, type_from, name_term, type_term};
+ghost use Rattle.ir_types.specs.Things.{Things, IsName, IsAttr, IsType, AttrIsOf};
+ghost use Rattle.ir_types.specs.Terms.{TypeTerm, AttrTerm, attr_from, attr_term, name_term, type_term};
 ghost use Rattle.ir_types.specs.WordNames.{word_bytes};
 ghost use Rattle.op_registry.specs.Registry.{beside};
 ghost use Rattle.op_registry.specs.Properties as properties;
 ghost use Rattle.ir_event.specs.Modules.{NodeIsOf};
 ghost use Rattle.ir_verify_base.specs.Numbers.{entries_in, node_in};
 ghost use Rattle.ir_verify_base.specs.Fits as fits;
-ghost use Rattle.ir_verify_base.specs.Types as types;
 
 use ir_store::node::Node;
 use ir_types::context::Context;
 use ir_types::ids::{AttrId, NameId, TypeId};
-use ir_types::node::{AttrNode, TypeNode};
+use ir_types::node::AttrNode;
 use ir_types::word::Word;
-use op_registry::things::{attr_of, type_of};
+use op_registry::signature::{Signature, signature_of, type_in};
+use op_registry::things::attr_of;
 
 /// Whether an operation has a name.
 pub fn is_named(ctx: &Context, node: &Node<'_>, word: Word) -> bool
@@ -101,13 +101,6 @@ fn string_in(node: &AttrNode) -> Option<NameId>
     }
 }
 
-/// A function type.
-#[derive(Clone, Copy)]
-pub struct Signature<'a> {
-    pub inputs: &'a [TypeId],
-    pub outputs: &'a [TypeId],
-}
-
 /// The function type that an operation has as property.
 pub fn function_type<'a>(ctx: &'a Context, node: &Node<'_>) -> Option<Signature<'a>>
     requires { NodeIsOf ctx.now node.now }
@@ -117,48 +110,4 @@ pub fn function_type<'a>(ctx: &'a Context, node: &Node<'_>) -> Option<Signature<
 {
     let attr = property(ctx, node, Word::FunctionType)?;
     signature_of(ctx, type_in(attr_of(ctx, attr))?)
-}
-
-/// The type that an attribute is.
-fn type_in(node: &AttrNode) -> Option<TypeId>
-    ensures ty { (names : List (List ℕ)) (types : List TypeTerm) (attrs : List AttrTerm) → option_map (λ t. type_at types t) result ≡ properties.type_of (attr_from names types attrs node.now) }
-    ensures known { (c : Things) → AttrIsOf c node.now → IfSome result (λ t. IsType c t) }
-{
-    match node {
-        AttrNode::Int { .. } => None,
-        AttrNode::Str(_) => None,
-        AttrNode::Ty(ty) => Some(*ty),
-        AttrNode::Unit => None,
-        AttrNode::Array(_) => None,
-        AttrNode::Dict(_) => None,
-        AttrNode::Sym(_) => None,
-        AttrNode::Dense { .. } => None,
-        AttrNode::Overflow { .. } => None,
-    }
-}
-
-/// The inputs and outputs of a function type.
-fn signature_of(ctx: &Context, ty: TypeId) -> Option<Signature<'_>>
-    requires { IsType ctx.now ty }
-    ensures signature { option_map (λ s. (map (type_term ctx.now) s.inputs.now, map (type_term ctx.now) s.outputs.now)) result ≡ types.function_of (type_term ctx.now ty) }
-    ensures inputs { IfSome result (λ s. All (λ t. IsType ctx.now t) s.inputs.now) }
-    ensures outputs { IfSome result (λ s. All (λ t. IsType ctx.now t) s.outputs.now) }
-{
-    signature_in(type_of(ctx, ty))
-}
-
-fn signature_in(node: &TypeNode) -> Option<Signature<'_>>
-    ensures signature { (known : List TypeTerm) → option_map (λ s. (map (type_at known) s.inputs.now, map (type_at known) s.outputs.now)) result ≡ types.function_of (type_from known node.now) }
-    ensures inputs { (c : Things) → TypeIsOf c node.now → IfSome result (λ s. All (λ t. IsType c t) s.inputs.now) }
-    ensures outputs { (c : Things) → TypeIsOf c node.now → IfSome result (λ s. All (λ t. IsType c t) s.outputs.now) }
-{
-    match node {
-        TypeNode::Int { .. } => None,
-        TypeNode::Index => None,
-        TypeNode::Func { inputs, outputs } => Some(Signature {
-            inputs: inputs.as_slice(),
-            outputs: outputs.as_slice(),
-        }),
-        TypeNode::Memref { .. } => None,
-    }
 }

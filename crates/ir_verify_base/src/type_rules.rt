@@ -21,9 +21,9 @@ use ir_store::node::Node;
 use ir_types::context::Context;
 use ir_types::ids::TypeId;
 use ir_types::word::Word;
+use listeners_surroundings::around::Around;
 use op_registry::definition::{OpDef, RegionRule, TypeRule};
 use op_registry::property::integer_of;
-use listeners_surroundings::around::Around;
 
 /// What the types of an operation may be compared with.
 pub fn known_of<'a>(ctx: &'a Context, def: &OpDef, around: &'a Around<'_>) -> Known<'a>

@@ -13,7 +13,7 @@ use ir_types::node::{Sign, TypeNode};
 use op_registry::things::type_of;
 
 /// Whether two types are one.
-#[tactic(auto, using(crate::proofs::SameTypes::same_numbers))]
+#[tactic(auto, using(ir_types::proofs::SameTerms::same_numbers))]
 pub fn same(ctx: &Context, a: TypeId, b: TypeId) -> bool
     requires a { IsType ctx.now a }
     requires b { IsType ctx.now b }

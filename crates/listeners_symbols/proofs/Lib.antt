@@ -1,6 +1,4 @@
 pub mod Names
-pub mod SameTypes
-pub mod Listed
 pub mod Sizes
 pub mod Meant
 pub mod Local

@@ -33,13 +33,13 @@ use Rattle.listeners_symbols.specs.declared.role.Role.{Role as Numbers}
 use Rattle.listeners_symbols.specs.declared.role.Reference.{Reference}
 use Rattle.listeners_symbols.specs.declared.role.Call.{Call}
 use Rattle.listeners_symbols.specs.declared.role.Signature.{Signature}
-use Rattle.listeners_symbols.specs.Types.{same_type}
+use Rattle.ir_types.specs.SameTypes.{same_type}
 use Rattle.listeners_symbols.specs.Roles.{Stand, role, role_of}
 use Rattle.listeners_symbols.specs.Symbols.{RolesOf, roles_in, roles_by_id, DefinitionOf, defined, definitions, says_table, function_at, LineOf, Definition, Duplicate, Use, Unresolved, Mismatch, first_defined, is_duplicate, look_in, resolve, fits, definition_lines, duplicate_lines, reference_line, reference_lines, all_reference_lines, mismatch_line, call_line, mismatch_lines, lines_with, symbol_lines, line_cells, symbol_rows}
 use Rattle.listeners_symbols.specs.Table.{reference_of, call_numbers, signature_numbers, role_numbers, map_reference, map_call, map_signature, role_meaning, call_meaning, RoleIsOf, ReferenceIsOf, CallIsOf, SignatureIsOf, Keeps, IsKept}
 use Rattle.listeners_symbols.specs.Listeners.{kept_at}
 use Rattle.listeners_symbols.specs.Lines.{numbered, numbers_at, cells_of, lines_cells}
-use Rattle.listeners_symbols.proofs.SameTypes.{type_is, type_refl}
+use Rattle.ir_types.proofs.SameTerms.{type_is, type_refl}
 use Rattle.listeners_symbols.proofs.Agreed.{name_more, attr_more}
 use Rattle.listeners_symbols.proofs.Lines.{same_test}
 

@@ -1,4 +1,3 @@
-pub mod Types
 pub mod Roles
 pub mod Symbols
 pub mod Table

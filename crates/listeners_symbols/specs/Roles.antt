@@ -12,7 +12,7 @@ use Rattle.ir_tree_laws.specs.Values.{type_of_value}
 use Rattle.ir_tree_laws.specs.Stands.{StepOf, StandOf, stand_of, table_in}
 use Rattle.op_registry.specs.Registry.{beside}
 use Rattle.op_registry.specs.Properties.{string_of, type_of}
-use Rattle.listeners_symbols.specs.Types.{function_of}
+use Rattle.ir_types.specs.SameTypes.{function_of}
 
 -- a symbol reference: the attribute, and its parts
 abbrev pub ReferenceOf : Type 0 → Type 0 → Type 0

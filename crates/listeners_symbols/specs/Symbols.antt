@@ -9,7 +9,7 @@ use Rattle.ir_types.specs.Terms.{TypeTerm, AttrTerm}
 use Rattle.ir_tree.specs.Meaning.{Operation}
 use Rattle.ir_tree_laws.specs.Stands.{stand_id, stands}
 use Rattle.ir_event.specs.Rows.{RowTerm, Op, Name, Path, Tag}
-use Rattle.listeners_symbols.specs.Types.{same_type}
+use Rattle.ir_types.specs.SameTypes.{same_type}
 use Rattle.listeners_symbols.specs.Roles.{ReferenceOf, CallOf, RoleOf, Stand, role, role_of}
 
 -- the roles of all operations, in the order of their ids

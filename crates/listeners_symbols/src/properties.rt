@@ -3,14 +3,13 @@ ghost use Rattle.std.specs.Prelude.{◌≡◌, IfSome, IfOk, List, [], ℕ, map,
 ghost use Rattle.std.specs.List.{All};
 ghost use Rattle.std.specs.Option.{option_map};
 ghost use Rattle.std.specs.Str.{bytes_eq};
-ghost use Rattle.ir_types.specs.Things.{Things, IsName, IsAttr, IsType, AttrIsOf, TypeIsOf};
-ghost use Rattle.ir_types.specs.Terms.{TypeTerm, AttrTerm, attr_from, attr_term, type_at, type_from, name_term, type_term};
+ghost use Rattle.ir_types.specs.Things.{Things, IsName, IsAttr, IsType, AttrIsOf};
+ghost use Rattle.ir_types.specs.Terms.{TypeTerm, AttrTerm, attr_from, attr_term, name_term, type_term};
 ghost use Rattle.ir_types.specs.WordNames.{word_bytes};
 ghost use Rattle.ir_tree.specs.Maps.{map_entry};
 ghost use Rattle.op_registry.specs.Registry.{beside};
 ghost use Rattle.op_registry.specs.Properties as properties;
 ghost use Rattle.ir_event.specs.Modules.{NodeIsOf};
-ghost use Rattle.listeners_symbols.specs.Types as types;
 ghost use Rattle.listeners_symbols.specs.Roles as roles;
 ghost use Rattle.listeners_symbols.specs.Table.{head_meaning, signature_meaning, SignatureIsOf};
 
@@ -18,9 +17,10 @@ use crate::role::Signature;
 use ir_store::node::Node;
 use ir_types::context::Context;
 use ir_types::ids::{AttrId, NameId, TypeId};
-use ir_types::node::{AttrNode, TypeNode};
+use ir_types::node::AttrNode;
 use ir_types::word::Word;
-use op_registry::things::{attr_of, type_of};
+use op_registry::signature;
+use op_registry::things::attr_of;
 use std::alloc::{AllocError, Global};
 
 /// The attribute at a key of a dictionary, if there is one.
@@ -125,15 +125,8 @@ fn parts_in(node: &AttrNode) -> Option<&[NameId]>
     }
 }
 
-/// A function type, by its parts.
-#[derive(Clone, Copy)]
-struct Types<'a> {
-    inputs: &'a [TypeId],
-    outputs: &'a [TypeId],
-}
-
 /// The function type that an operation has as property, where it is a function.
-fn function_type<'a>(ctx: &'a Context, node: &Node<'_>) -> Option<Types<'a>>
+fn function_type<'a>(ctx: &'a Context, node: &Node<'_>) -> Option<signature::Signature<'a>>
     requires { NodeIsOf ctx.now node.now }
     ensures signature { option_map (λ s. (map (type_term ctx.now) s.inputs.now, map (type_term ctx.now) s.outputs.now)) result ≡ roles.signature_of (head_meaning ctx.now node.now.head) }
     ensures inputs { IfSome result (λ s. All (λ t. IsType ctx.now t) s.inputs.now) }
@@ -143,51 +136,7 @@ fn function_type<'a>(ctx: &'a Context, node: &Node<'_>) -> Option<Types<'a>>
         return None;
     }
     let attr = entry(ctx, node.properties(), Word::FunctionType)?;
-    types_of(ctx, type_in(attr_of(ctx, attr))?)
-}
-
-/// The type that an attribute is.
-fn type_in(node: &AttrNode) -> Option<TypeId>
-    ensures ty { (names : List (List ℕ)) (types : List TypeTerm) (attrs : List AttrTerm) → option_map (λ t. type_at types t) result ≡ properties.type_of (attr_from names types attrs node.now) }
-    ensures known { (c : Things) → AttrIsOf c node.now → IfSome result (λ t. IsType c t) }
-{
-    match node {
-        AttrNode::Int { .. } => None,
-        AttrNode::Str(_) => None,
-        AttrNode::Ty(ty) => Some(*ty),
-        AttrNode::Unit => None,
-        AttrNode::Array(_) => None,
-        AttrNode::Dict(_) => None,
-        AttrNode::Sym(_) => None,
-        AttrNode::Dense { .. } => None,
-        AttrNode::Overflow { .. } => None,
-    }
-}
-
-/// The inputs and outputs of a function type.
-fn types_of(ctx: &Context, ty: TypeId) -> Option<Types<'_>>
-    requires { IsType ctx.now ty }
-    ensures signature { option_map (λ s. (map (type_term ctx.now) s.inputs.now, map (type_term ctx.now) s.outputs.now)) result ≡ types.function_of (type_term ctx.now ty) }
-    ensures inputs { IfSome result (λ s. All (λ t. IsType ctx.now t) s.inputs.now) }
-    ensures outputs { IfSome result (λ s. All (λ t. IsType ctx.now t) s.outputs.now) }
-{
-    types_in(type_of(ctx, ty))
-}
-
-fn types_in(node: &TypeNode) -> Option<Types<'_>>
-    ensures signature { (known : List TypeTerm) → option_map (λ s. (map (type_at known) s.inputs.now, map (type_at known) s.outputs.now)) result ≡ types.function_of (type_from known node.now) }
-    ensures inputs { (c : Things) → TypeIsOf c node.now → IfSome result (λ s. All (λ t. IsType c t) s.inputs.now) }
-    ensures outputs { (c : Things) → TypeIsOf c node.now → IfSome result (λ s. All (λ t. IsType c t) s.outputs.now) }
-{
-    match node {
-        TypeNode::Int { .. } => None,
-        TypeNode::Index => None,
-        TypeNode::Func { inputs, outputs } => Some(Types {
-            inputs: inputs.as_slice(),
-            outputs: outputs.as_slice(),
-        }),
-        TypeNode::Memref { .. } => None,
-    }
+    signature::signature_of(ctx, signature::type_in(attr_of(ctx, attr))?)
 }
 
 /// The inputs and outputs of an operation that is a function.

@@ -6,6 +6,7 @@ pub mod laws;
 pub mod own;
 pub mod property;
 pub mod registry;
+pub mod signature;
 mod table;
 
 pub use ir_types::things;

@@ -15,8 +15,8 @@ use Rattle.ir_event.specs.declared.world.World.{World}
 use Rattle.listeners_surroundings.proofs.Reading.{value_known}
 use Rattle.rewriter_machine.specs.Contents.{tests_in}
 use Rattle.rewriter_machine.specs.Edits.{replace_reason}
-use Rattle.rewriter_machine.specs.Types.{same_type}
-use Rattle.rewriter.proofs.SameTypes.{same_numbers}
+use Rattle.ir_types.specs.SameTypes.{same_type}
+use Rattle.ir_types.proofs.SameTerms.{same_numbers}
 
 module _ (w : World) (sound : IsSound w.ctx) (old new : Value) where
   -- both are values, and their types are these

@@ -17,7 +17,7 @@ use Rattle.ir_tree.specs.WellFormed.{Module as Numbered}
 use Rattle.ir_tree.proofs.Heads.{Alike, alike_entry, alike_operand, head_find, head_ids}
 use Rattle.ir_tree_laws.proofs.Listed.{either, or_left, or_right}
 use Rattle.ir_event.proofs.Sounds.{found_sound}
-use Rattle.ir_store_contents.specs.Slots.{gone_after, has_key}
+use Rattle.ir_store.specs.Slots.{gone_after, has_key}
 use Rattle.ir_store.specs.Stored.{Gone, Stored, change_gone, has_entry, has_slot, is_some_with, stands}
 use Rattle.ir_store.specs.Calls.{after_entry, after_operand}
 use Rattle.rewriter_journal.proofs.Maps.{gone_here, gone_other, mapped_is}

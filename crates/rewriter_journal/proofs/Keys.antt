@@ -15,7 +15,7 @@ use Rattle.ir_tree.specs.Edits.{change_entry, drop_entry, entry_at, part_of, put
 use Rattle.ir_tree.specs.Meaning.{IsSoundIn, key_before_in}
 use Rattle.ir_tree_laws.proofs.Keys.{keys_ordered}
 use Rattle.ir_tree_laws.proofs.Listed.{either, or_left, or_right}
-use Rattle.ir_store_contents.specs.Slots.{gone_after, has_key, is_gone, keep_gone}
+use Rattle.ir_store.specs.Slots.{gone_after, has_key, is_gone, keep_gone}
 use Rattle.ir_event.proofs.Nodes.{node_known}
 
 or_none : (b : Bool) → (b || false) ≡ b

@@ -17,7 +17,7 @@ use Rattle.ir_tree.proofs.Mapped.{map_find}
 use Rattle.ir_tree.proofs.SoundEdits.{entry_sound, operand_sound, put_sound, without_sound}
 use Rattle.ir_tree_laws.specs.Reasons.{entry_reason, found_entry_reason, set_entry_reason, unless, with_id}
 use Rattle.ir_tree_laws.proofs.Contents.{map_entry_in}
-use Rattle.ir_store_contents.specs.Slots.{has_key}
+use Rattle.ir_store.specs.Slots.{has_key}
 use Rattle.ir_store.specs.Stored.{Stored, none_gone}
 use Rattle.ir_store.specs.Calls.{after_entry, after_operand, after_put, after_shift, after_take, hold}
 use Rattle.ir_event.specs.declared.event.Event.{Event}

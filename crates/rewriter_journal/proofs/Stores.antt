@@ -12,7 +12,7 @@ use Rattle.ir_tree.proofs.Left.{gone}
 use Rattle.ir_tree_laws.specs.Reasons.{hold_none}
 use Rattle.ir_tree_laws.proofs.Around.{absent_find}
 use Rattle.ir_tree_laws.proofs.Readings.{option_first}
-use Rattle.ir_store_contents.specs.Slots.{has_key}
+use Rattle.ir_store.specs.Slots.{has_key}
 use Rattle.ir_store.specs.Stored.{Stored, has_entry, has_slot, is_some_with, known, stands}
 use Rattle.rewriter_journal.specs.Journals.{IsSlotted}
 use Rattle.rewriter_journal.proofs.Trees.{absent_too, found_present, taken_head}

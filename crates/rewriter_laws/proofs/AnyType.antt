@@ -8,7 +8,7 @@ use Rattle.ir_types.specs.declared.node.Sign.{Sign}
 use Rattle.ir_types.specs.declared.node.Sign.TheVariants.{Signless, Signed, Unsigned}
 use Rattle.ir_types.specs.Terms.{TypeTerm, Integer, Index, Function, Memref, TypeTerms, no_types, next_type}
 use Rattle.ir_types.specs.Same.{same_sign}
-use Rattle.rewriter_machine.specs.Types.{same_type, same_terms}
+use Rattle.ir_types.specs.SameTypes.{same_type, same_terms}
 
 same_dimensions : (ds : List (Option ℕ)) → pointwise (option_eq ◌==◌) ds ds ≡ true
 same_dimensions [] = refl

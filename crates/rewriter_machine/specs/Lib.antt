@@ -1,4 +1,3 @@
-pub mod Types
 pub mod Edits
 pub mod Contents
 pub mod Panels

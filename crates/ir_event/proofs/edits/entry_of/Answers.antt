@@ -1,4 +1,4 @@
-use Rattle.std.proofs.Common.{◌≡◌, ap, sym, ◌∙◌, rules, true, false, None, Some}
+use Rattle.std.proofs.Common.{◌≡◌, ap, sym, ◌∙◌, rules, true, false, Some}
 use Rattle.std.specs.Prelude.{option_map}
 use Rattle.ir_tree.specs.Ids.{has_id}
 use Rattle.ir_store.specs.Nodes.{node_of}

@@ -5,7 +5,7 @@ use Rattle.ir_tree.specs.View.{region_view}
 use Rattle.ir_store.specs.Loads.{Adds, end_of, put_region, put_regions, MayRegions, AreBelow, RegionsLeft, OpsLeft}
 use Rattle.ir_store.proofs.Loaded.{may_emptied}
 use Rattle.ir_store.proofs.Loading.{op_no_more, region_no_more, region_step, region_asks, op_step, op_asks, next_at, ops_start, inside_may, inside_below, inside_held, whole_adds, head_below}
-use Rattle.ir_store_slots.proofs.Items.{on_ok}
+use Rattle.ir_store_reads.proofs.Items.{on_ok}
 use Rattle.ir_store.proofs.load.+load.Goals as goal
 
 pub load_op-load_head-requires-clause-may : goal.load_op-load_head-requires-clause-may

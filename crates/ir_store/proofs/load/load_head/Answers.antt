@@ -2,9 +2,9 @@ use Rattle.std.proofs.Common.{◌≡◌, sym, ap, ◌∙◌, subst, false, true}
 use Rattle.std.specs.List.{list_all}
 use Rattle.ir_tree.specs.Tree.{head}
 use Rattle.ir_tree_laws.specs.Values.{has_value}
-use Rattle.ir_store_slots.specs.Stored.{known}
+use Rattle.ir_store_reads.specs.Stored.{known}
 use Rattle.ir_store.specs.Calls.{CanRestore, after_restore}
-use Rattle.ir_store_slots.specs.Emptied.{after_grow}
+use Rattle.ir_store_reads.specs.Emptied.{after_grow}
 use Rattle.ir_store.specs.Loads.{end_of}
 use Rattle.ir_store.proofs.Loading.{head_unknown, head_can, head_adds}
 use Rattle.ir_store.proofs.load.load_head.Goals as goal

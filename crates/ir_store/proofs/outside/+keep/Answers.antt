@@ -1,12 +1,12 @@
-use Rattle.std.proofs.Common.{◌≡◌, ◌<◌, ◌-◌, get_or, arith, ◌∙◌, sym, ap, subst, map, length, not, rules}
-use Rattle.ir_store_lists.specs.Lists.{list_at, after}
-use Rattle.ir_store_slots.specs.Rows.{rows_of, shape_of}
-use Rattle.ir_store_slots.specs.Index.{ArgHeads, AreHeads, cells_of}
-use Rattle.ir_store_slots.specs.Plans.{AllHeads}
-use Rattle.ir_store_slots.specs.Right.{Live}
-use Rattle.ir_store_slots.specs.Walks.{from_slot}
-use Rattle.ir_store_slots.proofs.Items.{read_row}
-use Rattle.ir_store_slots.proofs.Walked.{Walks, listed_item, walk_start, walk_stops, walk_on, walk_less}
+use Rattle.std.proofs.Common.{◌≡◌, ◌<◌, ◌-◌, get_or, arith, ◌∙◌, sym, ap, subst, map, length, not}
+use Rattle.ir_store_reads.specs.Lists.{list_at, after}
+use Rattle.ir_store_reads.specs.Rows.{rows_of, shape_of}
+use Rattle.ir_store_reads.specs.Index.{ArgHeads, AreHeads, cells_of}
+use Rattle.ir_store_reads.specs.Plans.{AllHeads}
+use Rattle.ir_store_reads.specs.Right.{Live}
+use Rattle.ir_store_reads.specs.Walks.{from_slot}
+use Rattle.ir_store_reads.proofs.Items.{read_row}
+use Rattle.ir_store_reads.proofs.Walked.{Walks, listed_item, walk_start, walk_stops, walk_on, walk_less}
 use Rattle.ir_store.specs.Outside.{leaves_use, lists_pass, shapes_keep, slot_keeps}
 use Rattle.ir_store.proofs.Kept.{row_dead, row_fails, row_none, row_passes}
 use Rattle.ir_store.proofs.outside.+keep.Goals as goal

@@ -1,10 +1,10 @@
 use Rattle.std.proofs.Common.{◌≡◌, ◌*◌, ◌+◌, map, length, not}
-use Rattle.ir_store_lists.specs.Lists.{list_at}
-use Rattle.ir_store_slots.specs.Rows.{rows_of, shape_of}
-use Rattle.ir_store_slots.specs.Index.{ArgHeads, cells_of}
-use Rattle.ir_store_slots.specs.Plans.{AllHeads}
-use Rattle.ir_store_slots.specs.Walks.{from_slot}
-use Rattle.ir_store_slots.proofs.Walked.{Walks}
+use Rattle.ir_store_reads.specs.Lists.{list_at}
+use Rattle.ir_store_reads.specs.Rows.{rows_of, shape_of}
+use Rattle.ir_store_reads.specs.Index.{ArgHeads, cells_of}
+use Rattle.ir_store_reads.specs.Plans.{AllHeads}
+use Rattle.ir_store_reads.specs.Walks.{from_slot}
+use Rattle.ir_store_reads.proofs.Walked.{Walks}
 use Rattle.ir_store.specs.Outside.{leaves_use, lists_pass, shapes_keep, slot_keeps}
 use Rattle.ir_store.proofs.outside.+keep.Given as goal
 

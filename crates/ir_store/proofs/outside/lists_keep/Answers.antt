@@ -1,7 +1,7 @@
 use Rattle.std.proofs.Common.{◌∙◌, ℕ, sym, arith, not}
-use Rattle.ir_store_slots.specs.Rows.{rows_of}
-use Rattle.ir_store_slots.specs.Index.{cells_of}
-use Rattle.ir_store_slots.proofs.Idle.{heads_step, head_here}
+use Rattle.ir_store_reads.specs.Rows.{rows_of}
+use Rattle.ir_store_reads.specs.Index.{cells_of}
+use Rattle.ir_store_reads.proofs.Idle.{heads_step, head_here}
 use Rattle.ir_store.specs.Outside.{leaves_use}
 use Rattle.ir_store.proofs.Kept.{list_fails, list_passes}
 use Rattle.ir_store.proofs.outside.lists_keep.Goals as goal

@@ -1,6 +1,6 @@
 use Rattle.std.proofs.Common.{◌≡◌, not}
-use Rattle.ir_store_slots.specs.Rows.{rows_of}
-use Rattle.ir_store_slots.specs.Index.{AreHeads, cells_of}
+use Rattle.ir_store_reads.specs.Rows.{rows_of}
+use Rattle.ir_store_reads.specs.Index.{AreHeads, cells_of}
 use Rattle.ir_store.specs.Outside.{leaves_use, lists_pass}
 use Rattle.ir_store.proofs.outside.lists_keep.Given as goal
 

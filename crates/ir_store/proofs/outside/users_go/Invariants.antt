@@ -1,9 +1,9 @@
 use Rattle.std.proofs.Common.{length, not}
-use Rattle.ir_store_lists.specs.Lists.{list_at}
-use Rattle.ir_store_slots.specs.Rows.{rows_of}
-use Rattle.ir_store_slots.specs.Index.{cells_of}
-use Rattle.ir_store_slots.specs.Walks.{from_slot}
-use Rattle.ir_store_slots.proofs.Walked.{Walks}
+use Rattle.ir_store_reads.specs.Lists.{list_at}
+use Rattle.ir_store_reads.specs.Rows.{rows_of}
+use Rattle.ir_store_reads.specs.Index.{cells_of}
+use Rattle.ir_store_reads.specs.Walks.{from_slot}
+use Rattle.ir_store_reads.proofs.Walked.{Walks}
 use Rattle.ir_store.specs.Outside.{leaves_use}
 use Rattle.ir_store.proofs.outside.users_go.Given as goal
 

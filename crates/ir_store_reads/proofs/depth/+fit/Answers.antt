@@ -1,5 +1,5 @@
 use Rattle.std.proofs.Common.{◌<◌, ◌-◌, get_or, arith, ◌∙◌, sym, ap, subst, length}
-use Rattle.ir_store_lists.specs.Lists.{list_at, after}
+use Rattle.ir_store_slots.specs.Lists.{list_at, after}
 use Rattle.ir_store_slots.specs.Rows.{rows_of}
 use Rattle.ir_store_slots.specs.Plans.{AllHeads}
 use Rattle.ir_store_slots.specs.Right.{Live}

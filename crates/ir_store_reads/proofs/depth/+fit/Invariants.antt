@@ -1,5 +1,5 @@
 use Rattle.std.proofs.Common.{◌≡◌, ◌*◌, ◌+◌, map, length}
-use Rattle.ir_store_lists.specs.Lists.{list_at}
+use Rattle.ir_store_slots.specs.Lists.{list_at}
 use Rattle.ir_store_slots.specs.Rows.{rows_of, shape_of}
 use Rattle.ir_store_slots.specs.Plans.{AllHeads}
 use Rattle.ir_store_slots.specs.Walks.{slot_fits, shapes_pass, from_slot}

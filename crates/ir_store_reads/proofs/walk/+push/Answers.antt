@@ -1,6 +1,6 @@
 use Rattle.std.proofs.Common.{sym, ap, ◌∙◌, subst, [], ◌∷◌}
-use Rattle.ir_store_lists.specs.Lists.{after, list_at}
-use Rattle.ir_store_contents.proofs.Splits.{uncons}
+use Rattle.ir_store_slots.specs.Lists.{after, list_at}
+use Rattle.ir_store_slots.proofs.Splits.{uncons}
 use Rattle.ir_store_slots.specs.Rows.{rows_of, shape_of}
 use Rattle.ir_store_reads.specs.Added.{AddsRegions}
 use Rattle.ir_store_slots.proofs.Items.{on_ok}

@@ -1,5 +1,5 @@
 use Rattle.std.proofs.Common.{◌*◌, ◌+◌, length}
-use Rattle.ir_store_lists.specs.Lists.{list_at}
+use Rattle.ir_store_slots.specs.Lists.{list_at}
 use Rattle.ir_store_slots.specs.Rows.{rows_of}
 use Rattle.ir_store_slots.specs.Walks.{from_slot}
 use Rattle.ir_store_reads.proofs.Adding.{LeftRegions, LeftSlots}

@@ -3,8 +3,7 @@ use Rattle.ir_text_grammar.specs.declared.error.ReadError.TheVariants as errors
 use Rattle.ir_text_operations.specs.Free.{free_bound, free_term}
 use Rattle.ir_text_operations.specs.Spelling.{IsSingleOp}
 use Rattle.ir_text_operations.specs.Claims.{IsOnly, IsNone}
-use Rattle.ir_text_operations.proofs.Modules.{error_is}
-use Rattle.ir_text_operations.proofs.Singles.{frees_stand, alone_read, alone_wrong, part_spelled, no_part, single_none}
+use Rattle.ir_text_operations.proofs.Singles.{text_is, frees_stand, alone_read, alone_wrong, part_spelled, no_part, single_none}
 use Rattle.ir_text_operations.proofs.single.op_of_text.Goals as goal
 
 pub returns-in-Ok-before_ids-clause-refused : goal.returns-in-Ok-before_ids-clause-refused
@@ -23,6 +22,14 @@ returns-in-Err-before_ids-clause-refused g c =
     let none = alone_wrong (free_bound types) (free_term types c.args.ctx.now) c.last_from-last.result next c.args.bytes.now c.args.ctx.now c.sound.ensures frees (rw c.in-Err-Refused.field-0-is at c.in-Err-Refused.ensures.reads) in
     λ f e. rw (← c.next_id-next.ensures) (single_none (free_term types c.args.ctx.now) next c.args.bytes.now (subst (λ l. IsNone (IsSingleOp (free_term types c.args.ctx.now) l next c.args.bytes.now)) c.last_from-last.ensures none))
 
+pub returns-in-Err-before_ids-clause-exhausted : goal.returns-in-Err-before_ids-clause-exhausted
+returns-in-Err-before_ids-clause-exhausted g c =
+    let types = g.O.Outer.types c.args.outer.now in
+    let next = c.next_id-next.result in
+    let frees = frees_stand types c.args.ctx.now c.requires in
+    let none = alone_wrong (free_bound types) (free_term types c.args.ctx.now) c.last_from-last.result next c.args.bytes.now c.args.ctx.now c.sound.ensures frees (rw c.in-Err-Refused.field-0-is at c.in-Err-Refused.ensures.reads) in
+    λ e. rw (← c.next_id-next.ensures) (single_none (free_term types c.args.ctx.now) next c.args.bytes.now (subst (λ l. IsNone (IsSingleOp (free_term types c.args.ctx.now) l next c.args.bytes.now)) c.last_from-last.ensures none))
+
 pub returns-in-Ok-looked_at-clause-read : goal.returns-in-Ok-looked_at-clause-read
 returns-in-Ok-looked_at-clause-read g c =
     let types = g.O.Outer.types c.args.outer.now in
@@ -39,4 +46,4 @@ returns-in-Err-looked_at-clause-refused g c =
     let frees = frees_stand types c.args.ctx.now c.requires in
     let alone = alone_read (free_bound types) (free_term types c.args.ctx.now) c.last_from-last.result next c.args.bytes.now c.args.ctx.now c.sound.ensures frees c.in-Ok-single.tree c.single.new.ctx c.in-Ok-single.ensures.reads in
     let single = subst (λ l. IsOnly (IsSingleOp (free_term types c.args.ctx.now) l next c.args.bytes.now) c.single.new.ctx c.in-Ok-single.tree) c.last_from-last.ensures alone in
-    λ f e. rw (← c.next_id-next.ensures) (no_part (free_term types c.args.ctx.now) next c.args.bytes.now c.single.new.ctx c.in-Ok-single.tree single (c.in-Err-looked_at.ensures.refused f (error_is c.in-Err-looked_at.e (errors.Refused f) e)))
+    λ f e. rw (← c.next_id-next.ensures) (no_part (free_term types c.args.ctx.now) next c.args.bytes.now c.single.new.ctx c.in-Ok-single.tree single (c.in-Err-looked_at.ensures.refused f (text_is c.in-Err-looked_at.e (errors.Refused f) e)))

@@ -8,8 +8,8 @@ use Rattle.std.proofs.lemmas.Map.Made.{hash_set_len-Decides}
 use Rattle.ir_tree.proofs.Distinct.{distinct_by_count}
 use Rattle.ir_tree.proofs.numbered.distinct.Goals as goal
 
-pub returns : goal.returns
-returns c =
+pub returns-clause-distinct : goal.returns-clause-distinct
+returns-clause-distinct c =
     let xs = c.in_ok-ids.ids.items in
     let k = bag.hash_set_len c.in_ok-different.different in
     let h : bag.IsFromIterResult eqb (map (λ x. x) xs) c.in_ok-different.different = search rules in

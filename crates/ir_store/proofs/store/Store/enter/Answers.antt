@@ -1,25 +1,33 @@
-use Rattle.std.proofs.Common.{refl, ◌∙◌, sym, ap}
+use Rattle.std.proofs.Common.{refl, ◌∙◌, sym, ap, ⊎_elim, inl, inr}
 use Rattle.std.specs.Prelude.{Ok, Err}
-use Rattle.ir_tree.specs.Meaning.{key_before_in}
+use Rattle.std.proofs.lemmas.Bool.{false≢true}
+use Rattle.ir_tree.specs.Limits.{every}
+use Rattle.ir_tree.specs.Meaning.{key_before_in, dictionaries_rise}
 use Rattle.ir_tree.specs.Edits.{part_of}
 use Rattle.ir_tree_laws.specs.Reasons.{entry_reason, set_entry_reason}
+use Rattle.ir_store_reads.specs.Stored.{has_slot}
 use Rattle.ir_store.specs.Calls.{after_entry}
 use Rattle.ir_store.proofs.Called.{rows_in, keys_in, same_inside}
-use Rattle.ir_store_slots.proofs.Marking.{can_mark_used}
-use Rattle.ir_store_slots.proofs.Slots.{found}
-use Rattle.ir_store.proofs.Dictionaries.{refused_some, refused_memory, entry_found, entry_row, there_before, entry_given, same_given, entry_fits, same_fits, entry_done, same_done}
+use Rattle.ir_store_reads.proofs.Marking.{can_mark_used}
+use Rattle.ir_store_reads.proofs.Slots.{found}
+use Rattle.ir_store.proofs.Dictionaries.{refused_some, refused_memory, revert_sorted, revert_slot, entry_found, entry_row, there_before, entry_given, same_given, entry_fits, same_fits, entry_done, same_done}
 use Rattle.ir_store.proofs.store.Store.enter.Goals as goal
 
 pub same-self : goal.same-self
 same-self c = same_inside c.self.inside _ _ _
 
-pub returns-in-Err : goal.returns-in-Err
-returns-in-Err c = (
+pub returns-in-Err-clause-done : goal.returns-in-Err-clause-done
+returns-in-Err-clause-done c = (
   refused_some _ c.in-Err.e
       (sym (ap (λ s. set_entry_reason (key_before_in c.args.ctx.now) c.args.op c.args.part c.args.key c.args.value s.module_of.tree) c.self.view_is)
       ∙ entry_found c.self.inside c.self.invariant c.args.op c.args.part c.args.key (key_before_in c.args.ctx.now) c.args.value (Err c.in-Err.e) c.in-Err.ensures),
   refl,
 )
+
+pub returns-in-Err-clause-slot : goal.returns-in-Err-clause-slot
+returns-in-Err-clause-slot c = λ _ _.
+    sym (ap (λ s. set_entry_reason (key_before_in c.args.ctx.now) c.args.op c.args.part c.args.key c.args.value s.module_of.tree) c.self.view_is)
+    ∙ entry_found c.self.inside c.self.invariant c.args.op c.args.part c.args.key (key_before_in c.args.ctx.now) c.args.value (Err c.in-Err.e) c.in-Err.ensures
 
 pub change_row-requires : goal.change_row-requires
 change_row-requires c =
@@ -54,8 +62,8 @@ invariant_of-self c =
     same_fits c.self.inside c.self.invariant c.args.op c.args.part c.args.key before c.args.value c.in-Ok.at p.0 c.index_mut-row.result.now c.index_mut-row.ensures.value c.change_row.new.row
     c.in-Err-change_row.ensures.err c.self-in-Err-change_row-1.given.0
 
-pub returns : goal.returns
-returns c =
+pub returns-clause-done : goal.returns-clause-done
+returns-clause-done c =
     let before = key_before_in c.args.ctx.now in
     let p = entry_found c.self.inside c.self.invariant c.args.op c.args.part c.args.key before c.args.value (Ok c.in-Ok.at) c.in-Ok.ensures in (
       sym (ap (λ s. set_entry_reason before c.args.op c.args.part c.args.key c.args.value s.module_of.tree) c.self.view_is) ∙ p.1.0,
@@ -64,8 +72,8 @@ returns c =
           ∙ ap (after_entry before c.args.op c.args.part c.args.key c.args.value) c.self.view_is,
     )
 
-pub returns-in-Err-change_row : goal.returns-in-Err-change_row
-returns-in-Err-change_row c =
+pub returns-in-Err-change_row-clause-done : goal.returns-in-Err-change_row-clause-done
+returns-in-Err-change_row-clause-done c =
     let before = key_before_in c.args.ctx.now in
     let p = entry_found c.self.inside c.self.invariant c.args.op c.args.part c.args.key before c.args.value (Ok c.in-Ok.at) c.in-Ok.ensures in (
       refused_memory _ (sym (ap (λ s. set_entry_reason before c.args.op c.args.part c.args.key c.args.value s.module_of.tree) c.self.view_is) ∙ p.1.0),
@@ -73,6 +81,19 @@ returns-in-Err-change_row c =
           c.in-Err-change_row.ensures.err c.self-in-Err-change_row-1.given.0 c.self-in-Err-change_row-1.given.1.0 c.self-in-Err-change_row-1.given.1.1.0
           ∙ c.self.view_is,
     )
+
+pub returns-in-Err-change_row-clause-slot : goal.returns-in-Err-change_row-clause-slot
+returns-in-Err-change_row-clause-slot c = λ sound wants.
+    let before = key_before_in c.args.ctx.now in
+    let p = entry_found c.self.inside c.self.invariant c.args.op c.args.part c.args.key before c.args.value (Ok c.in-Ok.at) c.in-Ok.ensures in
+    let sorted = revert_sorted c.self.inside c.self.invariant c.args.op c.args.part c.args.key before c.args.value c.in-Ok.at p.0 c.index_mut-row.result.now c.index_mut-row.ensures.value
+    (ap (λ s. every (dictionaries_rise before) s.module_of.tree) c.self.view_is ∙ sound.sorted) in
+    let slot = ⊎_elim
+    (λ e. inl e)
+    (λ e. inr (revert_slot c.self.inside c.self.invariant c.args.op c.args.part c.args.key before c.args.value c.in-Ok.at p.0 c.index_mut-row.result.now c.index_mut-row.ensures.value
+    (ap (has_slot c.args.op c.args.part c.args.key) c.self.view_is ∙ e)))
+    wants in
+    absurd (false≢true (c.in-Err-change_row.ensures.slot sorted slot))
 
 pub invariant_of-self-2 : goal.invariant_of-self-2
 invariant_of-self-2 c =

@@ -2,14 +2,14 @@ use Rattle.std.proofs.Common.{◌≡◌, ◌<◌, slice_set, ℕ, refl, sym, ap,
 use Rattle.std.specs.FinMap as finmap
 use Rattle.std.proofs.lemmas.Bool.{eq-eqb, ne_eqb, cond-true, cond-false}
 use Rattle.std.proofs.lemmas.List.{length-set, length-map}
-use Rattle.ir_store_slots.specs.Rows.{row_of, rows_of, row_at}
-use Rattle.ir_store_slots.specs.Stored.{known}
-use Rattle.ir_store_slots.specs.Emptied.{after_grow}
-use Rattle.ir_store_slots.specs.Grows.{parts_of}
+use Rattle.ir_store_reads.specs.Rows.{row_of, rows_of, row_at}
+use Rattle.ir_store_reads.specs.Stored.{known}
+use Rattle.ir_store_reads.specs.Emptied.{after_grow}
+use Rattle.ir_store_reads.specs.Grows.{parts_of}
 use Rattle.ir_store.proofs.Called.{keys_in}
-use Rattle.ir_store_slots.proofs.Items.{other_row, own_row}
+use Rattle.ir_store_reads.proofs.Items.{other_row, own_row}
 use Rattle.ir_store.proofs.Growing.{key_put, no_key, grow_can_mark, grow_apart, wide_given, wide_fits, wide_done, grow_given, grow_fits, grow_done}
-use Rattle.ir_store_slots.proofs.Marking.{reach_none, grow_there}
+use Rattle.ir_store_reads.proofs.Marking.{reach_none, grow_there}
 use Rattle.ir_store.proofs.store.Store.extend.Goals as goal
 
 pub insert-requires : goal.insert-requires

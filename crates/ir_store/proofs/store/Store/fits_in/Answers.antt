@@ -4,11 +4,11 @@ use Rattle.std.proofs.lemmas.Bool.{false≢true}
 use Rattle.ir_tree.specs.Ids.{has_id, find}
 use Rattle.ir_tree_laws.specs.Reads.{around}
 use Rattle.ir_tree_laws.specs.Reasons.{levels_in}
-use Rattle.ir_store_slots.proofs.Slots.{found, found_op, in_tree_is}
+use Rattle.ir_store_reads.proofs.Slots.{found, found_op, in_tree_is}
 use Rattle.ir_store.proofs.Taking.{heads_of}
 use Rattle.ir_store.proofs.Called.{rows_in, keys_in}
 use Rattle.ir_store.proofs.Rising.{around_some, room_is}
-use Rattle.ir_store_slots.proofs.Walked.{fits_is}
+use Rattle.ir_store_reads.proofs.Walked.{fits_is}
 use Rattle.ir_store.proofs.store.Store.fits_in.Goals as goal
 
 pub returns-in_default : goal.returns-in_default

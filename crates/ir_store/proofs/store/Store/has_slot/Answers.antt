@@ -1,5 +1,5 @@
 use Rattle.std.proofs.Common.{◌∙◌, sym, ap, Some, None}
-use Rattle.ir_store_slots.specs.Stored.{has_slot}
+use Rattle.ir_store_reads.specs.Stored.{has_slot}
 use Rattle.ir_store.proofs.Dictionaries.{slot_is}
 use Rattle.ir_store.proofs.store.Store.has_slot.Goals as goal
 

@@ -1,7 +1,7 @@
 use Rattle.std.proofs.Common.{sym, ap, ◌∙◌}
 use Rattle.ir_tree_laws.specs.Reads.{in_list, goes_before, is_before}
 use Rattle.ir_store.proofs.Called.{rows_in, keys_in}
-use Rattle.ir_store_slots.proofs.Slots.{found}
+use Rattle.ir_store_reads.proofs.Slots.{found}
 use Rattle.ir_store.proofs.Listing.{stands_alone, missing_listless, before_found, before_missing}
 use Rattle.ir_store.proofs.store.Store.is_before.Goals as goal
 

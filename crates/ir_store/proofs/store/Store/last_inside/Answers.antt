@@ -2,8 +2,8 @@ use Rattle.std.proofs.Common.{sym, ◌∙◌, ap, ◌≡◌, subst, [], ◌∷�
 use Rattle.std.specs.Prelude.{is_some}
 use Rattle.std.proofs.lemmas.Bool.{false≢true}
 use Rattle.ir_tree.specs.Ids.{has_id, find}
-use Rattle.ir_store_slots.specs.Rows.{row_at}
-use Rattle.ir_store_slots.proofs.Slots.{in_tree_is, found}
+use Rattle.ir_store_reads.specs.Rows.{row_at}
+use Rattle.ir_store_reads.proofs.Slots.{in_tree_is, found}
 use Rattle.ir_store.specs.Ends.{IsLastIn, ids_in}
 use Rattle.ir_store.proofs.Taking.{heads_of}
 use Rattle.ir_store.proofs.Called.{rows_in, keys_in}

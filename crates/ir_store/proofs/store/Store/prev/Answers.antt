@@ -1,9 +1,9 @@
 use Rattle.std.proofs.Common.{sym, ap, ◌∙◌, None}
 use Rattle.std.specs.Prelude.{option_map, option_and_then}
 use Rattle.ir_tree_laws.specs.Reads.{id_before, prev_of}
-use Rattle.ir_store_slots.specs.Spots.{id_in}
+use Rattle.ir_store_reads.specs.Spots.{id_in}
 use Rattle.ir_store.proofs.Called.{rows_in, keys_in}
-use Rattle.ir_store_slots.proofs.Slots.{found}
+use Rattle.ir_store_reads.proofs.Slots.{found}
 use Rattle.ir_store.proofs.Listing.{missing_listless, root_list, prev_found}
 use Rattle.ir_store.proofs.store.Store.prev.Goals as goal
 

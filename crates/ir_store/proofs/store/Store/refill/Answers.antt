@@ -2,15 +2,15 @@ use Rattle.std.proofs.Common.{◌≡◌, ◌<◌, slice_set, ℕ, refl, sym, ap,
 use Rattle.std.specs.FinMap as finmap
 use Rattle.std.proofs.lemmas.Bool.{eq-eqb, ne_eqb, cond-true, cond-false}
 use Rattle.std.proofs.lemmas.List.{length-set, length-map}
-use Rattle.ir_store_slots.specs.Rows.{row_of, rows_of, row_at}
-use Rattle.ir_store_slots.specs.Stored.{known}
-use Rattle.ir_store_slots.specs.Emptied.{after_grow}
-use Rattle.ir_store_slots.specs.Grows.{Grown}
+use Rattle.ir_store_reads.specs.Rows.{row_of, rows_of, row_at}
+use Rattle.ir_store_reads.specs.Stored.{known}
+use Rattle.ir_store_reads.specs.Emptied.{after_grow}
+use Rattle.ir_store_reads.specs.Grows.{Grown}
 use Rattle.ir_store_reads.proofs.Fitting.{some_told}
 use Rattle.ir_store.proofs.Called.{keys_in, same_inside}
-use Rattle.ir_store_slots.proofs.Items.{other_row, own_row}
-use Rattle.ir_store_slots.proofs.Marking.{grow_there}
-use Rattle.ir_store_slots.proofs.Wide.{wide_same}
+use Rattle.ir_store_reads.proofs.Items.{other_row, own_row}
+use Rattle.ir_store_reads.proofs.Marking.{grow_there}
+use Rattle.ir_store_reads.proofs.Wide.{wide_same}
 use Rattle.ir_store.proofs.Growing.{parts, is_even, key_put, no_key, grow_can_mark, spare_apart, wide_given, wide_fits, wide_done, grow_given, grow_fits, grow_done}
 use Rattle.ir_store.proofs.store.Store.refill.Goals as goal
 

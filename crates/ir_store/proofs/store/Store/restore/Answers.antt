@@ -1,7 +1,7 @@
 use Rattle.std.proofs.Common.{◌∙◌, sym, ap, subst, arith}
 use Rattle.ir_store.specs.Calls.{after_restore, CanRestore}
 use Rattle.ir_store.proofs.Called.{rows_in, keys_in, same_inside}
-use Rattle.ir_store_slots.proofs.Marking.{can_mark_used}
+use Rattle.ir_store_reads.proofs.Marking.{can_mark_used}
 use Rattle.ir_store.proofs.Spotted.{held_found}
 use Rattle.ir_store.proofs.Spotted.{joint_head, joint_given}
 use Rattle.ir_store.proofs.Whole.{restore_found, restore_before, restore_lead, restore_fits, restore_done, count_few}

@@ -2,11 +2,11 @@ use Rattle.std.proofs.Common.{◌∙◌, ap, sym}
 use Rattle.ir_tree.specs.Ids.{has_id}
 use Rattle.ir_tree.specs.Limits.{every}
 use Rattle.ir_tree.specs.Meaning.{key_before_in, dictionaries_rise}
-use Rattle.ir_store_slots.specs.Stored.{has_slot, has_entry}
+use Rattle.ir_store_reads.specs.Stored.{has_slot, has_entry}
 use Rattle.ir_store.specs.Calls.{after_entry}
 use Rattle.ir_store.proofs.Called.{rows_in, keys_in, same_inside}
-use Rattle.ir_store_slots.proofs.Marking.{can_mark_used}
-use Rattle.ir_store_slots.proofs.Slots.{found}
+use Rattle.ir_store_reads.proofs.Marking.{can_mark_used}
+use Rattle.ir_store_reads.proofs.Slots.{found}
 use Rattle.ir_store.proofs.Changes.{set_sound}
 use Rattle.ir_store.proofs.Dictionaries.{revert_found, revert_sorted, revert_slot, revert_there, entry_given, entry_fits, entry_done}
 use Rattle.ir_store.proofs.store.Store.revert_entry.Goals as goal

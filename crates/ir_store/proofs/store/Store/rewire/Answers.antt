@@ -2,10 +2,10 @@ use Rattle.std.proofs.Common.{refl, ◌∙◌, sym, ap, subst, length, ◌<◌, 
 use Rattle.std.specs.Prelude.{Ok, Err}
 use Rattle.ir_tree_laws.specs.Changes.{operand_at}
 use Rattle.ir_store.specs.Calls.{after_operand}
-use Rattle.ir_store_slots.specs.Reasoned.{rewire_reason}
+use Rattle.ir_store_reads.specs.Reasoned.{rewire_reason}
 use Rattle.ir_store.proofs.Called.{same_inside, operand_was, operands_of, write_given, write_done}
 use Rattle.ir_store.proofs.Whole.{rewire_head, rewired, rewire_item, rewire_free, rewire_headed, rewire_fits}
-use Rattle.ir_store_lists.specs.Lists.{IsItem, free}
+use Rattle.ir_store_reads.specs.Lists.{IsItem, free}
 use Rattle.ir_store.proofs.store.Store.rewire.Goals as goal
 
 pub find_rewire-requires-clause-head : goal.find_rewire-requires-clause-head

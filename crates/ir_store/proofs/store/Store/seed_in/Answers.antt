@@ -3,15 +3,15 @@ use Rattle.std.specs.Ordering.{nat_cmp}
 use Rattle.std.specs.FinMap as finmap
 use Rattle.std.proofs.lemmas.List.{length-set, length-map}
 use Rattle.ir_tree.specs.Tree.{head}
-use Rattle.ir_store_slots.specs.Stored.{none_gone}
-use Rattle.ir_store_slots.specs.Rows.{row_of, rows_of, row_at, held_in, gone_in}
-use Rattle.ir_store_slots.specs.Index.{cells_of}
-use Rattle.ir_store_slots.specs.Spells.{spelled_is}
+use Rattle.ir_store_reads.specs.Stored.{none_gone}
+use Rattle.ir_store_reads.specs.Rows.{row_of, rows_of, row_at, held_in, gone_in}
+use Rattle.ir_store_reads.specs.Index.{cells_of}
+use Rattle.ir_store_reads.specs.Spells.{spelled_is}
 use Rattle.ir_store.specs.Holds.{map_is}
-use Rattle.ir_store_slots.specs.Grows.{parts_of, Wider, Grown}
-use Rattle.ir_store_slots.proofs.Items.{other_row, own_row}
+use Rattle.ir_store_reads.specs.Grows.{parts_of, Wider, Grown}
+use Rattle.ir_store_reads.proofs.Items.{other_row, own_row}
 use Rattle.ir_store.proofs.Growing.{key_put}
-use Rattle.ir_store_slots.proofs.Marking.{grow_there}
+use Rattle.ir_store_reads.proofs.Marking.{grow_there}
 use Rattle.ir_store.proofs.Seed.{nothing, emptied_operands, seed, seed_spells, seed_holds, seed_gone, seed_fits, seed_is}
 use Rattle.ir_store.proofs.store.Store.seed_in.Goals as goal
 

@@ -6,7 +6,7 @@ use Rattle.ir_store.proofs.Called.{rows_in, keys_in, same_inside, cut_given, cut
 use Rattle.ir_store.proofs.Taking.{heads_of}
 use Rattle.ir_store.proofs.Whole.{find_values, plan, free_run, take_fits}
 use Rattle.ir_tree_laws.proofs.Reasoned.{no_take_reason}
-use Rattle.ir_store_slots.proofs.Marking.{can_mark_used}
+use Rattle.ir_store_reads.proofs.Marking.{can_mark_used}
 use Rattle.ir_store.proofs.store.Store.take.Goals as goal
 
 pub find_idle-requires-clause-blocks : goal.find_idle-requires-clause-blocks

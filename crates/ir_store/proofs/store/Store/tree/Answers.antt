@@ -1,14 +1,13 @@
 use Rattle.std.proofs.Common.{sym, ap, ◌∙◌}
-use Rattle.ir_store_slots.specs.Spells.{spelled_is}
+use Rattle.ir_store_reads.specs.Spells.{spelled_is}
 use Rattle.ir_store.proofs.Called.{rows_in, keys_in}
 use Rattle.ir_store.proofs.Taking.{heads_of}
-use Rattle.ir_store_reads.proofs.Copied.{if_ok}
 use Rattle.ir_store.proofs.store.Store.tree.Goals as goal
 
 pub copy_op-requires : goal.copy_op-requires
 copy_op-requires c = let a = c.self.inside in heads_of (rows_in a) (keys_in a) a.sibs a.root a.spelled.0 c.self.invariant.right
 
-pub returns : goal.returns
-returns c =
+pub returns-clause-tree : goal.returns-clause-tree
+returns-clause-tree c =
     let a = c.self.inside in
-    if_ok c.copy_op.result (λ t s. sym (spelled_is (rows_in a) a.sibs.lists a.root a.spelled t s) ∙ ap (λ z. z.module_of.tree) c.self.view_is) c.copy_op.ensures
+    sym (spelled_is (rows_in a) a.sibs.lists a.root a.spelled c.in_ok-tree.tree c.in_ok-tree.ensures) ∙ ap (λ z. z.module_of.tree) c.self.view_is

@@ -1,7 +1,0 @@
-use Rattle.listeners_symbols.proofs.properties.types_of.Goals as goal
-
-pub returns-clause-inputs : goal.returns-clause-inputs
-returns-clause-inputs c = c.types_in.ensures.inputs c.args.ctx.now c.type_of.ensures.parts
-
-pub returns-clause-outputs : goal.returns-clause-outputs
-returns-clause-outputs c = c.types_in.ensures.outputs c.args.ctx.now c.type_of.ensures.parts

@@ -1,0 +1,75 @@
+#!/usr/bin/env python3
+"""Runs a script over a module and says in words why what was refused was refused.
+
+usage: tools/explain.py MODULE [SCRIPT]     (without a SCRIPT it stands in MODULE, behind a line `// -----`)
+
+For each refused line it prints `FILE:LINE:COLUMN: NUMBER WORD: ` and the sentence of docs/REFUSALS.md, the line, and a
+caret where the fault has a place; of a line that is no command, how the command is written that was meant. Columns
+count bytes from 1. The status is the program's."""
+import sys
+
+sys.dont_write_bytecode = True
+
+import mistakes  # noqa: E402
+import program  # noqa: E402
+
+BEHIND = "    note: it took no number; what is put in behind it has a lower one than it would have"
+
+
+def told(name, number, line, fault):
+    """The lines that tell a fault."""
+    column = len(line) - len(line.lstrip(program.BLANKS)) if fault.column is None else fault.column
+    return [f"{name}:{number}:{column + 1}: {fault.words}", *mistakes.pointed(line, fault.column)]
+
+
+def module_refused(name, module, number, word, offset):
+    """What is told where the module itself is refused."""
+    says = f"{number} {word}: {mistakes.sentence(number)}"
+    if offset is None:
+        return [f"{name}: {says}"]
+    offset = min(int(offset), len(module))
+    before = module[:offset]
+    line = module.split(b"\n")[before.count(b"\n")]
+    return told(name, before.count(b"\n") + 1, line, mistakes.Fault(offset - before.rfind(b"\n") - 1, says))
+
+
+def commands_refused(name, script, first, lines):
+    """What is told of each refused line of a script that begins at line `first` of a file, by the lines written."""
+    out, is_noted = [], False
+    for (place, line), (reply, _) in zip(program.counted(script), program.replies(lines)):
+        if not reply.startswith("refused"):
+            continue
+        out += told(name, place + first - 1, line, mistakes.explained(reply, line))
+        if line.split()[:1] == [b"insert"] and not is_noted:
+            out.append(BEHIND)
+            is_noted = True
+    return out
+
+
+def explained(names):
+    """The status of a run over the files, and what is told of it."""
+    module, script, first = program.inputs(names)
+    status, lines = program.ran(program.joined(module, script))
+    refused = program.REFUSED_MODULE.fullmatch(lines[0]) if lines else None
+    if refused:
+        return status, module_refused(names[0], module, *refused.groups())
+    return status, commands_refused(names[-1], script, first, lines)
+
+
+def main():
+    if sys.argv[1:] == ["--help"]:
+        print(__doc__)
+        return
+    if len(sys.argv) not in (2, 3) or sys.argv[1].startswith("-"):
+        sys.exit(__doc__)
+    try:
+        status, lines = explained(sys.argv[1:])
+    except (OSError, program.Fault) as fault:
+        sys.exit(str(fault))
+    sys.stdout.reconfigure(errors="backslashreplace")
+    print(*lines, sep="\n", end="\n" if lines else "")
+    sys.exit(status)
+
+
+if __name__ == "__main__":
+    main()

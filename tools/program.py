@@ -1,0 +1,104 @@
+"""The program, and what goes into it and comes out.
+
+It is crates/mlir_work/out/mlir_work, unless the environment names another one in MLIR_WORK, with its words. There
+`reference` stands for bench/reference, which answers the same, slowly, and wants nothing built."""
+import os
+import pathlib
+import re
+import shlex
+import subprocess
+import sys
+
+ROOT = pathlib.Path(__file__).resolve().parent.parent
+BUILT = ROOT / "crates/mlir_work/out/mlir_work"
+HELP = ROOT / "bench/help.txt"
+DIVIDER = b"// -----"
+MOST_SCRIPT = 16 * 1024 * 1024
+BLANKS = b" \t\r"
+REFUSED_MODULE = re.compile(r"module refused (\d+) (\w+)(?: at (\d+))?")
+REPLY = re.compile(r"(\d+) (.*)")
+
+
+class Fault(Exception):
+    """There is no program to run, or the files are no input; says why."""
+
+
+def words():
+    """The program's words, and what its environment has besides."""
+    named = os.environ.get("MLIR_WORK")
+    if named == "reference":
+        paths = {"PYTHONPATH": str(ROOT / "bench"), "PYTHONDONTWRITEBYTECODE": "1"}
+        return [sys.executable, "-m", "reference"], paths
+    if named:
+        return shlex.split(named), {}
+    if not BUILT.exists():
+        raise Fault(f"{BUILT} isn't built: `./run --help` builds it, or MLIR_WORK names another program")
+    return [str(BUILT)], {}
+
+
+def joined(module, script):
+    """The input of a module and a script."""
+    return module + (b"" if module.endswith(b"\n") or not module else b"\n") + DIVIDER + b"\n" + script
+
+
+def inputs(names):
+    """The module and the script of one or two files, and the line at which the script begins in the last."""
+    texts = [pathlib.Path(name).read_bytes() for name in names]
+    if len(texts) == 1:
+        return parted(texts[0])
+    if DIVIDER in texts[0].split(b"\n"):
+        raise Fault(f"{names[0]}: a line `// -----` ends a module: cut the file there, or give it without a script")
+    return (*texts, 1)
+
+
+def parted(text):
+    """The module and the script of an input, and the number of the line at which the script begins."""
+    lines = text.split(b"\n")
+    if DIVIDER not in lines:
+        return text, b"", len(lines) + 1
+    place = lines.index(DIVIDER)
+    module = b"".join(line + b"\n" for line in lines[:place])
+    return module, b"\n".join(lines[place + 1:]), place + 2
+
+
+def is_counted(line):
+    """Whether a line of a script is a command, or taken for one: it is no comment and not empty."""
+    try:
+        line.decode()
+    except UnicodeDecodeError:
+        return True
+    line = line.strip(BLANKS)
+    return bool(line) and not line.startswith(b"//")
+
+
+def counted(script):
+    """The lines of a script that are replied to, each with its number in the file, from 1."""
+    return [(place, line) for place, line in enumerate(script.split(b"\n"), 1) if is_counted(line)]
+
+
+def ran(text):
+    """The status of a run over an input, with --brief, and the lines that it wrote."""
+    program, more = words()
+    environment = {**os.environ, **more}
+    it = subprocess.run([*program, "--brief"], input=text, stdout=subprocess.PIPE, env=environment, check=False)
+    if it.returncode not in (0, 1, 3) or not it.stdout and it.returncode:
+        raise Fault(f"{program[0]} wrote {len(it.stdout)} bytes and ended with status {it.returncode}")
+    return it.returncode, it.stdout.decode("utf-8", "surrogateescape").splitlines()
+
+
+def asked(module, lines):
+    """What is written of a module, as bytes, and of a script, as lines of text."""
+    script = "".join(line + "\n" for line in lines)
+    return ran(joined(module, script.encode("utf-8", "surrogateescape")))
+
+
+def replies(lines):
+    """The reply to each command, without its number, and the lines below it."""
+    found = []
+    for line in lines:
+        reply = REPLY.fullmatch(line)
+        if reply and int(reply.group(1)) == len(found) + 1:
+            found.append((reply.group(2), []))
+        elif found:
+            found[-1][1].append(line)
+    return found

@@ -1,0 +1,229 @@
+#!/usr/bin/env python3
+"""A module at hand: commands are typed one by one, and each is answered at once.
+
+usage: tools/session.py MODULE [SCRIPT]     (MODULE as `mlir-opt --mlir-print-op-generic` prints it)
+
+Besides the commands of a script there are these, each on a line of its own:
+
+  ids          the module with the number of each operation in the margin, and values as a script names them
+  at #N [K]    the same, but only the K lines (3) before and behind operation #N
+  diff         what changed in it since the last `diff`, or since the beginning
+  KIND [WORD]  `report KIND`; with a WORD, as #3 or %v2.0, only the rows in which it stands
+  undo         the last edit was never typed
+  save FILE    what was typed and accepted is written as a script
+  help         these words, and the commands of a script
+  quit         the end, as that of the input is
+
+For each line all edits are run again: the program keeps nothing between two lines."""
+import pathlib
+import re
+import sys
+import textwrap
+
+sys.dont_write_bytecode = True
+
+import explain  # noqa: E402
+import mistakes  # noqa: E402
+import program  # noqa: E402
+from listing import Listing, changes  # noqa: E402
+
+PROMPT = "> "
+WIDTH = 100
+# Commands that change nothing, and so aren't run again.
+LOOKS = {"print", "report"}
+# Commands that edit what they don't name: behind them stands what `diff` says. None of today's does.
+WITH_DIFF = set()
+# A script that is too long has one reply in place of one for each line.
+REFUSED = ("refused", [])
+# Its reply says the next free number. It is asked behind each line, and never kept.
+PROBE = 'insert end #0 0 "workbench.probe"() : () -> ()'
+
+
+class Entry:
+    """A line of the script that `save` writes, and whether it is run again with each further line."""
+
+    def __init__(self, line, is_kept):
+        self.line, self.is_kept = line, is_kept
+
+
+class Session:
+    """A module, the lines that were typed and accepted, and what `diff` compares with."""
+
+    def __init__(self, module):
+        self.module, self.entries, self.count = module, [], 1
+        self.last, self.seen = (None, None), None
+        self.words = {"ids": self.ids, "at": self.at, "diff": self.diff, "undo": self.undo, "save": self.save,
+                      "help": self.help}
+
+    def begin(self, script):
+        """Takes over a script, and gives the status of its run, and the lines written."""
+        status, lines = program.ran(program.joined(self.module, script))
+        if lines and lines[0].startswith("module refused"):
+            return status, lines
+        replies = iter(program.replies(lines))
+        for line in script.rstrip(b"\n").split(b"\n") if script else []:
+            is_kept = program.is_counted(line) and not next(replies, REFUSED)[0].startswith("refused")
+            text = line.decode("utf-8", "surrogateescape")
+            self.entries.append(Entry(text, is_kept and text.split()[0] not in LOOKS))
+        self.run()
+        self.seen = self.listing()
+        return status, lines
+
+    def kept(self):
+        """The edits that were typed and accepted."""
+        return [entry.line for entry in self.entries if entry.is_kept]
+
+    def run(self, *typed):
+        """Runs the edits and a line behind them, and gives its reply, and what is written below it."""
+        script = [*self.kept(), *typed]
+        lines = program.asked(self.module, [*script, PROBE])[1]
+        free = re.fullmatch(r"\d+ ok #(\d+)", lines[-1])
+        self.count = int(free.group(1)) if free else self.count
+        return program.replies(lines)[len(script) - 1] if typed else None
+
+    def listing(self):
+        """The module as it is, made once for each state."""
+        state = (self.count, *self.kept())
+        if self.last[0] != state:
+            self.last = state, Listing(self.module, list(state[1:]), self.count)
+        return self.last[1]
+
+    def answer(self, line):
+        """The lines that answer one that was typed."""
+        line = line.strip(" \t\r\n")
+        word, rest = (line.split(maxsplit=1) + ["", ""])[:2]
+        if not line or line.startswith("//"):
+            self.entries += [Entry(line, False)] if line else []
+            return []
+        if word in self.words:
+            return self.words[word](rest)
+        if word in mistakes.kinds():
+            return self.rows(word, rest)
+        return self.command(line)
+
+    def command(self, line):
+        """Runs a command of a script, and keeps it where it is accepted."""
+        reply, below = self.run(line)
+        if not reply.startswith("refused"):
+            word = line.split()[0]
+            self.entries.append(Entry(line, word not in LOOKS))
+            return [reply, *below, *(self.diff("") if word in WITH_DIFF else [])]
+        line = line.encode("utf-8", "surrogateescape")
+        fault = mistakes.explained(reply, line)
+        words = textwrap.wrap(f"refused {fault.words}", WIDTH, subsequent_indent="    ", break_long_words=False)
+        return [*words, *(mistakes.pointed(line, fault.column) if fault.column is not None else [])]
+
+    def rows(self, kind, word):
+        """The rows of an analysis in which a word stands."""
+        reply, *rows = self.command(f"report {kind}")
+        if reply != "ok":
+            return [reply, *rows]
+        return [row for row in rows if not word or word in row.split()] or ["no rows"]
+
+    def ids(self, _):
+        """The module with numbers."""
+        return self.listing().lines
+
+    def at(self, rest):
+        """The lines around an operation."""
+        found = re.fullmatch(r"#?(\d+)(?:\s+(\d+))?", rest)
+        if not found:
+            return ["write `at #N`, or `at #N K` for K lines before and behind it"]
+        number, lines = int(found.group(1)), int(found.group(2) or 3)
+        return self.listing().near(number, lines) or [f"#{number} isn't in the module"]
+
+    def diff(self, _):
+        """What changed since the last time."""
+        old, self.seen = self.seen, self.listing()
+        return changes(old, self.seen) or ["nothing changed"]
+
+    def undo(self, _):
+        """Takes the last edit back, and what was looked at behind it."""
+        places = [place for place, entry in enumerate(self.entries) if entry.is_kept]
+        if not places:
+            return ["there is no edit to take back"]
+        line, self.entries = self.entries[places[-1]].line, self.entries[:places[-1]]
+        self.run()
+        return [f"undone: {line.strip()}"]
+
+    def save(self, rest):
+        """Writes what was typed and accepted."""
+        if not rest:
+            return ["write `save FILE`"]
+        text = "".join(entry.line + "\n" for entry in self.entries)
+        try:
+            pathlib.Path(rest).write_bytes(text.encode("utf-8", "surrogateescape"))
+        except OSError as fault:
+            return [str(fault)]
+        return [f"{len(self.entries)} lines in {rest}"]
+
+    def help(self, _):
+        """The words of a session, and the commands of a script."""
+        return [*__doc__.splitlines()[6:-2], *(f"  {form}" for form in mistakes.forms().values())]
+
+
+def typed():
+    """The lines of the input, up to `quit`. Where nobody types them they are shown, as if somebody did."""
+    is_shown = not sys.stdin.isatty()
+    while True:
+        try:
+            line = input("" if is_shown else PROMPT)
+        except (EOFError, KeyboardInterrupt):
+            return
+        if is_shown:
+            print(PROMPT + line)
+        if line.strip() == "quit":
+            return
+        yield line
+
+
+def say(lines):
+    """Prints lines at once."""
+    sys.stdout.write("".join(line + "\n" for line in lines))
+    sys.stdout.flush()
+
+
+def opened(names):
+    """A session over the files, once what its script does has been told; ends where the module is refused."""
+    module, script, first = program.inputs(names)
+    session = Session(module)
+    status, lines = session.begin(script)
+    if session.seen is None:
+        refused = program.REFUSED_MODULE.fullmatch(lines[0])
+        say(explain.module_refused(names[0], module, *refused.groups()))
+        sys.exit(status)
+    say(lines)
+    say(explain.commands_refused(names[-1], script, first, lines))
+    return session
+
+
+def answer(session, line):
+    """Says what a session answers to a line, unless it is interrupted: then the line was never typed."""
+    try:
+        say(session.answer(line))
+    except KeyboardInterrupt:
+        say(["interrupted"])
+
+
+def main():
+    if sys.argv[1:] == ["--help"]:
+        print(__doc__)
+        return
+    if len(sys.argv) not in (2, 3) or sys.argv[1].startswith("-"):
+        sys.exit(__doc__)
+    sys.stdin.reconfigure(errors="surrogateescape")
+    sys.stdout.reconfigure(errors="surrogateescape")
+    try:
+        session = opened(sys.argv[1:])
+        for line in typed():
+            answer(session, line)
+    except (OSError, program.Fault) as fault:
+        sys.exit(str(fault))
+
+
+if __name__ == "__main__":
+    try:
+        import readline  # noqa: F401
+    except ImportError:
+        pass
+    main()

@@ -1,0 +1,30 @@
+"""What the tests stand on: the tools, over the program where it is built, and else over bench/reference, which is called
+here for speed, in place of a process for each run."""
+import os
+import pathlib
+import sys
+
+sys.dont_write_bytecode = True
+ROOT = pathlib.Path(__file__).resolve().parents[2]
+sys.path.insert(0, str(ROOT / "tools"))
+
+import program  # noqa: E402
+
+
+def referred(text):
+    """The status of a run by bench/reference, and the lines that it writes."""
+    from reference import script
+    status, out = script.run(text, True)
+    return status, out.decode().splitlines()
+
+
+if "MLIR_WORK" not in os.environ and not program.BUILT.exists():
+    os.environ["MLIR_WORK"] = "reference"
+    sys.path.insert(0, str(ROOT / "bench"))
+    program.ran = referred
+
+import check_examples  # noqa: E402, F401
+import explain  # noqa: E402, F401
+import listing  # noqa: E402, F401
+import mistakes  # noqa: E402, F401
+import session  # noqa: E402, F401

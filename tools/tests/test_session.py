@@ -1,0 +1,176 @@
+"""The prompt: the module with numbers, what changed, and lines that are taken back or refused."""
+import pathlib
+import tempfile
+import unittest
+import unittest.mock
+
+from support import ROOT, listing, mistakes, program, session
+
+# Operations with each form of regions, several results, a string that looks like a value, and dictionaries.
+MODULE = b'''%a:2 = "test.a"() {z = 1 : i8, a = "%0 %a"} : () -> (i32, i32)
+"test.regions"(%a#1) ({}, {^b(%x: i32, %y: i1): %s = "test.s"(%x, %a#0) : (i32, i32) -> i32}, {}, {^c:}) : (i32) -> ()
+"builtin.module"() ({
+"func.func"() <{function_type = () -> (), sym_name = "f", sym_visibility = "private"}> ({}) {k} : () -> ()
+}) : () -> ()
+"test.last"(%a#1, %a#0) {zz} : (i32, i32) -> ()
+'''
+LISTED = '''    #0  "builtin.module"() ({
+    #1    %v1.0, %v1.1 = "test.a"() {a = "%0 %a", z = 1 : i8} : () -> (i32, i32)
+    #2    "test.regions"(%v1.1) ({}, {
+          ^bb0(%a2.1.0: i32, %a2.1.1: i1):
+    #3      %v3.0 = "test.s"(%a2.1.0, %v1.0) : (i32, i32) -> i32
+          }, {}, {
+          ^bb0:
+          }) : (i32) -> ()
+    #4    "builtin.module"() ({
+    #5      "func.func"() <{function_type = () -> (), sym_name = "f", sym_visibility = "private"}> ({}) {k} : () -> ()
+          }) : () -> ()
+    #6    "test.last"(%v1.1, %v1.0) {zz} : (i32, i32) -> ()
+        }) : () -> ()'''.splitlines()
+
+
+def begun(module, script=b""):
+    """A session over a module."""
+    here = session.Session(module)
+    here.begin(script)
+    return here
+
+
+def example(name):
+    """A session over the module of an example."""
+    return begun((ROOT / f"examples/{name}.mlir").read_bytes())
+
+
+class Listed(unittest.TestCase):
+    def test_each_form(self):
+        self.assertEqual(begun(MODULE).answer("ids"), LISTED)
+
+    def test_in_pieces(self):
+        most, listing.MOST_SCRIPT = listing.MOST_SCRIPT, 120
+        try:
+            self.assertEqual(begun(MODULE).answer("ids"), LISTED)
+        finally:
+            listing.MOST_SCRIPT = most
+
+    def test_no_operation(self):
+        self.assertEqual(begun(b"").answer("ids")[0], '    #0  "builtin.module"() ({')
+        empty = '"builtin.module"() ({}) : () -> ()'
+        self.assertEqual(begun(empty.encode()).answer("ids"), ["    #0  " + empty])
+
+    def test_the_key_is_taken(self):
+        line = '"test.a"() {workbench.id = 7 : i64} : () -> ()'
+        self.assertEqual(begun(line.encode()).answer("ids")[1], "    #1    " + line)
+
+    def test_a_full_dictionary(self):
+        full = ", ".join(f"k{number:03}" for number in range(256))
+        self.assertTrue(begun(f'"test.a"() {{{full}}} : () -> ()'.encode()).answer("ids")[1].startswith("    #?"))
+
+    def test_at(self):
+        here = begun(MODULE)
+        self.assertEqual(here.answer("at #3 1"), LISTED[3:6])
+        self.assertEqual(here.answer("at 0"), LISTED[:4])
+        self.assertEqual(here.answer("at #9"), ["#9 isn't in the module"])
+        self.assertIn("at #N", here.answer("at x")[0])
+
+    def test_values_can_be_named_so(self):
+        here = begun(MODULE)
+        line = '"test.t"(%v3.0, %a2.1.1, %v1.1) : (i32, i1, i32) -> ()'
+        self.assertEqual(here.answer("insert after #3 " + line), ["ok #7"])
+        self.assertEqual(here.answer("at #7 0"), ["    #7      " + line])
+
+
+class Changed(unittest.TestCase):
+    def test_a_move(self):
+        here = begun(MODULE)
+        here.answer("move #6 before #2")
+        self.assertEqual(here.answer("diff"), ["+" + LISTED[-2], "-" + LISTED[-2]])
+
+    def test_in_place(self):
+        here = begun(MODULE)
+        here.answer("set-operand #6 1 %v1.1")
+        self.assertEqual(here.answer("diff"), ["-" + LISTED[-2], "+" + LISTED[-2].replace("%v1.0", "%v1.1")])
+        self.assertEqual(here.answer("diff"), ["nothing changed"])
+        here.answer("undo")
+        self.assertEqual(here.answer("diff"), ["-" + LISTED[-2].replace("%v1.0", "%v1.1"), "+" + LISTED[-2]])
+
+    def test_behind_a_command(self):
+        here = begun(MODULE)
+        with unittest.mock.patch.object(session, "WITH_DIFF", {"erase"}):
+            self.assertEqual(here.answer("erase #6"), ["ok", "-" + LISTED[-2]])
+
+    def test_keys(self):
+        for name in ("hoist", "outline", "signature"):
+            keys = example(name).listing().keys
+            self.assertEqual(len(keys), len(set(keys)))
+
+    def test_out_of_a_region(self):
+        here = example("hoist")
+        here.answer("move #8 before #7")
+        came, gone = here.answer("diff")
+        self.assertEqual((came[:7], gone[:7]), ("+    #8", "-    #8"))
+        self.assertEqual(came[7:].strip(), gone[7:].strip())
+
+
+class Typed(unittest.TestCase):
+    def test_undo(self):
+        here = example("strength")
+        self.assertEqual(here.answer("undo"), ["there is no edit to take back"])
+        here.answer("begin")
+        self.assertEqual(here.answer('insert before #8 "test.a"() : () -> ()'), ["ok #19"])
+        here.answer("rollback")
+        here.answer("uses")
+        self.assertEqual(here.answer("undo"), ["undone: rollback"])
+        self.assertEqual(here.answer("at #19 0"), ['   #19        "test.a"() : () -> ()'])
+        self.assertEqual(here.answer("rollback"), ["ok"])
+
+    def test_save(self):
+        script = b"// a pattern\nbegin\n\nerase #99\nreport dead\n"
+        here = begun((ROOT / "examples/strength.mlir").read_bytes(), script)
+        for line in ("// typed", "erase #98", "replace %v8.0 %v7.0", "dead", "dead #8", "print x"):
+            here.answer(line)
+        with tempfile.TemporaryDirectory() as folder:
+            file = pathlib.Path(folder, "saved")
+            here.answer(f"save {file}")
+            self.assertEqual(file.read_bytes(), script + b"// typed\nreplace %v8.0 %v7.0\nreport dead\nreport dead\n")
+            self.assertIn("No such file", here.answer(f"save {folder}/none/saved")[0])
+
+    def test_rows(self):
+        here = example("strength")
+        self.assertEqual(here.answer("uses %v8.0"), ["%v8.0 #9 0", "%v8.0 #10 1"])
+        self.assertEqual(here.answer("symbols use"), ["use #16 @scale #1", "use #17 @ext #13"])
+        self.assertEqual(here.answer("dead"), ["no rows"])
+        here.answer("detach dead")
+        self.assertTrue(here.answer("dead")[0].startswith("refused 41 NoSuchKind: "))
+
+    def test_refused(self):
+        here = example("strength")
+        self.assertEqual(here.answer("erase  8")[-2:], ["    erase  8", "           ^"])
+        self.assertEqual(here.answer("report dead"), ["ok"])
+        self.assertEqual(here.entries[-1].line, "report dead")
+        self.assertEqual(len(here.entries), 1)
+
+    def test_help(self):
+        text = "\n".join(example("strength").answer("help"))
+        for word in [*session.Session(b"").words, *mistakes.forms()]:
+            self.assertIn(f"\n  {word}", "\n" + text)
+
+    def test_a_script_that_is_too_long(self):
+        here = session.Session(b"")
+        with unittest.mock.patch.object(program, "ran", lambda text: (1, ["1 refused 60 BadCommand"])):
+            self.assertEqual(here.begin(b"begin\ncommit\n")[0], 1)
+        self.assertEqual(here.kept(), [])
+
+    def test_a_module_that_is_refused(self):
+        here = session.Session(b'"a"(')
+        self.assertEqual(here.begin(b""), (3, ["module refused 2 Unexpected at 5"]))
+        self.assertIsNone(here.seen)
+
+
+class Replied(unittest.TestCase):
+    def test_replies(self):
+        lines = ["1 ok #3", "2 ok", "%v1.0 #2 0", "3 refused 22 HasUses"]
+        self.assertEqual(program.replies(lines), [("ok #3", []), ("ok", ["%v1.0 #2 0"]), ("refused 22 HasUses", [])])
+
+
+if __name__ == "__main__":
+    unittest.main()
