@@ -52,7 +52,7 @@ fn load(alloc: Global, context: &Context, tree: &TreeOp, next: u32) -> Result<St
 fn hold(alloc: Global, context: &Context, tree: TreeOp, next: u32) -> Result<Store, Refusal> {
     suit(alloc, context, &tree, next)?;
     check(alloc, context, &tree)?;
-    Ok(Store::hold(alloc, context, tree, next)?)
+    Store::hold(alloc, context, tree, next)
 }
 
 /// A module with a copy of a tree, or with the tree.
@@ -66,12 +66,7 @@ fn made(alloc: Global, ctx: &Context, call: &str, text: &str) -> Result<Store, R
 }
 
 /// `9 : op block end end`: the next free id, and the tree.
-fn load_line(
-    alloc: Global,
-    state: &mut State,
-    call: &str,
-    text: &str,
-) -> Result<String, Refusal> {
+fn load_line(alloc: Global, state: &mut State, call: &str, text: &str) -> Result<String, Refusal> {
     match made(alloc, &state.context, call, text) {
         Ok(store) => {
             state.hold(store);

@@ -1,8 +1,6 @@
 //! The answer to a line.
 use crate::edits;
 use crate::state::{State, add_attrs, add_name, add_types, renew};
-use ir_tree_cases_base::words::{first, number, op_id, value};
-use ir_tree_cases_base::{build, written};
 use ir_tree::check::check;
 use ir_tree::copy::copy;
 use ir_tree::count::{depth, op_count};
@@ -13,6 +11,8 @@ use ir_tree::sound::sound;
 use ir_tree::tree::TreeOp;
 use ir_tree::uses::list_uses;
 use ir_tree::visible::visible;
+use ir_tree_cases_base::words::{first, number, op_id, value};
+use ir_tree_cases_base::{build, written};
 use ir_types::context::Context;
 use ir_types::refusal::Refusal;
 use std::alloc::{AllocError, Global};

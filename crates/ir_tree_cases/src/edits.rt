@@ -1,10 +1,10 @@
 //! The edits of a tree.
 use crate::state::State;
-use ir_tree_cases_base::words::{first, name_id, number, op_id, part, place, some_attr, value};
-use ir_tree_cases_base::{build, written};
 use ir_tree::changes::{put, shifted, with_operand_set, with_replaced, without};
 use ir_tree::entries::with_entry_set;
 use ir_tree::tree::TreeOp;
+use ir_tree_cases_base::words::{first, name_id, number, op_id, part, place, some_attr, value};
+use ir_tree_cases_base::{build, written};
 use std::alloc::{AllocError, Global};
 
 /// `7 0 2.0`: the operation, the number of the operand, the value.

@@ -1,6 +1,6 @@
 //! What lines speak of: a context and a tree.
-use ir_tree_cases_base::build::bare;
 use ir_tree::tree::TreeOp;
+use ir_tree_cases_base::build::bare;
 use ir_types::context::Context;
 use ir_types::node::{AttrNode, Sign, TypeNode};
 use ir_types::refusal::Refusal;

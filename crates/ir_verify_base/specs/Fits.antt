@@ -59,24 +59,22 @@ pub record Known : Type 0 where
   pub results : List (Option TypeTerm)
   pub inputs : List (Option TypeTerm)
 
+-- whether a row calls a type so; only by a number, and by any, are others compared with it
+abbrev pub is_called : TypeRule → TypeRule → Bool
+is_called type.Number type.Number = true
+is_called type.Any type.Any = true
+is_called _ _ = false
+
 -- the type of the first operand that a row calls so
-abbrev pub first_called : (TypeRule → Bool) → List TypeRule → List (Option TypeTerm) → Option TypeTerm
-first_called test (rule ∷ rules) (t ∷ ts) = if test rule then t else first_called test rules ts
-first_called test _ _ = None
-
-abbrev pub is_called_number : TypeRule → Bool
-is_called_number type.Number = true
-is_called_number _ = false
-
-abbrev pub is_called_any : TypeRule → Bool
-is_called_any type.Any = true
-is_called_any _ = false
+abbrev pub first_called : TypeRule → List TypeRule → List (Option TypeTerm) → Option TypeTerm
+first_called wanted (rule ∷ rules) (t ∷ ts) = if is_called wanted rule then t else first_called wanted rules ts
+first_called wanted _ _ = None
 
 -- what the types of an operation may be compared with
 abbrev pub known_of : Row → Surroundings → Known
 known_of row s = record {
-  number = first_called is_called_number row.operands.first s.types;
-  same = first_called is_called_any row.operands.first s.types;
+  number = first_called type.Number row.operands.first s.types;
+  same = first_called type.Any row.operands.first s.types;
   initial = drop (length row.operands.first) s.types;
   results = there s.node.head.results;
   inputs = unwrap_or (option_map (λ f. there f.0) (function_type s.node)) [];

@@ -2,12 +2,10 @@
 use Rattle.std.specs.Prelude.{◌≡◌, ℕ, List, map, Option, option_map, IfSome}
 use Rattle.std.specs.List.{All}
 use Rattle.ir_types.specs.Things.{Things, IsType}
-use Rattle.ir_types.specs.Terms.{TypeTerm, AttrTerm, name_term, type_term, attr_term}
-use Rattle.ir_types.specs.WordNames.{word_bytes}
+use Rattle.ir_types.specs.Terms.{TypeTerm, name_term, type_term, attr_term}
 use Rattle.ir_store.specs.Nodes.{Node as NumberNode}
 use Rattle.op_registry.specs.declared.definition.OpDef.{OpDef}
-use Rattle.op_registry.specs.Rows.{Row}
-use Rattle.op_registry.specs.Registry.{types_row, region_row, property_row}
+use Rattle.op_registry.specs.Registry.{row_from}
 use Rattle.listeners_surroundings.specs.declared.around.Around.{Around}
 use Rattle.listeners_surroundings.specs.declared.around.Outer.{Outer}
 use Rattle.listeners_surroundings.specs.Mapped.{map_node}
@@ -17,10 +15,6 @@ use Rattle.ir_verify_base.specs.Fits.{Node, Outer as OuterTerm, Surroundings, Kn
 -- the types of a list of numbers
 abbrev pub typed : Things → List ℕ → List (Option TypeTerm)
 typed c ns = there (map (type_term c) ns)
-
--- entries of a dictionary
-abbrev pub entries_in : Things → List (ℕ × ℕ) → List (List ℕ × AttrTerm)
-entries_in c es = map (λ (e : ℕ × ℕ). (name_term c e.0, attr_term c e.1)) es
 
 -- what an operation has, and what is around it
 abbrev pub node_in : Things → NumberNode → Node
@@ -55,19 +49,7 @@ pub record AreKnown (c : Things) (k : NumberKnown) : Type 0 where
   pub results : All (λ t. IsType c t) k.results.now
   pub inputs : All (λ t. IsType c t) k.inputs.now
 
--- a definition of the table as a row
-abbrev pub row_in : OpDef → Row
-row_in def = record {
-  operands = types_row def.operands;
-  results = types_row def.results;
-  regions = map region_row def.regions.now;
-  properties = map property_row def.properties.now;
-  effects = def.effects;
-  traits = def.traits;
-  parents = map word_bytes def.parents.now;
-}
-
 -- they are those of an operation with what is around it
 pub record AreKnownOf (c : Things) (def : OpDef) (a : Around) (k : NumberKnown) : Type 0 where
-  pub are : known_in c k ≡ known_of (row_in def) (around_in c a)
+  pub are : known_in c k ≡ known_of (row_from def) (around_in c a)
   pub numbers : AreKnown c k

@@ -2,9 +2,9 @@
 ghost use Rattle.std.specs.Prelude.{◌≡◌, map};
 ghost use Rattle.std.specs.List.{list_any};
 ghost use Rattle.ir_types.specs.Things.{Things};
-ghost use Rattle.op_registry.specs.Registry.{property_row};
+ghost use Rattle.op_registry.specs.Registry.{property_row, row_from};
 ghost use Rattle.ir_event.specs.Modules.{NodeIsOf};
-ghost use Rattle.ir_verify_base.specs.Numbers.{node_in, row_in};
+ghost use Rattle.ir_verify_base.specs.Numbers.{node_in};
 ghost use Rattle.ir_verify_base.specs.Shapes as shapes;
 
 use crate::fits::count_fits;
@@ -15,8 +15,9 @@ use op_registry::definition::{OpDef, Property};
 use op_registry::property::allows;
 
 /// How many operands there are after the fixed ones.
+#[tactic(auto, unfolding(op_registry::specs::Registry::row_from))]
 fn initial_count(def: &OpDef, node: &Node<'_>) -> usize
-    ensures { (c : Things) → result ≡ shapes.initial_count (row_in def.now) (node_in c node.now) }
+    ensures { (c : Things) → result ≡ shapes.initial_count (row_from def.now) (node_in c node.now) }
 {
     let count = node.operands().len();
     count.saturating_sub(def.operands.first.len())
@@ -24,7 +25,7 @@ fn initial_count(def: &OpDef, node: &Node<'_>) -> usize
 
 /// Rule 1: the number of operands isn't one that the row names.
 pub fn breaks_1(_ctx: &Context, def: &OpDef, node: &Node<'_>) -> bool
-    ensures { result ≡ shapes.breaks_1 (row_in def.now) (node_in _ctx.now node.now) }
+    ensures { result ≡ shapes.breaks_1 (row_from def.now) (node_in _ctx.now node.now) }
 {
     let initial = initial_count(def, node);
     !count_fits(initial, &def.operands, node.operands().len())
@@ -32,23 +33,25 @@ pub fn breaks_1(_ctx: &Context, def: &OpDef, node: &Node<'_>) -> bool
 
 /// Rule 3: the number of results isn't.
 pub fn breaks_3(_ctx: &Context, def: &OpDef, node: &Node<'_>) -> bool
-    ensures { result ≡ shapes.breaks_3 (row_in def.now) (node_in _ctx.now node.now) }
+    ensures { result ≡ shapes.breaks_3 (row_from def.now) (node_in _ctx.now node.now) }
 {
     let initial = initial_count(def, node);
     !count_fits(initial, &def.results, node.results().len())
 }
 
 /// Rule 5: the number of regions isn't the row's.
+#[tactic(auto, unfolding(op_registry::specs::Registry::row_from))]
 pub fn breaks_5(_ctx: &Context, def: &OpDef, node: &Node<'_>) -> bool
-    ensures { result ≡ shapes.breaks_5 (row_in def.now) (node_in _ctx.now node.now) }
+    ensures { result ≡ shapes.breaks_5 (row_from def.now) (node_in _ctx.now node.now) }
 {
     node.region_count() != def.regions.len()
 }
 
 /// Rule 12: a property that the row requires is missing.
+#[tactic(auto, unfolding(op_registry::specs::Registry::row_from))]
 pub fn breaks_12(ctx: &Context, def: &OpDef, node: &Node<'_>) -> bool
     requires { NodeIsOf ctx.now node.now }
-    ensures { result ≡ shapes.breaks_12 (row_in def.now) (node_in ctx.now node.now) }
+    ensures { result ≡ shapes.breaks_12 (row_from def.now) (node_in ctx.now node.now) }
 {
     any_missing(ctx, def.properties, node)
 }
@@ -75,9 +78,10 @@ fn is_missing(ctx: &Context, wanted: &Property, node: &Node<'_>) -> bool
 }
 
 /// Rule 13: a property of the row is of the wrong kind.
+#[tactic(auto, unfolding(op_registry::specs::Registry::row_from))]
 pub fn breaks_13(ctx: &Context, def: &OpDef, node: &Node<'_>) -> bool
     requires { NodeIsOf ctx.now node.now }
-    ensures { result ≡ shapes.breaks_13 (row_in def.now) (node_in ctx.now node.now) }
+    ensures { result ≡ shapes.breaks_13 (row_from def.now) (node_in ctx.now node.now) }
 {
     any_wrong(ctx, def.properties, node)
 }
@@ -110,7 +114,7 @@ fn is_wrong(ctx: &Context, given: &Property, node: &Node<'_>) -> bool
 
 /// Whether a count isn't one that the row names.
 fn has_wrong_counts(ctx: &Context, def: &OpDef, node: &Node<'_>) -> bool
-    ensures { result ≡ shapes.has_wrong_counts (row_in def.now) (node_in ctx.now node.now) }
+    ensures { result ≡ shapes.has_wrong_counts (row_from def.now) (node_in ctx.now node.now) }
 {
     breaks_1(ctx, def, node) || breaks_3(ctx, def, node) || breaks_5(ctx, def, node)
 }
@@ -118,7 +122,7 @@ fn has_wrong_counts(ctx: &Context, def: &OpDef, node: &Node<'_>) -> bool
 /// Whether a property that the row requires is missing, or one of the row is of the wrong kind.
 fn has_wrong_properties(ctx: &Context, def: &OpDef, node: &Node<'_>) -> bool
     requires { NodeIsOf ctx.now node.now }
-    ensures { result ≡ shapes.has_wrong_properties (row_in def.now) (node_in ctx.now node.now) }
+    ensures { result ≡ shapes.has_wrong_properties (row_from def.now) (node_in ctx.now node.now) }
 {
     breaks_12(ctx, def, node) || breaks_13(ctx, def, node)
 }
@@ -126,7 +130,7 @@ fn has_wrong_properties(ctx: &Context, def: &OpDef, node: &Node<'_>) -> bool
 /// Whether an operation's own form is right.
 pub fn is_well_shaped(ctx: &Context, def: &OpDef, node: &Node<'_>) -> bool
     requires { NodeIsOf ctx.now node.now }
-    ensures { result ≡ shapes.is_well_shaped (row_in def.now) (node_in ctx.now node.now) }
+    ensures { result ≡ shapes.is_well_shaped (row_from def.now) (node_in ctx.now node.now) }
 {
     !(has_wrong_counts(ctx, def, node) || has_wrong_properties(ctx, def, node))
 }

@@ -5,11 +5,11 @@ ghost use Rattle.std.specs.Option.{option_map};
 ghost use Rattle.ir_types.specs.Things.{Things, IsType, TypeIsOf, IsAttr};
 ghost use Rattle.ir_types.specs.Terms.{TypeTerm, AttrTerm, attr_from, attr_term, type_at, type_from, type_term};
 ghost use Rattle.ir_types.specs.WordNames.{word_bytes};
-ghost use Rattle.op_registry.specs.Registry.{region_row};
+ghost use Rattle.op_registry.specs.Registry.{region_row, row_from};
 ghost use Rattle.op_registry.specs.Properties.{integer_of as integer_in};
 ghost use Rattle.ir_event.specs.Modules.{NodeIsOf};
 ghost use Rattle.listeners_surroundings.specs.Gathered.{AroundIsOf};
-ghost use Rattle.ir_verify_base.specs.Numbers.{typed, known_in, node_in, around_in, row_in, AreKnown, AreKnownOf};
+ghost use Rattle.ir_verify_base.specs.Numbers.{typed, known_in, node_in, around_in, AreKnown, AreKnownOf};
 ghost use Rattle.ir_verify_base.specs.Fits as fits;
 ghost use Rattle.ir_verify_base.specs.Types as types;
 ghost use Rattle.ir_verify_base.specs.TypeRules as rules;
@@ -33,17 +33,17 @@ pub fn known_of<'a>(ctx: &'a Context, def: &OpDef, around: &'a Around<'_>) -> Kn
     let types: &[TypeId] = &around.types;
     let rules: &[TypeRule] = def.operands.first;
     Known {
-        number: first_number(rules, types),
-        same: first_any(rules, types),
+        number: first_called(TypeRule::Number, rules, types),
+        same: first_called(TypeRule::Any, rules, types),
         initial: after(types, rules.len()),
         results: around.node.results(),
         inputs: inputs_of(ctx, &around.node),
     }
 }
 
-/// The type of the first operand that a row calls a number.
-fn first_number(rules: &[TypeRule], types: &[TypeId]) -> Option<TypeId>
-    ensures is { (c : Things) → option_map (type_term c) result ≡ fits.first_called fits.is_called_number rules.now (typed c types.now) }
+/// The type of the first operand that a row calls as is wanted.
+fn first_called(wanted: TypeRule, rules: &[TypeRule], types: &[TypeId]) -> Option<TypeId>
+    ensures is { (c : Things) → option_map (type_term c) result ≡ fits.first_called wanted rules.now (typed c types.now) }
     ensures known { (c : Things) → All (λ t. IsType c t) types.now → IfSome result (λ t. IsType c t) }
 {
     let mut named = rules;
@@ -52,7 +52,7 @@ fn first_number(rules: &[TypeRule], types: &[TypeId]) -> Option<TypeId>
         let [ty, others @ ..] = rest else {
             return None;
         };
-        if is_called_number(*rule) {
+        if is_called(wanted, *rule) {
             return Some(*ty);
         }
         named = more;
@@ -61,61 +61,14 @@ fn first_number(rules: &[TypeRule], types: &[TypeId]) -> Option<TypeId>
     None
 }
 
-fn is_called_number(rule: TypeRule) -> bool
-    ensures { result ≡ fits.is_called_number rule }
+/// Whether a row calls a type so. Only by a number, and by any, are others compared with it.
+fn is_called(wanted: TypeRule, rule: TypeRule) -> bool
+    ensures { result ≡ fits.is_called wanted rule }
 {
-    match rule {
-        TypeRule::Number => true,
-        TypeRule::Any
-        | TypeRule::OtherNumber
-        | TypeRule::Integer
-        | TypeRule::Boolean
-        | TypeRule::Index
-        | TypeRule::Memref
-        | TypeRule::Element
-        | TypeRule::Same
-        | TypeRule::Initial
-        | TypeRule::Result
-        | TypeRule::Input => false,
-    }
-}
-
-/// The type of the first operand that a row calls any.
-fn first_any(rules: &[TypeRule], types: &[TypeId]) -> Option<TypeId>
-    ensures is { (c : Things) → option_map (type_term c) result ≡ fits.first_called fits.is_called_any rules.now (typed c types.now) }
-    ensures known { (c : Things) → All (λ t. IsType c t) types.now → IfSome result (λ t. IsType c t) }
-{
-    let mut named = rules;
-    let mut rest = types;
-    while let [rule, more @ ..] = named {
-        let [ty, others @ ..] = rest else {
-            return None;
-        };
-        if is_called_any(*rule) {
-            return Some(*ty);
-        }
-        named = more;
-        rest = others;
-    }
-    None
-}
-
-fn is_called_any(rule: TypeRule) -> bool
-    ensures { result ≡ fits.is_called_any rule }
-{
-    match rule {
-        TypeRule::Any => true,
-        TypeRule::Number
-        | TypeRule::OtherNumber
-        | TypeRule::Integer
-        | TypeRule::Boolean
-        | TypeRule::Index
-        | TypeRule::Memref
-        | TypeRule::Element
-        | TypeRule::Same
-        | TypeRule::Initial
-        | TypeRule::Result
-        | TypeRule::Input => false,
+    match wanted {
+        TypeRule::Number => matches!(rule, TypeRule::Number),
+        TypeRule::Any => matches!(rule, TypeRule::Any),
+        _ => false,
     }
 }
 
@@ -144,10 +97,11 @@ fn inputs_of<'a>(ctx: &'a Context, node: &Node<'_>) -> &'a [TypeId]
 
 /// Rule 2: the first operand that the row calls a number is none, or an operand's type isn't what the row
 /// calls it.
+#[tactic(auto, unfolding(op_registry::specs::Registry::row_from))]
 pub fn breaks_2(ctx: &Context, def: &OpDef, around: &Around<'_>, known: &Known<'_>) -> bool
     requires around { AroundIsOf ctx.now around.now }
     requires known { AreKnownOf ctx.now def.now around.now known.now }
-    ensures { result ≡ rules.breaks_2 (row_in def.now) (around_in ctx.now around.now) }
+    ensures { result ≡ rules.breaks_2 (row_from def.now) (around_in ctx.now around.now) }
 {
     is_no_number(ctx, known.number) || !types_fit(ctx, known, &def.operands, &around.types)
 }
@@ -163,19 +117,21 @@ fn is_no_number(ctx: &Context, ty: Option<TypeId>) -> bool
 }
 
 /// Rule 4: a result's type isn't what the row calls it.
+#[tactic(auto, unfolding(op_registry::specs::Registry::row_from))]
 pub fn breaks_4(ctx: &Context, def: &OpDef, around: &Around<'_>, known: &Known<'_>) -> bool
     requires around { AroundIsOf ctx.now around.now }
     requires known { AreKnownOf ctx.now def.now around.now known.now }
-    ensures { result ≡ rules.breaks_4 (row_in def.now) (around_in ctx.now around.now) }
+    ensures { result ≡ rules.breaks_4 (row_from def.now) (around_in ctx.now around.now) }
 {
     !types_fit(ctx, known, &def.results, around.node.results())
 }
 
 /// Rule 7: the types of the arguments of a block aren't what the row calls them.
+#[tactic(auto, unfolding(op_registry::specs::Registry::row_from))]
 pub fn breaks_7(ctx: &Context, def: &OpDef, around: &Around<'_>, known: &Known<'_>) -> bool
     requires around { AroundIsOf ctx.now around.now }
     requires known { AreKnownOf ctx.now def.now around.now known.now }
-    ensures { result ≡ rules.breaks_7 (row_in def.now) (around_in ctx.now around.now) }
+    ensures { result ≡ rules.breaks_7 (row_from def.now) (around_in ctx.now around.now) }
 {
     any_differ(ctx, known, def.regions, &around.node)
 }

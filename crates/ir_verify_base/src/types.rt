@@ -2,6 +2,7 @@
 ghost use Rattle.std.specs.Prelude.{◌≡◌, IfSome, Some, List, map, length};
 ghost use Rattle.std.specs.List.{All};
 ghost use Rattle.std.specs.Option.{option_map};
+ghost use Rattle.ir_types.specs.SameTypes.{same_type};
 ghost use Rattle.ir_types.specs.Things.{IsType};
 ghost use Rattle.ir_types.specs.Terms.{TypeTerm, type_from, type_term};
 ghost use Rattle.ir_verify_base.specs.Numbers.{typed};
@@ -17,7 +18,7 @@ use op_registry::things::type_of;
 pub fn same(ctx: &Context, a: TypeId, b: TypeId) -> bool
     requires a { IsType ctx.now a }
     requires b { IsType ctx.now b }
-    ensures { result ≡ types.same_type (type_term ctx.now a) (type_term ctx.now b) }
+    ensures { result ≡ same_type (type_term ctx.now a) (type_term ctx.now b) }
 {
     ctx.sound();
     a == b

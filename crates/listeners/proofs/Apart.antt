@@ -5,7 +5,8 @@ use Rattle.std.specs.List.{IsDistinct, AllByRecursion}
 use Rattle.std.proofs.lemmas.Map.Keys.{IsDistinct-head, IsDistinct-tail}
 use Rattle.ir_tree.specs.Tree.{HeadOf, OpOf, head}
 use Rattle.ir_tree.specs.Ids.{HasDistinctIds, find}
-use Rattle.ir_event.proofs.Flat.{heads_in, first_head, heads_ids, found_head}
+use Rattle.ir_event.specs.Heads.{heads}
+use Rattle.ir_event.proofs.Flat.{first_head, heads_ids, found_head}
 use Rattle.listeners.specs.declared.key.Use.{Use}
 use Rattle.listeners.specs.Uses.{operand_uses, uses_in, in_order}
 use Rattle.listeners.specs.Others.{is_other, others}
@@ -45,10 +46,10 @@ module _ {N T A : Type 0} (x : ℕ) where
   -- the uses of an operation are those of its operands, and stand among those of the others
   pub split_tree : (t o : OpOf N T A) → HasDistinctIds t → find x t ≡ Some o → in_order (uses_in t) ≡ in_order (operand_uses x 0 (head o).operands ++ others x (uses_in t))
   split_tree t o d found =
-      let first : first_head x (heads_in t) ≡ Some (head o) = sym (found_head x t) ∙ ap (option_map (λ p. head p)) found in
-      let apart : IsDistinct eqb (map (λ (h : HeadOf N T A). h.id) (heads_in t)) = subst (IsDistinct eqb) (sym (heads_ids t)) d in
+      let first : first_head x (heads t) ≡ Some (head o) = sym (found_head x t) ∙ ap (option_map (λ p. head p)) found in
+      let apart : IsDistinct eqb (map (λ (h : HeadOf N T A). h.id) (heads t)) = subst (IsDistinct eqb) (sym (heads_ids t)) d in
       ap in_order (uses_by_heads t)
-      ∙ split_heads (head o) (heads_in t) apart first
+      ∙ split_heads (head o) (heads t) apart first
       ∙ ap (λ l. in_order (operand_uses x 0 (head o).operands ++ others x l)) (sym (uses_by_heads t))
 
 -- where a use of an operation is another, those by others are as they were

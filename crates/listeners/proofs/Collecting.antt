@@ -10,7 +10,8 @@ use Rattle.ir_tree.specs.Ids.{ids, find, first_of, HasDistinctIds}
 use Rattle.ir_tree_laws.specs.Members.{In}
 use Rattle.ir_store.specs.Nodes.{Node, node_of}
 use Rattle.ir_store.specs.Stored.{Stored}
-use Rattle.ir_event.proofs.Flat.{heads_in, first_head, heads_ids, found_head}
+use Rattle.ir_event.specs.Heads.{heads}
+use Rattle.ir_event.proofs.Flat.{first_head, heads_ids, found_head}
 use Rattle.listeners.specs.Uses.{operand_uses, uses_in}
 use Rattle.listeners.specs.Following.{operands_in}
 use Rattle.listeners.specs.Collected.{if_any, uses_by}
@@ -44,7 +45,7 @@ along operands (h ∷ hs) f = λ i. operand_uses h.id 0 (if_any (f h (inl refl) 
 pub uses_listed : (s : Stored) (xs : List ℕ) → HasDistinctIds s.module_of.tree → xs ≡ ids s.module_of.tree → uses_by (operands_in s) xs ≡ uses_in s.module_of.tree
 uses_listed s xs d e =
     let t = s.module_of.tree in
-    let one : IsDistinct eqb (map (λ (h : Head). h.id) (heads_in t)) = subst (IsDistinct eqb) (sym (heads_ids t)) d in
+    let one : IsDistinct eqb (map (λ (h : Head). h.id) (heads t)) = subst (IsDistinct eqb) (sym (heads_ids t)) d in
     ap (uses_by (operands_in s)) (e ∙ sym (heads_ids t))
-    ∙ along (operands_in s) (heads_in t) (λ h m. shown s h.id h (found_head h.id t ∙ first_there (heads_in t) one h m))
+    ∙ along (operands_in s) (heads t) (λ h m. shown s h.id h (found_head h.id t ∙ first_there (heads t) one h m))
     ∙ sym (uses_by_heads t)

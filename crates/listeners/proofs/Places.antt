@@ -9,7 +9,8 @@ use Rattle.ir_tree.specs.Ids.{HasDistinctIds}
 use Rattle.ir_tree.specs.Edits.{at, put_operand, with_operand}
 use Rattle.ir_tree.specs.Maps.{map_tree, map_regions, map_region, map_ops}
 use Rattle.ir_tree_laws.specs.Changes.{operand_at}
-use Rattle.ir_event.proofs.Flat.{heads_in, regions_heads, region_heads, ops_heads, first_head, heads_ids, heads_each, found_head}
+use Rattle.ir_event.specs.Heads.{heads, regions_heads, region_heads, ops_heads}
+use Rattle.ir_event.proofs.Flat.{first_head, heads_ids, heads_each, found_head}
 use Rattle.ir_event.proofs.Operands.{holder}
 use Rattle.listeners.specs.declared.key.Use.{Use}
 use Rattle.listeners.specs.Uses.{operand_uses, uses_in, regions_uses, region_uses, ops_uses}
@@ -66,7 +67,7 @@ module _ {N T A : Type 0} where
   uses_joined (h ∷ hs) gs = ap (λ l. operand_uses h.id 0 h.operands ++ l) (uses_joined hs gs) ∙ sym (append_assoc (operand_uses h.id 0 h.operands) (uses_at hs) (uses_at gs))
 
   mutual
-    pub uses_by_heads : (t : OpOf N T A) → uses_in t ≡ uses_at (heads_in t)
+    pub uses_by_heads : (t : OpOf N T A) → uses_in t ≡ uses_at (heads t)
     uses_by_heads (op h rs) = ap (λ l. operand_uses h.id 0 h.operands ++ l) (regions_by_heads rs)
 
     regions_by_heads : (rs : RegionsOf N T A) → regions_uses rs ≡ uses_at (regions_heads rs)
@@ -79,7 +80,7 @@ module _ {N T A : Type 0} where
 
     ops_by_heads : (os : OpsOf N T A) → ops_uses os ≡ uses_at (ops_heads os)
     ops_by_heads no_ops = refl
-    ops_by_heads (next o os) = (λ i. uses_by_heads o i ++ ops_by_heads os i) ∙ sym (uses_joined (heads_in o) (ops_heads os))
+    ops_by_heads (next o os) = (λ i. uses_by_heads o i ++ ops_by_heads os i) ∙ sym (uses_joined (heads o) (ops_heads os))
 
   module _ (x k : ℕ) (old new : Value) where
     abbrev f : HeadOf N T A → HeadOf N T A
@@ -125,10 +126,10 @@ module _ {N T A : Type 0} where
     pub set_uses : (t : OpOf N T A) → HasDistinctIds t → operand_at x k t ≡ Some old → Replaced (one_use old x k) (one_use new x k) (uses_in t) (uses_in (with_operand x k new t))
     set_uses t d e =
         let o = holder x k old new t e in
-        let first : first_head x (heads_in t) ≡ Some (head o.here) = sym (found_head x t) ∙ ap (option_map (λ p. head p)) o.found in
-        let apart : IsDistinct eqb (map (λ (h : HeadOf N T A). h.id) (heads_in t)) = subst (IsDistinct eqb) (sym (heads_ids t)) d in
-        let at_heads = set_at_heads (head o.here) (heads_in t) apart first o.has in
-        let after : uses_at (map f (heads_in t)) ≡ uses_in (with_operand x k new t) = ap uses_at (sym (heads_each f t)) ∙ sym (uses_by_heads (with_operand x k new t)) in
+        let first : first_head x (heads t) ≡ Some (head o.here) = sym (found_head x t) ∙ ap (option_map (λ p. head p)) o.found in
+        let apart : IsDistinct eqb (map (λ (h : HeadOf N T A). h.id) (heads t)) = subst (IsDistinct eqb) (sym (heads_ids t)) d in
+        let at_heads = set_at_heads (head o.here) (heads t) apart first o.has in
+        let after : uses_at (map f (heads t)) ≡ uses_in (with_operand x k new t) = ap uses_at (sym (heads_each f t)) ∙ sym (uses_by_heads (with_operand x k new t)) in
         subst (λ (p : List Use × List Use). Replaced (one_use old x k) (one_use new x k) p.0 p.1) (λ i. (sym (uses_by_heads t) i, after i)) at_heads
 
 -- what a tree stands for has its uses

@@ -21,7 +21,9 @@ struct Counts {
 pub(crate) fn collect(alloc: Global, world: &World) -> Result<Listing, AllocError>
     ensures { IfOk result (λ uses. uses ≡ uses_in world.now.store.module_of.tree) }
 {
-    let ops = world.store.operations()?;
+    let Ok(ops) = world.store.operations() else {
+        return Err(AllocError);
+    };
     let counts = count(&world.store, &ops);
     let mut out = Listing::with_room(alloc, counts.users, counts.operands)?;
     push_all(&world.store, &ops, &mut out)?;

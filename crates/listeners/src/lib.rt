@@ -11,3 +11,5 @@ mod report;
 mod table;
 mod user;
 pub mod uses;
+
+pub use listeners_symbols::symbols::Symbols;

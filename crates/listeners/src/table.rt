@@ -12,8 +12,8 @@ use ir_types::ids::OpId;
 use std::alloc::{AllocError, Global};
 use std::collections::BTreeMap;
 
-/// The uses of a module: those that were listed where the listener began, and beside them the operands of each operation
-/// that an event changed since, which count in place of the listed ones.
+/// The uses of a module: those that were listed where the listener began, and beside them the operands of each
+/// operation that an event changed since, which count in place of the listed ones.
 #[derive(Drop)]
 pub(crate) struct Table {
     pub(crate) listed: Listing,

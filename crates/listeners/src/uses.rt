@@ -57,7 +57,7 @@ impl Analysis for Uses {
     ghost meaning = { uses_listener };
 
     fn kind(&self) -> Kind {
-        Kind::new(1)
+        Kind::USES
     }
 
     fn begin(&mut self, world: &World) -> Result<(), Memory> {
@@ -97,11 +97,11 @@ impl Analysis for Uses {
         self.stale
     }
 
-    fn report(&self, alloc: Global) -> Result<Vec<Row>, ReportFault> {
+    fn report(&self) -> Result<Vec<Row>, ReportFault> {
         if self.stale {
             return Err(ReportFault::Stale);
         }
-        match rows_of_table(alloc, &self.table) {
+        match rows_of_table(self.alloc, &self.table) {
             Ok(rows) => Ok(rows),
             Err(_) => Err(ReportFault::Memory),
         }

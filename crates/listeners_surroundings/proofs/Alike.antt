@@ -12,7 +12,8 @@ use Rattle.ir_tree_laws.specs.Members.{In}
 use Rattle.ir_tree_laws.proofs.Readings.{stands_find}
 use Rattle.ir_tree_laws.proofs.Members.{member, stand_of_member}
 use Rattle.listeners_surroundings.specs.Surroundings.{surround, surroundings}
-use Rattle.listeners_surroundings.proofs.Typed.{types_of, typed, typed_value, same_map}
+use Rattle.ir_event.proofs.Typed.{types_of, typed, typed_value}
+use Rattle.listeners_surroundings.proofs.Operands.{same_map}
 use Rattle.listeners_surroundings.proofs.Left.{AlikeStands}
 
 -- operation z is in neither of two trees, or stands in both, and R holds

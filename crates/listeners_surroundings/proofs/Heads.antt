@@ -17,7 +17,7 @@ use Rattle.ir_tree_laws.proofs.Members.{stand, member}
 use Rattle.ir_tree_laws.proofs.Heads.{each_stands}
 use Rattle.listeners_surroundings.specs.Surroundings.{last_name, last_names, ended_by, outer_of, surround, surroundings}
 use Rattle.listeners_surroundings.specs.Near.{if_any, lasts_of, lasts_in, lasts_found}
-use Rattle.listeners_surroundings.proofs.Typed.{types_of, typed, typed_value}
+use Rattle.ir_event.proofs.Typed.{types_of, typed, typed_value}
 use Rattle.listeners_surroundings.proofs.Spots.{last_is}
 
 -- the last operation of a block is among the last ones

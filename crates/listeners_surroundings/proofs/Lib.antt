@@ -1,4 +1,4 @@
-pub mod Typed
+pub mod Operands
 pub mod Spots
 pub mod Left
 pub mod Alike
@@ -11,3 +11,4 @@ pub mod Reading
 pub mod Meanings
 pub mod Following
 pub mod Silent
+pub mod Names

@@ -20,7 +20,7 @@ use Rattle.ir_tree_laws.proofs.Members.{stand, within, member, stand_found, foun
 use Rattle.ir_tree_laws.proofs.Around.{Within, gone_within}
 use Rattle.ir_tree_laws.proofs.Without.{left_member, member_left}
 use Rattle.listeners_surroundings.specs.Surroundings.{last_names, outer_of, surroundings}
-use Rattle.listeners_surroundings.proofs.Typed.{not_used}
+use Rattle.listeners_surroundings.proofs.Operands.{not_used}
 use Rattle.listeners_surroundings.proofs.Spots.{next_in, prev_is, last_is, placed_there, again}
 use Rattle.listeners_surroundings.proofs.Left.{AlikeStands, left_list, left_head, left_node, first_gone, far_alike}
 use Rattle.listeners_surroundings.proofs.Alike.{Both, neither, each, both, same_value_type, same_surroundings}

@@ -1,16 +1,13 @@
 -- What is gathered by reading calls is what is around an operation.
-use Rattle.std.proofs.Common.{◌≡◌, refl, ap, sym, ◌∙◌, subst, ℕ, zero, suc, ◌+◌, ◌*◌, ◌≤◌, Bool, true, false, ◌&&◌, List, [], ◌∷◌, length, map, Option, Some, None, slice_get, inl, inr, leb-true, arith}
+use Rattle.std.proofs.Common.{◌≡◌, refl, ap, sym, ◌∙◌, subst, ℕ, suc, ◌+◌, ◌*◌, ◌≤◌, Bool, true, false, ◌&&◌, List, [], ◌∷◌, length, map, Option, Some, None, inl, inr, leb-true, arith}
 use Rattle.std.specs.Prelude.{option_map, option_and_then, nat_le}
 use Rattle.std.specs.List.{All}
 use Rattle.std.specs.FinMap as finmap
-use Rattle.std.proofs.lemmas.List.Elements.{All-head, All-tail, All-nil, All-cons}
-use Rattle.ir_types.specs.Things.{Things, IsType}
+use Rattle.std.proofs.lemmas.List.Elements.{All-nil, All-cons}
 use Rattle.ir_tree.specs.declared.value.Value.{Value}
-use Rattle.ir_tree.specs.declared.value.Value.TheVariants.{Result, Arg}
 use Rattle.ir_tree.specs.declared.place.Place.{Place}
 use Rattle.ir_tree.specs.Tree.{HeadOf, OpOf, Op, op, RegionsOf, no_regions, region, RegionOf, empty, block, OpsOf, no_ops, next, head, regions, region_count}
 use Rattle.ir_tree.specs.Ids.{HasDistinctIds, find, first_of, has_id}
-use Rattle.ir_tree.specs.Frames.{owner_of}
 use Rattle.ir_tree.specs.Places.{first_id, place_of}
 use Rattle.ir_tree.specs.Limits.{most_regions, items_fit, head_fits, all_arguments_pass, op_fits}
 use Rattle.ir_tree.specs.WellFormed.{IsFormed}
@@ -26,13 +23,8 @@ use Rattle.ir_tree_laws.proofs.Around.{around_there, member_of_place, place_of_m
 use Rattle.ir_tree_laws.proofs.Formed.{from_formed}
 use Rattle.ir_tree_laws.proofs.Values.{seen_by}
 use Rattle.ir_tree_laws.proofs.Listed.{all_each, both, bool_cases}
-use Rattle.ir_event.specs.declared.world.World.{World}
-use Rattle.ir_event.specs.Modules.{NodeIsOf}
-use Rattle.ir_event.proofs.Sounds.{found_sound}
-use Rattle.ir_event.proofs.Nodes.{node_known}
 use Rattle.listeners_surroundings.specs.Surroundings.{OuterOf, last_name, last_names, ended_by, outer_of, surround, surroundings}
 use Rattle.listeners_surroundings.specs.Gathered.{last_name_at, from_on, outer_at, gather_looks, regions_found}
-use Rattle.listeners_surroundings.proofs.Typed.{types_of, typed, typed_value}
 use Rattle.listeners_surroundings.proofs.Spots.{stands_in}
 
 module _ {N T A : Type 0} where
@@ -283,31 +275,3 @@ module _ (s : Stored) (d : HasDistinctIds s.module_of.tree) where
 
   pub count_found : (x : ℕ) (n : Node) (p : Present x n) → length n.arguments ≡ regions_found (find x s.module_of.tree)
   count_found x n p = ap (λ (m : Node). length m.arguments) (sym p.node) ∙ regions_counted p.here.here ∙ sym (ap regions_found p.found)
-
--- the types of values are of the context
-got_of : (c : Things) (xs : List ℕ) (k n : ℕ) → All (IsType c) xs → slice_get xs k ≡ Some n → IsType c n
-got_of c [] zero n a e = absurd cc
-got_of c [] (suc k) n a e = absurd cc
-got_of c (x ∷ xs) zero n a e = (let one : x ≡ n = cc in subst (IsType c) one (All-head (IsType c) x xs a))
-got_of c (x ∷ xs) (suc k) n a e = got_of c xs k n (All-tail (IsType c) x xs a) e
-
-typed_known : (c : Things) (m : Node) (v : Value) (n : ℕ) → NodeIsOf c m → typed v (m.head.results, m.arguments) ≡ Some n → IsType c n
-typed_known c m (Result x k) n h e = got_of c m.head.results k n h.results e
-typed_known c m (Arg x r k) n h e = go (slice_get m.arguments r) refl e
-  where
-    go : (o : Option (Option (List ℕ))) → slice_get m.arguments r ≡ o → option_and_then (λ args. slice_get args k) (option_and_then (λ args. args) o) ≡ Some n → IsType c n
-    go None i f = absurd cc
-    go (Some None) i f = absurd cc
-    go (Some (Some args)) i f = got_of c args k n (h.arguments r args i) f
-
-pub value_known : (w : World) (v : Value) (n : ℕ) → type_of_value v w.store.module_of.tree ≡ Some n → IsType w.ctx n
-value_known w v n e = go (find (owner_of v).0 w.store.module_of.tree) refl (sym (typed_value v w.store.module_of.tree) ∙ e)
-  where
-    types_shown : (o : Op) → types_of o ≡ ((node_of o).head.results, (node_of o).arguments)
-    types_shown (op h rs) = refl
-
-    go : (o : Option Op) → find (owner_of v).0 w.store.module_of.tree ≡ o → option_and_then (typed v) (option_map types_of (find (owner_of v).0 w.store.module_of.tree)) ≡ Some n → IsType w.ctx n
-    go None i f = (let no : None ≡ Some n = sym (ap (λ o. option_and_then (typed v) (option_map types_of o)) i) ∙ f in absurd cc)
-    go (Some o) i f =
-        typed_known w.ctx (node_of o) v n (node_known w.ctx o (found_sound w.ctx (owner_of v).0 w.store.module_of.tree o w.sound i))
-        (ap (typed v) (sym (types_shown o)) ∙ sym (ap (λ o. option_and_then (typed v) (option_map types_of o)) i) ∙ f)

@@ -45,7 +45,9 @@ fn renew_all<F: Fact>(
 fn tabulate<F: Fact>(alloc: Global, world: &World) -> Result<BTreeMap<u32, F>, AllocError>
     ensures { IfOk result (λ t. Keeps F.fact F.kept (module_in world.now).tree (get nat_cmp t)) }
 {
-    let ops = world.store.operations()?;
+    let Ok(ops) = world.store.operations() else {
+        return Err(AllocError);
+    };
     let mut table = BTreeMap::new(alloc);
     let mut view = View::new(world);
     renew_all(alloc, &mut table, &mut view, &ops)?;
@@ -102,7 +104,8 @@ impl<F: Fact> Kept<F> {
         }
     }
 
-    /// The facts, by the numbers of the operations: where they are those of a module, those of it that are kept, in order.
+    /// The facts, by the numbers of the operations: where they are those of a module, those of it that are kept, in
+    /// order.
     pub fn facts(&self) -> &BTreeMap<u32, F>
         ensures is { result.now ≡ self.now.table }
         ensures in_order { (t : Operation) → Keeps F.fact F.kept t (get nat_cmp self.now.table) → result.now.entries ≡ kept_facts F.fact F.kept t }

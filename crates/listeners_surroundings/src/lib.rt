@@ -6,3 +6,4 @@ pub mod fact;
 pub mod gather;
 pub mod kept;
 pub mod laws;
+pub mod properties;

@@ -31,7 +31,8 @@ use Rattle.ir_event.specs.declared.event.Event.TheVariants.{Put, Take, SetOperan
 use Rattle.ir_event.specs.Bounds.{op_of}
 use Rattle.ir_event.specs.Modules.{Module}
 use Rattle.ir_event.specs.Step.{Step}
-use Rattle.listeners_surroundings.proofs.Typed.{types_of, typed, typed_value, same_map, not_used}
+use Rattle.ir_event.proofs.Typed.{types_of, typed, typed_value}
+use Rattle.listeners_surroundings.proofs.Operands.{same_map, not_used}
 use Rattle.listeners_surroundings.proofs.Left.{left_head, left_node}
 use Rattle.listeners_surroundings.proofs.Alike.{Both, neither, each, both, same_value_type}
 use Rattle.listeners_surroundings.proofs.Moves.{left_id, taken}

@@ -9,6 +9,8 @@ use Rattle.ir_types.specs.Terms.{TypeTerm, AttrTerm}
 use Rattle.ir_tree.specs.Meaning.{Operation}
 use Rattle.ir_tree_laws.specs.Stands.{stand_id, stands}
 use Rattle.ir_event.specs.Rows.{RowTerm, Op, Name, Path, Tag}
+use Rattle.ir_event.specs.Tags.{tag_number}
+use Rattle.ir_event.specs.declared.tag.Tag.TheVariants as word
 use Rattle.ir_types.specs.SameTypes.{same_type}
 use Rattle.listeners_symbols.specs.Roles.{ReferenceOf, CallOf, RoleOf, Stand, role, role_of}
 
@@ -143,11 +145,11 @@ symbols_of t = symbol_lines bytes_eq same_type (role_of t) (roles_by_id t)
 
 -- the cells of a row
 abbrev pub line_cells : {N A C : Type 0} → (ℕ → C) → (ℕ → C) → (N → C) → (A → C) → LineOf N A → List C
-line_cells tag op name path (Definition t n x) = tag 0 ∷ op t ∷ name n ∷ op x ∷ []
-line_cells tag op name path (Duplicate t n x) = tag 1 ∷ op t ∷ name n ∷ op x ∷ []
-line_cells tag op name path (Use y p x) = tag 2 ∷ op y ∷ path p ∷ op x ∷ []
-line_cells tag op name path (Unresolved y p) = tag 3 ∷ op y ∷ path p ∷ []
-line_cells tag op name path (Mismatch y x) = tag 4 ∷ op y ∷ op x ∷ []
+line_cells tag op name path (Definition t n x) = tag (tag_number word.Def) ∷ op t ∷ name n ∷ op x ∷ []
+line_cells tag op name path (Duplicate t n x) = tag (tag_number word.Duplicate) ∷ op t ∷ name n ∷ op x ∷ []
+line_cells tag op name path (Use y p x) = tag (tag_number word.Use) ∷ op y ∷ path p ∷ op x ∷ []
+line_cells tag op name path (Unresolved y p) = tag (tag_number word.Unresolved) ∷ op y ∷ path p ∷ []
+line_cells tag op name path (Mismatch y x) = tag (tag_number word.Mismatch) ∷ op y ∷ op x ∷ []
 
 -- the rows of a tree
 abbrev pub symbol_rows : Operation → List RowTerm

@@ -1,5 +1,5 @@
-//! The listener that keeps which symbols a module defines and what its references to symbols resolve to: where it agreed
-//! with a module before an event it agrees with the module after it, or is stale.
+//! The listener that keeps which symbols a module defines and what its references to symbols resolve to: where it
+//! agreed with a module before an event it agrees with the module after it, or is stale.
 #![tactic(auto)]
 
 mod definitions;

@@ -2,13 +2,9 @@
 ghost use Rattle.std.specs.Prelude.{◌≡◌, IfSome, IfOk, List, [], ℕ, map, slice_index_or};
 ghost use Rattle.std.specs.List.{All};
 ghost use Rattle.std.specs.Option.{option_map};
-ghost use Rattle.std.specs.Str.{bytes_eq};
 ghost use Rattle.ir_types.specs.Things.{Things, IsName, IsAttr, IsType, AttrIsOf};
 ghost use Rattle.ir_types.specs.Terms.{TypeTerm, AttrTerm, attr_from, attr_term, name_term, type_term};
 ghost use Rattle.ir_types.specs.WordNames.{word_bytes};
-ghost use Rattle.ir_tree.specs.Maps.{map_entry};
-ghost use Rattle.op_registry.specs.Registry.{beside};
-ghost use Rattle.op_registry.specs.Properties as properties;
 ghost use Rattle.ir_event.specs.Modules.{NodeIsOf};
 ghost use Rattle.listeners_symbols.specs.Roles as roles;
 ghost use Rattle.listeners_symbols.specs.Table.{head_meaning, signature_meaning, SignatureIsOf};
@@ -18,60 +14,11 @@ use ir_store::node::Node;
 use ir_types::context::Context;
 use ir_types::ids::{AttrId, NameId, TypeId};
 use ir_types::node::AttrNode;
+use ir_types::things::attr_of;
 use ir_types::word::Word;
+use listeners_surroundings::properties::{entry, string_of};
 use op_registry::signature;
-use op_registry::things::attr_of;
 use std::alloc::{AllocError, Global};
-
-/// The attribute at a key of a dictionary, if there is one.
-fn entry(ctx: &Context, entries: &[(NameId, AttrId)], key: Word) -> Option<AttrId>
-    requires { All (λ e. IsName ctx.now e.0 × IsAttr ctx.now e.1) entries.now }
-    ensures entry { option_map (attr_term ctx.now) result ≡ beside (word_bytes key) (map (map_entry (name_term ctx.now) (attr_term ctx.now)) entries.now) }
-    ensures attr { IfSome result (λ a. IsAttr ctx.now a) }
-{
-    let mut rest = entries;
-    while let [(name, attr), tail @ ..] = rest {
-        if is_key(ctx, *name, key) {
-            return Some(*attr);
-        }
-        rest = tail;
-    }
-    None
-}
-
-/// Whether a name is that of a key.
-#[tactic(auto, using(crate::proofs::Names::turned))]
-fn is_key(ctx: &Context, name: NameId, key: Word) -> bool
-    ensures { result ≡ bytes_eq (word_bytes key) (name_term ctx.now name) }
-{
-    ctx.is_word(name, key)
-}
-
-/// The string that an attribute is, by the number of its bytes.
-fn string_of(ctx: &Context, attr: AttrId) -> Option<NameId>
-    requires { IsAttr ctx.now attr }
-    ensures string { option_map (name_term ctx.now) result ≡ properties.string_of (attr_term ctx.now attr) }
-    ensures known { IfSome result (λ n. IsName ctx.now n) }
-{
-    string_in(attr_of(ctx, attr))
-}
-
-fn string_in(node: &AttrNode) -> Option<NameId>
-    ensures string { (names : List (List ℕ)) (types : List TypeTerm) (attrs : List AttrTerm) → option_map (λ n. slice_index_or names n []) result ≡ properties.string_of (attr_from names types attrs node.now) }
-    ensures known { (c : Things) → AttrIsOf c node.now → IfSome result (λ n. IsName c n) }
-{
-    match node {
-        AttrNode::Int { .. } => None,
-        AttrNode::Str(name) => Some(*name),
-        AttrNode::Ty(_) => None,
-        AttrNode::Unit => None,
-        AttrNode::Array(_) => None,
-        AttrNode::Dict(_) => None,
-        AttrNode::Sym(_) => None,
-        AttrNode::Dense { .. } => None,
-        AttrNode::Overflow { .. } => None,
-    }
-}
 
 /// The name that an operation has as a symbol.
 pub(crate) fn symbol_of(ctx: &Context, node: &Node<'_>) -> Option<NameId>

@@ -2,7 +2,9 @@
 ghost use Rattle.std.specs.Prelude.{◌≡◌, ◌++◌, ◌∷◌, [], eqb, map, option_map, OnOk, IfOk};
 ghost use Rattle.std.specs.Ordering.{nat_cmp};
 ghost use Rattle.std.specs.BTreeMap as tree;
-ghost use Rattle.ir_event.specs.declared.row.Cell.TheVariants.{Tag, Op, Name, Path};
+ghost use Rattle.ir_event.specs.declared.row.Cell.TheVariants as cell;
+ghost use Rattle.ir_event.specs.declared.tag.Tag.TheVariants as word;
+ghost use Rattle.ir_event.specs.Tags.{tag_number};
 ghost use Rattle.listeners_symbols.specs.Symbols.{all_reference_lines, call_line, definition_lines, duplicate_lines, is_duplicate, mismatch_line, mismatch_lines, reference_line, reference_lines, symbol_lines, lines_with};
 ghost use Rattle.listeners_symbols.specs.Table.{call_numbers, reference_of};
 ghost use Rattle.listeners_symbols.specs.Lines.{cells_of, lines_cells, numbered, numbers_at};
@@ -11,6 +13,7 @@ use crate::definitions::{Definition, Definitions, definitions_of};
 use crate::resolve::{fits, resolve};
 use crate::role::{Call, Role};
 use ir_event::row::{Cell, Row};
+use ir_event::tag::Tag;
 use ir_tree::value::Value;
 use ir_types::ids::{AttrId, NameId, OpId};
 use std::alloc::{AllocError, Global};
@@ -19,19 +22,19 @@ use std::collections::BTreeMap;
 // The checker has no proof of the loans of a function that holds cells, unless the function has a value of each type in
 // a cell: so some make a `Value` that nothing uses.
 
-/// Adds the row of a definition, whose word has this number.
+/// Adds the row of a definition, with this word.
 fn push_definition(
     alloc: Global,
-    tag: u8,
+    tag: Tag,
     definition: &Definition,
     out: &mut Vec<Row>,
 ) -> Result<(), AllocError>
-    ensures { OnOk result (cells_of out.new.items ≡ cells_of out.old.items ++ (Tag tag ∷ Op definition.now.0.0 ∷ Name definition.now.0.1 ∷ Op definition.now.1 ∷ []) ∷ []) }
+    ensures { OnOk result (cells_of out.new.items ≡ cells_of out.old.items ++ (cell.Tag (tag_number tag) ∷ cell.Op definition.now.0.0 ∷ cell.Name definition.now.0.1 ∷ cell.Op definition.now.1 ∷ []) ∷ []) }
 {
     let ((table, name), op) = *definition;
     let _value = Value::Result(op, 0);
     let mut cells = Vec::with_capacity(alloc, 4)?;
-    cells.push(Cell::Tag(tag))?;
+    cells.push(Cell::Tag(tag.number()))?;
     cells.push(Cell::Op(table))?;
     cells.push(Cell::Name(name))?;
     cells.push(Cell::Op(op))?;
@@ -49,7 +52,7 @@ fn push_definitions(
 {
     let mut rest = definitions.list();
     while let [definition, more @ ..] = rest {
-        push_definition(alloc, 0, definition, out)?;
+        push_definition(alloc, Tag::Def, definition, out)?;
         rest = more;
     }
     Ok(())
@@ -77,7 +80,7 @@ fn push_duplicates(
     let mut rest = definitions.list();
     while let [definition, more @ ..] = rest {
         if is_duplicate(definitions, definition) {
-            push_definition(alloc, 1, definition, out)?;
+            push_definition(alloc, Tag::Duplicate, definition, out)?;
         }
         rest = more;
     }
@@ -92,11 +95,11 @@ fn push_use(
     op: OpId,
     out: &mut Vec<Row>,
 ) -> Result<(), AllocError>
-    ensures { OnOk result (cells_of out.new.items ≡ cells_of out.old.items ++ (Tag 2 ∷ Op user ∷ Path path ∷ Op op ∷ []) ∷ []) }
+    ensures { OnOk result (cells_of out.new.items ≡ cells_of out.old.items ++ (cell.Tag (tag_number word.Use) ∷ cell.Op user ∷ cell.Path path ∷ cell.Op op ∷ []) ∷ []) }
 {
     let _value = Value::Result(op, 0);
     let mut cells = Vec::with_capacity(alloc, 4)?;
-    cells.push(Cell::Tag(2))?;
+    cells.push(Cell::Tag(Tag::Use.number()))?;
     cells.push(Cell::Op(user))?;
     cells.push(Cell::Path(path))?;
     cells.push(Cell::Op(op))?;
@@ -111,11 +114,11 @@ fn push_unresolved(
     path: AttrId,
     out: &mut Vec<Row>,
 ) -> Result<(), AllocError>
-    ensures { OnOk result (cells_of out.new.items ≡ cells_of out.old.items ++ (Tag 3 ∷ Op user ∷ Path path ∷ []) ∷ []) }
+    ensures { OnOk result (cells_of out.new.items ≡ cells_of out.old.items ++ (cell.Tag (tag_number word.Unresolved) ∷ cell.Op user ∷ cell.Path path ∷ []) ∷ []) }
 {
     let _value = Value::Result(user, 0);
     let mut cells = Vec::with_capacity(alloc, 3)?;
-    cells.push(Cell::Tag(3))?;
+    cells.push(Cell::Tag(Tag::Unresolved.number()))?;
     cells.push(Cell::Op(user))?;
     cells.push(Cell::Path(path))?;
     out.push(Row { cells })?;
@@ -187,11 +190,11 @@ fn push_all_references(
 
 /// Adds the row of a mismatch.
 fn push_mismatch(alloc: Global, user: OpId, op: OpId, out: &mut Vec<Row>) -> Result<(), AllocError>
-    ensures { OnOk result (cells_of out.new.items ≡ cells_of out.old.items ++ (Tag 4 ∷ Op user ∷ Op op ∷ []) ∷ []) }
+    ensures { OnOk result (cells_of out.new.items ≡ cells_of out.old.items ++ (cell.Tag (tag_number word.Mismatch) ∷ cell.Op user ∷ cell.Op op ∷ []) ∷ []) }
 {
     let _value = Value::Result(op, 0);
     let mut cells = Vec::with_capacity(alloc, 3)?;
-    cells.push(Cell::Tag(4))?;
+    cells.push(Cell::Tag(Tag::Mismatch.number()))?;
     cells.push(Cell::Op(user))?;
     cells.push(Cell::Op(op))?;
     out.push(Row { cells })?;

@@ -46,7 +46,7 @@ impl Analysis for Symbols {
     ghost meaning = { symbols_listener };
 
     fn kind(&self) -> Kind {
-        Kind::new(2)
+        Kind::SYMBOLS
     }
 
     fn begin(&mut self, world: &World) -> Result<(), Memory> {
@@ -85,11 +85,11 @@ impl Analysis for Symbols {
         self.stale
     }
 
-    fn report(&self, alloc: Global) -> Result<Vec<Row>, ReportFault> {
+    fn report(&self) -> Result<Vec<Row>, ReportFault> {
         if self.stale {
             return Err(ReportFault::Stale);
         }
-        match lines(alloc, &self.roles) {
+        match lines(self.alloc, &self.roles) {
             Ok(rows) => Ok(rows),
             Err(_) => Err(ReportFault::Memory),
         }

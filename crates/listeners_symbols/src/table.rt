@@ -118,7 +118,9 @@ fn renew_all(
 pub(crate) fn tabulate(alloc: Global, world: &World) -> Result<BTreeMap<OpId, Role>, AllocError>
     ensures { IfOk result (λ roles. Keeps world.now.ctx (module_in world.now).tree (kept_at roles)) }
 {
-    let ops = world.store.operations()?;
+    let Ok(ops) = world.store.operations() else {
+        return Err(AllocError);
+    };
     let mut roles = BTreeMap::new(alloc);
     let mut view = View::new(world);
     renew_all(alloc, &mut roles, &mut view, &ops)?;

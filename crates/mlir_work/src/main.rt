@@ -10,7 +10,7 @@ use ir_event::analysis::Analysis;
 use ir_verify::diagnostics::Diagnostics;
 use listeners::uses::Uses;
 use mlir_work_run::options::options_of;
-use mlir_work_run::run::{Options, run};
+use mlir_work_run::run::{Options, run_keyed};
 use std::alloc::AllocError;
 use std::io::BufWriter;
 use std::process::ExitCode;
@@ -72,7 +72,14 @@ fn run_all(rt: &HostRuntime, options: Options) -> Result<u8, AllocError> {
     let Ok(mut writer) = BufWriter::new(rt.alloc(), io::writer(rt)) else {
         return Err(AllocError);
     };
-    Ok(run(rt.alloc(), options, &mut reader, &mut writer, boxes))
+    Ok(run_keyed(
+        rt.alloc(),
+        key_of(rt),
+        options,
+        &mut reader,
+        &mut writer,
+        boxes,
+    ))
 }
 
 fn main(rt: HostRuntime) -> ExitCode {
@@ -80,11 +87,10 @@ fn main(rt: HostRuntime) -> ExitCode {
         Ok(words) => words,
         Err(error) => return ExitCode::from(refuse_words(&rt, &error)),
     };
-    let mut options = match options_of(rt.alloc(), &words) {
+    let options = match options_of(rt.alloc(), &words) {
         Ok(options) => options,
         Err(error) => return ExitCode::from(answer_words(&rt, &error)),
     };
-    options.key = key_of(&rt);
     match run_all(&rt, options) {
         Ok(status) => ExitCode::from(status),
         Err(_) => ExitCode::from(no_memory(&rt)),

@@ -1,5 +1,5 @@
 -- Which statuses an output may have.
-use Rattle.std.proofs.Common.{◌≡◌, sym, subst, inl, inr, ◌⊎◌, refl, ℕ, ◌+◌, List, [], ◌∷◌, Bool, true, false, Option, Some, None, Result, Ok, Err}
+use Rattle.std.proofs.Common.{◌≡◌, sym, subst, inl, inr, ◌⊎◌, refl, ℕ, ◌+◌, List, [], ◌∷◌, length, Bool, true, false, Option, Some, None, Result, Ok, Err}
 use Rattle.std.specs.Prelude.{IfSome}
 use Rattle.ir_event.specs.Modules.{Module}
 use Rattle.mlir_work_script.specs.Commands.{Spoken, Nothing, Bad, Obey, line_says}
@@ -7,7 +7,7 @@ use Rattle.mlir_work_script.specs.Lines.{lines_of}
 use Rattle.mlir_work_script.specs.Parts.{script_text}
 use Rattle.rewriter_machine.specs.Machine.{State}
 use Rattle.rewriter_machine.specs.Panels.{Shown}
-use Rattle.mlir_work_session.specs.Output.{Line, Runs, IsSession, worse, is_accepted}
+use Rattle.mlir_work_session.specs.Output.{Line, Manner, Runs, IsSession, worse, is_accepted}
 use Rattle.mlir_work_run.specs.Ends.{EndedSo, HasStatus, IsFinal, status_of}
 use Rattle.mlir_work_run.specs.Whole.{IsOutput}
 use Rattle.mlir_work_run.specs.declared.run.Fault.{Fault}
@@ -21,18 +21,18 @@ low_worse : (accepted : Bool) (later : ℕ) → IsLow later → IsLow (worse acc
 low_worse true later h = h
 low_worse false later h = inr refl
 
-low_line : (Rest : ℕ → State → ℕ → List ℕ → Type 0) (brief : Bool) (n : ℕ) (s : State) (spoken : Spoken) (status : ℕ) (out : List ℕ) → ((m : ℕ) (t : State) (st : ℕ) (o : List ℕ) → Rest m t st o → IsLow st) → Line Rest brief n s spoken status out → IsLow status
-low_line Rest brief n s Nothing status out f h = f n s status out h
-low_line Rest brief n s Bad status out f h = rw h.status_is (low_worse (is_accepted h.response) h.later (f (n + 1) h.after h.later h.rest h.goes_on))
-low_line Rest brief n s (Obey said) status out f h = rw h.status_is (low_worse (is_accepted h.response) h.later (f (n + 1) h.after h.later h.rest h.goes_on))
+low_line : (Rest : ℕ → State → ℕ → List ℕ → Type 0) (manner : Manner) (n : ℕ) (s : State) (spoken : Spoken) (status : ℕ) (out : List ℕ) → ((m : ℕ) (t : State) (st : ℕ) (o : List ℕ) → Rest m t st o → IsLow st) → Line Rest manner n s spoken status out → IsLow status
+low_line Rest manner n s Nothing status out f h = f n s status out h
+low_line Rest manner n s Bad status out f h = rw h.status_is (low_worse (is_accepted h.response) h.later (f (n + 1) h.after h.later h.rest h.goes_on))
+low_line Rest manner n s (Obey said) status out f h = rw h.status_is (low_worse (is_accepted h.response) h.later (f (n + 1) h.after h.later h.rest h.goes_on))
 
-low_runs : (brief : Bool) (lines : List (List ℕ)) (n : ℕ) (s : State) (status : ℕ) (out : List ℕ) → Runs brief n s lines status out → IsLow status
-low_runs brief [] n s status out h = inl h.0
-low_runs brief (line ∷ lines) n s status out h = low_line (λ m t st o. Runs brief m t lines st o) brief n s (line_says line) status out (λ m t st o k. low_runs brief lines m t st o k) h
+low_runs : (manner : Manner) (lines : List (List ℕ)) (n : ℕ) (s : State) (status : ℕ) (out : List ℕ) → Runs manner n s lines status out → IsLow status
+low_runs manner [] n s status out h = inl h.0
+low_runs manner (line ∷ lines) n s status out h = low_line (λ m t st o. Runs manner m t lines st o) manner n s (line_says line) status out (λ m t st o k. low_runs manner lines m t st o k) h
 
-low_session : (brief : Bool) (boxes : List Shown) (m : Module) (script : List ℕ) (status : ℕ) (out : List ℕ) → IsSession brief boxes m script status out → IsLow status
-low_session brief boxes m script status out (inl h) = inr h.1.0
-low_session brief boxes m script status out (inr h) = rw h.1.status_is (low_worse h.1.accepted h.1.later (low_runs brief (lines_of script) 1 (record { held = m; marks = []; panel = h.1.panel }) h.1.later h.1.rest h.1.runs))
+low_session : (manner : Manner) (boxes : List Shown) (m : Module) (script : List ℕ) (status : ℕ) (out : List ℕ) → IsSession manner boxes m script status out → IsLow status
+low_session manner boxes m script status out (inl h) = inr h.1.0
+low_session manner boxes m script status out (inr h) = rw h.1.status_is (low_worse h.1.accepted h.1.later (low_runs manner (lines_of script) 1 (record { held = m; marks = []; panel = h.1.panel }) h.1.later h.1.rest h.1.runs))
 
 final_low : (status : ℕ) → IsLow status → IsFinal status
 final_low status (inl e) = inl e
@@ -42,7 +42,7 @@ final_low status (inr e) = inr (inl e)
 final_output : (brief : Bool) (boxes : List Shown) (input : List ℕ) (status : ℕ) (out : List ℕ) → IsOutput brief boxes input status out → IsFinal status
 final_output brief boxes input status out (inl h) = inr (inr h.1.0)
 final_output brief boxes input status out (inr (short, inl (refusal, offset, why, h))) = inr (inr h.0)
-final_output brief boxes input status out (inr (short, inr (m, read, h))) = final_low status (low_session brief boxes m (script_text input) status out h)
+final_output brief boxes input status out (inr (short, inr (m, read, h))) = final_low status (low_session (record { brief = brief; bytes = length input }) boxes m (script_text input) status out h)
 
 ended_status : (brief : Bool) (boxes : List Shown) (input : List ℕ) (a b : Option (List ℕ)) (r : Result ℕ Fault) → EndedSo (IsOutput brief boxes input) a b r → HasStatus (IsOutput brief boxes input) a b (status_of r)
 ended_status brief boxes input a b (Ok status) (out, h, wrote) = inl (final_output brief boxes input status out h, (out, h, wrote))

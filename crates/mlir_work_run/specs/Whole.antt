@@ -1,5 +1,6 @@
 -- The output of an input: the text of a module, and a script.
 use Rattle.std.specs.Prelude.{◌≡◌, ℕ, ◌<◌, ◌≤◌, List, Bool, ◌⊎◌, Option, Some, None, length}
+use Rattle.ir_types.specs.Refusals.{number_of}
 use Rattle.ir_types.specs.declared.refusal.Refusal.{Refusal}
 use Rattle.ir_types.specs.declared.refusal.Refusal.TheVariants.{TooMany, Memory}
 use Rattle.ir_tree.specs.Ids.{op_count}
@@ -16,12 +17,13 @@ use Rattle.mlir_work_session.specs.Output.{IsSession}
 abbrev pub IsRefusal : Refusal → Option ℕ → ℕ → List ℕ → Type 0
 IsRefusal refusal offset status out = (status ≡ 3) × (out ≡ module_refused_line refusal offset)
 
--- why a text isn't read: there is no memory, or it spells no tree. The context is new, and no text fills it
+-- why a text isn't read: there is no memory; or it spells no tree, and is refused for one of fourteen reasons, with an
+-- offset. The context is new, and no text fills it
 abbrev pub WhyNot : List ℕ → Refusal → Option ℕ → Type 0
 WhyNot text refusal None = refusal ≡ Memory
-WhyNot text refusal (Some offset) = (y : Operation) → Spells text y → ⊥
+WhyNot text refusal (Some offset) = (number_of refusal ≤ 14) × ((y : Operation) → Spells text y → ⊥)
 
--- the text is refused for that; its refusal and offset are open
+-- the text is refused for that; which of the fourteen reasons it is, and its offset, are open
 abbrev pub IsUnread : List ℕ → ℕ → List ℕ → Type 0
 IsUnread text status out = (refusal : Refusal) × (offset : Option ℕ) × WhyNot text refusal offset × IsRefusal refusal offset status out
 
@@ -35,7 +37,7 @@ IsTooMany input status out = (MAX_INPUT_BYTES < length input) × IsRefusal TooMa
 
 -- the text spells a tree; boxes are attached to its module, and the script is run over it
 abbrev pub IsRead : Bool → List Shown → List ℕ → ℕ → List ℕ → Type 0
-IsRead brief boxes input status out = (m : Module) × IsWorldOf (module_text input) m × IsSession brief boxes m (script_text input) status out
+IsRead brief boxes input status out = (m : Module) × IsWorldOf (module_text input) m × IsSession (record { brief = brief; bytes = length input }) boxes m (script_text input) status out
 
 -- this status and these bytes are an output of the input, with these boxes; an input that is too long has but one
 abbrev pub IsOutput : Bool → List Shown → List ℕ → ℕ → List ℕ → Type 0

@@ -1,5 +1,5 @@
 //! A whole run, from bytes to bytes.
-ghost use Rattle.std.specs.Prelude.{◌≡◌, ◌≤◌, ℕ, Bool, IsTrue, length, IfOk, IfErr, IfSome, None, Some, true};
+ghost use Rattle.std.specs.Prelude.{◌≡◌, ◌≤◌, ℕ, IsTrue, length, IfOk, IfErr, IfSome, None, Some, true};
 ghost use Rattle.std.specs.Io.KnownBytes.{Keeps};
 ghost use Rattle.ir_tree.specs.Ids.{IsNumberedFrom, op_count};
 ghost use Rattle.ir_tree.specs.Meaning.{meaning, isolated_in, IsSoundIn};
@@ -11,7 +11,7 @@ ghost use Rattle.rewriter_machine.specs.Panels.{all_shown};
 ghost use Rattle.mlir_work_script.specs.Lines.{lines_of};
 ghost use Rattle.mlir_work_script.specs.Parts.{module_text, script_text};
 ghost use Rattle.mlir_work_script.specs.declared.input.TheConstants.{MAX_SCRIPT_BYTES};
-ghost use Rattle.mlir_work_session.specs.Output.{IsSession};
+ghost use Rattle.mlir_work_session.specs.Output.{IsSession, Manner};
 ghost use Rattle.mlir_work_session.specs.PrintsAlone.{all_print, kinds_apart};
 ghost use Rattle.mlir_work_session.specs.Ran.{RanOut};
 ghost use Rattle.mlir_work_run.specs.Ends.{EndedSo, HasStatus, ended_of, status_of};
@@ -34,27 +34,31 @@ use mlir_work_session::prints::{only_prints, print_session};
 use mlir_work_session::session::run_session;
 use std::alloc::Global;
 use std::io::{Read, Write};
+use thiserror::Error;
 
 /// What the command line says.
 #[derive(Clone, Copy, Debug)]
 pub struct Options {
     /// The module and the rows don't follow each command.
     pub brief: bool,
-    /// What names are hashed with. Nothing that is written depends on it.
-    pub key: u64,
+    /// The most rewrites of a command that rewrites.
+    pub limit: u32,
 }
 
 /// Why a run has no status of its own.
-#[derive(Clone, Copy, Debug, PartialEq, Eq)]
+#[derive(Clone, Copy, Debug, PartialEq, Eq, Error)]
 pub enum Fault {
     /// The input couldn't be read.
+    #[error("the input couldn't be read")]
     Read,
     /// The output couldn't be written.
+    #[error("the output couldn't be written")]
     Write,
 }
 
 /// Why a text isn't read, and where: in bytes from the first.
-#[derive(Clone, Copy, Debug)]
+#[derive(Clone, Copy, Debug, PartialEq, Eq, Error)]
+#[error("{refusal}")]
 pub struct Unread {
     pub refusal: Refusal,
     pub offset: Option<usize>,
@@ -72,13 +76,13 @@ fn tree_of(alloc: Global, key: u64, text: &[u8]) -> Result<(Context, TreeOp), Un
             refusal: Refusal::Memory,
             offset: None,
         }),
-        Err(ReadError::Full(left)) => Err(Unread {
+        Err(ReadError::Full { offset }) => Err(Unread {
             refusal: Refusal::TooMany,
-            offset: Some(text.len().saturating_sub(left)),
+            offset: Some(offset),
         }),
-        Err(ReadError::Refused(fault)) => Err(Unread {
-            refusal: fault.refusal,
-            offset: Some(text.len().saturating_sub(fault.left)),
+        Err(ReadError::Refused { refusal, offset }) => Err(Unread {
+            refusal,
+            offset: Some(offset),
         }),
     }
 }
@@ -194,7 +198,7 @@ fn answer_prints<W: Write, L: Analysis>(
     requires short { length script.now ≤ MAX_SCRIPT_BYTES }
     requires prints { all_print (lines_of script.now) ≡ true }
     requires apart { kinds_apart L.meaning boxes.now ≡ true }
-    ensures { (brief : Bool) (next : ℕ) → RanOut (IsSession brief (all_shown L.meaning boxes.now) (record { tree = meaning ctx.now tree.now; next = next }) script.now) (W.contents writer.old) (W.contents writer.new) result }
+    ensures { (manner : Manner) (next : ℕ) → RanOut (IsSession manner (all_shown L.meaning boxes.now) (record { tree = meaning ctx.now tree.now; next = next }) script.now) (W.contents writer.old) (W.contents writer.new) result }
 {
     match print_session(alloc, ctx, tree, script, writer, boxes) {
         Ok(status) => finish(writer, status),
@@ -206,6 +210,7 @@ fn answer_prints<W: Write, L: Analysis>(
 fn answer_script<W: Write, L: Analysis>(
     alloc: Global,
     brief: bool,
+    bytes: usize,
     world: World,
     script: &[u8],
     writer: &mut W,
@@ -213,9 +218,9 @@ fn answer_script<W: Write, L: Analysis>(
 ) -> Result<u8, WriteFault>
     requires slotted { IsSlotted world.store }
     requires tidy { IsTidy world.store }
-    ensures { RanOut (IsSession brief (all_shown L.meaning boxes.items) (module_in world) script.now) (W.contents writer.old) (W.contents writer.new) result }
+    ensures { RanOut (IsSession (record { brief = brief; bytes = bytes }) (all_shown L.meaning boxes.items) (module_in world) script.now) (W.contents writer.old) (W.contents writer.new) result }
 {
-    match run_session(alloc, brief, world, script, writer, boxes) {
+    match run_session(alloc, brief, bytes, world, script, writer, boxes) {
         Ok(status) => finish(writer, status),
         Err(fault) => Err(fault),
     }
@@ -224,15 +229,17 @@ fn answer_script<W: Write, L: Analysis>(
 /// Runs an input that was read. A script that only prints is answered from the tree, without a world.
 fn answer_input<W: Write, L: Analysis>(
     alloc: Global,
-    options: Options,
+    key: u64,
+    brief: bool,
     input: Vec<u8>,
     writer: &mut W,
     boxes: Vec<L>,
 ) -> Result<u8, WriteFault>
     requires { length input.items ≤ MAX_INPUT_BYTES }
-    ensures { RanOut (IsOutput options.brief (all_shown L.meaning boxes.items) input.items) (W.contents writer.old) (W.contents writer.new) result }
+    ensures { RanOut (IsOutput brief (all_shown L.meaning boxes.items) input.items) (W.contents writer.old) (W.contents writer.new) result }
 {
-    let ((ctx, tree), script) = match taken_apart(alloc, options.key, input) {
+    let bytes = input.len();
+    let ((ctx, tree), script) = match taken_apart(alloc, key, input) {
         Ok(parts) => parts,
         Err(unread) => return refuse(writer, unread),
     };
@@ -242,7 +249,7 @@ fn answer_input<W: Write, L: Analysis>(
     let Some(world) = hold(alloc, ctx, tree) else {
         return refuse(writer, no_memory());
     };
-    answer_script(alloc, options.brief, world, &script, writer, boxes)
+    answer_script(alloc, brief, bytes, world, &script, writer, boxes)
 }
 
 fn ended(ran: Result<u8, WriteFault>) -> Result<u8, Fault>
@@ -255,9 +262,10 @@ fn ended(ran: Result<u8, WriteFault>) -> Result<u8, Fault>
 }
 
 /// Reads the whole input, and then runs it. After a read fault nothing is written; after a write fault a
-/// front of an output is.
+/// front of an output is. Nothing that is written depends on the key with which names are hashed.
 pub fn read_and_answer<R: Read, W: Write, L: Analysis>(
     alloc: Global,
+    key: u64,
     options: Options,
     reader: &mut R,
     writer: &mut W,
@@ -278,7 +286,7 @@ pub fn read_and_answer<R: Read, W: Write, L: Analysis>(
         Err(ReadFault::Memory) => return ended(refuse(writer, no_memory())),
         Err(ReadFault::Broken) => return Err(Fault::Read),
     };
-    ended(answer_input(alloc, options, input, writer, boxes))
+    ended(answer_input(alloc, key, options.brief, input, writer, boxes))
 }
 
 fn exit_status(ended: Result<u8, Fault>) -> u8
@@ -303,5 +311,20 @@ pub fn run<L: Analysis, R: Read, W: Write>(
 ) -> u8
     ensures { IfSome (R.remaining reader.old) (λ input. HasStatus (IsOutput options.brief (all_shown L.meaning boxes.items) input) (W.contents writer.old) (W.contents writer.new) result) }
 {
-    exit_status(read_and_answer(alloc, options, reader, writer, boxes))
+    run_keyed(alloc, 0, options, reader, writer, boxes)
+}
+
+/// The same, where names are hashed with a key that nobody who writes a text knows, so that no text can be written
+/// whose names collide. Nothing that is written depends on it.
+pub fn run_keyed<L: Analysis, R: Read, W: Write>(
+    alloc: Global,
+    key: u64,
+    options: Options,
+    reader: &mut R,
+    writer: &mut W,
+    boxes: Vec<L>,
+) -> u8
+    ensures { IfSome (R.remaining reader.old) (λ input. HasStatus (IsOutput options.brief (all_shown L.meaning boxes.items) input) (W.contents writer.old) (W.contents writer.new) result) }
+{
+    exit_status(read_and_answer(alloc, key, options, reader, writer, boxes))
 }

@@ -47,7 +47,7 @@ Kinds:
   constants    the values that are known without running, each with its attribute
 
 Exit status:
-  0  each command was accepted; also of --help and --version
+  0  each command was accepted; also of --help
   1  a command was refused, or an analysis that was to be attached
   2  the command line is wrong, or there was no memory to begin
   3  the module was refused, as in `module refused 3 UnknownValue at 9`: the number and word of the reason,

@@ -8,6 +8,7 @@ use crate::lines::split_line;
 use memchr::memchr;
 use std::alloc::Global;
 use std::io::{ErrorKind, Read};
+use thiserror::Error;
 
 /// The most bytes of an input.
 pub const MAX_INPUT_BYTES: usize = 33_554_432;
@@ -25,13 +26,16 @@ const CHUNK: usize = 8192;
 const DIVIDER: &[u8] = b"// -----";
 
 /// Why an input wasn't read.
-#[derive(Clone, Copy, Debug, PartialEq, Eq)]
+#[derive(Clone, Copy, Debug, PartialEq, Eq, Error)]
 pub enum ReadFault {
     /// A read failed, or one more than `MAX_READS` was needed.
+    #[error("a read failed")]
     Broken,
     /// There are more than `MAX_INPUT_BYTES` bytes.
+    #[error("the input is too long")]
     TooMany,
     /// No memory for the bytes.
+    #[error("memory was refused")]
     Memory,
 }
 

@@ -4,9 +4,11 @@ ghost use Rattle.std.specs.Io.KnownBytes.{Keeps};
 ghost use Rattle.mlir_work_script.specs.Writes.{Puts, joined};
 
 use std::io::Write;
+use thiserror::Error;
 
 /// A write failed, was interrupted or took no byte.
-#[derive(Clone, Copy, Debug, PartialEq, Eq)]
+#[derive(Clone, Copy, Debug, PartialEq, Eq, Error)]
+#[error("a write failed")]
 pub struct WriteFault;
 
 /// Writes the bytes. At a fault a front of them was written.

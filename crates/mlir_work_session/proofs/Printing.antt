@@ -3,12 +3,13 @@ use Rattle.std.proofs.Common.{◌≡◌, ◌∙◌, ap, sym, subst, refl, ℕ, �
 use Rattle.std.specs.List.{list_any, list_all}
 use Rattle.std.proofs.lemmas.Bool.{eq-eqb, eqb-true, lt-ltb, ltb-false, ltb-true}
 use Rattle.std.proofs.lemmas.List.Recursion.{is_position_or_len}
-use Rattle.ir_types.specs.declared.refusal.Refusal.TheVariants.{Memory}
+use Rattle.ir_types.specs.declared.refusal.Refusal.TheVariants.{Memory, TooMany}
+use Rattle.ir_tree.specs.Meaning.{Operation}
 use Rattle.ir_event.specs.Modules.{Module}
 use Rattle.ir_event.specs.Listener.{Listener}
 use Rattle.ir_text.specs.Printing.{text_of}
 use Rattle.rewriter_machine.specs.Commands as said
-use Rattle.rewriter_machine.specs.Commands.{Command, Ask, Replied}
+use Rattle.rewriter_machine.specs.Commands.{Command, Ask, Replied, TextRefusedAt}
 use Rattle.rewriter_machine.specs.Machine as call
 use Rattle.rewriter_machine.specs.Machine.{State, Done, Refused, Tree, Nothing as NoRows}
 use Rattle.rewriter_machine.specs.Panels.{Shown, all_shown, has_kind, is_kind}
@@ -16,10 +17,11 @@ use Rattle.mlir_work_script.specs.Commands.{Spoken, Nothing, Bad, Obey, line_say
 use Rattle.mlir_work_script.specs.Lines.{lines_of}
 use Rattle.mlir_work_script.specs.declared.input.TheConstants.{MAX_SCRIPT_BYTES}
 use Rattle.mlir_work_session.specs.Machine.{Obeys, response_of}
-use Rattle.mlir_work_session.specs.Output.{Attaches, IsReplied, IsSession, Replies, Runs, asks, is_accepted, reply_line, says_nothing, shows_alone, worse}
+use Rattle.mlir_work_session.specs.Output.{Attaches, IsBounded, IsReplied, IsSession, Manner, Replies, Runs, asks, is_accepted, reply_line, says_nothing, shows_alone, worse}
 use Rattle.mlir_work_session.specs.PrintsAlone.{IsPrinted, all_print, is_print, kinds_apart, prints_alone}
 use Rattle.mlir_work_session.specs.Ran.{RanOut}
 use Rattle.mlir_work_session.specs.declared.reply.Reply.{Reply}
+use Rattle.mlir_work_session.specs.declared.reply.Reply.TheVariants as code
 use Rattle.mlir_work_session.proofs.Panels.{kind_shown}
 use Rattle.mlir_work_session.proofs.Runs.{run_step}
 use Rattle.mlir_work_session.proofs.Sessions.{ran_weaker}
@@ -178,18 +180,22 @@ pub more_print : (text line more : List ℕ) → lines_of text ≡ line ∷ line
 more_print text line more e h = both _ _ (sym (first_prints text line more e) ∙ h)
 
 -- a line that asks for the module is replied to, and then what may follow
-pub print_step : (brief : Bool) (n : ℕ) (s : State) (text line more : List ℕ) (reply : Reply) (shows : List ℕ) → lines_of text ≡ line ∷ lines_of more → prints_alone (line_says line) ≡ true → false ≡ says_nothing (line_says line) → IsPrinted s.held.tree reply shows →
-    (later : ℕ) (rest : List ℕ) → Runs brief (n + 1) s (lines_of more) later rest → Runs brief n s (lines_of text) (worse (is_accepted (response_of reply)) later) ((reply_line n (response_of reply) ++ shows) ++ rest)
-print_step brief n s text line more reply shows e is f p later rest h =
-    run_step brief n s text line more (line_says line) (response_of reply) shows s (reply_line n (response_of reply) ++ shows) e refl f (printed s (line_says line) reply shows is (sym f) p) (unlisted brief s n (line_says line) reply shows is (sym f)) later rest h
+printed_bounded : (bytes : ℕ) (t : Operation) (reply : Reply) (shows : List ℕ) → IsPrinted t reply shows → IsBounded bytes (response_of reply)
+printed_bounded bytes t reply shows (inl h) = subst (λ (r : Reply). IsBounded bytes (response_of r)) (sym h.0) (λ offset e. absurd (let f : Replied Done ≡ TextRefusedAt TooMany offset = e in cc))
+printed_bounded bytes t reply shows (inr h) = subst (λ (r : Reply). IsBounded bytes (response_of r)) (sym h.0) (λ offset e. absurd (let f : Replied (Refused Memory) ≡ TextRefusedAt TooMany offset = e in cc))
+
+pub print_step : (manner : Manner) (n : ℕ) (s : State) (text line more : List ℕ) (reply : Reply) (shows : List ℕ) → lines_of text ≡ line ∷ lines_of more → prints_alone (line_says line) ≡ true → false ≡ says_nothing (line_says line) → IsPrinted s.held.tree reply shows →
+    (later : ℕ) (rest : List ℕ) → Runs manner (n + 1) s (lines_of more) later rest → Runs manner n s (lines_of text) (worse (is_accepted (response_of reply)) later) ((reply_line n (response_of reply) ++ shows) ++ rest)
+print_step manner n s text line more reply shows e is f p later rest h =
+    run_step manner n s text line more (line_says line) (response_of reply) shows s (reply_line n (response_of reply) ++ shows) e refl f (printed s (line_says line) reply shows is (sym f) p) (unlisted manner.brief s n (line_says line) reply shows is (sym f)) (printed_bounded manner.bytes s.held.tree reply shows p) later rest h
 
 -- ---- sessions
 
 -- what the lines may give is what a session may give whose boxes have different kinds
-print_ran : {E : Type 0} (brief : Bool) (boxes : List Shown) (m : Module) (script : List ℕ) (a b : Option (List ℕ)) (r : Result ℕ E) → length script ≤ MAX_SCRIPT_BYTES → are_apart boxes ≡ true →
-    RanOut (Runs brief 1 (record { held = m; marks = []; panel = map begun boxes }) (lines_of script)) a b r → RanOut (IsSession brief boxes m script) a b r
-print_ran brief boxes m script a b r short apart ran =
-    ran_weaker (Runs brief 1 (record { held = m; marks = []; panel = map begun boxes }) (lines_of script)) (IsSession brief boxes m script) a b r
+print_ran : {E : Type 0} (manner : Manner) (boxes : List Shown) (m : Module) (script : List ℕ) (a b : Option (List ℕ)) (r : Result ℕ E) → length script ≤ MAX_SCRIPT_BYTES → are_apart boxes ≡ true →
+    RanOut (Runs manner 1 (record { held = m; marks = []; panel = map begun boxes }) (lines_of script)) a b r → RanOut (IsSession manner boxes m script) a b r
+print_ran manner boxes m script a b r short apart ran =
+    ran_weaker (Runs manner 1 (record { held = m; marks = []; panel = map begun boxes }) (lines_of script)) (IsSession manner boxes m script) a b r
     (λ st o h. inr (
       short,
       record {
@@ -205,6 +211,6 @@ print_ran brief boxes m script a b r short apart ran =
       },
     )) ran
 
-pub prints_ran : {B E : Type 0} (meaning : B → Listener) (brief : Bool) (bs : List B) (m : Module) (script : List ℕ) (a b : Option (List ℕ)) (r : Result ℕ E) → length script ≤ MAX_SCRIPT_BYTES → kinds_apart meaning bs ≡ true →
-    ((panel : List Shown) → RanOut (Runs brief 1 (record { held = m; marks = []; panel = panel }) (lines_of script)) a b r) → RanOut (IsSession brief (all_shown meaning bs) m script) a b r
-prints_ran meaning brief bs m script a b r short apart ran = print_ran brief (all_shown meaning bs) m script a b r short (apart_shown meaning bs ∙ apart) (ran _)
+pub prints_ran : {B E : Type 0} (meaning : B → Listener) (manner : Manner) (bs : List B) (m : Module) (script : List ℕ) (a b : Option (List ℕ)) (r : Result ℕ E) → length script ≤ MAX_SCRIPT_BYTES → kinds_apart meaning bs ≡ true →
+    ((panel : List Shown) → RanOut (Runs manner 1 (record { held = m; marks = []; panel = panel }) (lines_of script)) a b r) → RanOut (IsSession manner (all_shown meaning bs) m script) a b r
+prints_ran meaning manner bs m script a b r short apart ran = print_ran manner (all_shown meaning bs) m script a b r short (apart_shown meaning bs ∙ apart) (ran _)

@@ -18,7 +18,7 @@ use Rattle.ir_event.specs.Listener.{Listener}
 use Rattle.ir_event.specs.Modules.{things_in, module_in, module_meaning}
 use Rattle.ir_text.specs.Printing.{text_of}
 use Rattle.ir_text_attributes.specs.Spelling.{SpellsAttr}
-use Rattle.rewriter_machine.specs.Commands.{Replied, TextRefusedAt}
+use Rattle.rewriter_machine.specs.Commands.{IsAttrRefusal, IsOpRefusal, Replied, TextRefusedAt}
 use Rattle.rewriter_machine.specs.Machine.{State, Refused}
 use Rattle.rewriter_machine.specs.Panels.{all_shown}
 use Rattle.rewriter_machine.specs.Spots.{Spot, spot_place}
@@ -95,20 +95,33 @@ module _ {B : Type 0} (meaning : B → Listener) where
 
 -- ---- texts that aren't read
 
-pub unread_memory : {X : Type 0} (Spelled : X → Type 0) → NotRead Spelled (Replied (Refused Memory))
-unread_memory Spelled = (Memory, None, (inr refl, inr (inr refl)), refl)
+pub unread_memory : {X : Type 0} (Spelled : X → Type 0) → NotRead IsAttrRefusal Spelled (Replied (Refused Memory))
+unread_memory Spelled = (Memory, None, (refl, inr (inr refl)), refl)
 
-pub unread_full : {X : Type 0} (Spelled : X → Type 0) (offset : ℕ) → NotRead Spelled (TextRefusedAt TooMany offset)
+pub unread_memory_op : {X : Type 0} (Spelled : X → Type 0) → NotRead IsOpRefusal Spelled (Replied (Refused Memory))
+unread_memory_op Spelled = (Memory, None, (inr refl, inr (inr refl)), refl)
+
+pub unread_full : {X : Type 0} (Spelled : X → Type 0) (offset : ℕ) → NotRead IsAttrRefusal Spelled (TextRefusedAt TooMany offset)
 unread_full Spelled offset = (TooMany, Some offset, (omega arith, inr (inl refl)), refl)
 
-unread_ids : {X : Type 0} (Spelled : X → Type 0) → ((x : X) → Spelled x → ⊥) → NotRead Spelled (Replied (Refused IdsExhausted))
+pub unread_full_op : {X : Type 0} (Spelled : X → Type 0) (offset : ℕ) → NotRead IsOpRefusal Spelled (TextRefusedAt TooMany offset)
+unread_full_op Spelled offset = (TooMany, Some offset, (omega arith, inr (inl refl)), refl)
+
+unread_ids : {X : Type 0} (Spelled : X → Type 0) → ((x : X) → Spelled x → ⊥) → NotRead IsOpRefusal Spelled (Replied (Refused IdsExhausted))
 unread_ids Spelled none = (IdsExhausted, None, (inl refl, inl none), refl)
 
-pub ids_refused : {X : Type 0} (Spelled : X → Type 0) (refusal : Refusal) → refusal ≡ IdsExhausted → ((x : X) → Spelled x → ⊥) → NotRead Spelled (Replied (Refused refusal))
-ids_refused Spelled refusal is none = subst (λ r. NotRead Spelled (Replied (Refused r))) (sym is) (unread_ids Spelled none)
+pub ids_refused : {X : Type 0} (Spelled : X → Type 0) (refusal : Refusal) → refusal ≡ IdsExhausted → ((x : X) → Spelled x → ⊥) → NotRead IsOpRefusal Spelled (Replied (Refused refusal))
+ids_refused Spelled refusal is none = subst (λ r. NotRead IsOpRefusal Spelled (Replied (Refused r))) (sym is) (unread_ids Spelled none)
 
-pub unread_at : {X : Type 0} (Spelled : X → Type 0) (refusal : Refusal) (offset : ℕ) → number_of refusal ≤ 14 → ((x : X) → Spelled x → ⊥) → NotRead Spelled (TextRefusedAt refusal offset)
+-- no attribute is refused for want of ids
+pub ids_are_late : (refusal : Refusal) → refusal ≡ IdsExhausted → number_of refusal ≤ 14 → ⊥
+ids_are_late refusal is small = (let late : number_of IdsExhausted ≤ 14 = subst (λ r. number_of r ≤ 14) is small in omega (arith, late))
+
+pub unread_at : {X : Type 0} (Spelled : X → Type 0) (refusal : Refusal) (offset : ℕ) → number_of refusal ≤ 14 → ((x : X) → Spelled x → ⊥) → NotRead IsAttrRefusal Spelled (TextRefusedAt refusal offset)
 unread_at Spelled refusal offset small none = (refusal, Some offset, (small, inl none), refl)
+
+pub unread_at_op : {X : Type 0} (Spelled : X → Type 0) (refusal : Refusal) (offset : ℕ) → number_of refusal ≤ 14 → ((x : X) → Spelled x → ⊥) → NotRead IsOpRefusal Spelled (TextRefusedAt refusal offset)
+unread_at_op Spelled refusal offset small none = (refusal, Some offset, (small, inl none), refl)
 
 -- ---- names and attributes
 

@@ -8,7 +8,7 @@ use Rattle.rewriter_machine.specs.Machine.{Refused}
 use Rattle.mlir_work_script.specs.Commands.{Spoken, Nothing, Bad, Obey, line_says}
 use Rattle.mlir_work_script.specs.Lines.{lines_of}
 use Rattle.rewriter_machine.specs.Machine.{State}
-use Rattle.mlir_work_session.specs.Output.{Line, Replied, Replies, IsReplied, Runs, worse, says_nothing, asks, reply_line, is_accepted}
+use Rattle.mlir_work_session.specs.Output.{CanFill, IsBounded, Line, Manner, Replied, Replies, IsReplied, Runs, worse, says_nothing, asks, reply_line, is_accepted}
 use Rattle.mlir_work_session.specs.Ran.{RanOut}
 use Rattle.mlir_work_session.proofs.Listings.{some_listing_if}
 use Rattle.mlir_work_session.proofs.Obeying.{some_answer}
@@ -18,28 +18,28 @@ worse_both true b later = refl
 worse_both false b later = refl
 
 -- a line that says nothing goes for nothing
-pub line_skipped : (Rest : ℕ → State → ℕ → List ℕ → Type 0) (brief : Bool) (n : ℕ) (s : State) (spoken : Spoken) (status : ℕ) (out : List ℕ) → says_nothing spoken ≡ true → Rest n s status out → Line Rest brief n s spoken status out
-line_skipped Rest brief n s Nothing status out e h = h
-line_skipped Rest brief n s Bad status out e h = absurd (let f : false ≡ true = e in cc)
-line_skipped Rest brief n s (Obey command) status out e h = absurd (let f : false ≡ true = e in cc)
+pub line_skipped : (Rest : ℕ → State → ℕ → List ℕ → Type 0) (manner : Manner) (n : ℕ) (s : State) (spoken : Spoken) (status : ℕ) (out : List ℕ) → says_nothing spoken ≡ true → Rest n s status out → Line Rest manner n s spoken status out
+line_skipped Rest manner n s Nothing status out e h = h
+line_skipped Rest manner n s Bad status out e h = absurd (let f : false ≡ true = e in cc)
+line_skipped Rest manner n s (Obey command) status out e h = absurd (let f : false ≡ true = e in cc)
 
-pub line_replied : (Rest : ℕ → State → ℕ → List ℕ → Type 0) (brief : Bool) (n : ℕ) (s : State) (spoken : Spoken) (status : ℕ) (out : List ℕ) → says_nothing spoken ≡ false → Replied Rest brief n s spoken status out → Line Rest brief n s spoken status out
-line_replied Rest brief n s Nothing status out e h = absurd (let f : true ≡ false = e in cc)
-line_replied Rest brief n s Bad status out e h = h
-line_replied Rest brief n s (Obey command) status out e h = h
+pub line_replied : (Rest : ℕ → State → ℕ → List ℕ → Type 0) (manner : Manner) (n : ℕ) (s : State) (spoken : Spoken) (status : ℕ) (out : List ℕ) → says_nothing spoken ≡ false → Replied Rest manner n s spoken status out → Line Rest manner n s spoken status out
+line_replied Rest manner n s Nothing status out e h = absurd (let f : true ≡ false = e in cc)
+line_replied Rest manner n s Bad status out e h = h
+line_replied Rest manner n s (Obey command) status out e h = h
 
-pub runs_skipped : (brief : Bool) (n : ℕ) (s : State) (text : List ℕ) (line : List ℕ) (more : List ℕ) (status : ℕ) (out : List ℕ) → lines_of text ≡ line ∷ lines_of more → says_nothing (line_says line) ≡ true → Runs brief n s (lines_of more) status out → Runs brief n s (lines_of text) status out
-runs_skipped brief n s text line more status out e f h = rw e (line_skipped (λ m t st o. Runs brief m t (lines_of more) st o) brief n s (line_says line) status out f h)
+pub runs_skipped : (manner : Manner) (n : ℕ) (s : State) (text : List ℕ) (line : List ℕ) (more : List ℕ) (status : ℕ) (out : List ℕ) → lines_of text ≡ line ∷ lines_of more → says_nothing (line_says line) ≡ true → Runs manner n s (lines_of more) status out → Runs manner n s (lines_of text) status out
+runs_skipped manner n s text line more status out e f h = rw e (line_skipped (λ m t st o. Runs manner m t (lines_of more) st o) manner n s (line_says line) status out f h)
 
-pub runs_replied : (brief : Bool) (n : ℕ) (s : State) (text : List ℕ) (line : List ℕ) (more : List ℕ) (status : ℕ) (out : List ℕ) → lines_of text ≡ line ∷ lines_of more → says_nothing (line_says line) ≡ false → Replied (λ m t st o. Runs brief m t (lines_of more) st o) brief n s (line_says line) status out → Runs brief n s (lines_of text) status out
-runs_replied brief n s text line more status out e f h = rw e (line_replied (λ m t st o. Runs brief m t (lines_of more) st o) brief n s (line_says line) status out f h)
+pub runs_replied : (manner : Manner) (n : ℕ) (s : State) (text : List ℕ) (line : List ℕ) (more : List ℕ) (status : ℕ) (out : List ℕ) → lines_of text ≡ line ∷ lines_of more → says_nothing (line_says line) ≡ false → Replied (λ m t st o. Runs manner m t (lines_of more) st o) manner n s (line_says line) status out → Runs manner n s (lines_of text) status out
+runs_replied manner n s text line more status out e f h = rw e (line_replied (λ m t st o. Runs manner m t (lines_of more) st o) manner n s (line_says line) status out f h)
 
 -- a reply, and then what may follow, is what may be from here
-pub run_step : (brief : Bool) (n : ℕ) (s : State) (text line more : List ℕ) (spoken : Spoken) (reply : Response) (shows : List ℕ) (t : State) (told : List ℕ) →
-    lines_of text ≡ line ∷ lines_of more → spoken ≡ line_says line → false ≡ says_nothing spoken → Replies s spoken reply shows t → IsReplied (not brief && not (asks spoken)) t n reply shows told →
-    (later : ℕ) (rest : List ℕ) → Runs brief (n + 1) t (lines_of more) later rest → Runs brief n s (lines_of text) (worse (is_accepted reply) later) (told ++ rest)
-run_step brief n s text line more spoken reply shows t told e is f r told_is later rest h =
-    rw e (line_replied (λ m t st o. Runs brief m t (lines_of more) st o) brief n s (line_says line) _ _ (rw (← is) (sym f)) (record {
+pub run_step : (manner : Manner) (n : ℕ) (s : State) (text line more : List ℕ) (spoken : Spoken) (reply : Response) (shows : List ℕ) (t : State) (told : List ℕ) →
+    lines_of text ≡ line ∷ lines_of more → spoken ≡ line_says line → false ≡ says_nothing spoken → Replies s spoken reply shows t → IsReplied (not manner.brief && not (asks spoken)) t n reply shows told → IsBounded manner.bytes reply →
+    (later : ℕ) (rest : List ℕ) → Runs manner (n + 1) t (lines_of more) later rest → Runs manner n s (lines_of text) (worse (is_accepted reply) later) (told ++ rest)
+run_step manner n s text line more spoken reply shows t told e is f r told_is full later rest h =
+    rw e (line_replied (λ m t st o. Runs manner m t (lines_of more) st o) manner n s (line_says line) _ _ (rw (← is) (sym f)) (record {
       response = reply;
       shows = shows;
       after = t;
@@ -48,14 +48,15 @@ run_step brief n s text line more spoken reply shows t told e is f r told_is lat
       rest = rest;
       replies = rw (← is) r;
       replied = rw (← is) told_is;
+      full = full;
       goes_on = h;
       status_is = refl;
       out_is = refl;
     }))
 
-some_replied : (Rest : ℕ → State → ℕ → List ℕ → Type 0) (brief : Bool) (n : ℕ) (s : State) (spoken : Spoken) (reply : Response) (shows : List ℕ) (t : State) → Replies s spoken reply shows t → ((m : ℕ) (t : State) → (st : ℕ) × (o : List ℕ) × Rest m t st o) → (st : ℕ) × (o : List ℕ) × Replied Rest brief n s spoken st o
-some_replied Rest brief n s spoken reply shows t r some =
-    let more = some_listing_if (not brief && not (asks spoken)) t in
+some_replied : (Rest : ℕ → State → ℕ → List ℕ → Type 0) (manner : Manner) (n : ℕ) (s : State) (spoken : Spoken) (reply : Response) (shows : List ℕ) (t : State) → Replies s spoken reply shows t → IsBounded manner.bytes reply → ((m : ℕ) (t : State) → (st : ℕ) × (o : List ℕ) × Rest m t st o) → (st : ℕ) × (o : List ℕ) × Replied Rest manner n s spoken st o
+some_replied Rest manner n s spoken reply shows t r full some =
+    let more = some_listing_if (not manner.brief && not (asks spoken)) t in
     let rest = some (n + 1) t in
     let told = reply_line n reply ++ (shows ++ more.0) in (
       worse (is_accepted reply) rest.0,
@@ -69,25 +70,26 @@ some_replied Rest brief n s spoken reply shows t r some =
         rest = rest.1;
         replies = r;
         replied = (more.0, more.1, refl);
+        full = full;
         goes_on = rest.2;
         status_is = refl;
         out_is = refl;
       },
     )
 
-some_line : (Rest : ℕ → State → ℕ → List ℕ → Type 0) (brief : Bool) (n : ℕ) (s : State) (spoken : Spoken) → ((m : ℕ) (t : State) → (st : ℕ) × (o : List ℕ) × Rest m t st o) → (st : ℕ) × (o : List ℕ) × Line Rest brief n s spoken st o
-some_line Rest brief n s Nothing some = some n s
-some_line Rest brief n s Bad some = some_replied Rest brief n s Bad (Says (Refused BadCommand)) [] s (refl, refl, refl) some
-some_line Rest brief n s (Obey command) some = let a = some_answer s command in some_replied Rest brief n s (Obey command) a.0 a.1 a.2 a.3 some
+some_line : (Rest : ℕ → State → ℕ → List ℕ → Type 0) (manner : Manner) (n : ℕ) (s : State) (spoken : Spoken) → ((m : ℕ) (t : State) → (st : ℕ) × (o : List ℕ) × Rest m t st o) → (st : ℕ) × (o : List ℕ) × Line Rest manner n s spoken st o
+some_line Rest manner n s Nothing some = some n s
+some_line Rest manner n s Bad some = some_replied Rest manner n s Bad (Says (Refused BadCommand)) [] s (refl, refl, refl) (λ offset e. absurd cc) some
+some_line Rest manner n s (Obey command) some = let a = some_answer s command in some_replied Rest manner n s (Obey command) a.0 a.1 a.2 a.3 (λ offset e. absurd (a.4 offset e)) some
 
 -- from each state each script has an output, as each command has an answer
-pub some_runs : (brief : Bool) (lines : List (List ℕ)) (n : ℕ) (s : State) → (st : ℕ) × (o : List ℕ) × Runs brief n s lines st o
-some_runs brief [] n s = (0, [], (refl, refl))
-some_runs brief (line ∷ lines) n s = some_line (λ m t st o. Runs brief m t lines st o) brief n s (line_says line) (λ m t. some_runs brief lines m t)
+pub some_runs : (manner : Manner) (lines : List (List ℕ)) (n : ℕ) (s : State) → (st : ℕ) × (o : List ℕ) × Runs manner n s lines st o
+some_runs manner [] n s = (0, [], (refl, refl))
+some_runs manner (line ∷ lines) n s = some_line (λ m t st o. Runs manner m t lines st o) manner n s (line_says line) (λ m t. some_runs manner lines m t)
 
-pub runs_end : (brief : Bool) (n : ℕ) (s : State) (text : List ℕ) → length text ≤ 0 → Runs brief n s (lines_of text) 0 []
-runs_end brief n s [] h = (refl, refl)
-runs_end brief n s (b ∷ bs) h = absurd (omega arith)
+pub runs_end : (manner : Manner) (n : ℕ) (s : State) (text : List ℕ) → length text ≤ 0 → Runs manner n s (lines_of text) 0 []
+runs_end manner n s [] h = (refl, refl)
+runs_end manner n s (b ∷ bs) h = absurd (omega arith)
 
 pub filled : (text : List ℕ) (r : Bool) → r ≡ (length text == 0) → r ≡ false → 0 < length text
 filled [] r e f = absurd (let h : true ≡ false = sym e ∙ f in cc)

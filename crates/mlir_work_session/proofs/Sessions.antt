@@ -7,29 +7,29 @@ use Rattle.mlir_work_script.specs.declared.input.TheConstants.{MAX_SCRIPT_BYTES}
 use Rattle.std.specs.Io.KnownBytes.{Appends}
 use Rattle.mlir_work_script.proofs.Joins.{appends_join, front_join, front_more}
 use Rattle.rewriter_machine.specs.Panels.{Shown}
-use Rattle.mlir_work_session.specs.Output.{Attaches, Runs, Session, worse}
+use Rattle.mlir_work_session.specs.Output.{Attaches, Manner, Runs, Session, worse}
 use Rattle.mlir_work_session.specs.Ran.{RanOut}
 use Rattle.mlir_work_session.proofs.Runs.{some_runs}
 
-module _ (brief : Bool) (boxes : List Shown) (m : Module) (script : List ℕ) where
-  session_of : (panel : List Shown) (accepted : Bool) (front : List ℕ) (later : ℕ) (rest : List ℕ) → Attaches boxes [] panel accepted front → Runs brief 1 (record { held = m; marks = []; panel = panel }) (lines_of script) later rest → Session brief boxes m script (worse accepted later) (front ++ rest)
+module _ (manner : Manner) (boxes : List Shown) (m : Module) (script : List ℕ) where
+  session_of : (panel : List Shown) (accepted : Bool) (front : List ℕ) (later : ℕ) (rest : List ℕ) → Attaches boxes [] panel accepted front → Runs manner 1 (record { held = m; marks = []; panel = panel }) (lines_of script) later rest → Session manner boxes m script (worse accepted later) (front ++ rest)
   session_of panel accepted front later rest h k = record { panel = panel; accepted = accepted; front = front; later = later; rest = rest; attached = h; runs = k; status_is = refl; out_is = refl }
 
   -- the boxes were attached, and then the script ran to its end
-  pub session_ran : (a b c : Option (List ℕ)) (panel : List Shown) (accepted : Bool) (front : List ℕ) (later : ℕ) (rest : List ℕ) → Attaches boxes [] panel accepted front → Appends a b front → Runs brief 1 (record { held = m; marks = []; panel = panel }) (lines_of script) later rest → Appends b c rest →
-      (out : List ℕ) × Session brief boxes m script (worse accepted later) out × Appends a c out
+  pub session_ran : (a b c : Option (List ℕ)) (panel : List Shown) (accepted : Bool) (front : List ℕ) (later : ℕ) (rest : List ℕ) → Attaches boxes [] panel accepted front → Appends a b front → Runs manner 1 (record { held = m; marks = []; panel = panel }) (lines_of script) later rest → Appends b c rest →
+      (out : List ℕ) × Session manner boxes m script (worse accepted later) out × Appends a c out
   session_ran a b c panel accepted front later rest h wrote k more = (front ++ rest, session_of panel accepted front later rest h k, appends_join a b c front rest wrote more)
 
   -- or not
-  pub session_cut : (a b c : Option (List ℕ)) (panel : List Shown) (accepted : Bool) (front : List ℕ) (later : ℕ) (rest : List ℕ) → Attaches boxes [] panel accepted front → Appends a b front → Runs brief 1 (record { held = m; marks = []; panel = panel }) (lines_of script) later rest → AppendsFront b c rest →
-      (status : ℕ) × (out : List ℕ) × Session brief boxes m script status out × AppendsFront a c out
+  pub session_cut : (a b c : Option (List ℕ)) (panel : List Shown) (accepted : Bool) (front : List ℕ) (later : ℕ) (rest : List ℕ) → Attaches boxes [] panel accepted front → Appends a b front → Runs manner 1 (record { held = m; marks = []; panel = panel }) (lines_of script) later rest → AppendsFront b c rest →
+      (status : ℕ) × (out : List ℕ) × Session manner boxes m script status out × AppendsFront a c out
   session_cut a b c panel accepted front later rest h wrote k more = (worse accepted later, front ++ rest, session_of panel accepted front later rest h k, front_join a b c front rest wrote more)
 
   -- or the boxes weren't all attached
   pub session_begun : (a b : Option (List ℕ)) (panel : List Shown) (accepted : Bool) (front : List ℕ) → Attaches boxes [] panel accepted front → AppendsFront a b front →
-      (status : ℕ) × (out : List ℕ) × Session brief boxes m script status out × AppendsFront a b out
+      (status : ℕ) × (out : List ℕ) × Session manner boxes m script status out × AppendsFront a b out
   session_begun a b panel accepted front h wrote =
-      let some = some_runs brief (lines_of script) 1 (record { held = m; marks = []; panel = panel }) in
+      let some = some_runs manner (lines_of script) 1 (record { held = m; marks = []; panel = panel }) in
       (worse accepted some.0, front ++ some.1, session_of panel accepted front some.0 some.1 h some.2, front_more a b front some.1 wrote)
 
 pub short : (n : ℕ) (long : Bool) → (IsTrue long ↔ (MAX_SCRIPT_BYTES < n)) → long ≡ false → n ≤ MAX_SCRIPT_BYTES

@@ -2,7 +2,7 @@
 -- where it is told of an edit. All else is determined.
 use Rattle.std.specs.Prelude.{◌≡◌, ℕ, ◌+◌, ◌<◌, ◌≤◌, List, [], ◌∷◌, ◌++◌, length, Bool, true, false, not, ◌&&◌, ◌⊎◌, Option, Some, None, is_none, if◌then◌else◌}
 use Rattle.ir_types.specs.declared.refusal.Refusal.{Refusal}
-use Rattle.ir_types.specs.declared.refusal.Refusal.TheVariants.{BadCommand, KindTaken, Memory}
+use Rattle.ir_types.specs.declared.refusal.Refusal.TheVariants.{BadCommand, KindTaken, Memory, TooMany}
 use Rattle.ir_event.specs.Modules.{Module}
 use Rattle.ir_event.specs.Rows.{RowTerm}
 use Rattle.ir_tree.specs.Meaning.{Operation}
@@ -93,8 +93,22 @@ Replies s (Obey command) response shows t = Obeys s command response shows t
 abbrev pub IsReplied : Bool → State → ℕ → Response → List ℕ → List ℕ → Type 0
 IsReplied listed t n response shows out = (more : List ℕ) × IsListingIf listed t more × (out ≡ reply_line n response ++ (shows ++ more))
 
+-- how a script is run: with listings or without, and of an input of how many bytes
+pub record Manner : Type 0 where
+  pub brief : Bool
+  pub bytes : ℕ
+
+-- an input of so many bytes may fill a context: each name, type and attribute stands for a byte of it, but for the names
+-- that a new context holds
+abbrev pub CanFill : ℕ → Type 0
+CanFill bytes = 16777216 ≤ bytes + 54
+
+-- a text is refused for want of room in the context only where the input may fill it
+abbrev pub IsBounded : ℕ → Response → Type 0
+IsBounded bytes response = (offset : ℕ) → response ≡ TextRefusedAt TooMany offset → CanFill bytes
+
 -- a line is replied to, and the rest follows
-pub record Replied (Rest : ℕ → State → ℕ → List ℕ → Type 0) (brief : Bool) (n : ℕ) (s : State) (spoken : Spoken) (status : ℕ) (out : List ℕ) : Type 0 where
+pub record Replied (Rest : ℕ → State → ℕ → List ℕ → Type 0) (manner : Manner) (n : ℕ) (s : State) (spoken : Spoken) (status : ℕ) (out : List ℕ) : Type 0 where
   pub response : Response
   pub shows : List ℕ
   pub after : State
@@ -102,20 +116,21 @@ pub record Replied (Rest : ℕ → State → ℕ → List ℕ → Type 0) (brief
   pub later : ℕ
   pub rest : List ℕ
   pub replies : Replies s spoken response shows after
-  pub replied : IsReplied (not brief && not (asks spoken)) after n response shows text
+  pub replied : IsReplied (not manner.brief && not (asks spoken)) after n response shows text
+  pub full : IsBounded manner.bytes response
   pub goes_on : Rest (n + 1) after later rest
   pub status_is : status ≡ worse (is_accepted response) later
   pub out_is : out ≡ text ++ rest
 
-abbrev pub Line : (ℕ → State → ℕ → List ℕ → Type 0) → Bool → ℕ → State → Spoken → ℕ → List ℕ → Type 0
-Line Rest brief n s Nothing status out = Rest n s status out
-Line Rest brief n s Bad status out = Replied Rest brief n s Bad status out
-Line Rest brief n s (Obey command) status out = Replied Rest brief n s (Obey command) status out
+abbrev pub Line : (ℕ → State → ℕ → List ℕ → Type 0) → Manner → ℕ → State → Spoken → ℕ → List ℕ → Type 0
+Line Rest manner n s Nothing status out = Rest n s status out
+Line Rest manner n s Bad status out = Replied Rest manner n s Bad status out
+Line Rest manner n s (Obey command) status out = Replied Rest manner n s (Obey command) status out
 
 -- from s, with n the next number, these lines may give this status and this output
-abbrev pub Runs : Bool → ℕ → State → List (List ℕ) → ℕ → List ℕ → Type 0
-Runs brief n s [] status out = (status ≡ 0) × (out ≡ [])
-Runs brief n s (line ∷ lines) status out = Line (λ m t st o. Runs brief m t lines st o) brief n s (line_says line) status out
+abbrev pub Runs : Manner → ℕ → State → List (List ℕ) → ℕ → List ℕ → Type 0
+Runs manner n s [] status out = (status ≡ 0) × (out ≡ [])
+Runs manner n s (line ∷ lines) status out = Line (λ m t st o. Runs manner m t lines st o) manner n s (line_says line) status out
 
 -- ---- boxes that are attached
 
@@ -141,14 +156,14 @@ Attaches (b ∷ bs) old new accepted out =
 -- ---- a module that was read
 
 -- boxes are attached to a panel that has none, and then the lines of a script are run
-pub record Session (brief : Bool) (boxes : List Shown) (m : Module) (script : List ℕ) (status : ℕ) (out : List ℕ) : Type 0 where
+pub record Session (manner : Manner) (boxes : List Shown) (m : Module) (script : List ℕ) (status : ℕ) (out : List ℕ) : Type 0 where
   pub panel : List Shown
   pub accepted : Bool
   pub front : List ℕ
   pub later : ℕ
   pub rest : List ℕ
   pub attached : Attaches boxes [] panel accepted front
-  pub runs : Runs brief 1 (record { held = m; marks = []; panel = panel }) (lines_of script) later rest
+  pub runs : Runs manner 1 (record { held = m; marks = []; panel = panel }) (lines_of script) later rest
   pub status_is : status ≡ worse accepted later
   pub out_is : out ≡ front ++ rest
 
@@ -157,6 +172,6 @@ abbrev pub IsBadScript : ℕ → List ℕ → Type 0
 IsBadScript status out = (status ≡ 1) × (out ≡ refused_line 1 BadCommand)
 
 -- this status and these bytes are an output of a script over a module, with these boxes
-abbrev pub IsSession : Bool → List Shown → Module → List ℕ → ℕ → List ℕ → Type 0
-IsSession brief boxes m script status out =
-    ((MAX_SCRIPT_BYTES < length script) × IsBadScript status out) ⊎ ((length script ≤ MAX_SCRIPT_BYTES) × Session brief boxes m script status out)
+abbrev pub IsSession : Manner → List Shown → Module → List ℕ → ℕ → List ℕ → Type 0
+IsSession manner boxes m script status out =
+    ((MAX_SCRIPT_BYTES < length script) × IsBadScript status out) ⊎ ((length script ≤ MAX_SCRIPT_BYTES) × Session manner boxes m script status out)

@@ -17,5 +17,5 @@ pub record Grown {B : Type 0} (meaning : B → Listener) (old new : Benched B) :
   pub kept : IsKept meaning old → IsKept meaning new
 
 -- a text that should spell one of some things was refused, with this response
-abbrev pub NotRead : {X : Type 0} → (X → Type 0) → Response → Type 0
-NotRead Spelled response = (refusal : Refusal) × (offset : Option ℕ) × TextRefused Spelled refusal offset × (response ≡ text_response refusal offset)
+abbrev pub NotRead : {X : Type 0} → (Refusal → Option ℕ → Type 0) → (X → Type 0) → Response → Type 0
+NotRead IsRefusal Spelled response = (refusal : Refusal) × (offset : Option ℕ) × TextRefused IsRefusal Spelled refusal offset × (response ≡ text_response refusal offset)

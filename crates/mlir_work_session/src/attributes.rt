@@ -1,11 +1,13 @@
 //! Entries as a command names them: the text of an attribute is read, and a key is interned.
-ghost use Rattle.std.specs.Prelude.{◌≡◌, Err, IfOk, IfErr, IfSome};
+ghost use Rattle.std.specs.Prelude.{◌≡◌, ℕ, Err, IfOk, IfErr, IfSome};
 ghost use Rattle.ir_types.specs.Things.{IsName, IsAttr};
 ghost use Rattle.ir_types.specs.Terms.{name_term, attr_term};
-ghost use Rattle.ir_text_tokens.specs.declared.fault.Fault.{Fault as TextFault};
+ghost use Rattle.ir_types.specs.declared.refusal.Refusal.{Refusal as Reason};
+ghost use Rattle.ir_text.specs.Public.{IsTold};
 ghost use Rattle.ir_text_attributes.specs.Claims.{IsNoAttr};
 ghost use Rattle.ir_text_attributes.specs.Spelling.{SpellsAttr};
 ghost use Rattle.mlir_work_script.specs.Keys.{key_bytes};
+ghost use Rattle.rewriter_machine.specs.Commands.{IsAttrRefusal};
 ghost use Rattle.mlir_work_session.specs.Texts.{Grown, NotRead};
 ghost use Rattle.mlir_work_session.specs.Machine.{response_of};
 
@@ -21,31 +23,28 @@ use rewriter::laws::led_benches_are_kept;
 use std::alloc::Global;
 
 /// The attribute that a text spells.
-fn parse<L: Analysis>(alloc: Global, bench: &mut Bench<L>, text: &[u8]) -> Result<AttrId, ReadError>
+fn parse<L: Analysis>(bench: &mut Bench<L>, text: &[u8]) -> Result<AttrId, ReadError>
     ensures attr { IfOk result (λ a. IsAttr bench.new.desk.ctx a × SpellsAttr text.now (attr_term bench.new.desk.ctx a)) }
-    ensures refused { (f : TextFault) → result ≡ Err (ReadError.Refused f) → IsNoAttr (SpellsAttr text.now) }
+    ensures refused { (r : Reason) (o : ℕ) → result ≡ Err (ReadError.Refused r o) → IsNoAttr (SpellsAttr text.now) }
+    ensures told { IfErr result (λ e. IsTold text.now e) }
     ensures grown { Grown L.meaning bench.old bench.new }
 {
     led_benches_are_kept::<L>();
     bench.world().ctx.sound();
-    let read = bench.parse_attr(alloc, text);
+    let read = bench.parse_attr(text);
     bench.world().ctx.sound();
     read
 }
 
 /// The attribute that a text spells, or the reply where it isn't read.
-fn attribute_of<L: Analysis>(
-    alloc: Global,
-    bench: &mut Bench<L>,
-    text: &[u8],
-) -> Result<AttrId, Reply>
+fn attribute_of<L: Analysis>(bench: &mut Bench<L>, text: &[u8]) -> Result<AttrId, Reply>
     ensures attr { IfOk result (λ a. IsAttr bench.new.desk.ctx a × SpellsAttr text.now (attr_term bench.new.desk.ctx a)) }
-    ensures unread { IfErr result (λ reply. NotRead (SpellsAttr text.now) (response_of reply)) }
+    ensures unread { IfErr result (λ reply. NotRead IsAttrRefusal (SpellsAttr text.now) (response_of reply)) }
     ensures grown { Grown L.meaning bench.old bench.new }
 {
-    match parse(alloc, bench, text) {
+    match parse(bench, text) {
         Ok(attribute) => Ok(attribute),
-        Err(error) => Err(reply_unread(text.len(), &error)),
+        Err(error) => Err(reply_unread(&error)),
     }
 }
 
@@ -90,10 +89,10 @@ pub(crate) fn entry_of<L: Analysis>(
 ) -> Result<(NameId, AttrId), Reply>
     ensures key { IfOk result (λ x. IsName bench.new.desk.ctx x.0 × (name_term bench.new.desk.ctx x.0 ≡ key_bytes key.now)) }
     ensures attr { IfOk result (λ x. IsAttr bench.new.desk.ctx x.1 × SpellsAttr text.now (attr_term bench.new.desk.ctx x.1)) }
-    ensures unread { IfErr result (λ reply. NotRead (SpellsAttr text.now) (response_of reply)) }
+    ensures unread { IfErr result (λ reply. NotRead IsAttrRefusal (SpellsAttr text.now) (response_of reply)) }
     ensures grown { Grown L.meaning bench.old bench.new }
 {
-    let attribute = match attribute_of(alloc, bench, text) {
+    let attribute = match attribute_of(bench, text) {
         Ok(attribute) => attribute,
         Err(reply) => return Err(reply),
     };

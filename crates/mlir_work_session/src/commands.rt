@@ -27,7 +27,7 @@ pub fn obey<L: Analysis>(alloc: Global, bench: &mut Bench<L>, command: &Command<
         Command::Erase(op) => plain(alloc, edits::erase(bench, *op)),
         Command::Move { op, spot } => plain(alloc, edits::move_op(bench, *op, spot)),
         Command::Insert { spot, operation } => {
-            plain(alloc, edits::insert(alloc, bench, spot, operation))
+            plain(alloc, edits::insert(bench, spot, operation))
         }
         Command::SetAttr { op, key, attribute } => {
             plain(alloc, edits::set_attr(alloc, bench, *op, key, attribute))

@@ -43,7 +43,7 @@ pub(crate) fn replace<L: Analysis>(bench: &mut Bench<L>, old: Value, new: Value)
     ensures kept { IsKept L.meaning bench.new }
 {
     led_benches_are_kept::<L>();
-    reply_to(rewriter::replace::replace_all(bench, old, new))
+    reply_to(bench.replace_all(old, new))
 }
 
 /// Takes an operation away, with what is inside it.
@@ -53,7 +53,7 @@ pub(crate) fn erase<L: Analysis>(bench: &mut Bench<L>, op: OpId) -> Reply
     ensures kept { IsKept L.meaning bench.new }
 {
     led_benches_are_kept::<L>();
-    reply_to(rewriter::erase::erase(bench, op))
+    reply_to(bench.erase(op))
 }
 
 /// Moves an operation to the place that is named.
@@ -71,18 +71,13 @@ pub(crate) fn move_op<L: Analysis>(bench: &mut Bench<L>, op: OpId, spot: &Spot) 
 }
 
 /// Inserts the operation that a text spells at the place that is named.
-pub(crate) fn insert<L: Analysis>(
-    alloc: Global,
-    bench: &mut Bench<L>,
-    spot: &Spot,
-    text: &[u8],
-) -> Reply
+pub(crate) fn insert<L: Analysis>(bench: &mut Bench<L>, spot: &Spot, text: &[u8]) -> Reply
     requires { IsKept L.meaning bench.old }
     ensures obeys { Obeys (state_of L.meaning bench.old) (Insert (spot_of spot.now) text.now) (response_of result) [] (state_of L.meaning bench.new) }
     ensures kept { IsKept L.meaning bench.new }
 {
     led_benches_are_kept::<L>();
-    let tree = match operation_of(alloc, bench, text) {
+    let tree = match operation_of(bench, text) {
         Ok(tree) => tree,
         Err(reply) => return reply,
     };
@@ -90,7 +85,7 @@ pub(crate) fn insert<L: Analysis>(
         Ok(place) => place,
         Err(refusal) => return Reply::Refused(refusal),
     };
-    reply_as(rewriter::insert::insert(alloc, bench, place, &tree))
+    reply_as(bench.insert(place, &tree))
 }
 
 /// Sets an entry of an operation to the attribute that a text spells.

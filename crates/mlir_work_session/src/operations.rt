@@ -1,11 +1,13 @@
 //! Operations as a command writes them: their text is read beside the module.
-ghost use Rattle.std.specs.Prelude.{◌≡◌, Err, IfOk, IfErr};
+ghost use Rattle.std.specs.Prelude.{◌≡◌, ℕ, Err, IfOk, IfErr};
 ghost use Rattle.ir_tree.specs.Ids.{IsNumberedFrom};
 ghost use Rattle.ir_tree.specs.Meaning.{IsSoundIn, meaning};
-ghost use Rattle.ir_text_tokens.specs.declared.fault.Fault.{Fault as TextFault};
+ghost use Rattle.ir_types.specs.declared.refusal.Refusal.{Refusal as Reason};
+ghost use Rattle.ir_text.specs.Public.{IsOpTold};
 ghost use Rattle.ir_text_operations.specs.Claims.{IsNone};
 ghost use Rattle.rewriter.specs.Held.{module_held};
 ghost use Rattle.rewriter.specs.Texts.{SpellsBeside};
+ghost use Rattle.rewriter_machine.specs.Commands.{IsOpRefusal};
 ghost use Rattle.mlir_work_session.specs.Texts.{Grown, NotRead};
 ghost use Rattle.mlir_work_session.specs.Machine.{response_of};
 
@@ -16,37 +18,36 @@ use ir_text::reader::ReadError;
 use ir_tree::tree::TreeOp;
 use rewriter::Bench;
 use rewriter::laws::led_benches_are_kept;
-use std::alloc::Global;
 
 /// The operation that a text spells beside the module.
-fn read<L: Analysis>(alloc: Global, bench: &mut Bench<L>, text: &[u8]) -> Result<TreeOp, ReadError>
+fn read<L: Analysis>(bench: &mut Bench<L>, text: &[u8]) -> Result<TreeOp, ReadError>
     ensures read { IfOk result (λ t. SpellsBeside (module_held bench.old.desk) text.now (meaning bench.new.desk.ctx t)) }
     ensures sound { IfOk result (λ t. IsSoundIn bench.new.desk.ctx t) }
     ensures numbered { IfOk result (λ t. IsNumberedFrom bench.new.desk.store.module_of.next t) }
-    ensures refused { (f : TextFault) → result ≡ Err (ReadError.Refused f) → IsNone (SpellsBeside (module_held bench.old.desk) text.now) }
+    ensures refused { (r : Reason) (o : ℕ) → result ≡ Err (ReadError.Refused r o) → IsNone (SpellsBeside (module_held bench.old.desk) text.now) }
+    ensures told { IfErr result (λ e. IsOpTold text.now e) }
     ensures grown { Grown L.meaning bench.old bench.new }
 {
     led_benches_are_kept::<L>();
     bench.world().ctx.sound();
-    let read = bench.read_op(alloc, text);
+    let read = bench.read_op(text);
     bench.world().ctx.sound();
     read
 }
 
 /// The operation that a text spells beside the module, numbered from its next id, or the reply where it isn't read.
 pub(crate) fn operation_of<L: Analysis>(
-    alloc: Global,
     bench: &mut Bench<L>,
     text: &[u8],
 ) -> Result<TreeOp, Reply>
     ensures read { IfOk result (λ t. SpellsBeside (module_held bench.old.desk) text.now (meaning bench.new.desk.ctx t)) }
     ensures sound { IfOk result (λ t. IsSoundIn bench.new.desk.ctx t) }
     ensures numbered { IfOk result (λ t. IsNumberedFrom bench.new.desk.store.module_of.next t) }
-    ensures unread { IfErr result (λ reply. NotRead (SpellsBeside (module_held bench.old.desk) text.now) (response_of reply)) }
+    ensures unread { IfErr result (λ reply. NotRead IsOpRefusal (SpellsBeside (module_held bench.old.desk) text.now) (response_of reply)) }
     ensures grown { Grown L.meaning bench.old bench.new }
 {
-    match read(alloc, bench, text) {
+    match read(bench, text) {
         Ok(tree) => Ok(tree),
-        Err(error) => Err(reply_unread(text.len(), &error)),
+        Err(error) => Err(reply_unread(&error)),
     }
 }

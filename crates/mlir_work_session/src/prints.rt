@@ -9,7 +9,7 @@ ghost use Rattle.mlir_work_script.specs.Writes.{Puts};
 ghost use Rattle.mlir_work_script.specs.declared.input.TheConstants.{MAX_SCRIPT_BYTES};
 ghost use Rattle.rewriter_machine.specs.Panels.{Shown, all_shown};
 ghost use Rattle.mlir_work_session.specs.Machine.{response_of};
-ghost use Rattle.mlir_work_session.specs.Output.{IsSession, Runs, reply_line};
+ghost use Rattle.mlir_work_session.specs.Output.{IsSession, Manner, Runs, reply_line};
 ghost use Rattle.mlir_work_session.specs.PrintsAlone.{IsPrinted, all_print, is_print, kinds_apart, prints_alone};
 ghost use Rattle.mlir_work_session.specs.Ran.{RanOut};
 
@@ -134,7 +134,7 @@ fn print_lines<W: Write>(
 ) -> Result<u8, WriteFault>
     requires known { IsTrue (is_known ctx.now tree.now) }
     requires prints { all_print (lines_of script.now) ≡ true }
-    ensures { (brief : Bool) (next : ℕ) (panel : List Shown) → RanOut (Runs brief 1 (record { held = record { tree = meaning ctx.now tree.now; next = next }; marks = []; panel = panel }) (lines_of script.now)) (W.contents writer.old) (W.contents writer.new) result }
+    ensures { (manner : Manner) (next : ℕ) (panel : List Shown) → RanOut (Runs manner 1 (record { held = record { tree = meaning ctx.now tree.now; next = next }; marks = []; panel = panel }) (lines_of script.now)) (W.contents writer.old) (W.contents writer.new) result }
 {
     let mut text = script;
     let mut n = 1u64;
@@ -171,7 +171,7 @@ pub fn print_session<L: Analysis, W: Write>(
     requires short { length script.now ≤ MAX_SCRIPT_BYTES }
     requires prints { all_print (lines_of script.now) ≡ true }
     requires apart { kinds_apart L.meaning boxes.now ≡ true }
-    ensures { (brief : Bool) (next : ℕ) → RanOut (IsSession brief (all_shown L.meaning boxes.now) (record { tree = meaning ctx.now tree.now; next = next }) script.now) (W.contents writer.old) (W.contents writer.new) result }
+    ensures { (manner : Manner) (next : ℕ) → RanOut (IsSession manner (all_shown L.meaning boxes.now) (record { tree = meaning ctx.now tree.now; next = next }) script.now) (W.contents writer.old) (W.contents writer.new) result }
 {
     print_lines(alloc, ctx, tree, script, writer)
 }

@@ -5,13 +5,14 @@ ghost use Rattle.mlir_work_script.specs.Lines.{lines_of};
 ghost use Rattle.mlir_work_script.specs.Writes.{Puts, PutsSome};
 ghost use Rattle.rewriter.specs.Benched.{IsKept, state_of};
 ghost use Rattle.mlir_work_session.specs.Machine.{response_of};
-ghost use Rattle.mlir_work_session.specs.Output.{Runs, Replies, IsReplied, asks as asks_to, says_nothing, shows_alone, reply_line};
+ghost use Rattle.mlir_work_session.specs.Output.{IsBounded, IsReplied, Replies, Runs, asks as asks_to, says_nothing, shows_alone, reply_line};
 ghost use Rattle.mlir_work_session.specs.Ran.{RanOut};
 
 use crate::commands::obey;
 use crate::listing::put_listing;
 use crate::reply::Reply;
 use crate::shows::Answered;
+use crate::unread::reply_within;
 use ir_event::analysis::Analysis;
 use ir_types::refusal::Refusal;
 use mlir_work_script::command::{Command, Line, read_line};
@@ -66,15 +67,27 @@ pub(crate) fn both(a: bool, b: bool) -> bool
     a && b
 }
 
-/// What a line that isn't nothing is answered.
-fn answer<L: Analysis>(alloc: Global, bench: &mut Bench<L>, line: &Line<'_>) -> Answered
+/// What a line of an input of so many bytes that isn't nothing is answered.
+fn answer<L: Analysis>(
+    alloc: Global,
+    bytes: usize,
+    bench: &mut Bench<L>,
+    line: &Line<'_>,
+) -> Answered
     requires kept { IsKept L.meaning bench.old }
     requires something { says_nothing (spoken_of line.now) ≡ false }
     ensures replies { Replies (state_of L.meaning bench.old) (spoken_of line.now) (response_of result.reply) result.shows.items (state_of L.meaning bench.new) }
+    ensures bounded { IsBounded bytes (response_of result.reply) }
     ensures kept { IsKept L.meaning bench.new }
 {
     match line {
-        Line::Obey(command) => obey(alloc, bench, command),
+        Line::Obey(command) => {
+            let answered = obey(alloc, bench, command);
+            Answered {
+                reply: reply_within(bytes, answered.reply),
+                shows: answered.shows,
+            }
+        }
         Line::Nothing | Line::Bad => Answered {
             reply: Reply::Refused(Refusal::BadCommand),
             shows: Vec::new(alloc),
@@ -121,16 +134,17 @@ fn put_answer<L: Analysis, W: Write>(
 }
 
 /// Runs a script over a module and listeners that each agree with it or are stale, and writes as it goes.
-/// The status is 1 where a command was refused.
+/// The status is 1 where a command was refused. The whole input, of which the script is a part, has so many bytes.
 pub fn run_script<L: Analysis, W: Write>(
     alloc: Global,
     brief: bool,
+    bytes: usize,
     bench: &mut Bench<L>,
     script: &[u8],
     writer: &mut W,
 ) -> Result<u8, WriteFault>
     requires { IsKept L.meaning bench.old }
-    ensures { RanOut (Runs brief 1 (state_of L.meaning bench.old) (lines_of script.now)) (W.contents writer.old) (W.contents writer.new) result }
+    ensures { RanOut (Runs (record { brief = brief; bytes = bytes }) 1 (state_of L.meaning bench.old) (lines_of script.now)) (W.contents writer.old) (W.contents writer.new) result }
 {
     let mut text = script;
     let mut n = 1u64;
@@ -142,7 +156,7 @@ pub fn run_script<L: Analysis, W: Write>(
         if is_nothing(&line) {
             continue;
         }
-        let answered = answer(alloc, bench, &line);
+        let answered = answer(alloc, bytes, bench, &line);
         let listed = is_listed(brief, &line);
         match put_answer(alloc, listed, bench, n, &answered, writer) {
             Ok(()) => {}

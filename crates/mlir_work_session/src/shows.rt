@@ -74,7 +74,7 @@ fn listener_of<L: Analysis>(listeners: &[L], kind: Kind) -> Option<&L>
 }
 
 /// The rows of a listener that agrees with a world or is stale.
-fn rows_of<L: Analysis>(alloc: Global, listener: &L, world: &World) -> Result<Vec<Row>, ReportFault>
+fn rows_of<L: Analysis>(listener: &L, world: &World) -> Result<Vec<Row>, ReportFault>
     requires { (L.meaning listener.now).agrees (things_in world.now) (module_in world.now) ⊎ ((L.meaning listener.now).stale ≡ true) }
     ensures rows { IfOk result (λ rows. rows_meaning (things_in world.now) rows.items ≡ (L.meaning listener.now).analysis (module_in world.now).tree) }
     ensures fresh { IfOk result (λ rows. (L.meaning listener.now).stale ≡ false) }
@@ -82,7 +82,7 @@ fn rows_of<L: Analysis>(alloc: Global, listener: &L, world: &World) -> Result<Ve
     ensures stale { IfErr result (λ e. e ≡ ReportFault.Stale → (L.meaning listener.now).stale ≡ true) }
     ensures memory { IfErr result (λ e. e ≡ ReportFault.Memory → (L.meaning listener.now).stale ≡ false) }
 {
-    listener.report(alloc)
+    listener.report()
 }
 
 /// The text of a listener's rows.
@@ -97,7 +97,7 @@ pub(crate) fn text_of_report<L: Analysis>(
     ensures stale { IfErr result (λ e. e ≡ ReportFault.Stale → (L.meaning listener.now).stale ≡ true) }
     ensures memory { IfErr result (λ e. e ≡ ReportFault.Memory → (L.meaning listener.now).stale ≡ false) }
 {
-    let rows = match rows_of(alloc, listener, world) {
+    let rows = match rows_of(listener, world) {
         Ok(rows) => rows,
         Err(fault) => return Err(fault),
     };

@@ -1,12 +1,18 @@
 //! How a text is replied to that isn't read.
-ghost use Rattle.std.specs.Prelude.{◌≡◌, ℕ, List};
+ghost use Rattle.std.specs.Prelude.{◌≡◌, ◌≤◌, ◌⊎◌, ℕ, List};
+ghost use Rattle.ir_types.specs.Refusals.{number_of};
+ghost use Rattle.ir_types.specs.declared.refusal.Refusal.{Refusal as Reason};
+ghost use Rattle.ir_types.specs.declared.refusal.Refusal.TheVariants.{IdsExhausted as WantOfIds, Memory as WantOfMemory, TooMany as WantOfRoom};
 ghost use Rattle.ir_event.specs.Modules.{Module as Contents};
-ghost use Rattle.ir_text_grammar.specs.declared.error.ReadError.{ReadError as Unread};
-ghost use Rattle.ir_text_tokens.specs.declared.fault.Fault.{Fault as TextFault};
+ghost use Rattle.ir_text.specs.Public.{IsOpTold, IsTold};
+ghost use Rattle.ir_text.specs.declared.error.ReadError.{ReadError as Unread};
 ghost use Rattle.ir_text_attributes.specs.Claims.{IsNoAttr};
 ghost use Rattle.ir_text_attributes.specs.Spelling.{SpellsAttr};
 ghost use Rattle.ir_text_operations.specs.Claims.{IsNone};
 ghost use Rattle.rewriter.specs.Texts.{SpellsBeside};
+ghost use Rattle.rewriter_machine.specs.Commands.{IsAttrRefusal, IsOpRefusal, Replied, TextRefusedAt};
+ghost use Rattle.rewriter_machine.specs.Machine.{Refused};
+ghost use Rattle.mlir_work_session.specs.Output.{IsBounded};
 ghost use Rattle.mlir_work_session.specs.Texts.{NotRead};
 ghost use Rattle.mlir_work_session.specs.Machine.{response_of};
 
@@ -14,33 +20,49 @@ use crate::reply::Reply;
 use ir_text::reader::ReadError;
 use ir_types::refusal::Refusal;
 
-/// The greatest number of a refusal of a text.
-const LAST_OF_TEXTS: u32 = 14;
-
-/// The reply where a text is refused. The reader doesn't say that its refusals are those of texts, so that is looked at.
+/// The reply where a text is refused. That no id is left has no place in the text.
 fn refused_at(refusal: Refusal, offset: usize) -> Reply
-    ensures attr { (text : List ℕ) → IsNoAttr (SpellsAttr text) → NotRead (SpellsAttr text) (response_of result) }
-    ensures op { (m : Contents) (text : List ℕ) → IsNone (SpellsBeside m text) → NotRead (SpellsBeside m text) (response_of result) }
+    ensures attr { (text : List ℕ) → number_of refusal ≤ 14 → IsNoAttr (SpellsAttr text) → NotRead IsAttrRefusal (SpellsAttr text) (response_of result) }
+    ensures op { (m : Contents) (text : List ℕ) → (number_of refusal ≤ 14) ⊎ (refusal ≡ WantOfIds) → IsNone (SpellsBeside m text) → NotRead IsOpRefusal (SpellsBeside m text) (response_of result) }
 {
-    if refusal.number() <= LAST_OF_TEXTS {
-        return Reply::RefusedAt(refusal, offset);
-    }
     if refusal == Refusal::IdsExhausted {
         return Reply::Refused(refusal);
     }
-    Reply::RefusedAt(Refusal::Unexpected, offset)
+    Reply::RefusedAt(refusal, offset)
 }
 
-/// The reply where a text of some length isn't read.
-pub(crate) fn reply_unread(length: usize, error: &ReadError) -> Reply
-    ensures attr { (text : List ℕ) → ((f : TextFault) → error.now ≡ Unread.Refused f → IsNoAttr (SpellsAttr text)) → NotRead (SpellsAttr text) (response_of result) }
-    ensures op { (m : Contents) (text : List ℕ) → ((f : TextFault) → error.now ≡ Unread.Refused f → IsNone (SpellsBeside m text)) → NotRead (SpellsBeside m text) (response_of result) }
+/// The reply where a text isn't read.
+pub(crate) fn reply_unread(error: &ReadError) -> Reply
+    ensures attr { (text : List ℕ) → IsTold text error.now → ((r : Reason) (o : ℕ) → error.now ≡ Unread.Refused r o → IsNoAttr (SpellsAttr text)) → NotRead IsAttrRefusal (SpellsAttr text) (response_of result) }
+    ensures op { (m : Contents) (text : List ℕ) → IsOpTold text error.now → ((r : Reason) (o : ℕ) → error.now ≡ Unread.Refused r o → IsNone (SpellsBeside m text)) → NotRead IsOpRefusal (SpellsBeside m text) (response_of result) }
 {
-    match error {
+    match *error {
         ReadError::Memory => Reply::Refused(Refusal::Memory),
-        ReadError::Full(left) => Reply::RefusedAt(Refusal::TooMany, length.saturating_sub(*left)),
-        ReadError::Refused(fault) => {
-            refused_at(fault.refusal, length.saturating_sub(fault.left))
+        ReadError::Full { offset } => Reply::RefusedAt(Refusal::TooMany, offset),
+        ReadError::Refused { refusal, offset } => refused_at(refusal, offset),
+    }
+}
+
+/// The most names, types or attributes of a context.
+const MOST_THINGS: usize = 16_777_216;
+
+/// The names that a new context holds.
+const WORDS: usize = 54;
+
+/// The reply to a command of an input of so many bytes. Each name, type and attribute stands for a byte of it at least,
+/// so an input that is too short to fill a context fills none, and is never told that one is full.
+pub(crate) fn reply_within(bytes: usize, reply: Reply) -> Reply
+    ensures bounded { IsBounded bytes (response_of result) }
+    ensures same { (response_of result ≡ response_of reply) ⊎ ((offset : ℕ) × (response_of reply ≡ TextRefusedAt WantOfRoom offset) × (response_of result ≡ Replied (Refused WantOfMemory))) }
+{
+    match reply {
+        Reply::RefusedAt(Refusal::TooMany, _) => {
+            if bytes.saturating_add(WORDS) >= MOST_THINGS {
+                reply
+            } else {
+                Reply::Refused(Refusal::Memory)
+            }
         }
+        _ => reply,
     }
 }

@@ -17,6 +17,7 @@ use Rattle.rewriter_desk.specs.Moves.{Edited, IsAnswered}
 use Rattle.rewriter.specs.Benched.{Benched, Does, Made, reply_of, state_of}
 use Rattle.rewriter.proofs.OpenMarks.{grows_marked}
 use Rattle.rewriter.proofs.Panels.{all_stay}
+use Rattle.rewriter.proofs.Noted.{made_opens}
 use Rattle.rewriter.proofs.Told.{made_led, led_ages}
 
 answer_same : (r q : Reply) (m n : Module) (ks ls : List OpenMark) → r ≡ q → m ≡ n → ks ≡ ls → (let a : Answer = record { reply = r; shows = Nothing; held = m; marks = ks } in a) ≡ record { reply = q; shows = Nothing; held = n; marks = ls }
@@ -35,7 +36,7 @@ module _ {B : Type 0} (meaning : B → Listener) where
       let none : edit_reason e (module_held a.desk) ≡ None = reason_meaning a.desk.ctx ed a.desk.store.module_of ∙ free in
       record {
         answer = inl (
-            answer_same reply (accepted e (module_held a.desk)) (module_held b.desk) (edited e (module_held a.desk)) (open_marks b.desk) (open_marks a.desk) (sym is) (after_edit ed made.0 s a.desk b.desk made.1 after) made.1.marked
+            answer_same reply (accepted e (module_held a.desk)) (module_held b.desk) (edited e (module_held a.desk)) (open_marks b.desk) (open_marks a.desk) (sym is) ((λ i. module_meaning (made.settled.ctx i) (made.settled.module_of i)) ∙ after_edit ed made.event s a.desk made.left made.edited after) (made_opens meaning s a b made)
             ∙ sym (ap (λ r. due_edit r e (state_of meaning a)) none)
             );
         panel = led_ages meaning a b (made_led meaning s a b made);

@@ -6,6 +6,7 @@ pub mod Tried
 pub mod Whole
 pub mod Panels
 pub mod Told
+pub mod Noted
 pub mod OpenMarks
 pub mod Going
 pub mod Undo

@@ -1,24 +1,27 @@
 -- How a bench goes where marks are made and dropped.
-use Rattle.std.proofs.Common.{◌≡◌, ◌∙◌, sym, ap, subst, refl, inl, inr, ◌⊎◌, ℕ, List, [], ◌∷◌, drop, Bool, true, false, cond, Some, None, Result, Ok, Err}
+use Rattle.std.proofs.Common.{◌≡◌, ◌≢◌, ◌∙◌, sym, ap, subst, refl, inl, inr, ◌⊎◌, ℕ, ◌≤◌, List, [], ◌∷◌, length, take, drop, arith, Bool, true, false, cond, Some, None, Result, Ok, Err}
 use Rattle.std.specs.Prelude.{nat_lt, OnOk, OnErr}
+use Rattle.std.proofs.lemmas.List.{length-take}
 use Rattle.ir_types.specs.declared.refusal.Refusal.{Refusal}
 use Rattle.ir_types.specs.declared.refusal.Refusal.TheVariants.{Memory, NoMark, TooManyMarks}
 use Rattle.ir_event.specs.Listener.{Listener}
 use Rattle.ir_event.specs.Modules.{module_meaning}
 use Rattle.rewriter_machine.specs.Machine.{State, Mark, Step, Commit, Rollback, Done, Refused, IsAnswer, most_marks, marked, done, due, due_commit, due_rollback, refused}
-use Rattle.rewriter_desk.specs.Journals.{before, inverses}
+use Rattle.ir_event.specs.declared.event.Event.{Event}
+use Rattle.rewriter_desk.specs.Journals.{IsTidy, before, inverses}
 use Rattle.rewriter_desk.specs.declared.mark.Mark.{Mark as DeskMark}
-use Rattle.rewriter_desk.specs.Held.{Held, module_held, open_mark, open_marks}
-use Rattle.rewriter_desk.specs.Marked.{Closed, IsNewest, counted_among, mark_reason, with_mark}
-use Rattle.rewriter_desk.specs.Moves.{HoldsNone, IsAnswered, Tidied}
+use Rattle.rewriter_desk.specs.Held.{Held, IsGood, module_at, module_held, open_mark, open_marks}
+use Rattle.rewriter_desk.specs.Marked.{Closed, IsNewest, counted_among, kept, mark_reason, with_mark}
+use Rattle.rewriter_desk.proofs.Marks.{newest, push-none}
+use Rattle.rewriter_desk.specs.Moves.{Grown, HoldsModuleAlone, HoldsNone, IsAnswered, Tidied}
 use Rattle.rewriter.specs.Benched.{Benched, Does, Heard, Led, ToldBack, reply_of, state_of}
-use Rattle.rewriter.specs.Rolling.{GivenUp, UndoneTo}
-use Rattle.rewriter.proofs.OpenMarks.{open_none, counted_open, last_same, drop_taken}
-use Rattle.rewriter.proofs.Told.{heard_onward, led_ages, led_left, led_still}
+use Rattle.rewriter.specs.Rolling.{Dropped, GivenUp, IsSettled, Settled, UndoneTo}
+use Rattle.rewriter.proofs.OpenMarks.{open_none, counted_open, front_same, last_same, drop_taken}
+use Rattle.rewriter.proofs.Told.{heard_onward, heard_still, led_ages, led_left, led_still}
 
 -- what is given up
-pub given_tidied : (from : ℕ) (g h : Held) → Tidied from g h → (g.marks ≡ [] → HoldsNone h.store) → GivenUp g h
-given_tidied from g h t none =
+pub given_tidied : (from : ℕ) (g h : Held) → Tidied from g h → (g.marks ≡ [] → HoldsNone h.store) → (g.marks ≡ [] → HoldsModuleAlone h.store) → GivenUp g h
+given_tidied from g h t none alone =
     let marks : h.marks ≡ g.marks = ap (λ (k : Held). k.marks) t.held in
     record {
       ctx = ap (λ (k : Held). k.ctx) t.held;
@@ -28,6 +31,91 @@ given_tidied from g h t none =
       opens = t.marked;
       tidy = t.tidy;
       none = λ e. none (sym marks ∙ e);
+      alone = λ e. alone (sym marks ∙ e);
+      behind = t.behind;
+    }
+
+-- and where it is only where no mark is open
+pub settled_none : (g h : Held) → Tidied 0 g h → HoldsModuleAlone h.store → g.marks ≡ [] → Settled g h
+settled_none g h t alone none =
+    record {
+      ctx = ap (λ (k : Held). k.ctx) t.held;
+      journal = ap (λ (k : Held). k.journal) t.held;
+      marks = ap (λ (k : Held). k.marks) t.held;
+      module_of = t.released.module_of;
+      opens = t.marked;
+      behind = t.behind;
+      tidy = λ _. t.tidy;
+      marked = λ some. absurd (some none);
+      unmarked = λ _. t.released;
+      alone = λ _. alone;
+    }
+
+pub settled_left : (g : Held) → g.marks ≢ [] → Settled g g
+settled_left g some =
+    record {
+      ctx = refl;
+      journal = refl;
+      marks = refl;
+      module_of = refl;
+      opens = refl;
+      behind = λ k. refl;
+      tidy = λ t. t;
+      marked = λ _. refl;
+      unmarked = λ none. absurd (some none);
+      alone = λ none. absurd (some none);
+    }
+
+-- where all that isn't the module was given up before, it stays so
+pub settled_on : (g h : Held) → IsTidy g.store → Settled g h → IsSettled h
+settled_on g h t s = record { tidy = s.tidy t; alone = s.alone }
+
+pub given_settled : (g h : Held) → GivenUp g h → IsSettled h
+given_settled g h t = record { tidy = t.tidy; alone = t.alone }
+
+pub marked_settled : {A : Type 0} (counted : Bool) (g h : Held) (r : Result A Refusal) → OnOk r (h ≡ with_mark counted g) → OnErr r (h ≡ g) → IsSettled g → IsSettled h
+marked_settled counted g h (Ok u) is same s = subst IsSettled (sym is) (record { tidy = s.tidy; alone = λ none. absurd (push-none g.marks _ none) })
+marked_settled counted g h (Err e) is same s = subst IsSettled (sym same) s
+
+pub grown_settled : (g h : Held) → Grown g h → IsSettled g → IsSettled h
+grown_settled g h t s = subst IsSettled (sym t.held) (record { tidy = s.tidy; alone = s.alone })
+
+-- ---- the newest mark, dropped
+
+taken_short : (ks : List DeskMark) (n : ℕ) (es : List Event) → length (kept ks (take n es)) ≤ n
+taken_short [] n es = omega arith
+taken_short (k ∷ ks) n es = (let l = length-take n es in omega (arith, l))
+
+kept_some : (ks : List DeskMark) (es : List Event) → ks ≢ [] → kept ks es ≡ es
+kept_some [] es some = absurd (some refl)
+kept_some (k ∷ ks) es some = refl
+
+-- what stands in a journal of which the newest mark was dropped
+closed_behind : (g h : Held) → Closed g h → h.marks ≢ [] → (k : ℕ) → module_at k h ≡ module_at k g
+closed_behind g h shut some k = ap (module_at k) shut.held ∙ ap (λ es. before g.ctx (drop k es) g.store) (kept_some h.marks g.journal some)
+
+pub dropped_kept : (g h k : Held) → IsGood g → Closed g h → GivenUp h k → Dropped true g k
+dropped_kept g h k good shut t =
+    record {
+      newest = shut.mark.length;
+      mark = newest g h.marks shut.mark shut.marks good;
+      marks = t.marks;
+      journal = t.journal ∙ ap (λ (l : Held). l.journal) shut.held ∙ ap (λ ks. kept ks g.journal) (sym t.marks);
+      behind = λ some n le. t.behind n ∙ closed_behind g h shut (λ none. some (t.marks ∙ none)) n;
+    }
+
+pub dropped_undone : (mark : ℕ) (g d h k : Held) → IsNewest mark g → UndoneTo mark g d → Closed d h → GivenUp h k → Dropped false g k
+dropped_undone mark g d h k last u shut t =
+    let journal : k.journal ≡ kept k.marks (take mark g.journal) = t.journal ∙ ap (λ (l : Held). l.journal) shut.held ∙ (λ i. kept (sym t.marks i) (u.journal i)) in
+    record {
+      newest = mark;
+      mark = last;
+      marks = t.marks ∙ front_same h.marks last.rest shut.mark (record { length = mark; counted = last.counted }) (sym shut.marks ∙ u.marks ∙ last.marks);
+      journal = journal;
+      behind = λ some n le.
+          (let short = taken_short k.marks mark g.journal in
+          let length_is = ap (λ (js : List Event). length js) journal in
+          t.behind n ∙ closed_behind d h shut (λ none. some (t.marks ∙ none)) n ∙ u.behind n (omega (arith, le, short, length_is)));
     }
 
 given_same : (g h : Held) → GivenUp g h → module_held h ≡ module_held g
@@ -36,21 +124,15 @@ given_same g h t = λ i. module_meaning (t.ctx i) (t.module_of i)
 closed_same : (g h : Held) → Closed g h → module_held h ≡ module_held g
 closed_same g h t = ap module_held t.held
 
--- events that are undone, and then what is given up
-pub undone_given : (mark : ℕ) (g h k : Held) → UndoneTo mark g h → GivenUp h k → UndoneTo mark g k
-undone_given mark g h k u t = record { ctx = t.ctx ∙ u.ctx; journal = t.journal ∙ u.journal; marks = t.marks ∙ u.marks; module_of = given_same h k t ∙ u.module_of; opens = t.opens ∙ u.opens }
-
 module _ {B : Type 0} (meaning : B → Listener) where
   abbrev at : Held → List B → Benched B
   at h xs = record { desk = h; listeners = xs }
 
-  pub given_led : (g h : Held) (xs : List B) → GivenUp g h → Led meaning (at g xs) (at h xs)
-  given_led g h xs t = led_still meaning g h xs t.ctx (given_same g h t)
-
-  pub back_led : (mark : ℕ) (g h k : Held) (xs ys : List B) → GivenUp h k → Heard meaning (inverses (drop mark g.journal)) (at g xs) (at h ys) → Led meaning (at g xs) (at k ys)
-  back_led mark g h k xs ys t heard = (inverses (drop mark g.journal), heard_onward meaning (inverses (drop mark g.journal)) (at g xs) h k ys t.ctx (given_same h k t) heard)
-
   -- ---- a mark more
+
+  pub mark_untold : {A : Type 0} (counted : Bool) (g h : Held) (xs : List B) (r : Result A Refusal) → OnOk r (h ≡ with_mark counted g) → OnErr r (h ≡ g) → Heard meaning [] (at g xs) (at h xs)
+  mark_untold counted g h xs (Ok u) is same = heard_still meaning g h xs (ap (λ (k : Held). k.ctx) is) (ap module_held is)
+  mark_untold counted g h xs (Err e) is same = heard_still meaning g h xs (ap (λ (k : Held). k.ctx) same) (ap module_held same)
 
   pub mark_led : {A : Type 0} (counted : Bool) (g h : Held) (xs : List B) (r : Result A Refusal) → OnOk r (h ≡ with_mark counted g) → OnErr r (h ≡ g) → Led meaning (at g xs) (at h xs)
   mark_led counted g h xs (Ok u) is same = led_still meaning g h xs (ap (λ (k : Held). k.ctx) is) (ap module_held is)
@@ -118,6 +200,9 @@ module _ {B : Type 0} (meaning : B → Listener) where
         answer = inl ((λ i. done ((given_same h k t ∙ closed_same g h shut) i) (t.opens i)) ∙ sym (ap (λ l. due_commit l (state_of meaning (at g xs))) shut.marked));
         panel = refl;
       }
+
+  pub commit_untold : (g h k : Held) (xs : List B) → Closed g h → GivenUp h k → Heard meaning [] (at g xs) (at k xs)
+  commit_untold g h k xs shut t = heard_still meaning g k xs (t.ctx ∙ ap (λ (l : Held). l.ctx) shut.held) (given_same h k t ∙ closed_same g h shut)
 
   pub commit_led : (g h k : Held) (xs : List B) → Closed g h → GivenUp h k → Led meaning (at g xs) (at k xs)
   commit_led g h k xs shut t = led_still meaning g k xs (t.ctx ∙ ap (λ (l : Held). l.ctx) shut.held) (given_same h k t ∙ closed_same g h shut)

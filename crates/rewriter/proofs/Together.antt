@@ -1,12 +1,12 @@
 -- Events that are made one after another, and what they come to.
-use Rattle.std.specs.Prelude.{OnOk}
-use Rattle.std.proofs.Common.{◌≡◌, ◌≢◌, ◌∙◌, sym, ap, subst, refl, ◌⊎◌, inl, inr, ℕ, List, [], ◌∷◌, ◌++◌, Bool, true, false, Option, Some, None, Result, Ok, Err, ◌↔◌, IsTrue}
+use Rattle.std.specs.Prelude.{OnOk, OnErr}
+use Rattle.std.proofs.Common.{◌≡◌, ◌≢◌, ◌∙◌, sym, ap, subst, refl, ◌⊎◌, inl, inr, ℕ, List, [], ◌∷◌, ◌++◌, Bool, true, false, Option, Some, None, Result, Ok, Err, ◌↔◌, IsTrue, length, append-nil}
 use Rattle.ir_types.specs.Things.{Things}
 use Rattle.ir_types.specs.Sound.{Holds}
 use Rattle.ir_types.specs.declared.refusal.Refusal.{Refusal}
 use Rattle.ir_types.specs.declared.refusal.Refusal.TheVariants.{Memory}
 use Rattle.ir_tree.specs.Meaning.{isolated_in}
-use Rattle.ir_tree.specs.WellFormed.{IsWellFormed}
+use Rattle.ir_tree.specs.WellFormed.{IsWellFormed, Module as Numbered}
 use Rattle.ir_store.specs.Stored.{Stored}
 use Rattle.ir_event.specs.declared.event.Event.{Event}
 use Rattle.ir_event.specs.Listener.{Listener}
@@ -18,10 +18,13 @@ use Rattle.rewriter_machine.specs.Panels.{AllAge, all_shown}
 use Rattle.rewriter_machine.proofs.Numbers.{edited_meaning, reason_meaning}
 use Rattle.rewriter.specs.Mark.{Mark}
 use Rattle.rewriter.specs.Held.{Held, module_held, open_mark, open_marks}
-use Rattle.rewriter.specs.Moves.{Edited}
-use Rattle.rewriter.specs.Benched.{Benched, Heard, Led, Made, reply_of, state_of}
-use Rattle.rewriter.specs.Rolling.{GivenUp}
+use Rattle.rewriter.specs.Moves.{Recorded}
+use Rattle.rewriter_desk.specs.Marked.{with_mark}
+use Rattle.rewriter_desk.proofs.Marks.{push-none}
+use Rattle.rewriter.specs.Benched.{Benched, Heard, Journaled, Keeps, Led, Made, reply_of, state_of}
+use Rattle.rewriter.specs.Rolling.{Dropped}
 use Rattle.rewriter.specs.Wholes.{IsDoneOrNoted, IsFinished, Onward}
+use Rattle.rewriter.proofs.Noted.{made_ctx, made_journaled, made_marks, made_module, made_opens, recorded_more, recorded_none, recorded_undone, recorded_whole}
 use Rattle.rewriter.proofs.Calls.{stepped, unstepped, committed, rolled_back, made_goes, refused_goes, unmade_goes, marked_grows}
 
 -- a call against which no reason stands is refused for want of memory alone
@@ -34,6 +37,15 @@ noted r e none h = elim h [
 -- a reason that a world gives
 pub reason_in : (e : NumberedEdit) (r : Option Refusal) (c d : Things) (s u : Stored) → c ≡ d → s ≡ u → reason_by (tests_in c) e s.module_of ≡ r → reason_by (tests_in d) e u.module_of ≡ r
 reason_in e r c d s u p q h = sym (λ i. reason_by (tests_in (p i)) e (q i).module_of) ∙ h
+
+-- where a mark is open it was dropped
+dropped_by : {A X : Type 0} {ks : List Mark} (r : Result A Refusal) → OnOk r X → OnErr r (ks ≡ []) → ks ≢ [] → X
+dropped_by (Ok u) ok none some = ok
+dropped_by (Err e) ok none some = absurd (some none)
+
+-- a mark is open behind a step and events under it
+pub marked_on : (a b c : Held) → b ≡ with_mark false a → c.marks ≡ b.marks → c.marks ≢ []
+marked_on a b c begun marks e = (let f : a.marks ++ record { length = length a.journal; counted = false } ∷ [] ≡ [] = sym (ap (λ (h : Held). h.marks) begun) ∙ sym marks ∙ e in push-none a.marks _ f)
 
 module _ {B : Type 0} (meaning : B → Listener) where
   -- what is known of benches that lead one to another
@@ -51,17 +63,25 @@ module _ {B : Type 0} (meaning : B → Listener) where
 
   -- nothing was made
   pub onward_none : Stays → (a : Benched B) → Onward meaning a a
-  onward_none none a = record { ctx = refl; marks = refl; opens = refl; led = ([], none a) }
+  onward_none none a = record { ctx = refl; marks = refl; opens = refl; noted = ([], none a, recorded_none a.desk) }
+
+  pub onward_led : (a b : Benched B) → Onward meaning a b → Led meaning a b
+  onward_led a b o = (o.noted.0, o.noted.1)
+
+  -- events that were noted, and then others
+  journaled_on : Composes → (a b c : Benched B) → Holds a.desk.ctx → b.desk.ctx ≡ a.desk.ctx → c.desk.ctx ≡ a.desk.ctx → b.desk.marks ≡ a.desk.marks → Journaled meaning a b → Journaled meaning b c → Journaled meaning a c
+  journaled_on more a b c holds p q marks h k =
+      (h.0 ++ k.0, more h.0 k.0 a b c (subst Holds (sym p) holds) (subst Holds (sym q) holds) h.1 k.1, recorded_more h.0 k.0 a.desk b.desk c.desk marks h.2 k.2)
 
   -- an event more
   pub onward_made : Composes → (s : Stored) (a b d : Benched B) → Holds a.desk.ctx → Onward meaning a b → Made meaning s b d → Onward meaning a d
   onward_made more s a b d holds o m =
-      let ctx : d.desk.ctx ≡ a.desk.ctx = ap (λ (h : Held). h.ctx) m.1.held ∙ o.ctx in
+      let ctx : d.desk.ctx ≡ a.desk.ctx = made_ctx meaning s b d m ∙ o.ctx in
       record {
         ctx = ctx;
-        marks = ap (λ (h : Held). h.marks) m.1.held ∙ o.marks;
-        opens = m.1.marked ∙ o.opens;
-        led = led_on more a b d holds o.ctx ctx o.led (m.0 ∷ [], m.2);
+        marks = made_marks meaning s b d m ∙ o.marks;
+        opens = made_opens meaning s b d m ∙ o.opens;
+        noted = journaled_on more a b d holds o.ctx ctx o.marks o.noted (made_journaled meaning s b d m);
       }
 
   -- part of an edit is made: what is left to be made of it leads where the whole leads
@@ -77,12 +97,12 @@ module _ {B : Type 0} (meaning : B → Listener) where
   pub underway_made : Composes → (e : NumberedEdit) (s : Stored) (a b d : Benched B) → Holds a.desk.ctx → IsUnderway e a b → Made meaning s b d → IsWellFormed (isolated_in a.desk.ctx) s.module_of → reason_by (tests_in a.desk.ctx) e s.module_of ≡ None
       → edited_by (tests_in a.desk.ctx) e s.module_of ≡ edited_by (tests_in a.desk.ctx) e b.desk.store.module_of → IsUnderway e a d
   underway_made more e s a b d holds u m formed free same =
-      let is : s ≡ d.desk.store = sym (ap (λ (h : Held). h.store) m.1.held) in
+      let is : s.module_of ≡ d.desk.store.module_of = sym (made_module meaning s b d m) in
       record {
         onward = onward_made more s a b d holds u.onward m;
-        formed = subst (λ (x : Stored). IsWellFormed (isolated_in a.desk.ctx) x.module_of) is formed;
-        free = subst (λ (x : Stored). reason_by (tests_in a.desk.ctx) e x.module_of ≡ None) is free;
-        same = subst (λ (x : Stored). edited_by (tests_in a.desk.ctx) e x.module_of ≡ edited_by (tests_in a.desk.ctx) e a.desk.store.module_of) is (same ∙ u.same);
+        formed = subst (λ (x : Numbered). IsWellFormed (isolated_in a.desk.ctx) x) is formed;
+        free = subst (λ (x : Numbered). reason_by (tests_in a.desk.ctx) e x ≡ None) is free;
+        same = subst (λ (x : Numbered). edited_by (tests_in a.desk.ctx) e x ≡ edited_by (tests_in a.desk.ctx) e a.desk.store.module_of) is (same ∙ u.same);
       }
 
   -- a part that is refused
@@ -90,20 +110,22 @@ module _ {B : Type 0} (meaning : B → Listener) where
   refused_on r e a b o none h = let n : (e ≡ Memory) × (b.desk.marks ≢ []) = noted r e none h in (n.0, λ z. n.1 (o.marks ∙ z))
 
   -- the newest mark dropped
-  pub finished_so : (reply : Reply) (a b : Benched B) → b.desk.ctx ≡ a.desk.ctx → Goes (state_of meaning a) Commit reply Nothing (state_of meaning b) → IsFinished true a.desk b.desk
-  finished_so reply a b ctx g =
+  pub finished_so : {A : Type 0} (r : Result A Refusal) (reply : Reply) (a b : Benched B) → b.desk.ctx ≡ a.desk.ctx → Goes (state_of meaning a) Commit reply Nothing (state_of meaning b) → OnOk r (Dropped true a.desk b.desk) → OnErr r (a.desk.marks ≡ []) → IsFinished true a.desk b.desk
+  finished_so r reply a b ctx g ok none =
       record {
         ctx = ctx;
         held = λ k ks e. (committed (state_of meaning a) (state_of meaning b) reply k ks e g).0;
         marks = λ k ks e. (committed (state_of meaning a) (state_of meaning b) reply k ks e g).1;
+        dropped = dropped_by r ok none;
       }
 
-  pub undone_so : (reply : Reply) (a b : Benched B) → b.desk.ctx ≡ a.desk.ctx → Goes (state_of meaning a) Rollback reply Nothing (state_of meaning b) → IsFinished false a.desk b.desk
-  undone_so reply a b ctx g =
+  pub undone_so : {A : Type 0} (r : Result A Refusal) (reply : Reply) (a b : Benched B) → b.desk.ctx ≡ a.desk.ctx → Goes (state_of meaning a) Rollback reply Nothing (state_of meaning b) → OnOk r (Dropped false a.desk b.desk) → OnErr r (a.desk.marks ≡ []) → IsFinished false a.desk b.desk
+  undone_so r reply a b ctx g ok none =
       record {
         ctx = ctx;
         held = λ k ks e. (rolled_back (state_of meaning a) (state_of meaning b) reply k ks e g).0;
         marks = λ k ks e. (rolled_back (state_of meaning a) (state_of meaning b) reply k ks e g).1;
+        dropped = dropped_by r ok none;
       }
 
   -- an edit that is refused for its reason
@@ -154,28 +176,36 @@ module _ {B : Type 0} (meaning : B → Listener) where
   goes_unbegun ages none e r a marked memory =
       unmade_goes (state_of meaning a) (state_of meaning a) (edit_meaning a.desk.ctx e) r memory (marked_grows (open_mark a.desk) (edit_meaning a.desk.ctx e) a.desk.marks marked) refl refl (ages a a ([], none a))
 
-  -- the events of an edit behind which what was taken is given up
-  pub given_up : Composes → (a b c : Benched B) → Holds a.desk.ctx → Onward meaning a b → GivenUp b.desk c.desk → Led meaning b c → Onward meaning a c
-  given_up more a b c holds o g led =
-      record { ctx = g.ctx ∙ o.ctx; marks = g.marks ∙ o.marks; opens = g.opens ∙ o.opens; led = led_on more a b c holds o.ctx (g.ctx ∙ o.ctx) o.led led }
-
   -- the events under a mark, and the ones by which they are undone, if they are
   pub led_whole : Composes → (stays : Bool) (a b c d : Benched B) → Holds a.desk.ctx → IsBegun a b → Onward meaning b c → IsFinished stays c.desk d.desk → Led meaning c d → Led meaning a d
   led_whole more stays a b c d holds h o f led =
-      led_on more a c d holds (o.ctx ∙ h.ctx) (f.ctx ∙ o.ctx ∙ h.ctx) (led_on more a b c holds h.ctx (o.ctx ∙ h.ctx) h.led o.led) led
+      led_on more a c d holds (o.ctx ∙ h.ctx) (f.ctx ∙ o.ctx ∙ h.ctx) (led_on more a b c holds h.ctx (o.ctx ∙ h.ctx) h.led (onward_led b c o)) led
 
   -- an edit without a mark is made
   pub goes_plain : Ages → (e : NumberedEdit) (a b : Benched B) (r : Result (Unit {0}) Refusal) (marked : Bool) → accepted (edit_meaning a.desk.ctx e) (module_held a.desk) ≡ Done → reason_by (tests_in a.desk.ctx) e a.desk.store.module_of ≡ None
       → (IsTrue marked ↔ (a.desk.marks ≢ [])) → marked ≡ false → Onward meaning a b → OnOk r (b.desk.store.module_of ≡ edited_by (tests_in a.desk.ctx) e a.desk.store.module_of) → IsDoneOrNoted a.desk r
       → Goes (state_of meaning a) (Do (edit_meaning a.desk.ctx e)) (reply_of r) Nothing (state_of meaning b)
   goes_plain ages e a b (Ok u) marked acc free iff unmarked o ok why =
-      subst (λ (y : Reply). Goes (state_of meaning a) (Do (edit_meaning a.desk.ctx e)) y Nothing (state_of meaning b)) acc (goes_made ages e a b free ok o.ctx o.opens o.led)
+      subst (λ (y : Reply). Goes (state_of meaning a) (Do (edit_meaning a.desk.ctx e)) y Nothing (state_of meaning b)) acc (goes_made ages e a b free ok o.ctx o.opens (onward_led a b o))
   goes_plain ages e a b (Err x) marked acc free iff unmarked o ok why = absurd (let t : true ≡ false = sym (iff.1 why.1) ∙ unmarked in cc)
 
-  -- and what was taken is given up behind it
-  pub goes_settled : Ages → Composes → (e : NumberedEdit) (a b d : Benched B) (r : Result (Unit {0}) Refusal) (marked : Bool) → Holds a.desk.ctx → accepted (edit_meaning a.desk.ctx e) (module_held a.desk) ≡ Done
-      → reason_by (tests_in a.desk.ctx) e a.desk.store.module_of ≡ None → (IsTrue marked ↔ (a.desk.marks ≢ [])) → marked ≡ false → Onward meaning a b → OnOk r (b.desk.store.module_of ≡ edited_by (tests_in a.desk.ctx) e a.desk.store.module_of)
-      → IsDoneOrNoted a.desk r → GivenUp b.desk d.desk → Led meaning b d → Goes (state_of meaning a) (Do (edit_meaning a.desk.ctx e)) (reply_of r) Nothing (state_of meaning d)
-  goes_settled ages more e a b d (Ok u) marked holds acc free iff unmarked o ok why g led =
-      goes_plain ages e a d (Ok u) marked acc free iff unmarked (given_up more a b d holds o g led) (g.module_of ∙ ok) why
-  goes_settled ages more e a b d (Err x) marked holds acc free iff unmarked o ok why g led = absurd (let t : true ≡ false = sym (iff.1 why.1) ∙ unmarked in cc)
+  -- and the journal, where it is
+  pub plain_keeps : (a b : Benched B) (r : Result (Unit {0}) Refusal) (marked : Bool) → (IsTrue marked ↔ (a.desk.marks ≢ [])) → marked ≡ false → Onward meaning a b → IsDoneOrNoted a.desk r → Keeps meaning r a b
+  plain_keeps a b (Ok u) marked iff unmarked o why = o.noted
+  plain_keeps a b (Err x) marked iff unmarked o why = absurd (let t : true ≡ false = sym (iff.1 why.1) ∙ unmarked in cc)
+
+  -- the events under a mark of an edit's own are at the end of the journal behind it
+  pub whole_journaled : Composes → (a b c d : Benched B) → Holds a.desk.ctx → (a.desk.marks ≡ [] → a.desk.journal ≡ []) → b.desk ≡ with_mark false a.desk → Heard meaning [] a b → Onward meaning b c → IsFinished true c.desk d.desk → Heard meaning [] c d
+      → Journaled meaning a d
+  whole_journaled more a b c d holds none begun untold o f silent =
+      let b_is : b.desk.ctx ≡ a.desk.ctx = ap (λ (h : Held). h.ctx) begun in
+      let holds_b : Holds b.desk.ctx = subst Holds (sym b_is) holds in
+      let holds_c : Holds c.desk.ctx = subst Holds (sym o.ctx) holds_b in
+      let holds_d : Holds d.desk.ctx = subst Holds (sym f.ctx) holds_c in
+      let there : Heard meaning o.noted.0 a c = more [] o.noted.0 a b c holds_b holds_c untold o.noted.1 in
+      let on : Heard meaning (o.noted.0 ++ []) a d = more o.noted.0 [] a c d holds_c holds_d there silent in
+      (o.noted.0, subst (λ es. Heard meaning es a d) (append-nil o.noted.0) on, recorded_whole true a.desk b.desk c.desk d.desk begun o.marks o.noted.0 o.noted.2 (f.dropped (marked_on a.desk b.desk c.desk begun o.marks)) none refl)
+
+  -- or where they were undone, it is as it was
+  pub undone_recorded : (a b c d : Benched B) → (a.desk.marks ≡ [] → a.desk.journal ≡ []) → b.desk ≡ with_mark false a.desk → Onward meaning b c → IsFinished false c.desk d.desk → Recorded [] a.desk d.desk
+  undone_recorded a b c d none begun o f = recorded_undone false a.desk b.desk c.desk d.desk begun o.marks o.noted.0 o.noted.2 (f.dropped (marked_on a.desk b.desk c.desk begun o.marks)) none refl

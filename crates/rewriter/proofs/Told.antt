@@ -19,6 +19,7 @@ use Rattle.rewriter_machine.specs.Panels.{AllAge, all_shown}
 use Rattle.rewriter_desk.specs.Held.{Held, module_held, shown_of}
 use Rattle.rewriter_desk.specs.Moves.{Edited, Grown}
 use Rattle.rewriter.specs.Benched.{Benched, Heard, IsKept, Led, Made}
+use Rattle.rewriter.specs.Rolling.{Settled}
 use Rattle.rewriter.proofs.Panels.{ages_followed}
 
 pub steps_stay : (c d : Things) (es : List Event) (m n : Module) → Holds c → Grows c d → Steps c es m n → Steps d es m n
@@ -106,13 +107,20 @@ module _ {B : Type 0} (meaning : B → Listener) where
         told = subst (λ (d : Things). AllFollowed meaning (e ∷ []) g.ctx (module_held g) d (module_held h) xs ys) (sym same) all;
       }
 
-  -- an edit of a desk, of which they were told
-  pub made_told : (s : Stored) (e : Event) (g h : Held) (w : World) (xs ys : List B) → Edited e s g h → w.ctx ≡ h.ctx → w.store ≡ h.store → AllTold meaning e (things_in w) (module_in w) (shown_in w) xs ys
-      → Made meaning s (record { desk = g; listeners = xs }) (record { desk = h; listeners = ys })
-  made_told s e g h w xs ys ed ctx store t = (e, ed, heard_step e g h w xs ys (ap (λ (k : Held). k.ctx) ed.held) ed.step ed.shown ctx store t)
+  -- an edit of a desk, of which they were told, and what is given up behind it
+  pub made_told : (s : Stored) (e : Event) (g h k : Held) (w : World) (xs ys : List B) → Edited e s g h → w.ctx ≡ h.ctx → w.store ≡ h.store → AllTold meaning e (things_in w) (module_in w) (shown_in w) xs ys → Settled h k
+      → Made meaning s (record { desk = g; listeners = xs }) (record { desk = k; listeners = ys })
+  made_told s e g h k w xs ys ed ctx store t st =
+      record {
+        event = e;
+        left = h;
+        edited = ed;
+        settled = st;
+        heard = heard_onward (e ∷ []) (record { desk = g; listeners = xs }) h k ys st.ctx (λ i. module_meaning (st.ctx i) (st.module_of i)) (heard_step e g h w xs ys (ap (λ (k : Held). k.ctx) ed.held) ed.step ed.shown ctx store t);
+      }
 
   pub made_led : (s : Stored) (a b : Benched B) → Made meaning s a b → Led meaning a b
-  made_led s a b m = (m.0 ∷ [], m.2)
+  made_led s a b m = (m.event ∷ [], m.heard)
 
   -- what was led stays kept, and ages
   pub led_kept : (a b : Benched B) → Led meaning a b → IsKept meaning a → IsKept meaning b

@@ -15,10 +15,10 @@ use Rattle.ir_store.specs.Calls.{after_put}
 use Rattle.ir_event.specs.Listener.{Listener}
 use Rattle.rewriter_machine.specs.Contents.{tests_in}
 use Rattle.rewriter_machine.specs.Edits.{Make, TestsOf, edited_by}
-use Rattle.rewriter.specs.Held.{Held}
 use Rattle.rewriter_laws.specs.Inserting.{all_made}
 use Rattle.rewriter.specs.Benched.{Benched, Made}
 use Rattle.rewriter.specs.Wholes.{Onward}
+use Rattle.rewriter.proofs.Noted.{made_module}
 use Rattle.rewriter.proofs.Together.{Composes, Stays, onward_none, onward_made}
 use Rattle.rewriter.specs.Trying.{AreHeadersOf, IsRefusedAmong}
 
@@ -50,7 +50,7 @@ module _ {B : Type 0} (meaning : B → Listener) where
   pub made_more : Parts → Composes meaning → (hs : List (Place × Op)) (n : ℕ) (u : Place × Op) (a b d : Benched B) → Holds a.desk.ctx → n < length hs → u ≡ get_or hs n u → IsMade hs n a b → Made meaning (after_put u.0 u.1 b.desk.store) b d → IsMade hs (n + 1) a d
   made_more parts more hs n u a b d holds l e h m =
       let w = tests_in a.desk.ctx in
-      let is : d.desk.store.module_of ≡ edited_by w (Make u.0 u.1) b.desk.store.module_of = ap (λ (h : Held). h.store.module_of) m.1.held in
+      let is : d.desk.store.module_of ≡ edited_by w (Make u.0 u.1) b.desk.store.module_of = made_module meaning (after_put u.0 u.1 b.desk.store) b d m in
       record {
         onward = onward_made meaning more (after_put u.0 u.1 b.desk.store) a b d holds h.onward m;
         made =

@@ -12,7 +12,7 @@ use Rattle.ir_tree.specs.Meaning.{isolated_in}
 use Rattle.ir_tree_laws.specs.Values.{type_of_value}
 use Rattle.ir_tree_laws.specs.Reasons.{unless, users_see}
 use Rattle.ir_event.specs.declared.world.World.{World}
-use Rattle.listeners_surroundings.proofs.Reading.{value_known}
+use Rattle.ir_event.proofs.Typed.{value_known}
 use Rattle.rewriter_machine.specs.Contents.{tests_in}
 use Rattle.rewriter_machine.specs.Edits.{replace_reason}
 use Rattle.ir_types.specs.SameTypes.{same_type}

@@ -8,7 +8,7 @@ use Rattle.ir_event.specs.Modules.{module_meaning, things_in, module_in, shown_i
 use Rattle.ir_event.specs.Listener.{Listener}
 use Rattle.ir_event.specs.Panels.{AllTold}
 use Rattle.rewriter_desk.specs.Journals.{before, inverses, undone_all}
-use Rattle.rewriter_desk.specs.Held.{Held, Within, open_marks}
+use Rattle.rewriter_desk.specs.Held.{Held, Within, module_at, open_marks}
 use Rattle.rewriter_desk.specs.Moves.{Undone}
 use Rattle.rewriter_desk.proofs.Marks.{within-more}
 use Rattle.rewriter.specs.Benched.{Heard}
@@ -24,6 +24,7 @@ pub record Undoing {B : Type 0} (meaning : B → Listener) (mark : ℕ) (from no
   pub store : now.store ≡ undone_all from.ctx es from.store
   pub marks : now.marks ≡ from.marks
   pub opens : open_marks now ≡ open_marks from
+  pub behind : (k : ℕ) → k ≤ length now.journal → module_at k now ≡ module_at k from
   pub told : Heard meaning (inverses es) (record { desk = from; listeners = xs }) (record { desk = now; listeners = ys })
 
 module _ {B : Type 0} (meaning : B → Listener) (mark : ℕ) (from : Held) (xs : List B) where
@@ -37,6 +38,7 @@ module _ {B : Type 0} (meaning : B → Listener) (mark : ℕ) (from : Held) (xs 
         store = refl;
         marks = refl;
         opens = refl;
+        behind = λ k le. refl;
         told = heard_none meaning (record { desk = from; listeners = xs });
       }
 
@@ -54,6 +56,7 @@ module _ {B : Type 0} (meaning : B → Listener) (mark : ℕ) (from : Held) (xs 
         store = ap (λ (k : Held). k.store) u.held ∙ (λ i. undone_all (on.ctx i) (u.last ∷ []) (on.store i));
         marks = ap (λ (k : Held). k.marks) u.held ∙ on.marks;
         opens = u.marked ∙ on.opens;
+        behind = λ k le. u.behind k le ∙ on.behind k (omega (arith, le, long));
         told = subst (λ (f : Event). Heard meaning (inverses on.es ++ f ∷ []) (record { desk = from; listeners = xs }) (record { desk = g; listeners = zs })) u.is
             (heard_next meaning (inverses on.es) (e ∷ []) (record { desk = from; listeners = xs }) (record { desk = h; listeners = ys }) (record { desk = g; listeners = zs }) same on.told one);
       }
@@ -85,6 +88,7 @@ module _ {B : Type 0} (meaning : B → Listener) (mark : ℕ) (from : Held) (xs 
           marks = on.marks;
           module_of = (λ i. module_meaning (on.ctx i) (on.store i).module_of) ∙ ap (λ es. before from.ctx es from.store) (sym rest_is);
           opens = on.opens;
+          behind = λ k le. on.behind k (let at = at_mark in omega (arith, le, at));
         }
 
     pub undone_told : Heard meaning (inverses (drop mark from.journal)) (record { desk = from; listeners = xs }) (record { desk = h; listeners = ys })

@@ -1,5 +1,5 @@
 -- What a bench holds, and what its calls make of it.
-use Rattle.std.specs.Prelude.{ℕ, List, [], ◌∷◌, drop, Result, Ok, Err}
+use Rattle.std.specs.Prelude.{ℕ, List, [], ◌∷◌, drop, Result, Ok, Err, MatchResult}
 use Rattle.ir_types.specs.declared.refusal.Refusal.{Refusal}
 use Rattle.ir_types.specs.Things.{Grows}
 use Rattle.ir_store.specs.Stored.{Stored}
@@ -12,7 +12,8 @@ use Rattle.rewriter_machine.specs.Panels.{all_shown}
 use Rattle.rewriter_desk.specs.Journals.{inverses}
 use Rattle.rewriter_desk.specs.Held.{Held, module_held, open_marks}
 use Rattle.rewriter_desk.specs.Marked.{IsNewest}
-use Rattle.rewriter_desk.specs.Moves.{Edited}
+use Rattle.rewriter_desk.specs.Moves.{Edited, Recorded}
+use Rattle.rewriter.specs.Rolling.{Settled}
 
 -- a bench, with listeners of the type `B`
 pub record Benched (B : Type 0) : Type 0 where
@@ -57,9 +58,23 @@ module _ {B : Type 0} (meaning : B → Listener) where
   abbrev pub Led : Benched B → Benched B → Type 0
   Led old new = (es : List Event) × Heard es old new
 
-  -- an edit was made by one event, of which the listeners were told, and left this store
-  abbrev pub Made : Stored → Benched B → Benched B → Type 0
-  Made s old new = (e : Event) × Edited e s old.desk new.desk × Heard (e ∷ []) old new
+  -- the listeners were told of events that lead from the one module to the other, and of no others, and where a mark is
+  -- open the journal has them at its end
+  abbrev pub Journaled : Benched B → Benched B → Type 0
+  Journaled old new = (es : List Event) × Heard es old new × Recorded es old.desk new.desk
+
+  -- the journal after a call that is whole or not made at all: with its events, or as it was
+  abbrev pub Keeps : {A : Type 0} → Result A Refusal → Benched B → Benched B → Type 0
+  Keeps result old new = MatchResult result (λ _. Journaled old new) (λ _. Recorded [] old.desk new.desk)
+
+  -- an edit was made by one event, of which the listeners were told, and left this store; where no mark is open all but
+  -- its module was given up
+  pub record Made (s : Stored) (old new : Benched B) : Type 0 where
+    pub event : Event
+    pub left : Held
+    pub edited : Edited event s old.desk left
+    pub settled : Settled left new.desk
+    pub heard : Heard (event ∷ []) old new
 
   -- the listeners were told the inverses of the events since the newest mark, the newest first, and of no others
   abbrev pub ToldBack : Benched B → Benched B → Type 0

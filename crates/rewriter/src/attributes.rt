@@ -9,9 +9,10 @@ ghost use Rattle.rewriter_machine.specs.Edits.{DropAttr, SetAttr, part_for};
 ghost use Rattle.ir_tree_laws.specs.Reasons.{set_entry_reason};
 ghost use Rattle.rewriter_machine.specs.Machine.{Do};
 ghost use Rattle.rewriter_desk.specs.Moves.{IsAnswered};
-ghost use Rattle.rewriter.specs.Benched.{Does, Led, Made, reply_of};
+ghost use Rattle.rewriter.specs.Benched.{Does, Keeps, Led, Made, reply_of};
 
 use crate::bench::Bench;
+use crate::marks::settle;
 use ir_event::analysis::Analysis;
 use ir_store::store::Store;
 use ir_tree::place::Part;
@@ -66,6 +67,8 @@ impl<L: Analysis> Bench<L> {
         ensures err { OnErr result (self.new ≡ self.old) }
         ensures does { Does L.meaning (Do (edit_meaning self.old.desk.ctx (SetAttr op key attr))) (reply_of result) self.old self.new }
         ensures led { Led L.meaning self.old self.new }
+        ensures ctx { self.new.desk.ctx ≡ self.old.desk.ctx }
+        ensures journal { Keeps L.meaning result self.old self.new }
     {
         self.enter(op, key, Some(attr))
     }
@@ -79,6 +82,8 @@ impl<L: Analysis> Bench<L> {
         ensures err { OnErr result (self.new ≡ self.old) }
         ensures does { Does L.meaning (Do (edit_meaning self.old.desk.ctx (DropAttr op key))) (reply_of result) self.old self.new }
         ensures led { Led L.meaning self.old self.new }
+        ensures ctx { self.new.desk.ctx ≡ self.old.desk.ctx }
+        ensures journal { Keeps L.meaning result self.old self.new }
     {
         self.enter(op, key, None)
     }
@@ -93,6 +98,8 @@ impl<L: Analysis> Bench<L> {
         ensures refused { IsAnswered (Unit {0}) (set_entry_reason (key_before_in self.old.desk.ctx) op (part_for (tests_in self.old.desk.ctx) op key self.old.desk.store.module_of.tree) key value self.old.desk.store.module_of.tree) result }
         ensures err { OnErr result (self.new ≡ self.old) }
         ensures led { Led L.meaning self.old self.new }
+        ensures ctx { self.new.desk.ctx ≡ self.old.desk.ctx }
+        ensures journal { Keeps L.meaning result self.old self.new }
     {
         let world = self.desk.world();
         let part = part_for(&world.ctx, &world.store, op, key);
@@ -100,6 +107,7 @@ impl<L: Analysis> Bench<L> {
             Err(refusal) => Err(refusal),
             Ok(event) => {
                 self.panel.tell(self.desk.world(), event);
+                settle(&mut self.desk);
                 Ok(())
             }
         }

@@ -1,34 +1,47 @@
 //! The bench.
-ghost use Rattle.std.specs.Prelude.{◌≡◌, [], length, slice_get, ◌↔◌, ◌≢◌, IsTrue, OnErr, IfOk, IsOk, true, None};
+ghost use Rattle.std.specs.Prelude.{◌≡◌, [], length, slice_get, ◌↔◌, ◌≢◌, ◌<◌, ◌⊎◌, IsTrue, OnErr, IfErr, IfOk, IsOk, Some, true, None};
+ghost use Rattle.std.specs.List.{All};
 ghost use Rattle.ir_types.specs.Things.{TypeIsOf, AttrIsOf};
 ghost use Rattle.ir_types.specs.Interning.{with_name, with_type, with_attr, knows_name, knows_type, knows_attr};
 ghost use Rattle.ir_types.specs.Reasons.{IsRefusedFor, name_reason, type_reason, attr_reason};
+ghost use Rattle.ir_types.specs.Sound.{IsSound};
+ghost use Rattle.ir_tree.specs.Ids.{HasDistinctIds, ids};
+ghost use Rattle.ir_tree.specs.Meaning.{IsSoundIn, isolated_in};
+ghost use Rattle.ir_tree.specs.WellFormed.{IsWellFormed, fault};
+ghost use Rattle.ir_store.specs.Calls.{Loaded};
 ghost use Rattle.ir_event.specs.Modules.{things_in};
-ghost use Rattle.rewriter_desk.specs.Journals.{IsSlotted, IsTidy};
+ghost use Rattle.rewriter_desk.specs.Journals.{IsJournal, IsSlotted};
 ghost use Rattle.rewriter_desk.specs.Moves.{Grown};
 ghost use Rattle.rewriter.specs.Benched.{Led};
+ghost use Rattle.rewriter.specs.Rolling.{IsSettled, Settled};
 
+use crate::marks::settle;
 use rewriter_desk::desk::Desk;
 use ir_event::analysis::Analysis;
 use ir_event::event::Event;
 use ir_event::panel::Panel;
 use ir_event::world::World;
+use ir_tree::tree::TreeOp;
+use ir_types::context::Context;
 use ir_types::ids::{AttrId, NameId, TypeId};
 use ir_types::node::{AttrNode, TypeNode};
 use ir_types::refusal::Refusal;
+use op_registry::registry::Registry;
+use rewriter_journal::laws::stores_stay_slotted;
 use std::alloc::Global;
 use std::marker::Model;
 
 /// A module under edits, with its marks and the events since the oldest open one, and the listeners that follow it.
 #[derive(Drop)]
 pub struct Bench<L> {
+    pub(crate) alloc: Global,
     pub(crate) desk: Desk,
     pub(crate) panel: Panel<L>,
 }
 
 impl<L> Model for Bench<L> {
     ghost use Rattle.rewriter.specs.Benched.{Benched};
-    ghost use Rattle.rewriter_desk.specs.Journals.{IsTidy};
+    ghost use Rattle.rewriter.specs.Rolling.{IsSettled};
     ghost use Rattle.std.specs.Coded.{codes};
     ghost use Rattle.ir_store.specs.Stored.{stored_code};
 
@@ -38,20 +51,70 @@ impl<L> Model for Bench<L> {
 
     ghost view = { λ b. record { desk = b.desk; listeners = b.panel } };
 
-    ghost invariant = { λ b. IsTidy b.desk.store };
+    ghost invariant = { λ b. IsSettled b.desk };
 }
 
 impl<L: Analysis> Bench<L> {
-    /// A bench without marks or listeners.
-    pub fn new(alloc: Global, world: World) -> Bench<L>
-        requires slotted { IsSlotted world.store }
-        requires tidy { IsTidy world.store }
-        ensures { result ≡ record { desk = record { ctx = things_in world; store = world.store; journal = []; marks = [] }; listeners = [] } }
+    /// A bench without marks or listeners, over a module with a tree and a next free id.
+    ///
+    /// Refusals: `UnknownValue`, `TooDeep`, `TooMany` in this order; `Memory`.
+    pub fn new(
+        alloc: Global,
+        ctx: Context,
+        registry: Registry,
+        tree: &TreeOp,
+        next: u32,
+    ) -> Result<Bench<L>, Refusal>
+        requires sound { IsSoundIn ctx tree.now }
+        requires distinct { HasDistinctIds tree.now }
+        requires below { All (λ x. x < next) (ids tree.now) }
+        ensures ctx { IfOk result (λ b. b.desk.ctx ≡ ctx) }
+        ensures store { IfOk result (λ b. Loaded tree.now next b.desk.store) }
+        ensures marks { IfOk result (λ b. b.desk.marks ≡ []) }
+        ensures listeners { IfOk result (λ b. b.listeners ≡ []) }
+        ensures refused { IfErr result (λ e. (e ≡ Refusal.Memory) ⊎ (fault (isolated_in ctx) tree.now ≡ Some e)) }
     {
+        stores_stay_slotted();
+        let world = match World::load(alloc, ctx, registry, tree, next) {
+            Ok(world) => world,
+            Err(refusal) => return Err(refusal),
+        };
+        Ok(Bench::over(alloc, world))
+    }
+
+    /// A bench without marks or listeners, over the module of a world. What was taken from it is given up.
+    pub fn over(alloc: Global, world: World) -> Bench<L>
+        requires slotted { IsSlotted world.store }
+        ensures desk { Settled (record { ctx = things_in world; store = world.store; journal = []; marks = [] }) result.desk }
+        ensures listeners { result.listeners ≡ [] }
+    {
+        let mut desk = Desk::new(alloc, world);
+        settle(&mut desk);
         Bench {
-            desk: Desk::new(alloc, world),
+            alloc,
+            desk,
             panel: Panel::new(alloc),
         }
+    }
+
+    /// What is true of every bench: its module is well-formed and of its context, in which no thing stands twice. Where
+    /// no mark is open there is no journal, and the module alone is held. The events of the journal led to the module.
+    pub fn is_formed(&self)
+        ensures context { IsSound self.now.desk.ctx }
+        ensures sound { IsSoundIn self.now.desk.ctx self.now.desk.store.module_of.tree }
+        ensures formed { IsWellFormed (isolated_in self.now.desk.ctx) self.now.desk.store.module_of }
+        ensures settled { IsSettled self.now.desk }
+        ensures none { self.now.desk.marks ≡ [] → self.now.desk.journal ≡ [] }
+        ensures leads { IsJournal self.now.desk.ctx self.now.desk.journal self.now.desk.store }
+    {
+        self.desk.is_good();
+        let world = self.desk.world();
+        world.ctx.sound();
+    }
+
+    /// Where the bench has its memory from.
+    pub(crate) fn alloc(&self) -> Global {
+        self.alloc
     }
 
     /// The world.

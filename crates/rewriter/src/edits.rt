@@ -9,9 +9,10 @@ ghost use Rattle.rewriter_machine.specs.Contents.{edit_meaning};
 ghost use Rattle.rewriter_machine.specs.Edits.{Make, Move, SetOperand};
 ghost use Rattle.rewriter_machine.specs.Machine.{Do};
 ghost use Rattle.rewriter_desk.specs.Moves.{IsAnswered};
-ghost use Rattle.rewriter.specs.Benched.{Does, Led, Made, id_reply_of, reply_of};
+ghost use Rattle.rewriter.specs.Benched.{Does, Keeps, Led, Made, id_reply_of, reply_of};
 
 use crate::bench::Bench;
+use crate::marks::settle;
 use ir_event::analysis::Analysis;
 use ir_tree::place::Place;
 use ir_tree::tree::TreeOp;
@@ -26,7 +27,7 @@ impl<L: Analysis> Bench<L> {
     /// Refusals: `NoSuchOp` where the place's parent isn't in the module; `NoSuchIndex` where that has no such place;
     /// `Full`; `IdsExhausted`; `TooDeepHere`; `NoSuchValue`; `NotVisible` where it wouldn't see an operand (Language
     /// Reference, "Regions", on value scoping); in this order; and `Memory`.
-    pub fn make(&mut self, place: Place, header: &TreeOp) -> Result<OpId, Refusal>
+    pub(crate) fn make(&mut self, place: Place, header: &TreeOp) -> Result<OpId, Refusal>
         requires sound { IsSoundIn self.old.desk.ctx header.now }
         requires bare { holds_none (Some header.now) ≡ true }
         ensures id { IfOk result (λ x. x ≡ self.old.desk.store.module_of.next) }
@@ -35,31 +36,37 @@ impl<L: Analysis> Bench<L> {
         ensures err { OnErr result (self.new ≡ self.old) }
         ensures does { Does L.meaning (Do (edit_meaning self.old.desk.ctx (Make place header.now))) (id_reply_of result) self.old self.new }
         ensures led { Led L.meaning self.old self.new }
+        ensures ctx { self.new.desk.ctx ≡ self.old.desk.ctx }
+        ensures journal { Keeps L.meaning result self.old self.new }
     {
         let op = OpId::new(self.desk.world().store.next_id());
         match self.desk.put(place, header) {
             Err(refusal) => Err(refusal),
             Ok(event) => {
                 self.panel.tell(self.desk.world(), event);
+                settle(&mut self.desk);
                 Ok(op)
             }
         }
     }
 
-    /// Takes an operation that holds none out of the module. It is held while a mark is open from before.
+    /// Takes an operation that holds none out of the module. It is held while a mark is open.
     ///
     /// Refusals, in order: `NoSuchOp`; `IsRoot`; `NotEmpty` where a block of it holds operations; `HasUses` where a
     /// value of it is used; and `Memory` where a mark is open.
-    pub fn take(&mut self, op: OpId) -> Result<(), Refusal>
+    pub(crate) fn take(&mut self, op: OpId) -> Result<(), Refusal>
         ensures ok { OnOk result (Made L.meaning (after_take op self.old.desk.store) self.old self.new) }
         ensures refused { IsAnswered (self.old.desk.marks ≢ []) (take_reason op self.old.desk.store.module_of.tree) result }
         ensures err { OnErr result (self.new ≡ self.old) }
         ensures led { Led L.meaning self.old self.new }
+        ensures ctx { self.new.desk.ctx ≡ self.old.desk.ctx }
+        ensures journal { Keeps L.meaning result self.old self.new }
     {
         match self.desk.take(op) {
             Err(refusal) => Err(refusal),
             Ok(event) => {
                 self.panel.tell(self.desk.world(), event);
+                settle(&mut self.desk);
                 Ok(())
             }
         }
@@ -70,17 +77,20 @@ impl<L: Analysis> Bench<L> {
     /// Refusals, in order: `NoSuchOp`; `NoSuchIndex` where it has no such operand; `NoSuchValue`; `NotVisible` where the
     /// operation doesn't see the value (Language Reference, "Regions", on value scoping); and `Memory` where a mark is
     /// open.
-    pub fn set_operand(&mut self, op: OpId, operand: u32, value: Value) -> Result<(), Refusal>
-        ensures ok { OnOk result (Made L.meaning (after_operand op operand value self.old.desk.store) self.old self.new) }
-        ensures refused { IsAnswered (self.old.desk.marks ≢ []) (set_operand_reason (isolated_in self.old.desk.ctx) op operand value self.old.desk.store.module_of.tree) result }
+    pub fn set_operand(&mut self, op: OpId, k: u32, value: Value) -> Result<(), Refusal>
+        ensures ok { OnOk result (Made L.meaning (after_operand op k value self.old.desk.store) self.old self.new) }
+        ensures refused { IsAnswered (self.old.desk.marks ≢ []) (set_operand_reason (isolated_in self.old.desk.ctx) op k value self.old.desk.store.module_of.tree) result }
         ensures err { OnErr result (self.new ≡ self.old) }
-        ensures does { Does L.meaning (Do (edit_meaning self.old.desk.ctx (SetOperand op operand value))) (reply_of result) self.old self.new }
+        ensures does { Does L.meaning (Do (edit_meaning self.old.desk.ctx (SetOperand op k value))) (reply_of result) self.old self.new }
         ensures led { Led L.meaning self.old self.new }
+        ensures ctx { self.new.desk.ctx ≡ self.old.desk.ctx }
+        ensures journal { Keeps L.meaning result self.old self.new }
     {
-        match self.desk.set_operand(op, operand, value) {
+        match self.desk.set_operand(op, k, value) {
             Err(refusal) => Err(refusal),
             Ok(event) => {
                 self.panel.tell(self.desk.world(), event);
+                settle(&mut self.desk);
                 Ok(())
             }
         }
@@ -98,11 +108,14 @@ impl<L: Analysis> Bench<L> {
         ensures err { OnErr result (self.new ≡ self.old) }
         ensures does { Does L.meaning (Do (edit_meaning self.old.desk.ctx (Move op place))) (reply_of result) self.old self.new }
         ensures led { Led L.meaning self.old self.new }
+        ensures ctx { self.new.desk.ctx ≡ self.old.desk.ctx }
+        ensures journal { Keeps L.meaning result self.old self.new }
     {
         match self.desk.shift(op, place) {
             Err(refusal) => Err(refusal),
             Ok(event) => {
                 self.panel.tell(self.desk.world(), event);
+                settle(&mut self.desk);
                 Ok(())
             }
         }

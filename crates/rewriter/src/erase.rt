@@ -3,11 +3,11 @@ ghost use Rattle.std.specs.Prelude.{◌≡◌, None, OnOk};
 ghost use Rattle.rewriter_machine.specs.Contents.{edit_meaning, tests_in};
 ghost use Rattle.rewriter_machine.specs.Edits.{Erase, edited_by, reason_by};
 ghost use Rattle.rewriter_machine.specs.Machine.{Do};
-ghost use Rattle.rewriter.specs.Benched.{Does, Led, reply_of};
+ghost use Rattle.rewriter.specs.Benched.{Does, Keeps, Led, reply_of};
 ghost use Rattle.rewriter.specs.Wholes.{IsDoneOrNoted, Onward};
 
 use crate::faults::erase_fault;
-use crate::finish::{finish, is_formed};
+use crate::finish::finish;
 use rewriter_laws::turns::erasing_by_last;
 use ir_event::analysis::Analysis;
 use ir_types::ids::OpId;
@@ -24,7 +24,7 @@ fn take_all<L: Analysis>(bench: &mut Bench<L>, op: OpId) -> Result<(), Refusal>
 {
     erasing_by_last::<u32, u32, u32>();
     led_benches_are_kept::<L>();
-    is_formed(bench);
+    bench.is_formed();
     'rest: while let Some(last) = bench.world().store.last_within(op) {
         if let Err(refusal) = bench.take(last) {
             return Err(refusal);
@@ -36,36 +36,37 @@ fn take_all<L: Analysis>(bench: &mut Bench<L>, op: OpId) -> Result<(), Refusal>
     Ok(())
 }
 
-/// Takes an operation out of the module, with what is inside it. It is whole or not made at all.
-///
-/// Refusals, in order: `NoSuchOp`; `IsRoot`; `HasUses` where an operation outside it uses a value from inside; and
-/// `Memory` where a mark is open.
-pub fn erase<L: Analysis>(bench: &mut Bench<L>, op: OpId) -> Result<(), Refusal>
-    ensures does { Does L.meaning (Do (edit_meaning bench.old.desk.ctx (Erase op))) (reply_of result) bench.old bench.new }
-    ensures led { Led L.meaning bench.old bench.new }
-    ensures ctx { bench.new.desk.ctx ≡ bench.old.desk.ctx }
-{
-    led_benches_are_kept::<L>();
-    is_formed(bench);
-    if let Some(refusal) = erase_fault(bench.world(), op) {
-        return Err(refusal);
-    }
-    if !bench.is_marked() {
-        let made = take_all(bench, op);
-        bench.settle();
-        return made;
-    }
-    if let Err(refusal) = bench.step() {
-        return Err(refusal);
-    }
-    match take_all(bench, op) {
-        Ok(()) => {
-            finish(bench, true);
-            Ok(())
+impl<L: Analysis> Bench<L> {
+    /// Takes an operation out of the module, with what is inside it. It is whole or not made at all.
+    ///
+    /// Refusals, in order: `NoSuchOp`; `IsRoot`; `HasUses` where an operation outside it uses a value from inside; and
+    /// `Memory` where a mark is open.
+    pub fn erase(&mut self, op: OpId) -> Result<(), Refusal>
+        ensures does { Does L.meaning (Do (edit_meaning self.old.desk.ctx (Erase op))) (reply_of result) self.old self.new }
+        ensures led { Led L.meaning self.old self.new }
+        ensures ctx { self.new.desk.ctx ≡ self.old.desk.ctx }
+        ensures journal { Keeps L.meaning result self.old self.new }
+    {
+        led_benches_are_kept::<L>();
+        self.is_formed();
+        if let Some(refusal) = erase_fault(self.world(), op) {
+            return Err(refusal);
         }
-        Err(refusal) => {
-            finish(bench, false);
-            Err(refusal)
+        if !self.is_marked() {
+            return take_all(self, op);
+        }
+        if let Err(refusal) = self.step() {
+            return Err(refusal);
+        }
+        match take_all(self, op) {
+            Ok(()) => {
+                finish(self, true);
+                Ok(())
+            }
+            Err(refusal) => {
+                finish(self, false);
+                Err(refusal)
+            }
         }
     }
 }

@@ -13,16 +13,16 @@ pub fn replace_fault(world: &World, old: &Value, new: &Value) -> Option<Refusal>
     ensures { result ≡ reason_by (tests_in world.now.ctx) (Replace old.now new.now) world.now.store.module_of }
 {
     world.ctx.sound();
-    let Some(one) = world.store.value_type(old) else {
+    let Some(one) = world.store.value_type(*old) else {
         return Some(Refusal::NoSuchValue);
     };
-    let Some(other) = world.store.value_type(new) else {
+    let Some(other) = world.store.value_type(*new) else {
         return Some(Refusal::NoSuchValue);
     };
     if one != other {
         return Some(Refusal::TypeDiffers);
     }
-    if !world.store.users_see(&world.ctx, old, new) {
+    if !world.store.users_see(&world.ctx, *old, *new) {
         return Some(Refusal::NotVisible);
     }
     None

@@ -6,17 +6,17 @@
 mod attributes;
 pub mod bench;
 mod edits;
-mod erase;
+pub mod erase;
 mod fault;
 pub mod faults;
 mod finish;
 mod headers;
-mod insert;
+pub mod insert;
 pub mod laws;
 mod listeners;
 mod making;
 mod marks;
-mod replace;
+pub mod replace;
 mod texts;
 
 pub use bench::Bench;

@@ -1,6 +1,6 @@
 //! Listeners of a bench. Attaching, dropping, beginning anew and asking them is no edit, and a rollback doesn't undo it.
-ghost use Rattle.std.specs.Prelude.{◌≡◌, OnOk, OnErr, IfErr, MatchResult};
-ghost use Rattle.ir_event.specs.Panels.{AttachedLast, BegunAgain, Detached, HandedBack, NotBegunAgain};
+ghost use Rattle.std.specs.Prelude.{◌≡◌, true, false, OnOk, OnErr, IfErr, IsErrOf, MatchResult};
+ghost use Rattle.ir_event.specs.Panels.{AttachedLast, BegunAgain, Detached, HandedBack, IsListener, NotBegunAgain, has_kind};
 ghost use Rattle.ir_event.specs.Rows.{RowIsOf, rows_meaning};
 ghost use Rattle.std.specs.Prelude.{All, IfOk};
 ghost use Rattle.rewriter_machine.specs.Machine.{Attach, Detach, Done, Goes, Nothing, Refused, Report, Resync, Rows};
@@ -12,7 +12,6 @@ use crate::bench::Bench;
 use ir_event::analysis::Analysis;
 use ir_event::row::{Kind, Row};
 use ir_types::refusal::Refusal;
-use std::alloc::Global;
 
 impl<L: Analysis> Bench<L> {
     /// Begins a listener and adds it last, or hands it back.
@@ -58,12 +57,14 @@ impl<L: Analysis> Bench<L> {
     /// The rows of the listener of a kind: those of the module held.
     ///
     /// Refusals: `NoSuchKind`; `Stale`; `Memory`.
-    pub fn report(&self, alloc: Global, kind: Kind) -> Result<Vec<Row>, Refusal>
+    pub fn report(&self, kind: Kind) -> Result<Vec<Row>, Refusal>
+        ensures missing { has_kind L.meaning kind self.now.listeners ≡ false → IsErrOf result Refusal.NoSuchKind }
+        ensures stale { (b : L) → IsListener L.meaning kind self.now.listeners b → (L.meaning b).stale ≡ true → IsErrOf result Refusal.Stale }
         ensures known { IsKept L.meaning self.now → IfOk result (λ rows. All (RowIsOf self.now.desk.ctx) rows.items) }
         ensures goes { IsKept L.meaning self.now → MatchResult result
             (λ rows. Goes (state_of L.meaning self.now) (Report kind) Done (Rows (rows_meaning self.now.desk.ctx rows.items)) (state_of L.meaning self.now))
             (λ e. Goes (state_of L.meaning self.now) (Report kind) (Refused e) Nothing (state_of L.meaning self.now)) }
     {
-        self.panel.report(alloc, kind)
+        self.panel.report(kind)
     }
 }

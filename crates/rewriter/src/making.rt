@@ -10,7 +10,6 @@ ghost use Rattle.rewriter_laws.specs.Inserting.{insert_fault};
 ghost use Rattle.rewriter.specs.Wholes.{Onward};
 ghost use Rattle.rewriter.specs.Trying.{AreHeadersOf, Tries};
 
-use crate::finish::is_formed;
 use crate::headers::headers_of;
 use rewriter_laws::laws::{headers_are_bare, inserting_is_making};
 use rewriter_laws::turns::inserts_are_tried;
@@ -20,7 +19,6 @@ use ir_tree::tree::TreeOp;
 use ir_types::refusal::Refusal;
 use crate::bench::Bench;
 use crate::laws::led_benches_are_kept;
-use std::alloc::Global;
 
 /// Makes headers, one after another, until one is refused.
 fn make_each<L: Analysis>(
@@ -33,7 +31,7 @@ fn make_each<L: Analysis>(
 {
     inserting_is_making::<u32, u32, u32>();
     led_benches_are_kept::<L>();
-    is_formed(bench);
+    bench.is_formed();
     for header in headers {
         if let Err(refusal) = bench.make(header.0, &header.1) {
             return Err(refusal);
@@ -54,7 +52,6 @@ fn refused_whole(refusal: Refusal) -> Refusal
 
 /// Makes the headers of an operation that is to stand at a place, until one is refused.
 pub(crate) fn make_all<L: Analysis>(
-    alloc: Global,
     bench: &mut Bench<L>,
     place: Place,
     tree: &TreeOp,
@@ -69,14 +66,14 @@ pub(crate) fn make_all<L: Analysis>(
     headers_are_bare();
     inserts_are_tried::<u32, u32, u32>();
     led_benches_are_kept::<L>();
-    is_formed(bench);
-    let headers = match headers_of(alloc, place, tree) {
+    bench.is_formed();
+    let headers = match headers_of(bench.alloc(), place, tree) {
         Ok(headers) => headers,
         Err(_) => return Err(Refusal::Memory),
     };
     match make_each(bench, &headers) {
         Ok(()) => {
-            is_formed(bench);
+            bench.is_formed();
             Ok(())
         }
         Err(refusal) => Err(refused_whole(refusal)),

@@ -1,10 +1,11 @@
 //! Marks of a bench, and the way back to them.
-ghost use Rattle.std.specs.Prelude.{◌≡◌, ◌≤◌, length, drop, OnOk, OnErr};
+ghost use Rattle.std.specs.Prelude.{◌≡◌, ◌≤◌, [], length, drop, true, false, OnOk, OnErr};
 ghost use Rattle.rewriter_desk.specs.Journals.{inverses};
 ghost use Rattle.rewriter_desk.specs.Held.{Within};
+ghost use Rattle.rewriter_desk.specs.Marked.{with_mark};
 ghost use Rattle.rewriter_machine.specs.Machine.{Commit, Mark, Rollback, Step};
 ghost use Rattle.rewriter.specs.Benched.{Does, Heard, Led, ToldBack, reply_of};
-ghost use Rattle.rewriter.specs.Rolling.{GivenUp, UndoneTo};
+ghost use Rattle.rewriter.specs.Rolling.{Dropped, GivenUp, Settled, UndoneTo};
 
 use crate::bench::Bench;
 use rewriter_desk::desk::Desk;
@@ -26,7 +27,7 @@ fn undo_to<L: Analysis>(desk: &mut Desk, panel: &mut Panel<L>, mark: usize)
 }
 
 /// Gives up what no mark can want back.
-pub(crate) fn give_up(desk: &mut Desk)
+fn give_up(desk: &mut Desk)
     ensures { GivenUp desk.old desk.new }
 {
     if desk.is_marked() {
@@ -36,14 +37,26 @@ pub(crate) fn give_up(desk: &mut Desk)
     }
 }
 
+/// Gives up what was taken out of the module, where no mark is open: no event can want it back.
+pub(crate) fn settle(desk: &mut Desk)
+    ensures { Settled desk.old desk.new }
+{
+    if desk.is_marked() {
+        return;
+    }
+    desk.settle();
+}
+
 impl<L: Analysis> Bench<L> {
     /// Makes a mark of the module held.
     ///
-    /// Refusals: `TooManyMarks` where sixteen of them are open; `Memory`.
+    /// Refusals: `TooManyMarks` where `MOST_MARKS` of them are open; `Memory`.
     pub fn mark(&mut self) -> Result<(), Refusal>
         ensures does { Does L.meaning Mark (reply_of result) self.old self.new }
+        ensures ok { OnOk result (self.new.desk ≡ with_mark true self.old.desk) }
         ensures err { OnErr result (self.new ≡ self.old) }
         ensures led { Led L.meaning self.old self.new }
+        ensures untold { Heard L.meaning [] self.old self.new }
     {
         self.desk.mark(true)
     }
@@ -54,8 +67,10 @@ impl<L: Analysis> Bench<L> {
     pub fn step(&mut self) -> Result<(), Refusal>
         ensures does { Does L.meaning Step (reply_of result) self.old self.new }
         ensures ctx { self.new.desk.ctx ≡ self.old.desk.ctx }
+        ensures ok { OnOk result (self.new.desk ≡ with_mark false self.old.desk) }
         ensures err { OnErr result (self.new ≡ self.old) }
         ensures led { Led L.meaning self.old self.new }
+        ensures untold { Heard L.meaning [] self.old self.new }
     {
         self.desk.mark(false)
     }
@@ -66,12 +81,16 @@ impl<L: Analysis> Bench<L> {
     pub fn commit(&mut self) -> Result<(), Refusal>
         ensures does { Does L.meaning Commit (reply_of result) self.old self.new }
         ensures ctx { self.new.desk.ctx ≡ self.old.desk.ctx }
+        ensures ok { OnOk result (Dropped true self.old.desk self.new.desk) }
         ensures err { OnErr result (self.new ≡ self.old) }
+        ensures none { OnErr result (self.old.desk.marks ≡ []) }
         ensures led { Led L.meaning self.old self.new }
+        ensures untold { Heard L.meaning [] self.old self.new }
     {
         if !self.desk.is_marked() {
             return Err(Refusal::NoMark);
         }
+        self.desk.is_good();
         self.desk.close();
         give_up(&mut self.desk);
         Ok(())
@@ -84,8 +103,10 @@ impl<L: Analysis> Bench<L> {
     pub fn rollback(&mut self) -> Result<(), Refusal>
         ensures does { Does L.meaning Rollback (reply_of result) self.old self.new }
         ensures ctx { self.new.desk.ctx ≡ self.old.desk.ctx }
+        ensures ok { OnOk result (Dropped false self.old.desk self.new.desk) }
         ensures told { OnOk result (ToldBack L.meaning self.old self.new) }
         ensures err { OnErr result (self.new ≡ self.old) }
+        ensures none { OnErr result (self.old.desk.marks ≡ []) }
         ensures led { Led L.meaning self.old self.new }
     {
         let Some(mark) = self.desk.newest() else {
@@ -95,28 +116,5 @@ impl<L: Analysis> Bench<L> {
         self.desk.close();
         give_up(&mut self.desk);
         Ok(())
-    }
-}
-
-impl<L: Analysis> Bench<L> {
-    /// Gives up what was taken out of the module, where no mark is open: no event can want it back.
-    pub fn settle(&mut self)
-        ensures desk { GivenUp self.old.desk self.new.desk }
-        ensures listeners { self.new.listeners ≡ self.old.listeners }
-        ensures led { Led L.meaning self.old self.new }
-    {
-        give_up(&mut self.desk);
-    }
-
-    /// Goes back to where the journal was so long, as a rollback does, where a mark is open and none was made since. It
-    /// is for calls of several events that are whole or undone.
-    pub fn back_to(&mut self, mark: usize)
-        requires above { Within mark self.old.desk.marks }
-        requires within { mark ≤ length self.old.desk.journal }
-        ensures undone { UndoneTo mark self.old.desk self.new.desk }
-        ensures led { Led L.meaning self.old self.new }
-    {
-        undo_to(&mut self.desk, &mut self.panel, mark);
-        give_up(&mut self.desk);
     }
 }

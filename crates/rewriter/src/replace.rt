@@ -4,11 +4,11 @@ ghost use Rattle.ir_tree.specs.Uses.{same_value};
 ghost use Rattle.rewriter_machine.specs.Contents.{edit_meaning, tests_in};
 ghost use Rattle.rewriter_machine.specs.Edits.{Replace, edited_by, reason_by};
 ghost use Rattle.rewriter_machine.specs.Machine.{Do};
-ghost use Rattle.rewriter.specs.Benched.{Does, Led, reply_of};
+ghost use Rattle.rewriter.specs.Benched.{Does, Keeps, Led, reply_of};
 ghost use Rattle.rewriter.specs.Wholes.{IsDoneOrNoted, Onward};
 
 use crate::faults::replace_fault;
-use crate::finish::{finish, is_formed};
+use crate::finish::finish;
 use rewriter_laws::turns::replacing_by_uses;
 use ir_event::analysis::Analysis;
 use ir_tree::uses::is_same;
@@ -27,8 +27,8 @@ fn set_uses<L: Analysis>(bench: &mut Bench<L>, old: &Value, new: &Value) -> Resu
 {
     replacing_by_uses::<u32, u32, u32>();
     led_benches_are_kept::<L>();
-    is_formed(bench);
-    'uses: while let Some(site) = bench.world().store.first_use(old) {
+    bench.is_formed();
+    'uses: while let Some(site) = bench.world().store.first_use(*old) {
         if let Err(refusal) = bench.set_operand(site.0, site.1, *new) {
             return Err(refusal);
         }
@@ -36,40 +36,43 @@ fn set_uses<L: Analysis>(bench: &mut Bench<L>, old: &Value, new: &Value) -> Resu
     Ok(())
 }
 
-/// Puts a value in the place of another wherever that is used. The types have to be one. Where the two are one value,
-/// nothing changes. It is whole or not made at all.
-///
-/// Refusals, in order: `NoSuchValue` where the first or the second isn't a value of the module; `TypeDiffers`;
-/// `NotVisible` where an operation that uses the first doesn't see the second (Language Reference, "Regions", on value
-/// scoping); and `Memory` where a mark is open.
-pub fn replace_all<L: Analysis>(bench: &mut Bench<L>, old: Value, new: Value) -> Result<(), Refusal>
-    ensures does { Does L.meaning (Do (edit_meaning bench.old.desk.ctx (Replace old new))) (reply_of result) bench.old bench.new }
-    ensures led { Led L.meaning bench.old bench.new }
-    ensures ctx { bench.new.desk.ctx ≡ bench.old.desk.ctx }
-{
-    replacing_by_uses::<u32, u32, u32>();
-    led_benches_are_kept::<L>();
-    is_formed(bench);
-    if let Some(refusal) = replace_fault(bench.world(), &old, &new) {
-        return Err(refusal);
-    }
-    if is_same(&old, &new) {
-        return Ok(());
-    }
-    if !bench.is_marked() {
-        return set_uses(bench, &old, &new);
-    }
-    if let Err(refusal) = bench.step() {
-        return Err(refusal);
-    }
-    match set_uses(bench, &old, &new) {
-        Ok(()) => {
-            finish(bench, true);
-            Ok(())
+impl<L: Analysis> Bench<L> {
+    /// Puts a value in the place of another wherever that is used. The types have to be one. Where the two are one value,
+    /// nothing changes. It is whole or not made at all.
+    ///
+    /// Refusals, in order: `NoSuchValue` where the first or the second isn't a value of the module; `TypeDiffers`;
+    /// `NotVisible` where an operation that uses the first doesn't see the second (Language Reference, "Regions", on value
+    /// scoping); and `Memory` where a mark is open.
+    pub fn replace_all(&mut self, old: Value, new: Value) -> Result<(), Refusal>
+        ensures does { Does L.meaning (Do (edit_meaning self.old.desk.ctx (Replace old new))) (reply_of result) self.old self.new }
+        ensures led { Led L.meaning self.old self.new }
+        ensures ctx { self.new.desk.ctx ≡ self.old.desk.ctx }
+        ensures journal { Keeps L.meaning result self.old self.new }
+    {
+        replacing_by_uses::<u32, u32, u32>();
+        led_benches_are_kept::<L>();
+        self.is_formed();
+        if let Some(refusal) = replace_fault(self.world(), &old, &new) {
+            return Err(refusal);
         }
-        Err(refusal) => {
-            finish(bench, false);
-            Err(refusal)
+        if is_same(&old, &new) {
+            return Ok(());
+        }
+        if !self.is_marked() {
+            return set_uses(self, &old, &new);
+        }
+        if let Err(refusal) = self.step() {
+            return Err(refusal);
+        }
+        match set_uses(self, &old, &new) {
+            Ok(()) => {
+                finish(self, true);
+                Ok(())
+            }
+            Err(refusal) => {
+                finish(self, false);
+                Err(refusal)
+            }
         }
     }
 }

@@ -1,10 +1,11 @@
 //! Texts that are read beside the module of a bench.
-ghost use Rattle.std.specs.Prelude.{◌≡◌, IfOk, Err};
+ghost use Rattle.std.specs.Prelude.{◌≡◌, ℕ, IfErr, IfOk, Err};
 ghost use Rattle.ir_types.specs.Things.{IsAttr};
 ghost use Rattle.ir_types.specs.Terms.{attr_term};
 ghost use Rattle.ir_tree.specs.Ids.{IsNumberedFrom};
 ghost use Rattle.ir_tree.specs.Meaning.{IsSoundIn, meaning};
-ghost use Rattle.ir_text_tokens.specs.declared.fault.Fault.{Fault as TextFault};
+ghost use Rattle.ir_types.specs.declared.refusal.Refusal.{Refusal as Reason};
+ghost use Rattle.ir_text.specs.Public.{IsFull, IsOpTold, IsTold};
 ghost use Rattle.ir_text_attributes.specs.Claims.{IsNoAttr};
 ghost use Rattle.ir_text_attributes.specs.Spelling.{SpellsAttr};
 ghost use Rattle.ir_text_operations.specs.Claims.{IsNone};
@@ -18,21 +19,22 @@ use rewriter_desk::ReadError;
 use ir_event::analysis::Analysis;
 use ir_tree::tree::TreeOp;
 use ir_types::ids::AttrId;
-use std::alloc::Global;
 
 impl<L: Analysis> Bench<L> {
     /// The attribute that a text spells.
     ///
     /// Refusals: as for the reader's call.
-    pub fn parse_attr(&mut self, alloc: Global, text: &[u8]) -> Result<AttrId, ReadError>
+    pub fn parse_attr(&mut self, text: &[u8]) -> Result<AttrId, ReadError>
         ensures attr { IfOk result (λ a. IsAttr self.new.desk.ctx a × SpellsAttr text.now (attr_term self.new.desk.ctx a)) }
-        ensures refused { (f : TextFault) → result ≡ Err (ReadError.Refused f) → IsNoAttr (SpellsAttr text.now) }
+        ensures refused { (r : Reason) (o : ℕ) → result ≡ Err (ReadError.Refused r o) → IsNoAttr (SpellsAttr text.now) }
+        ensures told { IfErr result (λ e. IsTold text.now e) }
+        ensures full { (o : ℕ) → result ≡ Err (ReadError.Full o) → IsFull self.new.desk.ctx }
         ensures grown { Grown self.old.desk self.new.desk }
         ensures listeners { self.new.listeners ≡ self.old.listeners }
         ensures led { Led L.meaning self.old self.new }
     {
         self.desk.world().ctx.sound();
-        let read = self.desk.parse_attr(alloc, text);
+        let read = self.desk.parse_attr(self.alloc, text);
         self.desk.world().ctx.sound();
         read
     }
@@ -40,17 +42,19 @@ impl<L: Analysis> Bench<L> {
     /// The operation that a text spells beside the module, whose values it may name, numbered from the next free id.
     ///
     /// Refusals: as for the reader's call.
-    pub fn read_op(&mut self, alloc: Global, text: &[u8]) -> Result<TreeOp, ReadError>
+    pub fn read_op(&mut self, text: &[u8]) -> Result<TreeOp, ReadError>
         ensures read { IfOk result (λ t. SpellsBeside (module_held self.old.desk) text.now (meaning self.new.desk.ctx t)) }
         ensures sound { IfOk result (λ t. IsSoundIn self.new.desk.ctx t) }
         ensures numbered { IfOk result (λ t. IsNumberedFrom self.old.desk.store.module_of.next t) }
-        ensures refused { (f : TextFault) → result ≡ Err (ReadError.Refused f) → IsNone (SpellsBeside (module_held self.old.desk) text.now) }
+        ensures refused { (r : Reason) (o : ℕ) → result ≡ Err (ReadError.Refused r o) → IsNone (SpellsBeside (module_held self.old.desk) text.now) }
+        ensures told { IfErr result (λ e. IsOpTold text.now e) }
+        ensures full { (o : ℕ) → result ≡ Err (ReadError.Full o) → IsFull self.new.desk.ctx }
         ensures grown { Grown self.old.desk self.new.desk }
         ensures listeners { self.new.listeners ≡ self.old.listeners }
         ensures led { Led L.meaning self.old self.new }
     {
         self.desk.world().ctx.sound();
-        let read = self.desk.read_op(alloc, text);
+        let read = self.desk.read_op(self.alloc, text);
         self.desk.world().ctx.sound();
         read
     }

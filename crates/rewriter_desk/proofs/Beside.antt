@@ -1,7 +1,7 @@
 -- The values of a module, as the text of an operation may name them.
 use Rattle.std.proofs.Common.{◌≡◌, ◌∙◌, ap, sym, refl, ℕ, List, Option, Some, None, subst}
 use Rattle.std.specs.Prelude.{option_map, option_and_then, IfOk, IfSome, Result, Ok, Err}
-use Rattle.ir_text_grammar.specs.declared.error.ReadError.{ReadError}
+use Rattle.ir_text.specs.declared.error.ReadError.{ReadError}
 use Rattle.ir_types.specs.Things.{Things, IsType}
 use Rattle.ir_types.specs.Terms.{name_term, type_term, attr_term}
 use Rattle.ir_tree.specs.declared.value.Value.{Value}
@@ -17,7 +17,7 @@ use Rattle.ir_text_operations.specs.Claims.{IsOnly, IsNone}
 use Rattle.ir_text_operations.specs.Free.{free_term, free_bound, bound_term, value_named}
 use Rattle.ir_text_operations.specs.Seen.{BoundTerm}
 use Rattle.ir_text_operations.specs.Spelling.{SpellsOp}
-use Rattle.listeners_surroundings.proofs.Reading.{value_known}
+use Rattle.ir_event.proofs.Typed.{value_known}
 use Rattle.rewriter_desk.specs.Texts.{SpellsBeside, free_in}
 
 -- the types of a world's values are of its context

@@ -1,24 +1,31 @@
 -- What edits, undone events and other calls leave of a desk.
-use Rattle.std.proofs.Common.{◌≡◌, false, None, ℕ, ◌+◌, ◌-◌, ◌≤◌, List, [], ◌∷◌, ◌++◌, length, drop, map, refl, sym, subst, ap, ◌∙◌, arith, length-append}
+use Rattle.std.proofs.Common.{◌≡◌, Bool, true, false, cond, Option, Some, None, ℕ, ◌+◌, ◌-◌, ◌≤◌, List, [], ◌∷◌, ◌++◌, length, drop, map, refl, sym, subst, ap, ◌∙◌, arith, length-append}
 use Rattle.std.specs.FinMap as finmap
-use Rattle.std.specs.Prelude.{nat_lt, reverse, Result, Ok, Err, IfOk, OnOk, OnErr}
+use Rattle.std.specs.Ordering.{nat_cmp}
+use Rattle.std.specs.Prelude.{is_some, nat_lt, reverse, Result, Ok, Err, IfOk, OnOk, OnErr}
 use Rattle.std.proofs.lemmas.Bool.{cond-false}
 use Rattle.std.proofs.lemmas.Bool.Decides.{nat_tests}
+use Rattle.std.proofs.lemmas.Cmp.{nat_cmp_total}
 use Rattle.std.proofs.lemmas.List.{drop-append-le}
+use Rattle.std.proofs.Math.Seq.{drop-nil}
 use Rattle.ir_types.specs.declared.refusal.Refusal.{Refusal}
 use Rattle.ir_types.specs.Sound.{IsSound}
 use Rattle.ir_types.specs.Things.{Things, Grows}
-use Rattle.ir_store.specs.Calls.{Releases}
-use Rattle.ir_store.specs.Stored.{Stored}
+use Rattle.ir_tree.specs.Ids.{find, has_id}
+use Rattle.ir_tree.specs.Tree.{Op}
+use Rattle.ir_tree.specs.WellFormed.{Module}
+use Rattle.ir_store.specs.Calls.{Releases, gone_left}
+use Rattle.ir_store.specs.Stored.{Gone, Stored, known, none_gone}
 use Rattle.ir_event.specs.declared.event.Event.{Event}
+use Rattle.ir_event.proofs.Shown.{known_there, none_found}
 use Rattle.ir_event.specs.Listener.{ShowsTaken}
 use Rattle.ir_event.specs.Modules.{module_meaning}
 use Rattle.ir_event.specs.Step.{Step, inverse_of}
 use Rattle.rewriter_journal.specs.Undoing.{CameFrom, undone}
 use Rattle.rewriter_journal.specs.Journals.{IsJournal, IsSlotted, IsStoreOf, Noted, before, undone_all}
 use Rattle.rewriter_desk.specs.declared.mark.Mark.{Mark}
-use Rattle.rewriter_desk.specs.Held.{Held, IsGood, Within, module_held, open_mark, open_marks, shown_of}
-use Rattle.rewriter_desk.specs.Moves.{Edited, Grown, HoldsNone, Tidied, Undone, noted, noted_as}
+use Rattle.rewriter_desk.specs.Held.{Held, IsGood, Within, module_at, module_held, open_mark, open_marks, shown_of}
+use Rattle.rewriter_desk.specs.Moves.{Edited, Grown, HoldsModuleAlone, HoldsNone, Tidied, Undone, noted, noted_as}
 use Rattle.rewriter_desk.proofs.Laws.{newest_undone, grown_journal, grown_before, released_journal, released_before, slotted_undone, slotted_released, tidy_released}
 use Rattle.rewriter_desk.proofs.Marks.{opens_same, push-none, within-more}
 
@@ -85,6 +92,7 @@ module _ (h : Held) (good : IsGood h) where
     step = step;
     shown = shown;
     marked = rw (noted_made h.marks h.journal e) (open_after e u n);
+    behind = rw (noted_made h.marks h.journal e) (λ some k le. noted_before h.ctx h.marks h.journal e h.store u some n k le);
   }
   ok_outcome (Err r) s u is n step shown = tt
 
@@ -126,9 +134,11 @@ module _ (h : Held) (good : IsGood h) (store : IsStoreOf h.ctx h.store) (es : Li
     none = λ no. absurd (push-none es e (sym is ∙ good.none no));
   }
 
+  before_undone : (k : ℕ) → k ≤ length es → module_at k undone_held ≡ module_at k h
+  before_undone k le = sym (ap (λ js. before h.ctx (drop k js) h.store) is ∙ ap (λ js. before h.ctx js h.store) (drop-append-le k es (e ∷ []) le) ∙ before_push h.ctx (drop k es) e h.store)
+
   pub open_undone : open_marks undone_held ≡ open_marks h
-  open_undone = opens_same h undone_held (length es) refl within_rest
-      (λ k le. sym (ap (λ js. before h.ctx (drop k js) h.store) is ∙ ap (λ js. before h.ctx js h.store) (drop-append-le k es (e ∷ []) le) ∙ before_push h.ctx (drop k es) e h.store))
+  open_undone = opens_same h undone_held (length es) refl within_rest before_undone
 
   -- what a call leaves that undid it, and whose answer was f
   module _ (d : Things) (u : Stored) (is_d : d ≡ h.ctx) (is_u : u ≡ undone h.ctx e h.store) where
@@ -145,9 +155,18 @@ module _ (h : Held) (good : IsGood h) (store : IsStoreOf h.ctx h.store) (es : Li
       step = rw is_f step;
       shown = rw is_f shown;
       marked = rw (is_d, is_u) open_undone;
+      behind = rw (is_d, is_u) before_undone;
     }
 
 -- ---- what is held is given up, and the context grows
+
+-- an operation whose id a tree has is found there
+is_there : (x : ℕ) (t : Op) → has_id x t ≡ true → is_some (find x t) ≡ true
+is_there x t e = go (find x t) refl
+  where
+    go : (o : Option Op) → find x t ≡ o → is_some o ≡ true
+    go None f = absurd (let bad : true ≡ false = sym e ∙ none_found x t f in cc)
+    go (Some o) f = refl
 
 module _ (h : Held) (good : IsGood h) where
   abbrev released : Things → Stored → Held
@@ -160,11 +179,14 @@ module _ (h : Held) (good : IsGood h) where
     pub release_good : h.store.module_of.next ≤ from → 1 ≤ from → IsGood (released d u)
     release_good le some = rw is_d (good_released le some)
 
+    before_released : h.store.module_of.next ≤ from → 1 ≤ from → (k : ℕ) → module_at k (released h.ctx u) ≡ module_at k h
+    before_released le some k = released_before h.ctx from h.journal h.store u is good.leads r le some k
+
     open_released : h.store.module_of.next ≤ from → 1 ≤ from → open_marks (released h.ctx u) ≡ open_marks h
-    open_released le some = opens_same h (released h.ctx u) (length h.journal) refl good.within (λ k le2. released_before h.ctx from h.journal h.store u is good.leads r le some k)
+    open_released le some = opens_same h (released h.ctx u) (length h.journal) refl good.within (λ k le2. before_released le some k)
 
     pub release_done : h.store.module_of.next ≤ from → from ≤ h.store.module_of.next → 1 ≤ from → Tidied from h (released d u)
-    release_done le le2 some = record { released = r; held = rw is_d refl; tidy = tidy_released from h.store u r le2; marked = rw is_d (open_released le some) }
+    release_done le le2 some = record { released = r; held = rw is_d refl; tidy = tidy_released from h.store u r le2; marked = rw is_d (open_released le some); behind = rw is_d (before_released le some) }
 
   -- where no mark is open
   module _ (d : Things) (u : Stored) (is_d : d ≡ h.ctx) (r : Releases 0 h.store u) (no_marks : h.marks ≡ []) where
@@ -177,12 +199,19 @@ module _ (h : Held) (good : IsGood h) where
       none = good.none;
     })
 
+    no_events : (k : ℕ) → drop k h.journal ≡ []
+    no_events k = ap (λ js. drop k js) (good.none no_marks) ∙ drop-nil k
+
+    settled_before : (k : ℕ) → module_at k (released d u) ≡ module_at k h
+    settled_before k = ap (λ js. before d js u) (no_events k) ∙ (λ i. module_meaning (is_d i) (r.module_of i)) ∙ sym (ap (λ js. before h.ctx js h.store) (no_events k))
+
     pub settle_done : Tidied 0 h (released d u)
     settle_done = record {
       released = r;
       held = rw is_d refl;
       tidy = tidy_released 0 h.store u r (omega arith);
       marked = ap (λ ms. reverse (map (open_mark (released d u)) ms)) no_marks ∙ sym (ap (λ ms. reverse (map (open_mark h) ms)) no_marks);
+      behind = settled_before;
     }
 
     pub settle_none : HoldsNone u
@@ -191,6 +220,26 @@ module _ (h : Held) (good : IsGood h) where
         none_below : nat_lt x 0 ≡ false
         none_below = grind (arith, nat_tests)
 
+    -- of each operation of the module no key is gone
+    settle_gone : (x : ℕ) (b : Bool) → has_id x h.store.module_of.tree ≡ b → finmap.get u.gone x ≡ cond b (Some none_gone) None
+    settle_gone x true e = r.gone x ∙ ap (λ b. cond b (gone_left 0 (finmap.get h.store.gone x)) (cond (nat_lt x 0) (finmap.get h.store.gone x) None)) e ∙ go (finmap.get h.store.gone x) refl
+      where
+        kept : is_some (finmap.get h.store.gone x) ≡ true
+        kept = good.slotted x (ap is_some (known_there x h.store e) ∙ is_there x h.store.module_of.tree e)
+
+        go : (o : Option Gone) → finmap.get h.store.gone x ≡ o → gone_left 0 o ≡ Some none_gone
+        go None f = absurd (let bad : true ≡ false = sym kept ∙ ap is_some f in cc)
+        go (Some g) f = refl
+    settle_gone x false e =
+        r.gone x ∙ ap (λ b. cond b (gone_left 0 (finmap.get h.store.gone x)) (cond (nat_lt x 0) (finmap.get h.store.gone x) None)) e ∙ cond-false (nat_lt x 0) (finmap.get h.store.gone x) None (let no : nat_lt x 0 ≡ false = grind (arith, nat_tests) in no)
+
+    pub settle_alone : HoldsModuleAlone u
+    settle_alone = record {
+      module_of = refl;
+      held = finmap.same_map nat_cmp_total finmap.nat_cmp-IsAntisymmetric u.held finmap.empty (λ x. settle_none x ∙ sym (finmap.get-empty nat_cmp x));
+      gone = λ x. settle_gone x (has_id x h.store.module_of.tree) refl ∙ ap (λ (m : Module). cond (has_id x m.tree) (Some none_gone) None) (sym r.module_of);
+    }
+
   module _ (is : IsStoreOf h.ctx h.store) (d : Things) (u : Stored) (sound : IsSound d) (g : Grows h.ctx d) (is_u : u ≡ h.store) where
     good_grown : IsGood (released d h.store)
     good_grown = record { slotted = good.slotted; leads = grown_journal h.ctx d h.journal h.store is sound g good.leads; rising = good.rising; within = good.within; none = good.none }
@@ -198,8 +247,11 @@ module _ (h : Held) (good : IsGood h) where
     pub grow_good : IsGood (released d u)
     grow_good = rw is_u good_grown
 
+    before_grown : (k : ℕ) → module_at k (released d h.store) ≡ module_at k h
+    before_grown k = grown_before h.ctx d h.journal h.store is sound g good.leads k
+
     open_grown : open_marks (released d h.store) ≡ open_marks h
-    open_grown = opens_same h (released d h.store) (length h.journal) refl good.within (λ k le. grown_before h.ctx d h.journal h.store is sound g good.leads k)
+    open_grown = opens_same h (released d h.store) (length h.journal) refl good.within (λ k le. before_grown k)
 
     pub grow_done : module_meaning d u.module_of ≡ module_held h → Grown h (released d u)
-    grow_done same = record { grows = g; held = rw is_u refl; same = same; marked = rw is_u open_grown }
+    grow_done same = record { grows = g; held = rw is_u refl; same = same; marked = rw is_u open_grown; behind = rw is_u before_grown }

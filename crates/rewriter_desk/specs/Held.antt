@@ -26,6 +26,10 @@ module_held h = module_meaning h.ctx h.store.module_of
 abbrev pub shown_of : Held → ℕ → Option Node
 shown_of h x = option_map (λ o. node_of (meaning h.ctx o)) (known x h.store)
 
+-- the module before the events of the journal from one on
+abbrev pub module_at : ℕ → Held → Module
+module_at k h = before h.ctx (drop k h.journal) h.store
+
 -- a mark, with the module that was held when the journal was so long
 abbrev pub open_mark : Held → Mark → OpenMark
 open_mark h k = record { marked = before h.ctx (drop k.length h.journal) h.store; counted = k.counted }

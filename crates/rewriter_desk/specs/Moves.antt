@@ -1,10 +1,10 @@
 -- Edits of a desk, and events that are undone.
-use Rattle.std.specs.Prelude.{◌≡◌, ℕ, List, [], ◌∷◌, ◌++◌, Option, Some, None, ◌⊎◌, Result, Ok, Err, MatchResult}
+use Rattle.std.specs.Prelude.{◌≡◌, ◌≢◌, ◌≤◌, ℕ, List, [], ◌∷◌, ◌++◌, length, Option, Some, None, ◌⊎◌, Result, Ok, Err, MatchResult}
 use Rattle.std.specs.FinMap as map
 use Rattle.ir_types.specs.declared.refusal.Refusal.{Refusal}
 use Rattle.ir_types.specs.declared.refusal.Refusal.TheVariants.{Memory}
 use Rattle.ir_types.specs.Things.{Grows}
-use Rattle.ir_store.specs.Calls.{Releases}
+use Rattle.ir_store.specs.Calls.{Loaded, Releases}
 use Rattle.ir_store.specs.Stored.{Stored}
 use Rattle.ir_event.specs.declared.event.Event.{Event}
 use Rattle.ir_event.specs.Listener.{ShowsTaken}
@@ -12,7 +12,7 @@ use Rattle.ir_event.specs.Step.{Step, inverse_of}
 use Rattle.rewriter_journal.specs.Undoing.{undone}
 use Rattle.rewriter_journal.specs.Journals.{IsTidy}
 use Rattle.rewriter_desk.specs.declared.mark.Mark.{Mark}
-use Rattle.rewriter_desk.specs.Held.{Held, module_held, open_marks, shown_of}
+use Rattle.rewriter_desk.specs.Held.{Held, module_at, module_held, open_marks, shown_of}
 
 -- a call is accepted where no reason stands; it is refused for its reason, or, where it takes memory, for want of it
 abbrev pub IsAnswered : {A : Type 0} → Type 0 → Option Refusal → Result A Refusal → Type 0
@@ -33,14 +33,27 @@ abbrev pub noted_as : List Mark → List Event → Result Event Refusal → List
 noted_as [] es made = es
 noted_as (k ∷ ks) es made = written es made
 
--- an edit was made, which was this event and left this store: a step, and the modules of the marks stay
+-- the journal after some events
+abbrev pub all_noted : List Mark → List Event → List Event → List Event
+all_noted [] js es = js
+all_noted (k ∷ ks) js es = js ++ es
+
+-- these events were noted where a mark is open, and the modules before the older ones stay
+pub record Recorded (es : List Event) (old new : Held) : Type 0 where
+  pub journal : new.journal ≡ all_noted old.marks old.journal es
+  pub behind : old.marks ≢ [] → (k : ℕ) → k ≤ length old.journal → module_at k new ≡ module_at k old
+
+-- an edit was made, which was this event and left this store: a step, and the modules of the marks, and before the
+-- older events, stay
 pub record Edited (e : Event) (s : Stored) (old new : Held) : Type 0 where
   pub held : new ≡ record { ctx = old.ctx; store = s; journal = noted old.marks old.journal e; marks = old.marks }
   pub step : Step old.ctx e (module_held old) (module_held new)
   pub shown : ShowsTaken e (module_held old) (shown_of new)
   pub marked : open_marks new ≡ open_marks old
+  pub behind : old.marks ≢ [] → (k : ℕ) → k ≤ length old.journal → module_at k new ≡ module_at k old
 
--- the newest event of the journal was undone, by this event: a step back, and the modules of the marks stay
+-- the newest event of the journal was undone, by this event: a step back, and the modules of the marks, and before the
+-- older events, stay
 pub record Undone (e : Event) (old new : Held) : Type 0 where
   pub last : Event
   pub is : e ≡ inverse_of last
@@ -49,6 +62,7 @@ pub record Undone (e : Event) (old new : Held) : Type 0 where
   pub step : Step old.ctx e (module_held old) (module_held new)
   pub shown : ShowsTaken e (module_held old) (shown_of new)
   pub marked : open_marks new ≡ open_marks old
+  pub behind : (k : ℕ) → k ≤ length new.journal → module_at k new ≡ module_at k old
 
 -- what was held under ids from one on was given up
 pub record Tidied (from : ℕ) (old new : Held) : Type 0 where
@@ -56,6 +70,7 @@ pub record Tidied (from : ℕ) (old new : Held) : Type 0 where
   pub held : new ≡ record { ctx = old.ctx; store = new.store; journal = old.journal; marks = old.marks }
   pub tidy : IsTidy new.store
   pub marked : open_marks new ≡ open_marks old
+  pub behind : (k : ℕ) → module_at k new ≡ module_at k old
 
 -- the context grew, and no more
 pub record Grown (old new : Held) : Type 0 where
@@ -63,7 +78,12 @@ pub record Grown (old new : Held) : Type 0 where
   pub held : new ≡ record { ctx = new.ctx; store = old.store; journal = old.journal; marks = old.marks }
   pub same : module_held new ≡ module_held old
   pub marked : open_marks new ≡ open_marks old
+  pub behind : (k : ℕ) → module_at k new ≡ module_at k old
 
 -- nothing is held of the module
 abbrev pub HoldsNone : Stored → Type 0
 HoldsNone s = (x : ℕ) → map.get s.held x ≡ None
+
+-- the module alone is held, as where it is loaded: no operation that was taken, and no key is gone
+abbrev pub HoldsModuleAlone : Stored → Type 0
+HoldsModuleAlone s = Loaded s.module_of.tree s.module_of.next s

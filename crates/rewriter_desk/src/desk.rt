@@ -2,9 +2,9 @@
 ghost use Rattle.std.specs.Prelude.{◌≡◌, ◌≢◌, ◌<◌, ◌-◌, ◌↔◌, ◌∷◌, [], length, not, is_some, slice_get, IsTrue, OnOk, OnErr, IfSome, IfNone};
 ghost use Rattle.ir_event.specs.Modules.{things_in};
 ghost use Rattle.rewriter_journal.specs.Journals.{IsSlotted};
-ghost use Rattle.rewriter_desk.specs.Held.{Within, module_held, open_marks};
+ghost use Rattle.rewriter_desk.specs.Held.{IsGood, Within, module_held, open_marks};
 ghost use Rattle.rewriter_desk.specs.Marked.{counted_among, mark_reason, with_mark, IsNewest, Closed};
-ghost use Rattle.rewriter_desk.specs.Moves.{IsAnswered, Undone, Tidied, HoldsNone};
+ghost use Rattle.rewriter_desk.specs.Moves.{HoldsModuleAlone, HoldsNone, IsAnswered, Tidied, Undone};
 
 use crate::claims::keep;
 use crate::mark::Mark;
@@ -12,7 +12,6 @@ use crate::release::release;
 use ir_event::event::{Event, inverse};
 use ir_event::world::World;
 use ir_types::refusal::Refusal;
-use rewriter_journal::undo::undo;
 use std::alloc::Global;
 use std::marker::Model;
 
@@ -38,6 +37,9 @@ impl Model for Desk {
     ghost invariant = { λ d. IsGood (record { ctx = d.world.ctx; store = d.world.store; journal = d.journal.items; marks = d.marks.items }) };
 }
 
+/// The most marks that count of which all may be open.
+pub const MOST_MARKS: usize = 16;
+
 /// How many of these marks count.
 fn counted_in(marks: &[Mark]) -> usize
     ensures { result ≡ counted_among marks.now }
@@ -56,7 +58,7 @@ fn counted_in(marks: &[Mark]) -> usize
 fn has_room(marks: &[Mark], counted: bool) -> bool
     ensures { result ≡ not (is_some (mark_reason counted marks.now)) }
 {
-    !counted || counted_in(marks) < 16
+    !counted || counted_in(marks) < MOST_MARKS
 }
 
 impl Desk {
@@ -78,6 +80,13 @@ impl Desk {
         ensures store { result.now.store ≡ self.now.store }
     {
         &self.world
+    }
+
+    /// What is true of every desk.
+    pub fn is_good(&self)
+        ensures { IsGood self.now }
+    {
+        let _marks = &self.marks;
     }
 
     /// Makes a mark of the module held.
@@ -141,7 +150,7 @@ impl Desk {
             unreachable!()
         };
         self.world.ctx.sound();
-        undo(&mut self.world, &event);
+        self.world.undo(&event);
         inverse(event)
     }
 
@@ -170,6 +179,7 @@ impl Desk {
         requires { self.old.marks ≡ [] }
         ensures tidied { Tidied 0 self.old self.new }
         ensures none { HoldsNone self.new.store }
+        ensures alone { HoldsModuleAlone self.new.store }
     {
         release(&mut self.world, 0);
     }

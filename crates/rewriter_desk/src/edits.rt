@@ -18,7 +18,6 @@ use ir_tree::tree::TreeOp;
 use ir_tree::value::Value;
 use ir_types::ids::{AttrId, NameId, OpId};
 use ir_types::refusal::Refusal;
-use rewriter_journal::edits;
 
 impl Desk {
     /// Puts an operation at a place of the module, and gives the event: one like a header, whose blocks hold none and
@@ -39,7 +38,7 @@ impl Desk {
             return Err(Refusal::Memory);
         };
         self.world.ctx.sound();
-        let made = edits::put(&mut self.world, place, header);
+        let made = self.world.put(place, header);
         note(&mut self.journal, &self.marks, &made);
         made
     }
@@ -57,7 +56,7 @@ impl Desk {
             return Err(Refusal::Memory);
         };
         self.world.ctx.sound();
-        let made = edits::take(&mut self.world, op);
+        let made = self.world.take(op);
         note(&mut self.journal, &self.marks, &made);
         made
     }
@@ -65,17 +64,17 @@ impl Desk {
     /// Makes a value an operand of an operation, in place of the one that was there, and gives the event.
     ///
     /// Refusals: as for the world's edit; where a mark is open, `Memory`.
-    pub fn set_operand(&mut self, op: OpId, operand: u32, value: Value) -> Result<Event, Refusal>
-        ensures ok { IfOk result (λ e. Edited e (after_operand op operand value self.old.store) self.old self.new) }
+    pub fn set_operand(&mut self, op: OpId, k: u32, value: Value) -> Result<Event, Refusal>
+        ensures ok { IfOk result (λ e. Edited e (after_operand op k value self.old.store) self.old self.new) }
         ensures err { OnErr result (self.new ≡ self.old) }
-        ensures refused { IsAnswered (self.old.marks ≢ []) (set_operand_reason (isolated_in self.old.ctx) op operand value self.old.store.module_of.tree) result }
+        ensures refused { IsAnswered (self.old.marks ≢ []) (set_operand_reason (isolated_in self.old.ctx) op k value self.old.store.module_of.tree) result }
         ensures tidy { IsTidy self.old.store → IsTidy self.new.store }
     {
         let Ok(()) = claim(&mut self.journal, &self.marks) else {
             return Err(Refusal::Memory);
         };
         self.world.ctx.sound();
-        let made = edits::set_operand(&mut self.world, op, operand, value);
+        let made = self.world.set_operand(op, k, value);
         note(&mut self.journal, &self.marks, &made);
         made
     }
@@ -101,7 +100,7 @@ impl Desk {
             return Err(Refusal::Memory);
         };
         self.world.ctx.sound();
-        let made = edits::set_entry(&mut self.world, op, part, key, value);
+        let made = self.world.set_entry(op, part, key, value);
         note(&mut self.journal, &self.marks, &made);
         made
     }
@@ -119,7 +118,7 @@ impl Desk {
             return Err(Refusal::Memory);
         };
         self.world.ctx.sound();
-        let made = edits::shift(&mut self.world, op, place);
+        let made = self.world.shift(op, place);
         note(&mut self.journal, &self.marks, &made);
         made
     }

@@ -1,11 +1,12 @@
 //! Texts that are read beside a world's module.
-ghost use Rattle.std.specs.Prelude.{◌≡◌, IfOk, Err};
+ghost use Rattle.std.specs.Prelude.{◌≡◌, ℕ, IfErr, IfOk, Err};
 ghost use Rattle.ir_types.specs.Things.{IsAttr};
 ghost use Rattle.ir_types.specs.Terms.{attr_term};
 ghost use Rattle.ir_tree.specs.Ids.{IsNumberedFrom};
 ghost use Rattle.ir_tree.specs.Meaning.{IsSoundIn, meaning};
 ghost use Rattle.ir_event.specs.Modules.{module_in};
-ghost use Rattle.ir_text_tokens.specs.declared.fault.Fault.{Fault as TextFault};
+ghost use Rattle.ir_types.specs.declared.refusal.Refusal.{Refusal as Reason};
+ghost use Rattle.ir_text.specs.Public.{IsFull, IsOpTold, IsTold};
 ghost use Rattle.ir_text_attributes.specs.Claims.{IsNoAttr};
 ghost use Rattle.ir_text_attributes.specs.Spelling.{SpellsAttr};
 ghost use Rattle.ir_text_operations.specs.Claims.{IsNone};
@@ -22,7 +23,9 @@ use std::alloc::Global;
 /// Refusals: as for the reader's call.
 pub fn parse_attr(alloc: Global, world: &mut World, text: &[u8]) -> Result<AttrId, ReadError>
     ensures attr { IfOk result (λ a. IsAttr world.new.ctx a × SpellsAttr text.now (attr_term world.new.ctx a)) }
-    ensures refused { (f : TextFault) → result ≡ Err (ReadError.Refused f) → IsNoAttr (SpellsAttr text.now) }
+    ensures refused { (r : Reason) (o : ℕ) → result ≡ Err (ReadError.Refused r o) → IsNoAttr (SpellsAttr text.now) }
+    ensures told { IfErr result (λ e. IsTold text.now e) }
+    ensures full { (o : ℕ) → result ≡ Err (ReadError.Full o) → IsFull world.new.ctx }
     ensures grown { Grown world.old world.new }
 {
     world.ctx.sound();
@@ -39,7 +42,9 @@ pub fn read_op(alloc: Global, world: &mut World, text: &[u8]) -> Result<TreeOp, 
     ensures read { IfOk result (λ t. SpellsBeside (module_in world.old) text.now (meaning world.new.ctx t)) }
     ensures sound { IfOk result (λ t. IsSoundIn world.new.ctx t) }
     ensures numbered { IfOk result (λ t. IsNumberedFrom world.old.store.module_of.next t) }
-    ensures refused { (f : TextFault) → result ≡ Err (ReadError.Refused f) → IsNone (SpellsBeside (module_in world.old) text.now) }
+    ensures refused { (r : Reason) (o : ℕ) → result ≡ Err (ReadError.Refused r o) → IsNone (SpellsBeside (module_in world.old) text.now) }
+    ensures told { IfErr result (λ e. IsOpTold text.now e) }
+    ensures full { (o : ℕ) → result ≡ Err (ReadError.Full o) → IsFull world.new.ctx }
     ensures grown { Grown world.old world.new }
 {
     world.ctx.sound();

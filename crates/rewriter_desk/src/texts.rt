@@ -1,10 +1,11 @@
 //! Texts that are read beside the module of a desk, whose context grows.
-ghost use Rattle.std.specs.Prelude.{◌≡◌, IfOk, Err};
+ghost use Rattle.std.specs.Prelude.{◌≡◌, ℕ, IfErr, IfOk, Err};
 ghost use Rattle.ir_types.specs.Things.{IsAttr};
 ghost use Rattle.ir_types.specs.Terms.{attr_term};
 ghost use Rattle.ir_tree.specs.Ids.{IsNumberedFrom};
 ghost use Rattle.ir_tree.specs.Meaning.{IsSoundIn, meaning};
-ghost use Rattle.ir_text_tokens.specs.declared.fault.Fault.{Fault as TextFault};
+ghost use Rattle.ir_types.specs.declared.refusal.Refusal.{Refusal as Reason};
+ghost use Rattle.ir_text.specs.Public.{IsFull, IsOpTold, IsTold};
 ghost use Rattle.ir_text_attributes.specs.Claims.{IsNoAttr};
 ghost use Rattle.ir_text_attributes.specs.Spelling.{SpellsAttr};
 ghost use Rattle.ir_text_operations.specs.Claims.{IsNone};
@@ -13,11 +14,11 @@ ghost use Rattle.rewriter_desk.specs.Held.{module_held};
 ghost use Rattle.rewriter_desk.specs.Moves.{Grown};
 
 use crate::desk::Desk;
+use crate::read_beside;
+use ir_text::reader::ReadError;
 use ir_tree::tree::TreeOp;
 use ir_types::ids::AttrId;
 use std::alloc::Global;
-use crate::read_beside;
-use ir_text::reader::ReadError;
 
 impl Desk {
     /// The attribute that a text spells.
@@ -25,7 +26,9 @@ impl Desk {
     /// Refusals: as for the reader's call.
     pub fn parse_attr(&mut self, alloc: Global, text: &[u8]) -> Result<AttrId, ReadError>
         ensures attr { IfOk result (λ a. IsAttr self.new.ctx a × SpellsAttr text.now (attr_term self.new.ctx a)) }
-        ensures refused { (f : TextFault) → result ≡ Err (ReadError.Refused f) → IsNoAttr (SpellsAttr text.now) }
+        ensures refused { (r : Reason) (o : ℕ) → result ≡ Err (ReadError.Refused r o) → IsNoAttr (SpellsAttr text.now) }
+        ensures told { IfErr result (λ e. IsTold text.now e) }
+        ensures full { (o : ℕ) → result ≡ Err (ReadError.Full o) → IsFull self.new.ctx }
         ensures grown { Grown self.old self.new }
     {
         self.world.ctx.sound();
@@ -41,7 +44,9 @@ impl Desk {
         ensures read { IfOk result (λ t. SpellsBeside (module_held self.old) text.now (meaning self.new.ctx t)) }
         ensures sound { IfOk result (λ t. IsSoundIn self.new.ctx t) }
         ensures numbered { IfOk result (λ t. IsNumberedFrom self.old.store.module_of.next t) }
-        ensures refused { (f : TextFault) → result ≡ Err (ReadError.Refused f) → IsNone (SpellsBeside (module_held self.old) text.now) }
+        ensures refused { (r : Reason) (o : ℕ) → result ≡ Err (ReadError.Refused r o) → IsNone (SpellsBeside (module_held self.old) text.now) }
+        ensures told { IfErr result (λ e. IsOpTold text.now e) }
+        ensures full { (o : ℕ) → result ≡ Err (ReadError.Full o) → IsFull self.new.ctx }
         ensures grown { Grown self.old self.new }
     {
         self.world.ctx.sound();

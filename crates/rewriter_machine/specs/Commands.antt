@@ -37,14 +37,19 @@ pub data Asked : Type 0 where
   Misplaced : Refusal → Asked
   Unread : Refusal → Option ℕ → Asked
 
--- a text is refused with an offset for what is wrong with it, or without one for want of ids or of memory
-abbrev pub IsTextRefusal : Refusal → Option ℕ → Type 0
-IsTextRefusal refusal (Some offset) = number_of refusal ≤ 14
-IsTextRefusal refusal None = (refusal ≡ IdsExhausted) ⊎ (refusal ≡ Memory)
+-- the text of an attribute is refused with an offset for what is wrong with it, or without one for want of memory
+abbrev pub IsAttrRefusal : Refusal → Option ℕ → Type 0
+IsAttrRefusal refusal (Some offset) = number_of refusal ≤ 14
+IsAttrRefusal refusal None = refusal ≡ Memory
+
+-- and that of an operation also for want of ids
+abbrev pub IsOpRefusal : Refusal → Option ℕ → Type 0
+IsOpRefusal refusal (Some offset) = number_of refusal ≤ 14
+IsOpRefusal refusal None = (refusal ≡ IdsExhausted) ⊎ (refusal ≡ Memory)
 
 -- a text was refused: nothing is spelled, or no room is left for what it names, or no memory
-abbrev pub TextRefused : {X : Type 0} → (X → Type 0) → Refusal → Option ℕ → Type 0
-TextRefused Spelled refusal offset = IsTextRefusal refusal offset × (((x : _) → Spelled x → ⊥) ⊎ ((refusal ≡ TooMany) ⊎ (refusal ≡ Memory)))
+abbrev pub TextRefused : {X : Type 0} → (Refusal → Option ℕ → Type 0) → (X → Type 0) → Refusal → Option ℕ → Type 0
+TextRefused IsRefusal Spelled refusal offset = IsRefusal refusal offset × (((x : _) → Spelled x → ⊥) ⊎ ((refusal ≡ TooMany) ⊎ (refusal ≡ Memory)))
 
 -- `SpellsOp` tells which operation bytes spell beside a module, and `SpellsAttr` which attribute
 module _ (SpellsOp : Module → List ℕ → Operation → Type 0) (SpellsAttr : List ℕ → AttrTerm → Type 0) where
@@ -62,13 +67,13 @@ module _ (SpellsOp : Module → List ℕ → Operation → Type 0) (SpellsAttr :
 
   -- an operation's text is read before the spot is looked for
   abbrev pub InsertsText : Spot → List ℕ → Module → Asked → Type 0
-  InsertsText spot text m (Unread refusal offset) = TextRefused (SpellsOp m text) refusal offset
+  InsertsText spot text m (Unread refusal offset) = TextRefused IsOpRefusal (SpellsOp m text) refusal offset
   InsertsText spot text m asked = (o : Operation) × SpellsOp m text o × Inserts spot o m asked
 
   abbrev pub SetsText : ℕ → List ℕ → List ℕ → Asked → Type 0
   SetsText x key text (Ask c) = (a : AttrTerm) × SpellsAttr text a × (c ≡ Do (edit.SetAttr x key a))
   SetsText x key text (Misplaced refusal) = ⊥
-  SetsText x key text (Unread refusal offset) = TextRefused (SpellsAttr text) refusal offset
+  SetsText x key text (Unread refusal offset) = TextRefused IsAttrRefusal (SpellsAttr text) refusal offset
 
   -- what a command comes to in a module
   abbrev pub Asks : Command → Module → Asked → Type 0

@@ -4,7 +4,9 @@ use Rattle.std.specs.List.{All}
 use Rattle.std.proofs.lemmas.List.Elements.{All-drop}
 use Rattle.ir_types.specs.Things.{Things, IsType}
 use Rattle.ir_types.specs.Terms.{type_term}
-use Rattle.ir_verify_base.specs.Fits.{first_called, is_called_number, is_called_any}
+use Rattle.op_registry.specs.Registry.{row_from}
+use Rattle.op_registry.specs.declared.definition.TypeRule.TheVariants as type
+use Rattle.ir_verify_base.specs.Fits.{first_called}
 use Rattle.ir_verify_base.specs.Numbers.{typed}
 use Rattle.ir_verify_base.proofs.type_rules.known_of.Goals as goal
 
@@ -12,6 +14,7 @@ dropped : (c : Things) (n : ℕ) (xs : List ℕ) → typed c (drop n xs) ≡ dro
 dropped c n xs = ap (map Some) (sym (drop-map (type_term c) n xs)) ∙ sym (drop-map Some n (map (type_term c) xs))
 
 pub returns : goal.returns
+unfolding row_from
 returns c =
     let ctx = c.args.ctx.now in
     let rules = c.args.def.now.operands.first.now in
@@ -20,15 +23,15 @@ returns c =
     let all : All (λ t. IsType ctx t) c.deref-types.result.now = subst (All (λ t. IsType ctx t)) (sym e) c.requires.types in
     record {
       are = (λ i. record {
-        number = (c.first_number.ensures.is ctx ∙ ap (λ ts. first_called is_called_number rules (typed ctx ts)) e) i;
-        same = (c.first_any.ensures.is ctx ∙ ap (λ ts. first_called is_called_any rules (typed ctx ts)) e) i;
+        number = (c.first_called.ensures.is ctx ∙ ap (λ ts. first_called type.Number rules (typed ctx ts)) e) i;
+        same = (c.first_called-2.ensures.is ctx ∙ ap (λ ts. first_called type.Any rules (typed ctx ts)) e) i;
         initial = (ap (typed ctx) (c.after.ensures ∙ ap (drop (length rules)) e) ∙ dropped ctx (length rules) types) i;
         results = ap (typed ctx) c.results.ensures i;
         inputs = c.inputs_of.ensures.inputs i;
       });
       numbers = record {
-        number = c.first_number.ensures.known ctx all;
-        same = c.first_any.ensures.known ctx all;
+        number = c.first_called.ensures.known ctx all;
+        same = c.first_called-2.ensures.known ctx all;
         initial = subst (All (λ t. IsType ctx t)) (sym c.after.ensures) (All-drop (λ t. IsType ctx t) (length rules) c.deref-types.result.now all);
         results = subst (All (λ t. IsType ctx t)) (sym c.results.ensures) c.requires.node.results;
         inputs = c.inputs_of.ensures.known;

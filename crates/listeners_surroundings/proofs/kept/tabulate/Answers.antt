@@ -13,5 +13,5 @@ returns g c =
     let w = c.args.world.now in
     let f = get nat_cmp c.new-table.result in
     let h = get nat_cmp c.renew_all.new.table in
-    all_renewed g.F.Fact.fact g.F.Fact.kept (module_in w).tree c.deref.result.now f h (c.deref.ensures.value ∙ c.in_ok-ops.ensures ∙ sym (map_ids (name_term w.ctx) (type_term w.ctx) (attr_term w.ctx) (tree_in w))) (λ y. rw c.new-table.ensures.empty refl)
+    all_renewed g.F.Fact.fact g.F.Fact.kept (module_in w).tree c.deref.result.now f h (c.deref.ensures.value ∙ c.in-Ok.ensures.listed ∙ sym (map_ids (name_term w.ctx) (type_term w.ctx) (attr_term w.ctx) (tree_in w))) (λ y. rw c.new-table.ensures.empty refl)
     (renewed_in g.F.Fact.fact g.F.Fact.kept c.new-view.result.world.now w c.new-view.ensures.world c.deref.result.now f h c.in_ok-renew_all.ensures.renewed)

@@ -7,7 +7,7 @@ use Rattle.ir_tree_laws.specs.Values.{type_of_value}
 use Rattle.std.specs.declared.alloc.AllocError.{AllocError}
 use Rattle.ir_event.specs.declared.world.World.{World}
 use Rattle.ir_tree.specs.declared.value.Value.{Value}
-use Rattle.listeners_surroundings.proofs.Reading.{value_known}
+use Rattle.ir_event.proofs.Typed.{value_known}
 use Rattle.listeners_symbols.proofs.gather.type_of.Goals as goal
 
 known_or : (w : World) (v : Value) (e : AllocError) (o : Option ℕ) → o ≡ type_of_value v w.store.module_of.tree → IfOk (ok_or o e) (λ t. IsType w.ctx t)

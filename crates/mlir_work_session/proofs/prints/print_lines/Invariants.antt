@@ -1,9 +1,9 @@
-use Rattle.std.proofs.Common.{◌≡◌, ◌++◌, ◌+◌, ◌≤◌, List, [], ℕ, Bool, true, length}
+use Rattle.std.proofs.Common.{◌≡◌, ◌++◌, ◌+◌, ◌≤◌, List, [], ℕ, true, length}
 use Rattle.std.specs.Io.KnownBytes.{Appends}
 use Rattle.ir_tree.specs.Meaning.{meaning}
 use Rattle.mlir_work_script.specs.Lines.{lines_of}
 use Rattle.rewriter_machine.specs.Panels.{Shown}
-use Rattle.mlir_work_session.specs.Output.{Runs, worse}
+use Rattle.mlir_work_session.specs.Output.{Manner, Runs, worse}
 use Rattle.mlir_work_session.specs.PrintsAlone.{all_print}
 use Rattle.mlir_work_session.proofs.prints.print_lines.Given as goal
 
@@ -14,7 +14,7 @@ invariant-loop-text g l = record {
   count : l.n + length l.text ≤ 1 + length l.script;
   front : List ℕ;
   wrote : Appends (g.W.Write.contents l.initial.writer) (g.W.Write.contents l.writer) front;
-  whole : (brief : Bool) (next : ℕ) (panel : List Shown) (later : ℕ) (rest : List ℕ) → Runs brief l.n (record { held = record { tree = meaning l.ctx l.tree; next = next }; marks = []; panel = panel }) (lines_of l.text) later rest → Runs brief 1 (record { held = record { tree = meaning l.ctx l.tree; next = next }; marks = []; panel = panel }) (lines_of l.script) (worse l.accepted later) (front ++ rest);
+  whole : (manner : Manner) (next : ℕ) (panel : List Shown) (later : ℕ) (rest : List ℕ) → Runs manner l.n (record { held = record { tree = meaning l.ctx l.tree; next = next }; marks = []; panel = panel }) (lines_of l.text) later rest → Runs manner 1 (record { held = record { tree = meaning l.ctx l.tree; next = next }; marks = []; panel = panel }) (lines_of l.script) (worse l.accepted later) (front ++ rest);
 }
 
 abbrev pub decreases-loop-text : goal.decreases-loop-text

@@ -8,9 +8,10 @@ use Rattle.ir_store.specs.Stored.{Stored}
 use Rattle.ir_store.specs.Calls.{after_take}
 use Rattle.rewriter_machine.specs.Contents.{tests_in}
 use Rattle.rewriter_machine.specs.Edits.{Erase, erase_reason}
-use Rattle.rewriter.specs.Held.{Held}
+use Rattle.ir_tree.specs.WellFormed.{Module}
 use Rattle.rewriter_laws.specs.Erasing.{ids_in}
 use Rattle.rewriter.proofs.There.{not_gone}
+use Rattle.rewriter.proofs.Noted.{made_module}
 use Rattle.rewriter.proofs.Together.{onward_made, underway_none, underway_made, refused_on}
 use Rattle.rewriter.proofs.erase.take_all.Goals as goal
 
@@ -38,7 +39,7 @@ rest-smaller g c =
     let end : (ys : List ℕ) × (ids_in (find c.args.op m.tree) ≡ ys ++ c.in-Some.last ∷ []) = subst (λ (s : Stored). (ys : List ℕ) × (ids_in (find c.args.op s.module_of.tree) ≡ ys ++ c.in-Some.last ∷ [])) c.world.ensures.store c.in-Some.ensures in
     let left = ap (λ (l : List ℕ). length l) (c.erasing_by_last.ensures.fewer w c.args.op c.in-Some.last end.0 m h.formed h.free end.1) in
     let whole : length (ids_in (find c.args.op m.tree)) ≡ length end.0 + 1 = ap (λ (l : List ℕ). length l) end.1 ∙ length-append end.0 (c.in-Some.last ∷ []) in
-    let made = ap (λ (d : Held). length (ids_in (find c.args.op d.store.module_of.tree))) c.in_default-take.ensures.ok.1.held in
+    let made = ap (λ (m : Module). length (ids_in (find c.args.op m.tree))) (made_module g.L.Analysis.meaning _ c.rest.bench c.take.new.self c.in_default-take.ensures.ok) in
     omega (arith, left, whole, made)
 
 pub returns-in-Err-clause-refused : goal.returns-in-Err-clause-refused

@@ -8,8 +8,7 @@ use Rattle.ir_tree_laws.specs.Reasons.{set_operand_reason}
 use Rattle.ir_tree.specs.Meaning.{isolated_in}
 use Rattle.rewriter_machine.specs.Contents.{tests_in}
 use Rattle.rewriter_machine.specs.Edits.{Replace}
-use Rattle.rewriter.specs.Held.{Held}
-use Rattle.rewriter.specs.Benched.{Benched}
+use Rattle.rewriter.proofs.Noted.{made_module}
 use Rattle.rewriter.proofs.Together.{underway_none, underway_made, refused_on}
 use Rattle.rewriter.proofs.replace.set_uses.Goals as goal
 
@@ -35,7 +34,7 @@ uses-smaller g c =
     let h = c.uses.invariant in
     let use_is : is_use c.in-Some.site.0 c.in-Some.site.1 (uses_of c.args.old.now m.tree) ≡ true = subst (λ (s : Stored). is_use c.in-Some.site.0 c.in-Some.site.1 (uses_of c.args.old.now s.module_of.tree) ≡ true) c.world.ensures.store c.in-Some.ensures in
     let one = c.replacing_by_uses.ensures.fewer w c.args.old.now c.args.new.now c.in-Some.site.0 c.in-Some.site.1 m h.formed c.requires.differ use_is in
-    let made = ap (λ (d : Held). suc (length (uses_of c.args.old.now d.store.module_of.tree))) c.in_default-set_operand.ensures.ok.1.held in
+    let made = ap (λ (m : Module). suc (length (uses_of c.args.old.now m.tree))) (made_module g.L.Analysis.meaning _ c.uses.bench c.set_operand.new.self c.in_default-set_operand.ensures.ok) in
     omega (arith, made, one)
 
 pub returns-in-Err-clause-refused : goal.returns-in-Err-clause-refused

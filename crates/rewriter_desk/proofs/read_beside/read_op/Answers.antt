@@ -35,4 +35,4 @@ pub returns-clause-numbered : goal.returns-clause-numbered
 returns-clause-numbered c = ok_numbered c.args.world.now c.args.text.now c.read_op-read.new.ctx c.read_op-read.result c.read_op-read.ensures.read
 
 pub returns-clause-refused : goal.returns-clause-refused
-returns-clause-refused c f e = none_beside c.args.world.now c.args.text.now (c.read_op-read.ensures.refused f e)
+returns-clause-refused c r o e = none_beside c.args.world.now c.args.text.now (c.read_op-read.ensures.refused r o e)

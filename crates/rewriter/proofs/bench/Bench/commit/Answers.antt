@@ -1,5 +1,5 @@
 use Rattle.std.proofs.Common.{[]}
-use Rattle.rewriter.proofs.Rolled.{commit_goes, commit_led}
+use Rattle.rewriter.proofs.Rolled.{commit_goes, commit_led, commit_untold, dropped_kept, given_settled}
 use Rattle.rewriter.proofs.Told.{heard_none}
 use Rattle.rewriter.proofs.Contexts.{commit_ctx}
 use Rattle.rewriter.proofs.bench.Bench.commit.Goals as goal
@@ -15,3 +15,15 @@ returns-then-not-is_marked-clause-led g c = ([], heard_none g.L.Analysis.meaning
 
 pub returns-clause-ctx : goal.returns-clause-ctx
 returns-clause-ctx g c = rw (← c.self.view_is) (commit_ctx _ _ _ c.close.ensures c.give_up.ensures)
+
+pub returns-clause-ok : goal.returns-clause-ok
+returns-clause-ok g c = rw (← c.self.view_is) (dropped_kept _ _ _ c.is_good.ensures c.close.ensures c.give_up.ensures)
+
+pub returns-clause-untold : goal.returns-clause-untold
+returns-clause-untold g c = rw (← c.self.view_is) (commit_untold g.L.Analysis.meaning _ _ _ _ c.close.ensures c.give_up.ensures)
+
+pub returns-then-not-is_marked-clause-untold : goal.returns-then-not-is_marked-clause-untold
+returns-then-not-is_marked-clause-untold g c = heard_none g.L.Analysis.meaning _
+
+pub invariant_of-self : goal.invariant_of-self
+invariant_of-self g c = given_settled _ _ c.give_up.ensures

@@ -1,5 +1,5 @@
 use Rattle.std.proofs.Common.{true}
-use Rattle.rewriter.proofs.Rolled.{mark_does, mark_led}
+use Rattle.rewriter.proofs.Rolled.{mark_does, mark_led, mark_untold, marked_settled}
 use Rattle.rewriter.proofs.bench.Bench.mark.Goals as goal
 
 pub returns-clause-does : goal.returns-clause-does
@@ -7,3 +7,12 @@ returns-clause-does g c = rw (← c.self.view_is) (mark_does g.L.Analysis.meanin
 
 pub returns-clause-led : goal.returns-clause-led
 returns-clause-led g c = rw (← c.self.view_is) (mark_led g.L.Analysis.meaning true _ _ _ c.mark.result c.mark.ensures.ok c.mark.ensures.err)
+
+pub returns-clause-untold : goal.returns-clause-untold
+returns-clause-untold g c = rw (← c.self.view_is) (mark_untold g.L.Analysis.meaning true _ _ _ c.mark.result c.mark.ensures.ok c.mark.ensures.err)
+
+pub invariant_of-self : goal.invariant_of-self
+invariant_of-self g c = marked_settled true _ _ c.mark.result c.mark.ensures.ok c.mark.ensures.err c.self.invariant
+
+pub returns-clause-ok : goal.returns-clause-ok
+returns-clause-ok g c = rw (← c.self.view_is) c.mark.ensures.ok

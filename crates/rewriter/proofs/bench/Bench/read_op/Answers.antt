@@ -1,5 +1,6 @@
 use Rattle.std.proofs.Common.{subst, []}
 use Rattle.ir_types.specs.Sound.{Holds}
+use Rattle.rewriter.proofs.Rolled.{grown_settled}
 use Rattle.rewriter.proofs.Told.{heard_grown}
 use Rattle.rewriter.proofs.bench.Bench.read_op.Goals as goal
 
@@ -11,3 +12,6 @@ returns-clause-read g c = rw (← c.self.view_is) c.read_op-read.ensures.read
 
 pub returns-clause-refused : goal.returns-clause-refused
 returns-clause-refused g c = rw (← c.self.view_is) c.read_op-read.ensures.refused
+
+pub invariant_of-self : goal.invariant_of-self
+invariant_of-self g c = grown_settled _ _ c.read_op-read.ensures.grown c.self.invariant

@@ -1,5 +1,5 @@
 use Rattle.std.proofs.Common.{[]}
-use Rattle.rewriter.proofs.Rolled.{rollback_goes, rollback_led, rollback_told, rollback_none}
+use Rattle.rewriter.proofs.Rolled.{dropped_undone, given_settled, rollback_goes, rollback_led, rollback_told, rollback_none}
 use Rattle.rewriter.proofs.Told.{heard_none}
 use Rattle.rewriter.proofs.Contexts.{rollback_ctx}
 use Rattle.rewriter.proofs.bench.Bench.rollback.Goals as goal
@@ -21,3 +21,9 @@ returns-in_default-clause-does g c = rw (← c.self.view_is) (rollback_none g.L.
 
 pub returns-clause-ctx : goal.returns-clause-ctx
 returns-clause-ctx g c = rw (← c.self.view_is) (rollback_ctx _ _ _ _ _ c.undo_to.ensures.undone c.close.ensures c.give_up.ensures)
+
+pub returns-clause-ok : goal.returns-clause-ok
+returns-clause-ok g c = rw (← c.self.view_is) (dropped_undone _ _ _ _ _ c.in-Some.ensures.some c.undo_to.ensures.undone c.close.ensures c.give_up.ensures)
+
+pub invariant_of-self : goal.invariant_of-self
+invariant_of-self g c = given_settled _ _ c.give_up.ensures

@@ -13,8 +13,8 @@ invariant_of-self-2 c =
     let h : Held = record { ctx = w.ctx; store = w.store; journal = c.self.inside.journal.items; marks = c.self.inside.marks.items } in
     let is : IsStoreOf w.ctx w.store = record { context = c.sound.ensures; sound = w.sound; formed = w.formed; held = w.held } in
     let kept : c.note.new.journal.items ≡ noted_as h.marks h.journal c.set_entry-made.result = search rules in
-    let made : Made h (after_entry (key_before_in w.ctx) c.args.op c.args.part c.args.key c.args.value w.store) c.set_entry-made.new.world.store c.set_entry-made.result = entry_made h c.self.invariant is c.set_entry-made.new.world.ctx c.set_entry-made.ensures.ctx c.set_entry-made.new.world.store c.args.op c.args.part c.args.key c.args.value c.set_entry-made.result c.set_entry-made.ensures.step c.set_entry-made.ensures.refused c.set_entry-made.ensures.store c.set_entry-made.ensures.err in
-    made_good h c.self.invariant (after_entry (key_before_in w.ctx) c.args.op c.args.part c.args.key c.args.value w.store) c.set_entry-made.new.world.store c.set_entry-made.result made c.set_entry-made.new.world.ctx c.note.new.journal.items c.set_entry-made.ensures.ctx kept
+    let made : Made h (after_entry (key_before_in w.ctx) c.args.op c.args.part c.args.key c.args.value w.store) c.set_entry-made.new.self.store c.set_entry-made.result = entry_made h c.self.invariant is c.set_entry-made.new.self.ctx c.set_entry-made.ensures.ctx c.set_entry-made.new.self.store c.args.op c.args.part c.args.key c.args.value c.set_entry-made.result c.set_entry-made.ensures.step c.set_entry-made.ensures.refused c.set_entry-made.ensures.store c.set_entry-made.ensures.err in
+    made_good h c.self.invariant (after_entry (key_before_in w.ctx) c.args.op c.args.part c.args.key c.args.value w.store) c.set_entry-made.new.self.store c.set_entry-made.result made c.set_entry-made.new.self.ctx c.note.new.journal.items c.set_entry-made.ensures.ctx kept
 
 pub returns-clause-ok : goal.returns-clause-ok
 returns-clause-ok c =
@@ -22,8 +22,8 @@ returns-clause-ok c =
     let h : Held = record { ctx = w.ctx; store = w.store; journal = c.self.inside.journal.items; marks = c.self.inside.marks.items } in
     let is : IsStoreOf w.ctx w.store = record { context = c.sound.ensures; sound = w.sound; formed = w.formed; held = w.held } in
     let kept : c.note.new.journal.items ≡ noted_as h.marks h.journal c.set_entry-made.result = search rules in
-    let made : Made h (after_entry (key_before_in w.ctx) c.args.op c.args.part c.args.key c.args.value w.store) c.set_entry-made.new.world.store c.set_entry-made.result = entry_made h c.self.invariant is c.set_entry-made.new.world.ctx c.set_entry-made.ensures.ctx c.set_entry-made.new.world.store c.args.op c.args.part c.args.key c.args.value c.set_entry-made.result c.set_entry-made.ensures.step c.set_entry-made.ensures.refused c.set_entry-made.ensures.store c.set_entry-made.ensures.err in
-    rw (← c.self.view_is) (made_edited h c.self.invariant (after_entry (key_before_in w.ctx) c.args.op c.args.part c.args.key c.args.value w.store) c.set_entry-made.new.world.store c.set_entry-made.result made c.set_entry-made.new.world.ctx c.note.new.journal.items c.set_entry-made.ensures.ctx kept)
+    let made : Made h (after_entry (key_before_in w.ctx) c.args.op c.args.part c.args.key c.args.value w.store) c.set_entry-made.new.self.store c.set_entry-made.result = entry_made h c.self.invariant is c.set_entry-made.new.self.ctx c.set_entry-made.ensures.ctx c.set_entry-made.new.self.store c.args.op c.args.part c.args.key c.args.value c.set_entry-made.result c.set_entry-made.ensures.step c.set_entry-made.ensures.refused c.set_entry-made.ensures.store c.set_entry-made.ensures.err in
+    rw (← c.self.view_is) (made_edited h c.self.invariant (after_entry (key_before_in w.ctx) c.args.op c.args.part c.args.key c.args.value w.store) c.set_entry-made.new.self.store c.set_entry-made.result made c.set_entry-made.new.self.ctx c.note.new.journal.items c.set_entry-made.ensures.ctx kept)
 
 pub returns-clause-refused : goal.returns-clause-refused
 returns-clause-refused c = rw (← c.self.view_is) (answered_for _ c.set_entry-made.result c.set_entry-made.ensures.refused)
@@ -31,4 +31,4 @@ returns-clause-refused c = rw (← c.self.view_is) (answered_for _ c.set_entry-m
 pub returns-clause-tidy : goal.returns-clause-tidy
 returns-clause-tidy c =
     let w = c.self.inside.world in
-    rw (← c.self.view_is) (λ t. tidy_if w.store c.set_entry-made.new.world.store (after_entry (key_before_in w.ctx) c.args.op c.args.part c.args.key c.args.value w.store) c.set_entry-made.result c.set_entry-made.ensures.store c.set_entry-made.ensures.err t (λ t. t))
+    rw (← c.self.view_is) (λ t. tidy_if w.store c.set_entry-made.new.self.store (after_entry (key_before_in w.ctx) c.args.op c.args.part c.args.key c.args.value w.store) c.set_entry-made.result c.set_entry-made.ensures.store c.set_entry-made.ensures.err t (λ t. t))

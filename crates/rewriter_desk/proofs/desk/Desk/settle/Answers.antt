@@ -1,5 +1,5 @@
 use Rattle.rewriter_desk.specs.Held.{Held}
-use Rattle.rewriter_desk.proofs.Outcomes.{settle_done, settle_good, settle_none}
+use Rattle.rewriter_desk.proofs.Outcomes.{settle_done, settle_good, settle_none, settle_alone}
 use Rattle.rewriter_desk.proofs.desk.Desk.settle.Goals as goal
 
 pub invariant_of-self : goal.invariant_of-self
@@ -19,3 +19,9 @@ returns-clause-none c =
     let w = c.self.inside.world in
     let h : Held = record { ctx = w.ctx; store = w.store; journal = c.self.inside.journal.items; marks = c.self.inside.marks.items } in
     settle_none h c.self.invariant c.release.new.world.ctx c.release.new.world.store c.release.ensures.ctx c.release.ensures.store (rw (← c.self.view_is) at c.requires)
+
+pub returns-clause-alone : goal.returns-clause-alone
+returns-clause-alone c =
+    let w = c.self.inside.world in
+    let h : Held = record { ctx = w.ctx; store = w.store; journal = c.self.inside.journal.items; marks = c.self.inside.marks.items } in
+    settle_alone h c.self.invariant c.release.new.world.ctx c.release.new.world.store c.release.ensures.ctx c.release.ensures.store (rw (← c.self.view_is) at c.requires)

@@ -2,12 +2,12 @@ use Rattle.std.proofs.Common.{◌≡◌, length}
 use Rattle.std.specs.List.{All}
 use Rattle.ir_types.specs.Things.{Things, IsType}
 use Rattle.ir_verify_base.specs.Numbers.{typed}
-use Rattle.ir_verify_base.specs.Fits.{first_called, is_called_number}
-use Rattle.ir_verify_base.proofs.type_rules.first_number.Given as goal
+use Rattle.ir_verify_base.specs.Fits.{first_called}
+use Rattle.ir_verify_base.proofs.type_rules.first_called.Given as goal
 
 abbrev pub invariant-loop-named : goal.invariant-loop-named
 invariant-loop-named l = record {
-  left : (c : Things) → first_called is_called_number l.named (typed c l.rest) ≡ first_called is_called_number l.fn.rules (typed c l.fn.types);
+  left : (c : Things) → first_called l.wanted l.named (typed c l.rest) ≡ first_called l.wanted l.fn.rules (typed c l.fn.types);
   known : (c : Things) → All (λ t. IsType c t) l.fn.types → All (λ t. IsType c t) l.rest;
 }
 
