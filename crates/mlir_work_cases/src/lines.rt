@@ -1,7 +1,7 @@
 //! What lines of a script and words say, and how texts are cut.
-use mlir_work_cases_base::texts::{both_shown, bytes, number, shown};
 use ir_tree::value::Value;
 use ir_types::ids::OpId;
+use mlir_work_cases_base::texts::{both_shown, bytes, number, shown};
 use mlir_work_script::command::{Command, Line, read_line};
 use mlir_work_script::input::{script_is_too_long, split};
 use mlir_work_script::keys::{Key, bytes_of};

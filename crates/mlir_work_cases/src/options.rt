@@ -1,6 +1,6 @@
 //! Command lines: what they ask for, or what is said of them.
-use mlir_work_cases_base::texts::put_all_shown;
 use clap::Error;
+use mlir_work_cases_base::texts::put_all_shown;
 use mlir_work_run::options::options_of;
 use std::alloc::{AllocError, Global};
 use std::fmt::Write;

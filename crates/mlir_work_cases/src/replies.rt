@@ -1,8 +1,8 @@
 //! Lines and cells as they are written.
-use mlir_work_cases_base::texts::{first, number, small};
 use ir_tree::value::Value;
 use ir_types::ids::OpId;
 use ir_types::refusal::Refusal;
+use mlir_work_cases_base::texts::{first, number, small};
 use mlir_work_script::cells::{put_number, put_op_id, put_value};
 use mlir_work_script::kind::Kind;
 use mlir_work_script::replies::{

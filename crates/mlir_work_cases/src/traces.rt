@@ -53,11 +53,7 @@ fn put_trace(alloc: Global, out: &mut String, bench: &Bench<Witness>) -> Result<
 }
 
 /// Runs a script over a bench, and writes the status, the output, what was heard, and the journal that is left.
-fn traced(
-    alloc: Global,
-    bench: &mut Bench<Witness>,
-    script: &[u8],
-) -> Result<String, AllocError>
+fn traced(alloc: Global, bench: &mut Bench<Witness>, script: &[u8]) -> Result<String, AllocError>
     requires { IsKept Witness.meaning bench.old }
 {
     let mut written: Vec<u8> = Vec::new(alloc);

@@ -6,7 +6,6 @@ use ir_event::event::Event;
 use ir_event::row::{Kind, Memory, ReportFault, Row};
 use ir_event::view::View;
 use ir_event::world::World;
-use std::alloc::Global;
 
 /// The analysis of the listener inside. It turns stale where that looks more often than so many times when it is told
 /// of an event, and it tells it nothing more then, until it begins again.
@@ -60,10 +59,10 @@ impl<L: Analysis> Analysis for AtMost<L> {
         self.over || self.inside.stale()
     }
 
-    fn report(&self, alloc: Global) -> Result<Vec<Row>, ReportFault> {
+    fn report(&self) -> Result<Vec<Row>, ReportFault> {
         if self.over {
             return Err(ReportFault::Stale);
         }
-        self.inside.report(alloc)
+        self.inside.report()
     }
 }

@@ -75,13 +75,8 @@ pub fn put_event(out: &mut String, ctx: &Context, event: &Event) -> Result<(), A
     match event {
         Event::Put { op, place, fresh } => put_bare(out, "put", *op, place, *fresh),
         Event::Take { op, place, fresh } => put_bare(out, "take", *op, place, *fresh),
-        Event::SetOperand {
-            op,
-            operand,
-            old,
-            new,
-        } => {
-            write!(out, "set_#{}_{operand}", op.number())?;
+        Event::SetOperand { op, k, old, new } => {
+            write!(out, "set_#{}_{k}", op.number())?;
             put_value(out, old)?;
             put_value(out, new)
         }

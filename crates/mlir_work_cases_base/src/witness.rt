@@ -120,10 +120,10 @@ impl Analysis for Witness {
         self.stale
     }
 
-    fn report(&self, alloc: Global) -> Result<Vec<Row>, ReportFault> {
+    fn report(&self) -> Result<Vec<Row>, ReportFault> {
         if self.stale {
             return Err(ReportFault::Stale);
         }
-        Ok(Vec::new(alloc))
+        Ok(Vec::new(self.alloc))
     }
 }
