@@ -6,14 +6,14 @@ ghost use Rattle.rewriter_machine.specs.Machine.{Do};
 ghost use Rattle.rewriter.specs.Benched.{Does, Keeps, Led, reply_of};
 ghost use Rattle.rewriter.specs.Wholes.{IsDoneOrNoted, Onward};
 
+use crate::bench::Bench;
 use crate::faults::erase_fault;
 use crate::finish::finish;
-use rewriter_laws::turns::erasing_by_last;
+use crate::laws::led_benches_are_kept;
 use ir_event::analysis::Analysis;
 use ir_types::ids::OpId;
 use ir_types::refusal::Refusal;
-use crate::bench::Bench;
-use crate::laws::led_benches_are_kept;
+use rewriter_laws::turns::erasing_by_last;
 
 /// Takes an operation and those inside it, the last in pre-order first, where nothing stands against it.
 fn take_all<L: Analysis>(bench: &mut Bench<L>, op: OpId) -> Result<(), Refusal>

@@ -8,10 +8,10 @@ ghost use Rattle.rewriter.specs.Benched.{Does, Heard, Led, ToldBack, reply_of};
 ghost use Rattle.rewriter.specs.Rolling.{Dropped, GivenUp, Settled, UndoneTo};
 
 use crate::bench::Bench;
-use rewriter_desk::desk::Desk;
 use ir_event::analysis::Analysis;
 use ir_event::panel::Panel;
 use ir_types::refusal::Refusal;
+use rewriter_desk::desk::Desk;
 
 /// Undoes events until the journal is so long, the newest first, and tells the listeners the inverse of each.
 fn undo_to<L: Analysis>(desk: &mut Desk, panel: &mut Panel<L>, mark: usize)

@@ -15,10 +15,10 @@ ghost use Rattle.rewriter_desk.specs.Moves.{Grown};
 ghost use Rattle.rewriter.specs.Benched.{Led};
 
 use crate::bench::Bench;
-use rewriter_desk::ReadError;
 use ir_event::analysis::Analysis;
 use ir_tree::tree::TreeOp;
 use ir_types::ids::AttrId;
+use rewriter_desk::ReadError;
 
 impl<L: Analysis> Bench<L> {
     /// The attribute that a text spells.
