@@ -11,7 +11,7 @@ use Rattle.ir_tree.specs.WellFormed.{Module}
 use Rattle.ir_store.specs.Calls.{Loaded}
 use Rattle.ir_event.specs.Listener.{Listener}
 use Rattle.ir_event.specs.Modules.{module_meaning}
-use Rattle.rewriter_machine.specs.Machine.{State, Mark, Step, Commit, Rollback, Done, Refused, IsAnswer, most_marks, marked, done, due, due_commit, due_rollback, refused}
+use Rattle.rewriter_desk.specs.Machine.{State, Mark, Step, Commit, Rollback, Done, Refused, IsAnswer, most_marks, marked, done, due, due_commit, due_rollback, refused}
 use Rattle.ir_event.specs.declared.event.Event.{Event}
 use Rattle.rewriter_desk.specs.Journals.{IsTidy, before, inverses}
 use Rattle.rewriter_desk.specs.declared.mark.Mark.{Mark as DeskMark}

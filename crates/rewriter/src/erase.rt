@@ -1,8 +1,8 @@
 //! Erasing an operation with what is inside it.
 ghost use Rattle.std.specs.Prelude.{◌≡◌, None, OnOk};
-ghost use Rattle.rewriter_machine.specs.Contents.{edit_meaning, tests_in};
-ghost use Rattle.rewriter_machine.specs.Edits.{Erase, edited_by, reason_by};
-ghost use Rattle.rewriter_machine.specs.Machine.{Do};
+ghost use Rattle.rewriter_desk.specs.Contents.{edit_meaning, tests_in};
+ghost use Rattle.rewriter_desk.specs.Edits.{Erase, edited_by, reason_by};
+ghost use Rattle.rewriter_desk.specs.Machine.{Do};
 ghost use Rattle.rewriter.specs.Benched.{Does, Keeps, Led, reply_of};
 ghost use Rattle.rewriter.specs.Wholes.{IsDoneOrNoted, Onward};
 

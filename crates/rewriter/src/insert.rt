@@ -2,9 +2,9 @@
 ghost use Rattle.std.specs.Prelude.{◌≡◌};
 ghost use Rattle.ir_tree.specs.Ids.{IsNumberedFrom};
 ghost use Rattle.ir_tree.specs.Meaning.{IsSoundIn};
-ghost use Rattle.rewriter_machine.specs.Contents.{edit_meaning};
-ghost use Rattle.rewriter_machine.specs.Edits.{Insert};
-ghost use Rattle.rewriter_machine.specs.Machine.{Do};
+ghost use Rattle.rewriter_desk.specs.Contents.{edit_meaning};
+ghost use Rattle.rewriter_desk.specs.Edits.{Insert};
+ghost use Rattle.rewriter_desk.specs.Machine.{Do};
 ghost use Rattle.rewriter.specs.Benched.{Does, Keeps, Led, id_reply_of};
 
 use crate::bench::Bench;

@@ -3,8 +3,8 @@ ghost use Rattle.std.specs.Prelude.{◌≡◌, ◌≢◌, ◌⊎◌, None, OnOk}
 ghost use Rattle.ir_types.specs.declared.refusal.Refusal.TheVariants.{Memory as WantOfMemory, NotVisible as Unseen};
 ghost use Rattle.ir_tree.specs.Ids.{IsNumberedFrom};
 ghost use Rattle.ir_tree.specs.Meaning.{IsSoundIn};
-ghost use Rattle.rewriter_machine.specs.Contents.{tests_in};
-ghost use Rattle.rewriter_machine.specs.Edits.{Insert, edited_by, reason_by};
+ghost use Rattle.rewriter_desk.specs.Contents.{tests_in};
+ghost use Rattle.rewriter_desk.specs.Edits.{Insert, edited_by, reason_by};
 ghost use Rattle.rewriter.specs.Moves.{IsAnswered};
 ghost use Rattle.rewriter_laws.specs.Inserting.{insert_fault};
 ghost use Rattle.rewriter.specs.Wholes.{Onward};

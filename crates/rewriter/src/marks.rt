@@ -3,7 +3,7 @@ ghost use Rattle.std.specs.Prelude.{◌≡◌, ◌≤◌, [], length, drop, true
 ghost use Rattle.rewriter_desk.specs.Journals.{inverses};
 ghost use Rattle.rewriter_desk.specs.Held.{Within};
 ghost use Rattle.rewriter_desk.specs.Marked.{with_mark};
-ghost use Rattle.rewriter_machine.specs.Machine.{Commit, Mark, Rollback, Step};
+ghost use Rattle.rewriter_desk.specs.Machine.{Commit, Mark, Rollback, Step};
 ghost use Rattle.rewriter.specs.Benched.{Does, Heard, Led, ToldBack, reply_of};
 ghost use Rattle.rewriter.specs.Rolling.{Dropped, GivenUp, Settled, UndoneTo};
 

@@ -1,9 +1,9 @@
 //! Replacing a value wherever it is used.
 ghost use Rattle.std.specs.Prelude.{◌≡◌, false, None, OnOk};
 ghost use Rattle.ir_tree.specs.Uses.{same_value};
-ghost use Rattle.rewriter_machine.specs.Contents.{edit_meaning, tests_in};
-ghost use Rattle.rewriter_machine.specs.Edits.{Replace, edited_by, reason_by};
-ghost use Rattle.rewriter_machine.specs.Machine.{Do};
+ghost use Rattle.rewriter_desk.specs.Contents.{edit_meaning, tests_in};
+ghost use Rattle.rewriter_desk.specs.Edits.{Replace, edited_by, reason_by};
+ghost use Rattle.rewriter_desk.specs.Machine.{Do};
 ghost use Rattle.rewriter.specs.Benched.{Does, Keeps, Led, reply_of};
 ghost use Rattle.rewriter.specs.Wholes.{IsDoneOrNoted, Onward};
 

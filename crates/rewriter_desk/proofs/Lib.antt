@@ -4,3 +4,4 @@ pub mod Marks
 pub mod Outcomes
 pub mod Released
 pub mod Beside
+pub use Rattle.rewriter_machine.proofs.Numbers
