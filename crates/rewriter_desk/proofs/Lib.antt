@@ -1,4 +1,4 @@
-pub mod Laws
+pub mod Behind
 pub mod Made
 pub mod Marks
 pub mod Outcomes
