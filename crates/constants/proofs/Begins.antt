@@ -13,12 +13,13 @@ use Rattle.ir_tree.proofs.Mapped.{map_ids}
 use Rattle.ir_event.specs.declared.world.World.{World}
 use Rattle.ir_event.specs.Modules.{module_in}
 use Rattle.ir_event.proofs.Steps.{formed_meaning}
-use Rattle.constants_base.specs.Heads.{heads}
+use Rattle.ir_event.specs.Heads.{heads}
 use Rattle.constants_base.specs.Facts.{Header, Facts, look, folded, folded_if}
 use Rattle.constants_base.specs.Walk.{with_fact, walk, facts_of, AreOrdered}
 use Rattle.constants_base.proofs.Knowing.{listed}
 use Rattle.constants_base.proofs.Looked.{look_heads}
-use Rattle.constants_base.proofs.Ordering.{heads_ids, ordered_tree}
+use Rattle.ir_event.proofs.Flat.{heads_ids}
+use Rattle.constants_base.proofs.Ordering.{ordered_tree}
 use Rattle.constants.specs.Tables.{known_in, look_in, WalkedIds}
 
 -- along the operations that are there

@@ -20,7 +20,8 @@ use Rattle.ir_event.specs.Rows.{cell_meaning, rows_meaning, CellIsOf, RowIsOf, S
 use Rattle.dialects_int.specs.Folds.{Known, known_of}
 use Rattle.constants_base.specs.Walk.{facts_of}
 use Rattle.constants_base.specs.Rows.{constants_of, constant_row, constants_rows}
-use Rattle.constants_base.proofs.Sorted.{look, Above, Rising, rising_same, constants_rising, constants_look}
+use Rattle.ir_event.proofs.ById.{look, Above, Rising, rising_same}
+use Rattle.constants_base.proofs.Sorted.{constants_rising, constants_look}
 use Rattle.constants.specs.Tables.{known_in, cells_of}
 use Rattle.constants.proofs.Tables.{less_than, same_test}
 

@@ -5,7 +5,7 @@ use Rattle.ir_event.specs.declared.event.Event.{Event}
 use Rattle.ir_event.specs.declared.event.Event.TheVariants.{Put, Take, SetOperand, SetEntry, Shift}
 use Rattle.ir_event.specs.Modules.{Module}
 use Rattle.ir_event.specs.Step.{Step}
-use Rattle.constants_base.specs.Heads.{heads}
+use Rattle.ir_event.specs.Heads.{heads}
 use Rattle.constants_base.specs.Facts.{Facts, look, folded_if, AreLocal}
 use Rattle.constants_base.specs.Walk.{facts_of}
 use Rattle.constants_base.specs.Reached.{reached, most_over, most_looks}

@@ -27,7 +27,7 @@ use Rattle.ir_store.specs.Using.{AreUses, EachOnce, is_use, same_use}
 use Rattle.ir_event.specs.declared.world.World.{World}
 use Rattle.ir_event.proofs.Nodes.{known_node}
 use Rattle.dialects_int.specs.Folds.{known_of, entries_of, fold_of}
-use Rattle.constants_base.specs.Heads.{heads}
+use Rattle.ir_event.specs.Heads.{heads}
 use Rattle.constants_base.specs.Facts.{Header, Facts, knowns, folded_if, value}
 use Rattle.constants_base.specs.Reached.{uses_among}
 use Rattle.constants_base.specs.Trails.{Uses, IsThere}

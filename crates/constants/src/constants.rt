@@ -17,11 +17,11 @@ use ir_types::ids::OpId;
 use std::alloc::Global;
 use std::collections::BTreeMap;
 
-/// The analysis `constants`: which results are known, and their values (Operation Canonicalization, "Canonicalizing with
-/// the `fold` method").
+/// The analysis `constants`: which results are known, and their values (Operation Canonicalization, "Canonicalizing
+/// with the `fold` method").
 ///
-/// It keeps each known value by the id of its operation. Where an operation changes, what was known by it is forgotten, along
-/// the users of what was forgotten; then what can be known is learnt, along the users of what was learnt.
+/// It keeps each known value by the id of its operation. Where an operation changes, what was known by it is forgotten,
+/// along the users of what was forgotten; then what can be known is learnt, along the users of what was learnt.
 #[derive(Drop)]
 pub struct Constants {
     alloc: Global,
@@ -50,7 +50,7 @@ impl Analysis for Constants {
     ghost meaning = { constants_listener };
 
     fn kind(&self) -> Kind {
-        Kind::new(6)
+        Kind::CONSTANTS
     }
 
     fn begin(&mut self, world: &World) -> Result<(), Memory> {
@@ -86,11 +86,11 @@ impl Analysis for Constants {
         self.stale
     }
 
-    fn report(&self, alloc: Global) -> Result<Vec<Row>, ReportFault> {
+    fn report(&self) -> Result<Vec<Row>, ReportFault> {
         if self.stale {
             return Err(ReportFault::Stale);
         }
-        match lines(alloc, &self.table) {
+        match lines(self.alloc, &self.table) {
             Ok(rows) => Ok(rows),
             Err(_) => Err(ReportFault::Memory),
         }

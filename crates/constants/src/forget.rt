@@ -9,6 +9,7 @@ ghost use Rattle.constants.specs.Tables.{known_in, look_in, uses_in, users_of};
 use crate::table::{drop_fact, fact};
 use crate::users::uses_of;
 use ir_event::view::View;
+use ir_store::uses::UsesOf;
 use ir_types::bits::Bits;
 use ir_types::ids::OpId;
 use std::collections::BTreeMap;
@@ -39,15 +40,11 @@ fn forget(table: &mut BTreeMap<OpId, Bits>, op: OpId, trail: &mut Vec<OpId>) -> 
 }
 
 /// Forgets the operations of these uses.
-fn forget_all(
-    table: &mut BTreeMap<OpId, Bits>,
-    uses: &[(OpId, usize)],
-    trail: &mut Vec<OpId>,
-) -> bool
-    ensures { Forgotten (result ≡ true) (λ y. In y (users_of uses.now)) (known_in table.old) (known_in table.new) trail.old.items trail.new.items }
+fn forget_all(table: &mut BTreeMap<OpId, Bits>, uses: UsesOf<'_>, trail: &mut Vec<OpId>) -> bool
+    ensures { Forgotten (result ≡ true) (λ y. In y (users_of uses.entry)) (known_in table.old) (known_in table.new) trail.old.items trail.new.items }
 {
-    for use_of in uses {
-        if !forget(table, use_of.0, trail) {
+    for (user, _) in uses {
+        if !forget(table, user, trail) {
             return false;
         }
     }
@@ -65,10 +62,7 @@ fn forget_users(
     ensures looks { view.new.looks ≤ view.old.looks + (1 + uses_in view.old.world.now op) }
     ensures world { view.new.world.now ≡ view.old.world.now }
 {
-    let Some(uses) = uses_of(view, op) else {
-        return false;
-    };
-    forget_all(table, &uses, trail)
+    forget_all(table, uses_of(view, op), trail)
 }
 
 /// Forgets what may have changed with an operation, along the users of what was known. The trail gets all that was

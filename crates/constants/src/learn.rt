@@ -11,6 +11,7 @@ use crate::forget::push;
 use crate::table::{fact, note};
 use crate::users::{folded, uses_of};
 use ir_event::view::View;
+use ir_store::uses::UsesOf;
 use ir_types::bits::Bits;
 use ir_types::ids::OpId;
 use std::alloc::Global;
@@ -68,16 +69,16 @@ fn learn_uses(
     alloc: Global,
     view: &mut View<'_>,
     table: &mut BTreeMap<OpId, Bits>,
-    uses: &[(OpId, usize)],
+    uses: UsesOf<'_>,
     trail: &mut Vec<OpId>,
 ) -> bool
-    ensures learnt { ((y : ℕ) → In y (users_of uses.now) → IsThere (look_in view.old.world.now) y)
-        → Learnt (result ≡ true) (look_in view.old.world.now) (λ y. In y (users_of uses.now)) (known_in table.old) (known_in table.new) trail.old.items trail.new.items }
-    ensures looks { view.new.looks ≤ view.old.looks + length uses.now }
+    ensures learnt { ((y : ℕ) → In y (users_of uses.entry) → IsThere (look_in view.old.world.now) y)
+        → Learnt (result ≡ true) (look_in view.old.world.now) (λ y. In y (users_of uses.entry)) (known_in table.old) (known_in table.new) trail.old.items trail.new.items }
+    ensures looks { view.new.looks ≤ view.old.looks + length uses.entry }
     ensures world { view.new.world.now ≡ view.old.world.now }
 {
-    for use_of in uses {
-        if !learn(alloc, view, table, use_of.0, trail) {
+    for (user, _) in uses {
+        if !learn(alloc, view, table, user, trail) {
             return false;
         }
     }
@@ -137,10 +138,8 @@ fn learn_users(
     ensures looks { view.new.looks ≤ view.old.looks + (1 + uses_in view.old.world.now op + uses_in view.old.world.now op) }
     ensures world { view.new.world.now ≡ view.old.world.now }
 {
-    let Some(uses) = uses_of(view, op) else {
-        return false;
-    };
-    learn_uses(alloc, view, table, &uses, trail)
+    let uses = uses_of(view, op);
+    learn_uses(alloc, view, table, uses, trail)
 }
 
 /// Learns what can be known after an operation changed and others were forgotten. It is false where memory was

@@ -1,5 +1,5 @@
 //! The operations that use the result of one, and what an operation folds to.
-ghost use Rattle.std.specs.Prelude.{◌≡◌, ◌≤◌, ◌+◌, length, IfSome, IfOk};
+ghost use Rattle.std.specs.Prelude.{◌≡◌, ◌≤◌, ◌+◌, length, IfOk};
 ghost use Rattle.dialects_int.specs.Folds.{known_of};
 ghost use Rattle.constants_base.specs.Facts.{value};
 ghost use Rattle.constants_base.specs.Trails.{IsThere};
@@ -9,23 +9,21 @@ ghost use Rattle.constants.specs.Tables.{known_in, look_in, uses_in, users_of};
 use crate::table::value_facts;
 use dialects_int::fold::fold;
 use ir_event::view::View;
+use ir_store::uses::UsesOf;
 use ir_tree::value::Value;
 use ir_types::bits::Bits;
 use ir_types::ids::OpId;
 use std::alloc::{AllocError, Global};
 use std::collections::BTreeMap;
 
-/// The uses of an operation's first result, or none where memory was refused.
-pub(crate) fn uses_of(view: &mut View<'_>, op: OpId) -> Option<Vec<(OpId, usize)>>
-    ensures users { IfSome result (λ us. AreUsers (look_in view.old.world.now) op (users_of us.items)) }
-    ensures count { IfSome result (λ us. length us.items ≤ uses_in view.old.world.now op) }
+/// The uses of an operation's first result.
+pub(crate) fn uses_of<'a>(view: &mut View<'a>, op: OpId) -> UsesOf<'a>
+    ensures users { AreUsers (look_in view.old.world.now) op (users_of result) }
+    ensures count { length result ≤ uses_in view.old.world.now op }
     ensures looks { view.new.looks ≤ view.old.looks + (1 + uses_in view.old.world.now op) }
     ensures world { view.new.world.now ≡ view.old.world.now }
 {
-    match view.uses(Value::Result(op, 0)) {
-        Ok(uses) => Some(uses),
-        Err(_) => None,
-    }
+    view.uses(Value::Result(op, 0))
 }
 
 /// What an operation that is shown folds to, from what the table knows.

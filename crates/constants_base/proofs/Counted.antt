@@ -1,12 +1,12 @@
 -- The loops of both phases, with their counts of looks.
-use Rattle.std.proofs.Common.{◌≡◌, ◌≢◌, ◌<◌, ◌≤◌, ◌+◌, ℕ, true, List, [], ◌∷◌, ◌++◌, length, get_or, take, drop, Option, Some, None, ◌⊎◌, inl, inr, refl, sym, ap, ◌∙◌, subst, arith, map}
+use Rattle.std.proofs.Common.{◌≡◌, ◌<◌, ◌≤◌, ◌+◌, ℕ, List, [], ◌∷◌, ◌++◌, length, get_or, take, Option, ◌⊎◌, inl, inr, refl, sym, ap, ◌∙◌, subst, arith}
 use Rattle.std.proofs.lemmas.List.{take_more, take-append-le, take_all}
 use Rattle.ir_tree_laws.specs.Members.{In}
 use Rattle.ir_tree_laws.proofs.Listed.{in_left, in_right, in_parts}
-use Rattle.constants_base.specs.Facts.{Header, Facts, AreLocal}
-use Rattle.constants_base.specs.Trails.{total, Uses, IsThere, Follows, IsTrail}
-use Rattle.constants_base.specs.Phases.{Forgotten, Forgetting, Learnt, LearntFrom, SameBut}
-use Rattle.constants_base.proofs.Forgets.{in_one, in_read, forgot_more, ForgettingFrom, forgetting_from_start, forgetting_from_more, trail_start, trail_more}
+use Rattle.constants_base.specs.Facts.{Header, Facts}
+use Rattle.constants_base.specs.Trails.{total, Uses, IsThere, IsTrail}
+use Rattle.constants_base.specs.Phases.{Forgotten, Learnt, LearntFrom}
+use Rattle.constants_base.proofs.Forgets.{in_one, in_read, forgot_more, ForgettingFrom, forgetting_from_start, forgetting_from_more, trail_more}
 use Rattle.constants_base.proofs.Learns.{learnt_more, learnt_nothing, LearningFrom, learning_from_start, learning_from_more, learning_from_end, learnt_trail_start, learnt_trail_more}
 use Prim.Native.Nat.{zero, suc}
 

@@ -1,26 +1,26 @@
 -- The operations of a tree in a list, where one is taken or shifted.
-use Rattle.std.proofs.Common.{◌≡◌, ◌≢◌, ℕ, ◌+◌, List, [], ◌∷◌, ◌++◌, Bool, true, false, Option, Some, None, ◌⊎◌, inl, inr, refl, sym, ap, ◌∙◌, subst, cond, eqb, map}
+use Rattle.std.proofs.Common.{◌≡◌, ◌≢◌, ℕ, ◌+◌, List, [], ◌∷◌, ◌++◌, Bool, Option, Some, None, ◌⊎◌, inl, inr, refl, sym, ap, ◌∙◌, subst, cond, eqb, map}
 use Rattle.std.specs.Option.{option_map}
-use Rattle.std.proofs.lemmas.Bool.{eq-eqb, ne_eqb, cases_eq}
+use Rattle.std.proofs.lemmas.Bool.{cases_eq}
 use Rattle.std.proofs.lemmas.List.{map-append}
 use Rattle.ir_types.specs.Terms.{TypeTerm, AttrTerm}
 use Rattle.ir_tree.specs.declared.place.Place.{Place}
-use Rattle.ir_tree.specs.Tree.{HeadOf, OpOf, op, RegionsOf, no_regions, region, RegionOf, empty, block, OpsOf, no_ops, next, head, regions}
+use Rattle.ir_tree.specs.Tree.{op, RegionsOf, no_regions, region, RegionOf, empty, block, OpsOf, no_ops, next, head, regions}
 use Rattle.ir_tree.specs.Ids.{find, first_of, HasDistinctIds}
 use Rattle.ir_tree.specs.Meaning.{Operation}
 use Rattle.ir_tree.specs.Places.{place_of, without}
 use Rattle.ir_tree.specs.WellFormed.{ModuleOf}
 use Rattle.ir_tree_laws.specs.Members.{In}
 use Rattle.ir_tree_laws.specs.Changes.{HoldNone, Takes, Shifts}
-use Rattle.ir_tree_laws.specs.Stands.{StepOf, StandOf, stand_id, stands, regions_stands, region_stands, ops_stands, place_in, left_stand, dropping}
+use Rattle.ir_tree_laws.specs.Stands.{StepOf, StandOf, stands, regions_stands, region_stands, ops_stands, place_in, left_stand, dropping}
 use Rattle.ir_tree_laws.proofs.Readings.{step}
 use Rattle.ir_tree_laws.proofs.Members.{stand, stand_found}
 use Rattle.ir_tree_laws.proofs.Around.{member_of_place}
 use Rattle.ir_tree_laws.proofs.Without.{same_head}
 use Rattle.ir_tree_laws.proofs.Stretches.{part}
-use Rattle.constants_base.specs.Heads.{heads, regions_heads, region_heads, ops_heads}
+use Rattle.ir_event.specs.Heads.{heads, regions_heads, region_heads, ops_heads}
 use Rattle.constants_base.specs.Facts.{Header, look}
-use Rattle.constants_base.specs.Walk.{look_among, AreOrdered, met_after}
+use Rattle.constants_base.specs.Walk.{look_among, AreOrdered}
 use Rattle.constants_base.proofs.Walks.{node_there}
 use Rattle.constants_base.proofs.Looked.{among_append, look_heads}
 

@@ -1,28 +1,25 @@
 -- What events leave of the operations of a tree.
-use Rattle.std.proofs.Common.{◌≡◌, ◌≢◌, ℕ, List, [], ◌∷◌, Bool, true, false, true≢false, not, Option, Some, None, ◌⊎◌, inl, inr, refl, sym, ap, ◌∙◌, subst, cond, eqb, slice_get}
+use Rattle.std.proofs.Common.{◌≡◌, ℕ, List, [], ◌∷◌, Bool, true, true≢false, not, Option, Some, None, inl, inr, refl, sym, ap, ◌∙◌, subst, cond, eqb, slice_get}
 use Rattle.std.specs.Option.{option_map}
 use Rattle.std.specs.List.{list_all}
-use Rattle.std.specs.Prelude.{option_and_then, IsTrue}
+use Rattle.std.specs.Prelude.{option_and_then}
 use Rattle.std.proofs.lemmas.Bool.{eq-eqb, ne_eqb, cases_eq}
-use Rattle.ir_types.specs.Terms.{TypeTerm, AttrTerm, name_term, attr_term}
+use Rattle.ir_types.specs.Terms.{name_term, attr_term}
 use Rattle.ir_types.specs.Things.{Things}
-use Rattle.ir_types.specs.Words.{is_isolated, is_table}
+use Rattle.ir_types.specs.Words.{is_table}
 use Rattle.ir_tree.specs.declared.value.Value.{Value}
-use Rattle.ir_tree.specs.declared.value.Value.TheVariants.{Result, Arg}
+use Rattle.ir_tree.specs.declared.value.Value.TheVariants.{Result}
 use Rattle.ir_tree.specs.declared.place.Place.{Place}
 use Rattle.ir_tree.specs.declared.place.Part.{Part}
-use Rattle.ir_tree.specs.Tree.{OpOf, op, head}
-use Rattle.ir_tree.specs.Ids.{find, HasDistinctIds}
+use Rattle.ir_tree.specs.Tree.{op, head}
+use Rattle.ir_tree.specs.Ids.{find}
 use Rattle.ir_tree.specs.Frames.{owner_of}
-use Rattle.ir_tree.specs.Uses.{uses_of}
 use Rattle.ir_tree.specs.Limits.{every}
 use Rattle.ir_tree.specs.Edits.{each_head, at, put_operand, change_part, change_entry}
 use Rattle.ir_tree.specs.Meaning.{Operation, key_before}
-use Rattle.ir_tree.specs.WellFormed.{ModuleOf, IsWellFormed}
 use Rattle.ir_tree.proofs.Heads.{Alike, head_find, alike_operand, alike_entry}
 use Rattle.ir_tree_laws.specs.Members.{In}
-use Rattle.ir_tree_laws.specs.Changes.{operand_at, entry_in, Takes, SetsOperand, SetsEntry, Shifts}
-use Rattle.ir_tree_laws.specs.Reasons.{leaves, unused}
+use Rattle.ir_tree_laws.specs.Reasons.{leaves}
 use Rattle.ir_tree_laws.proofs.Listed.{both}
 use Rattle.ir_tree_laws.proofs.Members.{found_stands}
 use Rattle.ir_tree_laws.proofs.Changed.{uses_unused}
@@ -31,10 +28,8 @@ use Rattle.ir_event.specs.declared.event.Event.{Event}
 use Rattle.ir_event.specs.declared.event.Event.TheVariants.{Put, Take, SetOperand, SetEntry, Shift}
 use Rattle.ir_event.specs.Modules.{Module}
 use Rattle.ir_event.specs.Step.{Step}
-use Rattle.ir_event.specs.Bounds.{op_of}
-use Rattle.dialects_int.specs.Folds.{Known}
-use Rattle.constants_base.specs.Heads.{heads}
-use Rattle.constants_base.specs.Facts.{Header, Facts, look, value, folded_if, AreLocal}
+use Rattle.ir_event.specs.Heads.{heads}
+use Rattle.constants_base.specs.Facts.{Header, Facts, look, folded_if, AreLocal}
 use Rattle.constants_base.specs.Walk.{AreOrdered, with_fact}
 use Rattle.constants_base.specs.Trails.{IsThere, Uses}
 use Rattle.constants_base.specs.Phases.{SameBut}

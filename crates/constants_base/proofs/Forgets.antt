@@ -1,17 +1,16 @@
 -- The first phase.
-use Rattle.std.proofs.Common.{◌≡◌, ◌≢◌, ◌<◌, ◌≤◌, ◌+◌, ℕ, Bool, true, false, true≢false, List, [], ◌∷◌, ◌++◌, length, get_or, take, drop, Option, Some, None, is_none, ◌⊎◌, inl, inr, refl, sym, ap, ◌∙◌, subst, cond, arith, append_assoc, append-nil, length-append, add-one}
+use Rattle.std.proofs.Common.{◌≡◌, ◌≢◌, ◌<◌, ◌≤◌, ◌+◌, ℕ, List, [], ◌∷◌, ◌++◌, length, get_or, drop, Option, Some, None, ◌⊎◌, inl, inr, refl, sym, ap, ◌∙◌, subst, arith, append_assoc, append-nil, length-append, add-one}
 use Rattle.std.proofs.Math.Seq.{drop-cons}
 use Rattle.std.proofs.Math.ListN.{drop_of_length-le}
-use Rattle.std.proofs.lemmas.List.{drop-append-le, take_more, take-append-le, take_all}
-use Rattle.std.proofs.lemmas.Bool.{cases_eq}
+use Rattle.std.proofs.lemmas.List.{drop-append-le}
 use Rattle.ir_tree_laws.specs.Members.{In}
 use Rattle.ir_tree_laws.proofs.Listed.{in_left, in_right, in_parts}
 use Rattle.dialects_int.specs.Folds.{Known}
 use Rattle.constants_base.specs.Facts.{Header, Facts, value, AreLocal, folded_if}
 use Rattle.constants_base.specs.Walk.{with_fact}
-use Rattle.constants_base.specs.Trails.{OnceEach, total, Uses, IsThere, IsKnown, IsTrail}
+use Rattle.constants_base.specs.Trails.{OnceEach, Uses, IsTrail}
 use Rattle.constants_base.specs.Phases.{Forgotten, Forgetting, SameBut}
-use Rattle.constants_base.proofs.Walks.{in_or_not, some_or_none, not_both, none_if_not, put_same, put_other}
+use Rattle.constants_base.proofs.Walks.{in_or_not, not_both, put_same, put_other}
 use Rattle.constants_base.proofs.Knowing.{value_uses, value_less}
 use Prim.Native.Nat.{zero, suc}
 

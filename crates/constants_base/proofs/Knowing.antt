@@ -1,15 +1,15 @@
 -- To know more is to fold to more, and what follows from itself is what the walk finds.
-use Rattle.std.proofs.Common.{◌≡◌, ◌≢◌, ℕ, List, [], ◌∷◌, Bool, true, false, Option, Some, None, ◌⊎◌, inl, inr, refl, sym, ap, ◌∙◌, subst, cond, eqb}
+use Rattle.std.proofs.Common.{◌≡◌, ℕ, List, [], ◌∷◌, Option, Some, None, inl, inr, refl, sym, ap, ◌∙◌, subst, cond, eqb}
 use Rattle.std.proofs.lemmas.Bool.{eq-eqb, ne_eqb, cases_eq}
 use Rattle.ir_tree.specs.declared.value.Value.{Value}
 use Rattle.ir_tree.specs.declared.value.Value.TheVariants.{Result, Arg}
 use Rattle.ir_tree_laws.specs.Members.{In}
-use Rattle.dialects_int.specs.Folds.{Known, KnowsMore, fold_of}
+use Rattle.dialects_int.specs.Folds.{Known, KnowsMore}
 use Rattle.dialects_int.proofs.KnowingMore.{knowing_more}
-use Rattle.constants_base.specs.Facts.{Header, Facts, known, knowns, folded, folded_if, value, AreLocal}
+use Rattle.constants_base.specs.Facts.{Header, Facts, known, knowns, folded, folded_if, value}
 use Rattle.constants_base.specs.Walk.{nothing, with_fact, walk, look_among, AllMet, AreOrdered, met_after}
-use Rattle.constants_base.specs.Trails.{Uses, IsThere, Follows}
-use Rattle.constants_base.proofs.Walks.{in_or_not, some_or_none, not_both, none_if_not, put_same, put_other, node_here, node_there, node_outside, folded_knowns}
+use Rattle.constants_base.specs.Trails.{Uses, Follows}
+use Rattle.constants_base.proofs.Walks.{in_or_not, not_both, none_if_not, put_same, put_other, node_here, node_there, node_outside, folded_knowns}
 
 known_uses : (a b : Facts) (v : Value) → ((d : ℕ) → Result d 0 ≡ v → a d ≡ b d) → known a v ≡ known b v
 known_uses a b (Result x k) same = elim (cases_eq k 0) [

@@ -1,5 +1,5 @@
 -- The second phase.
-use Rattle.std.proofs.Common.{◌≡◌, ◌≢◌, ◌<◌, ◌≤◌, ◌+◌, ℕ, true, List, [], ◌∷◌, ◌++◌, length, get_or, take, drop, Option, Some, None, ◌⊎◌, inl, inr, refl, sym, ap, ◌∙◌, subst, arith, append_assoc, append-nil, length-append, add-one}
+use Rattle.std.proofs.Common.{◌≡◌, ◌<◌, ◌≤◌, ◌+◌, ℕ, true, List, [], ◌∷◌, ◌++◌, length, get_or, drop, Option, Some, None, ◌⊎◌, inl, inr, refl, sym, ap, ◌∙◌, subst, arith, append_assoc, append-nil, length-append, add-one}
 use Rattle.std.proofs.Math.Seq.{drop-cons}
 use Rattle.std.proofs.Math.ListN.{drop_of_length-le}
 use Rattle.std.proofs.lemmas.List.{drop-append-le}
@@ -9,7 +9,7 @@ use Rattle.ir_tree_laws.proofs.Listed.{in_left, in_right, in_parts}
 use Rattle.dialects_int.specs.Folds.{Known}
 use Rattle.constants_base.specs.Facts.{Header, Facts, value, AreLocal}
 use Rattle.constants_base.specs.Walk.{with_fact}
-use Rattle.constants_base.specs.Trails.{OnceEach, Uses, IsThere, IsKnown, Follows, IsTrail}
+use Rattle.constants_base.specs.Trails.{Uses, IsKnown, Follows, IsTrail}
 use Rattle.constants_base.specs.Phases.{Forgetting, Noted, Learnt, Learning}
 use Rattle.constants_base.proofs.Walks.{in_or_not, some_or_none, not_both, none_if_not, put_same, put_other}
 use Rattle.constants_base.proofs.Knowing.{value_uses, value_more}

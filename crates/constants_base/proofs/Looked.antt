@@ -1,17 +1,17 @@
 -- The operations of a tree, by their ids and in the list.
-use Rattle.std.proofs.Common.{◌≡◌, ℕ, List, [], ◌∷◌, ◌++◌, Bool, true, false, Option, Some, None, refl, sym, ap, ◌∙◌, cond, eqb, arith}
+use Rattle.std.proofs.Common.{◌≡◌, ℕ, List, [], ◌∷◌, ◌++◌, true, false, Option, Some, None, refl, sym, ap, ◌∙◌, cond, eqb, arith}
 use Rattle.std.specs.Option.{option_map}
 use Rattle.std.specs.Prelude.{IsTrue}
 use Rattle.std.proofs.lemmas.Bool.Decides.{nat_tests}
 use Rattle.ir_types.specs.Words.{is_isolated}
 use Rattle.ir_types.specs.Terms.{TypeTerm, AttrTerm}
-use Rattle.ir_tree.specs.Tree.{OpOf, op, RegionsOf, no_regions, region, RegionOf, empty, block, OpsOf, no_ops, next, head}
+use Rattle.ir_tree.specs.Tree.{op, RegionsOf, no_regions, region, RegionOf, empty, block, OpsOf, no_ops, next, head}
 use Rattle.ir_tree.specs.Ids.{HasDistinctIds, first_of, find, regions_find, region_find, ops_find}
 use Rattle.ir_tree.specs.Meaning.{Operation}
 use Rattle.ir_tree.specs.Sites.{operands_visible}
-use Rattle.constants_base.specs.Heads.{heads, regions_heads, region_heads, ops_heads}
+use Rattle.ir_event.specs.Heads.{heads, regions_heads, region_heads, ops_heads}
 use Rattle.constants_base.specs.Facts.{Header, Facts, look, folded_if, AreLocal}
-use Rattle.constants_base.specs.Walk.{nothing, walk, facts_of, look_among, AreOrdered}
+use Rattle.constants_base.specs.Walk.{facts_of, look_among}
 use Rattle.constants_base.proofs.Walks.{walk_is_local, local_is_walk, value_same}
 use Rattle.constants_base.proofs.Ordering.{ordered_tree}
 

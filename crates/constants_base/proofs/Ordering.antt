@@ -1,21 +1,21 @@
 -- The operations of a tree that see their operands are in order.
 use Rattle.std.proofs.Common.{◌≡◌, ℕ, ◌+◌, List, [], ◌∷◌, ◌++◌, length, Bool, true, false, true≢false, ◌||◌, ◌&&◌, ◌⊎◌, inl, inr, refl, sym, ap, ◌∙◌, subst, cond, eqb, map}
 use Rattle.std.specs.Prelude.{nat_lt, IsTrue}
-use Rattle.std.specs.List.{list_any, list_all, IsDistinct, AllByRecursion}
-use Rattle.std.proofs.lemmas.Bool.{eqb-true, eq-eqb, cases_eq}
+use Rattle.std.specs.List.{list_all, IsDistinct, AllByRecursion}
+use Rattle.std.proofs.lemmas.Bool.{eqb-true, eq-eqb}
 use Rattle.std.proofs.lemmas.Map.Keys.{IsDistinct-head, IsDistinct-tail}
 use Rattle.ir_types.specs.Words.{is_isolated}
 use Rattle.ir_types.specs.Terms.{TypeTerm, AttrTerm}
 use Rattle.ir_tree.specs.declared.value.Value.{Value}
 use Rattle.ir_tree.specs.declared.value.Value.TheVariants.{Result, Arg}
-use Rattle.ir_tree.specs.Tree.{OpOf, op, RegionsOf, no_regions, region, RegionOf, empty, block, OpsOf, no_ops, next, head}
-use Rattle.ir_tree.specs.Ids.{ids, regions_ids, region_ids, ops_ids, HasDistinctIds}
+use Rattle.ir_tree.specs.Tree.{op, RegionsOf, no_regions, region, RegionOf, empty, block, OpsOf, no_ops, next, head}
+use Rattle.ir_tree.specs.Ids.{HasDistinctIds}
 use Rattle.ir_tree.specs.Meaning.{Operation}
-use Rattle.std.proofs.lemmas.List.{map-append}
-use Rattle.ir_tree.specs.Sites.{Frame, results, arguments, shows, in_scope, results_of, inside, Site, sites, regions_sites, region_sites, ops_sites, sees_operands, operands_visible}
+use Rattle.ir_tree.specs.Sites.{Frame, results, arguments, shows, in_scope, results_of, inside, sites, regions_sites, region_sites, ops_sites, sees_operands, operands_visible}
 use Rattle.ir_tree_laws.specs.Members.{In}
 use Rattle.ir_tree_laws.proofs.Listed.{both}
-use Rattle.constants_base.specs.Heads.{heads, regions_heads, region_heads, ops_heads}
+use Rattle.ir_event.specs.Heads.{heads, regions_heads, region_heads, ops_heads}
+use Rattle.ir_event.proofs.Flat.{heads_ids}
 use Rattle.constants_base.specs.Facts.{Header}
 use Rattle.constants_base.specs.Walk.{AllMet, AreOrdered, met_after}
 use Rattle.constants_base.proofs.Walks.{met_stays}
@@ -128,22 +128,6 @@ fresh_if met (n ∷ hs) apart d = (
   λ h. apart n.id h (inl refl),
   fresh_if (n.id ∷ met) hs (λ x h g. elim h [ inl e ↦ apart_in n.id x _ (IsDistinct-head eqb n.id _ d) g (sym e) | inr k ↦ apart x k (inr g) ]) (IsDistinct-tail eqb n.id _ d),
 )
-
-mutual
-  pub heads_ids : (t : Operation) → map (λ (h : Header). h.id) (heads t) ≡ ids t
-  heads_ids (op h rs) = ap (λ l. h.id ∷ l) (regions_heads_ids rs)
-
-  regions_heads_ids : (rs : RegionsOf (List ℕ) TypeTerm AttrTerm) → map (λ (h : Header). h.id) (regions_heads rs) ≡ regions_ids rs
-  regions_heads_ids no_regions = refl
-  regions_heads_ids (region r rs) = map-append (λ (h : Header). h.id) (region_heads r) (regions_heads rs) ∙ λ i. region_heads_ids r i ++ regions_heads_ids rs i
-
-  region_heads_ids : (r : RegionOf (List ℕ) TypeTerm AttrTerm) → map (λ (h : Header). h.id) (region_heads r) ≡ region_ids r
-  region_heads_ids empty = refl
-  region_heads_ids (block args os) = ops_heads_ids os
-
-  ops_heads_ids : (os : OpsOf (List ℕ) TypeTerm AttrTerm) → map (λ (h : Header). h.id) (ops_heads os) ≡ ops_ids os
-  ops_heads_ids no_ops = refl
-  ops_heads_ids (next o os) = map-append (λ (h : Header). h.id) (heads o) (ops_heads os) ∙ λ i. heads_ids o i ++ ops_heads_ids os i
 
 pub ordered_tree : (t : Operation) → HasDistinctIds t → IsTrue (operands_visible is_isolated t) → AreOrdered [] (heads t)
 ordered_tree t d sees = ordered_op t [] [] (λ y k e. absurd (true≢false (sym e))) sees (fresh_if [] (heads t) (λ x h g. h) (subst (IsDistinct eqb) (sym (heads_ids t)) d))

@@ -7,10 +7,10 @@ use Rattle.ir_tree.specs.declared.value.Value.TheVariants.{Result, Arg}
 use Rattle.ir_tree_laws.specs.Members.{In}
 use Rattle.dialects_int.specs.Folds.{Known}
 use Rattle.constants_base.specs.Facts.{Header, Facts}
-use Rattle.constants_base.specs.Walk.{nothing, walk, look_among, AreOrdered, met_after}
+use Rattle.constants_base.specs.Walk.{look_among, AreOrdered}
 use Rattle.constants_base.specs.Reached.{is_result_of, one_if, results_among, uses_among, is_result_in, with_op, reached_along, reached, most_over}
-use Rattle.constants_base.specs.Trails.{OnceEach, total, Uses, IsThere, IsKnown, IsTrail}
-use Rattle.constants_base.proofs.Knowing.{listed, among_in, operand_met}
+use Rattle.constants_base.specs.Trails.{total, Uses, IsThere, IsKnown, IsTrail}
+use Rattle.constants_base.proofs.Knowing.{among_in, operand_met}
 use Rattle.constants_base.proofs.Looks.{looks_within}
 
 with_same : (x : ℕ) (b : Bool) (r : ℕ → Bool) → with_op x b r x ≡ b

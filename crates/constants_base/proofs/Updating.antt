@@ -1,14 +1,14 @@
 -- What an update does, from its two phases; and what it means for a listener that follows an event.
-use Rattle.std.proofs.Common.{◌≡◌, ◌≤◌, ◌+◌, ℕ, Bool, true, false, List, [], ◌∷◌, Option, Some, None, is_some, ◌⊎◌, inl, inr, refl, sym, ap, ◌∙◌, subst, arith, length}
+use Rattle.std.proofs.Common.{◌≡◌, ◌≤◌, ◌+◌, ℕ, true, false, List, [], ◌∷◌, Option, Some, None, is_some, ◌⊎◌, refl, sym, ap, ◌∙◌, subst, arith, length}
 use Rattle.ir_tree.specs.Meaning.{Operation}
 use Rattle.ir_tree_laws.specs.Members.{In}
 use Rattle.dialects_int.specs.Folds.{Known}
-use Rattle.constants_base.specs.Heads.{heads}
-use Rattle.constants_base.specs.Facts.{Header, Facts, look, AreLocal}
-use Rattle.constants_base.specs.Walk.{nothing, walk, look_among, facts_of, AreOrdered}
+use Rattle.ir_event.specs.Heads.{heads}
+use Rattle.constants_base.specs.Facts.{Header, Facts, look}
+use Rattle.constants_base.specs.Walk.{nothing, look_among, facts_of, AreOrdered}
 use Rattle.constants_base.specs.Reached.{uses_among, reached, most_over}
-use Rattle.constants_base.specs.Trails.{total, OnceEach, IsThere, IsKnown, Uses, Follows, IsTrail}
-use Rattle.constants_base.specs.Phases.{Forgetting, LearntFrom, SameBut}
+use Rattle.constants_base.specs.Trails.{total, IsThere, Follows, IsTrail}
+use Rattle.constants_base.specs.Phases.{Forgetting, LearntFrom}
 use Rattle.constants_base.proofs.Looked.{look_heads}
 use Rattle.constants_base.proofs.Knowing.{follows_walk}
 use Rattle.constants_base.proofs.Reaching.{looks_bound}

@@ -4,9 +4,8 @@ use Rattle.std.proofs.lemmas.Bool.{eq-eqb, ne_eqb, cases_eq}
 use Rattle.ir_tree.specs.declared.value.Value.{Value}
 use Rattle.ir_tree.specs.declared.value.Value.TheVariants.{Result, Arg}
 use Rattle.ir_tree_laws.specs.Members.{In}
-use Rattle.dialects_int.specs.Folds.{Known, KnowsMore, fold_of}
-use Rattle.dialects_int.proofs.KnowingMore.{knowing_more}
-use Rattle.constants_base.specs.Facts.{Header, Facts, known, knowns, folded, folded_if, value, AreLocal}
+use Rattle.dialects_int.specs.Folds.{Known, fold_of}
+use Rattle.constants_base.specs.Facts.{Header, Facts, known, knowns, folded, folded_if, AreLocal}
 use Rattle.constants_base.specs.Walk.{nothing, with_fact, walk, look_among, AllMet, AreOrdered, met_after}
 
 pub put_same : (x : ℕ) (v : Option Known) (t : Facts) → with_fact x v t x ≡ v

@@ -1,4 +1,3 @@
-pub mod Heads
 pub mod Facts
 pub mod Walk
 pub mod Rows

@@ -4,7 +4,7 @@ use Rattle.ir_tree_laws.specs.Members.{In}
 use Rattle.dialects_int.specs.Folds.{Known}
 use Rattle.constants_base.specs.Facts.{Header, Facts, value, AreLocal}
 use Rattle.constants_base.specs.Walk.{with_fact}
-use Rattle.constants_base.specs.Trails.{OnceEach, total, Uses, IsThere, IsKnown, Follows, IsTrail}
+use Rattle.constants_base.specs.Trails.{OnceEach, total, Uses, IsKnown, Follows, IsTrail}
 
 -- of the operations that P tells, some of which something was known were forgotten, and added to the trail; where it is
 -- done, nothing is known of any

@@ -6,7 +6,7 @@ use Rattle.ir_tree.specs.declared.value.Value.TheVariants.{Result, Arg}
 use Rattle.ir_event.specs.declared.event.Event.{Event}
 use Rattle.ir_event.specs.Modules.{Module}
 use Rattle.ir_event.specs.Bounds.{op_of}
-use Rattle.constants_base.specs.Heads.{heads}
+use Rattle.ir_event.specs.Heads.{heads}
 use Rattle.constants_base.specs.Facts.{Header, Facts}
 use Rattle.constants_base.specs.Walk.{facts_of}
 

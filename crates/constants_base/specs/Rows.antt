@@ -1,22 +1,13 @@
 -- The report: each known value, in order of the ids.
-use Rattle.std.specs.Prelude.{ℕ, List, [], ◌∷◌, map, nat_lt, if◌then◌else◌, Option, Some, None}
+use Rattle.std.specs.Prelude.{ℕ, List, [], ◌∷◌, map, Option, Some, None}
 use Rattle.ir_tree.specs.declared.value.Value.TheVariants.{Result}
 use Rattle.ir_tree.specs.Ids.{ids}
 use Rattle.ir_tree.specs.Meaning.{Operation}
 use Rattle.ir_tree_laws.specs.Stands.{gather}
-use Rattle.ir_event.specs.Rows.{RowTerm, Val, Bits}
+use Rattle.ir_event.specs.Rows.{RowTerm, Val, Bits, by_id}
 use Rattle.dialects_int.specs.Folds.{Known}
 use Rattle.constants_base.specs.Facts.{Facts}
 use Rattle.constants_base.specs.Walk.{facts_of}
-
--- pairs in order of their first parts
-abbrev pub put_by_id : {V : Type 0} → ℕ × V → List (ℕ × V) → List (ℕ × V)
-put_by_id p [] = p ∷ []
-put_by_id p (q ∷ qs) = if nat_lt q.0 p.0 then q ∷ put_by_id p qs else p ∷ q ∷ qs
-
-abbrev pub by_id : {V : Type 0} → List (ℕ × V) → List (ℕ × V)
-by_id [] = []
-by_id (p ∷ ps) = put_by_id p (by_id ps)
 
 -- an operation with what is known of its result, if that is known
 abbrev pub pair_if : ℕ → Option Known → List (ℕ × Known)

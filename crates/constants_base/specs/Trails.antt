@@ -1,6 +1,5 @@
 -- How operations use one another, and trails of operations.
 use Rattle.std.specs.Prelude.{◌≡◌, ℕ, ◌+◌, Bool, true, List, [], ◌∷◌, Option, Some}
-use Rattle.ir_tree.specs.declared.value.Value.{Value}
 use Rattle.ir_tree.specs.declared.value.Value.TheVariants.{Result}
 use Rattle.ir_tree_laws.specs.Members.{In}
 use Rattle.dialects_int.specs.Folds.{Known}

@@ -5,7 +5,7 @@ use Rattle.ir_tree.specs.declared.value.Value.TheVariants.{Result, Arg}
 use Rattle.ir_tree.specs.Meaning.{Operation}
 use Rattle.ir_tree_laws.specs.Members.{In}
 use Rattle.dialects_int.specs.Folds.{Known}
-use Rattle.constants_base.specs.Heads.{heads}
+use Rattle.ir_event.specs.Heads.{heads}
 use Rattle.constants_base.specs.Facts.{Header, Facts, folded}
 
 abbrev pub nothing : Facts

@@ -16,10 +16,11 @@ use Rattle.ir_store.specs.Nodes.{Node, node_of}
 use Rattle.ir_store.specs.Stored.{Stored}
 use Rattle.op_registry.specs.declared.own.Own.{Own}
 use Rattle.effects.specs.Spots.{Spot, spots}
-use Rattle.effects.specs.Heads.{heads}
+use Rattle.ir_event.specs.Heads.{heads}
 use Rattle.effects.specs.Found.{head_at, parent_at, with_head, heads_by, with_spot, spots_by}
 use Rattle.effects.proofs.Cuts.{around, spot_in, stand_spots}
-use Rattle.effects.proofs.Headed.{head_in, stand_heads, heads_ids}
+use Rattle.ir_event.proofs.Flat.{heads_ids}
+use Rattle.effects.proofs.Headed.{head_in, stand_heads}
 use Rattle.effects.proofs.Spotted.{spots_ids}
 
 -- ---- one in front of others

@@ -29,11 +29,12 @@ use Rattle.ir_event.specs.Bounds.{op_of}
 use Rattle.effects.proofs.Changes.{on_true_is}
 use Rattle.effects.specs.Spots.{one_if}
 use Rattle.effects.specs.Dead.{is_kept}
-use Rattle.effects.specs.Heads.{heads, regions_heads, all_operands}
+use Rattle.ir_event.specs.Heads.{heads, regions_heads, all_operands}
 use Rattle.effects.specs.Counts.{Counts, results_among, Counted, Raised, AllEntered, EnteredWith, LeftWith, Exchanged, CountsFollowed, kept_by}
-use Rattle.effects.proofs.Sorted.{look}
+use Rattle.ir_event.proofs.ById.{look}
 use Rattle.effects.proofs.Shown.{look_each}
-use Rattle.effects.proofs.Headed.{cut_heads, heads_ids, heads_tagged, each_heads, mapped_heads, unused_among, head_in, stand_heads}
+use Rattle.ir_event.proofs.Flat.{heads_ids}
+use Rattle.effects.proofs.Headed.{cut_heads, heads_tagged, each_heads, mapped_heads, unused_among, head_in, stand_heads}
 use Rattle.effects.proofs.Tallies.{tallied, Different, put_tally, take_tally, moved_tally, same_tally, set_tally, begun_tally, mapped_tally}
 
 module _ {N T A : Type 0} where

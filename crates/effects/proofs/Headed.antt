@@ -8,7 +8,7 @@ use Rattle.ir_tree.specs.declared.value.Value.{Value}
 use Rattle.ir_tree.specs.declared.value.Value.TheVariants.{Result, Arg}
 use Rattle.ir_tree.specs.declared.place.Place.{Place}
 use Rattle.ir_tree.specs.Tree.{HeadOf, OpOf, op, RegionsOf, no_regions, region, RegionOf, empty, block, OpsOf, no_ops, next, head}
-use Rattle.ir_tree.specs.Ids.{ids, find, HasDistinctIds}
+use Rattle.ir_tree.specs.Ids.{find, HasDistinctIds}
 use Rattle.ir_tree.specs.Uses.{same_value, operand_uses, uses_of}
 use Rattle.ir_tree.specs.Frames.{owner_of}
 use Rattle.ir_tree.specs.Maps.{map_head, map_tree, map_regions, map_region, map_ops}
@@ -17,14 +17,14 @@ use Rattle.ir_tree.specs.Places.{place_of, without}
 use Rattle.ir_tree_laws.specs.Members.{In}
 use Rattle.ir_tree_laws.specs.Stands.{StepOf, StandOf, stand_id, stands, regions_stands, region_stands, ops_stands, gather, place_in, left_stand, dropping}
 use Rattle.ir_tree_laws.proofs.Listed.{gather-append}
-use Rattle.ir_tree_laws.proofs.Readings.{step, stands_ids, stands_uses, stands_every}
+use Rattle.ir_tree_laws.proofs.Readings.{step, stands_uses, stands_every}
 use Rattle.ir_tree_laws.proofs.Members.{stand, stand_found}
 use Rattle.ir_tree_laws.proofs.Around.{member_of_place}
 use Rattle.ir_tree_laws.proofs.Without.{same_head}
 use Rattle.ir_tree_laws.proofs.Stretches.{part}
 use Rattle.effects.specs.Spots.{one_if}
 use Rattle.effects.specs.Dead.{is_result_of, is_unused}
-use Rattle.effects.specs.Heads.{heads, regions_heads, region_heads, ops_heads, all_operands}
+use Rattle.ir_event.specs.Heads.{heads, regions_heads, region_heads, ops_heads, all_operands}
 use Rattle.effects.specs.Counts.{results_among}
 use Rattle.effects.specs.Reports.{of_each}
 use Rattle.effects.proofs.Shown.{says}
@@ -92,14 +92,6 @@ module _ {N T A : Type 0} where
                 ∙ ap (λ l. map head_in w.front ++ l) (map-append head_in (stands (a ∷ q) o) w.back ∙ ap (λ l. l ++ map head_in w.back) (stand_heads (a ∷ q) o));
             rest = sym (stand_heads [] (without (head o).id t)) ∙ ap (map head_in) w.left ∙ left_heads (head o).id (w.front ++ w.back) ∙ map-append head_in w.front w.back;
           }
-
-  -- ids
-  ids_in : (ss : List (StandOf N T A)) → map (λ (h : HeadOf N T A). h.id) (map head_in ss) ≡ map (λ (s : StandOf N T A). stand_id s) ss
-  ids_in [] = refl
-  ids_in (s ∷ ss) = ap (λ l. stand_id s ∷ l) (ids_in ss)
-
-  pub heads_ids : (t : OpOf N T A) → map (λ (h : HeadOf N T A). h.id) (heads t) ≡ ids t
-  heads_ids t = ap (map (λ (h : HeadOf N T A). h.id)) (sym (stand_heads [] t)) ∙ ids_in (stands [] t) ∙ stands_ids [] t
 
   -- what is said of each operation by its head
   tagged_in : {V : Type 0} (k : HeadOf N T A → V) (ss : List (StandOf N T A)) → tagged k (map head_in ss) ≡ map (says (λ (o : OpOf N T A). k (head o))) ss

@@ -26,11 +26,12 @@ use Rattle.effects.specs.Dead.{is_unused, is_kept, may_go, is_dead}
 use Rattle.effects.specs.Spots.{spots, one_if}
 use Rattle.effects.specs.Walks.{row_at}
 use Rattle.effects.specs.Following.{Whole}
-use Rattle.effects.specs.Heads.{heads, all_operands}
+use Rattle.ir_event.specs.Heads.{heads, all_operands}
 use Rattle.effects.specs.Counts.{Counts, results_among, Counted, is_zero}
-use Rattle.effects.specs.Reports.{of_each, by_id, those, cell_of, dead_of, dead_rows}
+use Rattle.ir_event.specs.Rows.{by_id}
+use Rattle.effects.specs.Reports.{of_each, those, cell_of, dead_of, dead_rows}
 use Rattle.effects.specs.Listed.{judged}
-use Rattle.effects.proofs.Sorted.{look, Above, Rising, rising_same}
+use Rattle.ir_event.proofs.ById.{look, Above, Rising, rising_same}
 use Rattle.effects.proofs.Shown.{each_look, each_rising, shown_found}
 use Rattle.effects.proofs.Headed.{unused_is}
 use Rattle.effects.proofs.Reporting.{less_than, same_test}

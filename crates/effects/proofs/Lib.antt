@@ -7,7 +7,6 @@ pub mod Events
 pub mod Changes
 pub mod Begins
 pub mod Agreed
-pub mod Sorted
 pub mod Shown
 pub mod Reporting
 pub mod Headed

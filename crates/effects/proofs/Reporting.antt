@@ -27,9 +27,10 @@ use Rattle.effects.specs.Spots.{spots}
 use Rattle.effects.specs.Walks.{row_at}
 use Rattle.op_registry.specs.Registry.{own_of}
 use Rattle.effects.specs.Following.{Whole}
-use Rattle.effects.specs.Reports.{of_each, by_id, having, tag_if, cells_of, effects_of, effects_rows}
+use Rattle.ir_event.specs.Rows.{by_id}
+use Rattle.effects.specs.Reports.{of_each, having, tag_if, cells_of, effects_of, effects_rows}
 use Rattle.effects.specs.Listed.{said}
-use Rattle.effects.proofs.Sorted.{look, Above, Rising, rising_same}
+use Rattle.ir_event.proofs.ById.{look, Above, Rising, rising_same}
 use Rattle.effects.proofs.Shown.{each_look, each_rising, shown_found}
 
 -- ---- the entries of a map

@@ -18,11 +18,12 @@ use Rattle.ir_tree_laws.specs.Members.{In}
 use Rattle.effects.specs.Spots.{Spot, spots, Lacks, Rows, has_at, count_at, row_has, weight}
 use Rattle.effects.specs.Following.{Whole}
 use Rattle.effects.specs.Effects.{effects}
-use Rattle.effects.specs.Reports.{of_each, by_id}
+use Rattle.ir_event.specs.Rows.{by_id}
+use Rattle.effects.specs.Reports.{of_each}
 use Rattle.effects.proofs.Tables.{spot_of}
 use Rattle.effects.proofs.Spotted.{spot_ids, spots_ids}
 use Rattle.effects.proofs.Laws.{listed, regions_listed, region_listed, ops_listed, law}
-use Rattle.effects.proofs.Sorted.{look, Rising, NotIn, AllApart, by_id_rising, by_id_look}
+use Rattle.ir_event.proofs.ById.{look, Rising, NotIn, AllApart, by_id_rising, by_id_look}
 
 abbrev Pair : Type 0
 Pair = ℕ × EffectKinds

@@ -12,9 +12,9 @@ use Rattle.ir_tree.specs.Maps.{map_head}
 use Rattle.ir_tree_laws.specs.Members.{In}
 use Rattle.effects.specs.Spots.{one_if}
 use Rattle.effects.specs.Dead.{is_result_of}
-use Rattle.effects.specs.Heads.{all_operands}
+use Rattle.ir_event.specs.Heads.{all_operands}
 use Rattle.effects.specs.Counts.{Counts, results_among, with_count, Raised, AllEntered, EnteredWith, LeftWith, Exchanged}
-use Rattle.effects.proofs.Sorted.{look, NotIn, AllApart}
+use Rattle.ir_event.proofs.ById.{look, NotIn, AllApart}
 use Rattle.effects.proofs.Shown.{all_apart}
 use Rattle.effects.proofs.Headed.{tagged, among_joined, operands_joined}
 

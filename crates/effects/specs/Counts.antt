@@ -14,7 +14,7 @@ use Rattle.ir_event.specs.declared.event.Event.TheVariants.{Put, Take, SetOperan
 use Rattle.ir_event.specs.Modules.{Node}
 use Rattle.effects.specs.Spots.{one_if}
 use Rattle.effects.specs.Dead.{is_result_of, is_kept}
-use Rattle.effects.specs.Heads.{heads, all_operands}
+use Rattle.ir_event.specs.Heads.{heads, all_operands}
 
 -- a table of counts: that of an operation, if it has one
 abbrev pub Counts : Type 0

@@ -4,7 +4,6 @@ pub mod Reports
 pub mod Spots
 pub mod Walks
 pub mod Following
-pub mod Heads
 pub mod Found
 pub mod Counts
 pub mod Listed

@@ -1,9 +1,11 @@
 -- The reports: what is true of each operation of a tree, in order of the ids.
-use Rattle.std.specs.Prelude.{ℕ, List, [], ◌∷◌, ◌++◌, map, nat_lt, Bool, if◌then◌else◌}
+use Rattle.std.specs.Prelude.{ℕ, List, [], ◌∷◌, ◌++◌, map, Bool, if◌then◌else◌}
 use Rattle.ir_tree.specs.Tree.{OpOf}
 use Rattle.ir_tree.specs.Meaning.{Operation}
 use Rattle.ir_tree_laws.specs.Stands.{stand_id, stands}
-use Rattle.ir_event.specs.Rows.{RowTerm, Op, Tag}
+use Rattle.ir_event.specs.Rows.{RowTerm, Op, Tag, by_id}
+use Rattle.ir_event.specs.Tags.{tag_number}
+use Rattle.ir_event.specs.declared.tag.Tag.TheVariants as word
 use Rattle.op_registry.specs.Registry.{own_of}
 use Rattle.effects.specs.declared.kinds.EffectKinds.{EffectKinds}
 use Rattle.effects.specs.Effects.{effects, is_none}
@@ -12,15 +14,6 @@ use Rattle.effects.specs.Dead.{is_dead}
 -- each operation of a tree, by its id, with what a function says of it
 abbrev pub of_each : {N T A V : Type 0} → (OpOf N T A → V) → OpOf N T A → List (ℕ × V)
 of_each f t = map (λ s. (stand_id s, f s.here)) (stands [] t)
-
--- pairs in order of their first parts
-abbrev pub put_by_id : {V : Type 0} → ℕ × V → List (ℕ × V) → List (ℕ × V)
-put_by_id p [] = p ∷ []
-put_by_id p (q ∷ qs) = if nat_lt q.0 p.0 then q ∷ put_by_id p qs else p ∷ q ∷ qs
-
-abbrev pub by_id : {V : Type 0} → List (ℕ × V) → List (ℕ × V)
-by_id [] = []
-by_id (p ∷ ps) = put_by_id p (by_id ps)
 
 -- those that have an effect
 abbrev pub having : List (ℕ × EffectKinds) → List (ℕ × EffectKinds)
@@ -46,7 +39,9 @@ tag_if tag b n = if b then tag n ∷ [] else []
 
 -- the row of an operation with effects: the operation, and the words unknown, allocate, free, read, write
 abbrev pub cells_of : {C : Type 0} → (ℕ → C) → (ℕ → C) → ℕ × EffectKinds → List C
-cells_of op tag p = ((((op p.0 ∷ [] ++ tag_if tag p.1.unknown 5) ++ tag_if tag p.1.allocate 6) ++ tag_if tag p.1.free 7) ++ tag_if tag p.1.read 8) ++ tag_if tag p.1.write 9
+cells_of op tag p =
+    ((((op p.0 ∷ [] ++ tag_if tag p.1.unknown (tag_number word.Unknown)) ++ tag_if tag p.1.allocate (tag_number word.Allocate)) ++ tag_if tag p.1.free (tag_number word.Free)) ++ tag_if tag p.1.read (tag_number word.Read))
+    ++ tag_if tag p.1.write (tag_number word.Write)
 
 -- the row of an operation alone
 abbrev pub cell_of : {C : Type 0} → (ℕ → C) → ℕ → List C

@@ -67,7 +67,7 @@ impl Analysis for Dead {
     ghost meaning = { dead_listener };
 
     fn kind(&self) -> Kind {
-        Kind::new(5)
+        Kind::DEAD
     }
 
     fn begin(&mut self, world: &World) -> Result<(), Memory> {
@@ -106,11 +106,11 @@ impl Analysis for Dead {
         self.stale
     }
 
-    fn report(&self, alloc: Global) -> Result<Vec<report::Row>, ReportFault> {
+    fn report(&self) -> Result<Vec<report::Row>, ReportFault> {
         if self.stale {
             return Err(ReportFault::Stale);
         }
-        match dead_lines(alloc, self.effects.rows(), &self.counts) {
+        match dead_lines(self.alloc, self.effects.rows(), &self.counts) {
             Ok(rows) => Ok(rows),
             Err(_) => Err(ReportFault::Memory),
         }

@@ -57,7 +57,7 @@ impl Analysis for Effects {
     ghost meaning = { effects_listener };
 
     fn kind(&self) -> Kind {
-        Kind::new(4)
+        Kind::EFFECTS
     }
 
     fn begin(&mut self, world: &World) -> Result<(), Memory> {
@@ -95,11 +95,11 @@ impl Analysis for Effects {
         self.stale
     }
 
-    fn report(&self, alloc: Global) -> Result<Vec<report::Row>, ReportFault> {
+    fn report(&self) -> Result<Vec<report::Row>, ReportFault> {
         if self.stale {
             return Err(ReportFault::Stale);
         }
-        match lines(alloc, &self.rows) {
+        match lines(self.alloc, &self.rows) {
             Ok(rows) => Ok(rows),
             Err(_) => Err(ReportFault::Memory),
         }

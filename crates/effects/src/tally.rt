@@ -3,7 +3,7 @@ ghost use Rattle.std.specs.Prelude.{◌≡◌, []};
 ghost use Rattle.std.specs.Bool.{OnTrue};
 ghost use Rattle.ir_types.specs.Terms.{name_term};
 ghost use Rattle.effects.specs.Dead.{is_kept};
-ghost use Rattle.effects.specs.Heads.{all_operands};
+ghost use Rattle.ir_event.specs.Heads.{all_operands};
 ghost use Rattle.effects.specs.Found.{head_at, heads_by, with_head};
 ghost use Rattle.effects.specs.Counts.{counts_in, kept_by, Raised, AllEntered};
 

@@ -1,7 +1,7 @@
 -- The rows of diagnostics are those of the pairs of an operation and a rule that it breaks, rising.
-use Rattle.std.proofs.Common.{◌≡◌, refl, sym, ap, ◌∙◌, subst, ℕ, zero, suc, ◌+◌, ◌<◌, Bool, true, false, cond, eqb-true, eq-eqb, List, [], ◌∷◌, ◌++◌, map, Option, Some, None, inl, inr, ◌⊎◌, arith}
+use Rattle.std.proofs.Common.{◌≡◌, refl, sym, ap, ◌∙◌, subst, ℕ, ◌+◌, ◌<◌, Bool, true, false, cond, eqb-true, eq-eqb, List, [], ◌∷◌, ◌++◌, map, Option, Some, None, inl, inr, arith}
 use lib.Dec.{T}
-use Rattle.std.specs.Prelude.{⊤, option_map}
+use Rattle.std.specs.Prelude.{⊤}
 use Rattle.std.specs.declared.cmp.Ordering.{Ordering}
 use Rattle.std.specs.declared.cmp.Ordering.TheVariants.{Less, Equal, Greater}
 use Rattle.std.specs.Ordering.{ordering_then, nat_cmp, eq_by_cmp, is_lt}
@@ -18,8 +18,8 @@ use Rattle.listeners_surroundings.specs.Facts.{sorted_in, sorted_facts}
 use Rattle.listeners_surroundings.proofs.SortedFacts.{tied, left, right, unfound, found, is_in_order}
 use Rattle.op_registry.specs.Registry.{row_of}
 use Rattle.ir_verify.specs.Breaks.{told_in, numbers_from, broken}
-use Rattle.ir_verify.specs.Diagnostics.{broken_at, rule_rows, rows_of, diagnostics_of}
-use Rattle.ir_verify.specs.Pairs.{Breaks, ArePairs, pair_cmp, pair_row}
+use Rattle.ir_verify.specs.Diagnostics.{rule_rows, rows_of, diagnostics_of}
+use Rattle.ir_verify.specs.Pairs.{ArePairs, pair_cmp, pair_row}
 
 -- ---- pairs of operations with their rules
 abbrev with_rules : ℕ × List ℕ → List (ℕ × ℕ)

@@ -1,5 +1,5 @@
 -- An operation that isn't listed breaks no rule.
-use Rattle.std.proofs.Common.{◌≡◌, ap, Bool, true, false, Option, Some, None}
+use Rattle.std.proofs.Common.{◌≡◌, ap, false, Option, Some, None}
 use Rattle.std.specs.Prelude.{is_some}
 use Rattle.op_registry.specs.Rows.{Row}
 use Rattle.op_registry.specs.Registry.{row_of}

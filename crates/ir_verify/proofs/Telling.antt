@@ -1,5 +1,5 @@
 -- The rules in the set of an operation are those that it breaks, and the rows of a table of such sets are those of the tree.
-use Rattle.std.proofs.Common.{◌≡◌, refl, sym, ap, ◌∙◌, subst, ℕ, ◌≤◌, List, [], ◌∷◌, ◌++◌, length, map, cond, Bool, true, false, true≢false, eqb-true, inl, inr, not, Option, Some, None, arith}
+use Rattle.std.proofs.Common.{◌≡◌, refl, sym, ap, ◌∙◌, subst, ℕ, ◌≤◌, List, [], ◌∷◌, ◌++◌, length, map, cond, false, true≢false, eqb-true, inl, inr, not, Option, Some, None, arith}
 use Rattle.std.specs.Prelude.{option_map, ◌==◌}
 use Rattle.std.specs.List.{All, filter}
 use Rattle.std.specs.Ordering.{nat_cmp}

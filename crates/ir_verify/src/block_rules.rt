@@ -3,11 +3,11 @@ ghost use Rattle.std.specs.Prelude.{◌≡◌, ◌==◌, Some, map, length, not,
 ghost use Rattle.std.specs.Option.{option_map};
 ghost use Rattle.ir_types.specs.Terms.{name_term};
 ghost use Rattle.ir_types.specs.WordNames.{word_bytes};
-ghost use Rattle.op_registry.specs.Registry.{region_row};
+ghost use Rattle.op_registry.specs.Registry.{region_row, row_from};
 ghost use Rattle.op_registry.specs.Properties.{string_of as string_in};
 ghost use Rattle.ir_event.specs.Modules.{NodeIsOf};
 ghost use Rattle.listeners_surroundings.specs.Gathered.{AroundIsOf};
-ghost use Rattle.ir_verify_base.specs.Numbers.{node_in, around_in, row_in};
+ghost use Rattle.ir_verify_base.specs.Numbers.{node_in, around_in};
 ghost use Rattle.ir_verify_base.specs.Fits as fits;
 ghost use Rattle.ir_verify.specs.BlockRules as rules;
 
@@ -15,10 +15,11 @@ use ir_store::node::Node;
 use ir_types::context::Context;
 use ir_types::ids::NameId;
 use ir_types::word::Word;
-use ir_verify_base::node::{has_block, is_named, property, string_of};
+use ir_verify_base::node::{has_block, is_named, property};
+use listeners_surroundings::around::Around;
+use listeners_surroundings::properties::string_of;
 use op_registry::definition::{OpDef, RegionRule, Trait};
 use op_registry::registry::Registry;
-use listeners_surroundings::around::Around;
 
 /// The name of the last operation of the block of a region.
 fn last(ctx: &Context, around: &Around<'_>, region: u32) -> Option<NameId>
@@ -37,9 +38,10 @@ fn last_of(_ctx: &Context, lasts: &[Option<NameId>], region: u32) -> Option<Name
 }
 
 /// Rule 6: a region that must have a block has none.
+#[tactic(auto, unfolding(op_registry::specs::Registry::row_from))]
 pub(crate) fn breaks_6(ctx: &Context, def: &OpDef, around: &Around<'_>) -> bool
     requires { AroundIsOf ctx.now around.now }
-    ensures { result ≡ rules.breaks_6 (row_in def.now) (around_in ctx.now around.now) }
+    ensures { result ≡ rules.breaks_6 (row_from def.now) (around_in ctx.now around.now) }
 {
     any_without(ctx, def.regions, &around.node)
 }

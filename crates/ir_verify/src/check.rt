@@ -10,8 +10,8 @@ use ir_event::view::View;
 use ir_event::world::World;
 use ir_types::ids::OpId;
 use ir_types::refusal::Refusal;
-use std::alloc::Global;
 use listeners_surroundings::fact::fact_at;
+use std::alloc::Global;
 
 /// The numbers of the rules that an operation of a world's module breaks, rising.
 ///

@@ -8,15 +8,16 @@ use ir_event::event::Event;
 use ir_event::row::{Kind, Memory, ReportFault, Row};
 use ir_event::view::View;
 use ir_event::world::World;
-use std::alloc::Global;
 use listeners_surroundings::kept::Kept;
+use std::alloc::Global;
 
 /// The analysis `diagnostics`: which operations break which rules.
 ///
-/// It keeps of each operation that breaks rules which they are. After an event it looks again at the operations near it,
-/// which alone can break other rules than before.
+/// It keeps of each operation that breaks rules which they are. After an event it looks again at the operations near
+/// it, which alone can break other rules than before.
 #[derive(Drop)]
 pub struct Diagnostics {
+    alloc: Global,
     kept: Kept<RuleSet>,
 }
 
@@ -28,6 +29,7 @@ impl Diagnostics {
         ensures { (diagnostics_listener result).stale ≡ true }
     {
         Diagnostics {
+            alloc,
             kept: Kept::new(alloc),
         }
     }
@@ -39,7 +41,7 @@ impl Analysis for Diagnostics {
     ghost meaning = { diagnostics_listener };
 
     fn kind(&self) -> Kind {
-        Kind::new(3)
+        Kind::DIAGNOSTICS
     }
 
     fn begin(&mut self, world: &World) -> Result<(), Memory> {
@@ -54,11 +56,11 @@ impl Analysis for Diagnostics {
         self.kept.stale()
     }
 
-    fn report(&self, alloc: Global) -> Result<Vec<Row>, ReportFault> {
+    fn report(&self) -> Result<Vec<Row>, ReportFault> {
         if self.kept.stale() {
             return Err(ReportFault::Stale);
         }
-        match rows(alloc, self.kept.facts()) {
+        match rows(self.alloc, self.kept.facts()) {
             Ok(rows) => Ok(rows),
             Err(_) => Err(ReportFault::Memory),
         }

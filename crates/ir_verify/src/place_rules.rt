@@ -6,11 +6,11 @@ ghost use Rattle.ir_types.specs.Things.{IsType};
 ghost use Rattle.ir_types.specs.Terms.{name_term, type_term};
 ghost use Rattle.ir_types.specs.WordNames.{word_bytes};
 ghost use Rattle.op_registry.specs.declared.definition.Trait.TheVariants.{Terminator};
-ghost use Rattle.op_registry.specs.Registry.{has_trait, row_of};
+ghost use Rattle.op_registry.specs.Registry.{has_trait, row_from, row_of};
 ghost use Rattle.listeners_surroundings.specs.declared.around.Outer.{Outer as Gathered};
 ghost use Rattle.ir_event.specs.Modules.{NodeIsOf};
 ghost use Rattle.listeners_surroundings.specs.Gathered.{AroundIsOf};
-ghost use Rattle.ir_verify_base.specs.Numbers.{typed, node_in, outer_in, around_in, row_in};
+ghost use Rattle.ir_verify_base.specs.Numbers.{typed, node_in, outer_in, around_in};
 ghost use Rattle.ir_verify_base.specs.Fits as fits;
 ghost use Rattle.ir_verify.specs.PlaceRules as rules;
 
@@ -21,9 +21,9 @@ use ir_types::word::Word;
 use ir_verify_base::node::{block, function_type, is_named};
 use ir_verify_base::shapes::is_well_shaped;
 use ir_verify_base::types::same_types;
+use listeners_surroundings::around::{Around, Outer};
 use op_registry::definition::{OpDef, Trait};
 use op_registry::registry::Registry;
-use listeners_surroundings::around::{Around, Outer};
 
 /// Rule 10: a terminator isn't the last operation of its block.
 pub(crate) fn breaks_10(ctx: &Context, registry: &Registry, around: &Around<'_>) -> bool
@@ -49,13 +49,14 @@ fn is_inside(_ctx: &Context, outer: &Option<Outer<'_>>) -> bool
 }
 
 /// Rule 11: a terminator stands in a listed operation that the row doesn't name.
+#[tactic(auto, unfolding(op_registry::specs::Registry::row_from))]
 pub(crate) fn breaks_11(
     ctx: &Context,
     registry: &Registry,
     def: &OpDef,
     around: &Around<'_>,
 ) -> bool
-    ensures { result ≡ rules.breaks_11 (row_in def.now) (around_in ctx.now around.now) }
+    ensures { result ≡ rules.breaks_11 (row_from def.now) (around_in ctx.now around.now) }
 {
     is_terminator(ctx, registry, &around.node) && stands_elsewhere(ctx, def.parents, &around.outer)
 }
@@ -129,7 +130,7 @@ pub(crate) fn definition<'a>(
     registry: &'a Registry,
     node: &Node<'_>,
 ) -> Option<&'a OpDef>
-    ensures { option_map (λ def. row_in def.now) result ≡ row_of (node_in ctx.now node.now).head.name }
+    ensures { option_map (λ def. row_from def.now) result ≡ row_of (node_in ctx.now node.now).head.name }
 {
     ctx.sound();
     registry.get(node.name())

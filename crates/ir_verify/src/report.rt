@@ -15,7 +15,8 @@ use std::collections::BTreeMap;
 fn row(alloc: Global, op: OpId, rule: u8) -> Result<Row, AllocError>
     ensures { IfOk result (λ row. row.cells.items ≡ rule_cells op rule) }
 {
-    // The checker has no proof of the loans of a function that makes cells, unless it has a value of each type in a cell.
+    // The checker has no proof of the loans of a function that makes cells, unless it has a value of each type in a
+    // cell.
     let _value = Value::Result(op, 0);
     let mut cells = Vec::with_capacity(alloc, 2)?;
     cells.push(Cell::Op(op))?;

@@ -4,7 +4,8 @@ ghost use Rattle.ir_types.specs.Terms.{name_term};
 ghost use Rattle.listeners_surroundings.specs.Gathered.{AroundIsOf};
 ghost use Rattle.ir_verify.specs.Breaks.{told_of, numbers_from};
 ghost use Rattle.ir_verify_base.specs.Fits.{Surroundings};
-ghost use Rattle.ir_verify_base.specs.Numbers.{around_in, node_in, row_in};
+ghost use Rattle.op_registry.specs.Registry.{row_from};
+ghost use Rattle.ir_verify_base.specs.Numbers.{around_in, node_in};
 ghost use Rattle.ir_verify.specs.Sets.{has_any, packed, rules_in, set_of, with_bit};
 ghost use Rattle.ir_verify_base.specs.Shapes as shapes;
 
@@ -19,12 +20,12 @@ use ir_verify_base::shapes::{breaks_1, breaks_3, breaks_5, breaks_12, breaks_13,
 use ir_verify_base::type_rules::{
     breaks_2, breaks_4, breaks_7, breaks_14, breaks_18, breaks_19, known_of,
 };
+use listeners_surroundings::around::Around;
+use listeners_surroundings::fact::Fact;
 use op_registry::definition::OpDef;
 use op_registry::laws::listed_has_row;
 use op_registry::registry::Registry;
 use std::alloc::{AllocError, Global};
-use listeners_surroundings::around::Around;
-use listeners_surroundings::fact::Fact;
 
 /// A set of rules.
 #[derive(Clone, Copy)]
@@ -123,7 +124,7 @@ pub fn told(ctx: &Context, registry: &Registry, around: &Around<'_>) -> RuleSet
 /// The rules that a listed operation breaks.
 fn told_by(ctx: &Context, registry: &Registry, def: &OpDef, around: &Around<'_>) -> RuleSet
     requires { AroundIsOf ctx.now around.now }
-    ensures { result.bits ≡ packed (told_of (row_in def.now) (around_in ctx.now around.now)) }
+    ensures { result.bits ≡ packed (told_of (row_from def.now) (around_in ctx.now around.now)) }
 {
     if is_well_shaped(ctx, def, &around.node) {
         told_shaped(ctx, registry, def, around)
@@ -135,8 +136,8 @@ fn told_by(ctx: &Context, registry: &Registry, def: &OpDef, around: &Around<'_>)
 /// Those of one whose own form isn't right: the rules that ask for a right one are silent.
 fn told_unshaped(ctx: &Context, registry: &Registry, def: &OpDef, around: &Around<'_>) -> RuleSet
     requires around { AroundIsOf ctx.now around.now }
-    requires shaped { shapes.is_well_shaped (row_in def.now) (node_in ctx.now around.now.node) ≡ false }
-    ensures { result.bits ≡ packed (told_of (row_in def.now) (around_in ctx.now around.now)) }
+    requires shaped { shapes.is_well_shaped (row_from def.now) (node_in ctx.now around.now.node) ≡ false }
+    ensures { result.bits ≡ packed (told_of (row_from def.now) (around_in ctx.now around.now)) }
 {
     let node = &around.node;
     let silent = false;
@@ -171,8 +172,8 @@ fn told_unshaped(ctx: &Context, registry: &Registry, def: &OpDef, around: &Aroun
 /// Those of one whose own form is right.
 fn told_shaped(ctx: &Context, registry: &Registry, def: &OpDef, around: &Around<'_>) -> RuleSet
     requires around { AroundIsOf ctx.now around.now }
-    requires shaped { shapes.is_well_shaped (row_in def.now) (node_in ctx.now around.now.node) ≡ true }
-    ensures { result.bits ≡ packed (told_of (row_in def.now) (around_in ctx.now around.now)) }
+    requires shaped { shapes.is_well_shaped (row_from def.now) (node_in ctx.now around.now.node) ≡ true }
+    ensures { result.bits ≡ packed (told_of (row_from def.now) (around_in ctx.now around.now)) }
 {
     let known = known_of(ctx, def, around);
     let ended = ended(ctx, registry, around);

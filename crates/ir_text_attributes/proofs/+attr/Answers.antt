@@ -99,3 +99,27 @@ attributes::mark_attr-returns-in-OpenCurly-clause-grows t c = c.dictionary.ensur
 
 pub dictionaries::entries-returns-clause-grows : goal.dictionaries::entries-returns-clause-grows
 dictionaries::entries-returns-clause-grows t c = grows_trans c.args.ctx.now c.items.ctx c.past_fault.new.ctx c.items.invariant.grows c.past_fault.ensures
+
+pub arrays::attrs-returns-in-Err-clause-grows : goal.arrays::attrs-returns-in-Err-clause-grows
+arrays::attrs-returns-in-Err-clause-grows t c = grows_trans c.args.ctx.now c.items.ctx c.attr.new.ctx c.items.invariant.grows c.in-Err.ensures.grows
+
+pub arrays::attrs-returns-in_err-push-clause-grows : goal.arrays::attrs-returns-in_err-push-clause-grows
+arrays::attrs-returns-in_err-push-clause-grows t c = grows_trans c.args.ctx.now c.items.ctx c.attr.new.ctx c.items.invariant.grows c.in-Ok.ensures.grows
+
+pub arrays::attrs-returns-in-Some-after-clause-grows : goal.arrays::attrs-returns-in-Some-after-clause-grows
+arrays::attrs-returns-in-Some-after-clause-grows t c = grows_trans c.args.ctx.now c.items.ctx c.attr.new.ctx c.items.invariant.grows c.in-Ok.ensures.grows
+
+pub arrays::attrs-returns-in_err-rest-clause-grows : goal.arrays::attrs-returns-in_err-rest-clause-grows
+arrays::attrs-returns-in_err-rest-clause-grows t c = grows_trans c.args.ctx.now c.items.ctx c.attr.new.ctx c.items.invariant.grows c.in-Ok.ensures.grows
+
+pub dictionaries::entries-returns-in-Err-clause-grows : goal.dictionaries::entries-returns-in-Err-clause-grows
+dictionaries::entries-returns-in-Err-clause-grows t c = grows_trans c.args.ctx.now c.items.ctx c.entry.new.ctx c.items.invariant.grows c.in-Err.ensures.grows
+
+pub dictionaries::entries-returns-in_err-push-clause-grows : goal.dictionaries::entries-returns-in_err-push-clause-grows
+dictionaries::entries-returns-in_err-push-clause-grows t c = grows_trans c.args.ctx.now c.items.ctx c.entry.new.ctx c.items.invariant.grows c.in-Ok.ensures.grows
+
+pub dictionaries::entries-returns-in-Some-after-clause-grows : goal.dictionaries::entries-returns-in-Some-after-clause-grows
+dictionaries::entries-returns-in-Some-after-clause-grows t c = grows_trans c.args.ctx.now c.items.ctx c.entry.new.ctx c.items.invariant.grows c.in-Ok.ensures.grows
+
+pub dictionaries::entries-returns-in_err-rest-clause-grows : goal.dictionaries::entries-returns-in_err-rest-clause-grows
+dictionaries::entries-returns-in_err-rest-clause-grows t c = grows_trans c.args.ctx.now c.items.ctx c.entry.new.ctx c.items.invariant.grows c.in-Ok.ensures.grows

@@ -1,28 +1,36 @@
-use Rattle.std.proofs.Common.{◌≡◌, ◌≤◌, true, false, refl, rules, length, arith}
+use Rattle.std.proofs.Common.{◌≡◌, ℕ, true, false, refl, sym, subst, rules, length, take}
+use Rattle.ir_tree_laws.specs.Members.{In}
+use Rattle.constants_base.specs.Phases.{Forgotten}
+use Rattle.constants_base.proofs.Forgets.{forgot_nobody}
 use Rattle.constants_base.proofs.Counted.{forgot_next, forgot_broken, forgot_all}
-use Rattle.constants.proofs.Forgetful.{never, user_at, user_before, users_length}
+use Rattle.constants.proofs.Forgetful.{never, user_at, user_before, user_more, user_next, user_passed, all_read}
 use Rattle.constants.specs.Tables.{known_in, users_of}
 use Rattle.constants.proofs.forget.forget_all.Goals as goal
 
+pub loop-user-init : goal.loop-user-init
+loop-user-init c = (c.into_iter-user-iterator.ensures.into_iter_gives, forgot_nobody (Unit {0}) (known_in c.args.table.now) c.args.trail.now.items)
+
 pub returns-then-not-forget : goal.returns-then-not-forget
 returns-then-not-forget c =
-    let us = c.args.uses.now in
-    let i = c.loop-use_of.use_of-index in
-    forgot_broken (Unit {0}) (c.forget.result ≡ true) _ (users_of us) i c.use_of-item.result.0 (known_in c.args.table.now) (known_in c.loop-use_of.table) (known_in c.forget.new.table) c.args.trail.now.items c.loop-use_of.trail.items c.forget.new.trail.items
-    tt (never false refl) (user_before us i c.loop-use_of-test.true) (user_at us i c.use_of-item.result c.loop-use_of-test.true c.use_of-item.is) c.loop-use_of.invariant c.forget.ensures
+    let u : ℕ × ℕ = (c.in-Some.user, c.in-Some.field-0-1) in
+    let us = c.loop-user.yielded in
+    let is = user_next us u c.loop-user.user-iterator c.next.new.self c.args.uses c.loop-user.invariant.0 c.in-Some.ensures.steps in
+    forgot_broken (Unit {0}) (c.forget.result ≡ true) _ (users_of c.args.uses) (length us) c.in-Some.user (known_in c.args.table.now) (known_in c.loop-user.table) (known_in c.forget.new.table) c.args.trail.now.items c.loop-user.trail.items c.forget.new.trail.items
+    tt (never false refl) (user_before us u c.next.new.self c.args.uses is) (user_at us u c.next.new.self c.args.uses is) c.loop-user.invariant.1 c.forget.ensures
 
-pub loop-use_of-preserved : goal.loop-use_of-preserved
-loop-use_of-preserved c =
-    let us = c.args.uses.now in
-    let i = c.loop-use_of.use_of-index in
-    let yes : c.forget.result ≡ true = search rules in
-    forgot_next (Unit {0}) (c.forget.result ≡ true) (Unit {0}) (users_of us) i c.use_of-item.result.0 (known_in c.args.table.now) (known_in c.loop-use_of.table) (known_in c.forget.new.table) c.args.trail.now.items c.loop-use_of.trail.items c.forget.new.trail.items
-    tt yes (user_before us i c.loop-use_of-test.true) (user_at us i c.use_of-item.result c.loop-use_of-test.true c.use_of-item.is) c.loop-use_of.invariant c.forget.ensures
+pub loop-user-preserved : goal.loop-user-preserved
+loop-user-preserved c =
+    let u : ℕ × ℕ = (c.in-Some.user, c.in-Some.field-0-1) in
+    let us = c.loop-user.yielded in
+    let is = user_next us u c.loop-user.user-iterator c.next.new.self c.args.uses c.loop-user.invariant.0 c.in-Some.ensures.steps in
+    let yes : c.forget.result ≡ true = search rules in (
+      user_passed us u c.loop-user.user-iterator c.next.new.self c.args.uses c.loop-user.invariant.0 c.in-Some.ensures.steps,
+      subst (λ n. Forgotten (Unit {0}) (λ y. In y (take n (users_of c.args.uses))) (known_in c.args.table.now) (known_in c.forget.new.table) c.args.trail.now.items c.forget.new.trail.items) (sym (user_more us u))
+          (forgot_next (Unit {0}) (c.forget.result ≡ true) (Unit {0}) (users_of c.args.uses) (length us) c.in-Some.user (known_in c.args.table.now) (known_in c.loop-user.table) (known_in c.forget.new.table) c.args.trail.now.items c.loop-user.trail.items c.forget.new.trail.items
+          tt yes (user_before us u c.next.new.self c.args.uses is) (user_at us u c.next.new.self c.args.uses is) c.loop-user.invariant.1 c.forget.ensures),
+    )
 
 pub returns : goal.returns
 returns c =
-    let us = c.args.uses.now in
-    let i = c.loop-use_of.use_of-index in
-    let size = users_length us in
-    let le : length us ≤ i = search rules in
-    forgot_all (Unit {0}) _ (users_of us) i (known_in c.args.table.now) (known_in c.loop-use_of.table) c.args.trail.now.items c.loop-use_of.trail.items tt (omega (arith, size, le)) c.loop-use_of.invariant
+    forgot_all (Unit {0}) _ (users_of c.args.uses) (length c.loop-user.yielded) (known_in c.args.table.now) (known_in c.loop-user.table) c.args.trail.now.items c.loop-user.trail.items tt
+    (all_read c.loop-user.yielded c.loop-user.user-iterator c.args.uses c.loop-user.invariant.0 c.in-None.ensures.steps.0) c.loop-user.invariant.1

@@ -1,8 +1,10 @@
-use Rattle.std.proofs.Common.{take}
+use Rattle.std.proofs.Common.{◌≡◌, ◌++◌, take, length}
 use Rattle.ir_tree_laws.specs.Members.{In}
 use Rattle.constants_base.specs.Phases.{Forgotten}
 use Rattle.constants.specs.Tables.{known_in, users_of}
 use Rattle.constants.proofs.forget.forget_all.Given as goal
 
-abbrev pub invariant-loop-use_of : goal.invariant-loop-use_of
-invariant-loop-use_of l = Forgotten (Unit {0}) (λ y. In y (take l.use_of-index (users_of l.uses))) (known_in l.initial.table) (known_in l.table) l.initial.trail.items l.trail.items
+abbrev pub invariant-loop-user : goal.invariant-loop-user
+invariant-loop-user l =
+    (l.yielded ++ l.user-iterator ≡ l.fn.uses)
+    × Forgotten (Unit {0}) (λ y. In y (take (length l.yielded) (users_of l.fn.uses))) (known_in l.initial.table) (known_in l.table) l.initial.trail.items l.trail.items

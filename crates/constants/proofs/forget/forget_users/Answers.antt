@@ -1,7 +1,6 @@
-use Rattle.std.proofs.Common.{◌≡◌, ℕ, true, sym, subst, List}
+use Rattle.std.proofs.Common.{◌≡◌, true}
 use Rattle.ir_tree_laws.specs.Members.{In}
 use Rattle.constants_base.specs.Trails.{Uses}
-use Rattle.constants_base.specs.Phases.{AreUsers}
 use Rattle.constants_base.proofs.Forgets.{forgot_as}
 use Rattle.constants.specs.Tables.{known_in, look_in, users_of}
 use Rattle.constants.proofs.forget.forget_users.Goals as goal
@@ -9,5 +8,5 @@ use Rattle.constants.proofs.forget.forget_users.Goals as goal
 pub returns-clause-forgotten : goal.returns-clause-forgotten
 returns-clause-forgotten c =
     let w = c.args.view.now.world.now in
-    let us = subst (λ (l : List (ℕ × ℕ)). AreUsers (look_in w) c.args.op (users_of l)) (sym c.deref.ensures.value) c.in-Some.ensures.users in
-    forgot_as (c.forget_all.result ≡ true) (λ y. In y (users_of c.deref.result.now)) (Uses (look_in w) c.args.op) (known_in c.args.table.now) (known_in c.forget_all.new.table) c.args.trail.now.items c.forget_all.new.trail.items us.only us.all c.forget_all.ensures
+    let us = c.uses_of.ensures.users in
+    forgot_as (c.forget_all.result ≡ true) (λ y. In y (users_of c.uses_of.result)) (Uses (look_in w) c.args.op) (known_in c.args.table.now) (known_in c.forget_all.new.table) c.args.trail.now.items c.forget_all.new.trail.items us.only us.all c.forget_all.ensures

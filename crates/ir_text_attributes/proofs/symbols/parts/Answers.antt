@@ -29,3 +29,12 @@ items-preserved c =
 
 pub returns-clause-reads : goal.returns-clause-reads
 returns-clause-reads c = is_full c.items.items.items many c.items.counter (c.items.rest.now, c.items.ctx) _ c.items.invariant.reads (omega (arith, c.items-test.false))
+
+pub returns-in-Err-clause-grows : goal.returns-in-Err-clause-grows
+returns-in-Err-clause-grows c = grows_trans c.args.ctx.now c.items.ctx c.part.new.ctx c.items.invariant.grows c.in-Err.ensures.grows
+
+pub returns-in_err-push-clause-grows : goal.returns-in_err-push-clause-grows
+returns-in_err-push-clause-grows c = grows_trans c.args.ctx.now c.items.ctx c.part.new.ctx c.items.invariant.grows c.in-Ok.ensures.grows
+
+pub returns-in_default-clause-grows : goal.returns-in_default-clause-grows
+returns-in_default-clause-grows c = grows_trans c.args.ctx.now c.items.ctx c.part.new.ctx c.items.invariant.grows c.in-Ok.ensures.grows

@@ -1,4 +1,4 @@
-use Rattle.std.proofs.Common.{◌≡◌, ◌∙◌, sym, ap, refl}
+use Rattle.std.proofs.Common.{◌∙◌, sym, ap, refl}
 use Rattle.std.specs.Prelude.{is_some}
 use Rattle.ir_types.specs.Terms.{name_term}
 use Rattle.op_registry.specs.Registry.{row_of}

@@ -1,5 +1,6 @@
 use Rattle.std.proofs.Common.{◌∙◌, sym, [], ◌∷◌}
-use Rattle.ir_verify_base.specs.Numbers.{node_in, row_in}
+use Rattle.op_registry.specs.Registry.{row_from}
+use Rattle.ir_verify_base.specs.Numbers.{node_in}
 use Rattle.ir_verify_base.specs.Shapes.{breaks_1, breaks_3, breaks_5, breaks_12, breaks_13, is_well_shaped}
 use Rattle.ir_verify.specs.Sets.{packed}
 use Rattle.ir_verify.proofs.Sets.{told, no_faults}
@@ -7,7 +8,7 @@ use Rattle.ir_verify.proofs.rules.told_shaped.Goals as goal
 
 pub returns : goal.returns
 returns c =
-    let row = row_in c.args.def.now in
+    let row = row_from c.args.def.now in
     let node = node_in c.args.ctx.now c.args.around.now.node in
     let w = is_well_shaped row node in
     let f = no_faults (breaks_1 row node) (breaks_3 row node) (breaks_5 row node) (breaks_12 row node) (breaks_13 row node) c.requires.shaped in

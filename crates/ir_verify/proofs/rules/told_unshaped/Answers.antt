@@ -1,5 +1,6 @@
 use Rattle.std.proofs.Common.{◌∙◌, [], ◌∷◌}
-use Rattle.ir_verify_base.specs.Numbers.{around_in, row_in}
+use Rattle.op_registry.specs.Registry.{row_from}
+use Rattle.ir_verify_base.specs.Numbers.{around_in}
 use Rattle.ir_verify_base.specs.Shapes.{is_well_shaped}
 use Rattle.ir_verify_base.specs.TypeRules.{breaks_2, breaks_4, breaks_7, breaks_14, breaks_18, breaks_19, breaks_20, breaks_24}
 use Rattle.ir_verify.specs.BlockRules.{breaks_6, breaks_8, breaks_9, breaks_21, breaks_22}
@@ -10,7 +11,7 @@ use Rattle.ir_verify.proofs.rules.told_unshaped.Goals as goal
 
 pub returns : goal.returns
 returns c =
-    let row = row_in c.args.def.now in
+    let row = row_from c.args.def.now in
     let s = around_in c.args.ctx.now c.args.around.now in
     let w = is_well_shaped row s.node in
     c.of.ensures ∙ λ i. packed (
