@@ -116,12 +116,12 @@ fn sum_of_uses(uses: UsesOf<'_>) -> u64 {
 }
 
 /// Writes the type of a value, and a sum over its uses.
-fn put_value_reads(out: &mut String, store: &Store, value: Value) -> Result<(), AllocError> {
-    match store.value_type(value) {
+fn put_value_reads(out: &mut String, store: &Store, value: &Value) -> Result<(), AllocError> {
+    match store.value_type(*value) {
         Some(ty) => put_number(out, " ", u64::from(ty.number()))?,
         None => out.push_str(" -")?,
     }
-    let uses = store.uses(value);
+    let uses = store.uses(*value);
     put_number(out, " ", uses.len() as u64)?;
     put_number(out, " ", sum_of_uses(uses))
 }
@@ -129,9 +129,9 @@ fn put_value_reads(out: &mut String, store: &Store, value: Value) -> Result<(), 
 /// Writes what is read of values of an operation.
 fn put_values_of(out: &mut String, store: &Store, op: OpId) -> Result<(), AllocError> {
     for place in 0..2u32 {
-        put_value_reads(out, store, Value::Result(op, place))?;
-        put_value_reads(out, store, Value::Arg(op, 0, place))?;
-        put_value_reads(out, store, Value::Arg(op, 1, place))?;
+        put_value_reads(out, store, &Value::Result(op, place))?;
+        put_value_reads(out, store, &Value::Arg(op, 0, place))?;
+        put_value_reads(out, store, &Value::Arg(op, 1, place))?;
     }
     Ok(())
 }
