@@ -36,10 +36,7 @@ fn read<L: Analysis>(bench: &mut Bench<L>, text: &[u8]) -> Result<TreeOp, ReadEr
 }
 
 /// The operation that a text spells beside the module, numbered from its next id, or the reply where it isn't read.
-pub(crate) fn operation_of<L: Analysis>(
-    bench: &mut Bench<L>,
-    text: &[u8],
-) -> Result<TreeOp, Reply>
+pub(crate) fn operation_of<L: Analysis>(bench: &mut Bench<L>, text: &[u8]) -> Result<TreeOp, Reply>
     ensures read { IfOk result (λ t. SpellsBeside (module_held bench.old.desk) text.now (meaning bench.new.desk.ctx t)) }
     ensures sound { IfOk result (λ t. IsSoundIn bench.new.desk.ctx t) }
     ensures numbered { IfOk result (λ t. IsNumberedFrom bench.new.desk.store.module_of.next t) }

@@ -1,4 +1,4 @@
-use Rattle.std.proofs.Common.{rules, arith, ◌≡◌, ◌≤◌}
+use Rattle.std.proofs.Common.{rules, inl, inr, ◌≡◌}
 use Rattle.ir_types.specs.declared.refusal.Refusal.TheVariants.{IdsExhausted}
 use Rattle.ir_text_attributes.specs.Spelling.{SpellsAttr}
 use Rattle.rewriter.specs.Texts.{SpellsBeside}
