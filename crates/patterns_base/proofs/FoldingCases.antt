@@ -1,6 +1,7 @@
 -- The rules on values and what they are computed from at operations of small modules, as a reference program apart from this project answers.
 use Rattle.std.proofs.Common.{◌≡◌, List, [], ◌∷◌, true, false, Some, refl}
 use Rattle.std.specs.Prelude.{codes, map}
+use Rattle.ir_types.specs.declared.refusal.Refusal.TheVariants.{IdsExhausted}
 use Rattle.ir_types.specs.Terms.{Index, Memref, IntegerOf, Overflow, Flag}
 use Rattle.ir_types.specs.Words as words
 use Rattle.ir_types.specs.Readings as readings
@@ -16,7 +17,7 @@ use Rattle.patterns_laws.specs.Words as named
 use Rattle.patterns_base.specs.Looks.{is_clean, may_go, known}
 use Rattle.patterns_base.specs.Casting.{resizing}
 use Rattle.patterns_base.specs.Rules.{rule}
-use Rattle.patterns_base.specs.Rewrites.{none, becomes, edits_of, rewrite_of}
+use Rattle.patterns_base.specs.Rewrites.{none, refused, becomes, edits_of, rewrite_of}
 use Rattle.patterns_base.proofs.Small.{i8, i32, Case, at_rule, answer, holding, source, number, user, plain, kept, compared, whole}
 
 abbrev rule_1_dead : Case
@@ -552,6 +553,56 @@ rule_27_remsi =
     ∷ user 4 (Result 7 0)
     ∷ [])))
 
+abbrev rule_1_root : Case
+rule_1_root = at_rule 1 0 (holding 2 (source 1 i32 ∷ [])) none
+
+abbrev rule_1_not_there : Case
+rule_1_not_there = at_rule 1 7 (holding 2 (source 1 i32 ∷ [])) none
+
+abbrev rule_1_past_the_last_id : Case
+rule_1_past_the_last_id =
+    at_rule 1 2
+    (holding 4294967295 (
+    source 1 i32
+    ∷ plain 2 (codes "arith.addi") (Result 1 0 ∷ Result 1 0 ∷ []) (i32 ∷ [])
+    ∷ []))
+    (becomes (holding 4294967295 (source 1 i32 ∷ [])))
+
+abbrev rule_7_last_id : Case
+rule_7_last_id =
+    at_rule 7 2
+    (holding 4294967294 (
+    source 1 i8
+    ∷ plain 2 (codes "arith.xori") (Result 1 0 ∷ Result 1 0 ∷ []) (i8 ∷ [])
+    ∷ user 3 (Result 2 0)
+    ∷ []))
+    (becomes (holding 4294967295 (
+    source 1 i8
+    ∷ number 4294967294 i8 0
+    ∷ user 3 (Result 4294967294 0)
+    ∷ [])))
+
+abbrev rule_7_past_the_last_id : Case
+rule_7_past_the_last_id =
+    at_rule 7 2
+    (holding 4294967295 (
+    source 1 i8
+    ∷ plain 2 (codes "arith.xori") (Result 1 0 ∷ Result 1 0 ∷ []) (i8 ∷ [])
+    ∷ user 3 (Result 2 0)
+    ∷ []))
+    (refused IdsExhausted)
+
+abbrev rule_25_second_past_the_last_id : Case
+rule_25_second_past_the_last_id =
+    at_rule 25 3
+    (holding 4294967294 (
+    source 1 i8
+    ∷ source 2 i8
+    ∷ plain 3 (codes "arith.maxui") (Result 1 0 ∷ Result 2 0 ∷ []) (i8 ∷ [])
+    ∷ user 4 (Result 3 0)
+    ∷ []))
+    (refused IdsExhausted)
+
 abbrev cases : List Case
 cases =
     rule_1_dead ∷ rule_1_used ∷ rule_2_i1_sum_wraps ∷ rule_2_zero_alone ∷ rule_2_division_by_zero
@@ -560,9 +611,11 @@ cases =
     ∷ rule_9_by_one ∷ rule_10_sums ∷ rule_10_another_operation ∷ rule_10_constant_first ∷ rule_11_negated
     ∷ rule_12_itself ∷ rule_12_not_itself ∷ rule_13_mirrored ∷ rule_13_equal_stays ∷ rule_14_below_zero
     ∷ rule_14_at_least_zero ∷ rule_14_signed ∷ rule_15_same ∷ rule_16_true ∷ rule_16_false ∷ rule_17_itself
-    ∷ rule_17_wider ∷ rule_18_opposite ∷ rule_25_maxui ∷ rule_26_index ∷ rule_27_remsi ∷ []
+    ∷ rule_17_wider ∷ rule_18_opposite ∷ rule_25_maxui ∷ rule_26_index ∷ rule_27_remsi
+    ∷ rule_1_root ∷ rule_1_not_there ∷ rule_1_past_the_last_id ∷ rule_7_last_id ∷ rule_7_past_the_last_id
+    ∷ rule_25_second_past_the_last_id ∷ []
 
--- each is what the definitions say
+-- each is what the definitions say (to find one that is not, shorten the list)
 pub answered : map answer cases ≡ map (λ c. c.after) cases
 unfolding rewrite_of edits_of rule is_clean may_go known resizing registry.row_of rows.rows words.operations words.is_inherent words.is_listed words.is_table words.is_isolated properties.is_allowed properties.is_of_kind properties.kind_of properties.kinds folds.fold_of folds.rule_of folds.rules folds.predicates arithmetic.absorbs arithmetic.sum_of arithmetic.difference_of arithmetic.product_of arithmetic.signed_quotient_of arithmetic.signed_remainder_of arithmetic.quotient_of arithmetic.remainder_of readings.signed_of readings.wrapped named.swapping named.ignoring_zero named.ignoring_one named.cancelling named.keeping named.remainders named.regrouping named.extensions named.index_casts named.arithmetic named.index_users named.flagged named.asking named.dividing
 answered = refl

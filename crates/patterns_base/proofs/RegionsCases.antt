@@ -351,7 +351,7 @@ cases =
     ∷ rule_23_never ∷ rule_23_once ∷ rule_23_once_hands_on_argument ∷ rule_23_twice ∷ rule_23_step_below_zero
     ∷ rule_24_false ∷ rule_24_true ∷ []
 
--- each is what the definitions say
+-- each is what the definitions say (to find one that is not, shorten the list)
 pub answered : map answer cases ≡ map (λ c. c.after) cases
 unfolding rewrite_of edits_of rule is_clean may_go known resizing registry.row_of rows.rows words.operations words.is_inherent words.is_listed words.is_table words.is_isolated properties.is_allowed properties.is_of_kind properties.kind_of properties.kinds folds.fold_of folds.rule_of folds.rules folds.predicates arithmetic.absorbs arithmetic.sum_of arithmetic.difference_of arithmetic.product_of arithmetic.signed_quotient_of arithmetic.signed_remainder_of arithmetic.quotient_of arithmetic.remainder_of readings.signed_of readings.wrapped named.swapping named.ignoring_zero named.ignoring_one named.cancelling named.keeping named.remainders named.regrouping named.extensions named.index_casts named.arithmetic named.index_users named.flagged named.asking named.dividing
 answered = refl
