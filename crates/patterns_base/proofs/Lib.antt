@@ -1,0 +1,9 @@
+pub mod Dispatch
+pub mod Suffices
+pub mod TableNumbers
+pub mod Making
+pub mod Small
+pub mod FoldingCases
+pub mod RegionsCases
+pub mod LoweringCases
+pub mod CanonicalCases

@@ -1,0 +1,111 @@
+-- Rules that conversion may try make an operation where they apply.
+use Rattle.std.proofs.Common.{◌≡◌, ℕ, ◌+◌, ◌≤◌, List, [], ◌∷◌, ◌++◌, Bool, true, false, Some, None, refl, subst, arith}
+use Rattle.std.specs.Prelude.{Option}
+use Rattle.ir_types.specs.Terms.{TypeTerm}
+use Rattle.ir_tree.specs.declared.place.Place.{Place}
+use Rattle.ir_tree.specs.Tree.{head}
+use Rattle.ir_tree.specs.Meaning.{Operation}
+use Rattle.ir_tree_laws.specs.Values.{arguments_at}
+use Rattle.op_registry.specs.Registry.{beside}
+use Rattle.dialects_int.specs.Folds.{Known}
+use Rattle.rewriter_machine.specs.Contents.{Edit}
+use Rattle.rewriter_machine.specs.Edits.{Make}
+use Rattle.patterns_laws.specs.Keeps.{given}
+use Rattle.patterns_laws.specs.Words.{asking, dividing}
+use Rattle.patterns_base.specs.Looks.{Ended, when, two, body}
+use Rattle.patterns_base.specs.Makes.{made_by}
+use Rattle.patterns_base.specs.Folding.{folded_to, rule_2, rule_25, rule_26, rule_27}
+use Rattle.patterns_base.specs.Lowering.{make_lowered, lowered_loop, lowered_if, rule_28, rule_29, rule_30}
+use Rattle.patterns_base.specs.Rules.{rule}
+use Rattle.patterns_base.specs.Rewrites.{ConvertingRulesMake}
+
+-- edits make an operation
+record Making (es : List Edit) : Type 0 where
+  some : 1 ≤ made_by es
+
+-- edits make one where there are some
+record MakesSome (r : Option (List Edit)) : Type 0 where
+  each : (es : List Edit) → r ≡ Some es → 1 ≤ made_by es
+
+none_there : MakesSome None
+none_there = record { each = λ es e. absurd (grind arith) }
+
+there : (es : List Edit) → Making es → MakesSome (Some es)
+there es h = record { each = λ fs e. subst (λ gs. 1 ≤ made_by gs) (let same : es ≡ fs = grind arith in same) h.some }
+
+first : (place : Place) (o : Operation) (es : List Edit) → Making (Make place o ∷ es)
+first place o es = record { some = omega arith }
+
+joined : (es fs : List Edit) → made_by (es ++ fs) ≡ made_by es + made_by fs
+joined [] fs = (let e : made_by ([] ++ fs) ≡ made_by fs = refl in omega (arith, e))
+joined (e ∷ es) fs = omega (arith, joined es fs)
+
+behind : (es fs : List Edit) → Making fs → Making (es ++ fs)
+behind es fs h = record { some = omega (arith, joined es fs, h.some) }
+
+in_front : (es fs : List Edit) → Making es → Making (es ++ fs)
+in_front es fs h = record { some = omega (arith, joined es fs, h.some) }
+
+tested : (b : Bool) (r : Option (List Edit)) → MakesSome r → MakesSome (when b r)
+tested true r h = h
+tested false r h = none_there
+
+of_some : {X : Type 0} (x : Option X) (f : X → Option (List Edit)) → ((y : X) → MakesSome (f y)) → MakesSome (given x f)
+of_some None f h = none_there
+of_some (Some y) f h = h y
+
+folding_makes : (t : Operation) (n : ℕ) (front : Place) (o : Operation) (tys : List TypeTerm) (k : Option Known) → MakesSome (folded_to t n front o tys k)
+folding_makes t n front o [] k = none_there
+folding_makes t n front o (ty ∷ []) None = none_there
+folding_makes t n front o (ty ∷ []) (Some k) = there _ (first _ _ _)
+folding_makes t n front o (ty ∷ u ∷ us) k = none_there
+
+module _ (t : Operation) (n : ℕ) (front : Place) (o : Operation) where
+  makes_2 : MakesSome (rule_2 t n front o)
+  makes_2 = tested _ _ (folding_makes t n front o _ _)
+
+  makes_25 : MakesSome (rule_25 t n front o)
+  makes_25 = of_some (two (head o)) _ (λ p. of_some (beside p.name asking) _ (λ asks. there _ (first _ _ _)))
+
+  makes_26 : MakesSome (rule_26 t n front o)
+  makes_26 = of_some (two (head o)) _ (λ p. tested _ _ (there _ (first _ _ _)))
+
+  makes_27 : MakesSome (rule_27 t n front o)
+  makes_27 = of_some (two (head o)) _ (λ p. of_some (beside p.name dividing) _ (λ division. there _ (first _ _ _)))
+
+  lowered : Making (make_lowered t n front o)
+  lowered = first _ _ _
+
+  makes_28 : MakesSome (rule_28 t n front o)
+  makes_28 = tested _ _ (there _ (in_front _ _ (behind _ (make_lowered t n front o) lowered)))
+
+  loop_makes : (args : List TypeTerm) (e : Ended) → Making (lowered_loop t n front o args e)
+  loop_makes args e = in_front _ _ (in_front _ _ (in_front _ _ (in_front _ _ (in_front _ _ (in_front _ _ (behind _ (make_lowered t n front o) lowered))))))
+
+  makes_29 : MakesSome (rule_29 t n front o)
+  makes_29 = tested _ _ (of_some (arguments_at 0 o) _ (λ args. of_some (body t o 0) _ (λ e. there _ (loop_makes args e))))
+
+  if_makes : (e f : Ended) → Making (lowered_if t n front o e f)
+  if_makes e f = first _ _ _
+
+  makes_30 : MakesSome (rule_30 t n front o)
+  makes_30 = tested _ _ (of_some (body t o 0) _ (λ e. of_some (body t o 1) _ (λ f. there _ (if_makes e f))))
+
+pub converting_rules_make : ConvertingRulesMake
+unfolding rule
+converting_rules_make = (
+  λ t n front o. (makes_2 t n front o).each,
+  (
+    λ t n front o. (makes_25 t n front o).each,
+    (
+      λ t n front o. (makes_26 t n front o).each,
+      (
+        λ t n front o. (makes_27 t n front o).each,
+        (
+          λ t n front o. (makes_28 t n front o).each,
+          (λ t n front o. (makes_29 t n front o).each, (λ t n front o. (makes_30 t n front o).each, tt)),
+        ),
+      ),
+    ),
+  ),
+)

@@ -1,0 +1,357 @@
+-- The rules on casts, branches and loops at operations of small modules, as a reference program apart from this project answers.
+use Rattle.std.proofs.Common.{◌≡◌, List, [], ◌∷◌, refl}
+use Rattle.std.specs.Prelude.{codes, map}
+use Rattle.ir_types.specs.Terms.{Index}
+use Rattle.ir_types.specs.Words as words
+use Rattle.ir_types.specs.Readings as readings
+use Rattle.ir_tree.specs.declared.value.Value.TheVariants.{Result, Arg}
+use Rattle.ir_tree.specs.Tree.{no_regions, region, empty}
+use Rattle.op_registry.specs.Registry as registry
+use Rattle.op_registry.specs.Rows as rows
+use Rattle.op_registry.specs.Properties as properties
+use Rattle.dialects_int.specs.Arithmetic as arithmetic
+use Rattle.dialects_int.specs.Folds as folds
+use Rattle.patterns_laws.specs.Made.{i1, i64}
+use Rattle.patterns_laws.specs.Words as named
+use Rattle.patterns_base.specs.Looks.{is_clean, may_go, known}
+use Rattle.patterns_base.specs.Casting.{resizing}
+use Rattle.patterns_base.specs.Rules.{rule}
+use Rattle.patterns_base.specs.Rewrites.{none, becomes, edits_of, rewrite_of}
+use Rattle.patterns_base.proofs.Small.{i8, i16, i32, i63, i65, Case, at_rule, answer, body, holding, source, number, user, bridged, plain, whole}
+
+abbrev rule_19_signed_of_unsigned : Case
+rule_19_signed_of_unsigned =
+    at_rule 19 3
+    (holding 5 (
+    source 1 i8
+    ∷ plain 2 (codes "arith.extui") (Result 1 0 ∷ []) (i16 ∷ [])
+    ∷ plain 3 (codes "arith.extsi") (Result 2 0 ∷ []) (i32 ∷ [])
+    ∷ user 4 (Result 3 0)
+    ∷ []))
+    (becomes (holding 6 (
+    source 1 i8
+    ∷ plain 2 (codes "arith.extui") (Result 1 0 ∷ []) (i16 ∷ [])
+    ∷ plain 5 (codes "arith.extui") (Result 1 0 ∷ []) (i32 ∷ [])
+    ∷ user 4 (Result 5 0)
+    ∷ [])))
+
+abbrev rule_19_unsigned_of_signed : Case
+rule_19_unsigned_of_signed =
+    at_rule 19 3
+    (holding 5 (
+    source 1 i8
+    ∷ plain 2 (codes "arith.extsi") (Result 1 0 ∷ []) (i16 ∷ [])
+    ∷ plain 3 (codes "arith.extui") (Result 2 0 ∷ []) (i32 ∷ [])
+    ∷ user 4 (Result 3 0)
+    ∷ []))
+    none
+
+abbrev rule_20_cut_twice : Case
+rule_20_cut_twice =
+    at_rule 20 3
+    (holding 5 (
+    source 1 i32
+    ∷ plain 2 (codes "arith.trunci") (Result 1 0 ∷ []) (i16 ∷ [])
+    ∷ plain 3 (codes "arith.trunci") (Result 2 0 ∷ []) (i8 ∷ [])
+    ∷ user 4 (Result 3 0)
+    ∷ []))
+    (becomes (holding 6 (
+    source 1 i32
+    ∷ plain 2 (codes "arith.trunci") (Result 1 0 ∷ []) (i16 ∷ [])
+    ∷ plain 5 (codes "arith.trunci") (Result 1 0 ∷ []) (i8 ∷ [])
+    ∷ user 4 (Result 5 0)
+    ∷ [])))
+
+abbrev rule_20_back : Case
+rule_20_back =
+    at_rule 20 3
+    (holding 5 (
+    source 1 i8
+    ∷ plain 2 (codes "arith.extsi") (Result 1 0 ∷ []) (i16 ∷ [])
+    ∷ plain 3 (codes "arith.trunci") (Result 2 0 ∷ []) (i8 ∷ [])
+    ∷ user 4 (Result 3 0)
+    ∷ []))
+    (becomes (holding 5 (
+    source 1 i8
+    ∷ plain 2 (codes "arith.extsi") (Result 1 0 ∷ []) (i16 ∷ [])
+    ∷ user 4 (Result 1 0)
+    ∷ [])))
+
+abbrev rule_20_another_width : Case
+rule_20_another_width =
+    at_rule 20 3
+    (holding 5 (
+    source 1 i8
+    ∷ plain 2 (codes "arith.extsi") (Result 1 0 ∷ []) (i32 ∷ [])
+    ∷ plain 3 (codes "arith.trunci") (Result 2 0 ∷ []) (i16 ∷ [])
+    ∷ user 4 (Result 3 0)
+    ∷ []))
+    none
+
+abbrev rule_21_back_to_64 : Case
+rule_21_back_to_64 =
+    at_rule 21 3
+    (holding 5 (
+    source 1 i64
+    ∷ plain 2 (codes "arith.index_cast") (Result 1 0 ∷ []) (Index ∷ [])
+    ∷ plain 3 (codes "arith.index_cast") (Result 2 0 ∷ []) (i64 ∷ [])
+    ∷ user 4 (Result 3 0)
+    ∷ []))
+    (becomes (holding 5 (
+    source 1 i64
+    ∷ plain 2 (codes "arith.index_cast") (Result 1 0 ∷ []) (Index ∷ [])
+    ∷ user 4 (Result 1 0)
+    ∷ [])))
+
+abbrev rule_21_65_bits : Case
+rule_21_65_bits =
+    at_rule 21 3
+    (holding 5 (
+    source 1 i65
+    ∷ plain 2 (codes "arith.index_cast") (Result 1 0 ∷ []) (Index ∷ [])
+    ∷ plain 3 (codes "arith.index_cast") (Result 2 0 ∷ []) (i65 ∷ [])
+    ∷ user 4 (Result 3 0)
+    ∷ []))
+    none
+
+abbrev rule_21_index_through_65 : Case
+rule_21_index_through_65 =
+    at_rule 21 3
+    (holding 5 (
+    source 1 Index
+    ∷ plain 2 (codes "arith.index_castui") (Result 1 0 ∷ []) (i65 ∷ [])
+    ∷ plain 3 (codes "arith.index_castui") (Result 2 0 ∷ []) (Index ∷ [])
+    ∷ user 4 (Result 3 0)
+    ∷ []))
+    (becomes (holding 5 (
+    source 1 Index
+    ∷ plain 2 (codes "arith.index_castui") (Result 1 0 ∷ []) (i65 ∷ [])
+    ∷ user 4 (Result 1 0)
+    ∷ [])))
+
+abbrev rule_21_index_through_63 : Case
+rule_21_index_through_63 =
+    at_rule 21 3
+    (holding 5 (
+    source 1 Index
+    ∷ plain 2 (codes "arith.index_cast") (Result 1 0 ∷ []) (i63 ∷ [])
+    ∷ plain 3 (codes "arith.index_cast") (Result 2 0 ∷ []) (Index ∷ [])
+    ∷ user 4 (Result 3 0)
+    ∷ []))
+    none
+
+abbrev rule_21_unrealized : Case
+rule_21_unrealized =
+    at_rule 21 3
+    (holding 5 (
+    source 1 i64
+    ∷ bridged 2 Index (Result 1 0)
+    ∷ bridged 3 i64 (Result 2 0)
+    ∷ user 4 (Result 3 0)
+    ∷ []))
+    (becomes (holding 5 (
+    source 1 i64
+    ∷ bridged 2 Index (Result 1 0)
+    ∷ user 4 (Result 1 0)
+    ∷ [])))
+
+abbrev rule_21_unrealized_same : Case
+rule_21_unrealized_same =
+    at_rule 21 2
+    (holding 4 (
+    source 1 i64
+    ∷ bridged 2 i64 (Result 1 0)
+    ∷ user 3 (Result 2 0)
+    ∷ []))
+    (becomes (holding 4 (
+    source 1 i64
+    ∷ user 3 (Result 1 0)
+    ∷ [])))
+
+abbrev rule_22_then : Case
+rule_22_then =
+    at_rule 22 3
+    (holding 9 (
+    number 1 i1 1
+    ∷ source 2 i8
+    ∷ whole 3 (codes "scf.if") (Result 1 0 ∷ []) (i8 ∷ []) [] []
+    (region (body [] (
+    plain 4 (codes "arith.addi") (Result 2 0 ∷ Result 2 0 ∷ []) (i8 ∷ [])
+    ∷ user 5 (Result 4 0)
+    ∷ plain 6 (codes "scf.yield") (Result 4 0 ∷ []) []
+    ∷ [])) (region (body [] (plain 7 (codes "scf.yield") (Result 2 0 ∷ []) [] ∷ [])) no_regions))
+    ∷ user 8 (Result 3 0)
+    ∷ []))
+    (becomes (holding 9 (
+    number 1 i1 1
+    ∷ source 2 i8
+    ∷ plain 4 (codes "arith.addi") (Result 2 0 ∷ Result 2 0 ∷ []) (i8 ∷ [])
+    ∷ user 5 (Result 4 0)
+    ∷ user 8 (Result 4 0)
+    ∷ [])))
+
+abbrev rule_22_no_else : Case
+rule_22_no_else =
+    at_rule 22 2
+    (holding 5 (
+    number 1 i1 0
+    ∷ whole 2 (codes "scf.if") (Result 1 0 ∷ []) [] [] []
+    (region (body [] (
+    plain 3 (codes "t.x") [] []
+    ∷ plain 4 (codes "scf.yield") [] []
+    ∷ [])) (region empty no_regions))
+    ∷ []))
+    (becomes (holding 5 (number 1 i1 0 ∷ [])))
+
+abbrev rule_23_never : Case
+rule_23_never =
+    at_rule 23 5
+    (holding 9 (
+    number 1 i8 5
+    ∷ number 2 i8 251
+    ∷ source 3 i8
+    ∷ source 4 i8
+    ∷ whole 5 (codes "scf.for") (Result 1 0 ∷ Result 2 0 ∷ Result 3 0 ∷ Result 4 0 ∷ []) (i8 ∷ []) [] []
+    (region (body (i8 ∷ i8 ∷ []) (
+    plain 6 (codes "t.f") (Arg 5 0 0 ∷ Arg 5 0 1 ∷ []) (i8 ∷ [])
+    ∷ plain 7 (codes "scf.yield") (Result 6 0 ∷ []) []
+    ∷ [])) no_regions)
+    ∷ user 8 (Result 5 0)
+    ∷ []))
+    (becomes (holding 9 (
+    number 1 i8 5
+    ∷ number 2 i8 251
+    ∷ source 3 i8
+    ∷ source 4 i8
+    ∷ user 8 (Result 4 0)
+    ∷ [])))
+
+abbrev rule_23_once : Case
+rule_23_once =
+    at_rule 23 5
+    (holding 9 (
+    number 1 i8 100
+    ∷ number 2 i8 127
+    ∷ number 3 i8 100
+    ∷ source 4 i8
+    ∷ whole 5 (codes "scf.for") (Result 1 0 ∷ Result 2 0 ∷ Result 3 0 ∷ Result 4 0 ∷ []) (i8 ∷ []) [] []
+    (region (body (i8 ∷ i8 ∷ []) (
+    plain 6 (codes "t.f") (Arg 5 0 0 ∷ Arg 5 0 1 ∷ []) (i8 ∷ [])
+    ∷ plain 7 (codes "scf.yield") (Result 6 0 ∷ []) []
+    ∷ [])) no_regions)
+    ∷ user 8 (Result 5 0)
+    ∷ []))
+    (becomes (holding 9 (
+    number 1 i8 100
+    ∷ number 2 i8 127
+    ∷ number 3 i8 100
+    ∷ source 4 i8
+    ∷ plain 6 (codes "t.f") (Result 1 0 ∷ Result 4 0 ∷ []) (i8 ∷ [])
+    ∷ user 8 (Result 6 0)
+    ∷ [])))
+
+abbrev rule_23_once_hands_on_argument : Case
+rule_23_once_hands_on_argument =
+    at_rule 23 5
+    (holding 9 (
+    number 1 Index 0
+    ∷ number 2 Index 1
+    ∷ number 3 Index 1
+    ∷ source 4 i8
+    ∷ whole 5 (codes "scf.for") (Result 1 0 ∷ Result 2 0 ∷ Result 3 0 ∷ Result 4 0 ∷ []) (i8 ∷ []) [] []
+    (region (body (Index ∷ i8 ∷ []) (
+    plain 6 (codes "t.f") (Arg 5 0 0 ∷ Arg 5 0 1 ∷ []) (i8 ∷ [])
+    ∷ plain 7 (codes "scf.yield") (Arg 5 0 1 ∷ []) []
+    ∷ [])) no_regions)
+    ∷ user 8 (Result 5 0)
+    ∷ []))
+    (becomes (holding 9 (
+    number 1 Index 0
+    ∷ number 2 Index 1
+    ∷ number 3 Index 1
+    ∷ source 4 i8
+    ∷ plain 6 (codes "t.f") (Result 1 0 ∷ Result 4 0 ∷ []) (i8 ∷ [])
+    ∷ user 8 (Result 4 0)
+    ∷ [])))
+
+abbrev rule_23_twice : Case
+rule_23_twice =
+    at_rule 23 5
+    (holding 9 (
+    number 1 i8 0
+    ∷ number 2 i8 2
+    ∷ number 3 i8 1
+    ∷ source 4 i8
+    ∷ whole 5 (codes "scf.for") (Result 1 0 ∷ Result 2 0 ∷ Result 3 0 ∷ Result 4 0 ∷ []) (i8 ∷ []) [] []
+    (region (body (i8 ∷ i8 ∷ []) (
+    plain 6 (codes "t.f") (Arg 5 0 0 ∷ Arg 5 0 1 ∷ []) (i8 ∷ [])
+    ∷ plain 7 (codes "scf.yield") (Result 6 0 ∷ []) []
+    ∷ [])) no_regions)
+    ∷ user 8 (Result 5 0)
+    ∷ []))
+    none
+
+abbrev rule_23_step_below_zero : Case
+rule_23_step_below_zero =
+    at_rule 23 5
+    (holding 9 (
+    number 1 i8 0
+    ∷ number 2 i8 2
+    ∷ number 3 i8 255
+    ∷ source 4 i8
+    ∷ whole 5 (codes "scf.for") (Result 1 0 ∷ Result 2 0 ∷ Result 3 0 ∷ Result 4 0 ∷ []) (i8 ∷ []) [] []
+    (region (body (i8 ∷ i8 ∷ []) (
+    plain 6 (codes "t.f") (Arg 5 0 0 ∷ Arg 5 0 1 ∷ []) (i8 ∷ [])
+    ∷ plain 7 (codes "scf.yield") (Result 6 0 ∷ []) []
+    ∷ [])) no_regions)
+    ∷ user 8 (Result 5 0)
+    ∷ []))
+    none
+
+abbrev rule_24_false : Case
+rule_24_false =
+    at_rule 24 2
+    (holding 8 (
+    source 1 i8
+    ∷ whole 2 (codes "scf.while") (Result 1 0 ∷ []) (i8 ∷ []) [] []
+    (region (body (i8 ∷ []) (
+    plain 3 (codes "t.x") (Arg 2 0 0 ∷ []) []
+    ∷ number 4 i1 0
+    ∷ plain 5 (codes "scf.condition") (Result 4 0 ∷ Arg 2 0 0 ∷ []) []
+    ∷ [])) (region (body (i8 ∷ []) (plain 6 (codes "scf.yield") (Arg 2 1 0 ∷ []) [] ∷ [])) no_regions))
+    ∷ user 7 (Result 2 0)
+    ∷ []))
+    (becomes (holding 8 (
+    source 1 i8
+    ∷ plain 3 (codes "t.x") (Result 1 0 ∷ []) []
+    ∷ number 4 i1 0
+    ∷ user 7 (Result 1 0)
+    ∷ [])))
+
+abbrev rule_24_true : Case
+rule_24_true =
+    at_rule 24 2
+    (holding 8 (
+    source 1 i8
+    ∷ whole 2 (codes "scf.while") (Result 1 0 ∷ []) (i8 ∷ []) [] []
+    (region (body (i8 ∷ []) (
+    plain 3 (codes "t.x") (Arg 2 0 0 ∷ []) []
+    ∷ number 4 i1 1
+    ∷ plain 5 (codes "scf.condition") (Result 4 0 ∷ Arg 2 0 0 ∷ []) []
+    ∷ [])) (region (body (i8 ∷ []) (plain 6 (codes "scf.yield") (Arg 2 1 0 ∷ []) [] ∷ [])) no_regions))
+    ∷ user 7 (Result 2 0)
+    ∷ []))
+    none
+
+abbrev cases : List Case
+cases =
+    rule_19_signed_of_unsigned ∷ rule_19_unsigned_of_signed ∷ rule_20_cut_twice ∷ rule_20_back
+    ∷ rule_20_another_width ∷ rule_21_back_to_64 ∷ rule_21_65_bits ∷ rule_21_index_through_65
+    ∷ rule_21_index_through_63 ∷ rule_21_unrealized ∷ rule_21_unrealized_same ∷ rule_22_then ∷ rule_22_no_else
+    ∷ rule_23_never ∷ rule_23_once ∷ rule_23_once_hands_on_argument ∷ rule_23_twice ∷ rule_23_step_below_zero
+    ∷ rule_24_false ∷ rule_24_true ∷ []
+
+-- each is what the definitions say (to find one that is not, shorten the list)
+pub answered : map answer cases ≡ map (λ c. c.after) cases
+unfolding rewrite_of edits_of rule is_clean may_go known resizing registry.row_of rows.rows words.operations words.is_inherent words.is_listed words.is_table words.is_isolated properties.is_allowed properties.is_of_kind properties.kind_of properties.kinds folds.fold_of folds.rule_of folds.rules folds.predicates arithmetic.absorbs arithmetic.sum_of arithmetic.difference_of arithmetic.product_of arithmetic.signed_quotient_of arithmetic.signed_remainder_of arithmetic.quotient_of arithmetic.remainder_of readings.signed_of readings.wrapped named.swapping named.ignoring_zero named.ignoring_one named.cancelling named.keeping named.remainders named.regrouping named.extensions named.index_casts named.arithmetic named.index_users named.flagged named.asking named.dividing
+answered = refl

@@ -1,0 +1,12 @@
+pub mod Front
+pub mod Given
+pub mod Inner
+pub mod Placed
+pub mod Made
+pub mod Erasing
+pub mod Headed
+pub mod Give
+pub mod Moved
+pub mod Body
+pub mod Free
+pub mod Plans

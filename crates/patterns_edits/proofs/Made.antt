@@ -1,0 +1,104 @@
+-- An operation that is made in front of another.
+use Rattle.std.proofs.Common.{◌≡◌, refl, ap, sym, ◌∙◌, ℕ, ◌+◌, Bool, true, false, true≢false, ◌∷◌, length, Option, Some, None, option_map, arith, le-leb}
+use Rattle.std.specs.List.{list_all}
+use Rattle.std.specs.Prelude.{nat_lt}
+use Rattle.ir_types.specs.declared.refusal.Refusal.{Refusal}
+use Rattle.ir_tree.specs.declared.value.Value.{Value}
+use Rattle.ir_tree.specs.declared.value.Value.TheVariants.{Result}
+use Rattle.ir_tree.specs.declared.place.Place.{Place}
+use Rattle.ir_tree.specs.Tree.{OpOf, op, head, regions}
+use Rattle.ir_tree.specs.Ids.{find, has_id, op_count}
+use Rattle.ir_tree.specs.Limits.{most_ops, most_next, most_around, op_fits}
+use Rattle.ir_tree.specs.Sites.{visible}
+use Rattle.ir_tree.specs.Places.{put, place_of}
+use Rattle.ir_tree.specs.WellFormed.{ModuleOf, IsWellFormed}
+use Rattle.ir_tree_laws.specs.Values.{has_value}
+use Rattle.ir_tree_laws.specs.Reads.{around}
+use Rattle.ir_tree_laws.specs.Reasons.{unless, has_place, fits_around, with_id, put_reason, hold_none}
+use Rattle.ir_tree_laws.specs.Restores.{MayPut}
+use Rattle.ir_tree_laws.proofs.Listed.{all_each, each_all, both_hold}
+use Rattle.ir_tree_laws.proofs.Members.{stand}
+use Rattle.ir_tree_laws.proofs.PutForm as put_form
+use Rattle.ir_tree_laws.proofs.Formed.{from_formed}
+use Rattle.ir_tree_laws.proofs.WellKept.{may_put_leaf, put_keeps}
+use Rattle.patterns_edits.proofs.Given.{seen_is}
+use Rattle.patterns_edits.proofs.Placed as placed
+use Rattle.patterns_edits.proofs.Placed.{Behind, before_it, behind_of}
+
+-- a list of tests passes
+pub passes : (b : Bool) (r : Refusal) (rest : Option Refusal) → b ≡ true → rest ≡ None → unless b r rest ≡ None
+passes true r rest e f = f
+passes false r rest e f = absurd (true≢false (sym e))
+
+module _ {N T A : Type 0} (isolated : N → Bool) where
+  leaf_id : (x : ℕ) (o : OpOf N T A) → (head (with_id x o)).id ≡ x
+  leaf_id x (op h rs) = refl
+
+  leaf_operands : (x : ℕ) (o : OpOf N T A) → (head (with_id x o)).operands ≡ (head o).operands
+  leaf_operands x (op h rs) = refl
+
+  leaf_results : (x : ℕ) (o : OpOf N T A) → (head (with_id x o)).results ≡ (head o).results
+  leaf_results x (op h rs) = refl
+
+  -- operation x of a well-formed module stands behind a place
+  pub record Stood (x : ℕ) (front : Place) (m : ModuleOf N T A) : Type 0 where
+    pub formed : IsWellFormed isolated m
+    pub at : Behind x front m.tree
+
+  pub stood : (x : ℕ) (place : Place) (m : ModuleOf N T A) → IsWellFormed isolated m → place_of x m.tree ≡ Some place → Stood x (record place { before = Some x }) m
+  stood x place m w e = record { formed = w; at = behind_of x place m.tree e }
+
+  module _ (x : ℕ) (front : Place) (m : ModuleOf N T A) (s : Stood x front m) where
+    pub spot : has_place front m.tree ≡ true
+    spot = placed.spot x front m.tree s.formed.distinct s.at
+
+    levels : fits_around 0 (around front.parent m.tree) ≡ true
+    levels =
+        ap (fits_around 0) (placed.around_is x front m.tree s.formed.distinct s.at)
+        ∙ (let n = (from_formed isolated m.tree s.formed.formed).shallow (stand s.at.here (s.at.step_in ∷ s.at.path)) s.at.there in le-leb (length s.at.path + 1 + 0) most_around (omega (arith, n)))
+
+    -- an operation that holds none, whose operands x sees, is made in front of x
+    module _ (o : OpOf N T A) (leaf : hold_none (regions o) ≡ true) where
+      abbrev pub new : OpOf N T A
+      new = with_id m.next o
+
+      pub may : MayPut front (with_id m.next o) m.tree
+      may = may_put_leaf isolated front o m s.formed leaf spot
+
+      -- x sees what it saw
+      pub sees_still : (v : Value) → visible isolated m.tree x v ≡ true → visible isolated (put front (with_id m.next o) m.tree) x v ≡ true
+      sees_still = placed.sees_still x front m.tree s.formed.distinct s.at new may isolated
+
+      -- the new one sees what x sees
+      pub new_sees : (v : Value) → visible isolated m.tree x v ≡ true → visible isolated (put front (with_id m.next o) m.tree) m.next v ≡ true
+      new_sees v e = ap (λ z. visible isolated (put front new m.tree) z v) (sym (leaf_id m.next o)) ∙ placed.new_sees x front m.tree s.formed.distinct s.at new may isolated v e
+
+      -- and x sees what the new one gives
+      pub sees_new : (k : ℕ) → nat_lt k (length (head o).results) ≡ true → visible isolated (put front (with_id m.next o) m.tree) x (Result m.next k) ≡ true
+      sees_new k l = ap (λ z. visible isolated (put front new m.tree) x (Result z k)) (sym (leaf_id m.next o)) ∙ placed.sees_new x front m.tree s.formed.distinct s.at new may isolated k (ap (λ z. nat_lt k (length z)) (leaf_results m.next o) ∙ l)
+
+      -- the others have their heads
+      pub heads_stay : (y : ℕ) → has_id y m.tree ≡ true → option_map head (find y (put front (with_id m.next o) m.tree)) ≡ option_map head (find y m.tree)
+      heads_stay = placed.heads_stay x front m.tree s.formed.distinct s.at new may
+
+      pub new_found : find m.next (put front (with_id m.next o) m.tree) ≡ Some (with_id m.next o)
+      new_found = ap (λ z. find z (put front new m.tree)) (sym (leaf_id m.next o)) ∙ put_form.put_found front new m.tree may
+
+      module _ (seen : list_all (visible isolated m.tree x) (head o).operands ≡ true) (fits : op_fits o ≡ true) (room : nat_lt (op_count m.tree) most_ops ≡ true) (more : nat_lt m.next most_next ≡ true) where
+        -- no reason stands against it
+        pub make_free : put_reason isolated front o m.next m.tree ≡ None
+        make_free =
+            passes _ _ _ (placed.parent_is x front m.tree s.formed.distinct s.at)
+            (passes _ _ _ spot
+            (passes _ _ _ (both_hold _ _ room fits)
+            (passes _ _ _ more
+            (passes _ _ _ levels
+            (passes _ _ _ (each_all (λ v. has_value v m.tree) (head o).operands (λ v i. seen_is isolated m.tree s.formed.distinct x v (all_each (visible isolated m.tree x) (head o).operands seen v i)))
+            (passes _ _ _ (each_all (visible isolated (put front new m.tree) m.next) (head o).operands (λ v i. new_sees v (all_each (visible isolated m.tree x) (head o).operands seen v i))) refl))))))
+
+        -- and x stands behind the place as before
+        abbrev pub make_stood : Stood x front (record { tree = put front (with_id m.next o) m.tree; next = m.next + 1 })
+        make_stood = record {
+          formed = put_keeps isolated front o m s.formed leaf make_free;
+          at = placed.behind_still x front m.tree s.formed.distinct s.at new may;
+        }

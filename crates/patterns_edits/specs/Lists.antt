@@ -1,0 +1,62 @@
+-- Lists of edits: what each stands for, and what comes of making them one after another.
+use Rattle.std.specs.Prelude.{◌≡◌, List, [], ◌∷◌, ◌++◌, map, true, ◌⊎◌, Some, None, Result, Ok, Err}
+use Rattle.ir_types.specs.Things.{Things, IsName, IsAttr}
+use Rattle.ir_types.specs.declared.refusal.Refusal.{Refusal}
+use Rattle.ir_types.specs.declared.refusal.Refusal.TheVariants.{Memory}
+use Rattle.ir_tree.specs.Tree.{regions}
+use Rattle.ir_tree.specs.Meaning.{IsSoundIn}
+use Rattle.ir_tree_laws.specs.Reasons.{hold_none}
+use Rattle.ir_event.specs.Modules.{Module}
+use Rattle.rewriter_machine.specs.Contents.{Edit, NumberedEdit, all_edited, edit_meaning, edit_reason, edited}
+use Rattle.rewriter_machine.specs.Edits as edit
+use Rattle.patterns_edits.specs.declared.edit.Edit.{Edit as Coded}
+use Rattle.patterns_edits.specs.declared.edit.Edit.TheVariants as coded
+
+-- the edit of numbers that an edit of the code is
+abbrev pub numbered : Coded → NumberedEdit
+numbered (coded.Make place o) = edit.Make place o
+numbered (coded.SetOperand x k v) = edit.SetOperand x k v
+numbered (coded.Replace v w) = edit.Replace v w
+numbered (coded.Move x place) = edit.Move x place
+numbered (coded.Erase x) = edit.Erase x
+numbered (coded.SetAttr x k a) = edit.SetAttr x k a
+
+-- an edit fits a context: its numbers are of it, and what it makes has no operation in its blocks
+abbrev pub Fits : Things → Coded → Type 0
+Fits c (coded.Make place o) = IsSoundIn c o × (hold_none (regions o) ≡ true)
+Fits c (coded.SetOperand x k v) = Unit {0}
+Fits c (coded.Replace v w) = Unit {0}
+Fits c (coded.Move x place) = Unit {0}
+Fits c (coded.Erase x) = Unit {0}
+Fits c (coded.SetAttr x k a) = IsName c k × IsAttr c a
+
+-- each of a list does
+abbrev pub AllFit : Things → List Coded → Type 0
+AllFit c [] = Unit {0}
+AllFit c (e ∷ es) = Fits c e × AllFit c es
+
+-- what edits of the code stand for
+abbrev pub edits_meaning : Things → List Coded → List Edit
+edits_meaning c es = map (λ e. edit_meaning c (numbered e)) es
+
+-- an edit was made of a module, or refused for its reason or for want of memory
+abbrev pub Tried : Edit → Result (Unit {0}) Refusal → Module → Module → Type 0
+Tried e (Ok u) m n = (edit_reason e m ≡ None) × (n ≡ edited e m)
+Tried e (Err r) m n = ((r ≡ Memory) ⊎ (edit_reason e m ≡ Some r)) × (n ≡ m)
+
+-- one of some edits, made one after another, is refused for a reason
+pub record IsRefusedAmong (es : List Edit) (m : Module) (r : Refusal) : Type 0 where
+  pub made : List Edit
+  pub refused : Edit
+  pub rest : List Edit
+  pub parts : made ++ refused ∷ rest ≡ es
+  pub why : edit_reason refused (all_edited made m) ≡ Some r
+
+-- why edits aren't made: for want of memory, or since one of them is refused
+abbrev pub IsWhy : List Edit → Module → Refusal → Type 0
+IsWhy es m r = (r ≡ Memory) ⊎ IsRefusedAmong es m r
+
+-- no reason stands against any of them
+abbrev pub Free : List Edit → Module → Type 0
+Free [] m = Unit {0}
+Free (e ∷ es) m = (edit_reason e m ≡ None) × Free es (edited e m)

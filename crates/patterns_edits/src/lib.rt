@@ -1,0 +1,4 @@
+//! Edits as data: what a list of them stands for, and which lists no reason stands against.
+#![tactic(auto)]
+
+pub mod edit;
