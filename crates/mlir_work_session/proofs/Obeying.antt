@@ -9,17 +9,17 @@ use Rattle.ir_tree.specs.Meaning.{Operation}
 use Rattle.ir_event.specs.Listener.{Listener}
 use Rattle.ir_event.specs.Panels.{is_kind as has_this_kind}
 use Rattle.ir_text.specs.Printing.{text_of}
-use Rattle.ir_text_attributes.specs.Spelling.{SpellsAttr}
+use Rattle.ir_text.specs.Public.{SpellsAttr}
 use Rattle.rewriter.specs.Texts.{SpellsBeside}
 use Rattle.rewriter.specs.Held.{module_held}
 use Rattle.rewriter.specs.Benched.{Benched, state_of}
-use Rattle.rewriter_machine.specs.Commands as command
-use Rattle.rewriter_machine.specs.Commands.{Command, Asked, Ask, Misplaced, Unread, Asks, Follows, IsAttrRefusal, IsOpRefusal, Response, Replied, TextRefusedAt, TextRefused}
-use Rattle.rewriter_machine.specs.Edits as edit
-use Rattle.rewriter_machine.specs.Machine as call
-use Rattle.rewriter_machine.specs.Machine.{State, OpenMark, Call, Do, Reply, Done, Refused, Shows, Nothing, Rows, Tree, Answer, Goes, due, due_rollback, grows_under, PanelGoes}
-use Rattle.rewriter_machine.specs.Panels.{Shown, is_kind, has_kind, shown}
-use Rattle.rewriter_machine.specs.Spots.{Spot, spot_place}
+use Rattle.rewriter.specs.Commands as command
+use Rattle.rewriter.specs.Commands.{Command, Asked, Ask, Misplaced, Unread, Asks, Follows, IsAttrRefusal, IsOpRefusal, Response, Replied, TextRefusedAt, TextRefused}
+use Rattle.rewriter.specs.Edits as edit
+use Rattle.rewriter.specs.Machine as call
+use Rattle.rewriter.specs.Machine.{State, OpenMark, Call, Do, Reply, Done, Refused, Shows, Nothing, Rows, Tree, Answer, Goes, due, due_rollback, grows_under, PanelGoes}
+use Rattle.rewriter.specs.Panels.{Shown, is_kind, has_kind, shown}
+use Rattle.rewriter.specs.Spots.{Spot, spot_place}
 use Rattle.mlir_work_session.specs.Texts.{NotRead}
 use Rattle.mlir_work_session.specs.Machine.{Obeys, shows_text}
 use Rattle.mlir_work_session.specs.RowText.{rows_text}

@@ -11,7 +11,7 @@ use Rattle.ir_event.specs.declared.event.Event.{Event}
 use Rattle.ir_event.specs.Modules.{Module, Node}
 use Rattle.ir_event.specs.Listener.{Listener}
 use Rattle.ir_event.specs.Panels.{AllTold, is_kind as has_this_kind, has_kind as panel_has, Detached, BegunAgain, NotBegunAgain}
-use Rattle.rewriter_machine.specs.Panels.{Shown, IsSame, Ages, shown, all_shown, is_kind, has_kind, Detached as DetachedShown, BegunAgain as BegunShown}
+use Rattle.rewriter.specs.Panels.{Shown, IsSame, Ages, shown, all_shown, is_kind, has_kind, Detached as DetachedShown, BegunAgain as BegunShown}
 
 same_self : (a : Shown) → IsSame a a
 same_self a = record { kind = refl; analysis = λ t. refl }

@@ -8,11 +8,11 @@ use Rattle.ir_tree.specs.Meaning.{Operation}
 use Rattle.ir_event.specs.Modules.{Module}
 use Rattle.ir_event.specs.Listener.{Listener}
 use Rattle.ir_text.specs.Printing.{text_of}
-use Rattle.rewriter_machine.specs.Commands as said
-use Rattle.rewriter_machine.specs.Commands.{Command, Ask, Replied, TextRefusedAt}
-use Rattle.rewriter_machine.specs.Machine as call
-use Rattle.rewriter_machine.specs.Machine.{State, Done, Refused, Tree, Nothing as NoRows}
-use Rattle.rewriter_machine.specs.Panels.{Shown, all_shown, has_kind, is_kind}
+use Rattle.rewriter.specs.Commands as said
+use Rattle.rewriter.specs.Commands.{Command, Ask, Replied, TextRefusedAt}
+use Rattle.rewriter.specs.Machine as call
+use Rattle.rewriter.specs.Machine.{State, Done, Refused, Tree, Nothing as NoRows}
+use Rattle.rewriter.specs.Panels.{Shown, all_shown, has_kind, is_kind}
 use Rattle.mlir_work_script.specs.Commands.{Spoken, Nothing, Bad, Obey, line_says}
 use Rattle.mlir_work_script.specs.Lines.{lines_of}
 use Rattle.mlir_work_script.specs.declared.input.TheConstants.{MAX_SCRIPT_BYTES}

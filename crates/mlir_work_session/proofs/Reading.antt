@@ -17,11 +17,11 @@ use Rattle.ir_event.specs.declared.world.World.{World}
 use Rattle.ir_event.specs.Listener.{Listener}
 use Rattle.ir_event.specs.Modules.{things_in, module_in, module_meaning}
 use Rattle.ir_text.specs.Printing.{text_of}
-use Rattle.ir_text_attributes.specs.Spelling.{SpellsAttr}
-use Rattle.rewriter_machine.specs.Commands.{IsAttrRefusal, IsOpRefusal, Replied, TextRefusedAt}
-use Rattle.rewriter_machine.specs.Machine.{State, Refused}
-use Rattle.rewriter_machine.specs.Panels.{all_shown}
-use Rattle.rewriter_machine.specs.Spots.{Spot, spot_place}
+use Rattle.ir_text.specs.Public.{SpellsAttr}
+use Rattle.rewriter.specs.Commands.{IsAttrRefusal, IsOpRefusal, Replied, TextRefusedAt}
+use Rattle.rewriter.specs.Machine.{State, Refused}
+use Rattle.rewriter.specs.Panels.{all_shown}
+use Rattle.rewriter.specs.Spots.{Spot, spot_place}
 use Rattle.rewriter.specs.Held.{Held, module_held, open_marks}
 use Rattle.rewriter.specs.Moves.{Grown as DeskGrown}
 use Rattle.rewriter.specs.Benched.{Benched, IsKept, Led, state_of}

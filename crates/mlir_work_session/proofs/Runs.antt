@@ -3,11 +3,11 @@ use Rattle.std.proofs.Common.{◌≡◌, ℕ, ◌+◌, ◌&&◌, List, [], ◌�
 use Rattle.std.proofs.lemmas.Bool.Decides.{nat_tests}
 use Rattle.ir_types.specs.declared.refusal.Refusal.{Refusal}
 use Rattle.ir_types.specs.declared.refusal.Refusal.TheVariants.{BadCommand}
-use Rattle.rewriter_machine.specs.Commands.{Response, Replied as Says}
-use Rattle.rewriter_machine.specs.Machine.{Refused}
+use Rattle.rewriter.specs.Commands.{Response, Replied as Says}
+use Rattle.rewriter.specs.Machine.{Refused}
 use Rattle.mlir_work_script.specs.Commands.{Spoken, Nothing, Bad, Obey, line_says}
 use Rattle.mlir_work_script.specs.Lines.{lines_of}
-use Rattle.rewriter_machine.specs.Machine.{State}
+use Rattle.rewriter.specs.Machine.{State}
 use Rattle.mlir_work_session.specs.Output.{CanFill, IsBounded, Line, Manner, Replied, Replies, IsReplied, Runs, worse, says_nothing, asks, reply_line, is_accepted}
 use Rattle.mlir_work_session.specs.Ran.{RanOut}
 use Rattle.mlir_work_session.proofs.Listings.{some_listing_if}

@@ -6,7 +6,7 @@ use Rattle.mlir_work_script.specs.Writes.{AppendsFront}
 use Rattle.mlir_work_script.specs.declared.input.TheConstants.{MAX_SCRIPT_BYTES}
 use Rattle.std.specs.Io.KnownBytes.{Appends}
 use Rattle.mlir_work_script.proofs.Joins.{appends_join, front_join, front_more}
-use Rattle.rewriter_machine.specs.Panels.{Shown}
+use Rattle.rewriter.specs.Panels.{Shown}
 use Rattle.mlir_work_session.specs.Output.{Attaches, Manner, Runs, Session, worse}
 use Rattle.mlir_work_session.specs.Ran.{RanOut}
 use Rattle.mlir_work_session.proofs.Runs.{some_runs}

@@ -20,7 +20,7 @@ use Rattle.ir_store.specs.Nodes.{Node, node_of, regions_arguments}
 use Rattle.ir_store.specs.Stored.{Stored, known}
 use Rattle.ir_event.proofs.Shown.{known_there}
 use Rattle.rewriter.specs.Held.{Held, module_held}
-use Rattle.rewriter_machine.specs.Spots.{Spot, Before, After, Start, End, passing, coming, behind, beside, in_block, spot_place}
+use Rattle.rewriter.specs.Spots.{Spot, Before, After, Start, End, passing, coming, behind, beside, in_block, spot_place}
 
 module _ {N T A M U B : Type 0} (f : N → M) (g : T → U) (h : A → B) where
   map_region_at : (r : ℕ) (rs : RegionsOf N T A) → region_at r (map_regions f g h rs) ≡ option_map (map_region f g h) (region_at r rs)

@@ -1,10 +1,10 @@
 -- What a command makes of a bench: as the machine has it, and the bytes that are shown.
 use Rattle.std.specs.Prelude.{◌≡◌, ℕ, List, []}
 use Rattle.ir_text.specs.Printing.{text_of}
-use Rattle.ir_text_attributes.specs.Spelling.{SpellsAttr}
+use Rattle.ir_text.specs.Public.{SpellsAttr}
 use Rattle.rewriter.specs.Texts.{SpellsBeside}
-use Rattle.rewriter_machine.specs.Commands.{Command, Asked, Asks, Response, Replied, TextRefusedAt, Follows}
-use Rattle.rewriter_machine.specs.Machine.{State, Done, DoneAs, Refused, Shows, Nothing, Rows, Tree}
+use Rattle.rewriter.specs.Commands.{Command, Asked, Asks, Response, Replied, TextRefusedAt, Follows}
+use Rattle.rewriter.specs.Machine.{State, Done, DoneAs, Refused, Shows, Nothing, Rows, Tree}
 use Rattle.mlir_work_session.specs.RowText.{rows_text}
 use Rattle.mlir_work_session.specs.declared.reply.Reply.{Reply}
 use Rattle.mlir_work_session.specs.declared.reply.Reply.TheVariants as code

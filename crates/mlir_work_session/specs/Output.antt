@@ -7,9 +7,9 @@ use Rattle.ir_event.specs.Modules.{Module}
 use Rattle.ir_event.specs.Rows.{RowTerm}
 use Rattle.ir_tree.specs.Meaning.{Operation}
 use Rattle.ir_text.specs.Printing.{text_of}
-use Rattle.rewriter_machine.specs.Commands.{Command, Report, Print, Response, Replied as Says, TextRefusedAt}
-use Rattle.rewriter_machine.specs.Machine.{State, Done, DoneAs, Refused}
-use Rattle.rewriter_machine.specs.Panels.{Shown, Attached, has_kind}
+use Rattle.rewriter.specs.Commands.{Command, Report, Print, Response, Replied as Says, TextRefusedAt}
+use Rattle.rewriter.specs.Machine.{State, Done, DoneAs, Refused}
+use Rattle.rewriter.specs.Panels.{Shown, Attached, has_kind}
 use Rattle.mlir_work_script.specs.Commands.{Spoken, Nothing, Bad, Obey, line_says}
 use Rattle.mlir_work_script.specs.Lines.{lines_of}
 use Rattle.mlir_work_script.specs.declared.input.TheConstants.{MAX_SCRIPT_BYTES}

@@ -2,7 +2,7 @@
 use Rattle.std.specs.Prelude.{ℕ, List, Bool, Option, Result, Ok, Err}
 use Rattle.std.specs.Io.KnownBytes.{Appends}
 use Rattle.mlir_work_script.specs.Writes.{AppendsFront}
-use Rattle.rewriter_machine.specs.Panels.{Shown}
+use Rattle.rewriter.specs.Panels.{Shown}
 
 -- a status and an output with P: at an Err some such output was begun
 abbrev pub RanOut : {E : Type 0} → (ℕ → List ℕ → Type 0) → Option (List ℕ) → Option (List ℕ) → Result ℕ E → Type 0

@@ -4,7 +4,7 @@ use Rattle.ir_types.specs.Sound.{Holds}
 use Rattle.ir_types.specs.Things.{Grows}
 use Rattle.ir_types.specs.declared.refusal.Refusal.{Refusal}
 use Rattle.ir_event.specs.Listener.{Listener}
-use Rattle.rewriter_machine.specs.Commands.{TextRefused, Response, text_response}
+use Rattle.rewriter.specs.Commands.{TextRefused, Response, text_response}
 use Rattle.rewriter.specs.Benched.{Benched, IsKept, state_of}
 
 -- the context of a bench grew, and its module, marks and analyses stayed

@@ -4,10 +4,10 @@ ghost use Rattle.ir_types.specs.Things.{IsName, IsAttr};
 ghost use Rattle.ir_types.specs.Terms.{name_term, attr_term};
 ghost use Rattle.ir_types.specs.declared.refusal.Refusal.{Refusal as Reason};
 ghost use Rattle.ir_text.specs.Public.{IsTold};
-ghost use Rattle.ir_text_attributes.specs.Claims.{IsNoAttr};
-ghost use Rattle.ir_text_attributes.specs.Spelling.{SpellsAttr};
+ghost use Rattle.ir_text.specs.Public.{IsNoAttr};
+ghost use Rattle.ir_text.specs.Public.{SpellsAttr};
 ghost use Rattle.mlir_work_script.specs.Keys.{key_bytes};
-ghost use Rattle.rewriter_machine.specs.Commands.{IsAttrRefusal};
+ghost use Rattle.rewriter.specs.Commands.{IsAttrRefusal};
 ghost use Rattle.mlir_work_session.specs.Texts.{Grown, NotRead};
 ghost use Rattle.mlir_work_session.specs.Machine.{response_of};
 

@@ -1,7 +1,7 @@
 //! Listeners are attached, in the order in which they are handed in.
 ghost use Rattle.std.specs.Prelude.{◌≡◌, ◌&&◌, is_none};
 ghost use Rattle.mlir_work_script.specs.Writes.{Puts};
-ghost use Rattle.rewriter_machine.specs.Panels.{shown, all_shown};
+ghost use Rattle.rewriter.specs.Panels.{shown, all_shown};
 ghost use Rattle.rewriter.specs.Benched.{IsKept};
 ghost use Rattle.mlir_work_session.specs.Output.{Attaches, BoxTried, box_line};
 ghost use Rattle.mlir_work_session.specs.Ran.{AttachedOut};

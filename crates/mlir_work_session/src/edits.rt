@@ -1,6 +1,6 @@
 //! Commands that edit the module of a bench.
 ghost use Rattle.std.specs.Prelude.{◌≡◌, []};
-ghost use Rattle.rewriter_machine.specs.Commands.{DropAttr, Erase, Insert, Move, Replace, SetAttr, SetOperand};
+ghost use Rattle.rewriter.specs.Commands.{DropAttr, Erase, Insert, Move, Replace, SetAttr, SetOperand};
 ghost use Rattle.mlir_work_script.specs.Keys.{key_bytes};
 ghost use Rattle.mlir_work_script.specs.Spots.{spot_of};
 ghost use Rattle.rewriter.specs.Benched.{IsKept, state_of};

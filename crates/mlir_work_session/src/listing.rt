@@ -4,7 +4,7 @@ ghost use Rattle.ir_event.specs.Modules.{things_in, module_in};
 ghost use Rattle.ir_event.specs.Panels.{AllKept};
 ghost use Rattle.mlir_work_script.specs.Replies.{kind_line};
 ghost use Rattle.mlir_work_script.specs.Writes.{Puts, PutsSome};
-ghost use Rattle.rewriter_machine.specs.Panels.{shown, all_shown};
+ghost use Rattle.rewriter.specs.Panels.{shown, all_shown};
 ghost use Rattle.rewriter.specs.Benched.{IsKept, state_of};
 ghost use Rattle.mlir_work_session.specs.Output.{IsModule, IsKind, AreKinds, IsListing};
 

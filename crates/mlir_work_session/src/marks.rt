@@ -1,6 +1,6 @@
 //! Commands on marks and listeners, over a bench.
 ghost use Rattle.std.specs.Prelude.{◌≡◌, []};
-ghost use Rattle.rewriter_machine.specs.Commands.{Begin, Commit, Detach, Resync, Rollback};
+ghost use Rattle.rewriter.specs.Commands.{Begin, Commit, Detach, Resync, Rollback};
 ghost use Rattle.rewriter.specs.Benched.{IsKept, state_of};
 ghost use Rattle.mlir_work_session.specs.Machine.{Obeys, response_of};
 

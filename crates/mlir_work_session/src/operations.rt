@@ -4,10 +4,10 @@ ghost use Rattle.ir_tree.specs.Ids.{IsNumberedFrom};
 ghost use Rattle.ir_tree.specs.Meaning.{IsSoundIn, meaning};
 ghost use Rattle.ir_types.specs.declared.refusal.Refusal.{Refusal as Reason};
 ghost use Rattle.ir_text.specs.Public.{IsOpTold};
-ghost use Rattle.ir_text_operations.specs.Claims.{IsNone};
+ghost use Rattle.ir_text.specs.Public.{IsNone};
 ghost use Rattle.rewriter.specs.Held.{module_held};
 ghost use Rattle.rewriter.specs.Texts.{SpellsBeside};
-ghost use Rattle.rewriter_machine.specs.Commands.{IsOpRefusal};
+ghost use Rattle.rewriter.specs.Commands.{IsOpRefusal};
 ghost use Rattle.mlir_work_session.specs.Texts.{Grown, NotRead};
 ghost use Rattle.mlir_work_session.specs.Machine.{response_of};
 

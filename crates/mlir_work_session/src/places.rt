@@ -3,7 +3,7 @@ ghost use Rattle.std.specs.Prelude.{◌≡◌, Some, Option, is_some, option_map
 ghost use Rattle.ir_tree.specs.Ids.{has_id};
 ghost use Rattle.ir_tree.specs.Places.{place_of};
 ghost use Rattle.ir_tree_laws.specs.Reads.{first_at, ops_at};
-ghost use Rattle.rewriter_machine.specs.Spots.{passing, coming, behind, beside, in_block, spot_place};
+ghost use Rattle.rewriter.specs.Spots.{passing, coming, behind, beside, in_block, spot_place};
 ghost use Rattle.mlir_work_script.specs.Spots.{spot_of};
 
 use ir_store::store::Store;

@@ -7,7 +7,7 @@ ghost use Rattle.mlir_work_script.specs.Commands.{said_of, spoken_of};
 ghost use Rattle.mlir_work_script.specs.Lines.{lines_of};
 ghost use Rattle.mlir_work_script.specs.Writes.{Puts};
 ghost use Rattle.mlir_work_script.specs.declared.input.TheConstants.{MAX_SCRIPT_BYTES};
-ghost use Rattle.rewriter_machine.specs.Panels.{Shown, all_shown};
+ghost use Rattle.rewriter.specs.Panels.{Shown, all_shown};
 ghost use Rattle.mlir_work_session.specs.Machine.{response_of};
 ghost use Rattle.mlir_work_session.specs.Output.{IsSession, Manner, Runs, reply_line};
 ghost use Rattle.mlir_work_session.specs.PrintsAlone.{IsPrinted, all_print, is_print, kinds_apart, prints_alone};

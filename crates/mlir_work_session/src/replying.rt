@@ -1,6 +1,6 @@
 //! How a call of the bench is replied to.
 ghost use Rattle.std.specs.Prelude.{◌≡◌};
-ghost use Rattle.rewriter_machine.specs.Commands.{Replied};
+ghost use Rattle.rewriter.specs.Commands.{Replied};
 ghost use Rattle.rewriter.specs.Benched.{id_reply_of, reply_of};
 ghost use Rattle.mlir_work_session.specs.Machine.{response_of};
 

@@ -3,7 +3,7 @@ ghost use Rattle.std.specs.Prelude.{◌≡◌, [], if◌then◌else◌};
 ghost use Rattle.ir_event.specs.Modules.{module_in};
 ghost use Rattle.rewriter.specs.Journals.{IsSlotted, IsTidy};
 ghost use Rattle.rewriter.specs.Held.{module_held, open_marks};
-ghost use Rattle.rewriter_machine.specs.Panels.{all_shown};
+ghost use Rattle.rewriter.specs.Panels.{all_shown};
 ghost use Rattle.mlir_work_session.specs.Output.{IsSession, IsBadScript, Session, worse as worst};
 ghost use Rattle.mlir_work_session.specs.Ran.{RanOut};
 

@@ -6,12 +6,12 @@ ghost use Rattle.ir_types.specs.declared.refusal.Refusal.TheVariants.{IdsExhaust
 ghost use Rattle.ir_event.specs.Modules.{Module as Contents};
 ghost use Rattle.ir_text.specs.Public.{IsOpTold, IsTold};
 ghost use Rattle.ir_text.specs.declared.error.ReadError.{ReadError as Unread};
-ghost use Rattle.ir_text_attributes.specs.Claims.{IsNoAttr};
-ghost use Rattle.ir_text_attributes.specs.Spelling.{SpellsAttr};
-ghost use Rattle.ir_text_operations.specs.Claims.{IsNone};
+ghost use Rattle.ir_text.specs.Public.{IsNoAttr};
+ghost use Rattle.ir_text.specs.Public.{SpellsAttr};
+ghost use Rattle.ir_text.specs.Public.{IsNone};
 ghost use Rattle.rewriter.specs.Texts.{SpellsBeside};
-ghost use Rattle.rewriter_machine.specs.Commands.{IsAttrRefusal, IsOpRefusal, Replied, TextRefusedAt};
-ghost use Rattle.rewriter_machine.specs.Machine.{Refused};
+ghost use Rattle.rewriter.specs.Commands.{IsAttrRefusal, IsOpRefusal, Replied, TextRefusedAt};
+ghost use Rattle.rewriter.specs.Machine.{Refused};
 ghost use Rattle.mlir_work_session.specs.Output.{IsBounded};
 ghost use Rattle.mlir_work_session.specs.Texts.{NotRead};
 ghost use Rattle.mlir_work_session.specs.Machine.{response_of};

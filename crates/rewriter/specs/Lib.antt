@@ -7,3 +7,8 @@ pub use Rattle.rewriter_desk.specs.Moves
 pub use Rattle.rewriter_desk.specs.declared.mark.Mark
 pub use Rattle.rewriter_desk.specs.Journals
 pub use Rattle.rewriter_desk.specs.Texts
+pub use Rattle.rewriter_desk.specs.Commands
+pub use Rattle.rewriter_desk.specs.Edits
+pub use Rattle.rewriter_desk.specs.Machine
+pub use Rattle.rewriter_desk.specs.Panels
+pub use Rattle.rewriter_desk.specs.Spots

@@ -8,3 +8,5 @@ pub use Rattle.rewriter_machine.specs.Edits
 pub use Rattle.rewriter_machine.specs.Machine
 pub use Rattle.rewriter_machine.specs.Panels
 pub use Rattle.ir_text.specs.Public
+pub use Rattle.rewriter_machine.specs.Commands
+pub use Rattle.rewriter_machine.specs.Spots

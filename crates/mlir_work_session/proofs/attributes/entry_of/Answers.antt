@@ -1,4 +1,4 @@
-use Rattle.ir_text_attributes.specs.Spelling.{SpellsAttr}
+use Rattle.ir_text.specs.Public.{SpellsAttr}
 use Rattle.mlir_work_session.proofs.Reading.{grown_trans, unread_memory, attr_kept}
 use Rattle.mlir_work_session.proofs.attributes.entry_of.Goals as goal
 

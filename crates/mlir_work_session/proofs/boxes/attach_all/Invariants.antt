@@ -2,7 +2,7 @@ use Rattle.std.proofs.Common.{◌≡◌, ◌++◌, ◌&&◌, List, ℕ, Bool, le
 use Rattle.std.specs.Vec.Iter.{into_iter_items, into_iter_len}
 use Rattle.std.specs.Io.KnownBytes.{Appends}
 use Rattle.rewriter.specs.Benched.{IsKept}
-use Rattle.rewriter_machine.specs.Panels.{Shown, all_shown}
+use Rattle.rewriter.specs.Panels.{Shown, all_shown}
 use Rattle.mlir_work_session.specs.Output.{Attaches}
 use Rattle.mlir_work_session.proofs.boxes.attach_all.Given as goal
 

@@ -1,7 +1,7 @@
 use Rattle.std.proofs.Common.{◌++◌, List, ℕ, drop}
 use Rattle.std.specs.Io.KnownBytes.{Appends}
 use Rattle.ir_event.specs.Modules.{module_in}
-use Rattle.rewriter_machine.specs.Panels.{all_shown}
+use Rattle.rewriter.specs.Panels.{all_shown}
 use Rattle.mlir_work_session.specs.Output.{AreKinds}
 use Rattle.mlir_work_session.proofs.listing.put_listeners.Given as goal
 

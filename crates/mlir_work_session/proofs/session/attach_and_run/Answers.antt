@@ -1,10 +1,10 @@
 use Rattle.std.proofs.Common.{subst}
-use Rattle.rewriter_machine.specs.Machine.{State}
+use Rattle.rewriter.specs.Machine.{State}
 use Rattle.mlir_work_script.specs.Lines.{lines_of}
 use Rattle.mlir_work_session.specs.Output.{Runs}
 use Rattle.mlir_work_session.proofs.Reading.{begun_state}
 use Rattle.rewriter.specs.Held.{module_held}
-use Rattle.rewriter_machine.specs.Panels.{all_shown}
+use Rattle.rewriter.specs.Panels.{all_shown}
 use Rattle.mlir_work_session.proofs.Sessions.{session_ran, session_cut, session_begun}
 use Rattle.mlir_work_session.proofs.session.attach_and_run.Goals as goal
 

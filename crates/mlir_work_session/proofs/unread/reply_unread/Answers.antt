@@ -1,5 +1,5 @@
 use Rattle.std.proofs.Common.{refl}
-use Rattle.ir_text_attributes.specs.Spelling.{SpellsAttr}
+use Rattle.ir_text.specs.Public.{SpellsAttr}
 use Rattle.rewriter.specs.Texts.{SpellsBeside}
 use Rattle.mlir_work_session.proofs.Reading.{unread_full, unread_full_op, unread_memory, unread_memory_op}
 use Rattle.mlir_work_session.proofs.unread.reply_unread.Goals as goal
