@@ -9,6 +9,7 @@ use effects::effects::Effects;
 use ir_event::analysis::Analysis;
 use ir_verify::diagnostics::Diagnostics;
 use listeners::uses::Uses;
+use listeners_symbols::symbols::Symbols;
 use mlir_work_run::options::options_of;
 use mlir_work_run::run::{Options, run_keyed};
 use std::alloc::AllocError;
@@ -16,7 +17,6 @@ use std::io::BufWriter;
 use std::process::ExitCode;
 use std::random::RandomSource;
 use std::{env, io};
-use listeners_symbols::symbols::Symbols;
 
 /// Says that there is no memory to begin a run, and gives the status.
 fn no_memory(rt: &HostRuntime) -> u8 {

@@ -1,4 +1,4 @@
-use Rattle.std.proofs.Common.{inl, inr, length, refl, None}
+use Rattle.std.proofs.Common.{◌∙◌, inl, inr, length, refl, None}
 use Rattle.ir_types.specs.declared.refusal.Refusal.TheVariants.{Memory}
 use Rattle.ir_tree.specs.Ids.{op_count}
 use Rattle.ir_tree.specs.Meaning.{meaning}
@@ -33,5 +33,5 @@ returns-in_default g c = ran_so (IsRefusal c.no_memory.result.refusal c.no_memor
 pub returns : goal.returns
 returns g c =
     let world = world_is (module_text c.args.input.items) c.in-Ok.parts.0.0 c.in-Ok.parts.0.1 (module_in c.in-Some.world) c.in-Ok.ensures.read c.in-Some.ensures.module in
-    let ran = rw (c.deref-3.ensures.value, c.in-Ok.ensures.script, c.len-bytes.ensures) at c.answer_script.ensures in
+    let ran = rw (c.deref-3.ensures.value, c.in-Ok.ensures.script, c.len-bytes.ensures ∙ c.args.input.ok.0) at c.answer_script.ensures in
     ran_so (IsSession (record { brief = c.args.brief; bytes = length c.args.input.items }) (all_shown g.L.Analysis.meaning c.args.boxes.items) (module_in c.in-Some.world) (script_text c.args.input.items)) (IsOutput c.args.brief (all_shown g.L.Analysis.meaning c.args.boxes.items) c.args.input.items) _ _ c.answer_script.result (λ st o h. inr (c.requires, inr (module_in c.in-Some.world, world, h))) ran
