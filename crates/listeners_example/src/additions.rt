@@ -12,11 +12,11 @@ use ir_tree::value::Value;
 use ir_types::context::Context;
 use ir_types::ids::{NameId, OpId};
 use ir_types::word::Word;
-use op_registry::registry::Registry;
-use std::alloc::{AllocError, Global};
 use listeners_surroundings::around::Around;
 use listeners_surroundings::fact::Fact;
 use listeners_surroundings::kept::Kept;
+use op_registry::registry::Registry;
+use std::alloc::{AllocError, Global};
 
 /// Whether an operation is an addition.
 #[derive(Drop)]
@@ -51,6 +51,7 @@ impl Fact for IsAddition {
 /// It keeps which operations are additions. After an event it looks again at the operations near it.
 #[derive(Drop)]
 pub struct AdditionCount {
+    alloc: Global,
     kept: Kept<IsAddition>,
 }
 
@@ -62,6 +63,7 @@ impl AdditionCount {
         ensures { (addition_count_listener result).stale ≡ true }
     {
         AdditionCount {
+            alloc,
             kept: Kept::new(alloc),
         }
     }
@@ -73,7 +75,7 @@ impl Analysis for AdditionCount {
     ghost meaning = { addition_count_listener };
 
     fn kind(&self) -> Kind {
-        Kind::new(100)
+        Kind(100)
     }
 
     fn begin(&mut self, world: &World) -> Result<(), Memory> {
@@ -88,14 +90,14 @@ impl Analysis for AdditionCount {
         self.kept.stale()
     }
 
-    fn report(&self, alloc: Global) -> Result<Vec<Row>, ReportFault> {
+    fn report(&self) -> Result<Vec<Row>, ReportFault> {
         if self.kept.stale() {
             return Err(ReportFault::Stale);
         }
         let Ok(count) = u32::try_from(self.kept.facts().len()) else {
             return Err(ReportFault::Memory);
         };
-        match rows(alloc, count) {
+        match rows(self.alloc, count) {
             Ok(rows) => Ok(rows),
             Err(_) => Err(ReportFault::Memory),
         }
@@ -106,7 +108,8 @@ impl Analysis for AdditionCount {
 fn rows(alloc: Global, count: u32) -> Result<Vec<Row>, AllocError>
     ensures { IfOk result (λ rows. map (λ (r : Line). r.cells.items) rows.items ≡ (Num count ∷ []) ∷ []) }
 {
-    // The checker has no proof of the loans of a function that makes cells, unless it has a value of each type in a cell.
+    // The checker has no proof of the loans of a function that makes cells, unless it has a value of each type in a
+    // cell.
     let _value = Value::Result(OpId::new(0), 0);
     let mut cells = Vec::with_capacity(alloc, 1)?;
     cells.push(Cell::Num(count))?;

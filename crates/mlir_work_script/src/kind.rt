@@ -44,22 +44,22 @@ pub fn kind_named(word: &[u8]) -> Option<Kind>
     ensures { result ≡ kind_of word.now }
 {
     if word == b"uses".as_slice() {
-        return Some(Kind::new(1));
+        return Some(Kind::USES);
     }
     if word == b"symbols".as_slice() {
-        return Some(Kind::new(2));
+        return Some(Kind::SYMBOLS);
     }
     if word == b"diagnostics".as_slice() {
-        return Some(Kind::new(3));
+        return Some(Kind::DIAGNOSTICS);
     }
     if word == b"effects".as_slice() {
-        return Some(Kind::new(4));
+        return Some(Kind::EFFECTS);
     }
     if word == b"dead".as_slice() {
-        return Some(Kind::new(5));
+        return Some(Kind::DEAD);
     }
     if word == b"constants".as_slice() {
-        return Some(Kind::new(6));
+        return Some(Kind::CONSTANTS);
     }
     numbered_kind(word)
 }

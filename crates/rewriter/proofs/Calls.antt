@@ -7,9 +7,9 @@ use Rattle.ir_types.specs.declared.refusal.Refusal.{Refusal}
 use Rattle.ir_types.specs.declared.refusal.Refusal.TheVariants.{Memory}
 use Rattle.ir_event.specs.Modules.{Module, module_meaning}
 use Rattle.ir_tree.specs.WellFormed.{Module as Numbered}
-use Rattle.rewriter_machine.specs.Machine.{State, Call, Reply, Answer, OpenMark, Do, Step, Commit, Rollback, Done, Refused, Nothing, Goes, due_edit, due_commit, due_rollback, done, refused, accepted, grows_under}
-use Rattle.rewriter_machine.specs.Contents.{Edit, edited, edit_reason}
-use Rattle.rewriter_machine.specs.Panels.{AllAge}
+use Rattle.rewriter_desk.specs.Machine.{State, Call, Reply, Answer, OpenMark, Do, Step, Commit, Rollback, Done, Refused, Nothing, Goes, due_edit, due_commit, due_rollback, done, refused, accepted, grows_under}
+use Rattle.rewriter_desk.specs.Contents.{Edit, edited, edit_reason}
+use Rattle.rewriter_desk.specs.Panels.{AllAge}
 
 -- an accepted step notes the module held
 pub stepped : (s t : State) → Goes s Step Done Nothing t → (t.held ≡ s.held) × (t.marks ≡ record { marked = s.held; counted = false } ∷ s.marks)

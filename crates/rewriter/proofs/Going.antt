@@ -7,11 +7,11 @@ use Rattle.ir_store.specs.Stored.{Stored}
 use Rattle.ir_event.specs.declared.event.Event.{Event}
 use Rattle.ir_event.specs.Listener.{Listener}
 use Rattle.ir_event.specs.Modules.{Module, module_meaning}
-use Rattle.rewriter_machine.specs.Contents.{NumberedEdit, Edit, edit_meaning, edited, edit_reason, tests_in}
-use Rattle.rewriter_machine.specs.Edits.{edited_by, reason_by}
-use Rattle.rewriter_machine.specs.Machine.{OpenMark, Do, Reply, Done, Refused, Nothing, Answer, IsAnswer, due_edit, accepted, grows, grows_under, refused}
-use Rattle.rewriter_machine.specs.Panels.{all_shown}
-use Rattle.rewriter_machine.proofs.Numbers.{edited_meaning, reason_meaning}
+use Rattle.rewriter_desk.specs.Contents.{NumberedEdit, Edit, edit_meaning, edited, edit_reason, tests_in}
+use Rattle.rewriter_desk.specs.Edits.{edited_by, reason_by}
+use Rattle.rewriter_desk.specs.Machine.{OpenMark, Do, Reply, Done, Refused, Nothing, Answer, IsAnswer, due_edit, accepted, grows, grows_under, refused}
+use Rattle.rewriter_desk.specs.Panels.{all_shown}
+use Rattle.rewriter_desk.proofs.Numbers.{edited_meaning, reason_meaning}
 use Rattle.rewriter_desk.specs.Held.{Held, module_held, open_marks}
 use Rattle.rewriter_desk.specs.Moves.{Edited, IsAnswered}
 use Rattle.rewriter.specs.Benched.{Benched, Does, Made, reply_of, state_of}

@@ -13,8 +13,8 @@ use Rattle.ir_event.proofs.Kept.{kept_attached, kept_detached, kept_begun, kept_
 use Rattle.ir_event.specs.Panels.{AllKept, AttachedLast, BegunAgain, Detached, HandedBack, NotBegunAgain, IsListener, has_kind, is_kind}
 use Rattle.ir_event.specs.Rows.{RowTerm, RowIsOf, Shows, rows_meaning}
 use Rattle.ir_event.specs.declared.row.Row.{Row}
-use Rattle.rewriter_machine.specs.Machine.{State, OpenMark, Attach, Detach, Resync, Report, Reply, Done, Refused, Shows as ShownBeside, Nothing, Rows, Goes}
-use Rattle.rewriter_machine.specs.Panels.{shown, all_shown, has_kind as kind_among, is_kind as is_shown_kind}
+use Rattle.rewriter_desk.specs.Machine.{State, OpenMark, Attach, Detach, Resync, Report, Reply, Done, Refused, Shows as ShownBeside, Nothing, Rows, Goes}
+use Rattle.rewriter_desk.specs.Panels.{shown, all_shown, has_kind as kind_among, is_kind as is_shown_kind}
 use Rattle.rewriter_desk.specs.Held.{Held, module_held, open_marks}
 use Rattle.rewriter.specs.Benched.{Benched, Does, IsKept, attach_reply_of, reply_of}
 use Rattle.rewriter.proofs.Panels.{kind_shown, find_shown, find_has, attached_shown, detached_shown, begun_shown, has_placed, Found, listener_found}

@@ -3,8 +3,8 @@ use Rattle.std.proofs.Common.{◌≡◌, ◌≢◌, ◌∙◌, sym, ap, subst, r
 use Rattle.std.specs.Prelude.{reverse, map, filter}
 use Rattle.std.proofs.lemmas.List.{reverse-append, drop-take}
 use Rattle.ir_event.specs.declared.event.Event.{Event}
-use Rattle.rewriter_machine.specs.Contents.{Edit}
-use Rattle.rewriter_machine.specs.Machine.{OpenMark, counted_marks, grows_under}
+use Rattle.rewriter_desk.specs.Contents.{Edit}
+use Rattle.rewriter_desk.specs.Machine.{OpenMark, counted_marks, grows_under}
 use Rattle.rewriter_desk.specs.declared.mark.Mark.{Mark}
 use Rattle.rewriter_desk.specs.Held.{Held, open_mark, open_marks}
 use Rattle.rewriter_desk.specs.Marked.{counted_among}

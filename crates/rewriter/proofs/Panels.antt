@@ -12,7 +12,7 @@ use Rattle.ir_event.specs.declared.event.Event.{Event}
 use Rattle.ir_event.specs.Modules.{Module, Node}
 use Rattle.ir_event.specs.Listener.{Listener}
 use Rattle.ir_event.specs.Panels.{AllTold, AllFollowed, AttachedLast, IsListener, is_kind as has_this_kind, has_kind as panel_has, Detached, BegunAgain}
-use Rattle.rewriter_machine.specs.Panels.{Shown, IsSame, Ages, shown, all_shown, is_kind, has_kind, Attached as AttachedShown, Detached as DetachedShown, BegunAgain as BegunShown}
+use Rattle.rewriter_desk.specs.Panels.{Shown, IsSame, Ages, shown, all_shown, is_kind, has_kind, Attached as AttachedShown, Detached as DetachedShown, BegunAgain as BegunShown}
 
 pub within_some : {X : Type 0} (xs : List X) (i : ℕ) → i < length xs → None ≡ slice_get xs i → ⊥
 within_some [] i lt e = omega (arith, lt)

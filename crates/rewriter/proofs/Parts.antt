@@ -13,8 +13,8 @@ use Rattle.ir_tree_laws.proofs.Around.{absent_find}
 use Rattle.ir_store.specs.Nodes.{Node, node_of}
 use Rattle.ir_store.specs.Stored.{Stored, known}
 use Rattle.ir_event.proofs.Shown.{known_there}
-use Rattle.rewriter_machine.specs.Contents.{tests_in}
-use Rattle.rewriter_machine.specs.Edits.{part_in, part_for}
+use Rattle.rewriter_desk.specs.Contents.{tests_in}
+use Rattle.rewriter_desk.specs.Edits.{part_in, part_for}
 
 -- where the operation isn't there
 pub absent_part : (c : Things) (x k : ℕ) (t : Op) → has_id x t ≡ false → part_for (tests_in c) x k t ≡ Attrs

@@ -4,9 +4,14 @@ use Rattle.std.specs.Prelude.{nat_lt, OnOk, OnErr}
 use Rattle.std.proofs.lemmas.List.{length-take}
 use Rattle.ir_types.specs.declared.refusal.Refusal.{Refusal}
 use Rattle.ir_types.specs.declared.refusal.Refusal.TheVariants.{Memory, NoMark, TooManyMarks}
+use Rattle.std.specs.FinMap as finmap
+use Rattle.std.specs.Ordering.{nat_cmp}
+use Rattle.ir_tree.specs.Tree.{Op}
+use Rattle.ir_tree.specs.WellFormed.{Module}
+use Rattle.ir_store.specs.Calls.{Loaded}
 use Rattle.ir_event.specs.Listener.{Listener}
 use Rattle.ir_event.specs.Modules.{module_meaning}
-use Rattle.rewriter_machine.specs.Machine.{State, Mark, Step, Commit, Rollback, Done, Refused, IsAnswer, most_marks, marked, done, due, due_commit, due_rollback, refused}
+use Rattle.rewriter_desk.specs.Machine.{State, Mark, Step, Commit, Rollback, Done, Refused, IsAnswer, most_marks, marked, done, due, due_commit, due_rollback, refused}
 use Rattle.ir_event.specs.declared.event.Event.{Event}
 use Rattle.rewriter_desk.specs.Journals.{IsTidy, before, inverses}
 use Rattle.rewriter_desk.specs.declared.mark.Mark.{Mark as DeskMark}
@@ -70,6 +75,15 @@ settled_left g some =
 pub settled_on : (g h : Held) → IsTidy g.store → Settled g h → IsSettled h
 settled_on g h t s = record { tidy = s.tidy t; alone = s.alone }
 
+-- a desk without marks, of which all that isn't the module was given up
+pub settled_begun : (g h : Held) → g.marks ≡ [] → Settled g h → IsSettled h
+settled_begun g h none s =
+    let alone : HoldsModuleAlone h.store = s.alone (s.marks ∙ none) in
+    record { tidy = λ x le. ap (λ m. finmap.get m x) alone.held ∙ finmap.get-empty nat_cmp x; alone = s.alone }
+
+pub settled_loaded : (t : Op) (free : ℕ) (g h : Held) → g.marks ≡ [] → Loaded t free g.store → Settled g h → Loaded t free h.store
+settled_loaded t free g h none loaded s = subst (λ (m : Module). Loaded m.tree m.next h.store) (s.module_of ∙ loaded.module_of) (s.alone (s.marks ∙ none))
+
 pub given_settled : (g h : Held) → GivenUp g h → IsSettled h
 given_settled g h t = record { tidy = t.tidy; alone = t.alone }
 
@@ -99,7 +113,7 @@ dropped_kept g h k good shut t =
     record {
       newest = shut.mark.length;
       mark = newest g h.marks shut.mark shut.marks good;
-      marks = t.marks;
+      marks = t.marks ∙ front_same h.marks (newest g h.marks shut.mark shut.marks good).rest shut.mark (record { length = shut.mark.length; counted = (newest g h.marks shut.mark shut.marks good).counted }) (sym shut.marks ∙ (newest g h.marks shut.mark shut.marks good).marks);
       journal = t.journal ∙ ap (λ (l : Held). l.journal) shut.held ∙ ap (λ ks. kept ks g.journal) (sym t.marks);
       behind = λ some n le. t.behind n ∙ closed_behind g h shut (λ none. some (t.marks ∙ none)) n;
     }

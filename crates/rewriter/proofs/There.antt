@@ -13,7 +13,7 @@ use Rattle.ir_tree_laws.proofs.Members.{stand, itself, stand_found, same_stand}
 use Rattle.ir_tree_laws.proofs.Around.{present_stand, member_of_place}
 use Rattle.ir_tree_laws.proofs.Listed.{bool_cases}
 use Rattle.ir_tree_laws.proofs.Shift.{Inner, inner_of, inner_place}
-use Rattle.rewriter_machine.specs.Edits.{erase_reason}
+use Rattle.rewriter_desk.specs.Edits.{erase_reason}
 
 module _ {N T A : Type 0} (x : ℕ) (t : OpOf N T A) (d : HasDistinctIds t) (known : has_id x t ≡ true) where
   pub there : (o : OpOf N T A) × (find x t ≡ Some o)

@@ -11,11 +11,11 @@ use Rattle.ir_store.specs.Stored.{Stored}
 use Rattle.ir_event.specs.declared.event.Event.{Event}
 use Rattle.ir_event.specs.Listener.{Listener}
 use Rattle.ir_event.specs.Modules.{Module, module_meaning}
-use Rattle.rewriter_machine.specs.Contents.{NumberedEdit, edit_meaning, edited, edit_reason, tests_in}
-use Rattle.rewriter_machine.specs.Edits.{edited_by, reason_by}
-use Rattle.rewriter_machine.specs.Machine.{State, OpenMark, Do, Step, Commit, Rollback, Reply, Done, Refused, Nothing, Goes, accepted}
-use Rattle.rewriter_machine.specs.Panels.{AllAge, all_shown}
-use Rattle.rewriter_machine.proofs.Numbers.{edited_meaning, reason_meaning}
+use Rattle.rewriter_desk.specs.Contents.{NumberedEdit, edit_meaning, edited, edit_reason, tests_in}
+use Rattle.rewriter_desk.specs.Edits.{edited_by, reason_by}
+use Rattle.rewriter_desk.specs.Machine.{State, OpenMark, Do, Step, Commit, Rollback, Reply, Done, Refused, Nothing, Goes, accepted}
+use Rattle.rewriter_desk.specs.Panels.{AllAge, all_shown}
+use Rattle.rewriter_desk.proofs.Numbers.{edited_meaning, reason_meaning}
 use Rattle.rewriter.specs.Mark.{Mark}
 use Rattle.rewriter.specs.Held.{Held, module_held, open_mark, open_marks}
 use Rattle.rewriter.specs.Moves.{Recorded}

@@ -15,7 +15,7 @@ use Rattle.ir_event.specs.Panels.{AllTold, AllFollowed}
 use Rattle.ir_event.specs.Step.{Step, Steps}
 use Rattle.ir_event.proofs.Follows.{zip_self, follow_none, all_none, all_told, all_more, all_kept}
 use Rattle.ir_event.proofs.Steps.{step_stays}
-use Rattle.rewriter_machine.specs.Panels.{AllAge, all_shown}
+use Rattle.rewriter_desk.specs.Panels.{AllAge, all_shown}
 use Rattle.rewriter_desk.specs.Held.{Held, module_held, shown_of}
 use Rattle.rewriter_desk.specs.Moves.{Edited, Grown}
 use Rattle.rewriter.specs.Benched.{Benched, Heard, IsKept, Led, Made}

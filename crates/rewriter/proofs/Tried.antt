@@ -13,8 +13,8 @@ use Rattle.ir_tree.proofs.Steps.{next_left}
 use Rattle.ir_tree_laws.specs.Reasons.{hold_none, put_reason}
 use Rattle.ir_store.specs.Calls.{after_put}
 use Rattle.ir_event.specs.Listener.{Listener}
-use Rattle.rewriter_machine.specs.Contents.{tests_in}
-use Rattle.rewriter_machine.specs.Edits.{Make, TestsOf, edited_by}
+use Rattle.rewriter_desk.specs.Contents.{tests_in}
+use Rattle.rewriter_desk.specs.Edits.{Make, TestsOf, edited_by}
 use Rattle.rewriter_laws.specs.Inserting.{all_made}
 use Rattle.rewriter.specs.Benched.{Benched, Made}
 use Rattle.rewriter.specs.Wholes.{Onward}

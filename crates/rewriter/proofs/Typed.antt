@@ -13,8 +13,8 @@ use Rattle.ir_tree_laws.specs.Values.{type_of_value}
 use Rattle.ir_tree_laws.specs.Reasons.{unless, users_see}
 use Rattle.ir_event.specs.declared.world.World.{World}
 use Rattle.ir_event.proofs.Typed.{value_known}
-use Rattle.rewriter_machine.specs.Contents.{tests_in}
-use Rattle.rewriter_machine.specs.Edits.{replace_reason}
+use Rattle.rewriter_desk.specs.Contents.{tests_in}
+use Rattle.rewriter_desk.specs.Edits.{replace_reason}
 use Rattle.ir_types.specs.SameTypes.{same_type}
 use Rattle.ir_types.proofs.SameTerms.{same_numbers}
 

@@ -17,11 +17,11 @@ use Rattle.ir_tree_laws.specs.Reads.{around}
 use Rattle.ir_tree_laws.specs.Reasons.{unless, has_place, fits_around}
 use Rattle.ir_event.specs.Listener.{Listener}
 use Rattle.ir_event.specs.Modules.{Module}
-use Rattle.rewriter_machine.specs.Contents.{Edit, NumberedEdit, edit_meaning, edit_reason, tests_in}
-use Rattle.rewriter_machine.specs.Edits.{Insert, edited_by, insert_reason, reason_by}
-use Rattle.rewriter_machine.specs.Machine.{State, OpenMark, Do, Reply, DoneAs, Refused, Nothing, Goes, due_edit, grows_under}
-use Rattle.rewriter_machine.specs.Panels.{AllAge}
-use Rattle.rewriter_machine.proofs.Numbers.{reason_meaning}
+use Rattle.rewriter_desk.specs.Contents.{Edit, NumberedEdit, edit_meaning, edit_reason, tests_in}
+use Rattle.rewriter_desk.specs.Edits.{Insert, edited_by, insert_reason, reason_by}
+use Rattle.rewriter_desk.specs.Machine.{State, OpenMark, Do, Reply, DoneAs, Refused, Nothing, Goes, due_edit, grows_under}
+use Rattle.rewriter_desk.specs.Panels.{AllAge}
+use Rattle.rewriter_desk.proofs.Numbers.{reason_meaning}
 use Rattle.rewriter.specs.Held.{module_held, open_marks}
 use Rattle.rewriter_laws.specs.Inserting.{insert_fault}
 use Rattle.rewriter.specs.Benched.{Benched, Led, state_of}

@@ -7,8 +7,8 @@ use Rattle.ir_event.specs.declared.event.Event.{Event}
 use Rattle.ir_event.specs.Listener.{Listener}
 use Rattle.ir_event.specs.Panels.{AllFollowed, AllKept}
 use Rattle.ir_event.specs.Step.{Steps}
-use Rattle.rewriter_machine.specs.Machine.{State, Call, Reply, Done, DoneAs, Refused, Nothing, Goes}
-use Rattle.rewriter_machine.specs.Panels.{all_shown}
+use Rattle.rewriter_desk.specs.Machine.{State, Call, Reply, Done, DoneAs, Refused, Nothing, Goes}
+use Rattle.rewriter_desk.specs.Panels.{all_shown}
 use Rattle.rewriter_desk.specs.Journals.{inverses}
 use Rattle.rewriter_desk.specs.Held.{Held, module_held, open_marks}
 use Rattle.rewriter_desk.specs.Marked.{IsNewest}

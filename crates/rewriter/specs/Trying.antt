@@ -8,7 +8,7 @@ use Rattle.ir_tree.specs.Tree.{Op, regions}
 use Rattle.ir_tree.specs.Meaning.{IsSoundIn}
 use Rattle.ir_tree.specs.WellFormed.{Module}
 use Rattle.ir_tree_laws.specs.Reasons.{hold_none, put_reason}
-use Rattle.rewriter_machine.specs.Edits.{TestsOf}
+use Rattle.rewriter_desk.specs.Edits.{TestsOf}
 use Rattle.rewriter_laws.specs.Inserting.{all_made}
 
 -- each of these operations is of a context, and holds none in its blocks

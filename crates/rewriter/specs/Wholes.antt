@@ -3,7 +3,7 @@ use Rattle.std.specs.Prelude.{◌≡◌, ◌≢◌, List, [], ◌∷◌, Bool, i
 use Rattle.ir_types.specs.declared.refusal.Refusal.{Refusal}
 use Rattle.ir_types.specs.declared.refusal.Refusal.TheVariants.{Memory}
 use Rattle.ir_event.specs.Listener.{Listener}
-use Rattle.rewriter_machine.specs.Machine.{OpenMark}
+use Rattle.rewriter_desk.specs.Machine.{OpenMark}
 use Rattle.rewriter.specs.Held.{Held, module_held, open_marks}
 use Rattle.rewriter.specs.Benched.{Benched, Journaled}
 use Rattle.rewriter.specs.Rolling.{Dropped}

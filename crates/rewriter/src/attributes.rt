@@ -4,10 +4,10 @@ ghost use Rattle.ir_types.specs.Things.{IsName, IsAttr};
 ghost use Rattle.ir_tree.specs.Edits.{entry_at};
 ghost use Rattle.ir_tree.specs.Meaning.{key_before_in};
 ghost use Rattle.ir_store.specs.Calls.{after_entry};
-ghost use Rattle.rewriter_machine.specs.Contents.{edit_meaning, tests_in};
-ghost use Rattle.rewriter_machine.specs.Edits.{DropAttr, SetAttr, part_for};
+ghost use Rattle.rewriter_desk.specs.Contents.{edit_meaning, tests_in};
+ghost use Rattle.rewriter_desk.specs.Edits.{DropAttr, SetAttr, part_for};
 ghost use Rattle.ir_tree_laws.specs.Reasons.{set_entry_reason};
-ghost use Rattle.rewriter_machine.specs.Machine.{Do};
+ghost use Rattle.rewriter_desk.specs.Machine.{Do};
 ghost use Rattle.rewriter_desk.specs.Moves.{IsAnswered};
 ghost use Rattle.rewriter.specs.Benched.{Does, Keeps, Led, Made, reply_of};
 

@@ -16,7 +16,6 @@ ghost use Rattle.rewriter.specs.Benched.{Led};
 ghost use Rattle.rewriter.specs.Rolling.{IsSettled, Settled};
 
 use crate::marks::settle;
-use rewriter_desk::desk::Desk;
 use ir_event::analysis::Analysis;
 use ir_event::event::Event;
 use ir_event::panel::Panel;
@@ -27,7 +26,8 @@ use ir_types::ids::{AttrId, NameId, TypeId};
 use ir_types::node::{AttrNode, TypeNode};
 use ir_types::refusal::Refusal;
 use op_registry::registry::Registry;
-use rewriter_journal::laws::stores_stay_slotted;
+use rewriter_desk::desk::Desk;
+use rewriter_desk::laws::stores_stay_slotted;
 use std::alloc::Global;
 use std::marker::Model;
 

@@ -5,9 +5,9 @@ ghost use Rattle.ir_types.specs.Words.{is_table};
 ghost use Rattle.ir_tree.specs.Meaning.{IsSoundIn, isolated_in};
 ghost use Rattle.ir_tree_laws.specs.Reasons.{holds_none, put_reason, set_operand_reason, shift_reason, take_reason};
 ghost use Rattle.ir_store.specs.Calls.{after_operand, after_put, after_shift, after_take};
-ghost use Rattle.rewriter_machine.specs.Contents.{edit_meaning};
-ghost use Rattle.rewriter_machine.specs.Edits.{Make, Move, SetOperand};
-ghost use Rattle.rewriter_machine.specs.Machine.{Do};
+ghost use Rattle.rewriter_desk.specs.Contents.{edit_meaning};
+ghost use Rattle.rewriter_desk.specs.Edits.{Make, Move, SetOperand};
+ghost use Rattle.rewriter_desk.specs.Machine.{Do};
 ghost use Rattle.rewriter_desk.specs.Moves.{IsAnswered};
 ghost use Rattle.rewriter.specs.Benched.{Does, Keeps, Led, Made, id_reply_of, reply_of};
 

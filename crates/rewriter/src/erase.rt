@@ -1,19 +1,19 @@
 //! Erasing an operation with what is inside it.
 ghost use Rattle.std.specs.Prelude.{◌≡◌, None, OnOk};
-ghost use Rattle.rewriter_machine.specs.Contents.{edit_meaning, tests_in};
-ghost use Rattle.rewriter_machine.specs.Edits.{Erase, edited_by, reason_by};
-ghost use Rattle.rewriter_machine.specs.Machine.{Do};
+ghost use Rattle.rewriter_desk.specs.Contents.{edit_meaning, tests_in};
+ghost use Rattle.rewriter_desk.specs.Edits.{Erase, edited_by, reason_by};
+ghost use Rattle.rewriter_desk.specs.Machine.{Do};
 ghost use Rattle.rewriter.specs.Benched.{Does, Keeps, Led, reply_of};
 ghost use Rattle.rewriter.specs.Wholes.{IsDoneOrNoted, Onward};
 
+use crate::bench::Bench;
 use crate::faults::erase_fault;
 use crate::finish::finish;
-use rewriter_laws::turns::erasing_by_last;
+use crate::laws::led_benches_are_kept;
 use ir_event::analysis::Analysis;
 use ir_types::ids::OpId;
 use ir_types::refusal::Refusal;
-use crate::bench::Bench;
-use crate::laws::led_benches_are_kept;
+use rewriter_laws::turns::erasing_by_last;
 
 /// Takes an operation and those inside it, the last in pre-order first, where nothing stands against it.
 fn take_all<L: Analysis>(bench: &mut Bench<L>, op: OpId) -> Result<(), Refusal>

@@ -1,7 +1,7 @@
 //! Why an edit of several events is refused before any is made.
 ghost use Rattle.std.specs.Prelude.{◌≡◌};
-ghost use Rattle.rewriter_machine.specs.Contents.{tests_in};
-ghost use Rattle.rewriter_machine.specs.Edits.{Erase, Replace, reason_by};
+ghost use Rattle.rewriter_desk.specs.Contents.{tests_in};
+ghost use Rattle.rewriter_desk.specs.Edits.{Erase, Replace, reason_by};
 
 use ir_event::world::World;
 use ir_tree::value::Value;

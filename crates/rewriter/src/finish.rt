@@ -3,8 +3,8 @@ ghost use Rattle.std.specs.Prelude.{◌≡◌, [], true};
 ghost use Rattle.rewriter.specs.Benched.{Heard, Led};
 ghost use Rattle.rewriter.specs.Wholes.{IsFinished};
 
-use ir_event::analysis::Analysis;
 use crate::bench::Bench;
+use ir_event::analysis::Analysis;
 
 /// Drops the newest mark. The module stays, or the one of the mark is held again.
 pub(crate) fn finish<L: Analysis>(bench: &mut Bench<L>, stays: bool)

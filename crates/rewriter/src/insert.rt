@@ -2,22 +2,22 @@
 ghost use Rattle.std.specs.Prelude.{◌≡◌};
 ghost use Rattle.ir_tree.specs.Ids.{IsNumberedFrom};
 ghost use Rattle.ir_tree.specs.Meaning.{IsSoundIn};
-ghost use Rattle.rewriter_machine.specs.Contents.{edit_meaning};
-ghost use Rattle.rewriter_machine.specs.Edits.{Insert};
-ghost use Rattle.rewriter_machine.specs.Machine.{Do};
+ghost use Rattle.rewriter_desk.specs.Contents.{edit_meaning};
+ghost use Rattle.rewriter_desk.specs.Edits.{Insert};
+ghost use Rattle.rewriter_desk.specs.Machine.{Do};
 ghost use Rattle.rewriter.specs.Benched.{Does, Keeps, Led, id_reply_of};
 
+use crate::bench::Bench;
 use crate::fault::insert_fault;
 use crate::finish::finish;
+use crate::laws::led_benches_are_kept;
 use crate::making::make_all;
-use rewriter_laws::turns::inserts_are_tried;
 use ir_event::analysis::Analysis;
 use ir_tree::place::Place;
 use ir_tree::tree::TreeOp;
 use ir_types::ids::OpId;
 use ir_types::refusal::Refusal;
-use crate::bench::Bench;
-use crate::laws::led_benches_are_kept;
+use rewriter_laws::turns::inserts_are_tried;
 
 impl<L: Analysis> Bench<L> {
     /// Puts an operation, with what is inside it, at a place of the module. Its ids are the next free ones, in pre-order.

@@ -2,7 +2,7 @@
 ghost use Rattle.std.specs.Prelude.{List, [], ◌++◌};
 ghost use Rattle.ir_types.specs.Sound.{Holds};
 ghost use Rattle.ir_event.specs.declared.event.Event.{Event as Change};
-ghost use Rattle.rewriter_machine.specs.Panels.{AllAge, all_shown};
+ghost use Rattle.rewriter_desk.specs.Panels.{AllAge, all_shown};
 ghost use Rattle.rewriter.specs.Benched.{Benched, Heard, IsKept, Led};
 
 use ir_event::analysis::Analysis;

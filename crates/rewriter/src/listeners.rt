@@ -3,8 +3,8 @@ ghost use Rattle.std.specs.Prelude.{◌≡◌, true, false, OnOk, OnErr, IfErr, 
 ghost use Rattle.ir_event.specs.Panels.{AttachedLast, BegunAgain, Detached, HandedBack, IsListener, NotBegunAgain, has_kind};
 ghost use Rattle.ir_event.specs.Rows.{RowIsOf, rows_meaning};
 ghost use Rattle.std.specs.Prelude.{All, IfOk};
-ghost use Rattle.rewriter_machine.specs.Machine.{Attach, Detach, Done, Goes, Nothing, Refused, Report, Resync, Rows};
-ghost use Rattle.rewriter_machine.specs.Panels.{shown};
+ghost use Rattle.rewriter_desk.specs.Machine.{Attach, Detach, Done, Goes, Nothing, Refused, Report, Resync, Rows};
+ghost use Rattle.rewriter_desk.specs.Panels.{shown};
 ghost use Rattle.rewriter_desk.specs.Held.{module_held};
 ghost use Rattle.rewriter.specs.Benched.{Does, IsKept, attach_reply_of, reply_of, state_of};
 

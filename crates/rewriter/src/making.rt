@@ -3,22 +3,22 @@ ghost use Rattle.std.specs.Prelude.{◌≡◌, ◌≢◌, ◌⊎◌, None, OnOk}
 ghost use Rattle.ir_types.specs.declared.refusal.Refusal.TheVariants.{Memory as WantOfMemory, NotVisible as Unseen};
 ghost use Rattle.ir_tree.specs.Ids.{IsNumberedFrom};
 ghost use Rattle.ir_tree.specs.Meaning.{IsSoundIn};
-ghost use Rattle.rewriter_machine.specs.Contents.{tests_in};
-ghost use Rattle.rewriter_machine.specs.Edits.{Insert, edited_by, reason_by};
+ghost use Rattle.rewriter_desk.specs.Contents.{tests_in};
+ghost use Rattle.rewriter_desk.specs.Edits.{Insert, edited_by, reason_by};
 ghost use Rattle.rewriter.specs.Moves.{IsAnswered};
 ghost use Rattle.rewriter_laws.specs.Inserting.{insert_fault};
 ghost use Rattle.rewriter.specs.Wholes.{Onward};
 ghost use Rattle.rewriter.specs.Trying.{AreHeadersOf, Tries};
 
+use crate::bench::Bench;
 use crate::headers::headers_of;
-use rewriter_laws::laws::{headers_are_bare, inserting_is_making};
-use rewriter_laws::turns::inserts_are_tried;
+use crate::laws::led_benches_are_kept;
 use ir_event::analysis::Analysis;
 use ir_tree::place::Place;
 use ir_tree::tree::TreeOp;
 use ir_types::refusal::Refusal;
-use crate::bench::Bench;
-use crate::laws::led_benches_are_kept;
+use rewriter_laws::laws::{headers_are_bare, inserting_is_making};
+use rewriter_laws::turns::inserts_are_tried;
 
 /// Makes headers, one after another, until one is refused.
 fn make_each<L: Analysis>(

@@ -3,15 +3,15 @@ ghost use Rattle.std.specs.Prelude.{◌≡◌, ◌≤◌, [], length, drop, true
 ghost use Rattle.rewriter_desk.specs.Journals.{inverses};
 ghost use Rattle.rewriter_desk.specs.Held.{Within};
 ghost use Rattle.rewriter_desk.specs.Marked.{with_mark};
-ghost use Rattle.rewriter_machine.specs.Machine.{Commit, Mark, Rollback, Step};
+ghost use Rattle.rewriter_desk.specs.Machine.{Commit, Mark, Rollback, Step};
 ghost use Rattle.rewriter.specs.Benched.{Does, Heard, Led, ToldBack, reply_of};
 ghost use Rattle.rewriter.specs.Rolling.{Dropped, GivenUp, Settled, UndoneTo};
 
 use crate::bench::Bench;
-use rewriter_desk::desk::Desk;
 use ir_event::analysis::Analysis;
 use ir_event::panel::Panel;
 use ir_types::refusal::Refusal;
+use rewriter_desk::desk::Desk;
 
 /// Undoes events until the journal is so long, the newest first, and tells the listeners the inverse of each.
 fn undo_to<L: Analysis>(desk: &mut Desk, panel: &mut Panel<L>, mark: usize)

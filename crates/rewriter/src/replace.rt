@@ -1,21 +1,21 @@
 //! Replacing a value wherever it is used.
 ghost use Rattle.std.specs.Prelude.{◌≡◌, false, None, OnOk};
 ghost use Rattle.ir_tree.specs.Uses.{same_value};
-ghost use Rattle.rewriter_machine.specs.Contents.{edit_meaning, tests_in};
-ghost use Rattle.rewriter_machine.specs.Edits.{Replace, edited_by, reason_by};
-ghost use Rattle.rewriter_machine.specs.Machine.{Do};
+ghost use Rattle.rewriter_desk.specs.Contents.{edit_meaning, tests_in};
+ghost use Rattle.rewriter_desk.specs.Edits.{Replace, edited_by, reason_by};
+ghost use Rattle.rewriter_desk.specs.Machine.{Do};
 ghost use Rattle.rewriter.specs.Benched.{Does, Keeps, Led, reply_of};
 ghost use Rattle.rewriter.specs.Wholes.{IsDoneOrNoted, Onward};
 
+use crate::bench::Bench;
 use crate::faults::replace_fault;
 use crate::finish::finish;
-use rewriter_laws::turns::replacing_by_uses;
+use crate::laws::led_benches_are_kept;
 use ir_event::analysis::Analysis;
 use ir_tree::uses::is_same;
 use ir_tree::value::Value;
 use ir_types::refusal::Refusal;
-use crate::bench::Bench;
-use crate::laws::led_benches_are_kept;
+use rewriter_laws::turns::replacing_by_uses;
 
 /// Sets a value as each use of another, which differs from it, where nothing stands against it.
 fn set_uses<L: Analysis>(bench: &mut Bench<L>, old: &Value, new: &Value) -> Result<(), Refusal>

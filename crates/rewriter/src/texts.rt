@@ -5,20 +5,20 @@ ghost use Rattle.ir_types.specs.Terms.{attr_term};
 ghost use Rattle.ir_tree.specs.Ids.{IsNumberedFrom};
 ghost use Rattle.ir_tree.specs.Meaning.{IsSoundIn, meaning};
 ghost use Rattle.ir_types.specs.declared.refusal.Refusal.{Refusal as Reason};
-ghost use Rattle.ir_text.specs.Public.{IsFull, IsOpTold, IsTold};
-ghost use Rattle.ir_text_attributes.specs.Claims.{IsNoAttr};
-ghost use Rattle.ir_text_attributes.specs.Spelling.{SpellsAttr};
-ghost use Rattle.ir_text_operations.specs.Claims.{IsNone};
+ghost use Rattle.rewriter_desk.specs.Public.{IsFull, IsOpTold, IsTold};
+ghost use Rattle.rewriter_desk.specs.Public.{IsNoAttr};
+ghost use Rattle.rewriter_desk.specs.Public.{SpellsAttr};
+ghost use Rattle.rewriter_desk.specs.Public.{IsNone};
 ghost use Rattle.rewriter_desk.specs.Texts.{SpellsBeside};
 ghost use Rattle.rewriter_desk.specs.Held.{module_held};
 ghost use Rattle.rewriter_desk.specs.Moves.{Grown};
 ghost use Rattle.rewriter.specs.Benched.{Led};
 
 use crate::bench::Bench;
-use rewriter_desk::ReadError;
 use ir_event::analysis::Analysis;
 use ir_tree::tree::TreeOp;
 use ir_types::ids::AttrId;
+use rewriter_desk::ReadError;
 
 impl<L: Analysis> Bench<L> {
     /// The attribute that a text spells.

@@ -13,10 +13,10 @@ use Rattle.ir_tree_laws.specs.Values.{type_of_value}
 use Rattle.ir_tree_laws.proofs.Contents.{map_type_of_value}
 use Rattle.ir_event.specs.declared.world.World.{World}
 use Rattle.ir_event.specs.Modules.{module_in}
-use Rattle.ir_text_operations.specs.Claims.{IsOnly, IsNone}
-use Rattle.ir_text_operations.specs.Free.{free_term, free_bound, bound_term, value_named}
-use Rattle.ir_text_operations.specs.Seen.{BoundTerm}
-use Rattle.ir_text_operations.specs.Spelling.{SpellsOp}
+use Rattle.ir_text.specs.Public.{IsOnly, IsNone}
+use Rattle.ir_text.specs.Public.{free_term, free_bound, bound_term, value_named}
+use Rattle.ir_text.specs.Public.{BoundTerm}
+use Rattle.ir_text.specs.Public.{SpellsOp}
 use Rattle.ir_event.proofs.Typed.{value_known}
 use Rattle.rewriter_desk.specs.Texts.{SpellsBeside, free_in}
 

@@ -20,7 +20,7 @@ use Rattle.rewriter_journal.specs.Edits.{IsEntryStep, IsPutStep, IsShiftStep, Is
 use Rattle.rewriter_journal.specs.Journals.{IsSlotted, IsStoreOf, IsTidy, Noted}
 use Rattle.rewriter_desk.specs.Held.{Held, IsGood, module_held, shown_of}
 use Rattle.rewriter_desk.specs.Moves.{Edited, IsAnswered, noted_as}
-use Rattle.rewriter_desk.proofs.Laws.{entry_noted, operand_noted, put_noted, shift_noted, slotted_entry, slotted_operand, slotted_put, slotted_shift, slotted_take, take_noted, then}
+use Rattle.rewriter_desk.proofs.Behind.{entry_noted, operand_noted, put_noted, shift_noted, slotted_entry, slotted_operand, slotted_put, slotted_shift, slotted_take, take_noted, then}
 use Rattle.rewriter_desk.proofs.Outcomes.{err_outcome, good_outcome, ok_outcome}
 
 -- an edit that is to leave store s gave an event, or was refused, and left store u

@@ -26,7 +26,7 @@ use Rattle.rewriter_journal.specs.Journals.{IsJournal, IsSlotted, IsStoreOf, Not
 use Rattle.rewriter_desk.specs.declared.mark.Mark.{Mark}
 use Rattle.rewriter_desk.specs.Held.{Held, IsGood, Within, module_at, module_held, open_mark, open_marks, shown_of}
 use Rattle.rewriter_desk.specs.Moves.{Edited, Grown, HoldsModuleAlone, HoldsNone, Tidied, Undone, noted, noted_as}
-use Rattle.rewriter_desk.proofs.Laws.{newest_undone, grown_journal, grown_before, released_journal, released_before, slotted_undone, slotted_released, tidy_released}
+use Rattle.rewriter_desk.proofs.Behind.{newest_undone, grown_journal, grown_before, released_journal, released_before, slotted_undone, slotted_released, tidy_released}
 use Rattle.rewriter_desk.proofs.Marks.{opens_same, push-none, within-more}
 
 -- ---- events that are noted

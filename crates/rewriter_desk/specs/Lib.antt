@@ -3,3 +3,8 @@ pub mod Held
 pub mod Marked
 pub mod Moves
 pub use Rattle.rewriter_journal.specs.Journals
+pub use Rattle.rewriter_machine.specs.Contents
+pub use Rattle.rewriter_machine.specs.Edits
+pub use Rattle.rewriter_machine.specs.Machine
+pub use Rattle.rewriter_machine.specs.Panels
+pub use Rattle.ir_text.specs.Public

@@ -6,9 +6,9 @@ use Rattle.ir_tree.specs.Meaning.{Operation}
 use Rattle.ir_tree_laws.specs.Values.{type_of_value}
 use Rattle.ir_event.specs.declared.world.World.{World}
 use Rattle.ir_event.specs.Modules.{Module, module_in}
-use Rattle.ir_text_operations.specs.Free.{value_named}
-use Rattle.ir_text_operations.specs.Seen.{BoundTerm}
-use Rattle.ir_text_operations.specs.Spelling.{SpellsOp}
+use Rattle.ir_text.specs.Public.{value_named}
+use Rattle.ir_text.specs.Public.{BoundTerm}
+use Rattle.ir_text.specs.Public.{SpellsOp}
 
 -- the context of a world grew, and its module stayed
 pub record Grown (v w : World) : Type 0 where

@@ -11,3 +11,4 @@ mod release;
 mod texts;
 
 pub use ir_text::reader::ReadError;
+pub use rewriter_journal::laws;

@@ -7,9 +7,9 @@ ghost use Rattle.ir_tree.specs.Meaning.{IsSoundIn, meaning};
 ghost use Rattle.ir_event.specs.Modules.{module_in};
 ghost use Rattle.ir_types.specs.declared.refusal.Refusal.{Refusal as Reason};
 ghost use Rattle.ir_text.specs.Public.{IsFull, IsOpTold, IsTold};
-ghost use Rattle.ir_text_attributes.specs.Claims.{IsNoAttr};
-ghost use Rattle.ir_text_attributes.specs.Spelling.{SpellsAttr};
-ghost use Rattle.ir_text_operations.specs.Claims.{IsNone};
+ghost use Rattle.ir_text.specs.Public.{IsNoAttr};
+ghost use Rattle.ir_text.specs.Public.{SpellsAttr};
+ghost use Rattle.ir_text.specs.Public.{IsNone};
 ghost use Rattle.rewriter_desk.specs.Texts.{Grown, SpellsBeside};
 
 use ir_event::world::World;

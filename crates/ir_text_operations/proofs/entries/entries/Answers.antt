@@ -34,3 +34,15 @@ items-preserved c =
 pub returns-clause-reads : goal.returns-clause-reads
 returns-clause-reads c =
     is_full after_typed CloseCurly (entry_at c.args.op.now c.args.properties.now) c.items.items.items 513 c.items.counter (c.items.rest.now, c.items.ctx) _ c.items.invariant.reads (omega (arith, c.items-test.false))
+
+pub returns-in-Err-clause-grows : goal.returns-in-Err-clause-grows
+returns-in-Err-clause-grows c = grows_trans c.args.ctx.now c.items.ctx c.entry.new.ctx c.items.invariant.grows c.in-Err.ensures.grows
+
+pub returns-in_err-push-clause-grows : goal.returns-in_err-push-clause-grows
+returns-in_err-push-clause-grows c = grows_trans c.args.ctx.now c.items.ctx c.entry.new.ctx c.items.invariant.grows c.in-Ok.ensures.grows
+
+pub returns-in-Ok-End-clause-grows : goal.returns-in-Ok-End-clause-grows
+returns-in-Ok-End-clause-grows c = grows_trans c.args.ctx.now c.items.ctx c.entry.new.ctx c.items.invariant.grows c.in-Ok.ensures.grows
+
+pub returns-in-Err-behind_item-clause-grows : goal.returns-in-Err-behind_item-clause-grows
+returns-in-Err-behind_item-clause-grows c = grows_trans c.args.ctx.now c.items.ctx c.entry.new.ctx c.items.invariant.grows c.in-Ok.ensures.grows

@@ -1,6 +1,7 @@
 use Rattle.std.proofs.Common.{inl}
 use Rattle.ir_text_grammar.specs.declared.error.ReadError.TheVariants as errors
 use Rattle.ir_text_names.specs.States.{state_of}
+use Rattle.ir_types.proofs.Growth.{grows_trans}
 use Rattle.ir_text_operations.proofs.Modules.{body_read, body_wrong, fails_wrong, named_module, name_fills, error_is}
 use Rattle.ir_text_operations.proofs.module.implicit.Goals as goal
 
@@ -14,3 +15,9 @@ returns-in-Ok-root_of-clause-read c =
 
 pub returns-in-Err-clause-full : goal.returns-in-Err-clause-full
 returns-in-Err-clause-full c = λ left e. inl (name_fills c.args.ctx.now (c.in-Err.ensures.full left (error_is c.in-Err.e (errors.Full left) e)))
+
+pub returns-in-Err-ops-clause-grows : goal.returns-in-Err-ops-clause-grows
+returns-in-Err-ops-clause-grows c = grows_trans c.args.ctx.now c.module_name.new.ctx c.ops.new.ctx c.in-Ok.ensures.grows c.in-Err-ops.ensures.grows
+
+pub returns-in-Ok-root_of-clause-grows : goal.returns-in-Ok-root_of-clause-grows
+returns-in-Ok-root_of-clause-grows c = grows_trans c.args.ctx.now c.module_name.new.ctx c.ops.new.ctx c.in-Ok.ensures.grows c.in-Ok-ops.ensures.grows

@@ -90,3 +90,33 @@ op-returns-then-scope-around-clause-reads g t c = too_many (free_bound (g.O.Oute
 
 pub op-returns-clause-reads : goal.op-returns-clause-reads
 op-returns-clause-reads g t c = rw (goes_in (free_bound (g.O.Outer.types c.args.around.now.outer.now)) c.args.around.now.last (state_of c.args.bytes.now c.args.scope.now c.args.ctx.now) c.args.depth (omega arith) (omega (arith, c.if-scope-around.false))) c.op_with.ensures.reads
+
+pub regions-returns-in-Err-clause-grows : goal.regions-returns-in-Err-clause-grows
+regions-returns-in-Err-clause-grows g t c = grows_trans c.args.ctx.now c.items.ctx c.region.new.ctx c.items.invariant.grows c.in-Err.ensures.grows
+
+pub regions-returns-in_err-push-clause-grows : goal.regions-returns-in_err-push-clause-grows
+regions-returns-in_err-push-clause-grows g t c = grows_trans c.args.ctx.now c.items.ctx c.region.new.ctx c.items.invariant.grows c.in-Ok.ensures.grows
+
+pub regions-returns-in-Ok-End-clause-grows : goal.regions-returns-in-Ok-End-clause-grows
+regions-returns-in-Ok-End-clause-grows g t c = grows_trans c.args.ctx.now c.items.ctx c.region.new.ctx c.items.invariant.grows c.in-Ok.ensures.grows
+
+pub regions-returns-in-Err-behind_item-clause-grows : goal.regions-returns-in-Err-behind_item-clause-grows
+regions-returns-in-Err-behind_item-clause-grows g t c = grows_trans c.args.ctx.now c.items.ctx c.region.new.ctx c.items.invariant.grows c.in-Ok.ensures.grows
+
+pub ops-returns-in-Err-clause-grows : goal.ops-returns-in-Err-clause-grows
+ops-returns-in-Err-clause-grows g t c = grows_trans c.args.ctx.now c.items.ctx c.op.new.ctx c.items.invariant.grows c.in-Err.ensures.grows
+
+pub ops-returns-in_err-push-clause-grows : goal.ops-returns-in_err-push-clause-grows
+ops-returns-in_err-push-clause-grows g t c = grows_trans c.args.ctx.now c.items.ctx c.op.new.ctx c.items.invariant.grows c.in-Ok.ensures.grows
+
+pub region-returns-in-Err-ops-clause-grows : goal.region-returns-in-Err-ops-clause-grows
+region-returns-in-Err-ops-clause-grows g t c = grows_trans c.args.ctx.now c.region_head.new.ctx c.ops.new.ctx c.in-Ok.ensures.grows c.in-Err-ops.ensures.grows
+
+pub region-returns-clause-grows : goal.region-returns-clause-grows
+region-returns-clause-grows g t c = grows_trans c.args.ctx.now c.region_head.new.ctx c.ops.new.ctx c.in-Ok.ensures.grows c.in-Ok-ops.ensures.grows
+
+pub op_with-returns-in-Err-regions-clause-grows : goal.op_with-returns-in-Err-regions-clause-grows
+op_with-returns-in-Err-regions-clause-grows g t c = grows_trans c.args.ctx.now c.read_opening.new.ctx c.regions.new.ctx c.in-Ok.ensures.grows c.in-Err-regions.ensures.grows
+
+pub op_with-returns-clause-grows : goal.op_with-returns-clause-grows
+op_with-returns-clause-grows g t c = grows_trans c.args.ctx.now c.read_opening.new.ctx c.closing.new.ctx c.in-Ok.ensures.grows (grows_trans c.read_opening.new.ctx c.regions.new.ctx c.closing.new.ctx c.in-Ok-regions.ensures.grows c.closing.ensures.grows)

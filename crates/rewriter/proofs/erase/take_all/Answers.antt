@@ -6,8 +6,8 @@ use Rattle.ir_tree_laws.specs.Reasons.{take_reason}
 use Rattle.ir_tree_laws.proofs.Reasoned.{no_unless}
 use Rattle.ir_store.specs.Stored.{Stored}
 use Rattle.ir_store.specs.Calls.{after_take}
-use Rattle.rewriter_machine.specs.Contents.{tests_in}
-use Rattle.rewriter_machine.specs.Edits.{Erase, erase_reason}
+use Rattle.rewriter_desk.specs.Contents.{tests_in}
+use Rattle.rewriter_desk.specs.Edits.{Erase, erase_reason}
 use Rattle.ir_tree.specs.WellFormed.{Module}
 use Rattle.rewriter_laws.specs.Erasing.{ids_in}
 use Rattle.rewriter.proofs.There.{not_gone}

@@ -1,6 +1,6 @@
 use Rattle.std.proofs.Common.{length}
 use Rattle.ir_tree.specs.Ids.{find}
-use Rattle.rewriter_machine.specs.Edits.{Erase}
+use Rattle.rewriter_desk.specs.Edits.{Erase}
 use Rattle.rewriter_laws.specs.Erasing.{ids_in}
 use Rattle.rewriter.proofs.Together.{IsUnderway}
 use Rattle.rewriter.proofs.erase.take_all.Given as goal

@@ -1,4 +1,4 @@
-use Rattle.std.proofs.Common.{◌≡◌, sym, subst, absurd, true, false, Bool}
+use Rattle.std.proofs.Common.{sym, subst, Bool}
 use Rattle.rewriter.specs.Wholes.{IsFinished}
 use Rattle.rewriter.proofs.Together.{finished_so, undone_so}
 use Rattle.rewriter.proofs.finish.finish.Goals as goal

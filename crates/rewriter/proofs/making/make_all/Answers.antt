@@ -1,5 +1,5 @@
 use Rattle.std.proofs.Common.{◌∙◌, sym, ap, inl, inr, Some}
-use Rattle.rewriter_machine.specs.Contents.{tests_in}
+use Rattle.rewriter_desk.specs.Contents.{tests_in}
 use Rattle.rewriter.proofs.Together.{onward_none}
 use Rattle.rewriter.proofs.making.make_all.Goals as goal
 

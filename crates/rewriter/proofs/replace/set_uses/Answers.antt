@@ -6,8 +6,8 @@ use Rattle.ir_store.specs.Calls.{after_operand}
 use Rattle.ir_store.specs.Using.{is_use}
 use Rattle.ir_tree_laws.specs.Reasons.{set_operand_reason}
 use Rattle.ir_tree.specs.Meaning.{isolated_in}
-use Rattle.rewriter_machine.specs.Contents.{tests_in}
-use Rattle.rewriter_machine.specs.Edits.{Replace}
+use Rattle.rewriter_desk.specs.Contents.{tests_in}
+use Rattle.rewriter_desk.specs.Edits.{Replace}
 use Rattle.rewriter.proofs.Noted.{made_module}
 use Rattle.rewriter.proofs.Together.{underway_none, underway_made, refused_on}
 use Rattle.rewriter.proofs.replace.set_uses.Goals as goal

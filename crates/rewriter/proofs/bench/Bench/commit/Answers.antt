@@ -1,4 +1,5 @@
-use Rattle.std.proofs.Common.{[]}
+use Rattle.std.proofs.Common.{[], IsTrue, subst}
+use Rattle.rewriter.proofs.OpenMarks.{unmarked}
 use Rattle.rewriter.proofs.Rolled.{commit_goes, commit_led, commit_untold, dropped_kept, given_settled}
 use Rattle.rewriter.proofs.Told.{heard_none}
 use Rattle.rewriter.proofs.Contexts.{commit_ctx}
@@ -27,3 +28,6 @@ returns-then-not-is_marked-clause-untold g c = heard_none g.L.Analysis.meaning _
 
 pub invariant_of-self : goal.invariant_of-self
 invariant_of-self g c = given_settled _ _ c.give_up.ensures
+
+pub returns-then-not-is_marked-clause-none : goal.returns-then-not-is_marked-clause-none
+returns-then-not-is_marked-clause-none g c = rw (← c.self.view_is) (unmarked _ (λ some. subst IsTrue c.if-not-is_marked.true (c.is_marked.ensures.1 some)))

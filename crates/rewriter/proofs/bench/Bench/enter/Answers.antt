@@ -2,8 +2,8 @@ use Rattle.std.proofs.Common.{◌≡◌, subst, rules, ap}
 use Rattle.ir_tree.specs.declared.place.Part.{Part}
 use Rattle.ir_tree.specs.Meaning.{key_before_in}
 use Rattle.ir_store.specs.Calls.{after_entry}
-use Rattle.rewriter_machine.specs.Contents.{tests_in}
-use Rattle.rewriter_machine.specs.Edits.{part_for}
+use Rattle.rewriter_desk.specs.Contents.{tests_in}
+use Rattle.rewriter_desk.specs.Edits.{part_for}
 use Rattle.rewriter.specs.Benched.{Made}
 use Rattle.rewriter.specs.Held.{Held}
 use Rattle.rewriter.proofs.Noted.{made_ctx, made_journaled, recorded_left}

@@ -1,8 +1,8 @@
 use Rattle.std.proofs.Common.{◌≡◌, ◌≢◌, ◌∙◌, sym, ap, subst, refl, true, false, None, Some, []}
 use Rattle.ir_tree.specs.Uses.{same_value}
-use Rattle.rewriter_machine.specs.Contents.{edit_meaning, tests_in}
-use Rattle.rewriter_machine.specs.Edits.{Replace, Erase, reason_by}
-use Rattle.rewriter_machine.specs.Machine.{Do, Goes, Refused, Nothing}
+use Rattle.rewriter_desk.specs.Contents.{edit_meaning, tests_in}
+use Rattle.rewriter_desk.specs.Edits.{Replace, Erase, reason_by}
+use Rattle.rewriter_desk.specs.Machine.{Do, Goes, Refused, Nothing}
 use Rattle.rewriter.specs.Benched.{Benched, state_of}
 use Rattle.rewriter.proofs.Calls.{unstepped}
 use Rattle.rewriter.proofs.Noted.{keeps_left, recorded_none}

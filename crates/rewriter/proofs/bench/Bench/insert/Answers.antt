@@ -2,7 +2,7 @@ use Rattle.std.proofs.Common.{◌≡◌, ◌∙◌, sym, ap, subst, refl, true, 
 use Rattle.ir_store.specs.Stored.{Stored}
 use Rattle.ir_tree.specs.Tree.{head}
 use Rattle.rewriter_laws.specs.Inserting.{insert_fault}
-use Rattle.rewriter_machine.specs.Edits.{Insert}
+use Rattle.rewriter_desk.specs.Edits.{Insert}
 use Rattle.rewriter.proofs.Noted.{keeps_left, recorded_none}
 use Rattle.rewriter.proofs.Together.{undone_recorded, whole_journaled, IsBegun, goes_refused, led_whole}
 use Rattle.rewriter.proofs.Whole.{fault_reason, begun_fault, insert_done, insert_undone}

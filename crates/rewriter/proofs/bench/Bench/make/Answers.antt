@@ -1,6 +1,6 @@
 use Rattle.std.proofs.Common.{◌≡◌, refl, sym, ap, rules}
-use Rattle.rewriter_machine.specs.Edits as edit
-use Rattle.rewriter_machine.specs.Machine.{DoneAs}
+use Rattle.rewriter_desk.specs.Edits as edit
+use Rattle.rewriter_desk.specs.Machine.{DoneAs}
 use Rattle.rewriter.proofs.Going.{edit_goes, refused_always}
 use Rattle.rewriter.specs.Held.{Held}
 use Rattle.rewriter.proofs.Noted.{made_ctx, made_journaled, recorded_left}

@@ -1,5 +1,5 @@
 use Rattle.std.proofs.Common.{refl, ap}
-use Rattle.rewriter_machine.specs.Edits as edit
+use Rattle.rewriter_desk.specs.Edits as edit
 use Rattle.rewriter.proofs.Going.{edit_goes, refused_marked}
 use Rattle.rewriter.specs.Held.{Held}
 use Rattle.rewriter.proofs.Noted.{made_ctx, made_journaled, recorded_left}

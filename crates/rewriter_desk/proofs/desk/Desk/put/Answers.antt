@@ -3,7 +3,7 @@ use Rattle.ir_store.specs.Calls.{after_put}
 use Rattle.rewriter_journal.specs.Journals.{IsStoreOf}
 use Rattle.rewriter_desk.specs.Held.{Held}
 use Rattle.rewriter_desk.specs.Moves.{noted_as}
-use Rattle.rewriter_desk.proofs.Laws.{tidy_put}
+use Rattle.rewriter_desk.proofs.Behind.{tidy_put}
 use Rattle.rewriter_desk.proofs.Made.{Made, answered_for, put_made, made_edited, made_good, tidy_if}
 use Rattle.rewriter_desk.proofs.desk.Desk.put.Goals as goal
 

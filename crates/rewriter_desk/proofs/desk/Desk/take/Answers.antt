@@ -3,7 +3,7 @@ use Rattle.ir_store.specs.Calls.{after_take}
 use Rattle.rewriter_journal.specs.Journals.{IsStoreOf}
 use Rattle.rewriter_desk.specs.Held.{Held}
 use Rattle.rewriter_desk.specs.Moves.{noted_as}
-use Rattle.rewriter_desk.proofs.Laws.{tidy_take}
+use Rattle.rewriter_desk.proofs.Behind.{tidy_take}
 use Rattle.rewriter_desk.proofs.Made.{Made, answered_exactly, take_made, made_edited, made_good, tidy_if}
 use Rattle.rewriter_desk.proofs.desk.Desk.take.Goals as goal
 
