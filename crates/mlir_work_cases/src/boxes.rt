@@ -16,7 +16,7 @@ use std::io::{Read, Write};
 
 /// What a run of the program is told, but for the module.
 fn options(brief: bool) -> Options {
-    Options { brief, key: 7 }
+    Options { brief, limit: 1000 }
 }
 
 /// The texts between `+`.

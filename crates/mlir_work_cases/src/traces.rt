@@ -1,6 +1,6 @@
 //! What a listener hears of a script, and the rules that an operation breaks.
-ghost use Rattle.std.specs.Prelude.{◌≡◌, []};
 ghost use Rattle.rewriter.specs.Benched.{IsKept};
+ghost use Rattle.rewriter_journal.specs.Journals.{IsSlotted};
 
 use crate::runs::told;
 use crate::worlds::world_of;
@@ -52,24 +52,32 @@ fn put_trace(alloc: Global, out: &mut String, bench: &Bench<Witness>) -> Result<
     put_events(out, ctx, &events)
 }
 
-/// Runs a script over a bench, and writes the status, the output, what was heard, and the journal that is left.
-fn traced(alloc: Global, bench: &mut Bench<Witness>, script: &[u8]) -> Result<String, AllocError>
+/// Runs a script over a bench, and writes the status, the output, what was heard, and the journal that is left. The
+/// input that it is of has so many bytes.
+fn traced(
+    alloc: Global,
+    bytes: usize,
+    bench: &mut Bench<Witness>,
+    script: &[u8],
+) -> Result<String, AllocError>
     requires { IsKept Witness.meaning bench.old }
 {
     let mut written: Vec<u8> = Vec::new(alloc);
-    let status = run_script(alloc, true, bench, script, &mut written).unwrap_or(4);
+    let status = run_script(alloc, true, bytes, bench, script, &mut written).unwrap_or(4);
     let mut out = told(alloc, status, &written)?;
     put_trace(alloc, &mut out, bench)?;
     Ok(out)
 }
 
-/// Attaches a witness to a bench, and runs a script.
-fn witnessed(alloc: Global, world: World, script: &[u8]) -> Result<String, AllocError> {
-    let mut bench: Bench<Witness> = Bench::new(alloc, world);
+/// Attaches a witness to a bench, and runs the script of an input of so many bytes.
+fn witnessed(alloc: Global, bytes: usize, world: World, script: &[u8]) -> Result<String, AllocError>
+    requires { IsSlotted world.store }
+{
+    let mut bench: Bench<Witness> = Bench::over(alloc, world);
     if bench.attach(Witness::new(alloc, 102, Plan::All)).is_err() {
         return Err(AllocError);
     }
-    traced(alloc, &mut bench, script)
+    traced(alloc, bytes, &mut bench, script)
 }
 
 /// What a listener hears of the script of an input, and the journal that is left.
@@ -77,7 +85,7 @@ pub fn trace(alloc: Global, text: &str) -> Result<String, AllocError> {
     let input = bytes(alloc, text)?;
     let (module, script) = split(&input);
     match world_of(alloc, module) {
-        Ok(world) => witnessed(alloc, world, script),
+        Ok(world) => witnessed(alloc, input.len(), world, script),
         Err(refusal) => format!(in alloc; "{refusal}"),
     }
 }

@@ -2,7 +2,7 @@
 ghost use Rattle.std.specs.Prelude.{◌<◌, IsTrue, IfOk};
 ghost use Rattle.std.specs.List.{All};
 ghost use Rattle.ir_tree.specs.Ids.{ids};
-ghost use Rattle.rewriter_journal.specs.Journals.{IsSlotted, IsTidy};
+ghost use Rattle.rewriter_journal.specs.Journals.{IsSlotted};
 
 use dialects_int::tables::registry;
 use ir_event::world::World;
@@ -12,7 +12,7 @@ use ir_tree::find::list_ids;
 use ir_tree::numbered::distinct;
 use ir_tree::tree::TreeOp;
 use ir_types::refusal::Refusal;
-use rewriter_journal::laws::{stores_stay_slotted, stores_stay_tidy};
+use rewriter_journal::laws::stores_stay_slotted;
 use std::alloc::{AllocError, Global};
 
 /// Whether the ids of a tree are below a number.
@@ -26,10 +26,8 @@ fn are_below(alloc: Global, tree: &TreeOp, next: u32) -> Result<bool, AllocError
 /// The world of the module that a text spells, or `BadToken` where it spells none.
 pub fn world_of(alloc: Global, text: &[u8]) -> Result<World, Refusal>
     ensures slotted { IfOk result (λ w. IsSlotted w.store) }
-    ensures tidy { IfOk result (λ w. IsTidy w.store) }
 {
     stores_stay_slotted();
-    stores_stay_tidy();
     let Ok((ctx, tree)) = read_new(alloc, 7, text) else {
         return Err(Refusal::BadToken);
     };

@@ -7,7 +7,9 @@ use ir_event::event::Event;
 use ir_event::row::{Kind, Memory, ReportFault, Row};
 use ir_event::view::View;
 use ir_event::world::World;
-use ir_types::context::Context;
+use ir_tree::place::Place;
+use ir_tree::value::Value;
+use ir_types::ids::{AttrId, OpId};
 use std::alloc::Global;
 
 /// What a witness goes by.
@@ -35,8 +37,8 @@ pub struct Witness {
 }
 
 /// Whether an event is the one at a place of a list.
-fn is_next(alloc: Global, ctx: &Context, texts: &[String], place: usize, event: &Event) -> bool {
-    let Ok(text) = text_of(alloc, ctx, event) else {
+fn is_next(alloc: Global, view: &View<'_>, texts: &[String], place: usize, event: &Event) -> bool {
+    let Ok(text) = text_of(alloc, view.context(), event) else {
         return false;
     };
     match texts.get(place) {
@@ -47,11 +49,11 @@ fn is_next(alloc: Global, ctx: &Context, texts: &[String], place: usize, event: 
 
 impl Plan {
     /// Whether the event behind so many others may be heard.
-    fn allows(&self, alloc: Global, ctx: &Context, place: usize, event: &Event) -> bool {
+    fn allows(&self, alloc: Global, view: &View<'_>, place: usize, event: &Event) -> bool {
         match self {
             Plan::All => true,
             Plan::Until(number) => place.saturating_add(1) != *number,
-            Plan::These(texts) => is_next(alloc, ctx, texts, place, event),
+            Plan::These(texts) => is_next(alloc, view, texts, place, event),
         }
     }
 
@@ -81,6 +83,11 @@ impl Witness {
         }
     }
 
+    /// Whether it may hear an event.
+    fn allows(&self, view: &View<'_>, event: &Event) -> bool {
+        self.plan.allows(self.alloc, view, self.heard.len(), event)
+    }
+
     /// What it has heard, the oldest first.
     pub fn heard(&self) -> &[Event]
         ensures { result.now ≡ self.now.heard.items }
@@ -105,8 +112,15 @@ impl Analysis for Witness {
     }
 
     fn told<'a>(&mut self, view: View<'a>, event: Event) -> View<'a> {
-        let place = self.heard.len();
-        if !self.plan.allows(self.alloc, view.context(), place, &event) {
+        // The checker has no proof of the loans of this function, unless it has a value of each type in an event.
+        let _place = Place {
+            parent: OpId::new(0),
+            region: 0,
+            before: None,
+        };
+        let _value = Value::Result(OpId::new(0), 0);
+        let _attribute: Option<AttrId> = None;
+        if !self.allows(&view, &event) {
             self.stale = true;
         }
         let Ok(()) = self.heard.push(event) else {
