@@ -7,7 +7,7 @@ use Rattle.std.specs.Ordering.{nat_cmp}
 use Rattle.std.specs.Map.{lookup}
 use Rattle.std.specs.BTreeMap.{BTreeMap, is_at}
 use Rattle.ir_types.specs.declared.bits.Bits.{Bits}
-use Rattle.dialects_int.specs.Folds.{known_of}
+use Rattle.constants_base.specs.Folds.{known_of}
 use Rattle.ir_types.specs.Terms.{name_term, type_term, attr_term}
 use Rattle.ir_tree.proofs.Mapped.{map_ids}
 use Rattle.ir_event.specs.declared.world.World.{World}

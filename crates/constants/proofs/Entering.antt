@@ -1,7 +1,7 @@
 -- One operation of a walk.
 use Rattle.std.proofs.Common.{◌≡◌, ℕ, Bool, true, false, Option, ap, ◌∙◌}
 use Rattle.std.specs.Bool.{OnTrue}
-use Rattle.dialects_int.specs.Folds.{Known}
+use Rattle.constants_base.specs.Folds.{Known}
 use Rattle.constants_base.specs.Facts.{Header, Facts, value}
 use Rattle.constants_base.specs.Walk.{with_fact}
 use Rattle.constants_base.specs.Trails.{IsThere}

@@ -1,7 +1,7 @@
 -- The forms in which the code of the second phase has its facts.
 use Rattle.std.proofs.Common.{◌≡◌, ℕ, List, [], ◌∷◌, ◌++◌, Bool, true, false, true≢false, Option, Some, None, inl, inr, refl, sym, ap, ◌∙◌, cond}
 use Rattle.std.specs.Bool.{OnTrue}
-use Rattle.dialects_int.specs.Folds.{Known}
+use Rattle.constants_base.specs.Folds.{Known}
 use Rattle.constants_base.specs.Facts.{Header, Facts, value}
 use Rattle.constants_base.specs.Walk.{with_fact}
 use Rattle.constants_base.specs.Phases.{Noted, Learnt}

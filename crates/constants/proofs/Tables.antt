@@ -10,7 +10,7 @@ use Rattle.std.proofs.lemmas.Bool.{eq-eqb, ne_eqb}
 use Rattle.std.proofs.lemmas.List.{take_more, map-append}
 use Rattle.ir_types.specs.declared.bits.Bits.{Bits}
 use Rattle.ir_tree.specs.declared.value.Value.{Value}
-use Rattle.dialects_int.specs.Folds.{known_of}
+use Rattle.constants_base.specs.Folds.{known_of}
 use Rattle.constants_base.specs.Facts.{Facts, known, knowns}
 use Rattle.constants_base.specs.Walk.{with_fact}
 use Rattle.constants.specs.Tables.{known_in}

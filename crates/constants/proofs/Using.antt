@@ -21,12 +21,12 @@ use Rattle.ir_tree_laws.proofs.Listed.{in_left, in_right, in_parts, in_map, in_m
 use Rattle.ir_tree_laws.proofs.Readings.{stands_uses}
 use Rattle.ir_tree_laws.proofs.Members.{found_stands, stand_found}
 use Rattle.ir_tree_laws.proofs.HeadForm.{in_gather}
-use Rattle.ir_store.specs.Nodes.{Node as Numbers, node_of}
-use Rattle.ir_store.specs.Stored.{known}
-use Rattle.ir_store.specs.Using.{AreUses, EachOnce, is_use, same_use}
+use Rattle.constants_base.specs.Nodes.{Node as Numbers, node_of}
+use Rattle.constants_base.specs.Stored.{known}
+use Rattle.constants_base.specs.Using.{AreUses, EachOnce, is_use, same_use}
 use Rattle.ir_event.specs.declared.world.World.{World}
 use Rattle.ir_event.proofs.Nodes.{known_node}
-use Rattle.dialects_int.specs.Folds.{known_of, entries_of, fold_of}
+use Rattle.constants_base.specs.Folds.{known_of, entries_of, fold_of}
 use Rattle.ir_event.specs.Heads.{heads}
 use Rattle.constants_base.specs.Facts.{Header, Facts, knowns, folded_if, value}
 use Rattle.constants_base.specs.Reached.{uses_among}

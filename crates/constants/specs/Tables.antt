@@ -12,7 +12,7 @@ use Rattle.ir_event.specs.declared.row.Cell.TheVariants.{Val, Bits as BitsCell}
 use Rattle.ir_tree.specs.declared.value.Value.TheVariants.{Result}
 use Rattle.ir_event.specs.declared.world.World.{World}
 use Rattle.ir_event.specs.Modules.{module_in}
-use Rattle.dialects_int.specs.Folds.{known_of}
+use Rattle.constants_base.specs.Folds.{known_of}
 use Rattle.ir_event.specs.Heads.{heads}
 use Rattle.constants_base.specs.Facts.{Header, Facts, look, value, AreLocal}
 use Rattle.constants_base.specs.Walk.{with_fact, facts_of, AreOrdered}

@@ -2,7 +2,7 @@
 ghost use Rattle.std.specs.Prelude.{◌≡◌, ℕ};
 ghost use Rattle.std.specs.Bool.{OnTrue};
 ghost use Rattle.ir_tree.specs.Ids.{ids};
-ghost use Rattle.dialects_int.specs.Folds.{known_of};
+ghost use Rattle.constants_base.specs.Folds.{known_of};
 ghost use Rattle.constants_base.specs.Facts.{value};
 ghost use Rattle.constants_base.specs.Walk.{with_fact};
 ghost use Rattle.constants_base.specs.Trails.{IsThere};

@@ -8,8 +8,8 @@ ghost use Rattle.constants.specs.Tables.{known_in, look_in, uses_in, users_of};
 
 use crate::table::{drop_fact, fact};
 use crate::users::uses_of;
+use constants_base::uses::UsesOf;
 use ir_event::view::View;
-use ir_store::uses::UsesOf;
 use ir_types::bits::Bits;
 use ir_types::ids::OpId;
 use std::collections::BTreeMap;

@@ -4,3 +4,7 @@ pub mod Rows
 pub mod Reached
 pub mod Trails
 pub mod Phases
+pub use Rattle.ir_store.specs.Nodes
+pub use Rattle.ir_store.specs.Stored
+pub use Rattle.ir_store.specs.Using
+pub use Rattle.dialects_int.specs.Folds

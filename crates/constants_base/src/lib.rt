@@ -2,3 +2,6 @@
 #![tactic(auto)]
 
 pub mod laws;
+
+pub use dialects_int::fold;
+pub use ir_store::uses;

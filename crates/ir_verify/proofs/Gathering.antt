@@ -3,10 +3,10 @@ use Rattle.std.proofs.Common.{◌≡◌, refl, ap, ◌∙◌, ℕ, List, [], ◌
 use Rattle.std.specs.Prelude.{option_map}
 use Rattle.ir_types.specs.Things.{Things}
 use Rattle.ir_types.specs.Terms.{name_term, type_term, attr_term}
-use Rattle.listeners_surroundings.specs.declared.around.Around.{Around}
-use Rattle.listeners_surroundings.specs.declared.around.Outer.{Outer}
-use Rattle.listeners_surroundings.specs.Mapped.{map_outer}
-use Rattle.listeners_surroundings.specs.Gathered.{gathered_in, outer_in as gathered_outer}
+use Rattle.ir_verify_base.specs.Around.{Around}
+use Rattle.ir_verify_base.specs.Outer.{Outer}
+use Rattle.ir_verify_base.specs.Mapped.{map_outer}
+use Rattle.ir_verify_base.specs.Gathered.{gathered_in, outer_in as gathered_outer}
 use Rattle.ir_verify_base.specs.Numbers.{typed, node_in, outer_in, around_in}
 use Rattle.ir_verify.specs.declared.rules.RuleSet.{RuleSet}
 use Rattle.ir_verify.specs.Sets.{set_of}

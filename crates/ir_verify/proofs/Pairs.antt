@@ -13,9 +13,9 @@ use Rattle.ir_tree.specs.Meaning.{Operation}
 use Rattle.ir_tree_laws.specs.Members.{In}
 use Rattle.ir_tree_laws.specs.Stands.{StandOf, stand_id, stands}
 use Rattle.ir_tree_laws.proofs.Listed.{bool_cases, in_left, in_right, in_parts, in_map, in_mapped}
-use Rattle.listeners_surroundings.specs.Surroundings.{surround}
-use Rattle.listeners_surroundings.specs.Facts.{sorted_in, sorted_facts}
-use Rattle.listeners_surroundings.proofs.SortedFacts.{tied, left, right, unfound, found, is_in_order}
+use Rattle.ir_verify_base.specs.Surroundings.{surround}
+use Rattle.ir_verify_base.specs.Facts.{sorted_in, sorted_facts}
+use Rattle.ir_verify_base.proofs.SortedFacts.{tied, left, right, unfound, found, is_in_order}
 use Rattle.op_registry.specs.Registry.{row_of}
 use Rattle.ir_verify.specs.Breaks.{told_in, numbers_from, broken}
 use Rattle.ir_verify.specs.Diagnostics.{rule_rows, rows_of, diagnostics_of}

@@ -7,12 +7,12 @@ use Rattle.ir_tree_laws.proofs.Contents.{map_has_id}
 use Rattle.ir_tree_laws.proofs.Listed.{bool_cases}
 use Rattle.ir_event.specs.declared.world.World.{World}
 use Rattle.ir_event.specs.Modules.{module_in}
-use Rattle.listeners_surroundings.specs.Surroundings.{SurroundingsOf, surroundings}
-use Rattle.listeners_surroundings.specs.Mapped.{map_surroundings}
-use Rattle.listeners_surroundings.specs.Facts.{fact_of}
-use Rattle.listeners_surroundings.specs.Gathered.{tree_in}
-use Rattle.listeners_surroundings.proofs.Meanings.{mapped_surroundings}
-use Rattle.listeners_surroundings.proofs.Reading.{absent, nothing_around, gone}
+use Rattle.ir_verify_base.specs.Surroundings.{SurroundingsOf, surroundings}
+use Rattle.ir_verify_base.specs.Mapped.{map_surroundings}
+use Rattle.ir_verify_base.specs.Facts.{fact_of}
+use Rattle.ir_verify_base.specs.Gathered.{tree_in}
+use Rattle.ir_verify_base.proofs.Meanings.{mapped_surroundings}
+use Rattle.ir_verify_base.proofs.Reading.{absent, nothing_around, gone}
 use Rattle.ir_verify_base.specs.Fits.{Surroundings}
 use Rattle.ir_verify.specs.declared.rules.RuleSet.{RuleSet}
 use Rattle.ir_verify.specs.Sets.{set_of}

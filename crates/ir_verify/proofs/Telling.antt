@@ -17,8 +17,8 @@ use Rattle.ir_event.specs.declared.row.Cell.{Cell}
 use Rattle.ir_event.specs.declared.row.Cell.TheVariants.{Op, Rule}
 use Rattle.ir_event.specs.declared.row.Row.{Row as Line}
 use Rattle.ir_event.specs.Rows.{cell_meaning, rows_meaning, CellIsOf, RowIsOf, Shows}
-use Rattle.listeners_surroundings.specs.Surroundings.{surround, surroundings}
-use Rattle.listeners_surroundings.specs.Facts.{fact_of, sorted_in, sorted_facts, kept_facts}
+use Rattle.ir_verify_base.specs.Surroundings.{surround, surroundings}
+use Rattle.ir_verify_base.specs.Facts.{fact_of, sorted_in, sorted_facts, kept_facts}
 use Rattle.ir_verify_base.specs.Fits.{Surroundings}
 use Rattle.ir_verify.specs.declared.rules.RuleSet.{RuleSet}
 use Rattle.ir_verify.specs.Breaks.{told_in, broken, numbers_from}

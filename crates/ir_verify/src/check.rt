@@ -2,7 +2,7 @@
 ghost use Rattle.std.specs.Prelude.{◌≡◌, ◌≤◌, ◌+◌, Some, MatchResult};
 ghost use Rattle.ir_tree.specs.Ids.{find};
 ghost use Rattle.ir_event.specs.Modules.{module_in};
-ghost use Rattle.listeners_surroundings.specs.Gathered.{gather_looks, tree_in};
+ghost use Rattle.ir_verify_base.specs.Gathered.{gather_looks, tree_in};
 ghost use Rattle.ir_verify.specs.Diagnostics.{broken_at, Unchecked};
 
 use crate::rules::RuleSet;
@@ -10,7 +10,7 @@ use ir_event::view::View;
 use ir_event::world::World;
 use ir_types::ids::OpId;
 use ir_types::refusal::Refusal;
-use listeners_surroundings::fact::fact_at;
+use ir_verify_base::fact::fact_at;
 use std::alloc::Global;
 
 /// The numbers of the rules that an operation of a world's module breaks, rising.

@@ -8,7 +8,7 @@ use ir_event::event::Event;
 use ir_event::row::{Kind, Memory, ReportFault, Row};
 use ir_event::view::View;
 use ir_event::world::World;
-use listeners_surroundings::kept::Kept;
+use ir_verify_base::kept::Kept;
 use std::alloc::Global;
 
 /// The analysis `diagnostics`: which operations break which rules.

@@ -1,7 +1,7 @@
 //! The rules that an operation breaks.
 ghost use Rattle.std.specs.Prelude.{◌≡◌, ◌≤◌, ◌<◌, ◌^◌, [], ◌∷◌, ◌++◌, IfOk, OnOk, length, true, false};
 ghost use Rattle.ir_types.specs.Terms.{name_term};
-ghost use Rattle.listeners_surroundings.specs.Gathered.{AroundIsOf};
+ghost use Rattle.ir_verify_base.specs.Gathered.{AroundIsOf};
 ghost use Rattle.ir_verify.specs.Breaks.{told_of, numbers_from};
 ghost use Rattle.ir_verify_base.specs.Fits.{Surroundings};
 ghost use Rattle.op_registry.specs.Registry.{row_from};
@@ -15,13 +15,13 @@ use crate::place_rules::{
 };
 use ir_types::context::Context;
 use ir_types::ids::NameId;
+use ir_verify_base::around::Around;
+use ir_verify_base::fact::Fact;
 use ir_verify_base::memref_rules::{breaks_20, breaks_24};
 use ir_verify_base::shapes::{breaks_1, breaks_3, breaks_5, breaks_12, breaks_13, is_well_shaped};
 use ir_verify_base::type_rules::{
     breaks_2, breaks_4, breaks_7, breaks_14, breaks_18, breaks_19, known_of,
 };
-use listeners_surroundings::around::Around;
-use listeners_surroundings::fact::Fact;
 use op_registry::definition::OpDef;
 use op_registry::laws::listed_has_row;
 use op_registry::registry::Registry;

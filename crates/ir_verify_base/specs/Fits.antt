@@ -9,7 +9,7 @@ use Rattle.op_registry.specs.declared.definition.TypeRule.TheVariants as type
 use Rattle.op_registry.specs.Rows.{TypesRow, RegionRow, Row}
 use Rattle.op_registry.specs.Registry.{beside}
 use Rattle.op_registry.specs.Properties.{type_of}
-use Rattle.ir_store.specs.Nodes.{NodeOf}
+use Rattle.listeners_surroundings.specs.Nodes.{NodeOf}
 use Rattle.listeners_surroundings.specs.Surroundings.{SurroundingsOf, OuterOf}
 use Rattle.ir_types.specs.SameTypes.{same_type, function_of}
 use Rattle.ir_verify_base.specs.Types.{same_types, is_integer, is_index, is_number, is_boolean, is_memref}

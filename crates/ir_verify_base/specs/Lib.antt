@@ -3,3 +3,9 @@ pub mod Fits
 pub mod Numbers
 pub mod Shapes
 pub mod TypeRules
+pub use Rattle.listeners_surroundings.specs.Facts
+pub use Rattle.listeners_surroundings.specs.Gathered
+pub use Rattle.listeners_surroundings.specs.Mapped
+pub use Rattle.listeners_surroundings.specs.Surroundings
+pub use Rattle.listeners_surroundings.specs.declared.around.Around
+pub use Rattle.listeners_surroundings.specs.declared.around.Outer

@@ -3,7 +3,7 @@ use Rattle.std.specs.Prelude.{◌≡◌, ℕ, List, map, Option, option_map, IfS
 use Rattle.std.specs.List.{All}
 use Rattle.ir_types.specs.Things.{Things, IsType}
 use Rattle.ir_types.specs.Terms.{TypeTerm, name_term, type_term, attr_term}
-use Rattle.ir_store.specs.Nodes.{Node as NumberNode}
+use Rattle.listeners_surroundings.specs.Nodes.{Node as NumberNode}
 use Rattle.op_registry.specs.declared.definition.OpDef.{OpDef}
 use Rattle.op_registry.specs.Registry.{row_from}
 use Rattle.listeners_surroundings.specs.declared.around.Around.{Around}

@@ -7,3 +7,5 @@ pub mod node;
 pub mod shapes;
 pub mod type_rules;
 pub mod types;
+
+pub use listeners_surroundings::{around, fact, kept, properties};

@@ -16,12 +16,12 @@ ghost use Rattle.ir_verify_base.specs.TypeRules as rules;
 
 use crate::node::{is_named, property};
 use crate::types::same;
-use ir_store::node::Node;
 use ir_types::context::Context;
 use ir_types::ids::TypeId;
 use ir_types::node::{AttrNode, TypeNode};
 use ir_types::word::Word;
 use listeners_surroundings::around::Around;
+use listeners_surroundings::node::Node;
 use op_registry::things::{attr_of, type_of};
 
 /// What a memref type says.

@@ -9,11 +9,11 @@ ghost use Rattle.ir_event.specs.Modules.{NodeIsOf};
 ghost use Rattle.ir_verify_base.specs.Numbers.{node_in};
 ghost use Rattle.ir_verify_base.specs.Fits as fits;
 
-use ir_store::node::Node;
 use ir_types::context::Context;
 use ir_types::ids::{AttrId, TypeId};
 use ir_types::things::attr_of;
 use ir_types::word::Word;
+use listeners_surroundings::node::Node;
 use listeners_surroundings::properties::entry;
 use op_registry::signature::{Signature, signature_of, type_in};
 

@@ -9,8 +9,8 @@ ghost use Rattle.ir_verify_base.specs.Shapes as shapes;
 
 use crate::fits::count_fits;
 use crate::node::property;
-use ir_store::node::Node;
 use ir_types::context::Context;
+use listeners_surroundings::node::Node;
 use op_registry::definition::{OpDef, Property};
 use op_registry::property::allows;
 

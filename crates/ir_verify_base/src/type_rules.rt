@@ -17,11 +17,11 @@ ghost use Rattle.ir_verify_base.specs.TypeRules as rules;
 use crate::fits::{Known, types_fit};
 use crate::node::{block, function_type, is_named, property};
 use crate::types::{is_index, is_number, same, width_of};
-use ir_store::node::Node;
 use ir_types::context::Context;
 use ir_types::ids::TypeId;
 use ir_types::word::Word;
 use listeners_surroundings::around::Around;
+use listeners_surroundings::node::Node;
 use op_registry::definition::{OpDef, RegionRule, TypeRule};
 use op_registry::property::integer_of;
 

@@ -7,3 +7,5 @@ pub mod gather;
 pub mod kept;
 pub mod laws;
 pub mod properties;
+
+pub use ir_store::node;

@@ -12,8 +12,8 @@ use Rattle.ir_tree.specs.Ids.{HasDistinctIds, find, first_of}
 use Rattle.ir_tree.specs.Places.{place_of}
 use Rattle.ir_tree.specs.Meaning.{Operation, meaning}
 use Rattle.ir_tree.proofs.Mapped.{map_find, map_place, map_ids}
-use Rattle.ir_store.specs.Nodes.{Node, node_of}
-use Rattle.ir_store.specs.Stored.{known}
+use Rattle.listeners_surroundings.specs.Nodes.{Node, node_of}
+use Rattle.listeners_surroundings.specs.Stored.{known}
 use Rattle.ir_tree_laws.specs.Reads.{parent_of}
 use Rattle.ir_tree_laws.specs.Values.{type_of_value}
 use Rattle.ir_tree_laws.specs.Stands.{StepOf, stand_id, stands, stand_of, table_in, place_in}

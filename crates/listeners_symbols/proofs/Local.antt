@@ -14,7 +14,7 @@ use Rattle.ir_tree.specs.Edits.{each_head, regions_each_head, at, put_operand, c
 use Rattle.ir_tree.specs.Frames.{owner_of}
 use Rattle.ir_tree.specs.Places.{without}
 use Rattle.ir_tree.specs.Meaning.{Operation}
-use Rattle.ir_store.specs.Nodes.{node_of, regions_arguments}
+use Rattle.listeners_surroundings.specs.Nodes.{node_of, regions_arguments}
 use Rattle.ir_tree_laws.specs.Changes.{HoldNone}
 use Rattle.ir_tree_laws.specs.Values.{type_of_value}
 use Rattle.ir_tree_laws.specs.Tables.{table_of}

@@ -7,7 +7,7 @@ use Rattle.ir_tree.specs.Tree.{Op, op, head}
 use Rattle.ir_tree.specs.Ids.{find, first_of}
 use Rattle.ir_tree.specs.Meaning.{meaning, Operation}
 use Rattle.ir_tree.proofs.Mapped.{map_find}
-use Rattle.ir_store.specs.Stored.{known}
+use Rattle.listeners_surroundings.specs.Stored.{known}
 use Rattle.ir_event.specs.declared.event.Event.{Event}
 use Rattle.ir_event.specs.declared.event.Event.TheVariants.{Put, Take, SetOperand, SetEntry, Shift}
 use Rattle.ir_event.specs.declared.world.World.{World}

@@ -10,12 +10,12 @@ ghost use Rattle.listeners_symbols.specs.Roles as roles;
 ghost use Rattle.listeners_symbols.specs.Table.{head_meaning, signature_meaning, SignatureIsOf};
 
 use crate::role::Signature;
-use ir_store::node::Node;
 use ir_types::context::Context;
 use ir_types::ids::{AttrId, NameId, TypeId};
 use ir_types::node::AttrNode;
 use ir_types::things::attr_of;
 use ir_types::word::Word;
+use listeners_surroundings::node::Node;
 use listeners_surroundings::properties::{entry, string_of};
 use op_registry::signature;
 use std::alloc::{AllocError, Global};

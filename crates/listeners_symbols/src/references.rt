@@ -11,10 +11,10 @@ ghost use Rattle.listeners_symbols.specs.Roles.{has_parts, references_of, with_d
 ghost use Rattle.listeners_symbols.specs.Table.{head_meaning, reference_meaning, ReferenceIsOf};
 
 use crate::role::Reference;
-use ir_store::node::Node;
 use ir_types::context::Context;
 use ir_types::ids::{AttrId, NameId};
 use ir_types::node::AttrNode;
+use listeners_surroundings::node::Node;
 use op_registry::things::attr_of;
 use std::alloc::{AllocError, Global};
 

@@ -1,7 +1,7 @@
 //! The table of roles follows a module.
 ghost use Rattle.std.specs.Prelude.{◌≡◌, ◌≤◌, ◌+◌, Some, true, option_map, OnOk, IfOk};
-ghost use Rattle.ir_store.specs.Nodes.{node_of};
-ghost use Rattle.ir_store.specs.Stored.{known};
+ghost use Rattle.listeners_surroundings.specs.Nodes.{node_of};
+ghost use Rattle.listeners_surroundings.specs.Stored.{known};
 ghost use Rattle.ir_event.specs.Bounds.{op_of, operand_count};
 ghost use Rattle.ir_event.specs.Listener.{is_take};
 ghost use Rattle.ir_event.specs.Modules.{module_in};
@@ -14,8 +14,8 @@ use crate::role::Role;
 use ir_event::event::Event;
 use ir_event::view::View;
 use ir_event::world::World;
-use ir_store::node::Node;
 use ir_types::ids::OpId;
+use listeners_surroundings::node::Node;
 use std::alloc::{AllocError, Global};
 use std::collections::BTreeMap;
 

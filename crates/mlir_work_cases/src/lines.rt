@@ -2,15 +2,15 @@
 use ir_tree::value::Value;
 use ir_types::ids::OpId;
 use mlir_work_cases_base::texts::{both_shown, bytes, number, shown};
-use mlir_work_script::command::{Command, Line, read_line};
-use mlir_work_script::input::{script_is_too_long, split};
-use mlir_work_script::keys::{Key, bytes_of};
-use mlir_work_script::kind::kind_named;
-use mlir_work_script::lines::split_line;
-use mlir_work_script::numbers;
-use mlir_work_script::spots::Spot;
-use mlir_work_script::values::{op_named, value_named};
-use mlir_work_script::words::{split_word, trim};
+use mlir_work_run::command::{Command, Line, read_line};
+use mlir_work_run::input::{script_is_too_long, split};
+use mlir_work_run::keys::{Key, bytes_of};
+use mlir_work_run::kind::kind_named;
+use mlir_work_run::lines::split_line;
+use mlir_work_run::numbers;
+use mlir_work_run::spots::Spot;
+use mlir_work_run::values::{op_named, value_named};
+use mlir_work_run::words::{split_word, trim};
 use std::alloc::{AllocError, Global};
 
 /// A line that sets an operand.

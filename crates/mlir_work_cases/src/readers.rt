@@ -1,6 +1,6 @@
 //! Readers that give little, fail, are interrupted or never end.
 use mlir_work_cases_base::texts::{bytes, first, number, put_all_shown, small};
-use mlir_work_script::input::{ReadFault, read_all};
+use mlir_work_run::input::{ReadFault, read_all};
 use std::alloc::{AllocError, Global};
 use std::fmt::Write;
 use std::io::{self, ErrorKind, Read};

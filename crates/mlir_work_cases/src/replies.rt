@@ -3,13 +3,13 @@ use ir_tree::value::Value;
 use ir_types::ids::OpId;
 use ir_types::refusal::Refusal;
 use mlir_work_cases_base::texts::{first, number, small};
-use mlir_work_script::cells::{put_number, put_op_id, put_value};
-use mlir_work_script::kind::Kind;
-use mlir_work_script::replies::{
+use mlir_work_run::cells::{put_number, put_op_id, put_value};
+use mlir_work_run::kind::Kind;
+use mlir_work_run::replies::{
     put_attach_refused, put_kind, put_kind_memory, put_module_memory, put_module_refused, put_ok,
     put_refused, put_refused_at, put_stale,
 };
-use mlir_work_script::writing::{WriteFault, put_all};
+use mlir_work_run::writing::{WriteFault, put_all};
 use std::alloc::{AllocError, Global};
 use std::io::Write;
 

@@ -1,6 +1,6 @@
 //! What a listener hears of a script, and the rules that an operation breaks.
-ghost use Rattle.rewriter.specs.Benched.{IsKept};
-ghost use Rattle.rewriter_journal.specs.Journals.{IsSlotted};
+ghost use Rattle.mlir_work_run.specs.Benched.{IsKept};
+ghost use Rattle.mlir_work_run.specs.Journals.{IsSlotted};
 
 use crate::runs::told;
 use crate::worlds::world_of;
@@ -14,9 +14,9 @@ use ir_verify::check::{check_in, check_op};
 use mlir_work_cases_base::events::put_event;
 use mlir_work_cases_base::texts::{bytes, first, small};
 use mlir_work_cases_base::witness::{Plan, Witness};
-use mlir_work_script::input::split;
-use mlir_work_session::script::run_script;
-use rewriter::Bench;
+use mlir_work_run::Bench;
+use mlir_work_run::input::split;
+use mlir_work_run::script::run_script;
 use std::alloc::{AllocError, Global};
 use std::fmt::Write;
 

@@ -2,17 +2,17 @@
 ghost use Rattle.std.specs.Prelude.{◌<◌, IsTrue, IfOk};
 ghost use Rattle.std.specs.List.{All};
 ghost use Rattle.ir_tree.specs.Ids.{ids};
-ghost use Rattle.rewriter_journal.specs.Journals.{IsSlotted};
+ghost use Rattle.mlir_work_run.specs.Journals.{IsSlotted};
 
 use dialects_int::tables::registry;
 use ir_event::world::World;
-use ir_text::reader::read_new;
 use ir_tree::count::op_count;
 use ir_tree::find::list_ids;
 use ir_tree::numbered::distinct;
 use ir_tree::tree::TreeOp;
 use ir_types::refusal::Refusal;
-use rewriter_journal::laws::stores_stay_slotted;
+use mlir_work_run::laws::stores_stay_slotted;
+use mlir_work_run::reader::read_new;
 use std::alloc::{AllocError, Global};
 
 /// Whether the ids of a tree are below a number.

@@ -1,7 +1,7 @@
 //! Writers that take little, fail or are interrupted.
 use crate::replies::put_reply;
 use mlir_work_cases_base::texts::{first, put_all_shown, shown, small};
-use mlir_work_script::writing::{WriteFault, flush};
+use mlir_work_run::writing::{WriteFault, flush};
 use std::alloc::{AllocError, Global};
 use std::fmt::Write as _;
 use std::io::{self, ErrorKind, Write};

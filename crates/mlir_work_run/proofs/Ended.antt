@@ -2,8 +2,8 @@
 use Rattle.std.proofs.Common.{◌≡◌, refl, sym, subst, Bool, true, false, true≢false, ◌&&◌, ℕ, List, [], append-nil, Option, Some, None, Result, Ok, Err, IfOk}
 use Rattle.std.specs.Prelude.{IfSome, IsTrue}
 use Rattle.std.specs.Io.KnownBytes.{Appends, Keeps}
-use Rattle.mlir_work_script.specs.declared.writing.WriteFault.{WriteFault}
-use Rattle.mlir_work_script.proofs.Joins.{appends_join, appends_none}
+use Rattle.mlir_work_session.specs.WriteFault.{WriteFault}
+use Rattle.mlir_work_session.proofs.Joins.{appends_join, appends_none}
 use Rattle.mlir_work_session.specs.Ran.{RanOut}
 use Rattle.mlir_work_run.specs.declared.run.Fault.{Fault}
 use Rattle.mlir_work_run.specs.Ends.{EndedSo, ended_of}

@@ -1,6 +1,6 @@
 -- Ids that are 0, 1, .. are distinct, and below their number. What a tree stands for is numbered and formed as the tree.
 use Rattle.ir_event.specs.Modules.{Module}
-use Rattle.ir_text.specs.Public.{IsOnly, Spells}
+use Rattle.mlir_work_session.specs.Public.{IsOnly, Spells}
 use Rattle.mlir_work_run.specs.Whole.{IsWorldOf}
 use Rattle.std.specs.Prelude.{IsTrue}
 use Rattle.std.proofs.Common.{ap, ◌≡◌, ◌≢◌, ◌<◌, ◌∙◌, sym, subst, ℕ, List, All, eqb, arith, refl}

@@ -2,9 +2,9 @@
 use Rattle.std.proofs.Common.{◌≡◌, sym, subst, inl, inr, ◌⊎◌, refl, ℕ, ◌+◌, List, [], ◌∷◌, length, Bool, true, false, Option, Some, None, Result, Ok, Err}
 use Rattle.std.specs.Prelude.{IfSome}
 use Rattle.ir_event.specs.Modules.{Module}
-use Rattle.mlir_work_script.specs.Commands.{Spoken, Nothing, Bad, Obey, line_says}
-use Rattle.mlir_work_script.specs.Lines.{lines_of}
-use Rattle.mlir_work_script.specs.Parts.{script_text}
+use Rattle.mlir_work_session.specs.Commands.{Spoken, Nothing, Bad, Obey, line_says}
+use Rattle.mlir_work_session.specs.Lines.{lines_of}
+use Rattle.mlir_work_session.specs.Parts.{script_text}
 use Rattle.rewriter_machine.specs.Machine.{State}
 use Rattle.rewriter_machine.specs.Panels.{Shown}
 use Rattle.mlir_work_session.specs.Output.{Line, Manner, Runs, IsSession, worse, is_accepted}

@@ -1,8 +1,8 @@
 -- How a whole run ends.
 use Rattle.std.specs.Prelude.{◌≡◌, ℕ, List, ◌⊎◌, Option, Result, Ok, Err}
 use Rattle.std.specs.Io.KnownBytes.{Appends, Keeps}
-use Rattle.mlir_work_script.specs.Writes.{AppendsFront}
-use Rattle.mlir_work_script.specs.declared.writing.WriteFault.{WriteFault}
+use Rattle.mlir_work_session.specs.Writes.{AppendsFront}
+use Rattle.mlir_work_session.specs.WriteFault.{WriteFault}
 use Rattle.mlir_work_run.specs.declared.run.Fault.{Fault}
 use Rattle.mlir_work_run.specs.declared.run.Fault.TheVariants.{Read as ReadFailed, Write as WriteFailed}
 

@@ -6,10 +6,10 @@ use Rattle.ir_types.specs.declared.refusal.Refusal.TheVariants.{TooMany, Memory}
 use Rattle.ir_tree.specs.Ids.{op_count}
 use Rattle.ir_tree.specs.Meaning.{Operation}
 use Rattle.ir_event.specs.Modules.{Module}
-use Rattle.ir_text.specs.Public.{Spells}
-use Rattle.mlir_work_script.specs.Parts.{module_text, script_text}
-use Rattle.mlir_work_script.specs.Replies.{module_refused_line}
-use Rattle.mlir_work_script.specs.declared.input.TheConstants.{MAX_INPUT_BYTES}
+use Rattle.mlir_work_session.specs.Public.{Spells}
+use Rattle.mlir_work_session.specs.Parts.{module_text, script_text}
+use Rattle.mlir_work_session.specs.Replies.{module_refused_line}
+use Rattle.mlir_work_session.specs.TheConstants.{MAX_INPUT_BYTES}
 use Rattle.rewriter_machine.specs.Panels.{Shown}
 use Rattle.mlir_work_session.specs.Output.{IsSession}
 

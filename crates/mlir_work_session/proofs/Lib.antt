@@ -8,3 +8,4 @@ pub mod Attaching
 pub mod Sessions
 pub mod Printing
 pub mod RowWalks
+pub use Rattle.mlir_work_script.proofs.Joins

@@ -4,3 +4,13 @@ pub mod Machine
 pub mod Output
 pub mod Ran
 pub mod PrintsAlone
+pub use Rattle.mlir_work_script.specs.Commands
+pub use Rattle.mlir_work_script.specs.Lines
+pub use Rattle.mlir_work_script.specs.Parts
+pub use Rattle.mlir_work_script.specs.Replies
+pub use Rattle.mlir_work_script.specs.Writes
+pub use Rattle.mlir_work_script.specs.declared.input.TheConstants
+pub use Rattle.mlir_work_script.specs.declared.writing.WriteFault
+pub use Rattle.ir_text.specs.Public
+pub use Rattle.ir_store.specs.Calls
+pub use Rattle.rewriter.specs.Benched

@@ -18,3 +18,9 @@ pub mod script;
 pub mod session;
 pub mod shows;
 mod unread;
+
+pub use ir_text::reader;
+pub use mlir_work_script::{
+    cells, command, input, keys, kind, lines, numbers, replies, spots, values, words, writing,
+};
+pub use rewriter::Bench;

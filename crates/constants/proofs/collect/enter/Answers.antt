@@ -1,6 +1,6 @@
 use Rattle.std.proofs.Common.{◌≡◌, subst}
 use Rattle.ir_event.specs.declared.world.World.{World}
-use Rattle.dialects_int.specs.Folds.{known_of}
+use Rattle.constants_base.specs.Folds.{known_of}
 use Rattle.constants_base.specs.Trails.{IsThere}
 use Rattle.constants_base.specs.Facts.{value}
 use Rattle.constants.proofs.Entering.{entered}

@@ -1,5 +1,5 @@
 use Rattle.std.proofs.Common.{◌≡◌, true, sym, ap, ◌∙◌}
-use Rattle.dialects_int.specs.Folds.{known_of}
+use Rattle.constants_base.specs.Folds.{known_of}
 use Rattle.constants_base.proofs.Learns.{learnt_noted}
 use Rattle.constants.proofs.Learnable.{learnt_none}
 use Rattle.constants.specs.Tables.{known_in}

@@ -3,7 +3,7 @@ use Rattle.ir_types.specs.Things.{Things}
 use Rattle.ir_tree.specs.Tree.{Op}
 use Rattle.ir_tree.specs.Ids.{op_count}
 use Rattle.ir_tree.specs.Meaning.{meaning}
-use Rattle.ir_store.specs.Calls.{Loaded}
+use Rattle.mlir_work_session.specs.Calls.{Loaded}
 use Rattle.ir_event.specs.declared.world.World.{World}
 use Rattle.ir_event.specs.Modules.{Module, module_in, module_meaning}
 use Rattle.mlir_work_run.proofs.Numbered.{numbered_distinct, numbered_below}
