@@ -5,8 +5,8 @@ use Rattle.ir_event.specs.Modules.{Module}
 use Rattle.mlir_work_session.specs.Commands.{Spoken, Nothing, Bad, Obey, line_says}
 use Rattle.mlir_work_session.specs.Lines.{lines_of}
 use Rattle.mlir_work_session.specs.Parts.{script_text}
-use Rattle.rewriter_machine.specs.Machine.{State}
-use Rattle.rewriter_machine.specs.Panels.{Shown}
+use Rattle.mlir_work_session.specs.Machine.{State}
+use Rattle.mlir_work_session.specs.Panels.{Shown}
 use Rattle.mlir_work_session.specs.Output.{Line, Manner, Runs, IsSession, worse, is_accepted}
 use Rattle.mlir_work_run.specs.Ends.{EndedSo, HasStatus, IsFinal, status_of}
 use Rattle.mlir_work_run.specs.Whole.{IsOutput}

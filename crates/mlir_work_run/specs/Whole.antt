@@ -10,7 +10,7 @@ use Rattle.mlir_work_session.specs.Public.{Spells}
 use Rattle.mlir_work_session.specs.Parts.{module_text, script_text}
 use Rattle.mlir_work_session.specs.Replies.{module_refused_line}
 use Rattle.mlir_work_session.specs.TheConstants.{MAX_INPUT_BYTES}
-use Rattle.rewriter_machine.specs.Panels.{Shown}
+use Rattle.mlir_work_session.specs.Panels.{Shown}
 use Rattle.mlir_work_session.specs.Output.{IsSession}
 
 -- the module is refused

@@ -7,7 +7,7 @@ ghost use Rattle.ir_tree.specs.WellFormed.{IsFormed};
 ghost use Rattle.ir_event.specs.Modules.{module_in};
 ghost use Rattle.mlir_work_session.specs.Public.{IsOnly, Spells};
 ghost use Rattle.rewriter_journal.specs.Journals.{IsSlotted, IsTidy};
-ghost use Rattle.rewriter_machine.specs.Panels.{all_shown};
+ghost use Rattle.mlir_work_session.specs.Panels.{all_shown};
 ghost use Rattle.mlir_work_session.specs.Lines.{lines_of};
 ghost use Rattle.mlir_work_session.specs.Parts.{module_text, script_text};
 ghost use Rattle.mlir_work_session.specs.TheConstants.{MAX_SCRIPT_BYTES};

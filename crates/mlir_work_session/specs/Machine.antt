@@ -4,7 +4,8 @@ use Rattle.ir_text.specs.Printing.{text_of}
 use Rattle.ir_text.specs.Public.{SpellsAttr}
 use Rattle.rewriter.specs.Texts.{SpellsBeside}
 use Rattle.rewriter.specs.Commands.{Command, Asked, Asks, Response, Replied, TextRefusedAt, Follows}
-use Rattle.rewriter.specs.Machine.{State, Done, DoneAs, Refused, Shows, Nothing, Rows, Tree}
+use Rattle.rewriter.specs.Machine.{Done, DoneAs, Refused, Shows, Nothing, Rows, Tree}
+pub use Rattle.rewriter.specs.Machine.{State}
 use Rattle.mlir_work_session.specs.RowText.{rows_text}
 use Rattle.mlir_work_session.specs.declared.reply.Reply.{Reply}
 use Rattle.mlir_work_session.specs.declared.reply.Reply.TheVariants as code

@@ -3,7 +3,7 @@ use Rattle.ir_types.specs.declared.refusal.Refusal.TheVariants.{Memory}
 use Rattle.ir_tree.specs.Ids.{op_count}
 use Rattle.ir_tree.specs.Meaning.{meaning}
 use Rattle.ir_event.specs.Modules.{Module, module_in}
-use Rattle.rewriter_machine.specs.Panels.{all_shown}
+use Rattle.mlir_work_session.specs.Panels.{all_shown}
 use Rattle.mlir_work_session.specs.Parts.{module_text, script_text}
 use Rattle.mlir_work_session.specs.Output.{IsSession}
 use Rattle.mlir_work_run.specs.Whole.{IsOutput, IsRefusal}

@@ -1,4 +1,4 @@
-use Rattle.rewriter_machine.specs.Panels.{all_shown}
+use Rattle.mlir_work_session.specs.Panels.{all_shown}
 use Rattle.mlir_work_session.specs.Output.{IsSession}
 use Rattle.ir_tree.specs.Meaning.{meaning}
 use Rattle.mlir_work_run.proofs.Ended.{finished}

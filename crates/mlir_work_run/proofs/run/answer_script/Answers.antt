@@ -1,5 +1,5 @@
 use Rattle.ir_event.specs.Modules.{module_in}
-use Rattle.rewriter_machine.specs.Panels.{all_shown}
+use Rattle.mlir_work_session.specs.Panels.{all_shown}
 use Rattle.mlir_work_session.specs.Output.{IsSession}
 use Rattle.mlir_work_run.proofs.Ended.{finished}
 use Rattle.mlir_work_run.proofs.run.answer_script.Goals as goal

@@ -1,7 +1,7 @@
 use Rattle.std.proofs.Common.{◌≡◌, ◌<◌, ◌≤◌, List, ℕ, length, inl, inr, refl, subst, None}
 use Rattle.ir_types.specs.declared.refusal.Refusal.TheVariants.{Memory}
 use Rattle.mlir_work_session.specs.TheConstants.{MAX_INPUT_BYTES}
-use Rattle.rewriter_machine.specs.Panels.{all_shown}
+use Rattle.mlir_work_session.specs.Panels.{all_shown}
 use Rattle.mlir_work_run.specs.Whole.{IsOutput}
 use Rattle.mlir_work_run.proofs.Ended.{ended_so, if_some}
 use Rattle.mlir_work_run.proofs.run.read_and_answer.Goals as goal

@@ -1,4 +1,4 @@
-use Rattle.rewriter_machine.specs.Panels.{all_shown}
+use Rattle.mlir_work_session.specs.Panels.{all_shown}
 use Rattle.mlir_work_run.proofs.Statuses.{if_has_status}
 use Rattle.mlir_work_run.proofs.run.run_keyed.Goals as goal
 
