@@ -1,4 +1,4 @@
-pub mod Spots
+pub mod Placed
 pub mod Panels
 pub mod Reading
 pub mod Obeying

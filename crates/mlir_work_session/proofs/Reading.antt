@@ -29,7 +29,7 @@ use Rattle.mlir_work_session.specs.Texts.{Grown, NotRead}
 use Rattle.mlir_work_session.specs.RowText.{rows_text}
 use Rattle.mlir_work_session.specs.Output.{IsModule, AreKinds, IsListing}
 use Rattle.ir_event.specs.Panels.{AllKept}
-use Rattle.mlir_work_session.proofs.Spots.{spot_beside}
+use Rattle.mlir_work_session.proofs.Placed.{spot_beside}
 
 -- ---- what is seen of a bench by its world
 

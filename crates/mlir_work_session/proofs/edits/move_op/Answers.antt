@@ -4,7 +4,7 @@ use Rattle.rewriter.specs.Edits as edit
 use Rattle.rewriter.specs.Machine.{Do}
 use Rattle.mlir_work_script.specs.Spots.{spot_of}
 use Rattle.mlir_work_session.proofs.Obeying.{obeys_plain, obeys_misplaced}
-use Rattle.mlir_work_session.proofs.Spots.{spot_beside}
+use Rattle.mlir_work_session.proofs.Placed.{spot_beside}
 use Rattle.mlir_work_session.proofs.edits.move_op.Goals as goal
 
 pub returns-in-Err-clause-obeys : goal.returns-in-Err-clause-obeys

@@ -3,7 +3,7 @@ use Rattle.std.specs.Prelude.{option_map, is_some}
 use Rattle.ir_tree.specs.Ids.{has_id}
 use Rattle.ir_store.specs.Nodes.{node_of}
 use Rattle.ir_store.specs.Stored.{Stored, known}
-use Rattle.mlir_work_session.proofs.Spots.{block_told, no_block, some_kept}
+use Rattle.mlir_work_session.proofs.Placed.{block_told, no_block, some_kept}
 use Rattle.mlir_work_session.proofs.places.has_block.Goals as goal
 
 pub returns-then-not-in_tree : goal.returns-then-not-in_tree
