@@ -539,15 +539,21 @@ def command_lines():
     case("words --brief", "brief true")
     for words in ("--help", "-h", "--brief --help"):
         case("words " + words, "output " + told(help_text))
-    for words in ("--version", "-V"):
-        case("words " + words, "output " + told(b"mlir_work 0.1.0\n"))
-    for words in ("--nonsense", "x", "-b"):
+    for words in ("--nonsense", "x", "-b", "--version", "-V"):
         case("words " + words, "error " + told(b"error: unexpected argument '%s' found" % words.encode() + usage + more))
     case("words --brief --brief", "error " + told(b"error: the argument '--brief' cannot be used multiple times" + usage + more))
     # The example of the help.
     example = re.search(rb"<<'END'\n(.*)  END\n(.*)", help_text, re.S)
     module, out = (re.sub(rb"(?m)^  ", b"", part) for part in example.groups())
-    run("brief", module, 0, out)
+    run("brief", module, 0, out, script.BOXES)
+
+
+def examples():
+    """Each module of examples/ with its script, and its output, with all listeners."""
+    for file in sorted(pathlib.Path("examples").glob("*.script")):
+        out = file.with_suffix(".out").read_bytes()
+        status = 1 if b" refused " in out else 0
+        run("brief", file.with_suffix(".mlir").read_bytes() + DIVIDER + file.read_bytes(), status, out, script.BOXES)
 
 
 def refused():
@@ -577,7 +583,7 @@ def analyses(kinds, text, brief=True):
 
 
 print("seeds", analyses_cases.SEED, verifier_cases.SEED, heard_cases.SEED)
-for part in (lines, words, cuts, writes, reads, runs, moves, entries, wholes, panels, command_lines, refused, worked):
+for part in (lines, words, cuts, writes, reads, runs, moves, entries, wholes, panels, command_lines, examples, refused, worked):
     part()
 analyses_cases.all_cases(analyses)
 heard_cases.all_cases(case)

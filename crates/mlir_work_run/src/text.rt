@@ -2,59 +2,90 @@
 
 /// What stands above the usage.
 pub(crate) const ABOUT: &str = "\
-Edits an MLIR module in generic text form by a script, and reports analyses that are kept up to date.
+Edits an MLIR module in generic text form by a script, and reports analyses that
+are kept up to date.
 
-Standard input is the module, a line that is exactly `// -----`, and the script; without such a line the
-script is empty. The replies, the module and the rows of analyses go to standard output.";
+Standard input is the module, a line that is exactly `// -----`, and the script;
+without such a line the script is empty. The replies, the module and the rows of
+analyses go to standard output.";
 
 /// What `--brief` says.
-pub(crate) const BRIEF: &str =
-    "Leave out the module and the rows of each analysis behind each edit";
+pub(crate) const BRIEF: &str = "Leave out the module and all rows behind each edit";
 
 /// What stands below the options.
 pub(crate) const AFTER: &str = "\
-Commands, one a line; an empty line and a line that begins with `//` say nothing:
+Commands, one a line; empty lines and lines that begin with `//` are skipped and
+not counted.
+
+To look:
   print                      the module
   report KIND                the rows of an analysis
+
+To edit:
   set-operand #N K VALUE     VALUE becomes operand K of operation #N
-  replace VALUE VALUE        the second VALUE is used in place of the first, everywhere
-  insert PLACE OPERATION     OPERATION, the rest of the line, is put in, with what is inside it
-  erase #N                   operation #N, with what is inside it, is taken away
-  set-attr #N KEY ATTRIBUTE  ATTRIBUTE, the rest of the line, becomes the entry KEY of operation #N
-  drop-attr #N KEY           the entry KEY of operation #N is taken out
+  replace VALUE VALUE        the second VALUE is used in place of the first,
+                             everywhere
+  insert PLACE OPERATION     OPERATION, the rest of the line, is put in, with
+                             what is inside it
   move #N PLACE              operation #N, with what is inside it, is moved
+  erase #N                   operation #N, with what is inside it, is taken away
+  set-attr #N KEY ATTRIBUTE  ATTRIBUTE, the rest of the line, becomes the entry
+                             KEY of operation #N
+  drop-attr #N KEY           the entry KEY of operation #N is taken out
+
+Marks, of which 16 may be open:
   begin                      a mark is made of the module
   commit                     the newest mark is dropped
-  rollback                   the module of the newest mark is held again, and the mark is dropped
+  rollback                   the module of the newest mark is held again, and
+                             the mark is dropped; a `detach` is not undone
+
+Analyses, which are all attached at the beginning:
   detach KIND                an analysis is dropped
   resync KIND                an analysis begins again
 
-Each command is replied to by a line that begins with its number: `1 ok`, and after an insert the number of
-the new operation, as `1 ok #4`; or `1 refused 23 NotVisible`, and then the module is as it was;
-`1 refused 2 Unexpected at 4` says where the ATTRIBUTE or the OPERATION is wrong. Operations are numbered in
-the order of the text, and the module around them is #0. A VALUE is %vN.K, result K of #N, or %aN.R.K,
-argument K of the block of region R of #N; an OPERATION names values of the module in the same way. A PLACE
-is `before #N`, `after #N`, or `start #N R` or `end #N R`, of the block of region R of #N. A KEY is a bare
-identifier or a string literal; it is one of the properties where it is inherent to the operation or they
-have it, else one of the attributes.
+Operations are numbered in the order of the text, and the module around them is
+#0; one that is put in takes the next free number, and those inside it the next.
+  VALUE      %vN.K, result K of #N, or %aN.R.K, argument K of the block of
+             region R of #N; the names of the text, as %c, are gone
+  PLACE      `before #N`, `after #N`, or `start #N R` or `end #N R`, of the
+             block of region R of #N
+  OPERATION  one line in generic form; it names values of the module as above
+  KEY        a bare identifier or a string literal; it is one of the properties
+             where it is inherent to the operation or they have it, else one of
+             the attributes
+  ATTRIBUTE  as in a text: a string has quotes, and `5` is `5 : i64`
+
+Each command is replied to by a line that begins with its number: `1 ok`, and
+behind an insert the number of the new operation, as `1 ok #4`. What is refused,
+as `1 refused 23 NotVisible`, changes nothing, and the next command is tried;
+`1 refused 2 Unexpected at 4` says at which byte the ATTRIBUTE or the OPERATION
+is wrong.
 
 Kinds:
-  uses         the uses of each value: the value, the operation that uses it, and the number of the operand
-  symbols      the symbols that are defined, and what each reference to one resolves to
-  diagnostics  what the verifier finds wrong: the operation, and the number of the rule that it breaks
-  effects      what operations do to memory: `unknown`, `allocate`, `free`, `read`, `write`
-  dead         the operations that may be erased: no result is used, and nothing is written or freed
-  constants    the values that are known without running, each with its attribute
+  uses         the uses of each value: the value, the operation that uses it,
+               and the number of the operand
+  symbols      the symbols that are defined, what each reference to one resolves
+               to, and the calls that don't fit
+  diagnostics  what the verifier finds wrong: the operation, and the number of
+               the rule that it breaks (docs/VERIFIER.md)
+  effects      what operations do to memory: `unknown`, `allocate`, `free`,
+               `read`, `write`
+  dead         the operations that may be erased: no result is used, and nothing
+               is written or freed
+  constants    the values that are known without running, each with its
+               attribute
 
 Exit status:
   0  each command was accepted; also of --help
-  1  a command was refused, or an analysis that was to be attached
+  1  a command was refused, or an analysis that was to be attached; what each
+     number means stands in docs/REFUSALS.md
   2  the command line is wrong, or there was no memory to begin
-  3  the module was refused, as in `module refused 3 UnknownValue at 9`: the number and word of the reason,
-     and the byte where it stands
+  3  the module was refused, as in `module refused 3 UnknownValue at 9`: the
+     number and word of the reason, and the byte where it stands
   4  a read or a write failed
 
-Custom forms are not read: print them with `mlir-opt --mlir-print-op-generic` first.
+Custom forms are not read: print them with `mlir-opt --mlir-print-op-generic`
+first.
 
 Example:
   $ mlir_work --brief <<'END'
@@ -62,10 +93,17 @@ Example:
   %b = \"arith.constant\"() <{value = 2 : i32}> : () -> i32
   \"test.pair\"(%a, %b) : (i32, i32) -> ()
   // -----
+  begin
   set-operand #3 1 %v1.0
+  report dead
+  rollback
   report uses
   END
   1 ok
   2 ok
+  3 ok
+  #2
+  4 ok
+  5 ok
   %v1.0 #3 0
-  %v1.0 #3 1";
+  %v2.0 #3 1";
