@@ -1,9 +1,9 @@
 //! What a listener hears of a script, and the rules that an operation breaks.
-ghost use Rattle.mlir_work_run.specs.Benched.{IsKept};
-ghost use Rattle.mlir_work_run.specs.Journals.{IsSlotted};
+ghost use Rattle.std.specs.Prelude.{◌≡◌, []};
 
 use crate::runs::told;
-use crate::worlds::world_of;
+use crate::worlds::{bench_of, world_of};
+use ir_event::analysis::Analysis;
 use ir_event::event::Event;
 use ir_event::view::View;
 use ir_event::world::World;
@@ -29,63 +29,76 @@ fn put_events(out: &mut String, ctx: &Context, events: &[Event]) -> Result<(), A
     Ok(())
 }
 
-/// The events of the journal, the oldest first.
-fn journal(alloc: Global, bench: &Bench<Witness>) -> Result<Vec<Event>, AllocError> {
-    let mut events = Vec::new(alloc);
-    let mut place = 0usize;
-    while let Some(event) = bench.journal_at(place) {
-        events.push(event)?;
-        place = place.saturating_add(1);
+/// Writes an event, if there is one, behind a space.
+fn put_found(out: &mut String, ctx: &Context, event: &Option<Event>) -> Result<(), AllocError> {
+    let Some(event) = event else {
+        return Ok(());
+    };
+    out.push(' ')?;
+    put_event(out, ctx, event)
+}
+
+/// Writes the events of the journal, the oldest first, each behind a space.
+fn put_journal(out: &mut String, bench: &Bench<Witness>) -> Result<(), AllocError> {
+    let ctx = &bench.world().ctx;
+    for place in 0..bench.journal_len() {
+        put_found(out, ctx, &bench.journal_at(place))?;
     }
-    Ok(events)
+    Ok(())
 }
 
 /// Writes what the listeners have heard, and the journal.
-fn put_trace(alloc: Global, out: &mut String, bench: &Bench<Witness>) -> Result<(), AllocError> {
+fn put_trace(out: &mut String, bench: &Bench<Witness>) -> Result<(), AllocError> {
     let ctx = &bench.world().ctx;
     for witness in bench.listeners() {
         out.push_str(" heard")?;
         put_events(out, ctx, witness.heard())?;
     }
-    let events = journal(alloc, bench)?;
     write!(out, " journal {}", bench.journal_len())?;
-    put_events(out, ctx, &events)
+    put_journal(out, bench)
 }
 
-/// Runs a script over a bench, and writes the status, the output, what was heard, and the journal that is left. The
-/// input that it is of has so many bytes.
+/// Attaches a listener to a bench without any, and runs a script over it, of an input of so many bytes; gives the status.
+fn run_heard<L: Analysis>(
+    alloc: Global,
+    bytes: usize,
+    bench: &mut Bench<L>,
+    listener: L,
+    script: &[u8],
+    written: &mut Vec<u8>,
+) -> Result<u8, AllocError>
+    requires { bench.old.listeners ≡ [] }
+{
+    if bench.attach(listener).is_err() {
+        return Err(AllocError);
+    }
+    Ok(run_script(alloc, true, bytes, bench, script, written).unwrap_or(4))
+}
+
+/// Runs the script of an input of so many bytes over a bench with a witness, and writes the status, the output, what was
+/// heard, and the journal that is left.
 fn traced(
     alloc: Global,
     bytes: usize,
     bench: &mut Bench<Witness>,
     script: &[u8],
 ) -> Result<String, AllocError>
-    requires { IsKept Witness.meaning bench.old }
+    requires { bench.old.listeners ≡ [] }
 {
     let mut written: Vec<u8> = Vec::new(alloc);
-    let status = run_script(alloc, true, bytes, bench, script, &mut written).unwrap_or(4);
+    let witness = Witness::new(alloc, 102, Plan::All);
+    let status = run_heard(alloc, bytes, bench, witness, script, &mut written)?;
     let mut out = told(alloc, status, &written)?;
-    put_trace(alloc, &mut out, bench)?;
+    put_trace(&mut out, bench)?;
     Ok(out)
-}
-
-/// Attaches a witness to a bench, and runs the script of an input of so many bytes.
-fn witnessed(alloc: Global, bytes: usize, world: World, script: &[u8]) -> Result<String, AllocError>
-    requires { IsSlotted world.store }
-{
-    let mut bench: Bench<Witness> = Bench::over(alloc, world);
-    if bench.attach(Witness::new(alloc, 102, Plan::All)).is_err() {
-        return Err(AllocError);
-    }
-    traced(alloc, bytes, &mut bench, script)
 }
 
 /// What a listener hears of the script of an input, and the journal that is left.
 pub fn trace(alloc: Global, text: &str) -> Result<String, AllocError> {
     let input = bytes(alloc, text)?;
     let (module, script) = split(&input);
-    match world_of(alloc, module) {
-        Ok(world) => witnessed(alloc, input.len(), world, script),
+    match bench_of(alloc, module) {
+        Ok(mut bench) => traced(alloc, input.len(), &mut bench, script),
         Err(refusal) => format!(in alloc; "{refusal}"),
     }
 }

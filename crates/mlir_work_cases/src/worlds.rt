@@ -1,17 +1,17 @@
-//! Worlds of the modules that texts spell.
-ghost use Rattle.std.specs.Prelude.{◌<◌, IsTrue, IfOk};
+//! Worlds and benches of the modules that texts spell.
+ghost use Rattle.std.specs.Prelude.{◌≡◌, ◌<◌, [], IsTrue, IfOk};
 ghost use Rattle.std.specs.List.{All};
-ghost use Rattle.ir_tree.specs.Ids.{ids};
-ghost use Rattle.mlir_work_run.specs.Journals.{IsSlotted};
+ghost use Rattle.ir_tree.specs.Ids.{HasDistinctIds, ids};
 
 use dialects_int::tables::registry;
+use ir_event::analysis::Analysis;
 use ir_event::world::World;
 use ir_tree::count::op_count;
 use ir_tree::find::list_ids;
 use ir_tree::numbered::distinct;
 use ir_tree::tree::TreeOp;
 use ir_types::refusal::Refusal;
-use mlir_work_run::laws::stores_stay_slotted;
+use mlir_work_run::Bench;
 use mlir_work_run::reader::read_new;
 use std::alloc::{AllocError, Global};
 
@@ -23,18 +23,47 @@ fn are_below(alloc: Global, tree: &TreeOp, next: u32) -> Result<bool, AllocError
     Ok(ids.iter().all(|id| id.number() < next))
 }
 
-/// The world of the module that a text spells, or `BadToken` where it spells none.
-pub fn world_of(alloc: Global, text: &[u8]) -> Result<World, Refusal>
-    ensures slotted { IfOk result (λ w. IsSlotted w.store) }
+/// Whether no two operations of a tree have one id, and their ids are below a number.
+fn is_numbered(alloc: Global, tree: &TreeOp, next: u32) -> Result<bool, Refusal>
+    ensures distinct { IfOk result (λ b. IsTrue b → HasDistinctIds tree.now) }
+    ensures below { IfOk result (λ b. IsTrue b → All (λ x. x < next) (ids tree.now)) }
 {
-    stores_stay_slotted();
+    if !distinct(alloc, tree)? {
+        return Ok(false);
+    }
+    let below = are_below(alloc, tree, next)?;
+    Ok(below)
+}
+
+/// The next free id of a tree that was read.
+fn next_of(tree: &TreeOp) -> u32 {
+    u32::try_from(op_count(tree)).unwrap_or(u32::MAX)
+}
+
+/// The world of the module that a text spells, or `BadToken` where it spells none.
+pub fn world_of(alloc: Global, text: &[u8]) -> Result<World, Refusal> {
     let Ok((ctx, tree)) = read_new(alloc, 7, text) else {
         return Err(Refusal::BadToken);
     };
-    let next = u32::try_from(op_count(&tree)).unwrap_or(u32::MAX);
-    if !distinct(alloc, &tree)? || !are_below(alloc, &tree, next)? {
+    let next = next_of(&tree);
+    if !is_numbered(alloc, &tree, next)? {
         return Err(Refusal::BadToken);
     }
     let registry = registry(&ctx)?;
     World::load(alloc, ctx, registry, &tree, next)
+}
+
+/// A bench over the module that a text spells, or `BadToken` where it spells none.
+pub fn bench_of<L: Analysis>(alloc: Global, text: &[u8]) -> Result<Bench<L>, Refusal>
+    ensures { IfOk result (λ b. b.listeners ≡ []) }
+{
+    let Ok((ctx, tree)) = read_new(alloc, 7, text) else {
+        return Err(Refusal::BadToken);
+    };
+    let next = next_of(&tree);
+    if !is_numbered(alloc, &tree, next)? {
+        return Err(Refusal::BadToken);
+    }
+    let registry = registry(&ctx)?;
+    Bench::new(alloc, ctx, registry, &tree, next)
 }
