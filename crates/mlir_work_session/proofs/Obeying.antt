@@ -3,7 +3,7 @@ use Rattle.std.proofs.Common.{◌≡◌, ◌∙◌, sym, ap, subst, refl, ◌⊎
 use Rattle.std.specs.Prelude.{position, remove, is_some, option_map, false, true}
 use Rattle.std.specs.List.{find}
 use Rattle.ir_types.specs.declared.refusal.Refusal.{Refusal}
-use Rattle.ir_types.specs.declared.refusal.Refusal.TheVariants.{Memory, NoSuchKind, TooMany, Stale}
+use Rattle.ir_types.specs.declared.refusal.Refusal.TheVariants.{Memory, NoSuchKind, Stale}
 use Rattle.ir_tree.specs.declared.place.Place.{Place}
 use Rattle.ir_tree.specs.Meaning.{Operation}
 use Rattle.ir_event.specs.Listener.{Listener}
@@ -114,14 +114,14 @@ some_goes s (call.Report kind) = (Refused Memory, Nothing, s, record { answer = 
 some_goes s call.Print = (Refused Memory, Nothing, s, record { answer = inr (refl, refl); panel = refl })
 
 abbrev pub SomeAnswer : State → Command → Type 0
-SomeAnswer s c = (response : Response) × (bytes : List ℕ) × (t : State) × Obeys s c response bytes t × ((offset : ℕ) → response ≡ TextRefusedAt TooMany offset → ⊥)
+SomeAnswer s c = (response : Response) × (bytes : List ℕ) × (t : State) × Obeys s c response bytes t × ((why : Refusal) (offset : ℕ) → response ≡ TextRefusedAt why offset → ⊥)
 
 by_call : (s : State) (c : Command) (does : Call) → Asks SpellsBeside SpellsAttr c s.held (Ask does) → SomeAnswer s c
-by_call s c does asks = let g = some_goes s does in (Replied g.0, shows_text g.1, g.2, obeys_call s g.2 c does g.0 g.1 asks g.3, λ offset e. cc)
+by_call s c does asks = let g = some_goes s does in (Replied g.0, shows_text g.1, g.2, obeys_call s g.2 c does g.0 g.1 asks g.3, λ why offset e. cc)
 
 by_place : (s : State) (x : ℕ) (spot : Spot) (r : Result Place Refusal) → spot_place (Some x) spot s.held.tree ≡ r → SomeAnswer s (command.Move x spot)
 by_place s x spot (Ok place) e = by_call s (command.Move x spot) (Do (edit.Move x place)) (place, e, refl)
-by_place s x spot (Err refusal) e = (Replied (Refused refusal), [], s, record { asked = Misplaced refusal; shows = Nothing; asks = e; follows = (refl, refl, refl); text = refl }, λ offset e. cc)
+by_place s x spot (Err refusal) e = (Replied (Refused refusal), [], s, record { asked = Misplaced refusal; shows = Nothing; asks = e; follows = (refl, refl, refl); text = refl }, λ why offset e. cc)
 
 no_memory : {X : Type 0} (Spelled : X → Type 0) → TextRefused IsAttrRefusal Spelled Memory None
 no_memory Spelled = (refl, inr (inr refl))
@@ -129,39 +129,39 @@ no_memory Spelled = (refl, inr (inr refl))
 no_memory_op : {X : Type 0} (Spelled : X → Type 0) → TextRefused IsOpRefusal Spelled Memory None
 no_memory_op Spelled = (inr refl, inr (inr refl))
 
--- what is answered where there is no room in the context may be answered so too: for want of memory
-memory_too : (s t : State) (c : Command) (asked : Asked) (shows : Shows) (offset : ℕ) → Asks SpellsBeside SpellsAttr c s.held asked → Follows s asked (TextRefusedAt TooMany offset) shows t
+-- where a text is refused at a byte, it may be refused for want of memory too
+memory_too : (s t : State) (c : Command) (asked : Asked) (shows : Shows) (why : Refusal) (offset : ℕ) → Asks SpellsBeside SpellsAttr c s.held asked → Follows s asked (TextRefusedAt why offset) shows t
     → Asks SpellsBeside SpellsAttr c s.held (Unread Memory None) × (shows ≡ Nothing) × (t ≡ s)
-memory_too s t c (Ask does) shows offset asks follows = absurd follows
-memory_too s t c (Misplaced refusal) shows offset asks follows = absurd (let e : TextRefusedAt TooMany offset ≡ Replied (Refused refusal) = follows.0 in cc)
-memory_too s t (command.Insert spot text) (Unread refusal at_byte) shows offset asks follows = (no_memory_op (SpellsBeside s.held text), follows.1, follows.2)
-memory_too s t (command.SetAttr x key text) (Unread refusal at_byte) shows offset asks follows = (no_memory (SpellsAttr text), follows.1, follows.2)
-memory_too s t (command.Move x spot) (Unread refusal at_byte) shows offset asks follows = absurd asks
-memory_too s t (command.Erase x) (Unread refusal at_byte) shows offset asks follows = absurd (let e : Unread refusal at_byte ≡ Ask (Do (edit.Erase x)) = asks in cc)
-memory_too s t (command.SetOperand x k v) (Unread refusal at_byte) shows offset asks follows = absurd (let e : Unread refusal at_byte ≡ Ask (Do (edit.SetOperand x k v)) = asks in cc)
-memory_too s t (command.Replace old new) (Unread refusal at_byte) shows offset asks follows = absurd (let e : Unread refusal at_byte ≡ Ask (Do (edit.Replace old new)) = asks in cc)
-memory_too s t (command.DropAttr x key) (Unread refusal at_byte) shows offset asks follows = absurd (let e : Unread refusal at_byte ≡ Ask (Do (edit.DropAttr x key)) = asks in cc)
-memory_too s t command.Begin (Unread refusal at_byte) shows offset asks follows = absurd (let e : Unread refusal at_byte ≡ Ask call.Mark = asks in cc)
-memory_too s t command.Commit (Unread refusal at_byte) shows offset asks follows = absurd (let e : Unread refusal at_byte ≡ Ask call.Commit = asks in cc)
-memory_too s t command.Rollback (Unread refusal at_byte) shows offset asks follows = absurd (let e : Unread refusal at_byte ≡ Ask call.Rollback = asks in cc)
-memory_too s t (command.Detach kind) (Unread refusal at_byte) shows offset asks follows = absurd (let e : Unread refusal at_byte ≡ Ask (call.Detach kind) = asks in cc)
-memory_too s t (command.Resync kind) (Unread refusal at_byte) shows offset asks follows = absurd (let e : Unread refusal at_byte ≡ Ask (call.Resync kind) = asks in cc)
-memory_too s t (command.Report kind) (Unread refusal at_byte) shows offset asks follows = absurd (let e : Unread refusal at_byte ≡ Ask (call.Report kind) = asks in cc)
-memory_too s t command.Print (Unread refusal at_byte) shows offset asks follows = absurd (let e : Unread refusal at_byte ≡ Ask call.Print = asks in cc)
+memory_too s t c (Ask does) shows why offset asks follows = absurd follows
+memory_too s t c (Misplaced refusal) shows why offset asks follows = absurd (let e : TextRefusedAt why offset ≡ Replied (Refused refusal) = follows.0 in cc)
+memory_too s t (command.Insert spot text) (Unread refusal at_byte) shows why offset asks follows = (no_memory_op (SpellsBeside s.held text), follows.1, follows.2)
+memory_too s t (command.SetAttr x key text) (Unread refusal at_byte) shows why offset asks follows = (no_memory (SpellsAttr text), follows.1, follows.2)
+memory_too s t (command.Move x spot) (Unread refusal at_byte) shows why offset asks follows = absurd asks
+memory_too s t (command.Erase x) (Unread refusal at_byte) shows why offset asks follows = absurd (let e : Unread refusal at_byte ≡ Ask (Do (edit.Erase x)) = asks in cc)
+memory_too s t (command.SetOperand x k v) (Unread refusal at_byte) shows why offset asks follows = absurd (let e : Unread refusal at_byte ≡ Ask (Do (edit.SetOperand x k v)) = asks in cc)
+memory_too s t (command.Replace old new) (Unread refusal at_byte) shows why offset asks follows = absurd (let e : Unread refusal at_byte ≡ Ask (Do (edit.Replace old new)) = asks in cc)
+memory_too s t (command.DropAttr x key) (Unread refusal at_byte) shows why offset asks follows = absurd (let e : Unread refusal at_byte ≡ Ask (Do (edit.DropAttr x key)) = asks in cc)
+memory_too s t command.Begin (Unread refusal at_byte) shows why offset asks follows = absurd (let e : Unread refusal at_byte ≡ Ask call.Mark = asks in cc)
+memory_too s t command.Commit (Unread refusal at_byte) shows why offset asks follows = absurd (let e : Unread refusal at_byte ≡ Ask call.Commit = asks in cc)
+memory_too s t command.Rollback (Unread refusal at_byte) shows why offset asks follows = absurd (let e : Unread refusal at_byte ≡ Ask call.Rollback = asks in cc)
+memory_too s t (command.Detach kind) (Unread refusal at_byte) shows why offset asks follows = absurd (let e : Unread refusal at_byte ≡ Ask (call.Detach kind) = asks in cc)
+memory_too s t (command.Resync kind) (Unread refusal at_byte) shows why offset asks follows = absurd (let e : Unread refusal at_byte ≡ Ask (call.Resync kind) = asks in cc)
+memory_too s t (command.Report kind) (Unread refusal at_byte) shows why offset asks follows = absurd (let e : Unread refusal at_byte ≡ Ask (call.Report kind) = asks in cc)
+memory_too s t command.Print (Unread refusal at_byte) shows why offset asks follows = absurd (let e : Unread refusal at_byte ≡ Ask call.Print = asks in cc)
 
-pub obeys_within : (s t : State) (c : Command) (response within : Response) (bytes : List ℕ) → (within ≡ response) ⊎ ((offset : ℕ) × (response ≡ TextRefusedAt TooMany offset) × (within ≡ Replied (Refused Memory))) → Obeys s c response bytes t → Obeys s c within bytes t
+pub obeys_within : (s t : State) (c : Command) (response within : Response) (bytes : List ℕ) → (within ≡ response) ⊎ ((refusal : Refusal) × (offset : ℕ) × (response ≡ TextRefusedAt refusal offset) × (within ≡ Replied (Refused Memory))) → Obeys s c response bytes t → Obeys s c within bytes t
 obeys_within s t c response within bytes (inl same) h = subst (λ (r : Response). Obeys s c r bytes t) (sym same) h
-obeys_within s t c response within bytes (inr (offset, is, then)) h =
-    let m = memory_too s t c h.asked h.shows offset h.asks (subst (λ (r : Response). Follows s h.asked r h.shows t) is h.follows) in
+obeys_within s t c response within bytes (inr (why, offset, is, then)) h =
+    let m = memory_too s t c h.asked h.shows why offset h.asks (subst (λ (r : Response). Follows s h.asked r h.shows t) is h.follows) in
     record { asked = Unread Memory None; shows = Nothing; asks = m.0; follows = (then, refl, m.2); text = h.text ∙ ap shows_text m.1 }
 
 pub some_answer : (s : State) (c : Command) → SomeAnswer s c
 some_answer s (command.Erase x) = by_call s (command.Erase x) (Do (edit.Erase x)) refl
 some_answer s (command.Move x spot) = by_place s x spot (spot_place (Some x) spot s.held.tree) refl
-some_answer s (command.Insert spot text) = (Replied (Refused Memory), [], s, record { asked = Unread Memory None; shows = Nothing; asks = no_memory_op (SpellsBeside s.held text); follows = (refl, refl, refl); text = refl }, λ offset e. cc)
+some_answer s (command.Insert spot text) = (Replied (Refused Memory), [], s, record { asked = Unread Memory None; shows = Nothing; asks = no_memory_op (SpellsBeside s.held text); follows = (refl, refl, refl); text = refl }, λ why offset e. cc)
 some_answer s (command.SetOperand x k v) = by_call s (command.SetOperand x k v) (Do (edit.SetOperand x k v)) refl
 some_answer s (command.Replace old new) = by_call s (command.Replace old new) (Do (edit.Replace old new)) refl
-some_answer s (command.SetAttr x key text) = (Replied (Refused Memory), [], s, record { asked = Unread Memory None; shows = Nothing; asks = no_memory (SpellsAttr text); follows = (refl, refl, refl); text = refl }, λ offset e. cc)
+some_answer s (command.SetAttr x key text) = (Replied (Refused Memory), [], s, record { asked = Unread Memory None; shows = Nothing; asks = no_memory (SpellsAttr text); follows = (refl, refl, refl); text = refl }, λ why offset e. cc)
 some_answer s (command.DropAttr x key) = by_call s (command.DropAttr x key) (Do (edit.DropAttr x key)) refl
 some_answer s command.Begin = by_call s command.Begin call.Mark refl
 some_answer s command.Commit = by_call s command.Commit call.Commit refl

@@ -3,7 +3,7 @@ use Rattle.std.proofs.Common.{◌≡◌, ◌∙◌, ap, sym, subst, refl, ℕ, �
 use Rattle.std.specs.List.{list_any, list_all}
 use Rattle.std.proofs.lemmas.Bool.{eq-eqb, eqb-true, lt-ltb, ltb-false, ltb-true}
 use Rattle.std.proofs.lemmas.List.Recursion.{is_position_or_len}
-use Rattle.ir_types.specs.declared.refusal.Refusal.TheVariants.{Memory, TooMany}
+use Rattle.ir_types.specs.declared.refusal.Refusal.TheVariants.{Memory}
 use Rattle.ir_tree.specs.Meaning.{Operation}
 use Rattle.ir_event.specs.Modules.{Module}
 use Rattle.ir_event.specs.Listener.{Listener}
@@ -181,8 +181,8 @@ more_print text line more e h = both _ _ (sym (first_prints text line more e) �
 
 -- a line that asks for the module is replied to, and then what may follow
 printed_bounded : (bytes : ℕ) (t : Operation) (reply : Reply) (shows : List ℕ) → IsPrinted t reply shows → IsBounded bytes (response_of reply)
-printed_bounded bytes t reply shows (inl h) = subst (λ (r : Reply). IsBounded bytes (response_of r)) (sym h.0) (λ offset e. absurd (let f : Replied Done ≡ TextRefusedAt TooMany offset = e in cc))
-printed_bounded bytes t reply shows (inr h) = subst (λ (r : Reply). IsBounded bytes (response_of r)) (sym h.0) (λ offset e. absurd (let f : Replied (Refused Memory) ≡ TextRefusedAt TooMany offset = e in cc))
+printed_bounded bytes t reply shows (inl h) = subst (λ (r : Reply). IsBounded bytes (response_of r)) (sym h.0) (λ why offset e. absurd (let f : Replied Done ≡ TextRefusedAt why offset = e in cc))
+printed_bounded bytes t reply shows (inr h) = subst (λ (r : Reply). IsBounded bytes (response_of r)) (sym h.0) (λ why offset e. absurd (let f : Replied (Refused Memory) ≡ TextRefusedAt why offset = e in cc))
 
 pub print_step : (manner : Manner) (n : ℕ) (s : State) (text line more : List ℕ) (reply : Reply) (shows : List ℕ) → lines_of text ≡ line ∷ lines_of more → prints_alone (line_says line) ≡ true → false ≡ says_nothing (line_says line) → IsPrinted s.held.tree reply shows →
     (later : ℕ) (rest : List ℕ) → Runs manner (n + 1) s (lines_of more) later rest → Runs manner n s (lines_of text) (worse (is_accepted (response_of reply)) later) ((reply_line n (response_of reply) ++ shows) ++ rest)

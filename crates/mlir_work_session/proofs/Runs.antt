@@ -8,7 +8,7 @@ use Rattle.rewriter.specs.Machine.{Refused}
 use Rattle.mlir_work_script.specs.Commands.{Spoken, Nothing, Bad, Obey, line_says}
 use Rattle.mlir_work_script.specs.Lines.{lines_of}
 use Rattle.rewriter.specs.Machine.{State}
-use Rattle.mlir_work_session.specs.Output.{CanFill, IsBounded, Line, Manner, Replied, Replies, IsReplied, Runs, worse, says_nothing, asks, reply_line, is_accepted}
+use Rattle.mlir_work_session.specs.Output.{IsBounded, Line, Manner, Replied, Replies, IsReplied, Runs, worse, says_nothing, asks, reply_line, is_accepted}
 use Rattle.mlir_work_session.specs.Ran.{RanOut}
 use Rattle.mlir_work_session.proofs.Listings.{some_listing_if}
 use Rattle.mlir_work_session.proofs.Obeying.{some_answer}
@@ -79,8 +79,8 @@ some_replied Rest manner n s spoken reply shows t r full some =
 
 some_line : (Rest : ℕ → State → ℕ → List ℕ → Type 0) (manner : Manner) (n : ℕ) (s : State) (spoken : Spoken) → ((m : ℕ) (t : State) → (st : ℕ) × (o : List ℕ) × Rest m t st o) → (st : ℕ) × (o : List ℕ) × Line Rest manner n s spoken st o
 some_line Rest manner n s Nothing some = some n s
-some_line Rest manner n s Bad some = some_replied Rest manner n s Bad (Says (Refused BadCommand)) [] s (refl, refl, refl) (λ offset e. absurd cc) some
-some_line Rest manner n s (Obey command) some = let a = some_answer s command in some_replied Rest manner n s (Obey command) a.0 a.1 a.2 a.3 (λ offset e. absurd (a.4 offset e)) some
+some_line Rest manner n s Bad some = some_replied Rest manner n s Bad (Says (Refused BadCommand)) [] s (refl, refl, refl) (λ why offset e. absurd cc) some
+some_line Rest manner n s (Obey command) some = let a = some_answer s command in some_replied Rest manner n s (Obey command) a.0 a.1 a.2 a.3 (λ why offset e. absurd (a.4 why offset e)) some
 
 -- from each state each script has an output, as each command has an answer
 pub some_runs : (manner : Manner) (lines : List (List ℕ)) (n : ℕ) (s : State) → (st : ℕ) × (o : List ℕ) × Runs manner n s lines st o

@@ -2,7 +2,7 @@
 -- where it is told of an edit. All else is determined.
 use Rattle.std.specs.Prelude.{◌≡◌, ℕ, ◌+◌, ◌<◌, ◌≤◌, List, [], ◌∷◌, ◌++◌, length, Bool, true, false, not, ◌&&◌, ◌⊎◌, Option, Some, None, is_none, if◌then◌else◌}
 use Rattle.ir_types.specs.declared.refusal.Refusal.{Refusal}
-use Rattle.ir_types.specs.declared.refusal.Refusal.TheVariants.{BadCommand, KindTaken, Memory, TooMany}
+use Rattle.ir_types.specs.declared.refusal.Refusal.TheVariants.{BadCommand, KindTaken, Memory}
 use Rattle.ir_event.specs.Modules.{Module}
 use Rattle.ir_event.specs.Rows.{RowTerm}
 use Rattle.ir_tree.specs.Meaning.{Operation}
@@ -98,14 +98,9 @@ pub record Manner : Type 0 where
   pub brief : Bool
   pub bytes : ℕ
 
--- an input of so many bytes may fill a context: each name, type and attribute stands for a byte of it, but for the names
--- that a new context holds
-abbrev pub CanFill : ℕ → Type 0
-CanFill bytes = 16777216 ≤ bytes + 54
-
--- a text is refused for want of room in the context only where the input may fill it
+-- the byte at which a text is refused stands in the input, or right behind it
 abbrev pub IsBounded : ℕ → Response → Type 0
-IsBounded bytes response = (offset : ℕ) → response ≡ TextRefusedAt TooMany offset → CanFill bytes
+IsBounded bytes response = (refusal : Refusal) (offset : ℕ) → response ≡ TextRefusedAt refusal offset → offset ≤ bytes
 
 -- a line is replied to, and the rest follows
 pub record Replied (Rest : ℕ → State → ℕ → List ℕ → Type 0) (manner : Manner) (n : ℕ) (s : State) (spoken : Spoken) (status : ℕ) (out : List ℕ) : Type 0 where

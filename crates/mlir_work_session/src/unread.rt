@@ -2,7 +2,7 @@
 ghost use Rattle.std.specs.Prelude.{◌≡◌, ◌≤◌, ◌⊎◌, ℕ, List};
 ghost use Rattle.ir_types.specs.Refusals.{number_of};
 ghost use Rattle.ir_types.specs.declared.refusal.Refusal.{Refusal as Reason};
-ghost use Rattle.ir_types.specs.declared.refusal.Refusal.TheVariants.{IdsExhausted as WantOfIds, Memory as WantOfMemory, TooMany as WantOfRoom};
+ghost use Rattle.ir_types.specs.declared.refusal.Refusal.TheVariants.{IdsExhausted as WantOfIds, Memory as WantOfMemory};
 ghost use Rattle.ir_event.specs.Modules.{Module as Contents};
 ghost use Rattle.ir_text.specs.Public.{IsOpTold, IsTold};
 ghost use Rattle.ir_text.specs.declared.error.ReadError.{ReadError as Unread};
@@ -43,21 +43,15 @@ pub(crate) fn reply_unread(error: &ReadError) -> Reply
     }
 }
 
-/// The most names, types or attributes of a context.
-const MOST_THINGS: usize = 16_777_216;
-
-/// The names that a new context holds.
-const WORDS: usize = 54;
-
-/// The reply to a command of an input of so many bytes. Each name, type and attribute stands for a byte of it at least,
-/// so an input that is too short to fill a context fills none, and is never told that one is full.
+/// The reply to a command of an input of so many bytes. The byte at which a text is refused stands in the text, which is a
+/// part of the input: so what is looked at here is always so.
 pub(crate) fn reply_within(bytes: usize, reply: Reply) -> Reply
     ensures bounded { IsBounded bytes (response_of result) }
-    ensures same { (response_of result ≡ response_of reply) ⊎ ((offset : ℕ) × (response_of reply ≡ TextRefusedAt WantOfRoom offset) × (response_of result ≡ Replied (Refused WantOfMemory))) }
+    ensures same { (response_of result ≡ response_of reply) ⊎ ((refusal : Reason) × (offset : ℕ) × (response_of reply ≡ TextRefusedAt refusal offset) × (response_of result ≡ Replied (Refused WantOfMemory))) }
 {
     match reply {
-        Reply::RefusedAt(Refusal::TooMany, _) => {
-            if bytes.saturating_add(WORDS) >= MOST_THINGS {
+        Reply::RefusedAt(_, offset) => {
+            if offset <= bytes {
                 reply
             } else {
                 Reply::Refused(Refusal::Memory)
