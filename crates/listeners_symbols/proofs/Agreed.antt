@@ -90,10 +90,12 @@ module _ (b c : Things) (holds : Holds b) (g : Grows b c) where
 
   role_stays : (r : Numbers) → RoleIsOf b r → role_meaning c r ≡ role_meaning b r
   role_stays r h = λ i. record {
+    parent = r.parent;
     home = r.home;
     table = r.table;
     is_table = r.is_table;
     symbol = option_stays (IsName b) (name_term c) (name_term b) r.symbol h.symbol (λ n k. name_stays b c n g k) i;
+    is_private = r.is_private;
     references = (references_meant c r.references.items ∙ map_all (ReferenceIsOf b) (reference_meaning c) (reference_meaning b) r.references.items h.references reference_stays ∙ sym (references_meant b r.references.items)) i;
     call = (call_meant c r.call ∙ option_stays (CallIsOf b) (call_meaning c) (call_meaning b) r.call h.call call_stays ∙ sym (call_meant b r.call)) i;
     function = (function_meant c r.function ∙ option_stays (SignatureIsOf b) (signature_meaning c) (signature_meaning b) r.function h.function signature_stays ∙ sym (function_meant b r.function)) i;

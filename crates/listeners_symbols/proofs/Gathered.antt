@@ -25,7 +25,7 @@ use Rattle.ir_event.specs.Modules.{module_in}
 use Rattle.listeners_surroundings.proofs.Reading.{head_shown}
 use Rattle.listeners_symbols.specs.declared.role.Role.{Role as Numbers}
 use Rattle.listeners_symbols.specs.declared.role.Tables.{Tables}
-use Rattle.listeners_symbols.specs.Roles.{Head, Stand, Role, home_of, table_at, role_from, role, role_of}
+use Rattle.listeners_symbols.specs.Roles.{Head, Stand, Role, parent_in, home_of, table_at, role_from, role, role_of}
 use Rattle.listeners_symbols.specs.Table.{Table, Says, IsRight, IsReadAs, head_meaning, role_meaning, tables_in, tables_for, tree_in}
 
 pub meaning_distinct : (c : Things) (t : Op) → HasDistinctIds t → HasDistinctIds (meaning c t)
@@ -73,15 +73,15 @@ table_above h (a ∷ q) = refl
 
 tables_right : (c : Things) (t : Operation) → HasDistinctIds t → (s : Stand) → In s (stands [] t) → (x : ℕ) → stand_id s ≡ x → (table : Table) (tables : Tables)
     → ((p : ℕ) → parent_of x t ≡ Some p → Says c (role_of t p) (table p)) → tables_for table x (is_table (head s.here).name) (parent_of x t) ≡ Some tables
-    → (home_of s.path ≡ tables.home) × (table_at (head s.here) s.path ≡ tables.table)
+    → (parent_in s.path ≡ tables.parent) × (home_of s.path ≡ tables.home) × (table_at (head s.here) s.path ≡ tables.table)
 tables_right c t d s h x id table tables right is = at_path s.path refl
   where
-    at_path : (path : List (StepOf (List ℕ) TypeTerm AttrTerm)) → s.path ≡ path → (home_of s.path ≡ tables.home) × (table_at (head s.here) s.path ≡ tables.table)
+    at_path : (path : List (StepOf (List ℕ) TypeTerm AttrTerm)) → s.path ≡ path → (parent_in s.path ≡ tables.parent) × (home_of s.path ≡ tables.home) × (table_at (head s.here) s.path ≡ tables.table)
     at_path [] e =
         let none : parent_of x t ≡ None = ap (λ y. parent_of y t) (sym id) ∙ ap (option_map (λ (p : Place). p.parent)) (no_place t d s h e) in
-        let two : Some (record { home = None; table = cond (is_table (head s.here).name) (Some x) None }) ≡ Some tables = sym (ap (tables_for table x (is_table (head s.here).name)) none) ∙ is in
-        let one : record { home = None; table = cond (is_table (head s.here).name) (Some x) None } ≡ tables = cc in
-        (ap home_of e ∙ ap (λ (z : Tables). z.home) one, ap (table_at (head s.here)) e ∙ ap (λ y. cond (is_table (head s.here).name) (Some y) None) id ∙ ap (λ (z : Tables). z.table) one)
+        let two : Some (record { parent = None; home = None; table = cond (is_table (head s.here).name) (Some x) None }) ≡ Some tables = sym (ap (tables_for table x (is_table (head s.here).name)) none) ∙ is in
+        let one : record { parent = None; home = None; table = cond (is_table (head s.here).name) (Some x) None } ≡ tables = cc in
+        (ap parent_in e ∙ ap (λ (z : Tables). z.parent) one, ap home_of e ∙ ap (λ (z : Tables). z.home) one, ap (table_at (head s.here)) e ∙ ap (λ y. cond (is_table (head s.here).name) (Some y) None) id ∙ ap (λ (z : Tables). z.table) one)
     at_path (a ∷ q) e = go (table p) refl
       where
         p : ℕ
@@ -90,7 +90,7 @@ tables_right c t d s h x id table tables right is = at_path s.path refl
         placed : parent_of x t ≡ Some p
         placed = ap (λ y. parent_of y t) (sym id) ∙ (parent_placed t d s h a q e).0
 
-        go : (k : Option Numbers) → table p ≡ k → (home_of s.path ≡ tables.home) × (table_at (head s.here) s.path ≡ tables.table)
+        go : (k : Option Numbers) → table p ≡ k → (parent_in s.path ≡ tables.parent) × (home_of s.path ≡ tables.home) × (table_at (head s.here) s.path ≡ tables.table)
         go None f = (let no : None ≡ Some tables = sym (ap (tables_for table x (is_table (head s.here).name)) placed ∙ ap (option_map (tables_in p)) f) ∙ is in absurd cc)
         go (Some k) f =
             let two : Some (tables_in p k) ≡ Some tables = sym (ap (tables_for table x (is_table (head s.here).name)) placed ∙ ap (option_map (tables_in p)) f) ∙ is in
@@ -101,6 +101,7 @@ tables_right c t d s h x id table tables right is = at_path s.path refl
             let same : role_meaning c k ≡ role t (stand a.parent q) = cc in
             let is_one : k.is_table ≡ is_table (head a.parent).name = ap (λ (z : Role). z.is_table) same in
             let its : k.table ≡ table_at (head a.parent) q = ap (λ (z : Role). z.table) same in (
+              ap parent_in e ∙ ap (λ (z : Tables). z.parent) one,
               ap home_of e ∙ ap (λ b. cond b (Some p) None) (sym is_one) ∙ ap (λ (z : Tables). z.home) one,
               ap (table_at (head s.here)) e ∙ table_above (head a.parent) q ∙ (λ i. cond (sym is_one i) (Some p) (sym its i)) ∙ ap (λ (z : Tables). z.table) one,
             )
@@ -121,7 +122,7 @@ read_right w x n table tables r shown is read has right =
     let tabled : tables_for table x (is_table (head s.here).name) (parent_of x t) ≡ Some tables = (λ i. tables_for table x (is_table (heads i).name) (meaning_parent c x (tree_in w) i)) ∙ is in
     let both = tables_right c t d s z.1 x z.2 table tables right tabled in
     record {
-      is = ap Some (read.is ∙ (λ i. role_from (sym both.0 i) (sym both.1 i) (sym heads i) (map (λ v. type_of_value v t) (sym heads i).operands))) ∙ sym (ap (option_map (role t)) there);
+      is = ap Some (read.is ∙ (λ i. role_from (sym both.0 i) (sym both.1 i) (sym both.2 i) (sym heads i) (map (λ v. type_of_value v t) (sym heads i).operands))) ∙ sym (ap (option_map (role t)) there);
       known = read.known;
     }
 

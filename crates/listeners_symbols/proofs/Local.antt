@@ -37,7 +37,7 @@ use Rattle.listeners_surroundings.proofs.Left.{left_head, left_node}
 use Rattle.listeners_surroundings.proofs.Alike.{Both, neither, each, both, same_value_type}
 use Rattle.listeners_surroundings.proofs.Moves.{left_id, taken}
 use Rattle.listeners_surroundings.proofs.Heads.{Keeps}
-use Rattle.listeners_symbols.specs.Roles.{Head, Stand, home_of, table_at, symbol_of, references_of, signature_of, callee_of, call_of, role_from, role, role_of}
+use Rattle.listeners_symbols.specs.Roles.{Head, Stand, parent_in, home_of, table_at, symbol_of, is_private, references_of, signature_of, callee_of, call_of, role_from, role, role_of}
 
 abbrev Step_in : Type 0
 Step_in = StepOf (List ℕ) TypeTerm AttrTerm
@@ -48,14 +48,15 @@ Path = List Step_in
 -- two operations with the same roles, as far as their operands have the same types
 pub record AlikeRoles (s r : Stand) : Type 0 where
   pub heads : head s.here ≡ head r.here
+  pub parent : parent_in s.path ≡ parent_in r.path
   pub home : home_of s.path ≡ home_of r.path
   pub table : table_at (head s.here) s.path ≡ table_at (head r.here) r.path
 
 flip : (s r : Stand) → AlikeRoles s r → AlikeRoles r s
-flip s r a = record { heads = sym a.heads; home = sym a.home; table = sym a.table }
+flip s r a = record { heads = sym a.heads; parent = sym a.parent; home = sym a.home; table = sym a.table }
 
 chain : (s r u : Stand) → AlikeRoles s r → AlikeRoles r u → AlikeRoles s u
-chain s r u a b = record { heads = a.heads ∙ b.heads; home = a.home ∙ b.home; table = a.table ∙ b.table }
+chain s r u a b = record { heads = a.heads ∙ b.heads; parent = a.parent ∙ b.parent; home = a.home ∙ b.home; table = a.table ∙ b.table }
 
 same_roles : (y : ℕ) (t u : Operation) → Both AlikeRoles y t u → ((s : Stand) → In s (stands [] t) → stand_id s ≡ y → (v : Value) → In v (head s.here).operands → type_of_value v t ≡ type_of_value v u) → role_of t y ≡ role_of u y
 same_roles y t u (neither i j) f = ap (option_map (role t)) i ∙ sym (ap (option_map (role u)) j)
@@ -63,11 +64,15 @@ same_roles y t u (each s r m i j a) f =
     let id = (member y (stands [] t) s i).1 in
     let types : map (λ v. type_of_value v t) (head s.here).operands ≡ map (λ v. type_of_value v u) (head r.here).operands =
     same_map (λ v. type_of_value v t) (λ v. type_of_value v u) (head s.here).operands (f s m id) ∙ ap (λ (h : Head). map (λ v. type_of_value v u) h.operands) a.heads in
-    let same : role t s ≡ role u r = (λ k. role_from (a.home k) (a.table k) (a.heads k) (types k)) in
+    let same : role t s ≡ role u r = (λ k. role_from (a.parent k) (a.home k) (a.table k) (a.heads k) (types k)) in
     ap (option_map (role t)) i ∙ ap Some same ∙ sym (ap (option_map (role u)) j)
 
 -- ---- an operation left in a tree that another was taken out of
 module _ (x : ℕ) where
+  parent_left : (path : Path) → parent_in (map (left_step x) path) ≡ parent_in path
+  parent_left [] = refl
+  parent_left (a ∷ q) = ap (λ (h : Head). Some h.id) (left_head x a.parent)
+
   home_left : (path : Path) → home_of (map (left_step x) path) ≡ home_of path
   home_left [] = refl
   home_left (a ∷ q) = ap (λ (h : Head). cond (is_table h.name) (Some h.id) None) (left_head x a.parent)
@@ -81,7 +86,7 @@ module _ (x : ℕ) where
   table_left h (a ∷ q) = table_in_left (a ∷ q)
 
   left_alike : (s : Stand) → AlikeRoles (left_stand x s) s
-  left_alike s = record { heads = left_head x s.here; home = home_left s.path; table = ap (λ h. table_at h (map (left_step x) s.path)) (left_head x s.here) ∙ table_left (head s.here) s.path }
+  left_alike s = record { heads = left_head x s.here; parent = parent_left s.path; home = home_left s.path; table = ap (λ h. table_at h (map (left_step x) s.path)) (left_head x s.here) ∙ table_left (head s.here) s.path }
 
   module _ (t w : Operation) (d : HasDistinctIds t) (e : HasDistinctIds w) (is : w ≡ without x t) (bare : (o : Operation) → find x t ≡ Some o → HoldNone (regions o)) where
     untaken : (z : ℕ) (r : Stand) → In r (stands [] w) → stand_id r ≡ z → (s : Stand) × In s (stands [] t) × (stand_id s ≡ z)
@@ -138,6 +143,10 @@ module _ (g : Head → Head) (keeps : (h : Head) → Keeps (g h) h) where
       ∙ ap (λ o. option_and_then (typed v) (option_map types_of o)) (stands_find x [] t)
       ∙ sym (typed_value v t)
 
+  parent_each : (path : Path) → parent_in (map (edit_step g) path) ≡ parent_in path
+  parent_each [] = refl
+  parent_each (a ∷ q) = ap Some (each_id a.parent)
+
   home_each : (path : Path) → home_of (map (edit_step g) path) ≡ home_of path
   home_each [] = refl
   home_each (a ∷ q) = λ i. cond (is_table (each_name a.parent i)) (Some (each_id a.parent i)) None
@@ -161,18 +170,19 @@ module _ (g : Head → Head) (keeps : (h : Head) → Keeps (g h) h) where
       go (Some s) e =
           let id = (member y (stands [] m) s e).1 in
           let heads : head (each_head g s.here) ≡ head s.here = each_is s.here ∙ other (head s.here) id in
+          let around = parent_each s.path in
           let home = home_each s.path in
           let table : table_at (head (each_head g s.here)) (map (edit_step g) s.path) ≡ table_at (head s.here) s.path = ap (λ h. table_at h (map (edit_step g) s.path)) heads ∙ table_each (head s.here) s.path in
           let one : (v : Value) → type_of_value v n ≡ type_of_value v m = (λ v. ap (type_of_value v) is ∙ types_each v m) in
-          let same : role n (edit_stand g s) ≡ role m s = (λ i. role_from (home i) (table i) (heads i) (map (λ v. one v i) (heads i).operands)) in
+          let same : role n (edit_stand g s) ≡ role m s = (λ i. role_from (around i) (home i) (table i) (heads i) (map (λ v. one v i) (heads i).operands)) in
           ap (option_map (role n)) (there ∙ ap (option_map (edit_stand g)) e) ∙ ap Some same ∙ sym (ap (option_map (role m)) e)
 
 -- ---- an operation that is moved with what is inside it
 abbrev Again : Stand → List Stand → Type 0
-Again s us = (u : Stand) × In u us × (u.here ≡ s.here) × (home_of u.path ≡ home_of s.path) × (table_at (head s.here) u.path ≡ table_at (head s.here) s.path)
+Again s us = (u : Stand) × In u us × (u.here ≡ s.here) × (parent_in u.path ≡ parent_in s.path) × (home_of u.path ≡ home_of s.path) × (table_at (head s.here) u.path ≡ table_at (head s.here) s.path)
 
 more : (s : Stand) (us vs : List Stand) → ((z : Stand) → In z us → In z vs) → Again s us → Again s vs
-more s us vs f w = (w.0, f w.0 w.1, w.2, w.3, w.4)
+more s us vs f w = (w.0, f w.0 w.1, w.2, w.3, w.4, w.5)
 
 under : (a : Step_in) (b c : Path) → table_in is_table b ≡ table_in is_table c → table_in is_table (a ∷ b) ≡ table_in is_table (a ∷ c)
 under a b c e = ap (cond (is_table (head a.parent).name) (Some (head a.parent).id)) e
@@ -211,6 +221,7 @@ mutual
             stand o (a ∷ c),
             in_left (stand o (a ∷ c)) xs ys (itself (a ∷ c) o),
             ap (λ (z : Stand). z.here) (sym e),
+            ap (λ (z : Stand). parent_in z.path) (sym e),
             ap (λ (z : Stand). home_of z.path) (sym e),
             sym (under a b c j) ∙ ap (λ (z : Stand). table_at (head s.here) z.path) (sym e),
           )
@@ -258,7 +269,7 @@ module _ (x : ℕ) (t u : Operation) (d : HasDistinctIds t) (e : HasDistinctIds 
               within i.here top.0.path r.0 r.1 [] u there,
               record {
                 id = ap (λ o. (head o).id) r.2;
-                alike = record { heads = ap (λ o. head o) (sym r.2); home = sym r.3; table = sym r.4 ∙ ap (λ o. table_at (head o) r.0.path) (sym r.2) };
+                alike = record { heads = ap (λ o. head o) (sym r.2); parent = sym r.3; home = sym r.4; table = sym r.5 ∙ ap (λ o. table_at (head o) r.0.path) (sym r.2) };
                 node = ap (λ o. node_of o) (sym r.2);
               },
             )
@@ -327,6 +338,7 @@ module _ (x k : ℕ) (new : Value) (m n : Operation) (is : n ≡ each_head (at x
           let id = (member x (stands [] m) s e).1 in
           let h : Head = head s.here in
           let heads : head (each_head set s.here) ≡ put_operand k new h = each_is set kept s.here ∙ ap (λ b. cond b (put_operand k new h) h) (eq-eqb h.id x id) in
+          let around = parent_each set kept s.path in
           let home = home_each set kept s.path in
           let table : table_at (head (each_head set s.here)) (map (edit_step set) s.path) ≡ table_at h s.path = ap (λ (z : Head). table_at z (map (edit_step set) s.path)) heads ∙ table_each set kept (put_operand k new h) s.path ∙ table_operand k new h s.path in
           let found : find x n ≡ Some (each_head set s.here) = sym (stands_find x [] n) ∙ ap (option_map (λ (z : Stand). z.here)) (there ∙ ap (option_map (edit_stand set)) e) in
@@ -334,8 +346,8 @@ module _ (x k : ℕ) (new : Value) (m n : Operation) (is : n ≡ each_head (at x
           let before = map (λ v. type_of_value v m) h.operands in
           let after = map (λ v. type_of_value v n) (put_operand k new h).operands in
           let calls : call_of (put_operand k new h) after ≡ call_of h before = unmapped _ (callee_of h) bare ∙ sym (unmapped _ (callee_of h) bare) in
-          let one : role n (edit_stand set s) ≡ role_from (home_of s.path) (table_at h s.path) (put_operand k new h) after = (λ i. role_from (home i) (table i) (heads i) (map (λ v. type_of_value v n) (heads i).operands)) in
-          let two : role_from (home_of s.path) (table_at h s.path) (put_operand k new h) after ≡ role m s = (λ i. record { home = home_of s.path; table = table_at h s.path; is_table = is_table h.name; symbol = symbol_of h; references = references_of h; call = calls i; function = signature_of h }) in
+          let one : role n (edit_stand set s) ≡ role_from (parent_in s.path) (home_of s.path) (table_at h s.path) (put_operand k new h) after = (λ i. role_from (around i) (home i) (table i) (heads i) (map (λ v. type_of_value v n) (heads i).operands)) in
+          let two : role_from (parent_in s.path) (home_of s.path) (table_at h s.path) (put_operand k new h) after ≡ role m s = (λ i. record { parent = parent_in s.path; home = home_of s.path; table = table_at h s.path; is_table = is_table h.name; symbol = symbol_of h; is_private = is_private h; references = references_of h; call = calls i; function = signature_of h }) in
           ap (option_map (role n)) (there ∙ ap (option_map (edit_stand set)) e) ∙ ap Some (one ∙ two) ∙ sym (ap (option_map (role m)) e)
 
 unlike : (x y : ℕ) → eqb x y ≡ false → y ≡ x → ⊥

@@ -43,23 +43,23 @@ use Rattle.ir_types.proofs.SameTerms.{type_is, type_refl}
 use Rattle.listeners_symbols.proofs.Agreed.{name_more, attr_more}
 use Rattle.listeners_symbols.proofs.Lines.{same_test}
 
-abbrev Each : {X : Type 0} → (X → Type 0) → List X → Type 0
+abbrev pub Each : {X : Type 0} → (X → Type 0) → List X → Type 0
 Each P [] = Unit {0}
 Each P (x ∷ xs) = P x × Each P xs
 
-each_append : {X : Type 0} (P : X → Type 0) (xs ys : List X) → Each P xs → Each P ys → Each P (xs ++ ys)
+pub each_append : {X : Type 0} (P : X → Type 0) (xs ys : List X) → Each P xs → Each P ys → Each P (xs ++ ys)
 each_append P [] ys a b = b
 each_append P (x ∷ xs) ys a b = (a.0, each_append P xs ys a.1 b)
 
 -- a test that holds exactly where two numbers are one
-decided : (test : Bool) (m n : ℕ) → (test ≡ true → m ≡ n) → (m ≡ n → test ≡ true) → test ≡ eqb m n
+pub decided : (test : Bool) (m n : ℕ) → (test ≡ true → m ≡ n) → (m ≡ n → test ≡ true) → test ≡ eqb m n
 decided test m n f g = elim (bool_cases test) [
   | inl e ↦ e ∙ sym (eq-eqb m n (f e))
   | inr e ↦ elim (bool_cases (eqb m n)) [ inl k ↦ absurd (true≢false (sym (g (eqb-true m n k)) ∙ e)) | inr k ↦ e ∙ sym k ]
 ]
 
 -- a definition, and a row, in contents
-abbrev map_definition : {N M : Type 0} → (N → M) → DefinitionOf N → DefinitionOf M
+abbrev pub map_definition : {N M : Type 0} → (N → M) → DefinitionOf N → DefinitionOf M
 map_definition f d = ((d.0.0, f d.0.1), d.1)
 
 abbrev map_line : {N A M B : Type 0} → (N → M) → (A → B) → LineOf N A → LineOf M B
@@ -70,7 +70,7 @@ map_line f h (Unresolved y p) = Unresolved y (h p)
 map_line f h (Mismatch y x) = Mismatch y x
 
 module _ (b : Things) where
-  abbrev DefinitionIs : DefinitionOf ℕ → Type 0
+  abbrev pub DefinitionIs : DefinitionOf ℕ → Type 0
   DefinitionIs d = IsName b d.0.1
 
   abbrev LineIs : LineOf ℕ ℕ → Type 0
@@ -80,16 +80,16 @@ module _ (b : Things) where
   LineIs (Unresolved y p) = IsAttr b p × IsSymbol (attr_term b p)
   LineIs (Mismatch y x) = Unit {0}
 
-  abbrev EntryIs : ℕ × Numbers → Type 0
+  abbrev pub EntryIs : ℕ × Numbers → Type 0
   EntryIs e = RoleIsOf b e.1
 
-  abbrev meant : List (ℕ × Numbers) → RolesOf (List ℕ) TypeTerm AttrTerm
+  abbrev pub meant : List (ℕ × Numbers) → RolesOf (List ℕ) TypeTerm AttrTerm
   meant es = map (λ (e : ℕ × Numbers). (e.0, role_meaning b e.1)) es
 
   abbrev in_line : LineOf ℕ ℕ → LineOf (List ℕ) AttrTerm
   in_line l = map_line (name_term b) (attr_term b) l
 
-  abbrev defs_in : List (DefinitionOf ℕ) → List (DefinitionOf (List ℕ))
+  abbrev pub defs_in : List (DefinitionOf ℕ) → List (DefinitionOf (List ℕ))
   defs_in ds = map (map_definition (name_term b)) ds
 
   one_defined : (home symbol : Option ℕ) (x : ℕ) → defined home (option_map (name_term b) symbol) x ≡ defs_in (defined home symbol x)
@@ -98,7 +98,7 @@ module _ (b : Things) where
   one_defined (Some t) None x = refl
   one_defined (Some t) (Some n) x = refl
 
-  definitions_meant : (es : List (ℕ × Numbers)) → definitions (meant es) ≡ defs_in (definitions (numbered es))
+  pub definitions_meant : (es : List (ℕ × Numbers)) → definitions (meant es) ≡ defs_in (definitions (numbered es))
   definitions_meant [] = refl
   definitions_meant (e ∷ es) = (λ i. one_defined e.1.home e.1.symbol e.0 i ++ definitions_meant es i) ∙ sym (map-append (map_definition (name_term b)) (defined e.1.home e.1.symbol e.0) (definitions (numbered es)))
 
@@ -108,7 +108,7 @@ module _ (b : Things) where
   one_known (Some t) None x k = tt
   one_known (Some t) (Some n) x k = (k, tt)
 
-  definitions_known : (es : List (ℕ × Numbers)) → Each EntryIs es → Each DefinitionIs (definitions (numbered es))
+  pub definitions_known : (es : List (ℕ × Numbers)) → Each EntryIs es → Each DefinitionIs (definitions (numbered es))
   definitions_known [] k = tt
   definitions_known (e ∷ es) k = each_append DefinitionIs (defined e.1.home e.1.symbol e.0) (definitions (numbered es)) (one_known e.1.home e.1.symbol e.0 k.0.symbol) (definitions_known es k.1)
 
@@ -175,7 +175,7 @@ module _ (b : Things) where
           go None = refl
           go (Some k) = refl
 
-      look_meant : (found : Option ℕ) (n : ℕ) → IsName b n → look_in bytes_eq (role_of t) (defs_in ds) found (name_term b n) ≡ look_in eqb (numbers_at m) ds found n
+      pub look_meant : (found : Option ℕ) (n : ℕ) → IsName b n → look_in bytes_eq (role_of t) (defs_in ds) found (name_term b n) ≡ look_in eqb (numbers_at m) ds found n
       look_meant None n h = refl
       look_meant (Some x) n h = λ i. cond (table_meant x i) (first_meant x n h ds known i) None
 
@@ -278,7 +278,7 @@ both_hold : (a c : Bool) → T a → T c → T (a && c)
 both_hold true c p q = q
 both_hold false c p q = p
 
-look_above : (x : ℕ) (es : List (ℕ × Numbers)) → AllByRecursion (λ y. nat_cmp x y ≡ Less) (keys_of es) → lookup (is_at (nat_cmp x)) es ≡ None
+pub look_above : (x : ℕ) (es : List (ℕ × Numbers)) → AllByRecursion (λ y. nat_cmp x y ≡ Less) (keys_of es) → lookup (is_at (nat_cmp x)) es ≡ None
 look_above x [] a = refl
 look_above x (e ∷ es) a = ap (λ o. cond (is_eq o) (Some e.1) (lookup (is_at (nat_cmp x)) es)) a.0 ∙ look_above x es a.1
 
@@ -298,7 +298,7 @@ module _ (b : Things) where
       ap (cond (is_eq (nat_cmp q e.0)) (Some (role_meaning b e.1))) (find_meant q es)
       ∙ elim (is_eq (nat_cmp q e.0)) as (λ z. cond z (Some (role_meaning b e.1)) (option_map (role_meaning b) (lookup (is_at (nat_cmp q)) es)) ≡ option_map (role_meaning b) (cond z (Some e.1) (lookup (is_at (nat_cmp q)) es))) [ true ↦ refl | false ↦ refl ]
 
-  entries_known : (es : List (ℕ × Numbers)) → IsStrictlySortedBy nat_cmp (keys_of es) → ((q : ℕ) (r : Numbers) → lookup (is_at (nat_cmp q)) es ≡ Some r → RoleIsOf b r) → Each (EntryIs b) es
+  pub entries_known : (es : List (ℕ × Numbers)) → IsStrictlySortedBy nat_cmp (keys_of es) → ((q : ℕ) (r : Numbers) → lookup (is_at (nat_cmp q)) es ≡ Some r → RoleIsOf b r) → Each (EntryIs b) es
   unfolding IsStrictlySortedBy
   entries_known [] s h = tt
   entries_known (e ∷ es) s h = (h e.0 e.1 (ap (λ z. cond z (Some e.1) (lookup (is_at (nat_cmp e.0)) es)) (same_test e.0 e.0 ∙ eq-eqb e.0 e.0 refl)), entries_known es s.1 (λ q r i. later q r i))
@@ -326,7 +326,7 @@ module _ (t : Operation) where
   roles_sorted [] = tt
   roles_sorted (s ∷ ss) = is_sorted-put nat_cmp nat_cmp_total (stand_id s) (role t s) (roles_in t ss) (roles_sorted ss)
 
-  entries_meant : (b : Things) (m : BTreeMap ℕ Numbers) → tree.IsOrdered nat_cmp m → Keeps b t (kept_at m) → meant b m.entries ≡ roles_by_id t
+  pub entries_meant : (b : Things) (m : BTreeMap ℕ Numbers) → tree.IsOrdered nat_cmp m → Keeps b t (kept_at m) → meant b m.entries ≡ roles_by_id t
   entries_meant b m ordered keeps =
       same_entries nat_cmp nat_cmp_total nat_cmp-IsAntisymmetric (meant b m.entries) (roles_by_id t) (meant_sorted b m.entries ordered) (roles_sorted (stands [] t)) (λ q. find_meant b q m.entries ∙ (keeps q).is ∙ sym (found_role q (stands [] t)))
 

@@ -1,6 +1,6 @@
 -- What the operations of a tree have to do with symbols: where they stand among symbol tables, which symbols they are,
 -- which they refer to, and what they call (Symbols and Symbol Tables).
-use Rattle.std.specs.Prelude.{ℕ, List, [], ◌∷◌, ◌++◌, map, codes, Bool, ◌||◌, if◌then◌else◌, Option, Some, None, option_map, option_and_then}
+use Rattle.std.specs.Prelude.{ℕ, List, [], ◌∷◌, ◌++◌, map, codes, Bool, false, ◌||◌, if◌then◌else◌, Option, Some, None, option_map, option_and_then}
 use Rattle.std.specs.List.{list_any}
 use Rattle.std.specs.Str.{bytes_eq}
 use Rattle.std.specs.Cmp.Lexicographic.{pointwise}
@@ -26,6 +26,8 @@ pub record CallOf (N T : Type 0) : Type 0 where
 
 -- what an operation has to do with symbols
 pub record RoleOf (N T A : Type 0) : Type 0 where
+  -- the operation around it, if there is one
+  pub parent : Option ℕ
   -- the symbol table whose symbol it can be: the operation around it, where that is one
   pub home : Option ℕ
   -- the symbol table in which its references are resolved
@@ -34,6 +36,8 @@ pub record RoleOf (N T A : Type 0) : Type 0 where
   pub is_table : Bool
   -- the name that it has as a symbol
   pub symbol : Option N
+  -- whether its visibility is private
+  pub is_private : Bool
   -- the symbol references in its dictionaries, each once
   pub references : List (ReferenceOf N A)
   -- its call, where it calls a symbol
@@ -59,6 +63,15 @@ is_call name = bytes_eq name (codes "func.call")
 
 abbrev pub symbol_of : Head → Option (List ℕ)
 symbol_of h = if is_table h.name || is_function h.name then option_and_then string_of (beside (codes "sym_name") h.properties) else None
+
+-- whether a visibility is private
+abbrev pub says_private : Option (List ℕ) → Bool
+says_private None = false
+says_private (Some visibility) = bytes_eq visibility (codes "private")
+
+-- whether an operation's is, by its `sym_visibility` (Symbols and Symbol Tables, "Symbol Visibility")
+abbrev pub is_private : Head → Bool
+is_private h = says_private (option_and_then string_of (beside (codes "sym_visibility") h.properties))
 
 -- the inputs and outputs of a function, by its `function_type`
 abbrev pub signature_of : Head → Option (List TypeTerm × List TypeTerm)
@@ -118,6 +131,11 @@ with_dictionary seen (e ∷ es) = with_dictionary (with_symbols seen e.1) es
 abbrev pub references_of : Head → References
 references_of h = with_dictionary (with_dictionary [] h.properties) h.attributes
 
+-- the operation around, if there is one
+abbrev pub parent_in : List (StepOf (List ℕ) TypeTerm AttrTerm) → Option ℕ
+parent_in [] = None
+parent_in (a ∷ path) = Some (head a.parent).id
+
 -- the operation around, where it is a symbol table
 abbrev pub home_of : List (StepOf (List ℕ) TypeTerm AttrTerm) → Option ℕ
 home_of [] = None
@@ -128,13 +146,15 @@ abbrev pub table_at : Head → List (StepOf (List ℕ) TypeTerm AttrTerm) → Op
 table_at h [] = if is_table h.name then Some h.id else None
 table_at h (a ∷ path) = table_in is_table (a ∷ path)
 
--- the role of an operation with these tables, whose operands have these types
-abbrev pub role_from : Option ℕ → Option ℕ → Head → List (Option TypeTerm) → Role
-role_from home table h types = record {
+-- the role of an operation in this operation and with these tables, whose operands have these types
+abbrev pub role_from : Option ℕ → Option ℕ → Option ℕ → Head → List (Option TypeTerm) → Role
+role_from parent home table h types = record {
+  parent = parent;
   home = home;
   table = table;
   is_table = is_table h.name;
   symbol = symbol_of h;
+  is_private = is_private h;
   references = references_of h;
   call = call_of h types;
   function = signature_of h;
@@ -142,7 +162,7 @@ role_from home table h types = record {
 
 -- the role of an operation where it stands in a tree
 abbrev pub role : Operation → Stand → Role
-role t s = role_from (home_of s.path) (table_at (head s.here) s.path) (head s.here) (map (λ v. type_of_value v t) (head s.here).operands)
+role t s = role_from (parent_in s.path) (home_of s.path) (table_at (head s.here) s.path) (head s.here) (map (λ v. type_of_value v t) (head s.here).operands)
 
 -- that of operation x, if it is there
 abbrev pub role_of : Operation → ℕ → Option Role

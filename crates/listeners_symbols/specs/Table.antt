@@ -32,10 +32,12 @@ signature_numbers s = (s.inputs.items, s.outputs.items)
 
 abbrev pub role_numbers : Numbers → RoleOf ℕ ℕ ℕ
 role_numbers r = record {
+  parent = r.parent;
   home = r.home;
   table = r.table;
   is_table = r.is_table;
   symbol = r.symbol;
+  is_private = r.is_private;
   references = map reference_of r.references.items;
   call = option_map call_numbers r.call;
   function = option_map signature_numbers r.function;
@@ -53,10 +55,12 @@ map_signature g s = (map g s.0, map g s.1)
 
 abbrev pub map_role : {N T A M U B : Type 0} → (N → M) → (T → U) → (A → B) → RoleOf N T A → RoleOf M U B
 map_role f g h r = record {
+  parent = r.parent;
   home = r.home;
   table = r.table;
   is_table = r.is_table;
   symbol = option_map f r.symbol;
+  is_private = r.is_private;
   references = map (map_reference f h) r.references;
   call = option_map (map_call f g) r.call;
   function = option_map (map_signature g) r.function;
@@ -162,16 +166,16 @@ Followed c t (Shift x old new) = Renewed c t x
 
 -- the tables of an operation that stands in operation p, of which this is kept
 abbrev pub tables_in : ℕ → Numbers → Tables
-tables_in p r = record { home = if r.is_table then Some p else None; table = if r.is_table then Some p else r.table }
+tables_in p r = record { parent = Some p; home = if r.is_table then Some p else None; table = if r.is_table then Some p else r.table }
 
 -- those of an operation x whose parent, if it has one, is this
 abbrev pub tables_for : Table → ℕ → Bool → Option ℕ → Option Tables
-tables_for table x is_table None = Some (record { home = None; table = if is_table then Some x else None })
+tables_for table x is_table None = Some (record { parent = None; home = None; table = if is_table then Some x else None })
 tables_for table x is_table (Some p) = option_map (tables_in p) (table p)
 
 -- what is read of an operation that has these tables, with the types of its operands
 pub record IsReadAs (c : Things) (h : Head) (types : List (Option TypeTerm)) (tables : Tables) (r : Numbers) : Type 0 where
-  pub is : role_meaning c r ≡ role_from tables.home tables.table h types
+  pub is : role_meaning c r ≡ role_from tables.parent tables.home tables.table h types
   pub known : RoleIsOf c r
 
 -- the tree of a world's module, in numbers

@@ -11,11 +11,11 @@ use std::collections::BTreeMap;
 use std::marker::Model;
 
 /// A definition: the table and the name, and the operation.
-pub(crate) type Definition = ((OpId, NameId), OpId);
+pub type Definition = ((OpId, NameId), OpId);
 
 /// Definitions in the order of the operations' ids: a contract sees the list.
 #[derive(Drop)]
-pub(crate) struct Definitions {
+pub struct Definitions {
     list: Vec<Definition>,
     /// Of each name in a table the first one.
     first: BTreeMap<(OpId, NameId), OpId>,
@@ -35,14 +35,14 @@ impl Model for Definitions {
 
 impl Definitions {
     /// The definitions, in the order of the operations' ids.
-    pub(crate) fn list(&self) -> &[Definition]
+    pub fn list(&self) -> &[Definition]
         ensures { result.now ≡ self.now }
     {
         &self.list
     }
 
     /// The operation that a name is in a table: of several definitions the first one.
-    pub(crate) fn first(&self, table: OpId, name: NameId) -> Option<OpId>
+    pub fn first(&self, table: OpId, name: NameId) -> Option<OpId>
         ensures { result ≡ first_defined eqb table name self.now }
     {
         self.first.get(&(table, name)).copied()
@@ -103,7 +103,7 @@ fn firsts(alloc: Global, list: &[Definition]) -> Result<BTreeMap<(OpId, NameId),
 }
 
 /// The definitions of a table of roles.
-pub(crate) fn definitions_of(
+pub fn definitions_of(
     alloc: Global,
     roles: &BTreeMap<OpId, Role>,
 ) -> Result<Definitions, AllocError>

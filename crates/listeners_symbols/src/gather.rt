@@ -13,7 +13,7 @@ ghost use Rattle.listeners_symbols.specs.Roles.{call_of as call_from};
 ghost use Rattle.listeners_symbols.specs.Listeners.{kept_at};
 ghost use Rattle.listeners_symbols.specs.Table.{CallIsOf, IsReadAs, IsRight, call_meaning, head_meaning, tables_for, tables_in, tree_in};
 
-use crate::properties::{callee_of, function_of, symbol_of};
+use crate::properties::{callee_of, function_of, is_private, symbol_of};
 use crate::references::references_of;
 use crate::role::{Call, Role, Tables};
 use ir_event::view::View;
@@ -30,11 +30,13 @@ fn tables_in(role: &Role, parent: OpId) -> Tables
 {
     if role.is_table {
         Tables {
+            parent: Some(parent),
             home: Some(parent),
             table: Some(parent),
         }
     } else {
         Tables {
+            parent: Some(parent),
             home: None,
             table: role.table,
         }
@@ -55,6 +57,7 @@ fn tables_of(
     match view.parent(op) {
         Some(parent) => Some(tables_in(roles.get(&parent)?, parent)),
         None => Some(Tables {
+            parent: None,
             home: None,
             table: if is_table { Some(op) } else { None },
         }),
@@ -139,10 +142,12 @@ fn role_with(
     let references = references_of(alloc, ctx, node)?;
     let function = function_of(alloc, ctx, node)?;
     Ok(Role {
+        parent: tables.parent,
         home: tables.home,
         table: tables.table,
         is_table: ctx.table(node.name()),
         symbol: symbol_of(ctx, node),
+        is_private: is_private(ctx, node),
         references,
         call,
         function,

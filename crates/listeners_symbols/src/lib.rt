@@ -2,12 +2,12 @@
 //! agreed with a module before an event it agrees with the module after it, or is stale.
 #![tactic(auto)]
 
-mod definitions;
+pub mod definitions;
 mod gather;
 mod properties;
 mod references;
 mod report;
-mod resolve;
+pub mod resolve;
 pub mod role;
 pub mod symbols;
-mod table;
+pub mod table;

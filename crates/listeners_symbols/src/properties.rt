@@ -1,10 +1,12 @@
 //! What an operation's properties say of symbols.
 ghost use Rattle.std.specs.Prelude.{◌≡◌, IfSome, IfOk, List, [], ℕ, map, slice_index_or};
 ghost use Rattle.std.specs.List.{All};
-ghost use Rattle.std.specs.Option.{option_map};
+ghost use Rattle.std.specs.Option.{option_map, option_and_then};
 ghost use Rattle.ir_types.specs.Things.{Things, IsName, IsAttr, IsType, AttrIsOf};
 ghost use Rattle.ir_types.specs.Terms.{TypeTerm, AttrTerm, attr_from, attr_term, name_term, type_term};
 ghost use Rattle.ir_types.specs.WordNames.{word_bytes};
+ghost use Rattle.op_registry.specs.Properties as properties;
+ghost use Rattle.op_registry.specs.Registry.{beside};
 ghost use Rattle.ir_event.specs.Modules.{NodeIsOf};
 ghost use Rattle.listeners_symbols.specs.Roles as roles;
 ghost use Rattle.listeners_symbols.specs.Table.{head_meaning, signature_meaning, SignatureIsOf};
@@ -31,6 +33,33 @@ pub(crate) fn symbol_of(ctx: &Context, node: &Node<'_>) -> Option<NameId>
     }
     let attr = entry(ctx, node.properties(), Word::SymName)?;
     string_of(ctx, attr)
+}
+
+/// The visibility of an operation as a symbol, if it says one.
+fn visibility_of(ctx: &Context, node: &Node<'_>) -> Option<NameId>
+    requires { NodeIsOf ctx.now node.now }
+    ensures { option_map (name_term ctx.now) result ≡ option_and_then properties.string_of (beside (word_bytes Word.SymVisibility) (head_meaning ctx.now node.now.head).properties) }
+{
+    let attr = entry(ctx, node.properties(), Word::SymVisibility)?;
+    string_of(ctx, attr)
+}
+
+/// Whether a visibility is private.
+fn says_private(ctx: &Context, visibility: Option<NameId>) -> bool
+    ensures { result ≡ roles.says_private (option_map (name_term ctx.now) visibility) }
+{
+    match visibility {
+        None => false,
+        Some(name) => ctx.is_word(name, Word::Private),
+    }
+}
+
+/// Whether an operation's visibility is private (Symbols and Symbol Tables, "Symbol Visibility").
+pub(crate) fn is_private(ctx: &Context, node: &Node<'_>) -> bool
+    requires { NodeIsOf ctx.now node.now }
+    ensures { result ≡ roles.is_private (head_meaning ctx.now node.now.head) }
+{
+    says_private(ctx, visibility_of(ctx, node))
 }
 
 /// The parts of the symbol that an operation calls, if it calls one.

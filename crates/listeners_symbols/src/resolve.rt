@@ -37,7 +37,7 @@ fn look_up(
 }
 
 /// The same in what there may be.
-fn look_in(
+pub fn look_in(
     roles: &BTreeMap<OpId, Role>,
     definitions: &Definitions,
     found: Option<OpId>,

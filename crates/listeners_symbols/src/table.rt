@@ -75,7 +75,7 @@ fn follow_operand(
 }
 
 /// Follows an event, which led to the module that the view shows. It looks at the event's operation alone.
-pub(crate) fn follow(
+pub fn follow(
     alloc: Global,
     roles: &mut BTreeMap<OpId, Role>,
     view: &mut View<'_>,
@@ -115,7 +115,7 @@ fn renew_all(
 }
 
 /// The roles of the operations of a module.
-pub(crate) fn tabulate(alloc: Global, world: &World) -> Result<BTreeMap<OpId, Role>, AllocError>
+pub fn tabulate(alloc: Global, world: &World) -> Result<BTreeMap<OpId, Role>, AllocError>
     ensures { IfOk result (λ roles. Keeps world.now.ctx (module_in world.now).tree (kept_at roles)) }
 {
     let Ok(ops) = world.store.operations() else {

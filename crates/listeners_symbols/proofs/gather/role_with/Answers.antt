@@ -9,10 +9,12 @@ returns c types e =
     let ctx = c.args.ctx.now in
     record {
       is = λ i. record {
+        parent = c.args.tables.now.parent;
         home = c.args.tables.now.home;
         table = c.args.tables.now.table;
         is_table = (c.table.ensures ∙ ap (λ n. is_table (name_term ctx n)) c.name.ensures) i;
         symbol = c.symbol_of.ensures.symbol i;
+        is_private = c.is_private.ensures i;
         references = (references_meant ctx c.in_ok-references.references.items ∙ c.in_ok-references.ensures.references) i;
         call = (call_meant ctx c.args.call ∙ e) i;
         function = (function_meant ctx c.in_ok-function.function ∙ c.in_ok-function.ensures.signature) i;

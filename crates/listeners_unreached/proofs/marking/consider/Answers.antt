@@ -1,0 +1,24 @@
+use Rattle.std.proofs.Common.{subst, eqb, Option, ℕ}
+use Rattle.listeners_symbols.specs.Lines.{numbers_at}
+use Rattle.listeners_unreached.specs.Unreached.{reached_from}
+use Rattle.listeners_unreached.specs.Marks.{IsAbove, IsDefinition, Reaches, StandsUnder, left_at, queue_of}
+use Rattle.listeners_unreached.proofs.Taken.{considered_waits, considered_reaches}
+use Rattle.listeners_unreached.proofs.Steps.{on_ok, some_true}
+use Rattle.listeners_unreached.proofs.marking.consider.Goals as goal
+
+pub returns-in-Some-clause-considered : goal.returns-in-Some-clause-considered
+returns-in-Some-clause-considered c =
+    let roles = numbers_at c.args.roles.now in
+    let ds = c.args.definitions.now in
+    let left = left_at c.args.left.now in
+    let above = subst (λ (o : Option ℕ). IsAbove roles left c.args.op o) c.in-Some.is c.in_ok-definition.ensures in
+    let ws = some_true (left c.in-Some.definition) above.1 in
+    on_ok _ _ c.wait.result (λ f. considered_waits (IsDefinition roles) (StandsUnder roles) (Reaches roles ds) c.args.op c.in-Some.definition ws.0 (queue_of c.args.pending.now) left (left_at c.wait.new.left) above.0 (f ws.0 ws.1)) c.wait.ensures.waiting
+
+pub returns-in-None-clause-considered : goal.returns-in-None-clause-considered
+returns-in-None-clause-considered c =
+    let roles = numbers_at c.args.roles.now in
+    let ds = c.args.definitions.now in
+    let left = left_at c.args.left.now in
+    let none = subst (λ (o : Option ℕ). IsAbove roles left c.args.op o) c.in-None.is c.in_ok-definition.ensures in
+    on_ok _ _ c.reach_from.result (λ d. considered_reaches (IsDefinition roles) (StandsUnder roles) (Reaches roles ds) c.args.op (reached_from eqb roles ds (roles c.args.op)) (queue_of c.args.pending.now) (queue_of c.reach_from.new.pending) left (left_at c.reach_from.new.left) none (λ x h. h) (λ x h. h) d) c.reach_from.ensures.removed

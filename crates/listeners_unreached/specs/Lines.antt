@@ -1,0 +1,14 @@
+-- The rows that a table of roles gives, in numbers.
+use Rattle.std.specs.Prelude.{ℕ, List, map, Bool, is_none}
+use Rattle.ir_event.specs.declared.row.Cell.{Cell}
+use Rattle.ir_event.specs.declared.row.Cell.TheVariants as cell
+use Rattle.listeners_unreached.specs.Unreached.{line_cells}
+use Rattle.listeners_unreached.specs.Marking.{Left}
+
+-- the cells of rows
+abbrev pub lines_cells : List (ℕ × ℕ) → List (List Cell)
+lines_cells ls = map (line_cells cell.Op cell.Name) ls
+
+-- whether a definition isn't left
+abbrev pub is_out : Left → ℕ → Bool
+is_out left x = is_none (left x)

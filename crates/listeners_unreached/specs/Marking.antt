@@ -1,0 +1,54 @@
+-- How reached definitions are marked: those that are left are taken out one after another, and with each come the
+-- operations that waited for it.
+use Rattle.std.specs.Prelude.{◌≡◌, ◌⊎◌, ℕ, List, [], ◌∷◌, ◌++◌, eqb, false, Option, Some, None}
+use Rattle.ir_tree_laws.specs.Members.{In}
+use Rattle.listeners_unreached.specs.Reached.{IsReached}
+
+-- the private definitions that are left, each with the operations that wait for it
+abbrev pub Left : Type 0
+Left = ℕ → Option (List ℕ)
+
+module _ (IsPrivate : ℕ → Type 0) (Under Reaches : ℕ → ℕ → Type 0) where
+  -- operation y waits for a definition that it stands under
+  pub record Waits (left : Left) (y : ℕ) : Type 0 where
+    pub definition : ℕ
+    pub waiting : List ℕ
+    pub is_left : left definition ≡ Some waiting
+    pub is_in : In y waiting
+    pub under : Under y definition
+
+  -- all that it reaches was taken out
+  abbrev pub IsDone : Left → ℕ → Type 0
+  IsDone left y = (x : ℕ) → Reaches y x → left x ≡ None
+
+  -- it is one of a list of lists
+  abbrev pub IsPending : List (List ℕ) → ℕ → Type 0
+  IsPending queue y = (ws : List ℕ) × In ws queue × In y ws
+
+  -- what was taken out is reached; and each operation is still to be looked at, waits, or is done
+  pub record Marks (todo : List ℕ) (queue : List (List ℕ)) (left : Left) : Type 0 where
+    pub sound : (x : ℕ) → IsPrivate x → left x ≡ None → IsReached IsPrivate Under Reaches x
+    pub only : (x : ℕ) (ws : List ℕ) → left x ≡ Some ws → IsPrivate x
+    pub placed : (y : ℕ) → In y todo ⊎ (IsPending queue y ⊎ (Waits left y ⊎ IsDone left y))
+
+  -- these were taken out, as far as they were left
+  pub record Removed (xs : List ℕ) (queue : List (List ℕ)) (left : Left) (queued : List (List ℕ)) (after : Left) : Type 0 where
+    pub shrinks : (z : ℕ) → left z ≡ None → after z ≡ None
+    pub gone : (x : ℕ) → In x xs → after x ≡ None
+    pub keeps : (todo : List ℕ) → ((x : ℕ) → In x xs → IsPrivate x → IsReached IsPrivate Under Reaches x) → Marks todo queue left → Marks todo queued after
+
+  -- these operations were looked at: each waits now, or what it reaches was taken out
+  pub record Considered (ys : List ℕ) (queue : List (List ℕ)) (left : Left) (queued : List (List ℕ)) (after : Left) : Type 0 where
+    pub shrinks : (z : ℕ) → left z ≡ None → after z ≡ None
+    pub keeps : (todo : List ℕ) → Marks (ys ++ todo) queue left → Marks todo queued after
+
+-- one was taken out
+pub record Dropped (x : ℕ) (before after : Left) : Type 0 where
+  pub gone : after x ≡ None
+  pub others : (z : ℕ) → eqb x z ≡ false → after z ≡ before z
+
+-- an operation waits for definition p
+pub record Waiting (y p : ℕ) (ws : List ℕ) (before after : Left) : Type 0 where
+  pub was : before p ≡ Some ws
+  pub is : after p ≡ Some (ws ++ y ∷ [])
+  pub others : (z : ℕ) → eqb p z ≡ false → after z ≡ before z

@@ -1,0 +1,192 @@
+//! Private definitions that operations reach are taken out of those that are left, until no more can be.
+ghost use Rattle.std.specs.Prelude.{◌≡◌, ◌≤◌, ◌∷◌, [], eqb, map, OnOk, IfOk};
+ghost use Rattle.listeners_symbols.specs.Symbols.{definitions};
+ghost use Rattle.listeners_symbols.specs.Table.{reference_of};
+ghost use Rattle.listeners_symbols.specs.Lines.{numbered, numbers_at};
+ghost use Rattle.listeners_unreached.specs.Marks.{ConsideredIn, IsMarked, MarksIn, RemovedIn, SettledIn, StartsIn, TakesFound, left_at, queue_of, size};
+ghost use Rattle.std.specs.Map.{keys_of};
+ghost use Rattle.listeners_unreached.specs.Unreached.{prefixes, reached_from, targets};
+
+use crate::waiting::{all_left, left_above, take_out, wait};
+use ir_types::ids::{NameId, OpId};
+use listeners_symbols::definitions::{Definitions, definitions_of};
+use listeners_symbols::resolve::look_in;
+use listeners_symbols::role::{Reference, Role};
+use std::alloc::{AllocError, Global};
+use std::collections::BTreeMap;
+
+/// Takes out an operation, where there is one.
+fn take_found(
+    left: &mut BTreeMap<OpId, Vec<OpId>>,
+    pending: &mut Vec<Vec<OpId>>,
+    found: &Option<OpId>,
+) -> Result<(), AllocError>
+    ensures taken { OnOk result (TakesFound found.now (queue_of pending.old) (left_at left.old) (queue_of pending.new) (left_at left.new)) }
+    ensures size { OnOk result (size left.new pending.new ≤ size left.old pending.old) }
+{
+    match *found {
+        None => Ok(()),
+        Some(op) => take_out(left, pending, op),
+    }
+}
+
+/// Takes out what the prefixes of a reference resolve to.
+fn reach(
+    roles: &BTreeMap<OpId, Role>,
+    definitions: &Definitions,
+    table: &Option<OpId>,
+    parts: &[NameId],
+    left: &mut BTreeMap<OpId, Vec<OpId>>,
+    pending: &mut Vec<Vec<OpId>>,
+) -> Result<(), AllocError>
+    ensures removed { OnOk result (RemovedIn (numbers_at roles.now) definitions.now (prefixes eqb (numbers_at roles.now) definitions.now table.now parts.now) pending.old left.old pending.new left.new) }
+    ensures size { OnOk result (size left.new pending.new ≤ size left.old pending.old) }
+{
+    let mut found = *table;
+    let mut rest = parts;
+    while let [part, more @ ..] = rest {
+        found = look_in(roles, definitions, found, *part);
+        take_found(left, pending, &found)?;
+        rest = more;
+    }
+    Ok(())
+}
+
+/// Takes out what the prefixes of references resolve to.
+fn reach_each(
+    roles: &BTreeMap<OpId, Role>,
+    definitions: &Definitions,
+    table: &Option<OpId>,
+    references: &[Reference],
+    left: &mut BTreeMap<OpId, Vec<OpId>>,
+    pending: &mut Vec<Vec<OpId>>,
+) -> Result<(), AllocError>
+    ensures removed { OnOk result (RemovedIn (numbers_at roles.now) definitions.now (targets eqb (numbers_at roles.now) definitions.now table.now (map reference_of references.now)) pending.old left.old pending.new left.new) }
+    ensures size { OnOk result (size left.new pending.new ≤ size left.old pending.old) }
+{
+    let mut rest = references;
+    while let [reference, more @ ..] = rest {
+        reach(roles, definitions, table, &reference.parts, left, pending)?;
+        rest = more;
+    }
+    Ok(())
+}
+
+/// Takes out what an operation reaches.
+fn reach_from(
+    roles: &BTreeMap<OpId, Role>,
+    definitions: &Definitions,
+    op: OpId,
+    left: &mut BTreeMap<OpId, Vec<OpId>>,
+    pending: &mut Vec<Vec<OpId>>,
+) -> Result<(), AllocError>
+    ensures removed { OnOk result (RemovedIn (numbers_at roles.now) definitions.now (reached_from eqb (numbers_at roles.now) definitions.now (numbers_at roles.now op)) pending.old left.old pending.new left.new) }
+    ensures size { OnOk result (size left.new pending.new ≤ size left.old pending.old) }
+{
+    match roles.get(&op) {
+        None => Ok(()),
+        Some(role) => reach_each(
+            roles,
+            definitions,
+            &role.table,
+            &role.references,
+            left,
+            pending,
+        ),
+    }
+}
+
+/// Looks at an operation: it waits for a definition that it stands under and that is left, or what it reaches is taken
+/// out.
+fn consider(
+    roles: &BTreeMap<OpId, Role>,
+    definitions: &Definitions,
+    op: OpId,
+    left: &mut BTreeMap<OpId, Vec<OpId>>,
+    pending: &mut Vec<Vec<OpId>>,
+) -> Result<(), AllocError>
+    ensures considered { OnOk result (ConsideredIn (numbers_at roles.now) definitions.now (op ∷ []) pending.old left.old pending.new left.new) }
+    ensures size { OnOk result (size left.new pending.new ≤ size left.old pending.old) }
+{
+    match left_above(roles, left, op)? {
+        Some(definition) => wait(left, op, definition),
+        None => reach_from(roles, definitions, op, left, pending),
+    }
+}
+
+/// Looks at operations.
+fn consider_each(
+    roles: &BTreeMap<OpId, Role>,
+    definitions: &Definitions,
+    ops: &[OpId],
+    left: &mut BTreeMap<OpId, Vec<OpId>>,
+    pending: &mut Vec<Vec<OpId>>,
+) -> Result<(), AllocError>
+    ensures considered { OnOk result (ConsideredIn (numbers_at roles.now) definitions.now ops.now pending.old left.old pending.new left.new) }
+    ensures size { OnOk result (size left.new pending.new ≤ size left.old pending.old) }
+{
+    let mut rest = ops;
+    while let [op, more @ ..] = rest {
+        consider(roles, definitions, *op, left, pending)?;
+        rest = more;
+    }
+    Ok(())
+}
+
+/// Looks at all operations of a table of roles.
+fn consider_all(
+    roles: &BTreeMap<OpId, Role>,
+    definitions: &Definitions,
+    left: &mut BTreeMap<OpId, Vec<OpId>>,
+    pending: &mut Vec<Vec<OpId>>,
+) -> Result<(), AllocError>
+    ensures { OnOk result (ConsideredIn (numbers_at roles.now) definitions.now (keys_of roles.now.entries) pending.old left.old pending.new left.new) }
+{
+    for (op, _) in roles {
+        consider(roles, definitions, *op, left, pending)?;
+    }
+    Ok(())
+}
+
+/// Looks at what is pending, until nothing is.
+fn settle(
+    roles: &BTreeMap<OpId, Role>,
+    definitions: &Definitions,
+    left: &mut BTreeMap<OpId, Vec<OpId>>,
+    pending: Vec<Vec<OpId>>,
+) -> Result<(), AllocError>
+    ensures { OnOk result (MarksIn (numbers_at roles.now) definitions.now [] pending left.old → SettledIn (numbers_at roles.now) definitions.now left.new) }
+{
+    let mut pending = pending;
+    'pending: while let Some(waiting) = pending.pop() {
+        consider_each(roles, definitions, &waiting, left, &mut pending)?;
+    }
+    Ok(())
+}
+
+/// Takes all that is reached out of what is left.
+fn mark(
+    alloc: Global,
+    roles: &BTreeMap<OpId, Role>,
+    definitions: &Definitions,
+    left: &mut BTreeMap<OpId, Vec<OpId>>,
+) -> Result<(), AllocError>
+    ensures { OnOk result (StartsIn (numbers_at roles.now) (left_at left.old) → SettledIn (numbers_at roles.now) definitions.now left.new) }
+{
+    let mut pending = Vec::new(alloc);
+    consider_all(roles, definitions, left, &mut pending)?;
+    settle(roles, definitions, left, pending)
+}
+
+/// The private definitions that nothing reaches, by a table of roles.
+pub(crate) fn unreached(
+    alloc: Global,
+    roles: &BTreeMap<OpId, Role>,
+) -> Result<BTreeMap<OpId, Vec<OpId>>, AllocError>
+    ensures { IfOk result (λ left. IsMarked (numbers_at roles.now) (definitions (numbered roles.now.entries)) (left_at left)) }
+{
+    let definitions = definitions_of(alloc, roles)?;
+    let mut left = all_left(alloc, roles)?;
+    mark(alloc, roles, &definitions, &mut left)?;
+    Ok(left)
+}

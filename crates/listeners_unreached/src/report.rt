@@ -1,0 +1,83 @@
+//! The rows of the report.
+ghost use Rattle.std.specs.Prelude.{◌≡◌, ◌++◌, ◌∷◌, [], OnOk, IfOk};
+ghost use Rattle.std.specs.Ordering.{nat_cmp};
+ghost use Rattle.std.specs.BTreeMap as tree;
+ghost use Rattle.ir_event.specs.declared.row.Cell.TheVariants.{Op, Name};
+ghost use Rattle.listeners_symbols.specs.Symbols.{definitions};
+ghost use Rattle.listeners_symbols.specs.Table.{role_numbers};
+ghost use Rattle.listeners_symbols.specs.Lines.{cells_of, numbered, numbers_at};
+ghost use Rattle.listeners_unreached.specs.Lines.{is_out, lines_cells};
+ghost use Rattle.listeners_unreached.specs.Marking.{Left};
+ghost use Rattle.listeners_unreached.specs.Marks.{IsMarked, left_at};
+ghost use Rattle.listeners_unreached.specs.Unreached as unreached;
+ghost use Rattle.listeners_unreached.specs.Unreached.{line_of, lines_with};
+
+use crate::marking::unreached;
+use crate::waiting::private_name;
+use ir_event::row::{Cell, Row};
+use ir_tree::value::Value;
+use ir_types::ids::{NameId, OpId};
+use listeners_symbols::role::Role;
+use std::alloc::{AllocError, Global};
+use std::collections::BTreeMap;
+
+// The checker has no proof of the loans of a function that holds cells, unless the function has a value of each type in
+// a cell: so one makes a `Value` that nothing uses.
+
+/// Adds the row of a definition.
+fn push_line(alloc: Global, op: OpId, name: NameId, out: &mut Vec<Row>) -> Result<(), AllocError>
+    ensures { OnOk result (cells_of out.new.items ≡ cells_of out.old.items ++ (Op op ∷ Name name ∷ []) ∷ []) }
+{
+    let _value = Value::Result(op, 0);
+    let mut cells = Vec::with_capacity(alloc, 2)?;
+    cells.push(Cell::Op(op))?;
+    cells.push(Cell::Name(name))?;
+    out.push(Row { cells })?;
+    Ok(())
+}
+
+/// Adds the row of an operation, where it is a private definition that is left.
+fn push_line_of(
+    alloc: Global,
+    left: &BTreeMap<OpId, Vec<OpId>>,
+    op: OpId,
+    role: &Role,
+    out: &mut Vec<Row>,
+) -> Result<(), AllocError>
+    ensures { OnOk result (cells_of out.new.items ≡ cells_of out.old.items ++ lines_cells (line_of (is_out (left_at left.now) op) op (unreached.private_name (role_numbers role.now)))) }
+{
+    if !left.contains_key(&op) {
+        return Ok(());
+    }
+    let Some(name) = private_name(role) else {
+        return Ok(());
+    };
+    push_line(alloc, op, name, out)
+}
+
+/// Adds the rows of the private definitions that are left.
+fn push_lines(
+    alloc: Global,
+    roles: &BTreeMap<OpId, Role>,
+    left: &BTreeMap<OpId, Vec<OpId>>,
+    out: &mut Vec<Row>,
+) -> Result<(), AllocError>
+    ensures { OnOk result (cells_of out.new.items ≡ cells_of out.old.items ++ lines_cells (lines_with (is_out (left_at left.now)) (numbered roles.now.entries))) }
+{
+    for (op, role) in roles {
+        push_line_of(alloc, left, *op, role, out)?;
+    }
+    Ok(())
+}
+
+/// The rows of a table of roles.
+pub(crate) fn lines(alloc: Global, roles: &BTreeMap<OpId, Role>) -> Result<Vec<Row>, AllocError>
+    ensures rows { IfOk result (λ out. (left : Left) × IsMarked (numbers_at roles.now) (definitions (numbered roles.now.entries)) left × (cells_of out.items ≡ lines_cells (lines_with (is_out left) (numbered roles.now.entries)))) }
+    ensures ordered { IfOk result (λ _. tree.IsOrdered nat_cmp roles.now) }
+{
+    let _ = roles.len();
+    let left = unreached(alloc, roles)?;
+    let mut out = Vec::new(alloc);
+    push_lines(alloc, roles, &left, &mut out)?;
+    Ok(out)
+}

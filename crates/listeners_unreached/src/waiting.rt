@@ -1,0 +1,117 @@
+//! Private definitions that are left, each with the operations that wait for it.
+ghost use Rattle.std.specs.Prelude.{◌≡◌, ◌≤◌, ℕ, List, [], ◌∷◌, Some, OnOk, IfOk, if◌then◌else◌, None};
+ghost use Rattle.std.specs.BTreeMap.{btree_map_len};
+ghost use Rattle.listeners_symbols.specs.Table.{role_numbers};
+ghost use Rattle.listeners_symbols.specs.Lines.{numbers_at};
+ghost use Rattle.listeners_unreached.specs.Marking.{Waiting};
+ghost use Rattle.listeners_unreached.specs.Marks.{IsAbove, TakesOut, added, left_at, parent_at, queue_of, size};
+ghost use Rattle.listeners_unreached.specs.Unreached as unreached;
+ghost use Rattle.listeners_unreached.specs.Unreached.{says_definition};
+
+use ir_types::ids::{NameId, OpId};
+use listeners_symbols::role::Role;
+use std::alloc::{AllocError, Global};
+use std::collections::BTreeMap;
+
+/// The name of a private definition, where an operation is one (Symbols and Symbol Tables, "Symbol Visibility").
+pub(crate) fn private_name(role: &Role) -> Option<NameId>
+    ensures { result ≡ unreached.private_name (role_numbers role.now) }
+{
+    if role.home.is_some() && role.is_private {
+        role.symbol
+    } else {
+        None
+    }
+}
+
+/// The operation around an operation.
+fn parent(roles: &BTreeMap<OpId, Role>, op: OpId) -> Option<OpId>
+    ensures { result ≡ parent_at (numbers_at roles.now op) }
+{
+    match roles.get(&op) {
+        None => None,
+        Some(role) => role.parent,
+    }
+}
+
+/// A definition that is left and that an operation stands under, the nearest one. It is refused where an operation
+/// stands in more others than may be.
+pub(crate) fn left_above(
+    roles: &BTreeMap<OpId, Role>,
+    left: &BTreeMap<OpId, Vec<OpId>>,
+    op: OpId,
+) -> Result<Option<OpId>, AllocError>
+    ensures { IfOk result (λ p. IsAbove (numbers_at roles.now) (left_at left.now) op p) }
+{
+    let mut at = op;
+    'up: for _ in 0..129 {
+        if left.contains_key(&at) {
+            return Ok(Some(at));
+        }
+        let Some(around) = parent(roles, at) else {
+            return Ok(None);
+        };
+        at = around;
+    }
+    Err(AllocError)
+}
+
+/// Makes an operation wait for a definition that is left.
+pub(crate) fn wait(
+    left: &mut BTreeMap<OpId, Vec<OpId>>,
+    op: OpId,
+    definition: OpId,
+) -> Result<(), AllocError>
+    ensures waiting { OnOk result ((ws : List ℕ) → left_at left.old definition ≡ Some ws → Waiting op definition ws (left_at left.old) (left_at left.new)) }
+    ensures len { btree_map_len left.new ≡ btree_map_len left.old }
+{
+    if let Some(waiting) = left.get_mut(&definition) {
+        waiting.push(op)?;
+    }
+    Ok(())
+}
+
+/// Takes a definition out, where it is left. What waited for it is pending.
+pub(crate) fn take_out(
+    left: &mut BTreeMap<OpId, Vec<OpId>>,
+    pending: &mut Vec<Vec<OpId>>,
+    definition: OpId,
+) -> Result<(), AllocError>
+    ensures taken { OnOk result (TakesOut definition (queue_of pending.old) (left_at left.old) (queue_of pending.new) (left_at left.new)) }
+    ensures size { OnOk result (size left.new pending.new ≤ size left.old pending.old) }
+{
+    if let Some(waiting) = left.remove(&definition) {
+        pending.push(waiting)?;
+    }
+    Ok(())
+}
+
+/// Adds an operation to those that are left, where it is a private definition.
+fn add(
+    alloc: Global,
+    op: OpId,
+    role: &Role,
+    left: &mut BTreeMap<OpId, Vec<OpId>>,
+) -> Result<(), AllocError>
+    ensures { OnOk result ((z : ℕ) → left_at left.new z ≡ added op (unreached.private_name (role_numbers role.now)) z (left_at left.old z)) }
+{
+    if private_name(role).is_some() {
+        left.insert(op, Vec::new(alloc))?;
+    }
+    Ok(())
+}
+
+/// All private definitions.
+pub(crate) fn all_left(
+    alloc: Global,
+    roles: &BTreeMap<OpId, Role>,
+) -> Result<BTreeMap<OpId, Vec<OpId>>, AllocError>
+    ensures { IfOk result (λ left. (x : ℕ) → left_at left x ≡ (if says_definition (numbers_at roles.now x) then Some [] else None)) }
+{
+    let _ = roles.len();
+    let mut left = BTreeMap::new(alloc);
+    for (op, role) in roles {
+        add(alloc, *op, role, &mut left)?;
+    }
+    Ok(left)
+}
