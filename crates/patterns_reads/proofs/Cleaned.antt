@@ -1,18 +1,17 @@
 -- Clean operations, and what is known of values.
-use Rattle.std.proofs.Common.{◌≡◌, refl, ap, sym, ◌∙◌, subst, ℕ, List, [], ◌∷◌, Bool, true, false, true≢false, ◌&&◌, Option, Some, None, option_map}
-use Rattle.std.specs.Prelude.{codes, map}
+use Rattle.std.proofs.Common.{◌≡◌, refl, ap, sym, ◌∙◌, ℕ, List, Bool, true, false, ◌&&◌, Option, Some, None, option_map}
+use Rattle.std.specs.Prelude.{codes}
 use Rattle.std.specs.List.{list_all}
 use Rattle.ir_types.specs.Things.{Things}
 use Rattle.ir_types.specs.Words.{is_inherent}
-use Rattle.ir_types.specs.Terms.{AttrTerm, name_term, attr_term}
-use Rattle.ir_types.specs.declared.bits.Bits.{Bits}
+use Rattle.ir_types.specs.Terms.{AttrTerm, name_term}
 use Rattle.ir_tree.specs.declared.value.Value.{Value}
-use Rattle.ir_tree.specs.declared.value.Value.TheVariants.{Result, Arg}
-use Rattle.ir_tree.specs.Tree.{OpOf, head}
+use Rattle.ir_tree.specs.declared.value.Value.TheVariants.{Result}
+use Rattle.ir_tree.specs.Tree.{head}
 use Rattle.ir_tree.specs.Ids.{find}
 use Rattle.ir_tree.specs.Meaning.{Operation}
 use Rattle.ir_tree_laws.proofs.Members.{found_stands}
-use Rattle.dialects_int.specs.Folds.{Known, known_of, entries_of}
+use Rattle.dialects_int.specs.Folds.{Known, entries_of}
 use Rattle.patterns_laws.specs.Keeps.{given}
 use Rattle.patterns_laws.specs.Words.{named}
 use Rattle.ir_verify.specs.Diagnostics.{broken_at}

@@ -1,8 +1,8 @@
 -- What is read stands for.
 use Rattle.std.specs.Prelude.{ℕ, Option, Some, option_map}
 use Rattle.ir_types.specs.Things.{Things}
-use Rattle.ir_types.specs.Terms.{TypeTerm, name_term, type_term, attr_term}
-use Rattle.ir_tree.specs.Tree.{OpOf, HeadOf, op, no_regions, head}
+use Rattle.ir_types.specs.Terms.{name_term, type_term, attr_term}
+use Rattle.ir_tree.specs.Tree.{op, no_regions, head}
 use Rattle.ir_tree.specs.Ids.{find}
 use Rattle.ir_tree.specs.Maps.{map_head}
 use Rattle.ir_tree.specs.Meaning.{Operation}
