@@ -1,12 +1,13 @@
 //! Rules that give a value for an operation's result.
 ghost use Rattle.std.specs.Prelude.{◌≡◌, IfOk, IfSome, option_map};
 ghost use Rattle.ir_types.specs.Things.{Things};
-ghost use Rattle.ir_event.specs.Modules.{module_in};
+ghost use Rattle.ir_event.specs.Modules.{NodeIsOf, module_in};
 ghost use Rattle.patterns_edits.specs.Lists.{AllFit, edits_meaning};
 ghost use Rattle.patterns_base.specs.Makes.{give};
-ghost use Rattle.patterns_base.specs.Folding.{rule_4, rule_5, rule_8, rule_15, rule_16};
+ghost use Rattle.patterns_base.specs.Folding.{rule_4, rule_5, rule_8, rule_15, rule_16, rule_17};
 ghost use Rattle.patterns_reads.specs.Reads.{bare_in};
 
+use crate::types::is_boolean;
 use crate::words::{ignores_one, ignores_zero, is_keeping};
 use ir_event::world::World;
 use ir_store::node::Node;
@@ -152,5 +153,36 @@ pub fn plan_16(
     };
     let chosen = if bits.value == 0 { p.third } else { p.second };
     let edits = give(alloc, op, chosen)?;
+    Ok(Some(edits))
+}
+
+/// A choice between true and false: the condition.
+pub fn plan_17(
+    alloc: Global,
+    world: &World,
+    front: &Place,
+    op: OpId,
+    node: &Node<'_>,
+) -> Result<Option<Vec<Edit>>, AllocError>
+    requires of { NodeIsOf world.now.ctx node.now }
+    ensures edits { IfOk result (λ p. option_map (λ es. edits_meaning world.now.ctx es.items) p ≡ rule_17 (module_in world.now).tree (module_in world.now).next front.now (bare_in world.now.ctx op node.now)) }
+    ensures fit { IfOk result (λ p. IfSome p (λ es. AllFit world.now.ctx es.items)) }
+{
+    let Some(p) = three_of(node) else {
+        return Ok(None);
+    };
+    if !world.ctx.is_word(p.name, Word::ArithSelect) {
+        return Ok(None);
+    }
+    if !is_boolean(&world.ctx, p.ty) {
+        return Ok(None);
+    }
+    if !is_number(alloc, world, 1, &p.second)? {
+        return Ok(None);
+    }
+    if !is_number(alloc, world, 0, &p.third)? {
+        return Ok(None);
+    }
+    let edits = give(alloc, op, p.first)?;
     Ok(Some(edits))
 }

@@ -3,4 +3,5 @@
 
 pub mod given;
 pub mod in_place;
+mod types;
 mod words;
