@@ -27,7 +27,7 @@ impl<L: Analysis> Bench<L> {
     /// Refusals: `NoSuchOp` where the place's parent isn't in the module; `NoSuchIndex` where that has no such place;
     /// `Full`; `IdsExhausted`; `TooDeepHere`; `NoSuchValue`; `NotVisible` where it wouldn't see an operand (Language
     /// Reference, "Regions", on value scoping); in this order; and `Memory`.
-    pub(crate) fn make(&mut self, place: Place, header: &TreeOp) -> Result<OpId, Refusal>
+    pub fn make(&mut self, place: Place, header: &TreeOp) -> Result<OpId, Refusal>
         requires sound { IsSoundIn self.old.desk.ctx header.now }
         requires bare { holds_none (Some header.now) ≡ true }
         ensures id { IfOk result (λ x. x ≡ self.old.desk.store.module_of.next) }

@@ -1,0 +1,7 @@
+//! The edits that rules make.
+#![tactic(auto)]
+
+pub mod given;
+pub mod in_place;
+mod types;
+mod words;

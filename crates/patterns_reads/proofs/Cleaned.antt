@@ -1,0 +1,88 @@
+-- Clean operations, and what is known of values.
+use Rattle.std.proofs.Common.{◌≡◌, refl, ap, sym, ◌∙◌, ℕ, List, Bool, true, false, ◌&&◌, Option, Some, None, option_map}
+use Rattle.std.specs.Prelude.{codes}
+use Rattle.std.specs.List.{list_all}
+use Rattle.ir_types.specs.Things.{Things}
+use Rattle.ir_types.specs.Words.{is_inherent}
+use Rattle.ir_types.specs.Terms.{AttrTerm, name_term}
+use Rattle.ir_tree.specs.declared.value.Value.{Value}
+use Rattle.ir_tree.specs.declared.value.Value.TheVariants.{Result}
+use Rattle.ir_tree.specs.Tree.{head}
+use Rattle.ir_tree.specs.Ids.{find}
+use Rattle.ir_tree.specs.Meaning.{Operation}
+use Rattle.ir_tree_laws.proofs.Members.{found_stands}
+use Rattle.dialects_int.specs.Folds.{Known, entries_of}
+use Rattle.patterns_laws.specs.Keeps.{given}
+use Rattle.patterns_laws.specs.Words.{named}
+use Rattle.ir_verify.specs.Diagnostics.{broken_at}
+use Rattle.patterns_base.specs.Looks.{Header, when, breaks_none, is_clean, giver, source, is_of_constant, is_constant, constant_value, known}
+use Rattle.ir_store.specs.Nodes.{Node}
+use Rattle.patterns_reads.specs.Reads.{head_at, head_in, clean_giver}
+
+clean_is : (t : Operation) (h : Header) → is_clean t h ≡ (breaks_none (broken_at h.id t) && list_all (λ (e : List ℕ × AttrTerm). is_inherent h.name e.0) h.properties)
+unfolding is_clean
+clean_is t h = refl
+
+known_is : (t : Operation) (v : Value) → known t v ≡ given (source t (codes "arith.constant") v) constant_value
+unfolding known
+known_is t v = refl
+
+-- one that breaks a rule, and one that doesn't
+pub not_clean : (t : Operation) (h : Header) (b : Bool) → b ≡ breaks_none (broken_at h.id t) → b ≡ false → false ≡ is_clean t h
+not_clean t h b e f = sym (clean_is t h ∙ ap (λ c. c && list_all (λ (e : List ℕ × AttrTerm). is_inherent h.name e.0) h.properties) (sym e ∙ f))
+
+pub as_inherent : (t : Operation) (h : Header) (b d : Bool) → b ≡ breaks_none (broken_at h.id t) → b ≡ true → d ≡ list_all (λ (e : List ℕ × AttrTerm). is_inherent h.name e.0) h.properties → d ≡ is_clean t h
+as_inherent t h b d e f g = sym (clean_is t h ∙ ap (λ c. c && list_all (λ (e : List ℕ × AttrTerm). is_inherent h.name e.0) h.properties) (sym e ∙ f) ∙ sym g)
+
+-- what is found has the id that it is found by
+own_id : (x : ℕ) (t : Operation) (h : Header) → Some h ≡ head_at x t → h.id ≡ x
+own_id x t h e = go (find x t) refl e
+  where
+    go : (o : Option Operation) → find x t ≡ o → Some h ≡ option_map (λ o. head o) o → h.id ≡ x
+    go None f e = absurd cc
+    go (Some o) f e = (let w = found_stands x t o f in let one : h ≡ head o = cc in ap (λ (z : Header). z.id) one ∙ ap (λ (z : Operation). (head z).id) (sym w.3) ∙ w.2)
+
+pub source_no : (t : Operation) (v : Value) (x k : ℕ) (h : Header) (b : Bool) → v ≡ Result x k → Some h ≡ head_at x t → b ≡ is_clean t (record h { id = x }) → b ≡ false → None ≡ clean_giver t v
+source_no t v x k h b e f g n = sym (ap (clean_giver t) e ∙ ap (λ o. given o (λ h. when (is_clean t h) (Some h))) (sym f) ∙ ap (λ c. when c (Some h)) (ap (λ i. is_clean t (record h { id = i })) (own_id x t h f) ∙ sym g ∙ n))
+
+pub source_yes : (t : Operation) (v : Value) (x k : ℕ) (h : Header) (b : Bool) → v ≡ Result x k → Some h ≡ head_at x t → b ≡ is_clean t (record h { id = x }) → b ≡ true → Some h ≡ clean_giver t v
+source_yes t v x k h b e f g n = sym (ap (clean_giver t) e ∙ ap (λ o. given o (λ h. when (is_clean t h) (Some h))) (sym f) ∙ ap (λ c. when c (Some h)) (ap (λ i. is_clean t (record h { id = i })) (own_id x t h f) ∙ sym g ∙ n))
+
+-- what is known
+pub known_not : (t : Operation) (v : Value) (b : Bool) → b ≡ is_constant t v → b ≡ false → None ≡ known t v
+known_not t v b e f = go (giver t v) (sym e ∙ f) ∙ sym (known_is t v)
+  where
+    go : (o : Option Header) → is_of_constant o ≡ false → None ≡ given (given o (λ h. when (named (codes "arith.constant") h.name && is_clean t h) (Some h))) constant_value
+    go None e = refl
+    go (Some h) e = sym (ap (λ c. given (when (c && is_clean t h) (Some h)) constant_value) e)
+
+pub known_some : (t : Operation) (v : Value) (b : Bool) (s : Option Header) (h : Header) (r : Option Known) → b ≡ is_constant t v → b ≡ true → s ≡ clean_giver t v → s ≡ Some h → r ≡ constant_value h → r ≡ known t v
+known_some t v b s h r e f g i k = go (giver t v) (sym e ∙ f) (sym g ∙ i) ∙ sym (known_is t v)
+  where
+    go : (o : Option Header) → is_of_constant o ≡ true → given o (λ h. when (is_clean t h) (Some h)) ≡ Some h → r ≡ given (given o (λ h. when (named (codes "arith.constant") h.name && is_clean t h) (Some h))) constant_value
+    go None e g = absurd cc
+    go (Some j) e g = k ∙ ap (λ q. given q constant_value) (sym g) ∙ ap (λ c. given (when (c && is_clean t j) (Some j)) constant_value) (sym e)
+
+pub known_none : (t : Operation) (v : Value) (b : Bool) (s : Option Header) → b ≡ is_constant t v → b ≡ true → s ≡ clean_giver t v → s ≡ None → None ≡ known t v
+known_none t v b s e f g i = go (giver t v) (sym e ∙ f) (sym g ∙ i) ∙ sym (known_is t v)
+  where
+    go : (o : Option Header) → is_of_constant o ≡ true → given o (λ h. when (is_clean t h) (Some h)) ≡ None → None ≡ given (given o (λ h. when (named (codes "arith.constant") h.name && is_clean t h) (Some h))) constant_value
+    go None e g = refl
+    go (Some j) e g = ap (λ q. given q constant_value) (sym g) ∙ ap (λ c. given (when (c && is_clean t j) (Some j)) constant_value) (sym e)
+
+-- the entries of a node
+pub inherent_in : (c : Things) (n : Node) (name : ℕ) (ps : List (ℕ × ℕ)) → name ≡ n.head.name → ps ≡ n.head.properties
+    → list_all (λ (e : List ℕ × AttrTerm). is_inherent (name_term c name) e.0) (entries_of c ps) ≡ list_all (λ (e : List ℕ × AttrTerm). is_inherent (head_in c n).name e.0) (head_in c n).properties
+inherent_in c n name ps e f = λ i. list_all (λ (q : List ℕ × AttrTerm). is_inherent (name_term c (e i)) q.0) (entries_of c (f i))
+
+-- a source by its name
+pub word_none : (t : Operation) (v : Value) (w : List ℕ) → None ≡ giver t v → None ≡ source t w v
+word_none t v w e = ap (λ o. given o (λ h. when (named w h.name && is_clean t h) (Some h))) e
+
+pub word_not : (t : Operation) (v : Value) (w : List ℕ) (h : Header) (b : Bool) → Some h ≡ giver t v → b ≡ named w h.name → b ≡ false → None ≡ source t w v
+word_not t v w h b e f g = sym (ap (λ o. given o (λ h. when (named w h.name && is_clean t h) (Some h))) (sym e) ∙ ap (λ c. when (c && is_clean t h) (Some h)) (sym f ∙ g))
+
+pub word_is : (t : Operation) (v : Value) (w : List ℕ) (h : Header) (b : Bool) (r : Option Header) → Some h ≡ giver t v → b ≡ named w h.name → b ≡ true → r ≡ clean_giver t v → r ≡ source t w v
+word_is t v w h b r e f g k =
+    k ∙ ap (λ o. given o (λ h. when (is_clean t h) (Some h))) (sym e)
+    ∙ sym (ap (λ o. given o (λ h. when (named w h.name && is_clean t h) (Some h))) (sym e) ∙ ap (λ c. when (c && is_clean t h) (Some h)) (sym f ∙ g))

@@ -1,0 +1,105 @@
+//! What is known of values.
+ghost use Rattle.std.specs.Prelude.{◌≡◌, IfOk, IfSome, option_map};
+ghost use Rattle.ir_event.specs.Modules.{NodeIsOf, module_in};
+ghost use Rattle.dialects_int.specs.Folds.{known_of};
+ghost use Rattle.ir_types.specs.WordNames.{word_bytes};
+ghost use Rattle.patterns_base.specs.Looks.{constant_value, is_known, is_number, known, source};
+ghost use Rattle.patterns_reads.specs.Reads.{clean_giver, head_in};
+
+use crate::clean::is_clean;
+use crate::look::{giver_node, is_constant, shown};
+use dialects_int::fold::fold;
+use ir_event::world::World;
+use ir_store::node::Node;
+use ir_tree::value::Value;
+use ir_types::bits::Bits;
+use ir_types::context::Context;
+use ir_types::word::Word;
+use std::alloc::{AllocError, Global};
+
+/// What a constant gives, of which this is shown.
+fn constant_bits(ctx: &Context, node: &Node<'_>) -> Option<Bits>
+    requires of { NodeIsOf ctx.now node.now }
+    ensures { known_of result ≡ constant_value (head_in ctx.now node.now) }
+{
+    fold(ctx, node.name(), node.properties(), &[], node.results())
+}
+
+/// What the operation has of which a value is a result, if that is clean.
+fn clean_giver<'a>(
+    alloc: Global,
+    world: &'a World,
+    value: &Value,
+) -> Result<Option<Node<'a>>, AllocError>
+    ensures node { IfOk result (λ n. option_map (head_in world.now.ctx) n ≡ clean_giver (module_in world.now).tree value.now) }
+    ensures of { IfOk result (λ n. IfSome n (NodeIsOf world.now.ctx)) }
+{
+    let Value::Result(op, _) = value else {
+        return Ok(None);
+    };
+    let Some(node) = shown(world, *op) else {
+        return Ok(None);
+    };
+    if !is_clean(alloc, world, *op, &node)? {
+        return Ok(None);
+    }
+    Ok(Some(node))
+}
+
+/// The same, if its name is a word.
+pub fn source<'a>(
+    alloc: Global,
+    world: &'a World,
+    word: Word,
+    value: &Value,
+) -> Result<Option<Node<'a>>, AllocError>
+    ensures node { IfOk result (λ n. option_map (head_in world.now.ctx) n ≡ source (module_in world.now).tree (word_bytes word) value.now) }
+    ensures of { IfOk result (λ n. IfSome n (NodeIsOf world.now.ctx)) }
+{
+    let Some(giver) = giver_node(world, value) else {
+        return Ok(None);
+    };
+    if !world.ctx.is_word(giver.name(), word) {
+        return Ok(None);
+    }
+    let node = clean_giver(alloc, world, value)?;
+    Ok(node)
+}
+
+/// What is known of a value.
+pub fn known(alloc: Global, world: &World, value: &Value) -> Result<Option<Bits>, AllocError>
+    ensures { IfOk result (λ k. known_of k ≡ known (module_in world.now).tree value.now) }
+{
+    if !is_constant(world, value) {
+        return Ok(None);
+    }
+    match clean_giver(alloc, world, value)? {
+        Some(node) => Ok(constant_bits(&world.ctx, &node)),
+        None => Ok(None),
+    }
+}
+
+/// Whether a value is known.
+pub fn is_known(alloc: Global, world: &World, value: &Value) -> Result<bool, AllocError>
+    ensures { IfOk result (λ b. b ≡ is_known (module_in world.now).tree value.now) }
+{
+    match known(alloc, world, value)? {
+        Some(_) => Ok(true),
+        None => Ok(false),
+    }
+}
+
+/// Whether a value is known to be a number, by its bits.
+pub fn is_number(
+    alloc: Global,
+    world: &World,
+    number: u128,
+    value: &Value,
+) -> Result<bool, AllocError>
+    ensures { IfOk result (λ b. b ≡ is_number (module_in world.now).tree number value.now) }
+{
+    match known(alloc, world, value)? {
+        Some(bits) => Ok(bits.value == number),
+        None => Ok(false),
+    }
+}

@@ -1,0 +1,164 @@
+-- Edits carried out one after another.
+use Rattle.std.proofs.Common.{◌≡◌, refl, ap, sym, ◌∙◌, subst, ℕ, List, [], ◌∷◌, ◌++◌, append_assoc, append-nil, Option, Some, None, Result, Ok, Err, ◌⊎◌, inl, inr, false, ◌<◌, ◌-◌, length, arith, get_or, take}
+use Rattle.std.proofs.lemmas.List.{take_all}
+use Rattle.std.specs.Prelude.{drop}
+use Rattle.ir_types.specs.Things.{Things}
+use Rattle.ir_types.specs.Sound.{Holds}
+use Rattle.ir_types.specs.declared.refusal.Refusal.{Refusal}
+use Rattle.ir_types.specs.declared.refusal.Refusal.TheVariants.{Memory}
+use Rattle.ir_event.specs.declared.event.Event.{Event}
+use Rattle.ir_event.specs.Listener.{Listener}
+use Rattle.ir_event.specs.Modules.{Module}
+use Rattle.rewriter_machine.specs.Contents.{Edit, all_edited, edit_meaning, edit_reason, edited}
+use Rattle.rewriter_machine.specs.Edits as edit
+use Rattle.rewriter_machine.specs.Machine.{State, Do, Step, Commit, Rollback, Reply, Done, DoneAs, Refused, Nothing, Answer, Goes, due_edit, accepted}
+use Rattle.rewriter_machine.proofs.Answers.{accepted_gives, refused_leaves}
+use Rattle.rewriter.specs.Benched.{Benched, Heard, Led, reply_of, state_of}
+use Rattle.rewriter.specs.Held.{module_held, open_marks}
+use Rattle.rewriter.proofs.Calls.{stepped, committed, rolled_back}
+use Rattle.patterns_edits.specs.declared.edit.Edit.{Edit as Coded}
+use Rattle.patterns_edits.specs.Lists.{AllFit, Fits, IsWhy, Tried, edits_meaning, numbered}
+use Rattle.patterns_runs.specs.Runs.{Along}
+
+-- ---- one edit
+
+-- why an edit was refused
+refused_why : (s t : State) (e : Edit) (r : Refusal) → Goes s (Do e) (Refused r) Nothing t → (r ≡ Memory) ⊎ (edit_reason e s.held ≡ Some r)
+refused_why s t e r g = elim g.answer [
+  | inl h ↦ inr (go (edit_reason e s.held) refl (ap (λ (a : Answer). a.reply) h))
+  | inr h ↦ inl (let n : Refused r ≡ Refused Memory = ap (λ (a : Answer). a.reply) h.1 in cc)
+]
+  where
+    taken : (e : Edit) (m : Module) (r : Refusal) → Refused r ≡ accepted e m → ⊥
+    taken (edit.Insert place o) m r h = absurd cc
+    taken (edit.Make place o) m r h = absurd cc
+    taken (edit.Erase x) m r h = absurd cc
+    taken (edit.Move x place) m r h = absurd cc
+    taken (edit.SetOperand x k v) m r h = absurd cc
+    taken (edit.Replace v w) m r h = absurd cc
+    taken (edit.SetAttr x k a) m r h = absurd cc
+    taken (edit.DropAttr x k) m r h = absurd cc
+
+    go : (o : Option Refusal) → edit_reason e s.held ≡ o → Refused r ≡ (due_edit o e s).reply → edit_reason e s.held ≡ Some r
+    go None is h = absurd (taken e s.held r h)
+    go (Some q) is h = (let n : q ≡ r = cc in is ∙ ap Some n)
+
+pub tried_by : {A : Type 0} (s t : State) (e : Edit) (result : Result A Refusal) (plain : Result (Unit {0}) Refusal) → Goes s (Do e) (reply_of result) Nothing t → reply_of plain ≡ reply_of result → Tried e plain s.held t.held × (t.marks ≡ s.marks)
+tried_by s t e (Ok a) (Ok u) g is = (let d = accepted_gives s t (Do e) Done Nothing g refl in ((d.0, d.1), d.2))
+tried_by s t e (Err r) (Err q) g is = (let d = refused_leaves s t (Do e) (Refused r) Nothing g refl in let n : r ≡ q = cc in ((elim (refused_why s t e r g) [ inl h ↦ inl (sym n ∙ h) | inr h ↦ inr (h ∙ ap Some n) ], d.0), d.1))
+tried_by s t e (Ok a) (Err q) g is = absurd cc
+tried_by s t e (Err r) (Ok u) g is = absurd cc
+
+pub made_by : (s t : State) (e : Edit) (x : ℕ) → Goes s (Do e) (DoneAs x) Nothing t → Tried e (Ok tt) s.held t.held × (t.marks ≡ s.marks)
+made_by s t e x g = (let d = accepted_gives s t (Do e) (DoneAs x) Nothing g refl in ((d.0, d.1), d.2))
+
+pub unmade_by : (s t : State) (e : Edit) (r : Refusal) → Goes s (Do e) (Refused r) Nothing t → Tried e (Err r) s.held t.held × (t.marks ≡ s.marks)
+unmade_by s t e r g = (let d = refused_leaves s t (Do e) (Refused r) Nothing g refl in ((refused_why s t e r g, d.0), d.1))
+
+module _ {B : Type 0} (meaning : B → Listener) where
+  -- ---- many
+
+  abbrev pub Composes : Type 0
+  Composes = (es fs : List Event) (a b c : Benched B) → Holds b.desk.ctx → Holds c.desk.ctx → Heard meaning es a b → Heard meaning fs b c → Heard meaning (es ++ fs) a c
+
+  pub along_on : Composes → (a b c : Benched B) → Holds a.desk.ctx → Along meaning a b → Along meaning b c → Along meaning a c
+  along_on more a b c holds p q = record {
+    ctx = q.ctx ∙ p.ctx;
+    opens = q.opens ∙ p.opens;
+    led = (p.led.0 ++ q.led.0, more p.led.0 q.led.0 a b c (subst Holds (sym p.ctx) holds) (subst Holds (sym (q.ctx ∙ p.ctx)) holds) p.led.1 q.led.1);
+  }
+
+  -- some were made, and some are left
+  pub record Carrying (all rest : List Coded) (a b : Benched B) : Type 0 where
+    pub done : List Coded
+    pub parts : done ++ rest ≡ all
+    pub held : module_held b.desk ≡ all_edited (edits_meaning a.desk.ctx done) (module_held a.desk)
+    pub fit : AllFit a.desk.ctx rest
+    pub along : Along meaning a b
+
+  all_edited_more : (es fs : List Edit) (m : Module) → all_edited (es ++ fs) m ≡ all_edited fs (all_edited es m)
+  all_edited_more [] fs m = refl
+  all_edited_more (e ∷ es) fs m = all_edited_more es fs (edited e m)
+
+  edits_of_more : (c : Things) (es fs : List Coded) → edits_meaning c (es ++ fs) ≡ edits_meaning c es ++ edits_meaning c fs
+  edits_of_more c [] fs = refl
+  edits_of_more c (e ∷ es) fs = ap (λ l. edit_meaning c (numbered e) ∷ l) (edits_of_more c es fs)
+
+  pub carrying_none : ((z : Benched B) → Heard meaning [] z z) → (all : List Coded) (a : Benched B) → AllFit a.desk.ctx all → Carrying all all a a
+  carrying_none none all a fit = record { done = []; parts = refl; held = refl; fit = fit; along = record { ctx = refl; opens = refl; led = ([], none a) } }
+
+  pub fits_next : (all rest : List Coded) (e : Coded) (a b : Benched B) → Carrying all (e ∷ rest) a b → Fits b.desk.ctx e
+  fits_next all rest e a b c = subst (λ z. Fits z e) (sym c.along.ctx) c.fit.0
+
+  pub carrying_more : Composes → (all rest : List Coded) (e : Coded) (a b d : Benched B) → Holds a.desk.ctx → Carrying all (e ∷ rest) a b → Tried (edit_meaning b.desk.ctx (numbered e)) (Ok tt) (module_held b.desk) (module_held d.desk) → Along meaning b d → Carrying all rest a d
+  carrying_more more all rest e a b d holds c tried along = record {
+    done = c.done ++ e ∷ [];
+    parts = append_assoc c.done (e ∷ []) rest ∙ c.parts;
+    held = tried.1 ∙ (λ i. edited (edit_meaning (c.along.ctx i) (numbered e)) (c.held i)) ∙ sym (ap (λ l. all_edited l (module_held a.desk)) (edits_of_more a.desk.ctx c.done (e ∷ [])) ∙ all_edited_more (edits_meaning a.desk.ctx c.done) (edit_meaning a.desk.ctx (numbered e) ∷ []) (module_held a.desk));
+    fit = c.fit.1;
+    along = along_on more a b d holds c.along along;
+  }
+
+  pub carrying_done : (all : List Coded) (a b : Benched B) → Carrying all [] a b → module_held b.desk ≡ all_edited (edits_meaning a.desk.ctx all) (module_held a.desk)
+  carrying_done all a b c = c.held ∙ ap (λ l. all_edited (edits_meaning a.desk.ctx l) (module_held a.desk)) (sym (append-nil c.done) ∙ c.parts)
+
+  pub carrying_why : (all rest : List Coded) (e : Coded) (r : Refusal) (a b d : Benched B) → Carrying all (e ∷ rest) a b → Tried (edit_meaning b.desk.ctx (numbered e)) (Err r) (module_held b.desk) (module_held d.desk) → IsWhy (edits_meaning a.desk.ctx all) (module_held a.desk) r
+  carrying_why all rest e r a b d c tried = elim tried.0 [
+    | inl h ↦ inl h
+    | inr h ↦ inr (record {
+      made = edits_meaning a.desk.ctx c.done;
+      refused = edit_meaning a.desk.ctx (numbered e);
+      rest = edits_meaning a.desk.ctx rest;
+      parts = sym (edits_of_more a.desk.ctx c.done (e ∷ rest)) ∙ ap (edits_meaning a.desk.ctx) c.parts;
+      why = (λ i. edit_reason (edit_meaning (sym c.along.ctx i) (numbered e)) (sym c.held i)) ∙ h;
+    })
+  ]
+
+  -- a step was begun, and is closed again
+  pub record Begun (a b : Benched B) : Type 0 where
+    pub ctx : b.desk.ctx ≡ a.desk.ctx
+    pub goes : Goes (state_of meaning a) Step Done Nothing (state_of meaning b)
+    pub led : Led meaning a b
+
+  pub record Closed (b c : Benched B) : Type 0 where
+    pub ctx : c.desk.ctx ≡ b.desk.ctx
+    pub led : Led meaning b c
+
+  led_on : Composes → (a b c : Benched B) → Holds a.desk.ctx → b.desk.ctx ≡ a.desk.ctx → c.desk.ctx ≡ a.desk.ctx → Led meaning a b → Led meaning b c → Led meaning a c
+  led_on more a b c holds p q h k = (h.0 ++ k.0, more h.0 k.0 a b c (subst Holds (sym p) holds) (subst Holds (sym q) holds) h.1 k.1)
+
+  module _ (more : Composes) (a b c d : Benched B) (holds : Holds a.desk.ctx) (begun : Begun a b) (went : Along meaning b c) (closed : Closed c d) where
+    newest : open_marks c.desk ≡ record { marked = module_held a.desk; counted = false } ∷ open_marks a.desk
+    newest = went.opens ∙ (stepped (state_of meaning a) (state_of meaning b) begun.goes).1
+
+    led_all : Led meaning a d
+    led_all =
+        led_on more a c d holds (went.ctx ∙ begun.ctx) (closed.ctx ∙ went.ctx ∙ begun.ctx)
+        (led_on more a b c holds begun.ctx (went.ctx ∙ begun.ctx) begun.led went.led) closed.led
+
+    pub kept_along : (reply : Reply) → Goes (state_of meaning c) Commit reply Nothing (state_of meaning d) → Along meaning a d
+    kept_along reply g = record { ctx = closed.ctx ∙ went.ctx ∙ begun.ctx; opens = (committed (state_of meaning c) (state_of meaning d) reply _ _ newest g).1; led = led_all }
+
+    pub kept_held : (reply : Reply) → Goes (state_of meaning c) Commit reply Nothing (state_of meaning d) → (es : List Coded) → module_held c.desk ≡ all_edited (edits_meaning b.desk.ctx es) (module_held b.desk) → module_held d.desk ≡ all_edited (edits_meaning a.desk.ctx es) (module_held a.desk)
+    kept_held reply g es e = (committed (state_of meaning c) (state_of meaning d) reply _ _ newest g).0 ∙ e ∙ λ i. all_edited (edits_meaning (begun.ctx i) es) ((stepped (state_of meaning a) (state_of meaning b) begun.goes).0 i)
+
+    pub undone_along : (reply : Reply) → Goes (state_of meaning c) Rollback reply Nothing (state_of meaning d) → Along meaning a d
+    undone_along reply g = record { ctx = closed.ctx ∙ went.ctx ∙ begun.ctx; opens = (rolled_back (state_of meaning c) (state_of meaning d) reply _ _ newest g).1; led = led_all }
+
+    pub undone_held : (reply : Reply) → Goes (state_of meaning c) Rollback reply Nothing (state_of meaning d) → module_held d.desk ≡ module_held a.desk
+    undone_held reply g = (rolled_back (state_of meaning c) (state_of meaning d) reply _ _ newest g).0
+
+  pub begun_why : (a b : Benched B) (begun : Begun a b) (es : List Coded) (r : Refusal) → IsWhy (edits_meaning b.desk.ctx es) (module_held b.desk) r → IsWhy (edits_meaning a.desk.ctx es) (module_held a.desk) r
+  begun_why a b begun es r w = subst (λ (p : List Edit × Module). IsWhy p.0 p.1 r) (λ i. (edits_meaning (begun.ctx i) es, (stepped (state_of meaning a) (state_of meaning b) begun.goes).0 i)) w
+
+  pub begun_fit : (a b : Benched B) (begun : Begun a b) (es : List Coded) → AllFit a.desk.ctx es → AllFit b.desk.ctx es
+  begun_fit a b begun es f = subst (λ c. AllFit c es) (sym begun.ctx) f
+
+-- a list that isn't empty
+pub uncons : {X : Type 0} (rest : List X) (e d : X) → 0 < length rest → e ≡ get_or rest 0 d → rest ≡ e ∷ take (length rest - 1) (drop 1 rest)
+uncons [] e d l h = absurd (omega (arith, h))
+uncons (x ∷ xs) e d l h = (λ i. sym h i ∷ sym (take_all (length (x ∷ xs) - 1) xs (omega arith)) i)
+
+pub none_left : {A : Type 0} (xs : List A) → length xs < 1 → xs ≡ []
+none_left [] h = refl
+none_left (x ∷ xs) h = absurd (omega (arith, h))

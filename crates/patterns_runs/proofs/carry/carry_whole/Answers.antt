@@ -1,0 +1,12 @@
+use Rattle.patterns_runs.proofs.Carrying.{kept_along, undone_along}
+use Rattle.patterns_runs.proofs.carry.carry_whole.Goals as goal
+
+pub returns-in-Ok-clause-along : goal.returns-in-Ok-clause-along
+returns-in-Ok-clause-along g c =
+    kept_along g.L.Analysis.meaning c.led_benches_are_kept.ensures.more c.args.bench.now c.step.new.self c.carry.new.bench c.commit.new.self c.is_formed.ensures.context.holds
+    (record { ctx = c.step.ensures.ctx; goes = c.in_default.ensures.does; led = c.step.ensures.led }) c.in-Ok.ensures.along (record { ctx = c.commit.ensures.ctx; led = c.commit.ensures.led }) _ c.commit.ensures.does
+
+pub returns-in-Err-carry-clause-along : goal.returns-in-Err-carry-clause-along
+returns-in-Err-carry-clause-along g c =
+    undone_along g.L.Analysis.meaning c.led_benches_are_kept.ensures.more c.args.bench.now c.step.new.self c.carry.new.bench c.rollback.new.self c.is_formed.ensures.context.holds
+    (record { ctx = c.step.ensures.ctx; goes = c.in_default.ensures.does; led = c.step.ensures.led }) c.in-Err-carry.ensures.along (record { ctx = c.rollback.ensures.ctx; led = c.rollback.ensures.led }) _ c.rollback.ensures.does

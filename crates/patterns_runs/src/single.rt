@@ -1,0 +1,94 @@
+//! One edit.
+ghost use Rattle.std.specs.Prelude.{◌≡◌, true, Some};
+ghost use Rattle.ir_types.specs.Things.{IsName, IsAttr};
+ghost use Rattle.ir_tree.specs.Meaning.{IsSoundIn};
+ghost use Rattle.ir_tree_laws.specs.Reasons.{holds_none};
+ghost use Rattle.rewriter.specs.Held.{module_held};
+ghost use Rattle.rewriter_machine.specs.Contents.{edit_meaning};
+ghost use Rattle.rewriter_machine.specs.Edits as edit;
+ghost use Rattle.patterns_edits.specs.Lists.{Fits, Tried, numbered};
+ghost use Rattle.patterns_runs.specs.Runs.{Along};
+
+use ir_event::analysis::Analysis;
+use ir_tree::place::Place;
+use ir_tree::tree::TreeOp;
+use ir_tree::value::Value;
+use ir_types::ids::{AttrId, NameId, OpId};
+use ir_types::refusal::Refusal;
+use patterns_edits::edit::Edit;
+use rewriter::Bench;
+
+fn make_one<L: Analysis>(bench: &mut Bench<L>, place: Place, op: &TreeOp) -> Result<(), Refusal>
+    requires sound { IsSoundIn bench.old.desk.ctx op.now }
+    requires bare { holds_none (Some op.now) ≡ true }
+    ensures tried { Tried (edit_meaning bench.old.desk.ctx (edit.Make place op.now)) result (module_held bench.old.desk) (module_held bench.new.desk) }
+    ensures along { Along L.meaning bench.old bench.new }
+{
+    match bench.make(place, op) {
+        Ok(_) => Ok(()),
+        Err(refusal) => Err(refusal),
+    }
+}
+
+fn set_one<L: Analysis>(
+    bench: &mut Bench<L>,
+    op: OpId,
+    operand: u32,
+    value: Value,
+) -> Result<(), Refusal>
+    ensures tried { Tried (edit_meaning bench.old.desk.ctx (edit.SetOperand op operand value)) result (module_held bench.old.desk) (module_held bench.new.desk) }
+    ensures along { Along L.meaning bench.old bench.new }
+{
+    bench.set_operand(op, operand, value)
+}
+
+fn replace_one<L: Analysis>(bench: &mut Bench<L>, old: Value, new: Value) -> Result<(), Refusal>
+    ensures tried { Tried (edit_meaning bench.old.desk.ctx (edit.Replace old new)) result (module_held bench.old.desk) (module_held bench.new.desk) }
+    ensures along { Along L.meaning bench.old bench.new }
+{
+    bench.replace_all(old, new)
+}
+
+fn move_one<L: Analysis>(bench: &mut Bench<L>, op: OpId, place: Place) -> Result<(), Refusal>
+    ensures tried { Tried (edit_meaning bench.old.desk.ctx (edit.Move op place)) result (module_held bench.old.desk) (module_held bench.new.desk) }
+    ensures along { Along L.meaning bench.old bench.new }
+{
+    bench.move_op(op, place)
+}
+
+fn erase_one<L: Analysis>(bench: &mut Bench<L>, op: OpId) -> Result<(), Refusal>
+    ensures tried { Tried (edit_meaning bench.old.desk.ctx (edit.Erase op)) result (module_held bench.old.desk) (module_held bench.new.desk) }
+    ensures along { Along L.meaning bench.old bench.new }
+{
+    bench.erase(op)
+}
+
+fn enter_one<L: Analysis>(
+    bench: &mut Bench<L>,
+    op: OpId,
+    key: NameId,
+    attr: AttrId,
+) -> Result<(), Refusal>
+    requires key { IsName bench.old.desk.ctx key }
+    requires attr { IsAttr bench.old.desk.ctx attr }
+    ensures tried { Tried (edit_meaning bench.old.desk.ctx (edit.SetAttr op key attr)) result (module_held bench.old.desk) (module_held bench.new.desk) }
+    ensures along { Along L.meaning bench.old bench.new }
+{
+    bench.set_attr(op, key, attr)
+}
+
+/// Makes one edit, or leaves all as it was.
+pub(crate) fn carry_one<L: Analysis>(bench: &mut Bench<L>, edit: &Edit) -> Result<(), Refusal>
+    requires fits { Fits bench.old.desk.ctx edit.now }
+    ensures tried { Tried (edit_meaning bench.old.desk.ctx (numbered edit.now)) result (module_held bench.old.desk) (module_held bench.new.desk) }
+    ensures along { Along L.meaning bench.old bench.new }
+{
+    match edit {
+        Edit::Make { place, op } => make_one(bench, *place, op),
+        Edit::SetOperand { op, operand, value } => set_one(bench, *op, *operand, *value),
+        Edit::Replace { old, new } => replace_one(bench, *old, *new),
+        Edit::Move { op, place } => move_one(bench, *op, *place),
+        Edit::Erase { op } => erase_one(bench, *op),
+        Edit::SetAttr { op, key, attr } => enter_one(bench, *op, *key, *attr),
+    }
+}
