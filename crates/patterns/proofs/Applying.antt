@@ -11,16 +11,16 @@ use Rattle.ir_tree.proofs.Mapped.{map_ids}
 use Rattle.ir_tree_laws.proofs.Contents.{map_has_id}
 use Rattle.ir_event.specs.Modules.{Module, module_in, module_meaning}
 use Rattle.ir_event.specs.declared.world.World.{World}
-use Rattle.rewriter.specs.Held.{Held, module_held}
+use Rattle.patterns_runs.specs.Held.{Held, module_held}
 use Rattle.ir_event.specs.Listener.{Listener}
-use Rattle.rewriter.specs.Benched.{Benched, Heard}
+use Rattle.patterns_runs.specs.Benched.{Benched, Heard}
 use Rattle.patterns_runs.specs.Runs.{Along}
-use Rattle.rewriter_machine.specs.Contents.{Edit, all_edited}
-use Rattle.patterns_edits.specs.declared.edit.Edit.{Edit as Coded}
-use Rattle.patterns_edits.specs.declared.edit.Edit.TheVariants as coded
-use Rattle.patterns_edits.specs.Lists.{edits_meaning}
-use Rattle.patterns_base.specs.Makes.{made_by}
-use Rattle.patterns_base.specs.Rewrites.{refused, becomes, edits_of, rewrite_of, rewrite_by, carried_out}
+use Rattle.patterns_runs.specs.Contents.{Edit, all_edited}
+use Rattle.patterns_runs.specs.Edit.{Edit as Coded}
+use Rattle.patterns_runs.specs.Edit.TheVariants as coded
+use Rattle.patterns_runs.specs.Lists.{edits_meaning}
+use Rattle.patterns_plans.specs.Makes.{made_by}
+use Rattle.patterns_plans.specs.Rewrites.{refused, becomes, edits_of, rewrite_of, rewrite_by, carried_out}
 use Rattle.patterns.specs.Applied.{Gave, IsReason, IsRefusedSo, all_make}
 
 rewrite_is : (r : ℕ) (m : Module) (x : ℕ) → rewrite_of r m x ≡ rewrite_by (edits_of r m x) m

@@ -6,12 +6,12 @@ use Rattle.ir_tree.specs.Ids.{find}
 use Rattle.ir_tree.specs.Meaning.{Operation}
 use Rattle.ir_tree_laws.proofs.Members.{found_stands}
 use Rattle.ir_event.specs.Modules.{Module}
-use Rattle.rewriter_machine.specs.Contents.{Edit}
-use Rattle.patterns_laws.specs.Keeps.{given}
-use Rattle.patterns_base.specs.Looks.{Header, when, is_clean, front_of}
-use Rattle.patterns_base.specs.Rules.{rule}
-use Rattle.patterns_base.specs.Rewrites.{edits_of}
-use Rattle.patterns_reads.specs.Reads.{head_at}
+use Rattle.patterns_runs.specs.Contents.{Edit}
+use Rattle.patterns_plans.specs.Keeps.{given}
+use Rattle.patterns_plans.specs.Looks.{Header, when, is_clean, front_of}
+use Rattle.patterns_plans.specs.Rules.{rule}
+use Rattle.patterns_plans.specs.Rewrites.{edits_of}
+use Rattle.patterns_plans.specs.Reads.{head_at}
 use Rattle.patterns.specs.Applied.{IsWritten}
 
 edits_are : (r : ℕ) (m : Module) (x : ℕ) → edits_of r m x ≡ given (find x m.tree) (λ o. given (front_of x m.tree) (λ front. when (is_clean m.tree (head o)) (rule r m.tree m.next front o)))

@@ -1,18 +1,18 @@
 //! Applying a rule.
 ghost use Rattle.std.specs.Prelude.{◌≡◌, ◌≤◌, IfOk, IfErr, OnErr, length};
-ghost use Rattle.rewriter.specs.Held.{module_held, open_marks};
+ghost use Rattle.patterns_runs.specs.Held.{module_held, open_marks};
 ghost use Rattle.patterns_runs.specs.Runs.{Along};
-ghost use Rattle.patterns_base.specs.Rewrites.{rewrite_of};
+ghost use Rattle.patterns_plans.specs.Rewrites.{rewrite_of};
 ghost use Rattle.patterns.specs.Applied.{Gave, IsReason, IsWritten, all_make, makes};
 
 use crate::plan::plan_at;
 use ir_event::analysis::Analysis;
 use ir_types::ids::OpId;
 use ir_types::refusal::Refusal;
-use patterns_edits::edit::Edit;
+use patterns_runs::Bench;
 use patterns_runs::carry::carry_whole;
-use rewriter::Bench;
-use rewriter::laws::led_benches_are_kept;
+use patterns_runs::edit::Edit;
+use patterns_runs::laws::led_benches_are_kept;
 use std::alloc::Global;
 
 /// How many operations an edit makes.

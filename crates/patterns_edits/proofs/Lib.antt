@@ -10,3 +10,4 @@ pub mod Moved
 pub mod Body
 pub mod Free
 pub mod Plans
+pub use Rattle.rewriter_machine.proofs.Answers

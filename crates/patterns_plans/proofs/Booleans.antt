@@ -4,7 +4,7 @@ use Rattle.ir_types.specs.Terms.{TypeTerm, Integer, Index, Function, Memref}
 use Rattle.ir_types.specs.declared.node.Sign.TheVariants.{Signless, Signed, Unsigned}
 use Rattle.ir_types.specs.SameTypes.{same_type}
 use Rattle.ir_verify_base.specs.Types.{is_boolean}
-use Rattle.patterns_laws.specs.Made.{i1}
+use Rattle.patterns_reads.specs.Made.{i1}
 
 pub boolean_is : (ty : TypeTerm) → is_boolean ty ≡ same_type ty i1
 boolean_is (Integer Signless w) = refl

@@ -3,8 +3,8 @@ ghost use Rattle.std.specs.Prelude.{◌≡◌, IfOk, IfSome, option_map};
 ghost use Rattle.ir_types.specs.Things.{Things};
 ghost use Rattle.ir_event.specs.Modules.{NodeIsOf, module_in};
 ghost use Rattle.patterns_edits.specs.Lists.{AllFit, edits_meaning};
-ghost use Rattle.patterns_base.specs.Makes.{give};
-ghost use Rattle.patterns_base.specs.Folding.{rule_4, rule_5, rule_8, rule_15, rule_16, rule_17};
+ghost use Rattle.patterns_reads.specs.Makes.{give};
+ghost use Rattle.patterns_reads.specs.Folding.{rule_4, rule_5, rule_8, rule_15, rule_16, rule_17};
 ghost use Rattle.patterns_reads.specs.Reads.{bare_in};
 
 use crate::types::is_boolean;

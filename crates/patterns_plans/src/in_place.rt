@@ -2,7 +2,7 @@
 ghost use Rattle.std.specs.Prelude.{◌≡◌, IfOk, IfSome, option_map};
 ghost use Rattle.ir_event.specs.Modules.{module_in};
 ghost use Rattle.patterns_edits.specs.Lists.{AllFit, edits_meaning};
-ghost use Rattle.patterns_base.specs.Folding.{rule_3, rule_18};
+ghost use Rattle.patterns_reads.specs.Folding.{rule_3, rule_18};
 ghost use Rattle.patterns_reads.specs.Reads.{bare_in};
 
 use crate::words::is_swapping;

@@ -5,3 +5,5 @@ pub mod given;
 pub mod in_place;
 mod types;
 mod words;
+
+pub use patterns_reads::{clean, look};

@@ -3,7 +3,7 @@ ghost use Rattle.std.specs.Prelude.{◌≡◌};
 ghost use Rattle.ir_types.specs.Things.{IsType};
 ghost use Rattle.ir_types.specs.Terms.{type_term};
 ghost use Rattle.ir_types.specs.SameTypes.{same_type};
-ghost use Rattle.patterns_laws.specs.Made.{i1};
+ghost use Rattle.patterns_reads.specs.Made.{i1};
 
 use ir_types::context::Context;
 use ir_types::ids::TypeId;

@@ -12,9 +12,9 @@ use Rattle.ir_tree.specs.Ids.{find}
 use Rattle.ir_tree.specs.Meaning.{Operation}
 use Rattle.ir_tree_laws.proofs.Members.{found_stands}
 use Rattle.dialects_int.specs.Folds.{Known, entries_of}
-use Rattle.patterns_laws.specs.Keeps.{given}
-use Rattle.patterns_laws.specs.Words.{named}
-use Rattle.ir_verify.specs.Diagnostics.{broken_at}
+use Rattle.patterns_base.specs.Keeps.{given}
+use Rattle.patterns_base.specs.Words.{named}
+use Rattle.patterns_base.specs.Diagnostics.{broken_at}
 use Rattle.patterns_base.specs.Looks.{Header, when, breaks_none, is_clean, giver, source, is_of_constant, is_constant, constant_value, known}
 use Rattle.ir_store.specs.Nodes.{Node}
 use Rattle.patterns_reads.specs.Reads.{head_at, head_in, clean_giver}

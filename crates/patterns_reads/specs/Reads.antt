@@ -8,7 +8,7 @@ use Rattle.ir_tree.specs.Maps.{map_head}
 use Rattle.ir_tree.specs.Meaning.{Operation}
 use Rattle.ir_store.specs.Nodes.{Node}
 use Rattle.ir_tree.specs.declared.value.Value.{Value}
-use Rattle.patterns_laws.specs.Keeps.{given}
+use Rattle.patterns_base.specs.Keeps.{given}
 use Rattle.patterns_base.specs.Looks.{Header, One, Two, Three, giver, is_clean, when}
 use Rattle.patterns_reads.specs.declared.shapes.Single.{Single}
 use Rattle.patterns_reads.specs.declared.shapes.Pair.{Pair}

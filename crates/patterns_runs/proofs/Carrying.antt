@@ -9,10 +9,10 @@ use Rattle.ir_types.specs.declared.refusal.Refusal.TheVariants.{Memory}
 use Rattle.ir_event.specs.declared.event.Event.{Event}
 use Rattle.ir_event.specs.Listener.{Listener}
 use Rattle.ir_event.specs.Modules.{Module}
-use Rattle.rewriter_machine.specs.Contents.{Edit, all_edited, edit_meaning, edit_reason, edited}
-use Rattle.rewriter_machine.specs.Edits as edit
-use Rattle.rewriter_machine.specs.Machine.{State, Do, Step, Commit, Rollback, Reply, Done, DoneAs, Refused, Nothing, Answer, Goes, due_edit, accepted}
-use Rattle.rewriter_machine.proofs.Answers.{accepted_gives, refused_leaves}
+use Rattle.patterns_edits.specs.Contents.{Edit, all_edited, edit_meaning, edit_reason, edited}
+use Rattle.patterns_edits.specs.Edits as edit
+use Rattle.patterns_edits.specs.Machine.{State, Do, Step, Commit, Rollback, Reply, Done, DoneAs, Refused, Nothing, Answer, Goes, due_edit, accepted}
+use Rattle.patterns_edits.proofs.Answers.{accepted_gives, refused_leaves}
 use Rattle.rewriter.specs.Benched.{Benched, Heard, Led, reply_of, state_of}
 use Rattle.rewriter.specs.Held.{module_held, open_marks}
 use Rattle.rewriter.proofs.Calls.{stepped, committed, rolled_back}

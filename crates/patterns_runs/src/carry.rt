@@ -1,6 +1,6 @@
 //! Edits, carried out one after another.
 ghost use Rattle.std.specs.Prelude.{◌≡◌, OnOk, OnErr, IfErr};
-ghost use Rattle.rewriter_machine.specs.Contents.{all_edited};
+ghost use Rattle.patterns_edits.specs.Contents.{all_edited};
 ghost use Rattle.rewriter.specs.Held.{module_held};
 ghost use Rattle.patterns_edits.specs.Lists.{AllFit, IsWhy, edits_meaning};
 ghost use Rattle.patterns_runs.specs.Runs.{Along};

@@ -4,8 +4,8 @@ ghost use Rattle.ir_types.specs.Things.{IsName, IsAttr};
 ghost use Rattle.ir_tree.specs.Meaning.{IsSoundIn};
 ghost use Rattle.ir_tree_laws.specs.Reasons.{holds_none};
 ghost use Rattle.rewriter.specs.Held.{module_held};
-ghost use Rattle.rewriter_machine.specs.Contents.{edit_meaning};
-ghost use Rattle.rewriter_machine.specs.Edits as edit;
+ghost use Rattle.patterns_edits.specs.Contents.{edit_meaning};
+ghost use Rattle.patterns_edits.specs.Edits as edit;
 ghost use Rattle.patterns_edits.specs.Lists.{Fits, Tried, numbered};
 ghost use Rattle.patterns_runs.specs.Runs.{Along};
 

@@ -1,7 +1,7 @@
 use Rattle.std.proofs.Common.{◌∙◌, refl, ap, sym, inl}
-use Rattle.rewriter_machine.specs.Contents.{all_edited}
-use Rattle.rewriter.specs.Held.{module_held}
-use Rattle.patterns_edits.specs.Lists.{edits_meaning}
+use Rattle.patterns_runs.specs.Contents.{all_edited}
+use Rattle.patterns_runs.specs.Held.{module_held}
+use Rattle.patterns_runs.specs.Lists.{edits_meaning}
 use Rattle.patterns.proofs.Applying.{along_none, not_there, was_none, was_full, was_long, was_done}
 use Rattle.patterns.proofs.apply.apply.Goals as goal
 

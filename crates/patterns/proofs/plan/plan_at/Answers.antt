@@ -1,8 +1,8 @@
 use Rattle.std.proofs.Common.{option_map}
 use Rattle.ir_event.specs.Modules.{module_in}
-use Rattle.patterns_edits.specs.Lists.{edits_meaning}
+use Rattle.patterns_runs.specs.Lists.{edits_meaning}
 use Rattle.std.proofs.lemmas.Result.{IfOk-weaker}
-use Rattle.patterns_reads.specs.Reads.{head_in}
+use Rattle.patterns_plans.specs.Reads.{head_in}
 use Rattle.patterns.proofs.Planned.{none_there, none_front, none_clean, by_rule}
 use Rattle.patterns.proofs.plan.plan_at.Goals as goal
 
