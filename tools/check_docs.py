@@ -1,10 +1,12 @@
 #!/usr/bin/env python3
-"""Checks README.md, docs/*.md and crates/*/README.md:
+"""Checks README.md, docs/*.md, crates/*/README.md and bench/wrong_bodies/README.md:
 
   - each path of a file, a folder or a crate in backticks is there (NAME, CRATE and their like stand for any);
   - a line has at most 120 columns, a cell of a table at most 200 (a row of a table can't be broken);
   - docs/MAP.md names each crate of crates/, and crates.txt no other; the picture of docs/ARCHITECTURE.md has each but
-    those of cases.
+    those of cases;
+  - bench/wrong_bodies/README.md lists each edit that the prover must refuse, and docs/PROMISES.md says how many there
+    are, and names in its last column no other.
 
 It lists the lines with "yet", "at present" and "so far": what they say is to be looked at whenever something lands.
 
@@ -20,7 +22,10 @@ PATH = re.compile(r"[\w.{},*/-]+")
 ENDINGS = {".md", ".py", ".sh", ".rt", ".antt", ".txt", ".c", ".edit", ".mlir", ".script", ".out"}
 INSIDE = {"src", "specs", "proofs", "must-fail"}
 PLACEHOLDER = re.compile(r"\b(NAME|CRATE|MODULE|FUNCTION|FILE|FOLDER|OLD|NEW|WORD)\b")
+NO_EDITS = {"with_capacity"}  # a function that the table of planted bodies names
+ROW_OF_EDIT = re.compile(r"^\| `(\w+)` \| `(\w+)` \|", re.MULTILINE)
 root = pathlib.Path()
+WRONG_BODIES = root / "bench/wrong_bodies"
 crates = {path.name for path in (root / "crates").iterdir() if path.is_dir()}
 
 
@@ -54,6 +59,7 @@ def pages():
     yield root / "README.md"
     yield from sorted((root / "docs").glob("*.md"))
     yield from sorted((root / "crates").glob("*/README.md"))
+    yield WRONG_BODIES / "README.md"
 
 
 def wrong_in(page):
@@ -86,9 +92,26 @@ def crates_apart():
     yield from (f"crates.txt: {name} is listed, or there, alone" for name in sorted(crates ^ listed))
 
 
+def edits_apart():
+    """Where the pages have other edits than there are."""
+    tried = {(path.parts[-3], path.stem) for path in root.glob("crates/*/must-fail/*.edit")}
+    kept = {(path.parts[-2], path.stem) for path in WRONG_BODIES.glob("*/*.edit")}
+    lists = (WRONG_BODIES / "README.md").read_text().split("## Here")
+    for there, rows in zip((tried, kept), lists):
+        for crate, name in sorted(there ^ set(ROW_OF_EDIT.findall(rows))):
+            yield f"{WRONG_BODIES}/README.md: {crate}/{name} is listed, or there, alone"
+    promises = (root / "docs/PROMISES.md").read_text()
+    if f"Of {len(tried | kept)} wrong bodies the gate tries {len(tried)}" not in promises:
+        yield f"docs/PROMISES.md: there are {len(tried | kept)} wrong bodies, of which the gate tries {len(tried)}"
+    named = {name for line in promises.splitlines() if line.startswith("|") and line.count("|") == 4
+             for name in re.findall(r"`(\w+)`", line.split("|")[3])}
+    names = {name for _, name in tried | kept}
+    yield from (f"docs/PROMISES.md: {name} is no edit" for name in sorted(named - names - NO_EDITS))
+
+
 def main():
     found = [it for page in pages() for it in wrong_in(page)]
-    wrong = [text for is_wrong, text in found if is_wrong] + list(crates_apart())
+    wrong = [text for is_wrong, text in found if is_wrong] + list(crates_apart()) + list(edits_apart())
     for text in wrong:
         print(text)
     for text in (text for is_wrong, text in found if not is_wrong):
