@@ -556,6 +556,17 @@ def examples():
         run("brief", file.with_suffix(".mlir").read_bytes() + DIVIDER + file.read_bytes(), status, out, script.BOXES)
 
 
+def over_limits():
+    """The texts of commands that pass a limit: of regions, of results, of entries."""
+    regions = b", ".join([b"{}"] * 17)
+    entries = b", ".join(b"k%d" % number for number in range(257))
+    for line in (b'insert end #0 0 "a"() (' + regions + b") : () -> ()", b'insert end #0 0 %a:257 = "a"() : () -> ()', b"set-attr #0 x {" + entries + b"}"):
+        text = DIVIDER + line + b"\nprint\n"
+        status, out = script.run(text, True, BOXES, script.ALL)
+        assert out.startswith(b"1 refused 11 TooMany at "), out
+        run("brief", text, status, out)
+
+
 def refused():
     """Each input of docs/REFUSALS.md."""
     for text, answer, _ in refusals.rows():
@@ -583,7 +594,7 @@ def analyses(kinds, text, brief=True):
 
 
 print("seeds", analyses_cases.SEED, verifier_cases.SEED, heard_cases.SEED)
-for part in (lines, words, cuts, writes, reads, runs, moves, entries, wholes, panels, command_lines, examples, refused, worked):
+for part in (lines, words, cuts, writes, reads, runs, moves, entries, wholes, panels, command_lines, examples, over_limits, refused, worked):
     part()
 analyses_cases.all_cases(analyses)
 heard_cases.all_cases(case)
