@@ -19,8 +19,8 @@ use Rattle.patterns_runs.specs.Contents.{Edit, all_edited}
 use Rattle.patterns_runs.specs.Edit.{Edit as Coded}
 use Rattle.patterns_runs.specs.Edit.TheVariants as coded
 use Rattle.patterns_runs.specs.Lists.{edits_meaning}
-use Rattle.patterns_plans.specs.Makes.{made_by}
-use Rattle.patterns_plans.specs.Rewrites.{refused, becomes, edits_of, rewrite_of, rewrite_by, carried_out}
+use Rattle.patterns_base.specs.Makes.{made_by}
+use Rattle.patterns_base.specs.Rewrites.{refused, becomes, edits_of, rewrite_of, rewrite_by, carried_out}
 use Rattle.patterns.specs.Applied.{Gave, IsReason, IsRefusedSo, all_make}
 
 rewrite_is : (r : ℕ) (m : Module) (x : ℕ) → rewrite_of r m x ≡ rewrite_by (edits_of r m x) m

@@ -8,9 +8,9 @@ use Rattle.ir_tree_laws.proofs.Members.{found_stands}
 use Rattle.ir_event.specs.Modules.{Module}
 use Rattle.patterns_runs.specs.Contents.{Edit}
 use Rattle.patterns_plans.specs.Keeps.{given}
-use Rattle.patterns_plans.specs.Looks.{Header, when, is_clean, front_of}
-use Rattle.patterns_plans.specs.Rules.{rule}
-use Rattle.patterns_plans.specs.Rewrites.{edits_of}
+use Rattle.patterns_base.specs.Looks.{Header, when, is_clean, front_of}
+use Rattle.patterns_base.specs.Rules.{rule}
+use Rattle.patterns_base.specs.Rewrites.{edits_of}
 use Rattle.patterns_plans.specs.Reads.{head_at}
 use Rattle.patterns.specs.Applied.{IsWritten}
 

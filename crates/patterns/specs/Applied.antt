@@ -4,7 +4,7 @@ use Rattle.ir_types.specs.declared.refusal.Refusal.{Refusal}
 use Rattle.ir_types.specs.declared.refusal.Refusal.TheVariants.{Memory, NoSuchOp}
 use Rattle.ir_tree.specs.Ids.{has_id}
 use Rattle.ir_event.specs.Modules.{Module}
-use Rattle.patterns_plans.specs.Rewrites.{Rewrite, none, refused, becomes, rewrite_of}
+use Rattle.patterns_base.specs.Rewrites.{Rewrite, none, refused, becomes, rewrite_of}
 use Rattle.patterns_runs.specs.Edit.{Edit}
 use Rattle.patterns_runs.specs.Edit.TheVariants as edit
 

@@ -2,7 +2,7 @@
 ghost use Rattle.std.specs.Prelude.{◌≡◌, ◌≤◌, IfOk, IfErr, OnErr, length};
 ghost use Rattle.patterns_runs.specs.Held.{module_held, open_marks};
 ghost use Rattle.patterns_runs.specs.Runs.{Along};
-ghost use Rattle.patterns_plans.specs.Rewrites.{rewrite_of};
+ghost use Rattle.patterns_base.specs.Rewrites.{rewrite_of};
 ghost use Rattle.patterns.specs.Applied.{Gave, IsReason, IsWritten, all_make, makes};
 
 use crate::plan::plan_at;

@@ -2,8 +2,8 @@
 ghost use Rattle.std.specs.Prelude.{◌≡◌, IfOk, IfSome, option_map};
 ghost use Rattle.ir_event.specs.Modules.{module_in};
 ghost use Rattle.patterns_runs.specs.Lists.{AllFit, edits_meaning};
-ghost use Rattle.patterns_plans.specs.Rules.{rule as rule_of};
-ghost use Rattle.patterns_plans.specs.Rewrites.{edits_of};
+ghost use Rattle.patterns_base.specs.Rules.{rule as rule_of};
+ghost use Rattle.patterns_base.specs.Rewrites.{edits_of};
 ghost use Rattle.patterns_plans.specs.Reads.{bare_in};
 ghost use Rattle.patterns.specs.Applied.{IsWritten};
 
@@ -11,15 +11,15 @@ use ir_event::world::World;
 use ir_store::node::Node;
 use ir_tree::place::Place;
 use ir_types::ids::OpId;
+use patterns_plans::clean::is_clean;
 use patterns_plans::given::{plan_4, plan_5, plan_8, plan_15, plan_16};
 use patterns_plans::in_place::{plan_3, plan_18};
-use patterns_plans::clean::is_clean;
 use patterns_plans::look::{front, shown};
 use patterns_runs::edit::Edit;
 use std::alloc::{AllocError, Global};
 
 /// Those of a rule at a clean operation, of which this is shown.
-#[tactic(auto, unfolding(patterns_plans::specs::Rules::rule))]
+#[tactic(auto, unfolding(patterns_base::specs::Rules::rule))]
 fn plan_by(
     alloc: Global,
     world: &World,

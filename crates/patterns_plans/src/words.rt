@@ -1,14 +1,14 @@
 //! The operations of which rules speak.
 ghost use Rattle.std.specs.Prelude.{◌≡◌};
 ghost use Rattle.ir_types.specs.Terms.{name_term};
-ghost use Rattle.patterns_reads.specs.Words.{among, ignoring_zero, ignoring_one, keeping, swapping};
+ghost use Rattle.patterns_laws.specs.Words.{among, ignoring_zero, ignoring_one, keeping, swapping};
 
 use ir_types::context::Context;
 use ir_types::ids::NameId;
 use ir_types::word::Word;
 
 /// Of which a constant is made the second operand.
-#[tactic(auto, unfolding(patterns_reads::specs::Words::swapping))]
+#[tactic(auto, unfolding(patterns_laws::specs::Words::swapping))]
 pub(crate) fn is_swapping(ctx: &Context, name: NameId) -> bool
     ensures { result ≡ among swapping (name_term ctx.now name) }
 {
@@ -24,7 +24,7 @@ pub(crate) fn is_swapping(ctx: &Context, name: NameId) -> bool
 }
 
 /// To which 0 as second operand does nothing.
-#[tactic(auto, unfolding(patterns_reads::specs::Words::ignoring_zero))]
+#[tactic(auto, unfolding(patterns_laws::specs::Words::ignoring_zero))]
 pub(crate) fn ignores_zero(ctx: &Context, name: NameId) -> bool
     ensures { result ≡ among ignoring_zero (name_term ctx.now name) }
 {
@@ -38,7 +38,7 @@ pub(crate) fn ignores_zero(ctx: &Context, name: NameId) -> bool
 }
 
 /// To which 1 as second operand does nothing.
-#[tactic(auto, unfolding(patterns_reads::specs::Words::ignoring_one))]
+#[tactic(auto, unfolding(patterns_laws::specs::Words::ignoring_one))]
 pub(crate) fn ignores_one(ctx: &Context, name: NameId) -> bool
     ensures { result ≡ among ignoring_one (name_term ctx.now name) }
 {
@@ -48,7 +48,7 @@ pub(crate) fn ignores_one(ctx: &Context, name: NameId) -> bool
 }
 
 /// Which give the value for a value and itself.
-#[tactic(auto, unfolding(patterns_reads::specs::Words::keeping))]
+#[tactic(auto, unfolding(patterns_laws::specs::Words::keeping))]
 pub(crate) fn is_keeping(ctx: &Context, name: NameId) -> bool
     ensures { result ≡ among keeping (name_term ctx.now name) }
 {
