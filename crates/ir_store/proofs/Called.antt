@@ -1,16 +1,14 @@
 -- The same, as a function's calls tell it.
 use Rattle.std.proofs.Common.{◌≡◌, ℕ, ◌<◌, List, map, set, get_or, sym, ap, ◌∙◌, subst, length, false, Option, Some, None, arith}
 use Rattle.std.specs.FinMap as finmap
-use Rattle.std.proofs.lemmas.List.{length-set, length-map}
 use Rattle.ir_store_reads.specs.Lists.{Lists, free, without as drop_node, IsItem}
 use Rattle.ir_tree.specs.Tree.{Op, Head, op, head}
 use Rattle.ir_tree.specs.Ids.{find}
 use Rattle.ir_tree.specs.Places.{without}
-use Rattle.ir_store_reads.specs.Row.{Row as Kept}
 use Rattle.ir_store.specs.declared.store.Store.TheInside.{Inside}
 use Rattle.ir_store_reads.specs.Stored.{Stored}
 use Rattle.ir_store.specs.Calls.{after_take, hold}
-use Rattle.ir_store_reads.specs.Rows.{Row, row_at, row_of, rows_of, held_in, gone_in}
+use Rattle.ir_store_reads.specs.Rows.{Row, row_at, held_in, gone_in}
 use Rattle.ir_store_reads.specs.Spells.{SpellsOp, Spelled, Spelled-prop, spelled_is}
 use Rattle.ir_store.specs.Holds.{HoldsOf, HoldsOf-prop, GoneOf, GoneOf-prop, map_is}
 use Rattle.ir_store_reads.specs.Right.{Right}
@@ -26,10 +24,10 @@ use Rattle.ir_tree_laws.specs.Changes.{operand_at}
 use Rattle.ir_store_reads.proofs.Slots.{Found, found}
 use Rattle.ir_store.proofs.Writing.{write_spells, write_right, write_holds, write_gone}
 use Rattle.ir_store.proofs.Taking.{IsLeaf, cut_spells, cut_right, cut_holds, cut_gone}
-use Rattle.ir_store_reads.proofs.Items.{read_row, other_row, own_row}
+use Rattle.ir_store.proofs.OneRow.{put_long, put_own, put_other}
 
 abbrev pub rows_in : Inside → List Row
-rows_in a = rows_of a.rows.items
+rows_in a = a.rows
 
 abbrev pub keys_in : Inside → ℕ → Option ℕ
 keys_in a = finmap.get a.keys
@@ -49,52 +47,49 @@ same_inside a x y z = λ i. record a {
 }
 
 -- an operation is cut out
-module _ (a : Inside) (r : IsRight a) (x k : ℕ) (leaf : IsLeaf (rows_in a) a.sibs.lists a.root x k) (n : Kept) (en : n ≡ get_or a.rows.items k n)
+module _ (a : Inside) (r : IsRight a) (x k : ℕ) (leaf : IsLeaf (rows_in a) a.sibs.lists a.root x k) (rows' : List Row) (er : rows' ≡ set (rows_in a) k (record (row_at (rows_in a) k) { live = false }))
     (sibs' : Lists) (el : sibs'.lists ≡ map (drop_node k) a.sibs.lists) (eh : sibs'.homes ≡ set a.sibs.homes k free) where
-  abbrev pub items' : List Kept
-  items' = set a.rows.items k (record n { live = false })
+  long' : length rows' ≡ length (rows_in a)
+  long' = put_long (rows_in a) rows' k (record (row_at (rows_in a) k) { live = false }) er
 
-  in_items : k < length a.rows.items
-  in_items = omega (arith, leaf.found.inside, length-map a.rows.items row_of)
+  others : (q : ℕ) → (q ≡ k → ⊥) → row_at rows' q ≡ row_at (rows_in a) q
+  others = put_other (rows_in a) rows' k (record (row_at (rows_in a) k) { live = false }) er
 
-  long' : length (rows_of items') ≡ length (rows_in a)
-  long' = length-map items' row_of ∙ length-set a.rows.items k (record n { live = false }) ∙ sym (length-map a.rows.items row_of)
-
-  gone_row : row_at (rows_of items') k ≡ record (row_at (rows_in a) k) { live = false }
-  gone_row = own_row a.rows.items k (record n { live = false }) in_items ∙ ap {A = Row} {B = Row} (λ z. record z { live = false }) (sym (read_row a.rows.items k n in_items en))
+  gone_row : row_at rows' k ≡ record (row_at (rows_in a) k) { live = false }
+  gone_row = put_own (rows_in a) rows' k (record (row_at (rows_in a) k) { live = false }) er leaf.found.inside
 
   pub cut_item : IsItem a.sibs.homes k
   cut_item = (r.items k leaf.found.live leaf.inner).item
 
-  spells : SpellsOp (rows_of items') sibs'.lists a.root (without x a.spelled.0)
-  spells = cut_spells (rows_in a) (keys_in a) a.sibs a.root a.spelled.0 r a.spelled.1 x k leaf (rows_of items') long' (other_row a.rows.items k (record n { live = false })) gone_row sibs' el eh
+  spells : SpellsOp rows' sibs'.lists a.root (without x a.spelled.0)
+  spells = cut_spells (rows_in a) (keys_in a) a.sibs a.root a.spelled.0 r a.spelled.1 x k leaf rows' long' others gone_row sibs' el eh
 
-  pub cut_tree : (w : Spelled (rows_of items') sibs'.lists a.root) → w.0 ≡ without x a.spelled.0
-  cut_tree w = spelled_is (rows_of items') sibs'.lists a.root w (without x a.spelled.0) spells
+  pub cut_tree : (w : Spelled rows' sibs'.lists a.root) → w.0 ≡ without x a.spelled.0
+  cut_tree w = spelled_is rows' sibs'.lists a.root w (without x a.spelled.0) spells
 
-  pub right_after : (w : Spelled (rows_of items') sibs'.lists a.root) → Right (rows_of items') (keys_in a) sibs' a.root w.0
-  right_after w = subst (Right (rows_of items') (keys_in a) sibs' a.root) (sym (spelled_is (rows_of items') sibs'.lists a.root w (without x a.spelled.0) spells))
-      (cut_right (rows_in a) (keys_in a) a.sibs a.root a.spelled.0 r a.spelled.1 x k leaf (rows_of items') long' (other_row a.rows.items k (record n { live = false })) gone_row sibs' el eh)
+  pub right_after : (w : Spelled rows' sibs'.lists a.root) → Right rows' (keys_in a) sibs' a.root w.0
+  right_after w = subst (Right rows' (keys_in a) sibs' a.root) (sym (spelled_is rows' sibs'.lists a.root w (without x a.spelled.0) spells))
+      (cut_right (rows_in a) (keys_in a) a.sibs a.root a.spelled.0 r a.spelled.1 x k leaf rows' long' others gone_row sibs' el eh)
 
   taken : (o : Op) × ((find x a.spelled.0 ≡ Some o) × SpellsOp (rows_in a) a.sibs.lists k o)
   taken = found_op (rows_in a) (keys_in a) a.sibs a.root a.spelled.0 r a.spelled.1 x k leaf.found
 
-  holds : (y : ℕ) → finmap.get (finmap.insert a.holds.0 x taken.0) y ≡ held_in (rows_of items') (keys_in a y)
-  holds = cut_holds (rows_in a) (keys_in a) a.sibs a.root a.spelled.0 r a.spelled.1 x k leaf (rows_of items') long' (other_row a.rows.items k (record n { live = false })) gone_row sibs' el eh a.holds.0 a.holds.1 taken.0 taken.1.1
+  holds : (y : ℕ) → finmap.get (finmap.insert a.holds.0 x taken.0) y ≡ held_in rows' (keys_in a y)
+  holds = cut_holds (rows_in a) (keys_in a) a.sibs a.root a.spelled.0 r a.spelled.1 x k leaf rows' long' others gone_row sibs' el eh a.holds.0 a.holds.1 taken.0 taken.1.1
 
-  lacks : (y : ℕ) → finmap.get a.lacks.0 y ≡ gone_in (rows_of items') (keys_in a y)
-  lacks y = a.lacks.1 y ∙ cut_gone (rows_in a) (keys_in a) a.sibs a.root a.spelled.0 r a.spelled.1 x k leaf (rows_of items') long' (other_row a.rows.items k (record n { live = false })) gone_row sibs' el eh y
+  lacks : (y : ℕ) → finmap.get a.lacks.0 y ≡ gone_in rows' (keys_in a y)
+  lacks y = a.lacks.1 y ∙ cut_gone (rows_in a) (keys_in a) a.sibs a.root a.spelled.0 r a.spelled.1 x k leaf rows' long' others gone_row sibs' el eh y
 
   -- what the fields are given
-  pub cut_given : Spelled (rows_of items') sibs'.lists a.root × (HoldsOf (rows_of items') (keys_in a) × (GoneOf (rows_of items') (keys_in a) × Unit {0}))
+  pub cut_given : Spelled rows' sibs'.lists a.root × (HoldsOf rows' (keys_in a) × (GoneOf rows' (keys_in a) × Unit {0}))
   cut_given = ((without x a.spelled.0, spells), ((finmap.insert a.holds.0 x taken.0, holds), ((a.lacks.0, lacks), tt)))
 
-  pub cut_done : (w : Spelled (rows_of items') sibs'.lists a.root) (h : HoldsOf (rows_of items') (keys_in a)) (g : GoneOf (rows_of items') (keys_in a))
+  pub cut_done : (w : Spelled rows' sibs'.lists a.root) (h : HoldsOf rows' (keys_in a)) (g : GoneOf rows' (keys_in a))
       → ◌≡◌ {A = Stored} (record { module_of = record { tree = w.0; next = a.next }; held = h.0; gone = g.0 }) (after_take x (stored a))
   cut_done w h g =
-      let e1 = spelled_is (rows_of items') sibs'.lists a.root w (without x a.spelled.0) spells in
-      let e2 = map_is (λ y. held_in (rows_of items') (keys_in a y)) h (finmap.insert a.holds.0 x taken.0) holds ∙ ap (λ z. hold x z a.holds.0) (sym taken.1.0) in
-      let e3 = map_is (λ y. gone_in (rows_of items') (keys_in a y)) g a.lacks.0 lacks in
+      let e1 = spelled_is rows' sibs'.lists a.root w (without x a.spelled.0) spells in
+      let e2 = map_is (λ y. held_in rows' (keys_in a y)) h (finmap.insert a.holds.0 x taken.0) holds ∙ ap (λ z. hold x z a.holds.0) (sym taken.1.0) in
+      let e3 = map_is (λ y. gone_in rows' (keys_in a y)) g a.lacks.0 lacks in
       λ i. record { module_of = record { tree = e1 i; next = a.next }; held = e2 i; gone = e3 i }
 
 -- an operation is read
@@ -103,70 +98,61 @@ module _ (a : Inside) (r : IsRight a) (x : ℕ) where
   node_none e = node_known (rows_in a) (keys_in a) a.sibs a.root a.spelled.0 r a.spelled.1 x (finmap.get a.holds.0 x) (a.holds.1 x) None (sym e)
 
   module _ (k : ℕ) (e : Some k ≡ keys_in a x) where
-    pub key_inside : k < length a.rows.items
-    key_inside = omega (arith, used_inside (rows_in a) k (r.known x k (sym e)).used, length-map a.rows.items row_of)
-
-    pub node_some : (n : Kept) → n ≡ get_or a.rows.items k n → Some (node_row (row_of n)) ≡ option_map node_of (known x (stored a))
-    node_some n en =
-        ap (λ z. Some (node_row z)) (sym (read_row a.rows.items k n key_inside en))
-        ∙ node_known (rows_in a) (keys_in a) a.sibs a.root a.spelled.0 r a.spelled.1 x (finmap.get a.holds.0 x) (a.holds.1 x) (Some k) (sym e)
+    pub node_some : Some (node_row (row_at (rows_in a) k)) ≡ option_map node_of (known x (stored a))
+    node_some = node_known (rows_in a) (keys_in a) a.sibs a.root a.spelled.0 r a.spelled.1 x (finmap.get a.holds.0 x) (a.holds.1 x) (Some k) (sym e)
 
 -- an operand is written
 module _ (a : Inside) (r : IsRight a) (x k j : ℕ) (v : Value) (e : Some k ≡ live_slot (rows_in a) (keys_in a) x) where
   here : Found (rows_in a) x k
   here = found (rows_in a) (keys_in a) a.sibs a.root a.spelled.0 r a.spelled.1 x k (sym e)
 
-  pub write_inside : k < length a.rows.items
-  write_inside = omega (arith, here.inside, length-map a.rows.items row_of)
-
-  pub operands_of : (n : Kept) → n ≡ get_or a.rows.items k n → (row_at (rows_in a) k).head.operands ≡ n.contents.operands
-  operands_of n en = ap (λ z. z.head.operands) (read_row a.rows.items k n write_inside en)
+  pub write_inside : k < length (rows_in a)
+  write_inside = here.inside
 
   -- the one that was there
   head_of : (o : Op) → SpellsOp (rows_in a) a.sibs.lists k o → (row_at (rows_in a) k).head ≡ head o
   head_of (op h rs) s = s.1.0
 
-  pub operand_was : (n : Kept) → n ≡ get_or a.rows.items k n → (was : Option Value) → slice_get (row_of n).head.operands j ≡ was → operand_at x j a.spelled.0 ≡ was
-  operand_was n en was e' =
+  pub operand_was : (was : Option Value) → slice_get (row_at (rows_in a) k).head.operands j ≡ was → operand_at x j a.spelled.0 ≡ was
+  operand_was was e' =
       let o = found_op (rows_in a) (keys_in a) a.sibs a.root a.spelled.0 r a.spelled.1 x k here in
       ap (option_and_then (λ (o : Op). slice_get (head o).operands j)) o.1.0
       ∙ ap (λ (h : Head). slice_get h.operands j) (sym (head_of o.0 o.1.1))
-      ∙ ap (λ (z : Row). slice_get z.head.operands j) (read_row a.rows.items k n write_inside en)
       ∙ e'
 
-  module _ (n : Kept) (en : n ≡ get_or a.rows.items k n) (m : Kept) (em : row_of m ≡ row_with_operand j v (row_of n)) where
-    abbrev pub written : List Kept
-    written = set a.rows.items k m
+  module _ (written : List Row) (er : written ≡ set (rows_in a) k (row_with_operand j v (row_at (rows_in a) k))) where
+    longs : length written ≡ length (rows_in a)
+    longs = put_long (rows_in a) written k (row_with_operand j v (row_at (rows_in a) k)) er
 
-    longs : length (rows_of written) ≡ length (rows_in a)
-    longs = length-map written row_of ∙ length-set a.rows.items k m ∙ sym (length-map a.rows.items row_of)
+    others' : (q : ℕ) → (q ≡ k → ⊥) → row_at written q ≡ row_at (rows_in a) q
+    others' = put_other (rows_in a) written k (row_with_operand j v (row_at (rows_in a) k)) er
 
-    new_row : row_at (rows_of written) k ≡ row_with_operand j v (row_at (rows_in a) k)
-    new_row = own_row a.rows.items k m write_inside ∙ em ∙ ap (row_with_operand j v) (sym (read_row a.rows.items k n write_inside en))
+    new_row : row_at written k ≡ row_with_operand j v (row_at (rows_in a) k)
+    new_row = put_own (rows_in a) written k (row_with_operand j v (row_at (rows_in a) k)) er write_inside
 
-    spelt : SpellsOp (rows_of written) a.sibs.lists a.root (with_operand x j v a.spelled.0)
-    spelt = write_spells (rows_in a) (keys_in a) a.sibs a.root a.spelled.0 r a.spelled.1 x k j v here (rows_of written) longs (other_row a.rows.items k m) new_row
+    spelt : SpellsOp written a.sibs.lists a.root (with_operand x j v a.spelled.0)
+    spelt = write_spells (rows_in a) (keys_in a) a.sibs a.root a.spelled.0 r a.spelled.1 x k j v here written longs others' new_row
 
-    pub write_tree : (w : Spelled (rows_of written) a.sibs.lists a.root) → w.0 ≡ with_operand x j v a.spelled.0
-    write_tree w = spelled_is (rows_of written) a.sibs.lists a.root w (with_operand x j v a.spelled.0) spelt
+    pub write_tree : (w : Spelled written a.sibs.lists a.root) → w.0 ≡ with_operand x j v a.spelled.0
+    write_tree w = spelled_is written a.sibs.lists a.root w (with_operand x j v a.spelled.0) spelt
 
-    pub write_fits : (w : Spelled (rows_of written) a.sibs.lists a.root) → Right (rows_of written) (keys_in a) a.sibs a.root w.0
-    write_fits w = subst (Right (rows_of written) (keys_in a) a.sibs a.root) (sym (spelled_is (rows_of written) a.sibs.lists a.root w (with_operand x j v a.spelled.0) spelt))
-        (write_right (rows_in a) (keys_in a) a.sibs a.root a.spelled.0 r a.spelled.1 x k j v here (rows_of written) longs (other_row a.rows.items k m) new_row)
+    pub write_fits : (w : Spelled written a.sibs.lists a.root) → Right written (keys_in a) a.sibs a.root w.0
+    write_fits w = subst (Right written (keys_in a) a.sibs a.root) (sym (spelled_is written a.sibs.lists a.root w (with_operand x j v a.spelled.0) spelt))
+        (write_right (rows_in a) (keys_in a) a.sibs a.root a.spelled.0 r a.spelled.1 x k j v here written longs others' new_row)
 
-    holds' : (y : ℕ) → finmap.get a.holds.0 y ≡ held_in (rows_of written) (keys_in a y)
-    holds' y = a.holds.1 y ∙ write_holds (rows_in a) (keys_in a) a.sibs a.root a.spelled.0 r a.spelled.1 x k j v here (rows_of written) longs (other_row a.rows.items k m) new_row y
+    holds' : (y : ℕ) → finmap.get a.holds.0 y ≡ held_in written (keys_in a y)
+    holds' y = a.holds.1 y ∙ write_holds (rows_in a) (keys_in a) a.sibs a.root a.spelled.0 r a.spelled.1 x k j v here written longs others' new_row y
 
-    lacks' : (y : ℕ) → finmap.get a.lacks.0 y ≡ gone_in (rows_of written) (keys_in a y)
-    lacks' y = a.lacks.1 y ∙ write_gone (rows_in a) (keys_in a) a.sibs a.root a.spelled.0 r a.spelled.1 x k j v here (rows_of written) longs (other_row a.rows.items k m) new_row y
+    lacks' : (y : ℕ) → finmap.get a.lacks.0 y ≡ gone_in written (keys_in a y)
+    lacks' y = a.lacks.1 y ∙ write_gone (rows_in a) (keys_in a) a.sibs a.root a.spelled.0 r a.spelled.1 x k j v here written longs others' new_row y
 
-    pub write_given : Spelled (rows_of written) a.sibs.lists a.root × (HoldsOf (rows_of written) (keys_in a) × (GoneOf (rows_of written) (keys_in a) × Unit {0}))
+    pub write_given : Spelled written a.sibs.lists a.root × (HoldsOf written (keys_in a) × (GoneOf written (keys_in a) × Unit {0}))
     write_given = ((with_operand x j v a.spelled.0, spelt), ((a.holds.0, holds'), ((a.lacks.0, lacks'), tt)))
 
-    pub write_done : (w : Spelled (rows_of written) a.sibs.lists a.root) (h : HoldsOf (rows_of written) (keys_in a)) (g : GoneOf (rows_of written) (keys_in a))
+    pub write_done : (w : Spelled written a.sibs.lists a.root) (h : HoldsOf written (keys_in a)) (g : GoneOf written (keys_in a))
         → ◌≡◌ {A = Stored} (record { module_of = record { tree = w.0; next = a.next }; held = h.0; gone = g.0 }) (after_operand x j v (stored a))
     write_done w h g =
-        let e1 = spelled_is (rows_of written) a.sibs.lists a.root w (with_operand x j v a.spelled.0) spelt in
-        let e2 = map_is (λ y. held_in (rows_of written) (keys_in a y)) h a.holds.0 holds' in
-        let e3 = map_is (λ y. gone_in (rows_of written) (keys_in a y)) g a.lacks.0 lacks' in
+        let e1 = spelled_is written a.sibs.lists a.root w (with_operand x j v a.spelled.0) spelt in
+        let e2 = map_is (λ y. held_in written (keys_in a y)) h a.holds.0 holds' in
+        let e3 = map_is (λ y. gone_in written (keys_in a y)) g a.lacks.0 lacks' in
         λ i. record { module_of = record { tree = e1 i; next = a.next }; held = e2 i; gone = e3 i }

@@ -3,8 +3,6 @@ use Rattle.std.proofs.Common.{◌≡◌, ℕ, ◌<◌, List, [], set, get_or, re
 use Rattle.std.specs.Prelude.{if◌then◌else◌, Result, Ok, Err, OnOk, OnErr, is_some, option_map}
 use Rattle.std.specs.FinMap as finmap
 use Rattle.std.proofs.lemmas.Bool.{false≢true}
-use Rattle.std.proofs.lemmas.List.{length-set, length-map}
-use Rattle.std.proofs.Math.Seq.{map-set_same}
 use Rattle.ir_types.specs.declared.refusal.Refusal.{Refusal}
 use Rattle.ir_types.specs.declared.refusal.Refusal.TheVariants.{NoSuchKey, Memory}
 use Rattle.ir_types.specs.Reasons.{IsRefusedFor}
@@ -21,12 +19,11 @@ use Rattle.ir_tree_laws.specs.Stands.{stands as all_stands}
 use Rattle.ir_tree_laws.proofs.Readings.{stands_every}
 use Rattle.ir_tree_laws.proofs.Members.{found_stands}
 use Rattle.ir_store_reads.specs.Slots.{gone_after, has_key, has_slot as is_slot}
-use Rattle.ir_store_reads.specs.Row.{Row as Kept}
 use Rattle.ir_store.specs.declared.store.Store.TheInside.{Inside}
 use Rattle.ir_store_reads.specs.Nodes.{node_of}
 use Rattle.ir_store_reads.specs.Stored.{Stored, Gone, change_gone, known, has_entry, has_slot, stands, is_some_with}
 use Rattle.ir_store.specs.Calls.{after_entry, change_gone_of}
-use Rattle.ir_store_reads.specs.Rows.{Row, row_at, row_of, rows_of, node_row, live_slot, held_in, gone_in}
+use Rattle.ir_store_reads.specs.Rows.{Row, row_at, node_row, live_slot, held_in, gone_in}
 use Rattle.ir_store_reads.specs.Spells.{SpellsOp, Spelled, spelled_is}
 use Rattle.ir_store.specs.Holds.{HoldsOf, GoneOf, map_is}
 use Rattle.ir_store_reads.specs.Marks.{mark, home_of, node_of_slot}
@@ -37,7 +34,7 @@ use Rattle.ir_store_reads.specs.Entered.{slots_in, row_with_entry, slot_unless, 
 use Rattle.ir_store.proofs.Distinct.{each_distinct}
 use Rattle.ir_store_reads.proofs.Slots.{Found, found, found_op, none_found, node_known, in_tree_is}
 use Rattle.ir_store.proofs.Called.{rows_in, keys_in, stored}
-use Rattle.ir_store_reads.proofs.Items.{read_row, other_row, own_row}
+use Rattle.ir_store.proofs.OneRow.{put_long, put_own, put_other}
 use Rattle.ir_store.proofs.Whole.{Whole}
 use Rattle.ir_store.proofs.Entering.{Inner, same_at, retold_spells, retold_right, retold_holds, retold_gone, retold_index, retold_below, retold_owned, retold_counted}
 
@@ -64,11 +61,6 @@ refused_some r e f = rw f refl
 
 pub refused_memory : (r : Option Refusal) → r ≡ None → IsRefusedFor {A = Unit {0}} r (Err Memory)
 refused_memory r f = rw f refl
-
--- a call was accepted or refused
-pub either_way : {X Y : Type 0} {P Q : Type 0} (res : Result X Y) → OnOk res P → OnErr res Q → P ⊎ Q
-either_way (Ok u) p q = inl p
-either_way (Err e) p q = inr q
 
 -- what is found in a tree passes what every operation of it passes
 pub every_found : (p : Op → Bool) (x : ℕ) (t o : Op) → every p t ≡ true → find x t ≡ Some o → p o ≡ true
@@ -135,8 +127,8 @@ module _ (a : Inside) (w : Whole a) (x : ℕ) (part : Part) (j : ℕ) where
       here : Found (rows_in a) x k
       here = found (rows_in a) (keys_in a) a.sibs a.root a.spelled.0 w.right a.spelled.1 x k (sym ek)
 
-      pub entry_inside : k < length a.rows.items
-      entry_inside = omega (arith, here.inside, length-map a.rows.items row_of)
+      pub entry_inside : k < length (rows_in a)
+      entry_inside = here.inside
 
       abbrev edit : Head → Head
       edit = change_part part (change_entry before j v)
@@ -144,98 +136,83 @@ module _ (a : Inside) (w : Whole a) (x : ℕ) (part : Part) (j : ℕ) where
       abbrev lack : Gone → Gone
       lack = change_gone part (gone_after j v)
 
-      module _ (n : Kept) (en : n ≡ get_or a.rows.items k n) where
-        pub entry_row : row_at (rows_in a) k ≡ row_of n
-        entry_row = read_row a.rows.items k n entry_inside en
+      module _ (entered : List Row) (er : entered ≡ set (rows_in a) k (row_with_entry before part j v (row_at (rows_in a) k))) where
+        longs : length entered ≡ length (rows_in a)
+        longs = put_long (rows_in a) entered k (row_with_entry before part j v (row_at (rows_in a) k)) er
 
-        module _ (m : Kept) (em : row_of m ≡ row_with_entry before part j v (row_of n)) where
-          abbrev pub entered : List Kept
-          entered = set a.rows.items k m
+        others : (q : ℕ) → (q ≡ k → ⊥) → row_at entered q ≡ row_at (rows_in a) q
+        others = put_other (rows_in a) entered k (row_with_entry before part j v (row_at (rows_in a) k)) er
 
-          longs : length (rows_of entered) ≡ length (rows_in a)
-          longs = length-map entered row_of ∙ length-set a.rows.items k m ∙ sym (length-map a.rows.items row_of)
+        own : row_at entered k ≡ row_with_entry before part j v (row_at (rows_in a) k)
+        own = put_own (rows_in a) entered k (row_with_entry before part j v (row_at (rows_in a) k)) er entry_inside
 
-          own : row_at (rows_of entered) k ≡ row_with_entry before part j v (row_at (rows_in a) k)
-          own = own_row a.rows.items k m entry_inside ∙ em ∙ ap (row_with_entry before part j v) (sym entry_row)
+        spelt : SpellsOp entered a.sibs.lists a.root (with_entry before x part j v a.spelled.0)
+        spelt = retold_spells (rows_in a) (keys_in a) a.sibs a.root a.spelled.0 w.right a.spelled.1 x k here edit lack (inner_part part (change_entry before j v)) entered longs others own
 
-          spelt : SpellsOp (rows_of entered) a.sibs.lists a.root (with_entry before x part j v a.spelled.0)
-          spelt = retold_spells (rows_in a) (keys_in a) a.sibs a.root a.spelled.0 w.right a.spelled.1 x k here edit lack (inner_part part (change_entry before j v)) (rows_of entered) longs (other_row a.rows.items k m) own
+        holds' : (y : ℕ) → finmap.get a.holds.0 y ≡ held_in entered (keys_in a y)
+        holds' y = a.holds.1 y ∙ retold_holds (rows_in a) (keys_in a) a.sibs a.root a.spelled.0 w.right a.spelled.1 x k here edit lack (inner_part part (change_entry before j v)) entered longs others own y
 
-          holds' : (y : ℕ) → finmap.get a.holds.0 y ≡ held_in (rows_of entered) (keys_in a y)
-          holds' y = a.holds.1 y ∙ retold_holds (rows_in a) (keys_in a) a.sibs a.root a.spelled.0 w.right a.spelled.1 x k here edit lack (inner_part part (change_entry before j v)) (rows_of entered) longs (other_row a.rows.items k m) own y
+        lacks' : (y : ℕ) → finmap.get (change_gone_of x lack (finmap.get a.lacks.0 x) a.lacks.0) y ≡ gone_in entered (keys_in a y)
+        lacks' = retold_gone (rows_in a) (keys_in a) a.sibs a.root a.spelled.0 w.right a.spelled.1 x k here edit lack (inner_part part (change_entry before j v)) entered longs others own a.lacks.0 a.lacks.1
 
-          lacks' : (y : ℕ) → finmap.get (change_gone_of x lack (finmap.get a.lacks.0 x) a.lacks.0) y ≡ gone_in (rows_of entered) (keys_in a y)
-          lacks' = retold_gone (rows_in a) (keys_in a) a.sibs a.root a.spelled.0 w.right a.spelled.1 x k here edit lack (inner_part part (change_entry before j v)) (rows_of entered) longs (other_row a.rows.items k m) own a.lacks.0 a.lacks.1
+        pub entry_given : Spelled entered a.sibs.lists a.root × (HoldsOf entered (keys_in a) × (GoneOf entered (keys_in a) × Unit {0}))
+        entry_given = ((with_entry before x part j v a.spelled.0, spelt), ((a.holds.0, holds'), ((change_gone_of x lack (finmap.get a.lacks.0 x) a.lacks.0, lacks'), tt)))
 
-          pub entry_given : Spelled (rows_of entered) a.sibs.lists a.root × (HoldsOf (rows_of entered) (keys_in a) × (GoneOf (rows_of entered) (keys_in a) × Unit {0}))
-          entry_given = ((with_entry before x part j v a.spelled.0, spelt), ((a.holds.0, holds'), ((change_gone_of x lack (finmap.get a.lacks.0 x) a.lacks.0, lacks'), tt)))
+        pub entry_fits : (s : Spelled entered a.sibs.lists a.root) (marks : List ℕ) → marks ≡ set a.marks.homes (node_of_slot k) (home_of (mark (row_at entered k)))
+            → Fits entered (keys_in a) a.sibs a.root s.0 a.uses.homes (cells_of a.cells.items) a.count a.next marks
+        entry_fits s marks es = subst (λ z. Fits entered (keys_in a) a.sibs a.root z a.uses.homes (cells_of a.cells.items) a.count a.next marks) (sym (spelled_is entered a.sibs.lists a.root s (with_entry before x part j v a.spelled.0) spelt))
+            (record {
+              right = retold_right (rows_in a) (keys_in a) a.sibs a.root a.spelled.0 w.right a.spelled.1 x k here edit lack (inner_part part (change_entry before j v)) entered longs others own;
+              few = w.few;
+              index = retold_index (rows_in a) (keys_in a) a.sibs a.root a.spelled.0 w.right a.spelled.1 x k here edit lack (inner_part part (change_entry before j v)) entered longs others own a.uses.homes (cells_of a.cells.items) w.index;
+              distinct = each_distinct (at x edit) (same_at x edit (inner_part part (change_entry before j v))) a.spelled.0 w.distinct;
+              counted = w.counted ∙ retold_counted (rows_in a) (keys_in a) a.sibs a.root a.spelled.0 w.right a.spelled.1 x k here edit lack (inner_part part (change_entry before j v)) entered longs others own;
+              below = retold_below (rows_in a) (keys_in a) a.sibs a.root a.spelled.0 w.right a.spelled.1 x k here edit lack (inner_part part (change_entry before j v)) entered longs others own a.next w.below;
+              owned = retold_owned (rows_in a) (keys_in a) a.sibs a.root a.spelled.0 w.right a.spelled.1 x k here edit lack (inner_part part (change_entry before j v)) entered longs others own w.owned;
+              marked = marked_edit (rows_in a) entered a.marks.homes marks k w.marked (w.marked.inside k (w.right.live_used k here.live)) others es;
+              celled = celled_edit (rows_in a) entered (cells_of a.cells.items) k w.celled others (ap (λ z. z.used) own) (ap (λ z. z.head.results) own ∙ (inner_part part (change_entry before j v)).results (row_at (rows_in a) k).head) (ap (λ z. z.shapes) own) (ap (λ z. z.values) own);
+            })
 
-          pub entry_fits : (s : Spelled (rows_of entered) a.sibs.lists a.root) (marks : List ℕ) → marks ≡ set a.marks.homes (node_of_slot k) (home_of (mark (row_at (rows_of entered) k)))
-              → Fits (rows_of entered) (keys_in a) a.sibs a.root s.0 a.uses.homes (cells_of a.cells.items) a.count a.next marks
-          entry_fits s marks es = subst (λ z. Fits (rows_of entered) (keys_in a) a.sibs a.root z a.uses.homes (cells_of a.cells.items) a.count a.next marks) (sym (spelled_is (rows_of entered) a.sibs.lists a.root s (with_entry before x part j v a.spelled.0) spelt))
-              (record {
-                right = retold_right (rows_in a) (keys_in a) a.sibs a.root a.spelled.0 w.right a.spelled.1 x k here edit lack (inner_part part (change_entry before j v)) (rows_of entered) longs (other_row a.rows.items k m) own;
-                few = w.few;
-                index = retold_index (rows_in a) (keys_in a) a.sibs a.root a.spelled.0 w.right a.spelled.1 x k here edit lack (inner_part part (change_entry before j v)) (rows_of entered) longs (other_row a.rows.items k m) own a.uses.homes (cells_of a.cells.items) w.index;
-                distinct = each_distinct (at x edit) (same_at x edit (inner_part part (change_entry before j v))) a.spelled.0 w.distinct;
-                counted = w.counted ∙ retold_counted (rows_in a) (keys_in a) a.sibs a.root a.spelled.0 w.right a.spelled.1 x k here edit lack (inner_part part (change_entry before j v)) (rows_of entered) longs (other_row a.rows.items k m) own;
-                below = retold_below (rows_in a) (keys_in a) a.sibs a.root a.spelled.0 w.right a.spelled.1 x k here edit lack (inner_part part (change_entry before j v)) (rows_of entered) longs (other_row a.rows.items k m) own a.next w.below;
-                owned = retold_owned (rows_in a) (keys_in a) a.sibs a.root a.spelled.0 w.right a.spelled.1 x k here edit lack (inner_part part (change_entry before j v)) (rows_of entered) longs (other_row a.rows.items k m) own w.owned;
-                marked = marked_edit (rows_in a) (rows_of entered) a.marks.homes marks k w.marked (w.marked.inside k (w.right.live_used k here.live)) (other_row a.rows.items k m) es;
-                celled = celled_edit (rows_in a) (rows_of entered) (cells_of a.cells.items) k w.celled (other_row a.rows.items k m) (ap (λ z. z.used) own) (ap (λ z. z.head.results) own ∙ (inner_part part (change_entry before j v)).results (row_at (rows_in a) k).head) (ap (λ z. z.shapes) own) (ap (λ z. z.values) own);
-              })
+        pub entry_done : (s : Spelled entered a.sibs.lists a.root) (h : HoldsOf entered (keys_in a)) (g : GoneOf entered (keys_in a))
+            → ◌≡◌ {A = Stored} (record { module_of = record { tree = s.0; next = a.next }; held = h.0; gone = g.0 }) (after_entry before x part j v (stored a))
+        entry_done s h g =
+            let e1 = spelled_is entered a.sibs.lists a.root s (with_entry before x part j v a.spelled.0) spelt in
+            let e2 = map_is (λ y. held_in entered (keys_in a y)) h a.holds.0 holds' in
+            let e3 = map_is (λ y. gone_in entered (keys_in a y)) g (change_gone_of x lack (finmap.get a.lacks.0 x) a.lacks.0) lacks' in
+            λ i. record { module_of = record { tree = e1 i; next = a.next }; held = e2 i; gone = e3 i }
 
-          pub entry_done : (s : Spelled (rows_of entered) a.sibs.lists a.root) (h : HoldsOf (rows_of entered) (keys_in a)) (g : GoneOf (rows_of entered) (keys_in a))
-              → ◌≡◌ {A = Stored} (record { module_of = record { tree = s.0; next = a.next }; held = h.0; gone = g.0 }) (after_entry before x part j v (stored a))
-          entry_done s h g =
-              let e1 = spelled_is (rows_of entered) a.sibs.lists a.root s (with_entry before x part j v a.spelled.0) spelt in
-              let e2 = map_is (λ y. held_in (rows_of entered) (keys_in a y)) h a.holds.0 holds' in
-              let e3 = map_is (λ y. gone_in (rows_of entered) (keys_in a y)) g (change_gone_of x lack (finmap.get a.lacks.0 x) a.lacks.0) lacks' in
-              λ i. record { module_of = record { tree = e1 i; next = a.next }; held = e2 i; gone = e3 i }
+      at_key : keys_in a x ≡ Some k
+      at_key = ap (keys_in a) (sym here.id) ∙ w.right.keyed k (w.right.live_used k here.live)
 
-        at_key : keys_in a x ≡ Some k
-        at_key = ap (keys_in a) (sym here.id) ∙ w.right.keyed k (w.right.live_used k here.live)
+      -- what setting it back asks of the row
+      pub revert_sorted : every (dictionaries_rise before) a.spelled.0 ≡ true → rises before (part_of part (row_at (rows_in a) k).head) ≡ true
+      revert_sorted e =
+          let o = found_op (rows_in a) (keys_in a) a.sibs a.root a.spelled.0 w.right a.spelled.1 x k here in
+          ap (λ h. rises before (part_of part h)) (same_head (rows_in a) a.sibs.lists k o.0 o.1.1)
+          ∙ part_rises before part o.0 (every_found (dictionaries_rise before) x a.spelled.0 o.0 e o.1.0)
 
-        -- what setting it back asks of the row
-        pub revert_sorted : every (dictionaries_rise before) a.spelled.0 ≡ true → rises before (part_of part (row_of n).head) ≡ true
-        revert_sorted e =
-            let o = found_op (rows_in a) (keys_in a) a.sibs a.root a.spelled.0 w.right a.spelled.1 x k here in
-            ap (λ h. rises before (part_of part h)) (ap (λ z. z.head) (sym entry_row) ∙ same_head (rows_in a) a.sibs.lists k o.0 o.1.1)
-            ∙ part_rises before part o.0 (every_found (dictionaries_rise before) x a.spelled.0 o.0 e o.1.0)
+      pub revert_slot : has_slot x part j (stored a) ≡ true → is_slot j (slots_in part (row_at (rows_in a) k)) ≡ true
+      revert_slot e = slot_is (Some k) at_key ∙ e
 
-        pub revert_slot : has_slot x part j (stored a) ≡ true → is_slot j (slots_in part (row_of n)) ≡ true
-        revert_slot e = ap (λ z. is_slot j (slots_in part z)) (sym entry_row) ∙ slot_is (Some k) at_key ∙ e
+      pub revert_there : has_entry x part j (stored a) ≡ true → has_key j (part_of part (row_at (rows_in a) k).head) ≡ true
+      revert_there e = sym (entry_is (Some k) at_key) ∙ e
 
-        pub revert_there : has_entry x part j (stored a) ≡ true → has_key j (part_of part (row_of n).head) ≡ true
-        revert_there e = ap (λ z. has_key j (part_of part z.head)) (sym entry_row) ∙ sym (entry_is (Some k) at_key) ∙ e
+      -- rows that are as they were
+      module _ (rewritten : List Row) (same_rows : rewritten ≡ rows_in a) where
+        pub same_given : Spelled rewritten a.sibs.lists a.root × (HoldsOf rewritten (keys_in a) × (GoneOf rewritten (keys_in a) × Unit {0}))
+        same_given = subst (λ z. Spelled z a.sibs.lists a.root × (HoldsOf z (keys_in a) × (GoneOf z (keys_in a) × Unit {0}))) (sym same_rows) (a.spelled, (a.holds, (a.lacks, tt)))
 
-        -- a row is written that is as it was
-        module _ (m : Kept) (em : row_of m ≡ row_of n) where
-          abbrev pub rewritten : List Kept
-          rewritten = set a.rows.items k m
+        same_spelt : SpellsOp rewritten a.sibs.lists a.root a.spelled.0
+        same_spelt = subst (λ z. SpellsOp z a.sibs.lists a.root a.spelled.0) (sym same_rows) a.spelled.1
 
-          same_rows : rows_of rewritten ≡ rows_in a
-          same_rows = map-set_same row_of a.rows.items k m n (em ∙ ap row_of en)
+        pub same_fits : (s : Spelled rewritten a.sibs.lists a.root) → Fits rewritten (keys_in a) a.sibs a.root s.0 a.uses.homes (cells_of a.cells.items) a.count a.next a.marks.homes
+        same_fits s = subst (λ z. Fits rewritten (keys_in a) a.sibs a.root z a.uses.homes (cells_of a.cells.items) a.count a.next a.marks.homes) (sym (spelled_is rewritten a.sibs.lists a.root s a.spelled.0 same_spelt))
+            (subst (λ z. Fits z (keys_in a) a.sibs a.root a.spelled.0 a.uses.homes (cells_of a.cells.items) a.count a.next a.marks.homes) (sym same_rows) w)
 
-          pub same_given : Spelled (rows_of rewritten) a.sibs.lists a.root × (HoldsOf (rows_of rewritten) (keys_in a) × (GoneOf (rows_of rewritten) (keys_in a) × Unit {0}))
-          same_given = subst (λ z. Spelled z a.sibs.lists a.root × (HoldsOf z (keys_in a) × (GoneOf z (keys_in a) × Unit {0}))) (sym same_rows) (a.spelled, (a.holds, (a.lacks, tt)))
-
-          same_spelt : SpellsOp (rows_of rewritten) a.sibs.lists a.root a.spelled.0
-          same_spelt = subst (λ z. SpellsOp z a.sibs.lists a.root a.spelled.0) (sym same_rows) a.spelled.1
-
-          pub same_fits : (s : Spelled (rows_of rewritten) a.sibs.lists a.root) → Fits (rows_of rewritten) (keys_in a) a.sibs a.root s.0 a.uses.homes (cells_of a.cells.items) a.count a.next a.marks.homes
-          same_fits s = subst (λ z. Fits (rows_of rewritten) (keys_in a) a.sibs a.root z a.uses.homes (cells_of a.cells.items) a.count a.next a.marks.homes) (sym (spelled_is (rows_of rewritten) a.sibs.lists a.root s a.spelled.0 same_spelt))
-              (subst (λ z. Fits z (keys_in a) a.sibs a.root a.spelled.0 a.uses.homes (cells_of a.cells.items) a.count a.next a.marks.homes) (sym same_rows) w)
-
-          pub same_done : (s : Spelled (rows_of rewritten) a.sibs.lists a.root) (h : HoldsOf (rows_of rewritten) (keys_in a)) (g : GoneOf (rows_of rewritten) (keys_in a))
-              → ◌≡◌ {A = Stored} (record { module_of = record { tree = s.0; next = a.next }; held = h.0; gone = g.0 }) (stored a)
-          same_done s h g =
-              let e1 = spelled_is (rows_of rewritten) a.sibs.lists a.root s a.spelled.0 same_spelt in
-              let e2 = map_is (λ y. held_in (rows_of rewritten) (keys_in a y)) h a.holds.0 (λ y. a.holds.1 y ∙ ap (λ z. held_in z (keys_in a y)) (sym same_rows)) in
-              let e3 = map_is (λ y. gone_in (rows_of rewritten) (keys_in a y)) g a.lacks.0 (λ y. a.lacks.1 y ∙ ap (λ z. gone_in z (keys_in a y)) (sym same_rows)) in
-              λ i. record { module_of = record { tree = e1 i; next = a.next }; held = e2 i; gone = e3 i }
-
-        -- or what is written is one of both
-        module _ (m : Kept) (em : (row_of m ≡ row_with_entry before part j v (row_of n)) ⊎ (row_of m ≡ row_of n)) where
-          pub either_given : Spelled (rows_of (set a.rows.items k m)) a.sibs.lists a.root × (HoldsOf (rows_of (set a.rows.items k m)) (keys_in a) × (GoneOf (rows_of (set a.rows.items k m)) (keys_in a) × Unit {0}))
-          either_given = ⊎_elim (λ e. entry_given m e) (λ e. same_given m e) em
+        pub same_done : (s : Spelled rewritten a.sibs.lists a.root) (h : HoldsOf rewritten (keys_in a)) (g : GoneOf rewritten (keys_in a))
+            → ◌≡◌ {A = Stored} (record { module_of = record { tree = s.0; next = a.next }; held = h.0; gone = g.0 }) (stored a)
+        same_done s h g =
+            let e1 = spelled_is rewritten a.sibs.lists a.root s a.spelled.0 same_spelt in
+            let e2 = map_is (λ y. held_in rewritten (keys_in a y)) h a.holds.0 (λ y. a.holds.1 y ∙ ap (λ z. held_in z (keys_in a y)) (sym same_rows)) in
+            let e3 = map_is (λ y. gone_in rewritten (keys_in a y)) g a.lacks.0 (λ y. a.lacks.1 y ∙ ap (λ z. gone_in z (keys_in a y)) (sym same_rows)) in
+            λ i. record { module_of = record { tree = e1 i; next = a.next }; held = e2 i; gone = e3 i }

@@ -36,11 +36,30 @@ key_put m m' x y k ey e z =
     ap (λ l. finmap.get l z) (e ∙ ap (λ w. finmap.insert m w k) ey) ∙ finmap.get-insert nat_cmp_total m x k z
     ∙ ap (λ b. cond b (Some k) (finmap.get m z)) (eq_nat z x ∙ ⊎_elim (λ f. eq-eqb z x f ∙ sym (eq-eqb x z (sym f))) (λ n. ne_eqb z x n ∙ sym (ne_eqb x z (λ f. n (sym f)))) (cases_eq z x))
 
+-- and gives it back
+pub key_back : (m m' m'' : finmap.FinMap nat_cmp ℕ) (x y z k : ℕ) → y ≡ x → z ≡ x → m' ≡ finmap.insert m y k → m'' ≡ finmap.remove m' z → finmap.get m x ≡ None → (q : ℕ) → finmap.get m'' q ≡ finmap.get m q
+key_back m m' m'' x y z k ey ez e f none q = ⊎_elim
+    (λ s. ap (finmap.get m'') s ∙ own ∙ sym none ∙ ap (finmap.get m) (sym s))
+    (λ n. ap (λ l. finmap.get l q) removed ∙ other n ∙ key_put m m' x y k ey e q ∙ ap (λ b. cond b (Some k) (finmap.get m q)) (ne_eqb x q (λ s. n (sym s))))
+    (cases_eq q x)
+  where
+    removed : m'' ≡ finmap.remove m' x
+    removed = f ∙ ap (finmap.remove m') ez
+
+    look : (l : ℕ) → finmap.get m'' l ≡ cond (eqb l x) None (finmap.get m' l)
+    look l = ap (λ s. finmap.get s l) removed ∙ finmap.get-remove nat_cmp_total m' x l ∙ ap (λ b. cond b None (finmap.get m' l)) (eq_nat l x)
+
+    own : finmap.get m'' x ≡ None
+    own = look x ∙ ap (λ b. cond b None (finmap.get m' x)) (eq-eqb x x refl)
+
+    other : (q ≡ x → ⊥) → finmap.get (finmap.remove m' x) q ≡ finmap.get m' q
+    other n = sym (ap (λ s. finmap.get s q) removed) ∙ look q ∙ ap (λ b. cond b None (finmap.get m' q)) (ne_eqb q x n)
+
 pub spare_mark : (b : Row) → b.used ≡ false → b.live ≡ false → mark b ≡ mark no_row
 spare_mark b e f = ap (λ l. if l then (if has_gone b.gone then Some 1 else None) else (if b.used then Some 0 else None)) f ∙ ap (λ u. if u then Some 0 else None) e
 
 abbrev pub parts : Inside → Parts
-parts a = parts_of a.rows.items a.sibs a.uses a.cells.items
+parts a = parts_of a.rows a.sibs a.uses a.cells.items
 
 module _ (a : Inside) (w : Whole a) where
   pub is_even : Laws a.sibs.lists a.sibs.homes → IsEven (parts a)

@@ -12,12 +12,11 @@ use Rattle.ir_tree.specs.declared.value.Value.TheVariants.{Result, Arg}
 use Rattle.ir_tree.specs.Frames.{owner_of}
 use Rattle.ir_tree.specs.Tree.{Head, Op, op, Regions, no_regions, region, Region, empty, block, Ops, no_ops, next}
 use Rattle.ir_tree.specs.Ids.{has_id, op_count, HasDistinctIds}
-use Rattle.ir_store_reads.specs.Row.{Row as Kept}
 use Rattle.ir_store.specs.declared.store.Store.TheInside.{Inside}
 use Rattle.ir_store_reads.specs.Stored.{Gone, none_gone}
 use Rattle.ir_store.specs.Calls.{Releases, gone_left}
 use Rattle.ir_store_reads.specs.Releases.{is_given, released, key_left}
-use Rattle.ir_store_reads.specs.Rows.{Row, Shape, row_at, rows_of, held_in, gone_in, bare, if_live}
+use Rattle.ir_store_reads.specs.Rows.{Row, Shape, row_at, vacated, held_in, gone_in, bare, if_live}
 use Rattle.ir_store_reads.specs.Spells.{SpellsOp, SpellsRegions, SpellsRegion, SpellsOps, Spelled, spelled_is}
 use Rattle.ir_store.specs.Holds.{HoldsOf, GoneOf, map_is}
 use Rattle.ir_store_reads.specs.Right.{Live, Used, Right}
@@ -61,14 +60,14 @@ both_of : (c d : Bool) → (not c && d) ≡ true → (c ≡ false) × (d ≡ tru
 both_of true d e = absurd (false≢true e)
 both_of false d e = (refl, e)
 
--- all but `used` and what is gone stays
-pub any_field : {A : Type 0} (f : Row → A) (b : Row) → f (record b { used = false }) ≡ f b → f (record b { gone = none_gone }) ≡ f b
-    → (c d : Bool) → f (if c then record b { used = false } else (if d then record b { gone = none_gone } else b)) ≡ f b
+-- what a row has that is given up stays, and all but what is gone of one that isn't
+pub any_field : {A : Type 0} (f : Row → A) (b : Row) → f (vacated b) ≡ f b → f (record b { gone = none_gone }) ≡ f b
+    → (c d : Bool) → f (if c then vacated b else (if d then record b { gone = none_gone } else b)) ≡ f b
 any_field f b e g true d = e
 any_field f b e g false true = g
 any_field f b e g false false = refl
 
-used_field : (b : Row) (c d : Bool) → (if c then record b { used = false } else (if d then record b { gone = none_gone } else b)).used ≡ (not c && b.used)
+used_field : (b : Row) (c d : Bool) → (if c then vacated b else (if d then record b { gone = none_gone } else b)).used ≡ (not c && b.used)
 used_field b true d = refl
 used_field b false true = refl
 used_field b false false = refl
@@ -81,11 +80,13 @@ live_given u false w e = absurd (false≢true e)
 pub live_not_given : (from : ℕ) (b : Row) → b.live ≡ true → is_given from b ≡ false
 live_not_given from b e = live_given b.used b.live (not (nat_lt b.head.id from)) e
 
--- a tree is spelled by rows that have the same heads and shapes
-module _ (rows rows' : List Row) (lists : List (List ℕ)) (live : (k : ℕ) → (row_at rows' k).live ≡ (row_at rows k).live) (heads : (k : ℕ) → (row_at rows' k).head ≡ (row_at rows k).head) (shapes : (k : ℕ) → (row_at rows' k).shapes ≡ (row_at rows k).shapes) where
+-- a tree is spelled by rows of which those in it have the same heads and shapes
+module _ (rows rows' : List Row) (lists : List (List ℕ)) (live : (k : ℕ) → (row_at rows' k).live ≡ (row_at rows k).live) (heads : (k : ℕ) → Live rows k → (row_at rows' k).head ≡ (row_at rows k).head) (shapes : (k : ℕ) → Live rows k → (row_at rows' k).shapes ≡ (row_at rows k).shapes) where
   mutual
     pub still_spells : (k : ℕ) (t : Op) → SpellsOp rows lists k t → SpellsOp rows' lists k t
-    still_spells k (op h rs) s = (live k ∙ s.0, (heads k ∙ s.1.0, subst (λ z. SpellsRegions rows' lists z rs) (sym (shapes k)) (still_regions (row_at rows k).shapes rs s.1.1)))
+    still_spells k (op h rs) s =
+        let l : Live rows k = record { live = s.0 } in
+        (live k ∙ s.0, (heads k l ∙ s.1.0, subst (λ z. SpellsRegions rows' lists z rs) (sym (shapes k l)) (still_regions (row_at rows k).shapes rs s.1.1)))
 
     still_regions : (xs : List Shape) (rs : Regions) → SpellsRegions rows lists xs rs → SpellsRegions rows' lists xs rs
     still_regions [] no_regions s = tt
@@ -108,8 +109,18 @@ module _ (rows rows' : List Row) (lists : List (List ℕ)) (live : (k : ℕ) →
 module _ (from : ℕ) (rows : List Row) (keys : ℕ → Option ℕ) (sibs : Lists) (root : ℕ) (t : Op) (r : Right rows keys sibs root t) (s : SpellsOp rows sibs.lists root t)
     (rows' : List Row) (long' : length rows' ≡ length rows) (all : (q : ℕ) → row_at rows' q ≡ released from (row_at rows q))
     (keys' : ℕ → Option ℕ) (left : (y : ℕ) → keys' y ≡ key_left from rows (keys y)) where
-  kept : {A : Type 0} (f : Row → A) → ((b : Row) → f (record b { used = false }) ≡ f b) → ((b : Row) → f (record b { gone = none_gone }) ≡ f b) → (q : ℕ) → f (row_at rows' q) ≡ f (row_at rows q)
+  kept : {A : Type 0} (f : Row → A) → ((b : Row) → f (vacated b) ≡ f b) → ((b : Row) → f (record b { gone = none_gone }) ≡ f b) → (q : ℕ) → f (row_at rows' q) ≡ f (row_at rows q)
   kept f e g q = let b = row_at rows q in ap f (all q) ∙ any_field f b (e b) (g b) (is_given from b) (b.live && eqb from 0)
+
+  -- all that isn't given up keeps all but what is gone
+  kept_in : {A : Type 0} (f : Row → A) → ((b : Row) → f (record b { gone = none_gone }) ≡ f b) → (q : ℕ) → is_given from (row_at rows q) ≡ false → f (row_at rows' q) ≡ f (row_at rows q)
+  kept_in f g q n =
+      let b = row_at rows q in
+      ap f (all q) ∙ ap (λ c. f (if c then vacated b else (if b.live && eqb from 0 then record b { gone = none_gone } else b))) n ∙ test (b.live && eqb from 0) (g b)
+    where
+      test : (d : Bool) → f (record (row_at rows q) { gone = none_gone }) ≡ f (row_at rows q) → f (if d then record (row_at rows q) { gone = none_gone } else row_at rows q) ≡ f (row_at rows q)
+      test true e = e
+      test false e = refl
 
   live_was : (q : ℕ) → Live rows' q → Live rows q
   live_was q l = record { live = sym (kept (λ z. z.live) (λ b. refl) (λ b. refl) q) ∙ l.live }
@@ -142,11 +153,14 @@ module _ (from : ℕ) (rows : List Row) (keys : ℕ → Option ℕ) (sibs : List
   live_key : (y q : ℕ) → keys y ≡ Some q → Live rows q → keys' y ≡ Some q
   live_key y q e l = key_still y q e (live_not_given from (row_at rows q) l.live)
 
-  pub release_spells : SpellsOp rows' sibs.lists root t
-  release_spells = still_spells rows rows' sibs.lists (kept (λ z. z.live) (λ b. refl) (λ b. refl)) (kept (λ z. z.head) (λ b. refl) (λ b. refl)) (kept (λ z. z.shapes) (λ b. refl) (λ b. refl)) root t s
+  live_out : (q : ℕ) → Live rows q → is_given from (row_at rows q) ≡ false
+  live_out q l = live_not_given from (row_at rows q) l.live
 
-  shapes_same : (q i : ℕ) → slice_get (row_at rows' q).shapes i ≡ slice_get (row_at rows q).shapes i
-  shapes_same q i = ap (λ z. slice_get z i) (kept (λ z. z.shapes) (λ b. refl) (λ b. refl) q)
+  pub release_spells : SpellsOp rows' sibs.lists root t
+  release_spells = still_spells rows rows' sibs.lists (kept (λ z. z.live) (λ b. refl) (λ b. refl)) (λ q l. kept_in (λ z. z.head) (λ b. refl) q (live_out q l)) (λ q l. kept_in (λ z. z.shapes) (λ b. refl) q (live_out q l)) root t s
+
+  shapes_same : (q i : ℕ) → is_given from (row_at rows q) ≡ false → slice_get (row_at rows' q).shapes i ≡ slice_get (row_at rows q).shapes i
+  shapes_same q i n = ap (λ z. slice_get z i) (kept_in (λ z. z.shapes) (λ b. refl) q n)
 
   pub release_right : Right rows' keys' sibs root t
   release_right = record {
@@ -155,20 +169,20 @@ module _ (from : ℕ) (rows : List Row) (keys : ℕ → Option ℕ) (sibs : List
     live_used = λ q l. let w = live_was q l in used_still q (live_not_given from (row_at rows q) w.live) (r.live_used q w);
     keyed = λ q u.
         let w = left_in q u in
-        ap (λ z. keys' z.id) (kept (λ z. z.head) (λ b. refl) (λ b. refl) q) ∙ key_still (row_at rows q).head.id q (r.keyed q w.1) w.0;
+        ap keys' (kept (λ z. z.head.id) (λ b. refl) (λ b. refl) q) ∙ key_still (row_at rows q).head.id q (r.keyed q w.1) w.0;
     known = λ y q e.
         let w = key_was y q e in
         let h = r.known y q w.0 in
-        record { used = used_still q w.1 h.used; id = ap (λ z. z.id) (kept (λ z. z.head) (λ b. refl) (λ b. refl) q) ∙ h.id };
+        record { used = used_still q w.1 h.used; id = kept (λ z. z.head.id) (λ b. refl) (λ b. refl) q ∙ h.id };
     top = r.top;
     blocks = λ q i a u e.
-        let old = r.blocks q i a (left_in q u).1 (sym (shapes_same q i) ∙ e) in
+        let old = r.blocks q i a (left_in q u).1 (sym (shapes_same q i (left_in q u).0) ∙ e) in
         record { head = old.head; owner = kept (λ z. z.owner) (λ b. refl) (λ b. refl) a.1 ∙ old.owner; region = kept (λ z. z.region) (λ b. refl) (λ b. refl) a.1 ∙ old.region };
     items = λ q l ne. r.items q (live_was q l) ne;
     held = λ q u e.
         let old = r.held q (left_in q u).1 (sym (kept (λ z. z.live) (λ b. refl) (λ b. refl) q) ∙ e) in
-        record { out = old.out; bare = λ i a f. old.bare i a (sym (shapes_same q i) ∙ f) };
-    covers = λ q l. ap (λ z. has_id z.id t) (kept (λ z. z.head) (λ b. refl) (λ b. refl) q) ∙ r.covers q (live_was q l);
+        record { out = old.out; bare = λ i a f. old.bare i a (sym (shapes_same q i (left_in q u).0) ∙ f) };
+    covers = λ q l. ap (λ z. has_id z t) (kept (λ z. z.head.id) (λ b. refl) (λ b. refl) q) ∙ r.covers q (live_was q l);
   }
 
   -- what is held
@@ -185,10 +199,10 @@ module _ (from : ℕ) (rows : List Row) (keys : ℕ → Option ℕ) (sibs : List
       test k true false false e = refl
       test k false l b e = absurd (false≢true e)
 
-      pass : (k : ℕ) (c : Bool) → (if c then None else held_in rows (Some k)) ≡ held_in rows' (if c then None else Some k)
-      pass k true = refl
-      pass k false =
-          let e = kept bare (λ b. refl) (λ b. refl) k in
+      pass : (k : ℕ) (c : Bool) → is_given from (row_at rows k) ≡ c → (if c then None else held_in rows (Some k)) ≡ held_in rows' (if c then None else Some k)
+      pass k true n = refl
+      pass k false n =
+          let e = kept_in bare (λ b. refl) k n in
           let f = kept (λ z. z.live) (λ b. refl) (λ b. refl) k in
           λ i. if sym f i then None else Some (sym e i)
 
@@ -199,7 +213,7 @@ module _ (from : ℕ) (rows : List Row) (keys : ℕ → Option ℕ) (sibs : List
           let b = row_at rows k in
           test k b.used b.live (nat_lt y from) w.used.used
           ∙ ap (λ z. if b.used && (not b.live && not (nat_lt z from)) then None else held_in rows (Some k)) (sym w.id)
-          ∙ pass k (is_given from b)
+          ∙ pass k (is_given from b) refl
 
   -- what is gone
   abbrev pub lack : Gone → Gone
@@ -214,7 +228,7 @@ module _ (from : ℕ) (rows : List Row) (keys : ℕ → Option ℕ) (sibs : List
   gone_was : (k : ℕ) → Used rows k → is_given from (row_at rows k) ≡ false → (row_at rows' k).gone ≡ lack (row_at rows k).gone
   gone_was k u n =
       let b = row_at rows k in
-      ap (λ z. z.gone) (all k) ∙ ap (λ c. (if c then record b { used = false } else (if b.live && eqb from 0 then record b { gone = none_gone } else b)).gone) n
+      ap (λ z. z.gone) (all k) ∙ ap (λ c. (if c then vacated b else (if b.live && eqb from 0 then record b { gone = none_gone } else b)).gone) n
       ∙ test b.used b.live (eqb from 0) (nat_lt b.head.id from) u.used n (none_below b.head.id)
     where
       test : (u l z b : Bool) → u ≡ true → (u && (not l && not b)) ≡ false → (z ≡ true → b ≡ false)
@@ -252,7 +266,7 @@ module _ (from : ℕ) (rows : List Row) (keys : ℕ → Option ℕ) (sibs : List
           let b = row_at rows k in
           let n : is_given from b ≡ false = λ i. u.used i && (not (f i) && not (g i)) in
           ap (λ c. gone_in rows' (if c then None else Some k)) n
-          ∙ ap Some (ap (λ z. z.gone) (all k) ∙ ap (λ c. (if c then record b { used = false } else (if b.live && eqb from 0 then record b { gone = none_gone } else b)).gone) n
+          ∙ ap Some (ap (λ z. z.gone) (all k) ∙ ap (λ c. (if c then vacated b else (if b.live && eqb from 0 then record b { gone = none_gone } else b)).gone) n
           ∙ ap (λ c. (if c && eqb from 0 then record b { gone = none_gone } else b).gone) f)
 
       go : (o : Option ℕ) → keys x ≡ o → gone_in rows' (keys' x) ≡ (if is_some (if_live rows (keys x)) then gone_left from (gone_in rows (keys x)) else (if nat_lt x from then gone_in rows (keys x) else None))
@@ -275,9 +289,9 @@ module _ (from : ℕ) (rows : List Row) (keys : ℕ → Option ℕ) (sibs : List
   argument_same i None = refl
   argument_same i (Some a) = ap (λ z. argument_with z i a) (kept (λ z. z.values) (λ b. refl) (λ b. refl) a.1)
 
-  slot_same : (v : Value) (q : ℕ) → slot_head rows' v q ≡ slot_head rows v q
-  slot_same (Result y i) q = λ j. result_with i (kept (λ z. z.head) (λ b. refl) (λ b. refl) q j) (kept (λ z. z.values) (λ b. refl) (λ b. refl) q j)
-  slot_same (Arg y n i) q = ap (λ z. option_and_then (argument_head rows' i) z) (shapes_same q n) ∙ arguments_same (slice_get (row_at rows q).shapes n)
+  slot_same : (v : Value) (q : ℕ) → is_given from (row_at rows q) ≡ false → slot_head rows' v q ≡ slot_head rows v q
+  slot_same (Result y i) q g = λ j. result_with i (kept_in (λ z. z.head) (λ b. refl) q g j) (kept (λ z. z.values) (λ b. refl) (λ b. refl) q j)
+  slot_same (Arg y n i) q g = ap (λ z. option_and_then (argument_head rows' i) z) (shapes_same q n g) ∙ arguments_same (slice_get (row_at rows q).shapes n)
     where
       arguments_same : (o : Option Shape) → option_and_then (argument_head rows' i) o ≡ option_and_then (argument_head rows i) o
       arguments_same None = refl
@@ -288,13 +302,13 @@ module _ (from : ℕ) (rows : List Row) (keys : ℕ → Option ℕ) (sibs : List
     where
       go : (o : Option ℕ) → keys' (owner_of v).0 ≡ o → option_and_then (slot_head rows' v) o ≡ Some h → value_head rows keys v ≡ Some h
       go None f g = absurd cc
-      go (Some q) f g = ap (option_and_then (slot_head rows v)) (key_was (owner_of v).0 q f).0 ∙ sym (slot_same v q) ∙ g
+      go (Some q) f g = let w = key_was (owner_of v).0 q f in ap (option_and_then (slot_head rows v)) w.0 ∙ sym (slot_same v q w.1) ∙ g
 
   head_still : (v : Value) (q : ℕ) → keys (owner_of v).0 ≡ Some q → Live rows q → value_head rows' keys' v ≡ value_head rows keys v
-  head_still v q e l = ap (option_and_then (slot_head rows' v)) (live_key (owner_of v).0 q e l) ∙ slot_same v q ∙ sym (ap (option_and_then (slot_head rows v)) e)
+  head_still v q e l = ap (option_and_then (slot_head rows' v)) (live_key (owner_of v).0 q e l) ∙ slot_same v q (live_out q l) ∙ sym (ap (option_and_then (slot_head rows v)) e)
 
-  operand_same : (q j : ℕ) → operand_at rows' q j ≡ operand_at rows q j
-  operand_same q j = ap (λ z. slice_get z.operands j) (kept (λ z. z.head) (λ b. refl) (λ b. refl) q)
+  operand_same : (q j : ℕ) → is_given from (row_at rows q) ≡ false → operand_at rows' q j ≡ operand_at rows q j
+  operand_same q j n = ap (λ z. slice_get z.operands j) (kept_in (λ z. z.head) (λ b. refl) q n)
 
   uses_same : (q : ℕ) → (row_at rows' q).uses ≡ (row_at rows q).uses
   uses_same q = kept (λ z. z.uses) (λ b. refl) (λ b. refl) q
@@ -304,18 +318,18 @@ module _ (from : ℕ) (rows : List Row) (keys : ℕ → Option ℕ) (sibs : List
     release_index = record {
       counted = ix.counted;
       cell = λ q j v u e.
-          let old = ix.cell q j v (left_in q u).1 (sym (operand_same q j) ∙ e) in
+          let old = ix.cell q j v (left_in q u).1 (sym (operand_same q j (left_in q u).0) ∙ e) in
           let at : (row_at rows' q).uses ≡ (row_at rows q).uses = uses_same q in
           record { inside = omega (arith, old.inside, at); cell = ap (λ z. cell_of (z + j)) at ∙ old.cell };
       linked = λ q j v u e o.
           let l = live_was q (record { live = o }) in
-          let f = sym (operand_same q j) ∙ e in
+          let f = sym (operand_same q j (left_in q u).0) ∙ e in
           let old = ix.linked q j v (left_in q u).1 f l.live in
           let w = some_live rows keys (owner_of v).0 (owned q j v l f) in
           subst (λ z. LinkedTo rows' keys' homes (z + j) v) (sym (uses_same q))
           (record { item = old.item; home = head_still v w.0 w.1.0 w.1.1 ∙ old.home });
       loose = λ q j v u e o.
-          ap (λ z. home_at homes (z + j)) (uses_same q) ∙ ix.loose q j v (left_in q u).1 (sym (operand_same q j) ∙ e) (sym (kept (λ z. z.live) (λ b. refl) (λ b. refl) q) ∙ o);
+          ap (λ z. home_at homes (z + j)) (uses_same q) ∙ ix.loose q j v (left_in q u).1 (sym (operand_same q j (left_in q u).0) ∙ e) (sym (kept (λ z. z.live) (λ b. refl) (λ b. refl) q) ∙ o);
       users = λ u i.
           let s = ix.users u i in
           let n = live_not_given from (row_at rows s.row) s.put in
@@ -323,7 +337,7 @@ module _ (from : ℕ) (rows : List Row) (keys : ℕ → Option ℕ) (sibs : List
             row = s.row;
             place = s.place;
             value = s.value;
-            use_of = record { used = used_still s.row n s.use_of.used; operand = operand_same s.row s.place ∙ s.use_of.operand; node = ap (λ z. z + s.place) (uses_same s.row) ∙ s.use_of.node };
+            use_of = record { used = used_still s.row n s.use_of.used; operand = operand_same s.row s.place n ∙ s.use_of.operand; node = ap (λ z. z + s.place) (uses_same s.row) ∙ s.use_of.node };
             put = kept (λ z. z.live) (λ b. refl) (λ b. refl) s.row ∙ s.put;
           };
       heads = λ v h e. ix.heads v h (head_was v h e);
@@ -336,54 +350,54 @@ module _ (from : ℕ) (rows : List Row) (keys : ℕ → Option ℕ) (sibs : List
     pub release_owned : HasOwners rows' keys'
     release_owned q j v l e =
         live_stays rows rows' keys keys' (owner_of v).0 (λ p g lp. (live_key (owner_of v).0 p g lp, record { live = kept (λ z. z.live) (λ b. refl) (λ b. refl) p ∙ lp.live }))
-        (owned q j v (live_was q l) (sym (operand_same q j) ∙ e))
+        (owned q j v (live_was q l) (sym (operand_same q j (live_out q (live_was q l))) ∙ e))
 
   pub release_celled : (cells : List (ℕ × ℕ)) → Celled rows cells → Celled rows' cells
-  release_celled cells c = celled_same rows rows' cells c (λ q u. (left_in q u).1) (kept (λ z. z.head.results) (λ b. refl) (λ b. refl)) (kept (λ z. z.shapes) (λ b. refl) (λ b. refl)) (kept (λ z. z.values) (λ b. refl) (λ b. refl))
+  release_celled cells c = celled_same rows rows' cells c (λ q u. (left_in q u).1) (λ q u. kept_in (λ z. z.head.results) (λ b. refl) q (left_in q u).0) (λ q u. kept_in (λ z. z.shapes) (λ b. refl) q (left_in q u).0) (kept (λ z. z.values) (λ b. refl) (λ b. refl))
 
   pub release_below : (n : ℕ) → HasIdsBelow n rows → HasIdsBelow n rows'
-  release_below n b q l = subst (λ z. z.id < n) (sym (kept (λ z. z.head) (λ b. refl) (λ b. refl) q)) (b q (live_was q l))
+  release_below n b q l = subst (λ z. z < n) (sym (kept (λ z. z.head.id) (λ b. refl) (λ b. refl) q)) (b q (live_was q l))
 
 -- the same, as the call's steps tell it
-module _ (a : Inside) (w : Whole a) (from : ℕ) (items : List Kept) (long : length (rows_of items) ≡ length (rows_in a)) (all : (q : ℕ) → row_at (rows_of items) q ≡ released from (row_at (rows_in a) q))
+module _ (a : Inside) (w : Whole a) (from : ℕ) (rows' : List Row) (long : length rows' ≡ length (rows_in a)) (all : (q : ℕ) → row_at rows' q ≡ released from (row_at (rows_in a) q))
     (keys' : ℕ → Option ℕ) (left : (y : ℕ) → keys' y ≡ key_left from (rows_in a) (keys_in a y)) where
-  spells : SpellsOp (rows_of items) a.sibs.lists a.root a.spelled.0
-  spells = release_spells from (rows_in a) (keys_in a) a.sibs a.root a.spelled.0 w.right a.spelled.1 (rows_of items) long all keys' left
+  spells : SpellsOp rows' a.sibs.lists a.root a.spelled.0
+  spells = release_spells from (rows_in a) (keys_in a) a.sibs a.root a.spelled.0 w.right a.spelled.1 rows' long all keys' left
 
-  holds : (y : ℕ) → finmap.get (finmap.retain_keys a.holds.0 (λ x. nat_lt x from)) y ≡ held_in (rows_of items) (keys' y)
-  holds = release_holds from (rows_in a) (keys_in a) a.sibs a.root a.spelled.0 w.right a.spelled.1 (rows_of items) long all keys' left a.holds.0 a.holds.1
+  holds : (y : ℕ) → finmap.get (finmap.retain_keys a.holds.0 (λ x. nat_lt x from)) y ≡ held_in rows' (keys' y)
+  holds = release_holds from (rows_in a) (keys_in a) a.sibs a.root a.spelled.0 w.right a.spelled.1 rows' long all keys' left a.holds.0 a.holds.1
 
   abbrev lacked : finmap.FinMap nat_cmp Gone
-  lacked = lacks_left from (rows_in a) (keys_in a) a.sibs a.root a.spelled.0 w.right a.spelled.1 (rows_of items) long all keys' left a.lacks.0
+  lacked = lacks_left from (rows_in a) (keys_in a) a.sibs a.root a.spelled.0 w.right a.spelled.1 rows' long all keys' left a.lacks.0
 
-  lacks : (y : ℕ) → finmap.get lacked y ≡ gone_in (rows_of items) (keys' y)
-  lacks = release_gone from (rows_in a) (keys_in a) a.sibs a.root a.spelled.0 w.right a.spelled.1 (rows_of items) long all keys' left a.lacks.0 a.lacks.1
+  lacks : (y : ℕ) → finmap.get lacked y ≡ gone_in rows' (keys' y)
+  lacks = release_gone from (rows_in a) (keys_in a) a.sibs a.root a.spelled.0 w.right a.spelled.1 rows' long all keys' left a.lacks.0 a.lacks.1
 
-  pub release_given : Spelled (rows_of items) a.sibs.lists a.root × (HoldsOf (rows_of items) keys' × (GoneOf (rows_of items) keys' × Unit {0}))
+  pub release_given : Spelled rows' a.sibs.lists a.root × (HoldsOf rows' keys' × (GoneOf rows' keys' × Unit {0}))
   release_given = ((a.spelled.0, spells), ((finmap.retain_keys a.holds.0 (λ x. nat_lt x from), holds), ((lacked, lacks), tt)))
 
-  pub release_fits : (s : Spelled (rows_of items) a.sibs.lists a.root) (marks : List ℕ) → Marked (rows_of items) marks → Fits (rows_of items) keys' a.sibs a.root s.0 a.uses.homes (cells_of a.cells.items) a.count a.next marks
+  pub release_fits : (s : Spelled rows' a.sibs.lists a.root) (marks : List ℕ) → Marked rows' marks → Fits rows' keys' a.sibs a.root s.0 a.uses.homes (cells_of a.cells.items) a.count a.next marks
   release_fits s marks m =
-      let e = spelled_is (rows_of items) a.sibs.lists a.root s a.spelled.0 spells in
+      let e = spelled_is rows' a.sibs.lists a.root s a.spelled.0 spells in
       record {
-        right = subst (Right (rows_of items) keys' a.sibs a.root) (sym e) (release_right from (rows_in a) (keys_in a) a.sibs a.root a.spelled.0 w.right a.spelled.1 (rows_of items) long all keys' left);
+        right = subst (Right rows' keys' a.sibs a.root) (sym e) (release_right from (rows_in a) (keys_in a) a.sibs a.root a.spelled.0 w.right a.spelled.1 rows' long all keys' left);
         few = w.few;
-        index = release_index from (rows_in a) (keys_in a) a.sibs a.root a.spelled.0 w.right a.spelled.1 (rows_of items) long all keys' left a.uses.homes (cells_of a.cells.items) w.index w.owned;
+        index = release_index from (rows_in a) (keys_in a) a.sibs a.root a.spelled.0 w.right a.spelled.1 rows' long all keys' left a.uses.homes (cells_of a.cells.items) w.index w.owned;
         distinct = subst HasDistinctIds (sym e) w.distinct;
         counted = w.counted ∙ ap op_count (sym e);
-        below = release_below from (rows_in a) (keys_in a) a.sibs a.root a.spelled.0 w.right a.spelled.1 (rows_of items) long all keys' left a.next w.below;
-        owned = release_owned from (rows_in a) (keys_in a) a.sibs a.root a.spelled.0 w.right a.spelled.1 (rows_of items) long all keys' left a.uses.homes (cells_of a.cells.items) w.index w.owned;
+        below = release_below from (rows_in a) (keys_in a) a.sibs a.root a.spelled.0 w.right a.spelled.1 rows' long all keys' left a.next w.below;
+        owned = release_owned from (rows_in a) (keys_in a) a.sibs a.root a.spelled.0 w.right a.spelled.1 rows' long all keys' left a.uses.homes (cells_of a.cells.items) w.index w.owned;
         marked = m;
-        celled = release_celled from (rows_in a) (keys_in a) a.sibs a.root a.spelled.0 w.right a.spelled.1 (rows_of items) long all keys' left (cells_of a.cells.items) w.celled;
+        celled = release_celled from (rows_in a) (keys_in a) a.sibs a.root a.spelled.0 w.right a.spelled.1 rows' long all keys' left (cells_of a.cells.items) w.celled;
       }
 
-  pub release_done : (s : Spelled (rows_of items) a.sibs.lists a.root) (h : HoldsOf (rows_of items) keys') (g : GoneOf (rows_of items) keys')
+  pub release_done : (s : Spelled rows' a.sibs.lists a.root) (h : HoldsOf rows' keys') (g : GoneOf rows' keys')
       → Releases from (stored a) (record { module_of = record { tree = s.0; next = a.next }; held = h.0; gone = g.0 })
   release_done s h g =
-      let e = spelled_is (rows_of items) a.sibs.lists a.root s a.spelled.0 spells in
+      let e = spelled_is rows' a.sibs.lists a.root s a.spelled.0 spells in
       record {
         module_of = λ i. record { tree = e i; next = a.next };
-        held = map_is (λ y. held_in (rows_of items) (keys' y)) h (finmap.retain_keys a.holds.0 (λ x. nat_lt x from)) holds;
-        gone = λ x. g.1 x ∙ gone_is from (rows_in a) (keys_in a) a.sibs a.root a.spelled.0 w.right a.spelled.1 (rows_of items) long all keys' left x
+        held = map_is (λ y. held_in rows' (keys' y)) h (finmap.retain_keys a.holds.0 (λ x. nat_lt x from)) holds;
+        gone = λ x. g.1 x ∙ gone_is from (rows_in a) (keys_in a) a.sibs a.root a.spelled.0 w.right a.spelled.1 rows' long all keys' left x
             ∙ ap (λ o. if has_id x a.spelled.0 then gone_left from o else (if nat_lt x from then o else None)) (sym (a.lacks.1 x));
       }

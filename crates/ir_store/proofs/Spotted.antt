@@ -3,22 +3,20 @@ use Rattle.std.proofs.Common.{◌≡◌, ℕ, ◌<◌, List, set, get_or, refl, 
 use Rattle.std.specs.Prelude.{option_and_then}
 use Rattle.std.specs.FinMap as finmap
 use Rattle.std.proofs.lemmas.Bool.{cases_eq, eqb-true, false≢true}
-use Rattle.std.proofs.lemmas.List.{length-set, length-map}
 use Rattle.ir_store_reads.specs.Lists.{Lists, Laws, home_at, free, IsHead, IsItem, IsFree}
 use Rattle.ir_tree.specs.declared.place.Place.{Place}
 use Rattle.ir_tree.specs.Tree.{Op}
 use Rattle.ir_tree.specs.Places.{put}
-use Rattle.ir_store_reads.specs.Row.{Row as Kept}
 use Rattle.ir_store.specs.declared.store.Store.TheInside.{Inside}
 use Rattle.ir_store_reads.specs.Stored.{Stored}
 use Rattle.ir_store.specs.Calls.{after_restore, put_held}
-use Rattle.ir_store_reads.specs.Rows.{Row, Shape, row_at, row_of, rows_of, live_slot, held_slot, if_held, head_in, held_in, gone_in, bare}
+use Rattle.ir_store_reads.specs.Rows.{Row, Shape, row_at, live_slot, held_slot, if_held, head_in, held_in, gone_in, bare}
 use Rattle.ir_store_reads.specs.Spells.{SpellsOp, Spelled, spelled_is}
 use Rattle.ir_store.specs.Holds.{HoldsOf, GoneOf, map_is}
 use Rattle.ir_store_reads.specs.Spots.{spot_in, before_in, at_slot, stands, joined, StandsIn}
 use Rattle.ir_store_reads.specs.Right.{Live, Right}
 use Rattle.ir_store_reads.proofs.Slots.{found, used_inside}
-use Rattle.ir_store_reads.proofs.Items.{read_row, other_row, own_row}
+use Rattle.ir_store.proofs.OneRow.{put_long, put_own, put_other}
 use Rattle.ir_store.proofs.Called.{rows_in, keys_in, IsRight, stored}
 use Rattle.ir_tree.specs.Ids.{HasDistinctIds, has_id}
 use Rattle.ir_store_reads.proofs.Founds.{has_is}
@@ -135,21 +133,21 @@ module _ (a : Inside) (r : IsRight a) (laws : Laws a.sibs.lists a.sibs.homes) (x
       go None z = absurd z
       go (Some b) z = record { item = z.1.0; home = z.1.1 ∙ sp.1.0 }
 
-  pub joint_inside : k < length a.rows.items
-  joint_inside = omega (arith, used_inside (rows_in a) k fk.used, length-map a.rows.items row_of)
+  pub joint_inside : k < length (rows_in a)
+  joint_inside = used_inside (rows_in a) k fk.used
 
   pub joint_out : has_id (row_at (rows_in a) k).head.id a.spelled.0 ≡ false
   joint_out = ap (λ z. has_id z a.spelled.0) fk.id ∙ sym (has_is x a.spelled.0) ∙ x_out (rows_in a) (keys_in a) a.sibs a.root a.spelled.0 r a.spelled.1 laws x k fk place sp.0 at sp.1.1
 
-  module _ (n : Kept) (en : n ≡ get_or a.rows.items k n) (sibs' : Lists) (el : sibs'.lists ≡ joined k h at a.sibs.lists) (eh : sibs'.homes ≡ set a.sibs.homes k h) where
-    abbrev pub joined_items : List Kept
-    joined_items = set a.rows.items k (record n { live = true })
+  module _ (rows' : List Row) (er : rows' ≡ set (rows_in a) k (record (row_at (rows_in a) k) { live = true })) (sibs' : Lists) (el : sibs'.lists ≡ joined k h at a.sibs.lists) (eh : sibs'.homes ≡ set a.sibs.homes k h) where
+    long' : length rows' ≡ length (rows_in a)
+    long' = put_long (rows_in a) rows' k (record (row_at (rows_in a) k) { live = true }) er
 
-    long' : length (rows_of joined_items) ≡ length (rows_in a)
-    long' = length-map joined_items row_of ∙ length-set a.rows.items k (record n { live = true }) ∙ sym (length-map a.rows.items row_of)
+    others : (q : ℕ) → (q ≡ k → ⊥) → row_at rows' q ≡ row_at (rows_in a) q
+    others = put_other (rows_in a) rows' k (record (row_at (rows_in a) k) { live = true }) er
 
-    come : row_at (rows_of joined_items) k ≡ record (row_at (rows_in a) k) { live = true }
-    come = own_row a.rows.items k (record n { live = true }) joint_inside ∙ ap {A = Row} {B = Row} (λ z. record z { live = true }) (sym (read_row a.rows.items k n joint_inside en))
+    come : row_at rows' k ≡ record (row_at (rows_in a) k) { live = true }
+    come = put_own (rows_in a) rows' k (record (row_at (rows_in a) k) { live = true }) er joint_inside
 
     el' : sibs'.lists ≡ joined k sp.0.1 at a.sibs.lists
     el' = el ∙ ap (λ z. joined k z at a.sibs.lists) (sym sp.1.0)
@@ -160,33 +158,33 @@ module _ (a : Inside) (r : IsRight a) (laws : Laws a.sibs.lists a.sibs.homes) (x
     abbrev o : Op
     o = bare (row_at (rows_in a) k)
 
-    spells : SpellsOp (rows_of joined_items) sibs'.lists a.root (put place o a.spelled.0)
-    spells = join_spells (rows_in a) (keys_in a) a.sibs a.root a.spelled.0 r a.spelled.1 laws x k fk place sp.0 at sp.1.1 (rows_of joined_items) long' (other_row a.rows.items k (record n { live = true })) come sibs' el' eh'
+    spells : SpellsOp rows' sibs'.lists a.root (put place o a.spelled.0)
+    spells = join_spells (rows_in a) (keys_in a) a.sibs a.root a.spelled.0 r a.spelled.1 laws x k fk place sp.0 at sp.1.1 rows' long' others come sibs' el' eh'
 
-    pub joint_tree : (w : Spelled (rows_of joined_items) sibs'.lists a.root) → w.0 ≡ put place o a.spelled.0
-    joint_tree w = spelled_is (rows_of joined_items) sibs'.lists a.root w (put place o a.spelled.0) spells
+    pub joint_tree : (w : Spelled rows' sibs'.lists a.root) → w.0 ≡ put place o a.spelled.0
+    joint_tree w = spelled_is rows' sibs'.lists a.root w (put place o a.spelled.0) spells
 
-    pub joint_distinct : HasDistinctIds a.spelled.0 → (w : Spelled (rows_of joined_items) sibs'.lists a.root) → HasDistinctIds w.0
+    pub joint_distinct : HasDistinctIds a.spelled.0 → (w : Spelled rows' sibs'.lists a.root) → HasDistinctIds w.0
     joint_distinct d w = subst HasDistinctIds (sym (joint_tree w)) (bare_distinct place (row_at (rows_in a) k) a.spelled.0 d joint_out)
 
-    pub joint_right : (w : Spelled (rows_of joined_items) sibs'.lists a.root) → Right (rows_of joined_items) (keys_in a) sibs' a.root w.0
-    joint_right w = subst (Right (rows_of joined_items) (keys_in a) sibs' a.root) (sym (spelled_is (rows_of joined_items) sibs'.lists a.root w (put place o a.spelled.0) spells))
-        (join_right (rows_in a) (keys_in a) a.sibs a.root a.spelled.0 r a.spelled.1 laws x k fk place sp.0 at sp.1.1 (rows_of joined_items) long' (other_row a.rows.items k (record n { live = true })) come sibs' el' eh')
+    pub joint_right : (w : Spelled rows' sibs'.lists a.root) → Right rows' (keys_in a) sibs' a.root w.0
+    joint_right w = subst (Right rows' (keys_in a) sibs' a.root) (sym (spelled_is rows' sibs'.lists a.root w (put place o a.spelled.0) spells))
+        (join_right (rows_in a) (keys_in a) a.sibs a.root a.spelled.0 r a.spelled.1 laws x k fk place sp.0 at sp.1.1 rows' long' others come sibs' el' eh')
 
-    holds : (y : ℕ) → finmap.get (finmap.remove a.holds.0 x) y ≡ held_in (rows_of joined_items) (keys_in a y)
-    holds = join_holds (rows_in a) (keys_in a) a.sibs a.root a.spelled.0 r a.spelled.1 laws x k fk place sp.0 at sp.1.1 (rows_of joined_items) long' (other_row a.rows.items k (record n { live = true })) come sibs' el' eh' a.holds.0 a.holds.1
+    holds : (y : ℕ) → finmap.get (finmap.remove a.holds.0 x) y ≡ held_in rows' (keys_in a y)
+    holds = join_holds (rows_in a) (keys_in a) a.sibs a.root a.spelled.0 r a.spelled.1 laws x k fk place sp.0 at sp.1.1 rows' long' others come sibs' el' eh' a.holds.0 a.holds.1
 
-    lacks : (y : ℕ) → finmap.get a.lacks.0 y ≡ gone_in (rows_of joined_items) (keys_in a y)
-    lacks y = a.lacks.1 y ∙ join_gone (rows_in a) (keys_in a) a.sibs a.root a.spelled.0 r a.spelled.1 laws x k fk place sp.0 at sp.1.1 (rows_of joined_items) long' (other_row a.rows.items k (record n { live = true })) come sibs' el' eh' y
+    lacks : (y : ℕ) → finmap.get a.lacks.0 y ≡ gone_in rows' (keys_in a y)
+    lacks y = a.lacks.1 y ∙ join_gone (rows_in a) (keys_in a) a.sibs a.root a.spelled.0 r a.spelled.1 laws x k fk place sp.0 at sp.1.1 rows' long' others come sibs' el' eh' y
 
-    pub joint_given : Spelled (rows_of joined_items) sibs'.lists a.root × (HoldsOf (rows_of joined_items) (keys_in a) × (GoneOf (rows_of joined_items) (keys_in a) × Unit {0}))
+    pub joint_given : Spelled rows' sibs'.lists a.root × (HoldsOf rows' (keys_in a) × (GoneOf rows' (keys_in a) × Unit {0}))
     joint_given = ((put place o a.spelled.0, spells), ((finmap.remove a.holds.0 x, holds), ((a.lacks.0, lacks), tt)))
 
-    pub joint_done : (w : Spelled (rows_of joined_items) sibs'.lists a.root) (v : HoldsOf (rows_of joined_items) (keys_in a)) (g : GoneOf (rows_of joined_items) (keys_in a))
+    pub joint_done : (w : Spelled rows' sibs'.lists a.root) (v : HoldsOf rows' (keys_in a)) (g : GoneOf rows' (keys_in a))
         → ◌≡◌ {A = Stored} (record { module_of = record { tree = w.0; next = a.next }; held = v.0; gone = g.0 }) (after_restore x place false (stored a))
     joint_done w v g =
-        let was = was_held (rows_in a) (keys_in a) a.sibs a.root a.spelled.0 r a.spelled.1 laws x k fk place sp.0 at sp.1.1 (rows_of joined_items) long' (other_row a.rows.items k (record n { live = true })) come sibs' el' eh' a.holds.0 a.holds.1 in
-        let e1 = spelled_is (rows_of joined_items) sibs'.lists a.root w (put place o a.spelled.0) spells ∙ ap (λ z. put_held place z a.spelled.0) (sym was) in
-        let e2 = map_is (λ y. held_in (rows_of joined_items) (keys_in a y)) v (finmap.remove a.holds.0 x) holds in
-        let e3 = map_is (λ y. gone_in (rows_of joined_items) (keys_in a y)) g a.lacks.0 lacks in
+        let was = was_held (rows_in a) (keys_in a) a.sibs a.root a.spelled.0 r a.spelled.1 laws x k fk place sp.0 at sp.1.1 rows' long' others come sibs' el' eh' a.holds.0 a.holds.1 in
+        let e1 = spelled_is rows' sibs'.lists a.root w (put place o a.spelled.0) spells ∙ ap (λ z. put_held place z a.spelled.0) (sym was) in
+        let e2 = map_is (λ y. held_in rows' (keys_in a y)) v (finmap.remove a.holds.0 x) holds in
+        let e3 = map_is (λ y. gone_in rows' (keys_in a y)) g a.lacks.0 lacks in
         λ i. record { module_of = record { tree = e1 i; next = a.next }; held = e2 i; gone = e3 i }

@@ -1,13 +1,12 @@
 -- The slots and the uses together, as a function's calls tell them.
-use Rattle.std.proofs.Common.{◌≡◌, eqb, ℕ, zero, suc, ◌+◌, ◌-◌, ◌<◌, ◌≤◌, List, [], ◌∷◌, map, set, get_or, refl, sym, ap, ◌∙◌, subst, length, Bool, true, false, Option, Some, None, arith}
+use Rattle.std.proofs.Common.{◌≡◌, eqb, ℕ, zero, suc, ◌+◌, ◌-◌, ◌<◌, ◌≤◌, List, [], ◌∷◌, map, set, refl, sym, ap, ◌∙◌, subst, length, Bool, true, false, Option, Some, None, arith}
 use Rattle.std.specs.Prelude.{Result, Ok, Err}
-use Rattle.std.proofs.lemmas.List.{length-set, length-map}
+use Rattle.std.proofs.lemmas.List.{length-set}
 use Rattle.ir_store_reads.specs.Lists.{Lists, Laws, free, without as drop_node}
 use Rattle.ir_types.specs.declared.refusal.Refusal.{Refusal}
 use Rattle.ir_tree.specs.declared.value.Value.{Value}
-use Rattle.ir_store_reads.specs.Row.{Row as Kept}
 use Rattle.ir_store.specs.declared.store.Store.TheInside.{Inside}
-use Rattle.ir_store_reads.specs.Rows.{Row, row_at, row_of, rows_of, row_with_operand, live_slot}
+use Rattle.ir_store_reads.specs.Rows.{Row, row_at, row_with_operand, live_slot}
 use Rattle.ir_store_reads.specs.Right.{Live, Used}
 use Rattle.ir_store_reads.specs.Spells.{Spelled, Spelled-prop}
 use Rattle.ir_store_reads.specs.Plans.{leaf_in}
@@ -57,7 +56,7 @@ use Rattle.ir_store_reads.specs.Lists.{home_at}
 use Rattle.ir_store.proofs.Cut.{not_item}
 use Rattle.ir_store.proofs.Joining.{FoundHeld}
 use Rattle.ir_store.proofs.Called.{rows_in, keys_in, stored, cut_tree, write_tree, right_after, write_fits, write_inside}
-use Rattle.ir_store_reads.proofs.Items.{read_row, other_row, own_row}
+use Rattle.ir_store.proofs.OneRow.{put_own, put_other}
 use Rattle.ir_store_reads.specs.Marks.{mark, home_of, node_of_slot}
 use Rattle.ir_store_reads.proofs.Marking.{marked_edit, marked_same}
 
@@ -92,35 +91,32 @@ module _ (a : Inside) (w : Whole a) where
     free_run = subst (λ p. CanFree p.0 p.1 a.uses.homes) (sym er)
         (can_free (rows_in a) (keys_in a) a.uses.homes (cells_of a.cells.items) w.few w.index k (w.right.live_used k leaf.found.live) leaf.found.live)
 
-    module _ (n : Kept) (en : n ≡ get_or a.rows.items k n) (sibs' : Lists) (el : sibs'.lists ≡ map (drop_node k) a.sibs.lists) (eh : sibs'.homes ≡ set a.sibs.homes k free)
+    module _ (rows' : List Row) (ew : rows' ≡ set (rows_in a) k (record (row_at (rows_in a) k) { live = false })) (sibs' : Lists) (el : sibs'.lists ≡ map (drop_node k) a.sibs.lists) (eh : sibs'.homes ≡ set a.sibs.homes k free)
         (homes' : List ℕ) (eu : homes' ≡ freed run.0 run.1 a.uses.homes) where
-      abbrev rows' : List Row
-      rows' = rows_of (set a.rows.items k (record n { live = false }))
-
-      inside : k < length a.rows.items
-      inside = omega (arith, leaf.found.inside, length-map a.rows.items row_of)
+      others : (q : ℕ) → (q ≡ k → ⊥) → row_at rows' q ≡ row_at (rows_in a) q
+      others = put_other (rows_in a) rows' k (record (row_at (rows_in a) k) { live = false }) ew
 
       own : row_at rows' k ≡ record (row_at (rows_in a) k) { live = false }
-      own = own_row a.rows.items k (record n { live = false }) inside ∙ ap {A = Row} {B = Row} (λ z. record z { live = false }) (sym (read_row a.rows.items k n inside en))
+      own = put_own (rows_in a) rows' k (record (row_at (rows_in a) k) { live = false }) ew leaf.found.inside
 
       pub take_some : 1 ≤ a.count
       take_some = omega (arith, w.counted, cut_counted (rows_in a) (keys_in a) a.sibs a.root a.spelled.0 w.right a.spelled.1 x k leaf w.distinct)
 
       pub take_fits : unused x a.spelled.0 ≡ true → (s : Spelled rows' sibs'.lists a.root) (marks : List ℕ) → marks ≡ set a.marks.homes (node_of_slot k) (home_of (mark (row_at rows' k))) → Fits rows' (keys_in a) sibs' a.root s.0 homes' (cells_of a.cells.items) (a.count - 1) a.next marks
       take_fits spared s marks em = record {
-        right = right_after a w.right x k leaf n en sibs' el eh s;
+        right = right_after a w.right x k leaf rows' ew sibs' el eh s;
         few = omega (arith, w.few, ap length eu, freed_long run.0 run.1 a.uses.homes);
         index = subst (λ z. Index rows' (keys_in a) z (cells_of a.cells.items) (lives rows')) (sym (eu ∙ ap (λ p. freed p.0 p.1 a.uses.homes) er))
-            (take_index (rows_in a) (keys_in a) a.uses.homes (cells_of a.cells.items) w.few w.index k (w.right.live_used k leaf.found.live) rows' (other_row a.rows.items k (record n { live = false })) false own refl leaf.found.live);
-        distinct = subst HasDistinctIds (sym (cut_tree a w.right x k leaf n en sibs' el eh s)) (left_distinct x a.spelled.0 w.distinct);
+            (take_index (rows_in a) (keys_in a) a.uses.homes (cells_of a.cells.items) w.few w.index k (w.right.live_used k leaf.found.live) rows' others false own refl leaf.found.live);
+        distinct = subst HasDistinctIds (sym (cut_tree a w.right x k leaf rows' ew sibs' el eh s)) (left_distinct x a.spelled.0 w.distinct);
         counted =
             let c = cut_counted (rows_in a) (keys_in a) a.sibs a.root a.spelled.0 w.right a.spelled.1 x k leaf w.distinct in
             let e : a.count - 1 ≡ op_count (without x a.spelled.0) = omega (arith, w.counted, c) in
-            e ∙ ap op_count (sym (cut_tree a w.right x k leaf n en sibs' el eh s));
-        below = cut_below (rows_in a) (keys_in a) a.sibs a.root a.spelled.0 w.right a.spelled.1 x k leaf rows' (other_row a.rows.items k (record n { live = false })) own a.next w.below;
-        owned = cut_owned (rows_in a) (keys_in a) a.sibs a.root a.spelled.0 w.right a.spelled.1 x k leaf rows' (other_row a.rows.items k (record n { live = false })) own spared w.owned;
-        marked = marked_edit (rows_in a) rows' a.marks.homes marks k w.marked (w.marked.inside k (w.right.live_used k leaf.found.live)) (other_row a.rows.items k (record n { live = false })) em;
-        celled = celled_edit (rows_in a) rows' (cells_of a.cells.items) k w.celled (other_row a.rows.items k (record n { live = false })) (ap (λ z. z.used) own) (ap (λ z. z.head.results) own) (ap (λ z. z.shapes) own) (ap (λ z. z.values) own);
+            e ∙ ap op_count (sym (cut_tree a w.right x k leaf rows' ew sibs' el eh s));
+        below = cut_below (rows_in a) (keys_in a) a.sibs a.root a.spelled.0 w.right a.spelled.1 x k leaf rows' others own a.next w.below;
+        owned = cut_owned (rows_in a) (keys_in a) a.sibs a.root a.spelled.0 w.right a.spelled.1 x k leaf rows' others own spared w.owned;
+        marked = marked_edit (rows_in a) rows' a.marks.homes marks k w.marked (w.marked.inside k (w.right.live_used k leaf.found.live)) others em;
+        celled = celled_edit (rows_in a) rows' (cells_of a.cells.items) k w.celled others (ap (λ z. z.used) own) (ap (λ z. z.head.results) own) (ap (λ z. z.shapes) own) (ap (λ z. z.values) own);
       }
 
 -- there is room to count one more
@@ -204,41 +200,38 @@ module _ (a : Inside) (w : Whole a) (laws : Laws a.sibs.lists a.sibs.homes) (x :
         go true e = let z = can.newest e in (omega (arith, z), omega arith)
         go false e = let z = can.below e in (omega arith, z)
 
-    module _ (h : ℕ) (at : Option ℕ) (es : Some (h, at) ≡ spot_in (rows_in a) (keys_in a) a.sibs.homes place) (n : Kept) (en : n ≡ get_or a.rows.items k n)
+    module _ (h : ℕ) (at : Option ℕ) (es : Some (h, at) ≡ spot_in (rows_in a) (keys_in a) a.sibs.homes place) (rows2 : List Row) (er : rows2 ≡ set (rows_in a) k (record (row_at (rows_in a) k) { live = true }))
         (sibs' : Lists) (el : sibs'.lists ≡ joined k h at a.sibs.lists) (eh : sibs'.homes ≡ set a.sibs.homes k h)
         (homes' : List ℕ) (eu : homes' ≡ all_led (value_head (rows_in a) (keys_in a)) (row_at (rows_in a) k).uses (row_at (rows_in a) k).head.operands a.uses.homes) where
-      abbrev rows2 : List Row
-      rows2 = rows_of (set a.rows.items k (record n { live = true }))
-
-      inside2 : k < length a.rows.items
-      inside2 = joint_inside a w.right laws x k ek place h at es
+      others2 : (q : ℕ) → (q ≡ k → ⊥) → row_at rows2 q ≡ row_at (rows_in a) q
+      others2 = put_other (rows_in a) rows2 k (record (row_at (rows_in a) k) { live = true }) er
 
       own2 : row_at rows2 k ≡ record (row_at (rows_in a) k) { live = true }
-      own2 = own_row a.rows.items k (record n { live = true }) inside2 ∙ ap {A = Row} {B = Row} (λ z. record z { live = true }) (sym (read_row a.rows.items k n inside2 en))
+      own2 = put_own (rows_in a) rows2 k (record (row_at (rows_in a) k) { live = true }) er (joint_inside a w.right laws x k ek place h at es)
 
       pub restore_fits : (s : Spelled rows2 sibs'.lists a.root) (next : ℕ) → next ≡ raised fresh x a.next → (marks : List ℕ) → marks ≡ set a.marks.homes (node_of_slot k) (home_of (mark (row_at rows2 k))) → Fits rows2 (keys_in a) sibs' a.root s.0 homes' (cells_of a.cells.items) (a.count + 1) next marks
       restore_fits s next en' marks em = record {
-        right = joint_right a w.right laws x k ek place h at es n en sibs' el eh s;
+        right = joint_right a w.right laws x k ek place h at es rows2 er sibs' el eh s;
         few = omega (arith, w.few, ap length eu, led_long (value_head (rows_in a) (keys_in a)) (row_at (rows_in a) k).uses (row_at (rows_in a) k).head.operands a.uses.homes);
         index = subst (λ z. Index rows2 (keys_in a) z (cells_of a.cells.items) (lives rows2)) (sym eu)
-            (join_index (rows_in a) (keys_in a) a.uses.homes (cells_of a.cells.items) w.few w.index k fk.used rows2 (other_row a.rows.items k (record n { live = true })) true own2 refl fk.out heads_there);
-        distinct = joint_distinct a w.right laws x k ek place h at es n en sibs' el eh w.distinct s;
+            (join_index (rows_in a) (keys_in a) a.uses.homes (cells_of a.cells.items) w.few w.index k fk.used rows2 others2 true own2 refl fk.out heads_there);
+        distinct = joint_distinct a w.right laws x k ek place h at es rows2 er sibs' el eh w.distinct s;
         counted =
             let c = joined_counted place (row_at (rows_in a) k) a.spelled.0 w.distinct (joint_out a w.right laws x k ek place h at es) can.spot in
             let e : a.count + 1 ≡ op_count (put place (bare (row_at (rows_in a) k)) a.spelled.0) = omega (arith, w.counted, c) in
-            e ∙ ap op_count (sym (joint_tree a w.right laws x k ek place h at es n en sibs' el eh s));
+            e ∙ ap op_count (sym (joint_tree a w.right laws x k ek place h at es rows2 er sibs' el eh s));
         below =
             let b = raised_bound in
-            join_below (rows_in a) (keys_in a) k rows2 (other_row a.rows.items k (record n { live = true })) own2 a.next next (omega (arith, b.0, en')) (omega (arith, b.1, en', fk.id)) w.below;
-        owned = join_owned (rows_in a) (keys_in a) k rows2 (other_row a.rows.items k (record n { live = true })) own2 owners_there w.owned;
-        marked = marked_edit (rows_in a) rows2 a.marks.homes marks k w.marked (w.marked.inside k fk.used) (other_row a.rows.items k (record n { live = true })) em;
-        celled = celled_edit (rows_in a) rows2 (cells_of a.cells.items) k w.celled (other_row a.rows.items k (record n { live = true })) (ap (λ z. z.used) own2) (ap (λ z. z.head.results) own2) (ap (λ z. z.shapes) own2) (ap (λ z. z.values) own2);
+            join_below (rows_in a) (keys_in a) k rows2 others2 own2 a.next next (omega (arith, b.0, en')) (omega (arith, b.1, en', fk.id)) w.below;
+        owned = join_owned (rows_in a) (keys_in a) k rows2 others2 own2 owners_there w.owned;
+        marked = marked_edit (rows_in a) rows2 a.marks.homes marks k w.marked (w.marked.inside k fk.used) others2 em;
+        celled = celled_edit (rows_in a) rows2 (cells_of a.cells.items) k w.celled others2 (ap (λ z. z.used) own2) (ap (λ z. z.head.results) own2) (ap (λ z. z.shapes) own2) (ap (λ z. z.values) own2);
       }
 
       pub restore_done : (s : Spelled rows2 sibs'.lists a.root) (v : HoldsOf rows2 (keys_in a)) (g : GoneOf rows2 (keys_in a)) (next : ℕ) → next ≡ raised fresh x a.next
           → ◌≡◌ {A = Stored} (record { module_of = record { tree = s.0; next = next }; held = v.0; gone = g.0 }) (after_restore x place fresh (stored a))
       restore_done s v g next en' =
-          let e = joint_done a w.right laws x k ek place h at es n en sibs' el eh s v g in
+          let e = joint_done a w.right laws x k ek place h at es rows2 er sibs' el eh s v g in
           λ i. record { module_of = record { tree = (e i).module_of.tree; next = en' i }; held = (e i).held; gone = (e i).gone }
 
 -- an edit of one operation keeps its id
@@ -297,15 +290,15 @@ module _ (a : Inside) (w : Whole a) (x j : ℕ) (v : Value) where
     uk : Used (rows_in a) k
     uk = w.right.live_used k fd.live
 
-    module _ (n : Kept) (en : n ≡ get_or a.rows.items k n) (m : Kept) (em : row_of m ≡ row_with_operand j v (row_of n)) where
-      abbrev rows3 : List Row
-      rows3 = rows_of (set a.rows.items k m)
+    module _ (rows3 : List Row) (er : rows3 ≡ set (rows_in a) k (row_with_operand j v (row_at (rows_in a) k))) where
+      others3 : (q : ℕ) → (q ≡ k → ⊥) → row_at rows3 q ≡ row_at (rows_in a) q
+      others3 = put_other (rows_in a) rows3 k (row_with_operand j v (row_at (rows_in a) k)) er
 
       own3 : row_at rows3 k ≡ row_with_operand j v (row_at (rows_in a) k)
-      own3 = own_row a.rows.items k m (write_inside a w.right x k j v ek) ∙ em ∙ ap (row_with_operand j v) (sym (read_row a.rows.items k n (write_inside a w.right x k j v ek) en))
+      own3 = put_own (rows_in a) rows3 k (row_with_operand j v (row_at (rows_in a) k)) er (write_inside a w.right x k j v ek)
 
       kept3 : {A : Type 0} (f : Row → A) → f (row_with_operand j v (row_at (rows_in a) k)) ≡ f (row_at (rows_in a) k) → (q : ℕ) → f (row_at rows3 q) ≡ f (row_at (rows_in a) q)
-      kept3 f e q = ⊎_elim (λ z. ap (λ c. f (row_at rows3 c)) z ∙ ap f own3 ∙ e ∙ ap (λ c. f (row_at (rows_in a) c)) (sym z)) (λ z. ap f (other_row a.rows.items k m q z)) (cases_eq q k)
+      kept3 f e q = ⊎_elim (λ z. ap (λ c. f (row_at rows3 c)) z ∙ ap f own3 ∙ e ∙ ap (λ c. f (row_at (rows_in a) c)) (sym z)) (λ z. ap f (others3 q z)) (cases_eq q k)
 
       value_there : rewire_reason x j v a.spelled.0 ≡ None → has_value v a.spelled.0 ≡ true
       value_there e = go (find x a.spelled.0) e
@@ -325,17 +318,17 @@ module _ (a : Inside) (w : Whole a) (x j : ℕ) (v : Value) where
       pub rewire_fits : rewire_reason x j v a.spelled.0 ≡ None → (s : Spelled rows3 a.sibs.lists a.root) (homes1 homes2 : List ℕ) → homes1 ≡ set a.uses.homes (use_at (rows_in a) k j) free → homes2 ≡ set homes1 (use_at (rows_in a) k j) h
           → Fits rows3 (keys_in a) a.sibs a.root s.0 homes2 (cells_of a.cells.items) a.count a.next a.marks.homes
       rewire_fits why s homes1 homes2 e1 e2 = record {
-        right = write_fits a w.right x k j v ek n en m em s;
+        right = write_fits a w.right x k j v ek rows3 er s;
         few = omega (arith, w.few, ap length e2, ap length e1, length-set homes1 (use_at (rows_in a) k j) h, length-set a.uses.homes (use_at (rows_in a) k j) free);
         index = subst (λ z. Index rows3 (keys_in a) z (cells_of a.cells.items) (lives rows3)) (sym (e2 ∙ ap (λ z. set z (use_at (rows_in a) k j) h) e1))
-            (write_index (rows_in a) (keys_in a) a.uses.homes (cells_of a.cells.items) w.few w.index k j h v fd.live uk inside eh rows3 (other_row a.rows.items k m) own3);
-        distinct = subst HasDistinctIds (sym (write_tree a w.right x k j v ek n en m em s)) (each_distinct (at_op x (put_operand j v)) (same_at x (put_operand j v) (λ g. refl)) a.spelled.0 w.distinct);
-        counted = w.counted ∙ ap length (sym (each_ids (at_op x (put_operand j v)) (same_at x (put_operand j v) (λ g. refl)) a.spelled.0)) ∙ ap op_count (sym (write_tree a w.right x k j v ek n en m em s));
-        below = write_below (rows_in a) (keys_in a) k j v rows3 (other_row a.rows.items k m) own3 a.next w.below;
-        owned = write_owned (rows_in a) (keys_in a) k j v rows3 (other_row a.rows.items k m) own3
+            (write_index (rows_in a) (keys_in a) a.uses.homes (cells_of a.cells.items) w.few w.index k j h v fd.live uk inside eh rows3 others3 own3);
+        distinct = subst HasDistinctIds (sym (write_tree a w.right x k j v ek rows3 er s)) (each_distinct (at_op x (put_operand j v)) (same_at x (put_operand j v) (λ g. refl)) a.spelled.0 w.distinct);
+        counted = w.counted ∙ ap length (sym (each_ids (at_op x (put_operand j v)) (same_at x (put_operand j v) (λ g. refl)) a.spelled.0)) ∙ ap op_count (sym (write_tree a w.right x k j v ek rows3 er s));
+        below = write_below (rows_in a) (keys_in a) k j v rows3 others3 own3 a.next w.below;
+        owned = write_owned (rows_in a) (keys_in a) k j v rows3 others3 own3
             (value_owner (rows_in a) (live_slot (rows_in a) (keys_in a)) v (value_is (rows_in a) (keys_in a) a.sibs a.root a.spelled.0 w.right a.spelled.1 v ∙ value_there why)) w.owned;
         marked = marked_same (rows_in a) rows3 a.marks.homes w.marked (kept3 mark refl) (kept3 (λ z. z.used) refl);
-        celled = celled_same (rows_in a) rows3 (cells_of a.cells.items) w.celled (λ q u. record { used = sym (kept3 (λ z. z.used) refl q) ∙ u.used }) (kept3 (λ z. z.head.results) refl) (kept3 (λ z. z.shapes) refl) (kept3 (λ z. z.values) refl);
+        celled = celled_same (rows_in a) rows3 (cells_of a.cells.items) w.celled (λ q u. record { used = sym (kept3 (λ z. z.used) refl q) ∙ u.used }) (λ q u. kept3 (λ z. z.head.results) refl q) (λ q u. kept3 (λ z. z.shapes) refl q) (kept3 (λ z. z.values) refl);
       }
 
     pub rewire_item : IsItem a.uses.homes (use_at (rows_in a) k j)

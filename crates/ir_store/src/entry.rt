@@ -9,7 +9,7 @@ ghost use Rattle.ir_store_reads.specs.Stored.{has_slot};
 ghost use Rattle.ir_store.specs.Calls.{after_entry, CanRevert, WantsNoSlot};
 
 use crate::store::Store;
-use ir_store_reads::entry::{change_row, find_entry, has_slot_at, revert_row};
+use ir_store_reads::entry::{find_entry, has_slot_at};
 use ir_store_reads::find::{find, slot};
 use ir_store_reads::marks::put_mark;
 use ir_tree::place::Part;
@@ -75,8 +75,7 @@ impl Store {
             Ok(at) => at,
             Err(e) => return Err(e),
         };
-        let row = &mut self.rows[at];
-        match change_row(self.alloc, ctx, row, part, key, value) {
+        match self.rows.change(self.alloc, ctx, at, part, key, value) {
             Ok(()) => {}
             Err(_) => return Err(Refusal::Memory),
         }
@@ -106,8 +105,7 @@ impl Store {
         let Some(at) = find(&self.rows, &self.keys, op) else {
             return;
         };
-        let row = &mut self.rows[at];
-        revert_row(ctx, row, part, key, value);
+        self.rows.revert(ctx, at, part, key, value);
         put_mark(&mut self.marks, &self.rows, at);
     }
 }

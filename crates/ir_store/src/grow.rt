@@ -6,7 +6,6 @@ ghost use Rattle.ir_store_reads.specs.Emptied.{after_grow};
 use crate::store::Store;
 use ir_store_reads::grow::grow_slot;
 use ir_store_reads::marks::{put_mark, reach};
-use ir_store_reads::row::put_row;
 use ir_store_reads::spare::{find_spare, take_spare};
 use ir_tree::tree::TreeOp;
 use ir_types::ids::OpId;
@@ -44,7 +43,7 @@ impl Store {
             op,
             header,
         );
-        let (behind, key, row) = match found {
+        let found = match found {
             Ok(Some(found)) => found,
             Ok(None) => return Ok(false),
             Err(e) => return Err(e),
@@ -53,12 +52,19 @@ impl Store {
             Ok(()) => {}
             Err(e) => return Err(e),
         }
+        let key = found.slot;
         match self.keys.insert(op.number(), key) {
             Ok(()) => {}
             Err(e) => return Err(e),
         }
-        self.spare = take_spare(&mut self.rows, self.spare, behind, key);
-        put_row(&mut self.rows, key, row);
+        match self.rows.put(key, found.draft) {
+            Ok(()) => {}
+            Err(e) => {
+                self.keys.remove(op.number());
+                return Err(e);
+            }
+        }
+        self.spare = take_spare(&mut self.rows, self.spare, found.behind, found.before);
         put_mark(&mut self.marks, &self.rows, key);
         Ok(true)
     }
@@ -83,7 +89,7 @@ impl Store {
         );
         self.sibs.laws();
         self.uses.laws();
-        let (key, row) = match grown {
+        let (key, draft) = match grown {
             Ok(grown) => grown,
             Err(e) => return Err(e),
         };
@@ -95,7 +101,13 @@ impl Store {
             Ok(()) => {}
             Err(e) => return Err(e),
         }
-        put_row(&mut self.rows, key, row);
+        match self.rows.put(key, draft) {
+            Ok(()) => {}
+            Err(e) => {
+                self.keys.remove(op.number());
+                return Err(e);
+            }
+        }
         put_mark(&mut self.marks, &self.rows, key);
         Ok(())
     }

@@ -14,17 +14,16 @@ ghost use Rattle.ir_tree.specs.WellFormed.{IsWellFormed};
 ghost use Rattle.ir_tree_laws.specs.Reads.{around, is_within};
 ghost use Rattle.ir_tree_laws.specs.Reasons.{fits_around, leads_inside, levels_in, same_table, shift_reason};
 ghost use Rattle.ir_store.specs.Calls.{after_shift};
-ghost use Rattle.ir_store_reads.specs.Rows.{rows_of, live_slot};
+ghost use Rattle.ir_store_reads.specs.Rows.{live_slot};
 ghost use Rattle.ir_store_reads.specs.Spots.{spot_in};
 ghost use Rattle.ir_store.specs.Shifting.{CanRelink, level, relink_reason, table_at, unseen_reason};
 
 use crate::store::Store;
-use ir_store_reads::Ordered;
 use ir_store_reads::depth::op_fits;
 use ir_store_reads::find::{Keys, find};
-use ir_store_reads::row::Row;
 use ir_store_reads::spot::{find_spot, link};
 use ir_store_reads::use_lists::id_at;
+use ir_store_reads::{Ordered, Rows};
 use ir_tree::limits::MOST_AROUND;
 use ir_tree::place::Place;
 use ir_types::context::Context;
@@ -246,15 +245,15 @@ impl Store {
 
 /// The slot of an operation of the module, and where it is put.
 fn find_move(
-    rows: &Vec<Row>,
+    rows: &Rows,
     keys: &Keys,
     sibs: &Ordered,
     op: OpId,
     place: Place,
 ) -> Option<(usize, usize, Option<usize>)>
-    requires { length rows.now.items ≡ length sibs.now.homes }
-    ensures { MatchOption result ((is_some (live_slot (rows_of rows.now.items) (finmap.get keys.now) op) && is_some (spot_in (rows_of rows.now.items) (finmap.get keys.now) sibs.now.homes place)) ≡ false)
-        (λ p. (Some p.0 ≡ live_slot (rows_of rows.now.items) (finmap.get keys.now) op) × (Some (p.1, p.2) ≡ spot_in (rows_of rows.now.items) (finmap.get keys.now) sibs.now.homes place)) }
+    requires { length rows.now ≡ length sibs.now.homes }
+    ensures { MatchOption result ((is_some (live_slot rows.now (finmap.get keys.now) op) && is_some (spot_in rows.now (finmap.get keys.now) sibs.now.homes place)) ≡ false)
+        (λ p. (Some p.0 ≡ live_slot rows.now (finmap.get keys.now) op) × (Some (p.1, p.2) ≡ spot_in rows.now (finmap.get keys.now) sibs.now.homes place)) }
 {
     let key = find(rows, keys, op)?;
     let (head, before) = find_spot(rows, keys, sibs, place)?;

@@ -1,10 +1,10 @@
 //! The module under edits.
-ghost use Rattle.std.specs.Prelude.{◌≡◌, eqb, Some, None, MatchResult, option_map, IfOk, false, true, ◌<◌, []};
+ghost use Rattle.std.specs.Prelude.{◌≡◌, eqb, Some, None, MatchResult, option_map, IfOk, OnOk, false, true, length, slice_set, ◌<◌, []};
 ghost use Rattle.std.specs.FinMap as finmap;
 ghost use Rattle.std.specs.Ordering.{nat_cmp};
 ghost use Rattle.ir_tree.specs.Ids.{has_id, op_count};
 ghost use Rattle.ir_tree.specs.Tree.{head};
-ghost use Rattle.ir_store_reads.specs.Rows.{rows_of, row_of};
+ghost use Rattle.ir_store_reads.specs.Lists.{free};
 ghost use Rattle.ir_store_reads.specs.Spells.{Spelled, Spelled-prop};
 ghost use Rattle.ir_tree_laws.specs.Values.{type_of_value};
 ghost use Rattle.ir_store_reads.specs.Using.{AreUses};
@@ -23,14 +23,14 @@ use ir_store_reads::grow::grow_slot;
 use ir_store_reads::marks::{new_marks, put_mark, reach};
 use ir_store_reads::node::Node;
 use ir_store_reads::room::Room;
-use ir_store_reads::row::{Cell, Row, put_operand, put_row};
+use ir_store_reads::row::Cell;
 use ir_store_reads::spare::NO_SLOT;
 use ir_store_reads::spot::{find_joint, link};
 use ir_store_reads::use_lists::{
     find_idle, find_rewire, free_uses, lead_row, live_type, use_node, use_run, value_head,
 };
 use ir_store_reads::uses::{UsesOf, uses_from};
-use ir_store_reads::{Chains, IdTable, Ordered};
+use ir_store_reads::{Chains, Draft, IdTable, Ordered, Rows};
 use ir_tree::place::Place;
 use ir_tree::tree::TreeOp;
 use ir_tree::value::Value;
@@ -43,7 +43,7 @@ use std::marker::Model;
 #[derive(Drop)]
 pub struct Store {
     pub(crate) alloc: Global,
-    pub(crate) rows: Vec<Row>,
+    pub(crate) rows: Rows,
     pub(crate) keys: Keys,
     pub(crate) sibs: Ordered,
     /// The uses of values: a list for each value.
@@ -57,9 +57,9 @@ pub struct Store {
     pub(crate) next: u32,
     /// How many operations the module has.
     pub(crate) count: u64,
-    ghost spelled: { Spelled (rows_of rows.items) sibs.lists root } by { Spelled-prop (rows_of rows.items) sibs.lists root },
-    ghost holds: { HoldsOf (rows_of rows.items) (finmap.get keys) } by { HoldsOf-prop (rows_of rows.items) (finmap.get keys) },
-    ghost lacks: { GoneOf (rows_of rows.items) (finmap.get keys) } by { GoneOf-prop (rows_of rows.items) (finmap.get keys) },
+    ghost spelled: { Spelled rows sibs.lists root } by { Spelled-prop rows sibs.lists root },
+    ghost holds: { HoldsOf rows (finmap.get keys) } by { HoldsOf-prop rows (finmap.get keys) },
+    ghost lacks: { GoneOf rows (finmap.get keys) } by { GoneOf-prop rows (finmap.get keys) },
 }
 
 impl Model for Store {
@@ -67,7 +67,6 @@ impl Model for Store {
     ghost use Rattle.std.specs.FinMap as finmap;
     ghost use Rattle.std.specs.Ordering.{nat_cmp};
     ghost use Rattle.ir_store_reads.specs.Stored.{Stored, stored_code};
-    ghost use Rattle.ir_store_reads.specs.Rows.{rows_of};
     ghost use Rattle.ir_store_reads.specs.Index.{Fits, cells_of};
 
     ghost Value = { Stored };
@@ -76,7 +75,7 @@ impl Model for Store {
 
     ghost view = { λ s. record { module_of = record { tree = s.spelled.0; next = s.next }; held = s.holds.0; gone = s.lacks.0 } };
 
-    ghost invariant = { λ s. Fits (rows_of s.rows.items) (finmap.get s.keys) s.sibs s.root s.spelled.0 s.uses.homes (cells_of s.cells.items) s.count s.next s.marks.homes };
+    ghost invariant = { λ s. Fits s.rows (finmap.get s.keys) s.sibs s.root s.spelled.0 s.uses.homes (cells_of s.cells.items) s.count s.next s.marks.homes };
 }
 
 impl Store {
@@ -121,8 +120,7 @@ impl Store {
         free_uses(&mut self.uses, base, count);
         self.sibs.remove(key);
         self.count -= 1;
-        let row = &mut self.rows[key];
-        row.live = false;
+        self.rows.set_live(key, false);
         put_mark(&mut self.marks, &self.rows, key);
         Ok(())
     }
@@ -142,8 +140,7 @@ impl Store {
         lead_row(&mut self.uses, &self.rows, &self.keys, key);
         link(&mut self.sibs, key, head, before);
         self.count += 1;
-        let row = &mut self.rows[key];
-        row.live = true;
+        self.rows.set_live(key, true);
         put_mark(&mut self.marks, &self.rows, key);
         self.next = raised(fresh, op, self.next);
     }
@@ -180,8 +177,7 @@ impl Store {
         let Some(key) = slot(&self.keys, op) else {
             return None;
         };
-        let row = &self.rows[key];
-        Some(Node::new(row))
+        Some(Node::new(&self.rows, key))
     }
 }
 
@@ -199,8 +195,7 @@ impl Store {
         };
         let node = use_node(&self.rows, key, place);
         self.uses.remove(node);
-        let row = &mut self.rows[key];
-        let old = put_operand(row, place, value);
+        let old = self.rows.put_operand(key, place, value);
         self.uses.push_back(node, head);
         Ok(old)
     }
@@ -239,7 +234,14 @@ impl Store {
         requires below { (head header.now).id < next }
         ensures { IfOk result (λ s. s ≡ seeded header.now next) }
     {
-        let rows = Vec::with_capacity(alloc, room.slots)?;
+        let rows = Rows::with_capacity(
+            alloc,
+            room.slots,
+            room.short,
+            room.plain,
+            room.entered,
+            room.whole,
+        )?;
         let sibs = Ordered::with_capacity(alloc, room.slots)?;
         let uses = Chains::with_capacity(alloc, room.uses)?;
         let cells = Vec::with_capacity(alloc, room.uses)?;
@@ -250,7 +252,7 @@ impl Store {
     /// The same in what was made for it.
     fn seed_in(
         alloc: Global,
-        rows: Vec<Row>,
+        rows: Rows,
         sibs: Ordered,
         uses: Chains,
         cells: Vec<Cell>,
@@ -260,7 +262,7 @@ impl Store {
     ) -> Result<Store, AllocError>
         requires bare { (head header.now).operands ≡ [] }
         requires below { (head header.now).id < next }
-        requires rows { rows.items ≡ [] }
+        requires rows { rows ≡ [] }
         requires sibs { sibs ≡ record { lists = []; homes = []; room = 0 } }
         requires uses { uses ≡ record { lists = []; homes = []; room = 0 } }
         requires cells { cells.items ≡ [] }
@@ -272,7 +274,7 @@ impl Store {
         let mut uses = uses;
         let mut cells = cells;
         let mut keys = keys;
-        let (root, row) = match grow_slot(
+        let (root, draft) = match grow_slot(
             alloc, &mut rows, &mut sibs, &mut uses, &mut cells, header.id, header,
         ) {
             Ok(grown) => grown,
@@ -280,7 +282,7 @@ impl Store {
         };
         sibs.laws();
         uses.laws();
-        match keys.insert(header.id.number(), root) {
+        match write_root(&mut rows, &mut keys, header.id, root, draft) {
             Ok(()) => {}
             Err(e) => return Err(e),
         }
@@ -292,7 +294,6 @@ impl Store {
             Ok(()) => {}
             Err(e) => return Err(e),
         }
-        put_row(&mut rows, root, live_row(row));
         Ok(Store {
             alloc,
             rows,
@@ -309,11 +310,27 @@ impl Store {
     }
 }
 
-/// The row of an operation of the module.
-fn live_row(row: Row) -> Row
-    ensures { row_of result ≡ record (row_of row) { live = true } }
+/// Writes the root into its slot, and gives its id that slot.
+fn write_root(
+    rows: &mut Rows,
+    keys: &mut Keys,
+    op: OpId,
+    root: usize,
+    draft: Draft,
+) -> Result<(), AllocError>
+    requires inside { root < length rows.old }
+    requires few { root < free }
+    ensures key { OnOk result (keys.new ≡ finmap.insert keys.old op root) }
+    ensures row { OnOk result (rows.new ≡ slice_set rows.old root (record draft { live = true })) }
 {
-    let mut row = row;
-    row.live = true;
-    row
+    match keys.insert(op.number(), root) {
+        Ok(()) => {}
+        Err(e) => return Err(e),
+    }
+    match rows.put(root, draft) {
+        Ok(()) => {}
+        Err(e) => return Err(e),
+    }
+    rows.set_live(root, true);
+    Ok(())
 }

@@ -1,16 +1,12 @@
 -- What an operation in a slot has, beside its name and its places: a block's head has nothing of it.
-use Rattle.std.specs.Prelude.{ℕ, List, [], map, refl}
-use Rattle.std.specs.Coded.{Coded, code_by, coded×, coded_list, coded_option, coded_ℕ}
+use Rattle.std.specs.Prelude.{◌≡◌, ℕ, List, [], map, slice_set}
 use Rattle.ir_tree.specs.declared.place.Part.{Part}
 use Rattle.ir_tree.specs.declared.place.Part.TheVariants.{Props, Attrs}
 use Rattle.ir_tree.specs.declared.value.Value.{Value}
-use Rattle.ir_tree.specs.Code.{value_code}
 use Rattle.ir_tree.specs.Tree.{Head}
-use Rattle.ir_store_contents.specs.Slots.{Slots, slots_code}
-use Rattle.ir_store_contents.specs.declared.contents.Held.{Held}
-use Rattle.ir_store_contents.specs.declared.contents.Held.TheVariants.{Nothing, Head as Leading, Plain, Entered, Whole}
-use Rattle.ir_store_contents.specs.declared.contents.Entries.{Entries}
-use Rattle.ir_store_contents.specs.Shapes.{Shape, shape_of}
+use Rattle.ir_store_contents.specs.Slots.{Slots}
+use Rattle.ir_store_contents.specs.declared.made.Entries.{Entries}
+use Rattle.ir_store_contents.specs.Shapes.{Shape}
 
 -- a dictionary comes with the slots of the keys that were taken out of it
 pub record Contents : Type 0 where
@@ -33,28 +29,6 @@ no_contents = record { operands = []; results = []; properties = no_slots; attri
 abbrev pub head_contents : ℕ → ℕ → Contents
 head_contents owner number = record no_contents { owner = owner; region = number }
 
--- what stands on the heap, or nothing
-abbrev pub contents_of : Held → Contents
-contents_of Nothing = no_contents
-contents_of (Leading owner number) = head_contents owner number
-contents_of (Plain b) = record no_contents {
-  operands = b.value.operands.items;
-  results = b.value.results.items;
-}
-contents_of (Entered b) = record no_contents {
-  operands = b.value.plain.operands.items;
-  results = b.value.plain.results.items;
-  properties = b.value.entries.props;
-  attributes = b.value.entries.attrs;
-}
-contents_of (Whole b) = record no_contents {
-  operands = b.value.plain.operands.items;
-  results = b.value.plain.results.items;
-  properties = b.value.entries.props;
-  attributes = b.value.entries.attrs;
-  shapes = map shape_of b.value.areas.items;
-}
-
 -- those of an operation with these regions
 abbrev pub contents_with : Head → List Shape → Contents
 contents_with h shapes = record no_contents {
@@ -65,14 +39,9 @@ contents_with h shapes = record no_contents {
   shapes = shapes;
 }
 
--- they are stored as their fields, one within the other
-abbrev pub contents_code : Coded Contents
-contents_code =
-    code_by (List Value × (List ℕ × (Slots × (Slots × (List Shape × (ℕ × ℕ))))))
-    (coded× (coded_list value_code) (coded× (coded_list coded_ℕ) (coded× slots_code (coded× slots_code (coded× (coded_list (coded_option (coded× (coded_list coded_ℕ) coded_ℕ))) (coded× coded_ℕ coded_ℕ))))))
-    (λ c. (c.operands, (c.results, (c.properties, (c.attributes, (c.shapes, (c.owner, c.region)))))))
-    (λ p. record { operands = p.0; results = p.1.0; properties = p.1.1.0; attributes = p.1.1.1.0; shapes = p.1.1.1.1.0; owner = p.1.1.1.1.1.0; region = p.1.1.1.1.1.1 })
-    (λ _. refl)
+-- with v as operand j
+abbrev pub with_operand : ℕ → Value → Contents → Contents
+with_operand j v c = record c { operands = slice_set c.operands j v }
 
 -- one dictionary
 abbrev pub dictionary_in : Part → Contents → Slots
@@ -115,3 +84,7 @@ entries_kept e = record {
   props = record { present = e.props.present; gone = [] };
   attrs = record { present = e.attrs.present; gone = [] };
 }
+
+-- no entries, and no slots of keys that were taken out
+abbrev pub HasNoEntries : Contents → Type 0
+HasNoEntries c = (c.properties ≡ no_slots) × (c.attributes ≡ no_slots)

@@ -1,16 +1,16 @@
-//! What stands in a slot of a module under edits: what an operation has, in no more room than that takes, or where a
-//! block's head belongs. A dictionary keeps the slot of a key that is taken out, so that the key can come back without
-//! memory: only a key without a slot takes memory when it is set.
+//! What stands in a slot of a module under edits: what an operation has, in no more room than that takes. A dictionary
+//! keeps the slot of a key that is taken out, so that the key can come back without memory: only a key without a slot
+//! takes memory when it is set.
 //!
 //! A contract sees an operation's operands, the types of its results, its dictionaries with the keys that are gone, and
 //! its regions (`specs/Contents.antt`, `specs/Slots.antt`).
 #![tactic(auto)]
 
 mod area;
-mod contents;
 mod dictionary;
 mod lookup;
+mod made;
 
 pub use area::Area;
-pub use contents::Contents;
 pub use dictionary::Dictionary;
+pub use made::{Entered, Entries, FEW, Made, Plain, Short, Whole};

@@ -22,4 +22,3 @@ pub use Rattle.ir_store_slots.specs.Spots
 pub use Rattle.ir_store_slots.specs.Stored
 pub use Rattle.ir_store_slots.specs.Using
 pub use Rattle.ir_store_slots.specs.Walks
-pub use Rattle.ir_store_slots.specs.declared.row.Row

@@ -3,29 +3,27 @@ ghost use Rattle.std.specs.Prelude.{◌≡◌, option_map};
 ghost use Rattle.std.specs.FinMap as finmap;
 ghost use Rattle.ir_store_slots.specs.Lists.{home_at, list_at};
 ghost use Rattle.ir_store_slots.specs.Labels.{goes_before};
-ghost use Rattle.ir_store_slots.specs.Rows.{rows_of, live_slot};
+ghost use Rattle.ir_store_slots.specs.Rows.{live_slot};
 ghost use Rattle.ir_store_slots.specs.Spots.{id_in};
 ghost use Rattle.ir_store_reads.specs.Heading.{block_in, CanStand};
 
-use ir_store_slots::Ordered;
 use ir_store_slots::find::{Keys, find};
-use ir_store_slots::row::Row;
 use ir_store_slots::spot::block_head;
 use ir_store_slots::use_lists::id_at;
+use ir_store_slots::{Ordered, Rows};
 use ir_types::ids::OpId;
 
 /// The head of the list of the block of a region of an operation of the module, if it has one.
-pub fn find_block(rows: &Vec<Row>, keys: &Keys, op: OpId, region: u32) -> Option<usize>
-    ensures { result ≡ block_in (rows_of rows.now.items) (live_slot (rows_of rows.now.items) (finmap.get keys.now)) op region }
+pub fn find_block(rows: &Rows, keys: &Keys, op: OpId, region: u32) -> Option<usize>
+    ensures { result ≡ block_in rows.now (live_slot rows.now (finmap.get keys.now)) op region }
 {
     let key = find(rows, keys, op)?;
-    let row = rows.get(key)?;
-    block_head(row.contents.areas(), region as usize)
+    block_head(rows.areas(key), region as usize)
 }
 
 /// The operation in a slot, if one is given.
-pub fn id_of(rows: &Vec<Row>, key: Option<usize>) -> Option<OpId>
-    ensures { result ≡ option_map (id_in (rows_of rows.now.items)) key }
+pub fn id_of(rows: &Rows, key: Option<usize>) -> Option<OpId>
+    ensures { result ≡ option_map (id_in rows.now) key }
 {
     match key {
         None => None,

@@ -1,15 +1,15 @@
 //! The tree of a store.
-ghost use Rattle.std.specs.Prelude.{◌≡◌, ◌∷◌, [], ℕ, IfOk, IfSome, map};
+ghost use Rattle.std.specs.Prelude.{◌≡◌, ◌∷◌, [], ℕ, IfOk, map};
 ghost use Rattle.ir_store_slots.specs.Lists.{IsHead, list_at};
 ghost use Rattle.ir_tree.specs.Tree.{op, head, regions_of};
 ghost use Rattle.ir_tree.specs.View.{region_view};
-ghost use Rattle.ir_store_slots.specs.Rows.{row_of as the_row, rows_of, row_at, shape_of};
+ghost use Rattle.ir_store_slots.specs.Rows.{row_at, shape_of};
 ghost use Rattle.ir_store_slots.specs.Plans.{AllHeads};
 ghost use Rattle.ir_store_slots.specs.Right.{Live};
 ghost use Rattle.ir_store_slots.specs.Spells.{SpellsOp, SpellsRegions, SpellsRegion};
 
-use ir_store_slots::Ordered;
-use ir_store_slots::row::{Area, Row};
+use ir_store_slots::row::Area;
+use ir_store_slots::{Ordered, Rows};
 use ir_tree::place::Part;
 use ir_tree::tree::{TreeOp, TreeRegion};
 use std::alloc::{AllocError, Global};
@@ -18,42 +18,37 @@ use std::alloc::{AllocError, Global};
 #[cycle(copy)]
 pub fn copy_op(
     alloc: Global,
-    rows: &Vec<Row>,
+    rows: &Rows,
     sibs: &Ordered,
     key: &usize,
     levels: u32,
 ) -> Result<TreeOp, AllocError>
-    requires { (k : ℕ) → Live (rows_of rows.now.items) k → AllHeads sibs.now.homes (row_at (rows_of rows.now.items) k).shapes }
-    ensures { IfOk result (λ t. SpellsOp (rows_of rows.now.items) sibs.now.lists key.now t) }
+    requires { (k : ℕ) → Live rows.now k → AllHeads sibs.now.homes (row_at rows.now k).shapes }
+    ensures { IfOk result (λ t. SpellsOp rows.now sibs.now.lists key.now t) }
 {
-    let Some(row) = row_of(rows, *key) else {
-        return Err(AllocError);
-    };
-    if levels == 0 || !row.live {
+    if levels == 0 || !rows.is_live(*key) {
         return Err(AllocError);
     }
-    let regions = copy_regions(alloc, rows, sibs, row.contents.areas(), levels - 1)?;
-    tree_of(alloc, row, regions)
+    let regions = copy_regions(alloc, rows, sibs, rows.areas(*key), levels - 1)?;
+    tree_of(alloc, rows, *key, regions)
 }
 
-/// The row of a slot.
-fn row_of(rows: &Vec<Row>, key: usize) -> Option<&Row>
-    ensures { IfSome result (λ r. the_row r.now ≡ row_at (rows_of rows.now.items) key) }
-{
-    rows.get(key)
-}
-
-/// An operation with these regions.
-fn tree_of(alloc: Global, row: &Row, regions: Vec<TreeRegion>) -> Result<TreeOp, AllocError>
-    ensures { IfOk result (λ t. t ≡ op (the_row row.now).head (regions_of (map region_view regions.items))) }
+/// The operation of a slot, with these regions.
+fn tree_of(
+    alloc: Global,
+    rows: &Rows,
+    key: usize,
+    regions: Vec<TreeRegion>,
+) -> Result<TreeOp, AllocError>
+    ensures { IfOk result (λ t. t ≡ op (row_at rows.now key).head (regions_of (map region_view regions.items))) }
 {
     Ok(TreeOp {
-        id: row.id,
-        name: row.name,
-        operands: Vec::from_slice(alloc, row.contents.operands())?,
-        results: Vec::from_slice(alloc, row.contents.results())?,
-        props: Vec::from_slice(alloc, row.contents.entries(Part::Props))?,
-        attrs: Vec::from_slice(alloc, row.contents.entries(Part::Attrs))?,
+        id: rows.id(key),
+        name: rows.name(key),
+        operands: Vec::from_slice(alloc, rows.operands(key))?,
+        results: Vec::from_slice(alloc, rows.results(key))?,
+        props: Vec::from_slice(alloc, rows.entries(key, Part::Props))?,
+        attrs: Vec::from_slice(alloc, rows.entries(key, Part::Attrs))?,
         regions,
     })
 }
@@ -62,14 +57,14 @@ fn tree_of(alloc: Global, row: &Row, regions: Vec<TreeRegion>) -> Result<TreeOp,
 #[cycle(copy)]
 fn copy_regions(
     alloc: Global,
-    rows: &Vec<Row>,
+    rows: &Rows,
     sibs: &Ordered,
     areas: &[Area],
     levels: u32,
 ) -> Result<Vec<TreeRegion>, AllocError>
-    requires rows { (k : ℕ) → Live (rows_of rows.now.items) k → AllHeads sibs.now.homes (row_at (rows_of rows.now.items) k).shapes }
+    requires rows { (k : ℕ) → Live rows.now k → AllHeads sibs.now.homes (row_at rows.now k).shapes }
     requires heads { AllHeads sibs.now.homes (map shape_of areas.now) }
-    ensures { IfOk result (λ gs. SpellsRegions (rows_of rows.now.items) sibs.now.lists (map shape_of areas.now) (regions_of (map region_view gs.items))) }
+    ensures { IfOk result (λ gs. SpellsRegions rows.now sibs.now.lists (map shape_of areas.now) (regions_of (map region_view gs.items))) }
 {
     let mut regions = Vec::with_capacity(alloc, areas.len())?;
     for area in areas {
@@ -83,14 +78,14 @@ fn copy_regions(
 #[cycle(copy)]
 fn copy_region(
     alloc: Global,
-    rows: &Vec<Row>,
+    rows: &Rows,
     sibs: &Ordered,
     area: &Area,
     levels: u32,
 ) -> Result<TreeRegion, AllocError>
-    requires rows { (k : ℕ) → Live (rows_of rows.now.items) k → AllHeads sibs.now.homes (row_at (rows_of rows.now.items) k).shapes }
+    requires rows { (k : ℕ) → Live rows.now k → AllHeads sibs.now.homes (row_at rows.now k).shapes }
     requires heads { AllHeads sibs.now.homes (shape_of area.now ∷ []) }
-    ensures { IfOk result (λ g. SpellsRegion (rows_of rows.now.items) sibs.now.lists (shape_of area.now) (region_view g)) }
+    ensures { IfOk result (λ g. SpellsRegion rows.now sibs.now.lists (shape_of area.now) (region_view g)) }
 {
     match area {
         Area::Empty => Ok(TreeRegion::Empty),

@@ -2,37 +2,34 @@
 ghost use Rattle.std.specs.Prelude.{◌≡◌, ℕ, ◌∷◌, [], map};
 ghost use Rattle.std.specs.List.{list_all};
 ghost use Rattle.ir_store_slots.specs.Lists.{IsHead, Laws, list_at};
-ghost use Rattle.ir_store_slots.specs.Rows.{rows_of, row_at, shape_of};
+ghost use Rattle.ir_store_slots.specs.Rows.{row_at, shape_of};
 ghost use Rattle.ir_store_slots.specs.Plans.{AllHeads};
 ghost use Rattle.ir_store_slots.specs.Right.{Live};
 ghost use Rattle.ir_store_slots.specs.Walks.{slot_fits, shapes_pass};
 
-use ir_store_slots::Ordered;
-use ir_store_slots::row::{Area, Row};
+use ir_store_slots::row::Area;
+use ir_store_slots::{Ordered, Rows};
 
 /// Whether the operation of a slot has fewer levels inside it than there is room for.
 #[cycle(fit)]
-pub fn op_fits(rows: &Vec<Row>, sibs: &Ordered, key: usize, room: u32) -> bool
-    requires rows { (k : ℕ) → Live (rows_of rows.now.items) k → AllHeads sibs.now.homes (row_at (rows_of rows.now.items) k).shapes }
+pub fn op_fits(rows: &Rows, sibs: &Ordered, key: usize, room: u32) -> bool
+    requires rows { (k : ℕ) → Live rows.now k → AllHeads sibs.now.homes (row_at rows.now k).shapes }
     requires laws { Laws sibs.now.lists sibs.now.homes }
-    ensures { result ≡ slot_fits (rows_of rows.now.items) sibs.now.lists room key }
+    ensures { result ≡ slot_fits rows.now sibs.now.lists room key }
 {
-    let Some(row) = rows.get(key) else {
-        return false;
-    };
-    if room == 0 || !row.live {
+    if room == 0 || !rows.is_live(key) {
         return false;
     }
-    areas_fit(rows, sibs, row.contents.areas(), room - 1)
+    areas_fit(rows, sibs, rows.areas(key), room - 1)
 }
 
 /// Whether each operation in some regions has fewer levels inside it than there is room for.
 #[cycle(fit)]
-fn areas_fit(rows: &Vec<Row>, sibs: &Ordered, areas: &[Area], room: u32) -> bool
-    requires rows { (k : ℕ) → Live (rows_of rows.now.items) k → AllHeads sibs.now.homes (row_at (rows_of rows.now.items) k).shapes }
+fn areas_fit(rows: &Rows, sibs: &Ordered, areas: &[Area], room: u32) -> bool
+    requires rows { (k : ℕ) → Live rows.now k → AllHeads sibs.now.homes (row_at rows.now k).shapes }
     requires laws { Laws sibs.now.lists sibs.now.homes }
     requires heads { AllHeads sibs.now.homes (map shape_of areas.now) }
-    ensures { result ≡ shapes_pass sibs.now.lists (slot_fits (rows_of rows.now.items) sibs.now.lists room) (map shape_of areas.now) }
+    ensures { result ≡ shapes_pass sibs.now.lists (slot_fits rows.now sibs.now.lists room) (map shape_of areas.now) }
 {
     let mut rest = areas;
     'areas: while let [area, tail @ ..] = rest {
@@ -46,11 +43,11 @@ fn areas_fit(rows: &Vec<Row>, sibs: &Ordered, areas: &[Area], room: u32) -> bool
 
 /// Whether each operation in a region has fewer levels inside it than there is room for.
 #[cycle(fit)]
-fn area_fits(rows: &Vec<Row>, sibs: &Ordered, area: &Area, room: u32) -> bool
-    requires rows { (k : ℕ) → Live (rows_of rows.now.items) k → AllHeads sibs.now.homes (row_at (rows_of rows.now.items) k).shapes }
+fn area_fits(rows: &Rows, sibs: &Ordered, area: &Area, room: u32) -> bool
+    requires rows { (k : ℕ) → Live rows.now k → AllHeads sibs.now.homes (row_at rows.now k).shapes }
     requires laws { Laws sibs.now.lists sibs.now.homes }
     requires heads { AllHeads sibs.now.homes (shape_of area.now ∷ []) }
-    ensures { result ≡ shapes_pass sibs.now.lists (slot_fits (rows_of rows.now.items) sibs.now.lists room) (shape_of area.now ∷ []) }
+    ensures { result ≡ shapes_pass sibs.now.lists (slot_fits rows.now sibs.now.lists room) (shape_of area.now ∷ []) }
 {
     match area {
         Area::Empty => true,
@@ -60,11 +57,11 @@ fn area_fits(rows: &Vec<Row>, sibs: &Ordered, area: &Area, room: u32) -> bool
 
 /// Whether each operation in the list of a head has fewer levels inside it than there is room for.
 #[cycle(fit)]
-fn list_fits(rows: &Vec<Row>, sibs: &Ordered, head: usize, room: u32) -> bool
-    requires rows { (k : ℕ) → Live (rows_of rows.now.items) k → AllHeads sibs.now.homes (row_at (rows_of rows.now.items) k).shapes }
+fn list_fits(rows: &Rows, sibs: &Ordered, head: usize, room: u32) -> bool
+    requires rows { (k : ℕ) → Live rows.now k → AllHeads sibs.now.homes (row_at rows.now k).shapes }
     requires laws { Laws sibs.now.lists sibs.now.homes }
     requires head { IsHead sibs.now.homes head }
-    ensures { result ≡ list_all (slot_fits (rows_of rows.now.items) sibs.now.lists room) (list_at sibs.now.lists head) }
+    ensures { result ≡ list_all (slot_fits rows.now sibs.now.lists room) (list_at sibs.now.lists head) }
 {
     let mut at = sibs.first(head);
     'ops: while let Some(key) = at {

@@ -12,5 +12,6 @@ pub mod uses;
 pub mod walk;
 
 pub use ir_store_slots::{
-    Chains, IdTable, Ordered, entry, find, grow, marks, release, room, row, spot, use_lists,
+    Chains, Draft, IdTable, Ordered, Rows, entry, find, grow, marks, release, room, row, spot,
+    use_lists,
 };

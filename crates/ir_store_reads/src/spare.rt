@@ -3,16 +3,15 @@
 ghost use Rattle.std.specs.Prelude.{◌≡◌, ◌<◌, [], true, map, IfOk, IfSome};
 ghost use Rattle.ir_store_slots.specs.Lists.{IsFree, IsHead, list_at};
 ghost use Rattle.ir_tree.specs.View.{region_view};
-ghost use Rattle.ir_store_slots.specs.Rows.{row_of, rows_of, shape_of};
+ghost use Rattle.ir_store_slots.specs.Rows.{row_at, shape_of};
 ghost use Rattle.ir_store_slots.specs.Index.{cells_of, cell_at};
 ghost use Rattle.ir_store_slots.specs.Emptied.{emptied_region};
 ghost use Rattle.ir_store_slots.specs.Grows.{parts_of, IsBlock, AreBlocks, AreEmptied, Grown, bare_region};
 ghost use Rattle.ir_store_reads.specs.Again.{HeadsOf, NodesOf, BlockFits, RowFits};
 ghost use Rattle.ir_tree.specs.Tree.{head};
 
-use ir_store_slots::grow::held_row;
-use ir_store_slots::row::{Area, Cell, Row};
-use ir_store_slots::{Chains, Ordered};
+use ir_store_slots::row::{Area, Cell};
+use ir_store_slots::{Chains, Draft, Ordered, Rows};
 use ir_tree::tree::{TreeOp, TreeRegion};
 use ir_types::ids::OpId;
 use std::alloc::{AllocError, Global};
@@ -22,6 +21,17 @@ pub const NO_SLOT: u32 = u32::MAX;
 
 /// How many spare slots are looked at for an operation.
 const MOST_LOOKS: u32 = 8;
+
+/// A slot that was given up, and the operation that is to be written there.
+#[derive(Drop)]
+pub struct Spare {
+    /// The slot that was given up behind it, if any.
+    pub behind: u32,
+    /// The one that was given up before it, if any.
+    pub before: u32,
+    pub slot: usize,
+    pub draft: Draft,
+}
 
 /// Whether a node stands for this operand or value of a slot.
 fn is_cell(cells: &Vec<Cell>, node: usize, row: usize, place: usize) -> bool
@@ -121,7 +131,7 @@ fn has_nodes(uses: &Chains, cells: &Vec<Cell>, row: usize, base: usize, count: u
 
 /// Whether a slot is the head of an empty block with so many arguments, of this region of this slot.
 fn block_fits(
-    rows: &Vec<Row>,
+    rows: &Rows,
     sibs: &Ordered,
     uses: &Chains,
     cells: &Vec<Cell>,
@@ -130,78 +140,73 @@ fn block_fits(
     head: usize,
     count: usize,
 ) -> bool
-    ensures { result ≡ true → BlockFits (parts_of rows.now.items sibs.now uses.now cells.now.items) owner number head count }
+    ensures { result ≡ true → BlockFits (parts_of rows.now sibs.now uses.now cells.now.items) owner number head count }
 {
-    let Some(row) = rows.get(head) else {
-        return false;
-    };
-    if row.contents.owner() as usize != owner || row.contents.region() != number {
+    if rows.owner(head) as usize != owner || rows.region(head) != number {
         return false;
     }
     if !is_bare_head(sibs, head) {
         return false;
     }
-    has_heads(uses, cells, head, row.values as usize, count)
+    has_heads(uses, cells, head, rows.values(head), count)
 }
 
-/// The region of a spare slot for a region like another, if it fits.
+/// The region of a spare slot for a region like another, whose block's head would be this slot, if it fits.
 fn fit_area(
     alloc: Global,
-    rows: &Vec<Row>,
+    rows: &Rows,
     sibs: &Ordered,
     uses: &Chains,
     cells: &Vec<Cell>,
     owner: usize,
     number: u32,
-    area: &Area,
+    head: usize,
     region: &TreeRegion,
 ) -> Result<Option<Area>, AllocError>
     ensures { IfOk result (λ o. IfSome o (λ a. (bare_region (shape_of a) ≡ emptied_region (region_view region.now))
-        × IsBlock (parts_of rows.now.items sibs.now uses.now cells.now.items) 0 owner number (shape_of a))) }
+        × IsBlock (parts_of rows.now sibs.now uses.now cells.now.items) 0 owner number (shape_of a))) }
 {
     match region {
-        TreeRegion::Empty => match area {
-            Area::Empty => Ok(Some(Area::Empty)),
-            Area::Block { .. } => Ok(None),
-        },
-        TreeRegion::Block { args, .. } => match area {
-            Area::Empty => Ok(None),
-            Area::Block { head, .. } => {
-                if !block_fits(rows, sibs, uses, cells, owner, number, *head, args.len()) {
-                    return Ok(None);
-                }
-                match Vec::from_slice(alloc, args) {
-                    Ok(args) => Ok(Some(Area::Block { args, head: *head })),
-                    Err(e) => Err(e),
-                }
+        TreeRegion::Empty => Ok(Some(Area::Empty)),
+        TreeRegion::Block { args, .. } => {
+            if !block_fits(rows, sibs, uses, cells, owner, number, head, args.len()) {
+                return Ok(None);
             }
-        },
+            match Vec::from_slice(alloc, args) {
+                Ok(args) => Ok(Some(Area::Block { args, head })),
+                Err(e) => Err(e),
+            }
+        }
     }
 }
 
-/// The regions of a spare slot for regions like others, if they fit.
+/// The slot of the head of the next block, behind a region.
+fn head_behind(head: usize, region: &TreeRegion) -> usize {
+    match region {
+        TreeRegion::Empty => head,
+        TreeRegion::Block { .. } => head.saturating_add(1),
+    }
+}
+
+/// The regions of a spare slot for regions like others, if they fit: the heads of a slot's blocks stand right behind it.
 fn fit_areas(
     alloc: Global,
-    rows: &Vec<Row>,
+    rows: &Rows,
     sibs: &Ordered,
     uses: &Chains,
     cells: &Vec<Cell>,
     owner: usize,
-    areas: &[Area],
     regions: &[TreeRegion],
 ) -> Result<Option<Vec<Area>>, AllocError>
     ensures { IfOk result (λ o. IfSome o (λ a. AreEmptied (map shape_of a.items) (map region_view regions.now)
-        × AreBlocks (parts_of rows.now.items sibs.now uses.now cells.now.items) 0 owner (map shape_of a.items))) }
+        × AreBlocks (parts_of rows.now sibs.now uses.now cells.now.items) 0 owner (map shape_of a.items))) }
 {
-    let mut fitted = Vec::new(alloc);
+    let mut fitted = Vec::with_capacity(alloc, regions.len())?;
     let mut number = 0;
-    let mut left = areas;
+    let mut head = owner.saturating_add(1);
     let mut rest = regions;
     'regions: while let [region, tail @ ..] = rest {
-        let [area, more @ ..] = left else {
-            return Ok(None);
-        };
-        let area = match fit_area(alloc, rows, sibs, uses, cells, owner, number, area, region) {
+        let area = match fit_area(alloc, rows, sibs, uses, cells, owner, number, head, region) {
             Ok(Some(area)) => area,
             Ok(None) => return Ok(None),
             Err(e) => return Err(e),
@@ -214,146 +219,113 @@ fn fit_areas(
             None => return Err(AllocError),
             Some(number) => number,
         };
-        left = more;
+        head = head_behind(head, region);
         rest = tail;
     }
     Ok(Some(fitted))
 }
 
-/// Whether a spare slot has just the nodes that an operation like a header needs for its values and operands.
+/// Whether a spare slot has the nodes that an operation like a header needs for its values and operands.
 fn row_fits(
+    rows: &Rows,
     sibs: &Ordered,
     uses: &Chains,
     cells: &Vec<Cell>,
     slot: usize,
-    row: &Row,
     header: &TreeOp,
 ) -> bool
-    ensures { result ≡ true → RowFits sibs.now.homes uses.now.homes (cells_of cells.now.items) slot (row_of row.now) (head header.now) }
+    ensures { result ≡ true → RowFits sibs.now.homes uses.now.homes (cells_of cells.now.items) slot (row_at rows.now slot) (head header.now) }
 {
-    if row.used || row.live || !is_out(sibs, slot) {
+    if rows.is_used(slot) || rows.is_live(slot) || !is_out(sibs, slot) {
         return false;
     }
-    if row.contents.operands().len() != header.operands.len()
-        || row.contents.results().len() != header.results.len()
-    {
+    if !has_heads(uses, cells, slot, rows.values(slot), header.results.len()) {
         return false;
     }
-    if row.contents.areas().len() != header.regions.len() {
-        return false;
-    }
-    if !has_heads(uses, cells, slot, row.values as usize, header.results.len()) {
-        return false;
-    }
-    has_nodes(uses, cells, slot, row.uses as usize, header.operands.len())
+    has_nodes(uses, cells, slot, rows.uses(slot), header.operands.len())
 }
 
-/// The row to be written into a spare slot for an operation like a header, if that fits.
+/// What is to be written into a spare slot for an operation like a header, if that fits.
 fn fit_row(
     alloc: Global,
-    rows: &Vec<Row>,
+    rows: &Rows,
     sibs: &Ordered,
     uses: &Chains,
     cells: &Vec<Cell>,
     slot: usize,
     op: OpId,
     header: &TreeOp,
-) -> Result<Option<Row>, AllocError>
-    ensures { IfOk result (λ o. IfSome o (λ r. Grown 0 (parts_of rows.now.items sibs.now uses.now cells.now.items) op header.now slot (row_of r))) }
+) -> Result<Option<Draft>, AllocError>
+    ensures { IfOk result (λ o. IfSome o (λ r. Grown 0 (parts_of rows.now sibs.now uses.now cells.now.items) op header.now slot r)) }
 {
-    let Some(row) = rows.get(slot) else {
-        return Ok(None);
-    };
-    if !row_fits(sibs, uses, cells, slot, row, header) {
+    if slot >= rows.len() || !row_fits(rows, sibs, uses, cells, slot, header) {
         return Ok(None);
     }
-    let fitted = fit_areas(
-        alloc,
-        rows,
-        sibs,
-        uses,
-        cells,
-        slot,
-        row.contents.areas(),
-        &header.regions,
-    );
+    let fitted = fit_areas(alloc, rows, sibs, uses, cells, slot, &header.regions);
     let areas = match fitted {
         Ok(Some(areas)) => areas,
         Ok(None) => return Ok(None),
         Err(e) => return Err(e),
     };
-    match held_row(
-        alloc,
-        op,
-        header,
-        areas,
-        row.uses as usize,
-        row.values as usize,
-    ) {
-        Ok(row) => Ok(Some(row)),
+    match Draft::new(alloc, op, header, areas, rows.uses(slot), rows.values(slot)) {
+        Ok(draft) => Ok(Some(draft)),
         Err(e) => Err(e),
     }
 }
 
 /// The slot that was given up before another.
-fn spare_before(rows: &Vec<Row>, slot: u32) -> u32 {
-    match rows.get(slot as usize) {
+fn spare_before(rows: &Rows, slot: usize) -> u32 {
+    match rows.spare(slot) {
         None => NO_SLOT,
-        Some(row) => row.spare,
+        Some(before) => before,
     }
 }
 
-/// A spare slot for an operation like a header: the one that was given up behind it, if any; the slot; and the row to
-/// be written there. A few of those that were given up last are looked at.
+/// A spare slot for an operation like a header. A few of those that were given up last are looked at.
 pub fn find_spare(
     alloc: Global,
-    rows: &Vec<Row>,
+    rows: &Rows,
     sibs: &Ordered,
     uses: &Chains,
     cells: &Vec<Cell>,
     newest: u32,
     op: OpId,
     header: &TreeOp,
-) -> Result<Option<(u32, usize, Row)>, AllocError>
-    ensures { IfOk result (λ o. IfSome o (λ p. Grown 0 (parts_of rows.now.items sibs.now uses.now cells.now.items) op header.now p.1 (row_of p.2))) }
+) -> Result<Option<Spare>, AllocError>
+    ensures { IfOk result (λ o. IfSome o (λ p. Grown 0 (parts_of rows.now sibs.now uses.now cells.now.items) op header.now p.slot p.draft)) }
 {
     let mut behind = NO_SLOT;
     let mut at = newest;
     let mut looks = MOST_LOOKS;
     'spare: while looks > 0 && at != NO_SLOT {
         let slot = at as usize;
+        let before = spare_before(rows, slot);
         match fit_row(alloc, rows, sibs, uses, cells, slot, op, header) {
-            Ok(Some(row)) => return Ok(Some((behind, slot, row))),
+            Ok(Some(draft)) => {
+                return Ok(Some(Spare {
+                    behind,
+                    before,
+                    slot,
+                    draft,
+                }));
+            }
             Ok(None) => {}
             Err(e) => return Err(e),
         }
         behind = at;
-        at = spare_before(rows, at);
+        at = before;
         looks -= 1;
     }
     Ok(None)
 }
 
-/// Takes a slot out of the row of spare ones, where it stands before another or is the newest. The newest then.
-pub fn take_spare(rows: &mut Vec<Row>, newest: u32, behind: u32, slot: usize) -> u32
-    ensures { rows_of rows.new.items ≡ rows_of rows.old.items }
+/// Takes a slot out of the row of spare ones, where it stands between two others. The newest then.
+pub fn take_spare(rows: &mut Rows, newest: u32, behind: u32, before: u32) -> u32
+    ensures { rows.new ≡ rows.old }
 {
-    let before = match rows.get(slot) {
-        None => NO_SLOT,
-        Some(row) => row.spare,
-    };
-    let key = behind as usize;
-    if key >= rows.len() {
+    if behind == NO_SLOT {
         return before;
     }
-    let row = &mut rows[key];
-    set_spare(row, before);
+    rows.set_spare(behind as usize, before);
     newest
-}
-
-/// Writes which slot was given up before that of a row.
-fn set_spare(row: &mut Row, before: u32)
-    ensures { row_of row.new ≡ row_of row.old }
-{
-    row.spare = before;
 }

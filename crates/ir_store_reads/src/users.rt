@@ -1,26 +1,24 @@
 //! The uses of the values of a slot.
 ghost use Rattle.std.specs.Prelude.{◌≡◌, length};
-ghost use Rattle.ir_store_slots.specs.Rows.{row_at, rows_of};
+ghost use Rattle.ir_store_slots.specs.Rows.{row_at};
 ghost use Rattle.ir_store_slots.specs.Index.{cells_of};
 ghost use Rattle.ir_store_slots.specs.Using.{use_in};
 
-use ir_store_slots::row::{Cell, Row};
+use ir_store_slots::Rows;
+use ir_store_slots::row::Cell;
 use ir_store_slots::use_lists::id_at;
 use ir_types::ids::OpId;
 
 /// The heads of the uses of a slot's results: the first, and how many.
-pub fn result_run(rows: &Vec<Row>, key: usize) -> (usize, usize)
-    ensures { result ≡ ((row_at (rows_of rows.now.items) key).values, length (row_at (rows_of rows.now.items) key).head.results) }
+pub fn result_run(rows: &Rows, key: usize) -> (usize, usize)
+    ensures { result ≡ ((row_at rows.now key).values, length (row_at rows.now key).head.results) }
 {
-    match rows.get(key) {
-        None => (0, 0),
-        Some(row) => (row.values as usize, row.contents.results().len()),
-    }
+    (rows.values(key), rows.results(key).len())
 }
 
 /// The operation of a use, and which operand it is.
-pub fn user_at(rows: &Vec<Row>, cells: &Vec<Cell>, node: usize) -> (OpId, u32)
-    ensures { result ≡ use_in (rows_of rows.now.items) (cells_of cells.now.items) node }
+pub fn user_at(rows: &Rows, cells: &Vec<Cell>, node: usize) -> (OpId, u32)
+    ensures { result ≡ use_in rows.now (cells_of cells.now.items) node }
 {
     match cells.get(node) {
         None => (id_at(rows, 0), 0),

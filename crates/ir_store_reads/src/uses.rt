@@ -2,13 +2,12 @@
 ghost use Rattle.std.specs.Prelude.{◌≡◌, length, IfSome};
 ghost use Rattle.std.specs.Iterator.{YieldsFirst, item_count};
 ghost use Rattle.ir_store_slots.specs.Lists.{IsHead};
-ghost use Rattle.ir_store_slots.specs.Rows.{rows_of};
 ghost use Rattle.ir_store_slots.specs.Index.{cells_of};
 ghost use Rattle.ir_store_slots.specs.Using.{uses_at};
 
 use crate::users::user_at;
-use ir_store_slots::Chains;
-use ir_store_slots::row::{Cell, Row};
+use ir_store_slots::row::Cell;
+use ir_store_slots::{Chains, Rows};
 use ir_types::ids::OpId;
 use std::iter::FusedIterator;
 use std::marker::Model;
@@ -17,7 +16,7 @@ use std::marker::Model;
 /// operands. They are seen as the list of those that are left.
 #[derive(Drop)]
 pub struct UsesOf<'a> {
-    rows: &'a Vec<Row>,
+    rows: &'a Rows,
     cells: &'a Vec<Cell>,
     uses: &'a Chains,
     /// The node of the next use.
@@ -26,26 +25,25 @@ pub struct UsesOf<'a> {
 
 impl<'a> Model for UsesOf<'a> {
     ghost use Rattle.std.specs.Prelude.{ℕ, List};
-    ghost use Rattle.ir_store_slots.specs.Rows.{rows_of};
     ghost use Rattle.ir_store_slots.specs.Index.{cells_of};
     ghost use Rattle.ir_store_reads.specs.Uses.{uses_left, IsNode};
 
     ghost Value = { List (ℕ × ℕ) };
 
-    ghost view = { λ s. uses_left (rows_of s.rows.now.items) (cells_of s.cells.now.items) s.uses.now s.at };
+    ghost view = { λ s. uses_left s.rows.now (cells_of s.cells.now.items) s.uses.now s.at };
 
     ghost invariant = { λ s. IsNode s.uses.now.homes s.at };
 }
 
 /// The uses whose nodes stand in the list of a head, if there is one.
 pub fn uses_from<'a>(
-    rows: &'a Vec<Row>,
+    rows: &'a Rows,
     cells: &'a Vec<Cell>,
     uses: &'a Chains,
     head: Option<usize>,
 ) -> UsesOf<'a>
     requires { IfSome head (λ h. IsHead uses.now.homes h) }
-    ensures { result ≡ uses_at (rows_of rows.now.items) (cells_of cells.now.items) uses.now.lists head }
+    ensures { result ≡ uses_at rows.now (cells_of cells.now.items) uses.now.lists head }
 {
     uses.laws();
     let at = match head {

@@ -1,60 +1,50 @@
 //! The operations of the module, one after another.
-ghost use Rattle.std.specs.Prelude.{◌≡◌, ℕ, ◌∷◌, [], None, map, IfSome, OnOk};
+ghost use Rattle.std.specs.Prelude.{◌≡◌, ℕ, ◌∷◌, [], None, map, OnOk};
 ghost use Rattle.ir_store_slots.specs.Lists.{IsHead, Laws, list_at};
-ghost use Rattle.ir_store_slots.specs.Rows.{row_of as the_row, rows_of, row_at, shape_of};
+ghost use Rattle.ir_store_slots.specs.Rows.{row_at, shape_of};
 ghost use Rattle.ir_store_slots.specs.Plans.{AllHeads};
 ghost use Rattle.ir_store_slots.specs.Right.{Live};
 ghost use Rattle.ir_store_reads.specs.Added.{AddsOp, AddsOps, AddsRegions};
 ghost use Rattle.ir_store_reads.specs.Ends.{last_in, later};
 
-use ir_store_slots::Ordered;
-use ir_store_slots::row::{Area, Row};
+use ir_store_slots::row::Area;
+use ir_store_slots::{Ordered, Rows};
 use ir_types::ids::OpId;
 use std::alloc::AllocError;
 
 /// Adds the operation of a slot and those inside it, where that is at most so many levels deep.
 #[cycle(push)]
 pub fn push_op(
-    rows: &Vec<Row>,
+    rows: &Rows,
     sibs: &Ordered,
     key: usize,
     levels: u32,
     out: &mut Vec<OpId>,
 ) -> Result<(), AllocError>
-    requires rows { (k : ℕ) → Live (rows_of rows.now.items) k → AllHeads sibs.now.homes (row_at (rows_of rows.now.items) k).shapes }
+    requires rows { (k : ℕ) → Live rows.now k → AllHeads sibs.now.homes (row_at rows.now k).shapes }
     requires laws { Laws sibs.now.lists sibs.now.homes }
-    ensures { OnOk result (AddsOp (rows_of rows.now.items) sibs.now.lists key out.old.items out.new.items) }
+    ensures { OnOk result (AddsOp rows.now sibs.now.lists key out.old.items out.new.items) }
 {
-    let Some(row) = row_in(rows, key) else {
-        return Err(AllocError);
-    };
-    if levels == 0 || !row.live {
+    if levels == 0 || !rows.is_live(key) {
         return Err(AllocError);
     }
-    out.push(row.id)?;
-    push_areas(rows, sibs, row.contents.areas(), levels - 1, out)
-}
-
-/// The row of a slot.
-fn row_in(rows: &Vec<Row>, key: usize) -> Option<&Row>
-    ensures { IfSome result (λ r. the_row r.now ≡ row_at (rows_of rows.now.items) key) }
-{
-    rows.get(key)
+    out.push(rows.id(key))?;
+    push_areas(rows, sibs, rows.areas(key), levels - 1, out)
 }
 
 /// Adds the operations in some regions.
 #[cycle(push)]
 fn push_areas(
-    rows: &Vec<Row>,
+    rows: &Rows,
     sibs: &Ordered,
     areas: &[Area],
     levels: u32,
     out: &mut Vec<OpId>,
 ) -> Result<(), AllocError>
-    requires rows { (k : ℕ) → Live (rows_of rows.now.items) k → AllHeads sibs.now.homes (row_at (rows_of rows.now.items) k).shapes }
+    requires rows { (k : ℕ) → Live rows.now k → AllHeads sibs.now.homes (row_at rows.now k).shapes }
     requires laws { Laws sibs.now.lists sibs.now.homes }
     requires heads { AllHeads sibs.now.homes (map shape_of areas.now) }
-    ensures { OnOk result (AddsRegions (rows_of rows.now.items) sibs.now.lists (map shape_of areas.now) out.old.items out.new.items) }
+    ensures { OnOk result (AddsRegions rows.now sibs.now.lists (map shape_of areas.now) out.old.items out.new.items) }
 {
     let mut rest = areas;
     'areas: while let [area, tail @ ..] = rest {
@@ -67,16 +57,16 @@ fn push_areas(
 /// Adds the operations in a region.
 #[cycle(push)]
 fn push_area(
-    rows: &Vec<Row>,
+    rows: &Rows,
     sibs: &Ordered,
     area: &Area,
     levels: u32,
     out: &mut Vec<OpId>,
 ) -> Result<(), AllocError>
-    requires rows { (k : ℕ) → Live (rows_of rows.now.items) k → AllHeads sibs.now.homes (row_at (rows_of rows.now.items) k).shapes }
+    requires rows { (k : ℕ) → Live rows.now k → AllHeads sibs.now.homes (row_at rows.now k).shapes }
     requires laws { Laws sibs.now.lists sibs.now.homes }
     requires heads { AllHeads sibs.now.homes (shape_of area.now ∷ []) }
-    ensures { OnOk result (AddsRegions (rows_of rows.now.items) sibs.now.lists (shape_of area.now ∷ []) out.old.items out.new.items) }
+    ensures { OnOk result (AddsRegions rows.now sibs.now.lists (shape_of area.now ∷ []) out.old.items out.new.items) }
 {
     match area {
         Area::Empty => Ok(()),
@@ -87,16 +77,16 @@ fn push_area(
 /// Adds the operations in the list of a head, and those inside them.
 #[cycle(push)]
 fn push_list(
-    rows: &Vec<Row>,
+    rows: &Rows,
     sibs: &Ordered,
     head: usize,
     levels: u32,
     out: &mut Vec<OpId>,
 ) -> Result<(), AllocError>
-    requires rows { (k : ℕ) → Live (rows_of rows.now.items) k → AllHeads sibs.now.homes (row_at (rows_of rows.now.items) k).shapes }
+    requires rows { (k : ℕ) → Live rows.now k → AllHeads sibs.now.homes (row_at rows.now k).shapes }
     requires laws { Laws sibs.now.lists sibs.now.homes }
     requires head { IsHead sibs.now.homes head }
-    ensures { OnOk result (AddsOps (rows_of rows.now.items) sibs.now.lists (list_at sibs.now.lists head) out.old.items out.new.items) }
+    ensures { OnOk result (AddsOps rows.now sibs.now.lists (list_at sibs.now.lists head) out.old.items out.new.items) }
 {
     let mut at = sibs.first(head);
     'ops: while let Some(key) = at {
@@ -107,14 +97,11 @@ fn push_list(
 }
 
 /// The slot that stands last in the last block of a slot that isn't empty, if there is one.
-pub fn last_slot(rows: &Vec<Row>, sibs: &Ordered, key: usize) -> Option<usize>
-    requires { AllHeads sibs.now.homes (row_at (rows_of rows.now.items) key).shapes }
-    ensures { result ≡ last_in sibs.now.lists None (row_at (rows_of rows.now.items) key).shapes }
+pub fn last_slot(rows: &Rows, sibs: &Ordered, key: usize) -> Option<usize>
+    requires { AllHeads sibs.now.homes (row_at rows.now key).shapes }
+    ensures { result ≡ last_in sibs.now.lists None (row_at rows.now key).shapes }
 {
-    match rows.get(key) {
-        None => None,
-        Some(row) => last_listed(sibs, row.contents.areas()),
-    }
+    last_listed(sibs, rows.areas(key))
 }
 
 /// The same of some regions.

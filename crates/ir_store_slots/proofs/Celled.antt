@@ -11,18 +11,18 @@ use Rattle.ir_store_slots.specs.Grows.{Parts, Wider}
 use Rattle.ir_store_slots.proofs.Idle.{is_below}
 use Rattle.ir_store_slots.proofs.Wide.{Keyed}
 
--- rows with the same values, of which no more are used
-pub celled_same : (rows rows' : List Row) (cells : List (ℕ × ℕ)) → Celled rows cells → ((k : ℕ) → Used rows' k → Used rows k) → ((k : ℕ) → (row_at rows' k).head.results ≡ (row_at rows k).head.results)
-    → ((k : ℕ) → (row_at rows' k).shapes ≡ (row_at rows k).shapes) → ((k : ℕ) → (row_at rows' k).values ≡ (row_at rows k).values) → Celled rows' cells
+-- rows of which no more are used, and those have the same values
+pub celled_same : (rows rows' : List Row) (cells : List (ℕ × ℕ)) → Celled rows cells → ((k : ℕ) → Used rows' k → Used rows k) → ((k : ℕ) → Used rows' k → (row_at rows' k).head.results ≡ (row_at rows k).head.results)
+    → ((k : ℕ) → Used rows' k → (row_at rows' k).shapes ≡ (row_at rows k).shapes) → ((k : ℕ) → (row_at rows' k).values ≡ (row_at rows k).values) → Celled rows' cells
 celled_same rows rows' cells c used results shapes values = record {
-  results = λ k i u l. subst (λ z. cell_at cells (z + i) ≡ (k, i)) (sym (values k)) (c.results k i (used k u) (subst (λ z. i < length z) (results k) l));
-  arguments = λ k r i a u e l. subst (λ z. cell_at cells (z + i) ≡ (a.1, i)) (sym (values a.1)) (c.arguments k r i a (used k u) (sym (ap (λ z. slice_get z r) (shapes k)) ∙ e) l);
+  results = λ k i u l. subst (λ z. cell_at cells (z + i) ≡ (k, i)) (sym (values k)) (c.results k i (used k u) (subst (λ z. i < length z) (results k u) l));
+  arguments = λ k r i a u e l. subst (λ z. cell_at cells (z + i) ≡ (a.1, i)) (sym (values a.1)) (c.arguments k r i a (used k u) (sym (ap (λ z. slice_get z r) (shapes k u)) ∙ e) l);
 }
 
 -- a row is written that has the values of the one before it
 pub celled_edit : (rows rows' : List Row) (cells : List (ℕ × ℕ)) (k : ℕ) → Celled rows cells → ((q : ℕ) → (q ≡ k → ⊥) → row_at rows' q ≡ row_at rows q) → (row_at rows' k).used ≡ (row_at rows k).used
     → (row_at rows' k).head.results ≡ (row_at rows k).head.results → (row_at rows' k).shapes ≡ (row_at rows k).shapes → (row_at rows' k).values ≡ (row_at rows k).values → Celled rows' cells
-celled_edit rows rows' cells k c same used results shapes values = celled_same rows rows' cells c (λ q u. record { used = sym (at (λ z. z.used) used q) ∙ u.used }) (at (λ z. z.head.results) results) (at (λ z. z.shapes) shapes) (at (λ z. z.values) values)
+celled_edit rows rows' cells k c same used results shapes values = celled_same rows rows' cells c (λ q u. record { used = sym (at (λ z. z.used) used q) ∙ u.used }) (λ q u. at (λ z. z.head.results) results q) (λ q u. at (λ z. z.shapes) shapes q) (at (λ z. z.values) values)
   where
     at : {A : Type 0} (f : Row → A) → f (row_at rows' k) ≡ f (row_at rows k) → (q : ℕ) → f (row_at rows' q) ≡ f (row_at rows q)
     at f e q = ⊎_elim (λ z. ap (λ w. f (row_at rows' w)) z ∙ e ∙ ap (λ w. f (row_at rows w)) (sym z)) (λ n. ap f (same q n)) (cases_eq q k)

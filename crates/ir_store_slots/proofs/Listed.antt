@@ -7,14 +7,14 @@ use Rattle.std.proofs.lemmas.Bool.{cases_eq, cases_lt, eq-eqb, ne_eqb, cond-true
 use Rattle.std.proofs.lemmas.Bool.Decides.{nat_tests}
 use Rattle.std.proofs.lemmas.List.{length-set, get_or_past, length-map}
 use Rattle.std.proofs.lemmas.Bool.{or_left, or_right}
-use Rattle.ir_store_lists.specs.Lists.{Laws, IsItem, home_at, list_at, has, without, Once, after, free}
-use Rattle.ir_store_slots.specs.declared.row.Row.{Row as Kept}
+use Rattle.ir_store_lists.specs.Lists.{Lists, Laws, IsHead, IsItem, home_at, list_at, has, without, Once, after, free}
 use Rattle.ir_store_slots.specs.Stored.{Gone, none_gone}
-use Rattle.ir_store_slots.specs.Releases.{is_given, forgetting, IsKeyed, ReleasesSlot, ReleasesSome, GivenUp, Forgets, Released}
-use Rattle.ir_store_slots.specs.Rows.{Row, row_at, row_of, rows_of}
+use Rattle.ir_store_slots.specs.Releases.{is_given, given_up, forgetting, released, key_left, key_so_far, IsKeyed, ReleasesSlot, ReleasesSome, GivenUp, Forgets, Released}
+use Rattle.ir_store_slots.specs.Rows.{Row, row_at, no_row}
+use Rattle.ir_store_rows.specs.Rows.{vacated}
 use Rattle.ir_store_slots.specs.Marks.{has_gone, mark, home_of, node_of_slot, Marked}
 use Rattle.ir_store_slots.specs.Walks.{from_slot}
-use Rattle.ir_store_slots.proofs.Items.{read_row, other_row, own_row}
+use Rattle.ir_store_slots.proofs.Items.{other_row, own_row}
 use Rattle.ir_store_slots.proofs.Marking.{marked_edit, marked_same}
 use Rattle.ir_store_slots.proofs.Slots.{used_inside, live_inside}
 use Rattle.ir_store_slots.proofs.Sweeping.{sweep_start, sweep_all, sweep_step}
@@ -267,13 +267,13 @@ pub node_marked : (from : ℕ) (rows new : List Row) (keys left : finmap.FinMap 
 node_marked from rows new keys left lists homes homes2 laws m n e r true g eh =
     let a = held_node rows lists homes laws m n e in
     let it = node_item rows lists homes laws m n 0 (λ f. omega (arith, f)) e in
-    let own : row_at new (n - 2) ≡ record (row_at rows (n - 2)) { used = false } = r.own ∙ ap {A = Bool} {B = Row} (λ c. if c then record (row_at rows (n - 2)) { used = false } else row_at rows (n - 2)) g in
-    let none : mark (row_at new (n - 2)) ≡ None = ap mark own ∙ ap (λ l. if l then (if has_gone (row_at rows (n - 2)).gone then Some 1 else None) else None) a.live in
+    let own : row_at new (n - 2) ≡ vacated (row_at rows (n - 2)) = r.own ∙ ap {A = Bool} {B = Row} (λ c. if c then vacated (row_at rows (n - 2)) else row_at rows (n - 2)) g in
+    let none : mark (row_at new (n - 2)) ≡ None = ap mark own ∙ ap (λ l. if l then (if has_gone none_gone then Some 1 else None) else None) a.live in
     marked_edit rows new homes homes2 (n - 2) m (omega (arith, it.inside, a.node)) r.others
     (eh ∙ ap (λ z. set homes z free) (sym a.node) ∙ ap (λ z. set homes (node_of_slot (n - 2)) (home_of z)) (sym none))
 node_marked from rows new keys left lists homes homes2 laws m n e r false g eh =
     let same : (q : ℕ) → row_at new q ≡ row_at rows q = λ q. ⊎_elim
-    (λ z. ap (row_at new) z ∙ r.own ∙ ap {A = Bool} {B = Row} (λ c. if c then record (row_at rows (n - 2)) { used = false } else row_at rows (n - 2)) g ∙ ap (row_at rows) (sym z))
+    (λ z. ap (row_at new) z ∙ r.own ∙ ap {A = Bool} {B = Row} (λ c. if c then vacated (row_at rows (n - 2)) else row_at rows (n - 2)) g ∙ ap (row_at rows) (sym z))
     (λ z. r.others q z) (cases_eq q (n - 2)) in
     subst (Marked new) (sym eh) (marked_same rows new homes m (λ q. ap mark (same q)) (λ q. ap (λ z. z.used) (same q)))
 
@@ -293,7 +293,7 @@ forgot_end rows new lists homes laws f e = record {
     go [] g = refl
     go (x ∷ xs) g = absurd cc
 
-module _ (rows : List Row) (items : List Kept) (lists : List (List ℕ)) (homes : List ℕ) (laws : Laws lists homes) (n : ℕ) (en : Some n ≡ slice_get (list_at lists 1) 0) (f : Forgot rows (rows_of items) homes) where
+module _ (rows : List Row) (items : List Row) (lists : List (List ℕ)) (homes : List ℕ) (laws : Laws lists homes) (n : ℕ) (en : Some n ≡ slice_get (list_at lists 1) 0) (f : Forgot rows items homes) where
   head_is : (ys : List ℕ) × (list_at lists 1 ≡ n ∷ ys)
   head_is = go (list_at lists 1) en
     where
@@ -304,45 +304,47 @@ module _ (rows : List Row) (items : List Kept) (lists : List (List ℕ)) (homes 
   there : has n (list_at lists 1) ≡ true
   there = ap (has n) head_is.1 ∙ ap (λ b. b || has n head_is.0) (eq-eqb n n refl)
 
-  lack_node : AtNode (rows_of items) n false
-  lack_node = lacking_node (rows_of items) lists homes laws f.marked n there
+  lack_node : AtNode items n false
+  lack_node = lacking_node items lists homes laws f.marked n there
 
   pub forget_inside : n - 2 < length items
-  forget_inside = omega (arith, lack_node.inside, length-map items row_of)
+  forget_inside = lack_node.inside
 
   pub forget_two : 2 ≤ n
   forget_two = let w = lack_node.node in omega (arith, w)
 
   pub forget_item : IsItem homes n
-  forget_item = node_item (rows_of items) lists homes laws f.marked n 1 (λ g. omega (arith, g)) there
+  forget_item = node_item items lists homes laws f.marked n 1 (λ g. omega (arith, g)) there
 
-  pub forget_live : (r : Kept) → r ≡ get_or items (n - 2) r → r.live ≡ true
-  forget_live r e = ap (λ z. z.live) (sym (read_row items (n - 2) r forget_inside e)) ∙ lack_node.live
+  pub forget_live : (row_at items (n - 2)).live ≡ true
+  forget_live = lack_node.live
 
   pub forget_less : length (without n (list_at lists 1)) < length (list_at lists 1)
   forget_less =
       let o : Once (n ∷ head_is.0) = subst Once head_is.1 (laws.once 1) in
       omega (arith, ap length (ap (without n) head_is.1 ∙ without_part n [] head_is.0 o), ap length head_is.1)
 
-  module _ (r m : Kept) (er : r ≡ get_or items (n - 2) r) (em : row_of m ≡ forgetting (row_of r)) (homes2 : List ℕ) (eh : homes2 ≡ set homes n free) where
-    own : row_at (rows_of (set items (n - 2) m)) (n - 2) ≡ record (row_at (rows_of items) (n - 2)) { gone = none_gone }
-    own = own_row items (n - 2) m forget_inside ∙ em ∙ ap forgetting (sym (read_row items (n - 2) r forget_inside er))
-        ∙ ap {A = Bool} {B = Row} (λ l. if l then record (row_at (rows_of items) (n - 2)) { gone = none_gone } else row_at (rows_of items) (n - 2)) lack_node.live
+  module _ (new : List Row) (en2 : new ≡ set items (n - 2) (record (row_at items (n - 2)) { gone = none_gone })) (homes2 : List ℕ) (eh : homes2 ≡ set homes n free) where
+    own : row_at new (n - 2) ≡ record (row_at items (n - 2)) { gone = none_gone }
+    own = ap (λ z. row_at z (n - 2)) en2 ∙ own_row items (n - 2) (record (row_at items (n - 2)) { gone = none_gone }) forget_inside
 
-    none : mark (row_at (rows_of (set items (n - 2) m)) (n - 2)) ≡ None
-    none = ap mark own ∙ ap (λ l. if l then None else (if (row_at (rows_of items) (n - 2)).used then Some 0 else None)) lack_node.live
+    other : (q : ℕ) → (q ≡ n - 2 → ⊥) → row_at new q ≡ row_at items q
+    other q ne = ap (λ z. row_at z q) en2 ∙ other_row items (n - 2) (record (row_at items (n - 2)) { gone = none_gone }) q ne
 
-    pub forget_on : Forgot rows (rows_of (set items (n - 2) m)) homes2
+    none : mark (row_at new (n - 2)) ≡ None
+    none = ap mark own ∙ ap (λ l. if l then None else (if (row_at items (n - 2)).used then Some 0 else None)) lack_node.live
+
+    pub forget_on : Forgot rows new homes2
     forget_on = record {
-      long = length-map (set items (n - 2) m) row_of ∙ length-set items (n - 2) m ∙ sym (length-map items row_of) ∙ f.long;
+      long = ap length en2 ∙ length-set items (n - 2) (record (row_at items (n - 2)) { gone = none_gone }) ∙ f.long;
       same = λ q. ⊎_elim
-          (λ z. ap (λ w. forgetting (row_at (rows_of (set items (n - 2) m)) w)) z ∙ ap forgetting own
-          ∙ ap {A = Bool} {B = Row} (λ l. if l then record (row_at (rows_of items) (n - 2)) { gone = none_gone } else record (row_at (rows_of items) (n - 2)) { gone = none_gone }) lack_node.live
-          ∙ sym (ap {A = Bool} {B = Row} (λ l. if l then record (row_at (rows_of items) (n - 2)) { gone = none_gone } else row_at (rows_of items) (n - 2)) lack_node.live)
+          (λ z. ap (λ w. forgetting (row_at new w)) z ∙ ap forgetting own
+          ∙ ap {A = Bool} {B = Row} (λ l. if l then record (row_at items (n - 2)) { gone = none_gone } else record (row_at items (n - 2)) { gone = none_gone }) lack_node.live
+          ∙ sym (ap {A = Bool} {B = Row} (λ l. if l then record (row_at items (n - 2)) { gone = none_gone } else row_at items (n - 2)) lack_node.live)
           ∙ f.same (n - 2) ∙ ap (λ w. forgetting (row_at rows w)) (sym z))
-          (λ z. ap forgetting (other_row items (n - 2) m q z) ∙ f.same q)
+          (λ z. ap forgetting (other q z) ∙ f.same q)
           (cases_eq q (n - 2));
-      marked = marked_edit (rows_of items) (rows_of (set items (n - 2) m)) homes homes2 (n - 2) f.marked (let w = lack_node.node in omega (arith, w, forget_item.inside)) (other_row items (n - 2) m)
+      marked = marked_edit items new homes homes2 (n - 2) f.marked (let w = lack_node.node in omega (arith, w, forget_item.inside)) other
           (eh ∙ ap (λ z. set homes z free) (sym lack_node.node) ∙ ap (λ z. set homes (node_of_slot (n - 2)) (home_of z)) (sym none));
     }
 
@@ -354,7 +356,7 @@ released_some from rows new keys left z g = record {
   key = g.key;
 }
   where
-    go : (q : ℕ) (c l : Bool) → (if c then record (row_at rows q) { used = false } else row_at rows q) ≡ (if c then record (row_at rows q) { used = false } else (if l && eqb from 0 then record (row_at rows q) { gone = none_gone } else row_at rows q))
+    go : (q : ℕ) (c l : Bool) → (if c then vacated (row_at rows q) else row_at rows q) ≡ (if c then vacated (row_at rows q) else (if l && eqb from 0 then record (row_at rows q) { gone = none_gone } else row_at rows q))
     go q true l = refl
     go q false false = refl
     go q false true = sym (ap {A = Bool} {B = Row} (λ b. if b then record (row_at rows q) { gone = none_gone } else row_at rows q) z)
@@ -366,9 +368,9 @@ released_all from rows new new2 keys left z g f = record {
   key = g.key;
 }
   where
-    go : (q : ℕ) (c l : Bool) → is_given from (row_at rows q) ≡ c → (row_at rows q).live ≡ l → forgetting (if c then record (row_at rows q) { used = false } else row_at rows q)
-        ≡ (if c then record (row_at rows q) { used = false } else (if l && eqb from 0 then record (row_at rows q) { gone = none_gone } else row_at rows q))
-    go q true l e h = ap {A = Bool} {B = Row} (λ b. if b then record (row_at rows q) { used = false; gone = none_gone } else record (row_at rows q) { used = false }) (given_live (row_at rows q).used (row_at rows q).live (not (nat_lt (row_at rows q).head.id from)) e)
+    go : (q : ℕ) (c l : Bool) → is_given from (row_at rows q) ≡ c → (row_at rows q).live ≡ l → forgetting (if c then vacated (row_at rows q) else row_at rows q)
+        ≡ (if c then vacated (row_at rows q) else (if l && eqb from 0 then record (row_at rows q) { gone = none_gone } else row_at rows q))
+    go q true l e h = ap {A = Bool} {B = Row} (λ b. if b then record (vacated (row_at rows q)) { gone = none_gone } else vacated (row_at rows q)) (given_live (row_at rows q).used (row_at rows q).live (not (nat_lt (row_at rows q).head.id from)) e)
       where
         given_live : (u l b : Bool) → (u && (not l && b)) ≡ true → l ≡ false
         given_live true false b e = refl

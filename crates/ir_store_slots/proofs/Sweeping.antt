@@ -4,27 +4,34 @@ use Rattle.std.specs.Prelude.{if◌then◌else◌}
 use Rattle.std.specs.Ordering.{nat_cmp}
 use Rattle.std.specs.Cmp.{nat_cmp_total}
 use Rattle.std.specs.FinMap as finmap
-use Rattle.std.proofs.lemmas.Bool.{cases_eq, eq-eqb, ne_eqb, cond-true, cond-false, false≢true}
-use Rattle.std.proofs.lemmas.List.{length-set, length-map}
-use Rattle.ir_store_slots.specs.declared.row.Row.{Row as Kept}
+use Rattle.std.proofs.lemmas.Bool.{cases_eq, cases_Bool, eq-eqb, ne_eqb, cond-true, cond-false, false≢true}
+use Rattle.std.proofs.lemmas.Bool.Decides.{nat_tests}
+use Rattle.std.proofs.lemmas.List.{length-set, length-map, get_or_past}
 use Rattle.ir_store_slots.specs.Releases.{is_given, given_up, key_left, key_so_far, IsKeyed, ReleasesSlot, ReleasesSome, GivenUp}
-use Rattle.ir_store_slots.specs.Rows.{Row, row_at, row_of, rows_of}
-use Rattle.ir_store_slots.proofs.Items.{read_row, other_row, own_row}
+use Rattle.ir_store_slots.specs.Rows.{Row, row_at}
+use Rattle.ir_store_rows.specs.Rows.{vacated}
+use Rattle.ir_store_slots.specs.Right.{Used}
+use Rattle.ir_store_slots.proofs.Items.{other_row, own_row}
 use Rattle.ir_store_slots.proofs.Items.{some_same}
 use Rattle.ir_store_slots.proofs.Items.{eq_nat}
 
 -- one slot, as the call's steps tell it
-pub slot_released : (from k : ℕ) (items : List Kept) (n m : Kept) → k < length items → n ≡ get_or items k n → row_of m ≡ given_up from (row_of n)
-    → (keys left : finmap.FinMap nat_cmp ℕ) → left ≡ (if is_given from (row_of n) then finmap.remove keys n.id else keys)
-    → ReleasesSlot from k (rows_of items) (rows_of (set items k m)) keys left
-slot_released from k items n m l en em keys left el =
-    let e = read_row items k n l en in
-    record {
-      long = length-map (set items k m) row_of ∙ length-set items k m ∙ sym (length-map items row_of);
-      own = own_row items k m l ∙ em ∙ ap (given_up from) (sym e);
-      others = other_row items k m;
-      key = el ∙ ap (λ z. if is_given from z then finmap.remove keys z.head.id else keys) (sym e);
-    }
+pub slot_given : (from k : ℕ) (rows new : List Row) → k < length rows → is_given from (row_at rows k) ≡ true → new ≡ set rows k (vacated (row_at rows k))
+    → (keys left : finmap.FinMap nat_cmp ℕ) → left ≡ finmap.remove keys (row_at rows k).head.id → ReleasesSlot from k rows new keys left
+slot_given from k rows new l g e keys left el = record {
+  long = ap length e ∙ length-set rows k (vacated (row_at rows k));
+  own = ap (λ z. row_at z k) e ∙ own_row rows k (vacated (row_at rows k)) l ∙ sym (ap {A = Bool} {B = Row} (λ b. if b then vacated (row_at rows k) else row_at rows k) g);
+  others = λ q ne. ap (λ z. row_at z q) e ∙ other_row rows k (vacated (row_at rows k)) q ne;
+  key = el ∙ sym (ap (λ b. if b then finmap.remove keys (row_at rows k).head.id else keys) g);
+}
+
+pub slot_stays : (from k : ℕ) (rows : List Row) → is_given from (row_at rows k) ≡ false → (keys : finmap.FinMap nat_cmp ℕ) → ReleasesSlot from k rows rows keys keys
+slot_stays from k rows g keys = record {
+  long = refl;
+  own = sym (ap {A = Bool} {B = Row} (λ b. if b then vacated (row_at rows k) else row_at rows k) g);
+  others = λ q ne. refl;
+  key = sym (ap (λ b. if b then finmap.remove keys (row_at rows k).head.id else keys) g);
+}
 
 used_given : (u b : Bool) → (u && b) ≡ true → u ≡ true
 used_given true b e = refl
@@ -34,7 +41,7 @@ module _ (from : ℕ) (rows : List Row) (keys : ℕ → Option ℕ) (kd : IsKeye
   pub sweep_start : (seen : ℕ → Bool) → ((q : ℕ) → seen q ≡ true → is_given from (row_at rows q) ≡ false) → ReleasesSome from seen rows rows keys keys
   sweep_start seen spared = record {
     long = refl;
-    past = λ q e. sym (ap {A = Bool} {B = Row} (λ b. if b then record (row_at rows q) { used = false } else row_at rows q) (spared q e));
+    past = λ q e. sym (ap {A = Bool} {B = Row} (λ b. if b then vacated (row_at rows q) else row_at rows q) (spared q e));
     ahead = λ q e. refl;
     key = λ y. go (keys y);
   }

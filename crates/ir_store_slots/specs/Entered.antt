@@ -5,17 +5,10 @@ use Rattle.ir_types.specs.declared.refusal.Refusal.TheVariants.{NoSuchOp}
 use Rattle.ir_tree.specs.declared.place.Part.{Part}
 use Rattle.ir_tree.specs.Edits.{part_of, change_part, change_entry}
 use Rattle.ir_tree_laws.specs.Reasons.{entry_reason}
-use Rattle.ir_store_contents.specs.Slots.{Slots, gone_after}
+use Rattle.ir_store_rows.specs.Slots.{Slots, gone_after}
 use Rattle.ir_store_slots.specs.Stored.{gone_in, change_gone}
 use Rattle.ir_store_slots.specs.Rows.{Row, row_at}
-
--- one dictionary of a row, with the slots of the keys that were taken out of it
-abbrev pub slots_in : Part → Row → Slots
-slots_in part r = record { present = part_of part r.head; gone = gone_in part r.gone }
-
--- a row with attribute a at key k of one dictionary, or nothing there
-abbrev pub row_with_entry : (ℕ → ℕ → Bool) → Part → ℕ → Option ℕ → Row → Row
-row_with_entry before part k a r = record r { head = change_part part (change_entry before k a) r.head; gone = change_gone part (gone_after k a) r.gone }
+pub use Rattle.ir_store_rows.specs.Rows.{slots_in, row_with_entry}
 
 -- a slot, unless there is a reason
 abbrev pub slot_unless : ℕ → Option Refusal → Result ℕ Refusal

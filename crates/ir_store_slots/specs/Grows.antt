@@ -5,8 +5,8 @@ use Rattle.ir_tree.specs.Tree.{Head, Op, Region, empty, block, no_ops}
 use Rattle.ir_store_slots.specs.Emptied.{emptied_region, emptied}
 use Rattle.ir_tree.specs.declared.value.Value.{Value}
 use Rattle.ir_store_slots.specs.declared.row.Cell.{Cell}
-use Rattle.ir_store_slots.specs.declared.row.Row.{Row as Kept}
-use Rattle.ir_store_slots.specs.Rows.{Row, Shape, row_at, rows_of, no_row, bare}
+use Rattle.ir_store_slots.specs.Rows.{Row, Shape, row_at, no_row, bare}
+pub use Rattle.ir_store_rows.specs.Rows.{row_spare, row_held}
 use Rattle.ir_store_slots.specs.Stored.{none_gone}
 use Rattle.ir_tree_laws.specs.Reasons.{with_id}
 use Rattle.ir_store_slots.specs.Index.{cell_at, cells_of}
@@ -18,8 +18,8 @@ pub record Parts : Type 0 where
   pub homes : List ℕ
   pub cells : List (ℕ × ℕ)
 
-abbrev pub parts_of : List Kept → Lists → Lists → List Cell → Parts
-parts_of rows sibs uses cells = record { rows = rows_of rows; sibs = sibs; homes = uses.homes; cells = cells_of cells }
+abbrev pub parts_of : List Row → Lists → Lists → List Cell → Parts
+parts_of rows sibs uses cells = record { rows = rows; sibs = sibs; homes = uses.homes; cells = cells_of cells }
 
 -- slot k holds nothing
 pub record Spare (rows : List Row) (k : ℕ) : Type 0 where
@@ -114,10 +114,6 @@ pub record Grown (bound : ℕ) (q : Parts) (x : ℕ) (o : Op) (k : ℕ) (r : Row
   pub is : bare r ≡ with_id x (emptied o)
   pub gone : r.gone ≡ none_gone
 
--- the row of a slot that holds nothing: a block's head has an owner and a region
-abbrev pub row_spare : ℕ → ℕ → ℕ → Row
-row_spare owner number values = record no_row { owner = owner; region = number; values = values }
-
 -- the parts with one slot more, whose node is a head or free
 pub record AddsSlot (heads : Bool) (r : Row) (rows new : List Row) (sibs more : Lists) : Type 0 where
   pub row : new ≡ rows ++ r ∷ []
@@ -132,7 +128,3 @@ pub record KeepsSlots (rows new : List Row) (sibs more : Lists) : Type 0 where
 -- so do the regions of a list
 abbrev pub AreEmptied : List Shape → List Region → Type 0
 AreEmptied xs gs = map bare_region xs ≡ map emptied_region gs
-
--- the row of a held operation
-abbrev pub row_held : ℕ → Head → List Shape → ℕ → ℕ → Row
-row_held x h shapes uses values = record no_row { used = true; head = record h { id = x }; shapes = shapes; uses = uses; values = values }

@@ -14,7 +14,7 @@ pub mod Grows
 pub mod Releases
 pub mod Entered
 pub mod Walks
-pub use Rattle.ir_store_contents.specs.declared.area.Area
+pub use Rattle.ir_store_rows.specs.Area
 pub use Rattle.ir_store_lists.specs.Labels
 pub use Rattle.ir_store_lists.specs.Lists
-pub use Rattle.ir_store_contents.specs.Slots
+pub use Rattle.ir_store_rows.specs.Slots

@@ -4,6 +4,7 @@ use Rattle.std.specs.Ordering.{nat_cmp}
 use Rattle.std.specs.FinMap as map
 use Rattle.ir_store_slots.specs.Stored.{none_gone}
 use Rattle.ir_store_slots.specs.Rows.{Row, row_at}
+use Rattle.ir_store_rows.specs.Rows.{vacated}
 use Rattle.ir_store_slots.specs.Right.{Used, HoldsId}
 
 -- whether what a slot holds is given up, where that is done from an id on
@@ -12,7 +13,7 @@ is_given from r = r.used && (not r.live && not (nat_lt r.head.id from))
 
 -- the slot then
 abbrev pub given_up : ℕ → Row → Row
-given_up from r = if is_given from r then record r { used = false } else r
+given_up from r = if is_given from r then vacated r else r
 
 -- the slot of an operation of the module whose gone keys go
 abbrev pub forgetting : Row → Row
@@ -20,7 +21,7 @@ forgetting r = if r.live then record r { gone = none_gone } else r
 
 -- both: from 0 on the gone keys of the module's operations go too
 abbrev pub released : ℕ → Row → Row
-released from r = if is_given from r then record r { used = false } else (if r.live && eqb from 0 then record r { gone = none_gone } else r)
+released from r = if is_given from r then vacated r else (if r.live && eqb from 0 then record r { gone = none_gone } else r)
 
 -- the slot of an id then
 abbrev pub key_left : ℕ → List Row → Option ℕ → Option ℕ

@@ -11,29 +11,8 @@ use Rattle.ir_tree.specs.Code.{op_code}
 use Rattle.ir_tree.specs.Ids.{find, first_of}
 use Rattle.ir_tree.specs.Edits.{part_of}
 use Rattle.ir_tree.specs.WellFormed.{Module, module_code}
-use Rattle.ir_store_contents.specs.Slots.{has_key, is_gone}
-
--- the keys that were taken out of an operation's dictionaries and whose slots stand, in the order in which they went
-pub record Gone : Type 0 where
-  pub properties : List ℕ
-  pub attributes : List ℕ
-
--- none
-abbrev pub none_gone : Gone
-none_gone = record { properties = []; attributes = [] }
-
-abbrev pub gone_code : Coded Gone
-gone_code = code_by (List ℕ × List ℕ) (coded× (coded_list coded_ℕ) (coded_list coded_ℕ)) (λ g. (g.properties, g.attributes)) (λ p. record { properties = p.0; attributes = p.1 }) (λ _. refl)
-
--- those of one dictionary
-abbrev pub gone_in : Part → Gone → List ℕ
-gone_in Props g = g.properties
-gone_in Attrs g = g.attributes
-
--- the keys that are gone, with those of one dictionary changed
-abbrev pub change_gone : Part → (List ℕ → List ℕ) → Gone → Gone
-change_gone Props f g = record g { properties = f g.properties }
-change_gone Attrs f g = record g { attributes = f g.attributes }
+use Rattle.ir_store_rows.specs.Slots.{has_key, is_gone}
+pub use Rattle.ir_store_rows.specs.Gone.{Gone, none_gone, gone_code, gone_in, change_gone}
 
 -- what a store holds
 pub record Stored : Type 0 where

@@ -2,13 +2,14 @@
 ghost use Rattle.std.specs.Prelude.{◌≡◌, ◌<◌, ℕ, eqb, map, length, Some};
 ghost use Rattle.std.specs.FinMap as finmap;
 ghost use Rattle.std.specs.Ordering.{nat_cmp};
-ghost use Rattle.ir_store_slots.specs.Rows.{rows_of, row_at, live_slot, shape_of};
+ghost use Rattle.ir_store_slots.specs.Rows.{row_at, live_slot, shape_of};
 ghost use Rattle.ir_store_slots.specs.Plans.{AllHeads, all_bare, leaf_in, operand_in};
 ghost use Rattle.ir_store_slots.specs.Right.{Live};
 
-use crate::row::{Area, Row};
+use crate::row::Area;
 use ir_store_ids::IdTable;
 use ir_store_lists::Ordered;
+use ir_store_rows::Rows;
 use ir_types::ids::OpId;
 use ir_types::refusal::Refusal;
 
@@ -23,12 +24,11 @@ pub fn slot(keys: &Keys, op: OpId) -> Option<usize>
 }
 
 /// The slot of an operation of the module.
-pub fn find(rows: &Vec<Row>, keys: &Keys, op: OpId) -> Option<usize>
-    ensures { result ≡ live_slot (rows_of rows.now.items) (finmap.get keys.now) op }
+pub fn find(rows: &Rows, keys: &Keys, op: OpId) -> Option<usize>
+    ensures { result ≡ live_slot rows.now (finmap.get keys.now) op }
 {
     let key = slot(keys, op)?;
-    let row = rows.get(key)?;
-    if row.live { Some(key) } else { None }
+    if rows.is_live(key) { Some(key) } else { None }
 }
 
 /// Whether no operation stands in the blocks of an operation.
@@ -50,14 +50,14 @@ pub fn is_bare(areas: &[Area], sibs: &Ordered) -> bool
 
 /// The slot of an operation that isn't the root, and in which none stands.
 pub fn find_leaf(
-    rows: &Vec<Row>,
+    rows: &Rows,
     keys: &Keys,
     sibs: &Ordered,
     root: usize,
     op: OpId,
 ) -> Result<usize, Refusal>
-    requires { (k : ℕ) → Live (rows_of rows.now.items) k → AllHeads sibs.now.homes (row_at (rows_of rows.now.items) k).shapes }
-    ensures { result ≡ leaf_in (rows_of rows.now.items) sibs.now.lists root (live_slot (rows_of rows.now.items) (finmap.get keys.now) op) }
+    requires { (k : ℕ) → Live rows.now k → AllHeads sibs.now.homes (row_at rows.now k).shapes }
+    ensures { result ≡ leaf_in rows.now sibs.now.lists root (live_slot rows.now (finmap.get keys.now) op) }
 {
     let Some(key) = find(rows, keys, op) else {
         return Err(Refusal::NoSuchOp);
@@ -65,10 +65,7 @@ pub fn find_leaf(
     if key == root {
         return Err(Refusal::IsRoot);
     }
-    let Some(row) = rows.get(key) else {
-        return Err(Refusal::NoSuchOp);
-    };
-    if is_bare(row.contents.areas(), sibs) {
+    if is_bare(rows.areas(key), sibs) {
         Ok(key)
     } else {
         Err(Refusal::NotEmpty)
@@ -76,8 +73,8 @@ pub fn find_leaf(
 }
 
 /// The slot of an operation of the module that has this operand.
-pub fn find_operand(rows: &Vec<Row>, keys: &Keys, op: OpId, place: usize) -> Result<usize, Refusal>
-    ensures { result ≡ operand_in (rows_of rows.now.items) place (live_slot (rows_of rows.now.items) (finmap.get keys.now) op) }
+pub fn find_operand(rows: &Rows, keys: &Keys, op: OpId, place: usize) -> Result<usize, Refusal>
+    ensures { result ≡ operand_in rows.now place (live_slot rows.now (finmap.get keys.now) op) }
 {
     let Some(key) = find(rows, keys, op) else {
         return Err(Refusal::NoSuchOp);
@@ -90,11 +87,8 @@ pub fn find_operand(rows: &Vec<Row>, keys: &Keys, op: OpId, place: usize) -> Res
 }
 
 /// How many operands the operation of a slot has.
-fn operand_count(rows: &Vec<Row>, key: usize) -> usize
-    ensures { result ≡ length (row_at (rows_of rows.now.items) key).head.operands }
+fn operand_count(rows: &Rows, key: usize) -> usize
+    ensures { result ≡ length (row_at rows.now key).head.operands }
 {
-    match rows.get(key) {
-        None => 0,
-        Some(row) => row.contents.operands().len(),
-    }
+    rows.operands(key).len()
 }

@@ -1,69 +1,62 @@
 //! Slots and nodes that are added.
-ghost use Rattle.std.specs.Prelude.{◌≡◌, ℕ, ◌+◌, ◌<◌, ◌++◌, ◌∷◌, [], length, map, IfOk, MatchResult};
+ghost use Rattle.std.specs.Prelude.{◌≡◌, true, false, ℕ, ◌+◌, ◌<◌, ◌≤◌, ◌++◌, ◌∷◌, [], length, map, IfOk, MatchResult, IfSome};
 ghost use Rattle.ir_tree.specs.View.{region_view};
 ghost use Rattle.ir_tree.specs.Tree.{block, no_ops, head};
-ghost use Rattle.ir_store_slots.specs.Rows.{row_of, rows_of, shape_of};
+ghost use Rattle.ir_store_slots.specs.Rows.{shape_of};
 ghost use Rattle.ir_store_slots.specs.Index.{cells_of};
 ghost use Rattle.ir_store_slots.specs.Grows.{parts_of, IsEven, Wider, Runs, AddsSlot, KeepsSlots, AreBlocks, IsBlock, Grown, AreEmptied, row_spare, row_held, bare_region};
 ghost use Rattle.ir_store_slots.specs.Emptied.{emptied_region};
 ghost use Rattle.ir_store_lists.specs.Lists.{free};
 ghost use Rattle.std.specs.Prelude.{if◌then◌else◌};
 
-use crate::row::{Area, Cell, Row, push_row};
-use ir_store_contents::Contents;
+use crate::row::{Area, Cell};
 use ir_store_lists::{Chains, Ordered};
+use ir_store_rows::{Draft, Rows};
 use ir_tree::tree::{TreeOp, TreeRegion};
 use ir_tree::value::Value;
-use ir_types::ids::{NameId, OpId, TypeId};
+use ir_types::ids::{OpId, TypeId};
 use std::alloc::{AllocError, Global};
 
-/// A row that holds nothing.
-fn spare_row() -> Row
-    ensures { row_of result ≡ row_spare 0 0 0 }
-{
-    Row {
-        used: false,
-        live: false,
-        id: OpId::new(0),
-        name: NameId::new(0),
-        spare: 0,
-        uses: 0,
-        values: 0,
-        contents: Contents::none(),
-    }
-}
-
-/// The row of a block's head: it has an owner, and the number of its region.
-fn head_row(owner: u32, region: u32, values: usize) -> Row
-    requires { values < free }
-    ensures { row_of result ≡ row_spare owner region values }
-{
-    Row {
-        used: false,
-        live: false,
-        id: OpId::new(0),
-        name: NameId::new(0),
-        spare: 0,
-        uses: 0,
-        values: values as u32,
-        contents: Contents::head(owner, region),
-    }
-}
-
-/// One slot more, whose node is a head or free.
-fn add_slot(rows: &mut Vec<Row>, sibs: &mut Ordered, row: Row, head: bool) -> Result<(), AllocError>
+/// One slot more, which holds nothing.
+fn add_spare(rows: &mut Rows, sibs: &mut Ordered) -> Result<(), AllocError>
     ensures { MatchResult result
-        (λ _. AddsSlot head (row_of row) (rows_of rows.old.items) (rows_of rows.new.items) sibs.old sibs.new)
-        (λ _. KeepsSlots (rows_of rows.old.items) (rows_of rows.new.items) sibs.old sibs.new) }
+        (λ _. AddsSlot false (row_spare 0 0 0) rows.old rows.new sibs.old sibs.new)
+        (λ _. KeepsSlots rows.old rows.new sibs.old sibs.new) }
 {
-    match push_row(rows, row) {
+    match rows.push_spare() {
         Ok(()) => {}
         Err(e) => return Err(e),
     }
-    match add_block_node(sibs, head) {
+    match add_block_node(sibs, false) {
         Ok(()) => Ok(()),
         Err(e) => {
-            let _ = rows.pop();
+            rows.pop();
+            Err(e)
+        }
+    }
+}
+
+/// One slot more, the head of a block: it has an owner, and the number of its region.
+fn add_head(
+    rows: &mut Rows,
+    sibs: &mut Ordered,
+    owner: u32,
+    region: u32,
+    values: usize,
+) -> Result<(), AllocError>
+    requires { values < free }
+    ensures { MatchResult result
+        (λ _. AddsSlot true (row_spare owner region values) rows.old rows.new sibs.old sibs.new)
+        (λ _. KeepsSlots rows.old rows.new sibs.old sibs.new) }
+{
+    match rows.push_head(owner, region, values as u32) {
+        Ok(()) => {}
+        Err(e) => return Err(e),
+    }
+    match add_block_node(sibs, true) {
+        Ok(()) => Ok(()),
+        Err(e) => {
+            rows.pop();
             Err(e)
         }
     }
@@ -163,8 +156,8 @@ fn add_run(
 }
 
 /// How many rows there are.
-fn row_count(rows: &Vec<Row>) -> usize
-    ensures { result ≡ length (rows_of rows.now.items) }
+fn row_count(rows: &Rows) -> usize
+    ensures { result ≡ length rows.now }
 {
     rows.len()
 }
@@ -186,7 +179,7 @@ fn operand_count(operands: &[Value]) -> usize
 /// The region of a slot, with no operation in it.
 fn add_area(
     alloc: Global,
-    rows: &mut Vec<Row>,
+    rows: &mut Rows,
     sibs: &mut Ordered,
     uses: &mut Chains,
     cells: &mut Vec<Cell>,
@@ -194,10 +187,10 @@ fn add_area(
     number: u32,
     region: &TreeRegion,
 ) -> Result<Area, AllocError>
-    requires { IsEven (parts_of rows.old.items sibs.old uses.old cells.old.items) }
-    ensures wider { Wider (parts_of rows.old.items sibs.old uses.old cells.old.items) (parts_of rows.new.items sibs.new uses.new cells.new.items) }
+    requires { IsEven (parts_of rows.old sibs.old uses.old cells.old.items) }
+    ensures wider { Wider (parts_of rows.old sibs.old uses.old cells.old.items) (parts_of rows.new sibs.new uses.new cells.new.items) }
     ensures area { IfOk result (λ a. (bare_region (shape_of a) ≡ emptied_region (region_view region.now))
-        × IsBlock (parts_of rows.new.items sibs.new uses.new cells.new.items) (length uses.old.homes) owner number (shape_of a)) }
+        × IsBlock (parts_of rows.new sibs.new uses.new cells.new.items) (length uses.old.homes) owner number (shape_of a)) }
 {
     match region {
         TreeRegion::Empty => Ok(Area::Empty),
@@ -213,7 +206,7 @@ fn add_area(
 
 /// A block of a slot, with no operation in it.
 fn add_block(
-    rows: &mut Vec<Row>,
+    rows: &mut Rows,
     sibs: &mut Ordered,
     uses: &mut Chains,
     cells: &mut Vec<Cell>,
@@ -221,10 +214,10 @@ fn add_block(
     number: u32,
     args: Vec<TypeId>,
 ) -> Result<Area, AllocError>
-    requires { IsEven (parts_of rows.old.items sibs.old uses.old cells.old.items) }
-    ensures wider { Wider (parts_of rows.old.items sibs.old uses.old cells.old.items) (parts_of rows.new.items sibs.new uses.new cells.new.items) }
+    requires { IsEven (parts_of rows.old sibs.old uses.old cells.old.items) }
+    ensures wider { Wider (parts_of rows.old sibs.old uses.old cells.old.items) (parts_of rows.new sibs.new uses.new cells.new.items) }
     ensures area { IfOk result (λ a. (bare_region (shape_of a) ≡ block args.items no_ops)
-        × IsBlock (parts_of rows.new.items sibs.new uses.new cells.new.items) (length uses.old.homes) owner number (shape_of a)) }
+        × IsBlock (parts_of rows.new sibs.new uses.new cells.new.items) (length uses.old.homes) owner number (shape_of a)) }
 {
     sibs.laws();
     uses.laws();
@@ -234,7 +227,7 @@ fn add_block(
         Ok(values) => values,
         Err(e) => return Err(e),
     };
-    match add_slot(rows, sibs, head_row(owner, number, values), true) {
+    match add_head(rows, sibs, owner, number, values) {
         Ok(()) => Ok(Area::Block { args, head }),
         Err(e) => Err(e),
     }
@@ -243,17 +236,17 @@ fn add_block(
 /// The regions of a slot, with no operation in them.
 fn add_areas(
     alloc: Global,
-    rows: &mut Vec<Row>,
+    rows: &mut Rows,
     sibs: &mut Ordered,
     uses: &mut Chains,
     cells: &mut Vec<Cell>,
     owner: u32,
     regions: &[TreeRegion],
 ) -> Result<Vec<Area>, AllocError>
-    requires { IsEven (parts_of rows.old.items sibs.old uses.old cells.old.items) }
-    ensures wider { Wider (parts_of rows.old.items sibs.old uses.old cells.old.items) (parts_of rows.new.items sibs.new uses.new cells.new.items) }
+    requires { IsEven (parts_of rows.old sibs.old uses.old cells.old.items) }
+    ensures wider { Wider (parts_of rows.old sibs.old uses.old cells.old.items) (parts_of rows.new sibs.new uses.new cells.new.items) }
     ensures areas { IfOk result (λ a. AreEmptied (map shape_of a.items) (map region_view regions.now)
-        × AreBlocks (parts_of rows.new.items sibs.new uses.new cells.new.items) (length uses.old.homes) owner (map shape_of a.items)) }
+        × AreBlocks (parts_of rows.new sibs.new uses.new cells.new.items) (length uses.old.homes) owner (map shape_of a.items)) }
 {
     let mut areas = Vec::with_capacity(alloc, regions.len())?;
     let mut number = 0;
@@ -276,56 +269,23 @@ fn add_areas(
     Ok(areas)
 }
 
-/// The row of a held operation.
-pub fn held_row(
-    alloc: Global,
-    op: OpId,
-    header: &TreeOp,
-    areas: Vec<Area>,
-    uses: usize,
-    values: usize,
-) -> Result<Row, AllocError>
-    ensures { IfOk result (λ r. row_of r ≡ row_held op (head header.now) (map shape_of areas.items) uses values) }
-{
-    Ok(Row {
-        used: true,
-        live: false,
-        id: op,
-        name: header.name,
-        spare: 0,
-        uses: node_number(uses)?,
-        values: node_number(values)?,
-        contents: Contents::new(alloc, header, areas)?,
-    })
-}
-
-/// The number of a node, as a row keeps it.
-fn node_number(node: usize) -> Result<u32, AllocError>
-    ensures { IfOk result (λ n. n ≡ node) }
-{
-    match u32::try_from(node) {
-        Ok(node) => Ok(node),
-        Err(_) => Err(AllocError),
-    }
-}
-
 /// A slot for an operation, with the nodes of its values and operands; and the row that is to be written there.
 pub fn grow_slot(
     alloc: Global,
-    rows: &mut Vec<Row>,
+    rows: &mut Rows,
     sibs: &mut Ordered,
     uses: &mut Chains,
     cells: &mut Vec<Cell>,
     op: OpId,
     header: &TreeOp,
-) -> Result<(usize, Row), AllocError>
-    requires { IsEven (parts_of rows.old.items sibs.old uses.old cells.old.items) }
-    ensures wider { Wider (parts_of rows.old.items sibs.old uses.old cells.old.items) (parts_of rows.new.items sibs.new uses.new cells.new.items) }
-    ensures grown { IfOk result (λ p. Grown (length uses.old.homes) (parts_of rows.new.items sibs.new uses.new cells.new.items) op header.now p.0 (row_of p.1)) }
+) -> Result<(usize, Draft), AllocError>
+    requires { IsEven (parts_of rows.old sibs.old uses.old cells.old.items) }
+    ensures wider { Wider (parts_of rows.old sibs.old uses.old cells.old.items) (parts_of rows.new sibs.new uses.new cells.new.items) }
+    ensures grown { IfOk result (λ p. Grown (length uses.old.homes) (parts_of rows.new sibs.new uses.new cells.new.items) op header.now p.0 p.1) }
 {
     sibs.laws();
     let slot = row_count(rows);
-    match add_slot(rows, sibs, spare_row(), false) {
+    match add_spare(rows, sibs) {
         Ok(()) => {}
         Err(e) => return Err(e),
     }
@@ -341,7 +301,7 @@ pub fn grow_slot(
         Ok(base) => base,
         Err(e) => return Err(e),
     };
-    match held_row(alloc, op, header, areas, base, values) {
+    match Draft::new(alloc, op, header, areas, base, values) {
         Ok(row) => Ok((slot, row)),
         Err(e) => Err(e),
     }

@@ -1,11 +1,11 @@
 //! Two lists of slots: those of the held operations, and those of the operations of the module that have gone keys.
 ghost use Rattle.std.specs.Prelude.{◌≡◌, suc, ◌+◌, ◌<◌, ◌∷◌, [], length, slice_set, IfOk, OnOk};
 ghost use Rattle.ir_store_lists.specs.Lists.{free};
-ghost use Rattle.ir_store_slots.specs.Rows.{row_of, rows_of, row_at};
+ghost use Rattle.ir_store_slots.specs.Rows.{row_at};
 ghost use Rattle.ir_store_slots.specs.Marks.{mark, home_of, node_of_slot, CanMark, CanPut, Reaches};
 
-use crate::row::Row;
 use ir_store_lists::Chains;
+use ir_store_rows::Rows;
 use std::alloc::{AllocError, Global};
 
 /// Both lists, and no slots.
@@ -39,28 +39,14 @@ pub fn reach(marks: &mut Chains, count: usize) -> Result<(), AllocError>
     Ok(())
 }
 
-/// The list of the slot of a row.
-fn mark_of(row: &Row) -> Option<usize>
-    ensures { result ≡ mark (row_of row.now) }
-{
-    if !row.live {
-        return if row.used { Some(0) } else { None };
-    }
-    if row.contents.has_gone() {
-        Some(1)
-    } else {
-        None
-    }
-}
-
 /// The list of a slot.
-fn mark_at(rows: &Vec<Row>, key: usize) -> Option<usize>
-    ensures { result ≡ mark (row_at (rows_of rows.now.items) key) }
+fn mark_at(rows: &Rows, key: usize) -> Option<usize>
+    ensures { result ≡ mark (row_at rows.now key) }
 {
-    match rows.get(key) {
-        None => None,
-        Some(row) => mark_of(row),
+    if !rows.is_live(key) {
+        return if rows.is_used(key) { Some(0) } else { None };
     }
+    if rows.has_gone(key) { Some(1) } else { None }
 }
 
 /// Takes a node out of its list, if it stands in one, and puts it into another, if there is one.
@@ -77,9 +63,9 @@ fn set_home(marks: &mut Chains, node: usize, list: Option<usize>)
 }
 
 /// Puts a slot into the list that its row asks for.
-pub fn put_mark(marks: &mut Chains, rows: &Vec<Row>, key: usize)
+pub fn put_mark(marks: &mut Chains, rows: &Rows, key: usize)
     requires { CanMark marks.old.homes key }
-    ensures { marks.new.homes ≡ slice_set marks.old.homes (node_of_slot key) (home_of (mark (row_at (rows_of rows.now.items) key))) }
+    ensures { marks.new.homes ≡ slice_set marks.old.homes (node_of_slot key) (home_of (mark (row_at rows.now key))) }
 {
     marks.laws();
     set_home(marks, key + 2, mark_at(rows, key));

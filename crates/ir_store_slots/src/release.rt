@@ -4,54 +4,40 @@ ghost use Rattle.std.specs.FinMap as finmap;
 ghost use Rattle.ir_store_lists.specs.Lists.{free, has, list_at, without};
 ghost use Rattle.ir_store_slots.specs.Releases.{is_given, given_up, forgetting, IsKeyed, GivenUp, Forgets, Released, ReleasesSlot};
 ghost use Rattle.ir_store_slots.specs.Marks.{Marked};
-ghost use Rattle.ir_store_slots.specs.Rows.{row_of, rows_of, row_at};
+ghost use Rattle.ir_store_slots.specs.Rows.{row_at};
 
 use crate::find::Keys;
-use crate::row::Row;
 use ir_store_lists::Chains;
+use ir_store_rows::Rows;
 
 /// Gives up what a slot holds, where its id is one of those that are given up: it is spare then, as another was before
-/// it. Whether there was such an operation.
-fn release_row(row: &mut Row, from: u32, spare: u32) -> bool
-    ensures row { row_of row.new ≡ given_up from (row_of row.old) }
-    ensures given { result ≡ is_given from (row_of row.old) }
+/// it, and the id has no slot. Whether there was such an operation.
+fn release_slot(rows: &mut Rows, keys: &mut Keys, spare: &mut u32, key: usize, from: u32) -> bool
+    requires inside { key < length rows.old }
+    requires small { key < free }
+    ensures slot { ReleasesSlot from key rows.old rows.new keys.old keys.new }
+    ensures given { result ≡ is_given from (row_at rows.old key) }
 {
-    if row.used && !row.live && row.id.number() >= from {
-        row.used = false;
-        row.spare = spare;
-        true
-    } else {
-        false
+    if !is_given(rows, key, from) {
+        return false;
     }
+    let op = rows.id(key);
+    rows.give_up(key, *spare);
+    *spare = key as u32;
+    keys.remove(op.number());
+    true
 }
 
-/// The same of one of all slots: the id of what is given up has no slot then, and the slot is the newest spare one.
-fn release_slot(
-    rows: &mut Vec<Row>,
-    keys: &mut Keys,
-    spare: &mut u32,
-    key: usize,
-    from: u32,
-) -> bool
-    requires inside { key < length rows.old.items }
-    requires small { key < free }
-    ensures slot { ReleasesSlot from key (rows_of rows.old.items) (rows_of rows.new.items) keys.old keys.new }
-    ensures given { result ≡ is_given from (row_at (rows_of rows.old.items) key) }
+/// Whether what a slot holds is given up.
+fn is_given(rows: &Rows, key: usize, from: u32) -> bool
+    ensures { result ≡ is_given from (row_at rows.now key) }
 {
-    let row = &mut rows[key];
-    let op = row.id;
-    if release_row(row, from, *spare) {
-        *spare = key as u32;
-        keys.remove(op.number());
-        true
-    } else {
-        false
-    }
+    rows.is_used(key) && !rows.is_live(key) && rows.id(key).number() >= from
 }
 
 /// The same of the slot of a node in the list of those that hold something.
 fn release_node(
-    rows: &mut Vec<Row>,
+    rows: &mut Rows,
     keys: &mut Keys,
     marks: &mut Chains,
     spare: &mut u32,
@@ -59,10 +45,10 @@ fn release_node(
     from: u32,
 )
     requires there { has node (list_at marks.old.lists 0) ≡ true }
-    requires marked { Marked (rows_of rows.old.items) marks.old.homes }
-    ensures slot { ReleasesSlot from (node - 2) (rows_of rows.old.items) (rows_of rows.new.items) keys.old keys.new }
-    ensures list { list_at marks.new.lists 0 ≡ (if is_given from (row_at (rows_of rows.old.items) (node - 2)) then without node (list_at marks.old.lists 0) else list_at marks.old.lists 0) }
-    ensures marked { Marked (rows_of rows.new.items) marks.new.homes }
+    requires marked { Marked rows.old marks.old.homes }
+    ensures slot { ReleasesSlot from (node - 2) rows.old rows.new keys.old keys.new }
+    ensures list { list_at marks.new.lists 0 ≡ (if is_given from (row_at rows.old (node - 2)) then without node (list_at marks.old.lists 0) else list_at marks.old.lists 0) }
+    ensures marked { Marked rows.new marks.new.homes }
 {
     marks.laws();
     if release_slot(rows, keys, spare, node - 2, from) {
@@ -71,17 +57,11 @@ fn release_node(
 }
 
 /// The same of all slots.
-fn release_held(
-    rows: &mut Vec<Row>,
-    keys: &mut Keys,
-    marks: &mut Chains,
-    spare: &mut u32,
-    from: u32,
-)
-    requires keyed { IsKeyed (rows_of rows.old.items) (finmap.get keys.old) }
-    requires marked { Marked (rows_of rows.old.items) marks.old.homes }
-    ensures given { GivenUp from (rows_of rows.old.items) (rows_of rows.new.items) (finmap.get keys.old) (finmap.get keys.new) }
-    ensures marked { Marked (rows_of rows.new.items) marks.new.homes }
+fn release_held(rows: &mut Rows, keys: &mut Keys, marks: &mut Chains, spare: &mut u32, from: u32)
+    requires keyed { IsKeyed rows.old (finmap.get keys.old) }
+    requires marked { Marked rows.old marks.old.homes }
+    ensures given { GivenUp from rows.old rows.new (finmap.get keys.old) (finmap.get keys.new) }
+    ensures marked { Marked rows.new marks.new.homes }
 {
     marks.laws();
     let mut at = marks.first(0);
@@ -92,25 +72,16 @@ fn release_held(
     }
 }
 
-/// The slots of the gone keys of an operation are given up.
-fn drop_keys(row: &mut Row)
-    requires { row.old.live ≡ true }
-    ensures { row_of row.new ≡ forgetting (row_of row.old) }
-{
-    row.contents.drop_gone();
-}
-
 /// The same of each operation of the module.
-fn forget_keys(rows: &mut Vec<Row>, marks: &mut Chains)
-    requires { Marked (rows_of rows.old.items) marks.old.homes }
-    ensures forgets { Forgets (rows_of rows.old.items) (rows_of rows.new.items) }
-    ensures marked { Marked (rows_of rows.new.items) marks.new.homes }
+fn forget_keys(rows: &mut Rows, marks: &mut Chains)
+    requires { Marked rows.old marks.old.homes }
+    ensures forgets { Forgets rows.old rows.new }
+    ensures marked { Marked rows.new marks.new.homes }
 {
     let mut at = marks.first(1);
     'lacking: while let Some(node) = at {
         marks.laws();
-        let row = &mut rows[node - 2];
-        drop_keys(row);
+        rows.drop_gone(node - 2);
         marks.remove(node);
         at = marks.first(1);
     }
@@ -119,16 +90,16 @@ fn forget_keys(rows: &mut Vec<Row>, marks: &mut Chains)
 
 /// What is held from an id on is given up, and from 0 on the slots of gone keys. Tells the newest spare slot.
 pub fn release_slots(
-    rows: &mut Vec<Row>,
+    rows: &mut Rows,
     keys: &mut Keys,
     marks: &mut Chains,
     spare: &mut u32,
     from: u32,
 )
-    requires keyed { IsKeyed (rows_of rows.old.items) (finmap.get keys.old) }
-    requires marked { Marked (rows_of rows.old.items) marks.old.homes }
-    ensures released { Released from (rows_of rows.old.items) (rows_of rows.new.items) (finmap.get keys.old) (finmap.get keys.new) }
-    ensures marked { Marked (rows_of rows.new.items) marks.new.homes }
+    requires keyed { IsKeyed rows.old (finmap.get keys.old) }
+    requires marked { Marked rows.old marks.old.homes }
+    ensures released { Released from rows.old rows.new (finmap.get keys.old) (finmap.get keys.new) }
+    ensures marked { Marked rows.new marks.new.homes }
 {
     release_held(rows, keys, marks, spare, from);
     if from == 0 {

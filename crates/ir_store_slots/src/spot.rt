@@ -3,22 +3,22 @@ ghost use Rattle.std.specs.Prelude.{◌≡◌, ◌<◌, eqb, length, map, slice_
 ghost use Rattle.std.specs.FinMap as finmap;
 ghost use Rattle.std.specs.Ordering.{nat_cmp};
 ghost use Rattle.ir_store_lists.specs.Lists.{IsFree, IsHead};
-ghost use Rattle.ir_store_slots.specs.Rows.{rows_of, shape_of, head_in, held_slot};
+ghost use Rattle.ir_store_slots.specs.Rows.{shape_of, head_in, held_slot};
 ghost use Rattle.ir_store_slots.specs.Spots.{spot_in, joined, stands, StandsIn};
 
 use crate::find::{Keys, find, slot};
-use crate::row::{Area, Row};
+use crate::row::Area;
 use ir_store_lists::Ordered;
+use ir_store_rows::Rows;
 use ir_tree::place::Place;
 use ir_types::ids::OpId;
 
 /// The slot of a held operation.
-pub fn find_held(rows: &Vec<Row>, keys: &Keys, op: OpId) -> Option<usize>
-    ensures { result ≡ held_slot (rows_of rows.now.items) (finmap.get keys.now) op }
+pub fn find_held(rows: &Rows, keys: &Keys, op: OpId) -> Option<usize>
+    ensures { result ≡ held_slot rows.now (finmap.get keys.now) op }
 {
     let key = slot(keys, op)?;
-    let row = rows.get(key)?;
-    if row.used && !row.live {
+    if rows.is_used(key) && !rows.is_live(key) {
         Some(key)
     } else {
         None
@@ -37,17 +37,16 @@ pub fn block_head(areas: &[Area], region: usize) -> Option<usize>
 
 /// The head of the list of a place, and the slot that comes next there.
 pub fn find_spot(
-    rows: &Vec<Row>,
+    rows: &Rows,
     keys: &Keys,
     sibs: &Ordered,
     place: Place,
 ) -> Option<(usize, Option<usize>)>
-    requires { length rows.now.items ≡ length sibs.now.homes }
-    ensures { result ≡ spot_in (rows_of rows.now.items) (finmap.get keys.now) sibs.now.homes place }
+    requires { length rows.now ≡ length sibs.now.homes }
+    ensures { result ≡ spot_in rows.now (finmap.get keys.now) sibs.now.homes place }
 {
     let parent = find(rows, keys, place.parent)?;
-    let row = rows.get(parent)?;
-    let head = block_head(row.contents.areas(), place.region as usize)?;
+    let head = block_head(rows.areas(parent), place.region as usize)?;
     match place.before {
         None => Some((head, None)),
         Some(before) => {
@@ -88,15 +87,15 @@ pub fn link(sibs: &mut Ordered, node: usize, head: usize, before: Option<usize>)
 
 /// The slot of a held operation, and where it is put.
 pub fn find_joint(
-    rows: &Vec<Row>,
+    rows: &Rows,
     keys: &Keys,
     sibs: &Ordered,
     op: OpId,
     place: Place,
 ) -> Option<(usize, usize, Option<usize>)>
-    requires { length rows.now.items ≡ length sibs.now.homes }
-    ensures { MatchOption result ((is_some (held_slot (rows_of rows.now.items) (finmap.get keys.now) op) && is_some (spot_in (rows_of rows.now.items) (finmap.get keys.now) sibs.now.homes place)) ≡ false)
-        (λ p. (Some p.0 ≡ held_slot (rows_of rows.now.items) (finmap.get keys.now) op) × (Some (p.1, p.2) ≡ spot_in (rows_of rows.now.items) (finmap.get keys.now) sibs.now.homes place)) }
+    requires { length rows.now ≡ length sibs.now.homes }
+    ensures { MatchOption result ((is_some (held_slot rows.now (finmap.get keys.now) op) && is_some (spot_in rows.now (finmap.get keys.now) sibs.now.homes place)) ≡ false)
+        (λ p. (Some p.0 ≡ held_slot rows.now (finmap.get keys.now) op) × (Some (p.1, p.2) ≡ spot_in rows.now (finmap.get keys.now) sibs.now.homes place)) }
 {
     let key = find_held(rows, keys, op)?;
     let (head, before) = find_spot(rows, keys, sibs, place)?;

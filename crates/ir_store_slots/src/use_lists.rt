@@ -1,6 +1,6 @@
 //! The uses of values.
-ghost use Rattle.std.specs.Prelude.{◌≡◌, ◌<◌, ℕ, map, length, Some};
-ghost use Rattle.ir_store_slots.specs.Rows.{row_of, rows_of, row_at, shape_of};
+ghost use Rattle.std.specs.Prelude.{◌≡◌, ◌<◌, ℕ, List, map, length, slice_get, Some};
+ghost use Rattle.ir_store_slots.specs.Rows.{row_at, shape_of};
 ghost use Rattle.ir_store_slots.specs.Index.{AreHeads, ArgHeads, CanFree, HasHeads, all_idle, args_idle, row_idle, freed, result_head, argument_head, slot_head};
 ghost use Rattle.std.specs.Prelude.{eqb};
 ghost use Rattle.std.specs.FinMap as finmap;
@@ -15,8 +15,9 @@ ghost use Rattle.ir_store_slots.specs.Index.{shape_type, type_in};
 ghost use Rattle.ir_store_slots.specs.Index.{CanLead, all_led, value_head, use_at};
 
 use crate::find::{Keys, find, find_leaf, find_operand, slot};
-use crate::row::{Area, Row};
+use crate::row::Area;
 use ir_store_lists::{Chains, Ordered};
+use ir_store_rows::Rows;
 use ir_tree::value::Value;
 use ir_types::ids::{OpId, TypeId};
 use ir_types::refusal::Refusal;
@@ -39,19 +40,16 @@ fn all_idle(uses: &Chains, base: usize, count: usize) -> bool
 }
 
 /// The first head of the values of a slot.
-fn first_value(rows: &Vec<Row>, key: usize) -> usize
-    ensures { result ≡ (row_at (rows_of rows.now.items) key).values }
+fn first_value(rows: &Rows, key: usize) -> usize
+    ensures { result ≡ (row_at rows.now key).values }
 {
-    match rows.get(key) {
-        None => 0,
-        Some(row) => row.values as usize,
-    }
+    rows.values(key)
 }
 
 /// Whether no argument of some blocks is used.
-fn args_idle(uses: &Chains, rows: &Vec<Row>, areas: &[Area]) -> bool
-    requires { ArgHeads (rows_of rows.now.items) uses.now.homes (map shape_of areas.now) }
-    ensures { result ≡ args_idle (rows_of rows.now.items) uses.now.lists (map shape_of areas.now) }
+fn args_idle(uses: &Chains, rows: &Rows, areas: &[Area]) -> bool
+    requires { ArgHeads rows.now uses.now.homes (map shape_of areas.now) }
+    ensures { result ≡ args_idle rows.now uses.now.lists (map shape_of areas.now) }
 {
     let mut rest = areas;
     'areas: while let [area, tail @ ..] = rest {
@@ -66,17 +64,12 @@ fn args_idle(uses: &Chains, rows: &Vec<Row>, areas: &[Area]) -> bool
 }
 
 /// Whether no value of the operation of a slot is used.
-pub fn is_idle(uses: &Chains, rows: &Vec<Row>, key: usize) -> bool
-    requires { HasHeads (rows_of rows.now.items) uses.now.homes key }
-    ensures { result ≡ row_idle (rows_of rows.now.items) uses.now.lists key }
+pub fn is_idle(uses: &Chains, rows: &Rows, key: usize) -> bool
+    requires { HasHeads rows.now uses.now.homes key }
+    ensures { result ≡ row_idle rows.now uses.now.lists key }
 {
-    match rows.get(key) {
-        None => true,
-        Some(row) => {
-            all_idle(uses, row.values as usize, row.contents.results().len())
-                && args_idle(uses, rows, row.contents.areas())
-        }
-    }
+    all_idle(uses, rows.values(key), rows.results(key).len())
+        && args_idle(uses, rows, rows.areas(key))
 }
 
 /// Takes nodes out of their lists.
@@ -94,22 +87,22 @@ pub fn free_uses(uses: &mut Chains, base: usize, count: usize)
 }
 
 /// The head of the uses of a result.
-fn result_head(row: &Row, place: usize) -> Option<usize>
-    requires { (h : ℕ) → result_head place (row_of row.now) ≡ Some h → h < free }
-    ensures { result ≡ result_head place (row_of row.now) }
+fn result_head(rows: &Rows, key: usize, place: usize) -> Option<usize>
+    requires { (h : ℕ) → result_head place (row_at rows.now key) ≡ Some h → h < free }
+    ensures { result ≡ result_head place (row_at rows.now key) }
 {
-    let count = row.contents.results().len();
+    let count = rows.results(key).len();
     if place < count {
-        Some(row.values as usize + place)
+        Some(rows.values(key) + place)
     } else {
         None
     }
 }
 
 /// The head of the uses of an argument of a block.
-fn argument_head(rows: &Vec<Row>, area: &Area, place: usize) -> Option<usize>
-    requires { (h : ℕ) → argument_head (rows_of rows.now.items) place (shape_of area.now) ≡ Some h → h < free }
-    ensures { result ≡ argument_head (rows_of rows.now.items) place (shape_of area.now) }
+fn argument_head(rows: &Rows, area: &Area, place: usize) -> Option<usize>
+    requires { (h : ℕ) → argument_head rows.now place (shape_of area.now) ≡ Some h → h < free }
+    ensures { result ≡ argument_head rows.now place (shape_of area.now) }
 {
     match area {
         Area::Empty => None,
@@ -125,17 +118,16 @@ fn argument_head(rows: &Vec<Row>, area: &Area, place: usize) -> Option<usize>
 }
 
 /// The head of the uses of a value whose operation is in a slot.
-pub fn slot_head(rows: &Vec<Row>, key: usize, value: &Value) -> Option<usize>
-    requires { (h : ℕ) → slot_head (rows_of rows.now.items) value.now key ≡ Some h → h < free }
-    ensures { result ≡ slot_head (rows_of rows.now.items) value.now key }
+pub fn slot_head(rows: &Rows, key: usize, value: &Value) -> Option<usize>
+    requires { (h : ℕ) → slot_head rows.now value.now key ≡ Some h → h < free }
+    ensures { result ≡ slot_head rows.now value.now key }
 {
-    let row = rows.get(key)?;
     match value {
-        Value::Result(_, place) => result_head(row, *place as usize),
+        Value::Result(_, place) => result_head(rows, key, *place as usize),
         Value::Arg(_, region, place) => {
             argument_head(
                 rows,
-                row.contents.areas().get(*region as usize)?,
+                rows.areas(key).get(*region as usize)?,
                 *place as usize,
             )
         }
@@ -143,10 +135,10 @@ pub fn slot_head(rows: &Vec<Row>, key: usize, value: &Value) -> Option<usize>
 }
 
 /// The head of the uses of a value of an operation that has a slot.
-pub fn value_head(rows: &Vec<Row>, keys: &Keys, uses: &Chains, value: &Value) -> Option<usize>
-    requires head { (h : ℕ) → value_head (rows_of rows.now.items) (finmap.get keys.now) value.now ≡ Some h → IsHead uses.now.homes h }
+pub fn value_head(rows: &Rows, keys: &Keys, uses: &Chains, value: &Value) -> Option<usize>
+    requires head { (h : ℕ) → value_head rows.now (finmap.get keys.now) value.now ≡ Some h → IsHead uses.now.homes h }
     requires few { length uses.now.homes < free }
-    ensures { result ≡ value_head (rows_of rows.now.items) (finmap.get keys.now) value.now }
+    ensures { result ≡ value_head rows.now (finmap.get keys.now) value.now }
 {
     let key = slot(keys, owner(value))?;
     slot_head(rows, key, value)
@@ -163,9 +155,9 @@ pub fn owner(value: &Value) -> OpId
 }
 
 /// Puts nodes into the lists of the heads of operands.
-pub fn lead_uses(uses: &mut Chains, rows: &Vec<Row>, keys: &Keys, base: usize, operands: &[Value])
-    requires { CanLead (value_head (rows_of rows.now.items) (finmap.get keys.now)) base operands.now uses.old.homes }
-    ensures { uses.new.homes ≡ all_led (value_head (rows_of rows.now.items) (finmap.get keys.now)) base operands.now uses.old.homes }
+pub fn lead_uses(uses: &mut Chains, rows: &Rows, keys: &Keys, base: usize, operands: &[Value])
+    requires { CanLead (value_head rows.now (finmap.get keys.now)) base operands.now uses.old.homes }
+    ensures { uses.new.homes ≡ all_led (value_head rows.now (finmap.get keys.now)) base operands.now uses.old.homes }
 {
     let mut at = base;
     let mut rest = operands;
@@ -179,27 +171,24 @@ pub fn lead_uses(uses: &mut Chains, rows: &Vec<Row>, keys: &Keys, base: usize, o
 }
 
 /// The nodes of the operands of a slot: the first, and how many.
-pub fn use_run(rows: &Vec<Row>, key: usize) -> (usize, usize)
-    ensures { result ≡ ((row_at (rows_of rows.now.items) key).uses, length (row_at (rows_of rows.now.items) key).head.operands) }
+pub fn use_run(rows: &Rows, key: usize) -> (usize, usize)
+    ensures { result ≡ ((row_at rows.now key).uses, length (row_at rows.now key).head.operands) }
 {
-    match rows.get(key) {
-        None => (0, 0),
-        Some(row) => (row.uses as usize, row.contents.operands().len()),
-    }
+    (rows.uses(key), rows.operands(key).len())
 }
 
 /// The slot of an operation that isn't the root, in which none stands, and of which no value is used.
 pub fn find_idle(
-    rows: &Vec<Row>,
+    rows: &Rows,
     keys: &Keys,
     sibs: &Ordered,
     uses: &Chains,
     root: usize,
     op: OpId,
 ) -> Result<usize, Refusal>
-    requires blocks { (k : ℕ) → Live (rows_of rows.now.items) k → AllHeads sibs.now.homes (row_at (rows_of rows.now.items) k).shapes }
-    requires values { (k : ℕ) → Live (rows_of rows.now.items) k → HasHeads (rows_of rows.now.items) uses.now.homes k }
-    ensures { result ≡ idle_in (rows_of rows.now.items) uses.now.lists (leaf_in (rows_of rows.now.items) sibs.now.lists root (live_slot (rows_of rows.now.items) (finmap.get keys.now) op)) }
+    requires blocks { (k : ℕ) → Live rows.now k → AllHeads sibs.now.homes (row_at rows.now k).shapes }
+    requires values { (k : ℕ) → Live rows.now k → HasHeads rows.now uses.now.homes k }
+    ensures { result ≡ idle_in rows.now uses.now.lists (leaf_in rows.now sibs.now.lists root (live_slot rows.now (finmap.get keys.now) op)) }
 {
     let key = match find_leaf(rows, keys, sibs, root, op) {
         Ok(key) => key,
@@ -213,10 +202,10 @@ pub fn find_idle(
 }
 
 /// The head of the uses of a value of the module.
-fn live_head(rows: &Vec<Row>, keys: &Keys, uses: &Chains, value: &Value) -> Option<usize>
-    requires head { (h : ℕ) → value_head (rows_of rows.now.items) (finmap.get keys.now) value.now ≡ Some h → IsHead uses.now.homes h }
+fn live_head(rows: &Rows, keys: &Keys, uses: &Chains, value: &Value) -> Option<usize>
+    requires head { (h : ℕ) → value_head rows.now (finmap.get keys.now) value.now ≡ Some h → IsHead uses.now.homes h }
     requires few { length uses.now.homes < free }
-    ensures { result ≡ value_head (rows_of rows.now.items) (live_slot (rows_of rows.now.items) (finmap.get keys.now)) value.now }
+    ensures { result ≡ value_head rows.now (live_slot rows.now (finmap.get keys.now)) value.now }
 {
     let key = find(rows, keys, owner(value))?;
     slot_head(rows, key, value)
@@ -226,16 +215,16 @@ fn live_head(rows: &Vec<Row>, keys: &Keys, uses: &Chains, value: &Value) -> Opti
 /// The head is looked up first: values are mostly in the cache, and so what is read of the operation is read at once,
 /// by this and by who unlinks the operand.
 pub fn find_rewire(
-    rows: &Vec<Row>,
+    rows: &Rows,
     keys: &Keys,
     uses: &Chains,
     op: OpId,
     place: usize,
     value: &Value,
 ) -> Result<(usize, usize), Refusal>
-    requires head { (h : ℕ) → value_head (rows_of rows.now.items) (finmap.get keys.now) value.now ≡ Some h → IsHead uses.now.homes h }
+    requires head { (h : ℕ) → value_head rows.now (finmap.get keys.now) value.now ≡ Some h → IsHead uses.now.homes h }
     requires few { length uses.now.homes < free }
-    ensures { result ≡ with_head (operand_in (rows_of rows.now.items) place (live_slot (rows_of rows.now.items) (finmap.get keys.now) op)) (value_head (rows_of rows.now.items) (live_slot (rows_of rows.now.items) (finmap.get keys.now)) value.now) }
+    ensures { result ≡ with_head (operand_in rows.now place (live_slot rows.now (finmap.get keys.now) op)) (value_head rows.now (live_slot rows.now (finmap.get keys.now)) value.now) }
 {
     let head = live_head(rows, keys, uses, value);
     let key = match find_operand(rows, keys, op, place) {
@@ -249,45 +238,38 @@ pub fn find_rewire(
 }
 
 /// The node of an operand.
-pub fn use_node(rows: &Vec<Row>, key: usize, place: usize) -> usize
-    requires { use_at (rows_of rows.now.items) key place < free }
-    ensures { result ≡ use_at (rows_of rows.now.items) key place }
+pub fn use_node(rows: &Rows, key: usize, place: usize) -> usize
+    requires { use_at rows.now key place < free }
+    ensures { result ≡ use_at rows.now key place }
 {
     let base = use_run(rows, key).0;
     base + place
 }
 
 /// Puts the nodes of a slot's operands into the lists of the operands.
-pub fn lead_row(uses: &mut Chains, rows: &Vec<Row>, keys: &Keys, key: usize)
-    requires { CanLead (value_head (rows_of rows.now.items) (finmap.get keys.now)) (row_at (rows_of rows.now.items) key).uses (row_at (rows_of rows.now.items) key).head.operands uses.old.homes }
-    ensures { uses.new.homes ≡ all_led (value_head (rows_of rows.now.items) (finmap.get keys.now)) (row_at (rows_of rows.now.items) key).uses (row_at (rows_of rows.now.items) key).head.operands uses.old.homes }
+pub fn lead_row(uses: &mut Chains, rows: &Rows, keys: &Keys, key: usize)
+    requires { CanLead (value_head rows.now (finmap.get keys.now)) (row_at rows.now key).uses (row_at rows.now key).head.operands uses.old.homes }
+    ensures { uses.new.homes ≡ all_led (value_head rows.now (finmap.get keys.now)) (row_at rows.now key).uses (row_at rows.now key).head.operands uses.old.homes }
 {
-    match rows.get(key) {
-        None => {}
-        Some(row) => lead_uses(uses, rows, keys, row.uses as usize, row.contents.operands()),
-    }
+    lead_uses(uses, rows, keys, rows.uses(key), rows.operands(key));
 }
 
 /// The id of the operation in a slot.
-pub fn id_at(rows: &Vec<Row>, key: usize) -> OpId
-    ensures { result ≡ (row_at (rows_of rows.now.items) key).head.id }
+pub fn id_at(rows: &Rows, key: usize) -> OpId
+    ensures { result ≡ (row_at rows.now key).head.id }
 {
-    match rows.get(key) {
-        None => OpId::new(0),
-        Some(row) => row.id,
-    }
+    rows.id(key)
 }
 
 /// The type of a value of the module.
-pub fn live_type(rows: &Vec<Row>, keys: &Keys, value: &Value) -> Option<TypeId>
-    ensures { result ≡ type_in (rows_of rows.now.items) (live_slot (rows_of rows.now.items) (finmap.get keys.now)) value.now }
+pub fn live_type(rows: &Rows, keys: &Keys, value: &Value) -> Option<TypeId>
+    ensures { result ≡ type_in rows.now (live_slot rows.now (finmap.get keys.now)) value.now }
 {
     let key = find(rows, keys, owner(value))?;
-    let row = rows.get(key)?;
     match value {
-        Value::Result(_, place) => row.contents.results().get(*place as usize).copied(),
+        Value::Result(_, place) => rows.results(key).get(*place as usize).copied(),
         Value::Arg(_, region, place) => arg_type(
-            row.contents.areas().get(*region as usize)?,
+            rows.areas(key).get(*region as usize)?,
             *place as usize,
         ),
     }

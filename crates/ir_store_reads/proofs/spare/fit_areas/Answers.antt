@@ -13,7 +13,7 @@ use Rattle.ir_store_reads.proofs.spare.fit_areas.Goals as goal
 pub regions-preserved : goal.regions-preserved
 regions-preserved c =
     let i = c.regions.invariant in
-    let q = parts_of c.args.rows.now.items c.args.sibs.now c.args.uses.now c.args.cells.now.items in
+    let q = parts_of c.args.rows.now c.args.sibs.now c.args.uses.now c.args.cells.now.items in
     let number : c.in-Some.number ≡ c.regions.number + 1 = search rules in
     let xs = map shape_of c.regions.fitted.items in
     let x = shape_of c.in-Ok-Some.area in

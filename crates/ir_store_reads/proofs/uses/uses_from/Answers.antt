@@ -1,7 +1,6 @@
 use Rattle.std.proofs.Common.{sym, ap, ◌∙◌, subst}
 use Rattle.std.specs.Prelude.{IfSome}
 use Rattle.ir_store_slots.specs.Lists.{IsHead}
-use Rattle.ir_store_slots.specs.Rows.{rows_of}
 use Rattle.ir_store_slots.specs.Index.{cells_of}
 use Rattle.ir_store_slots.specs.Using.{uses_at}
 use Rattle.ir_store_reads.specs.Uses.{uses_left, IsNode}
@@ -16,13 +15,13 @@ invariant_of-result c =
       | in-None w ↦ subst (IsNode uses.homes) (sym w.at-is) tt
       | in-Some w ↦
           let head = subst (λ z. IfSome z (λ h. IsHead uses.homes h)) w.in-Some.is c.requires in
-          subst (IsNode uses.homes) (sym w.at-is) (first_node (rows_of c.args.rows.now.items) (cells_of c.args.cells.now.items) uses c.laws.ensures w.in-Some.head head w.first-at.result w.first-at.ensures)
+          subst (IsNode uses.homes) (sym w.at-is) (first_node c.args.rows.now (cells_of c.args.cells.now.items) uses c.laws.ensures w.in-Some.head head w.first-at.result w.first-at.ensures)
     ]
 
 pub returns : goal.returns
 returns c =
     let uses = c.args.uses.now in
-    let rows = rows_of c.args.rows.now.items in
+    let rows = c.args.rows.now in
     let cells = cells_of c.args.cells.now.items in
     elim c.match-head.branch [
       | in-None w ↦ ap (uses_left rows cells uses) w.at-is ∙ sym (ap (uses_at rows cells uses.lists) w.in-None.is)

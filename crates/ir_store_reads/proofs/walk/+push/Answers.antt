@@ -1,7 +1,7 @@
 use Rattle.std.proofs.Common.{sym, ap, ◌∙◌, subst, [], ◌∷◌}
 use Rattle.ir_store_slots.specs.Lists.{after, list_at}
 use Rattle.ir_store_slots.proofs.Splits.{uncons}
-use Rattle.ir_store_slots.specs.Rows.{rows_of, shape_of}
+use Rattle.ir_store_slots.specs.Rows.{shape_of}
 use Rattle.ir_store_reads.specs.Added.{AddsRegions}
 use Rattle.ir_store_slots.proofs.Items.{on_ok}
 use Rattle.ir_store_slots.proofs.Walked.{listed_item}
@@ -10,14 +10,14 @@ use Rattle.ir_store_reads.proofs.walk.+push.Goals as goal
 
 pub push_area-returns-in-Empty : goal.push_area-returns-in-Empty
 push_area-returns-in-Empty t c =
-    let rows = rows_of c.args.rows.now.items in
+    let rows = c.args.rows.now in
     let lists = c.args.sibs.now.lists in
     let out = c.args.out.now.items in
     subst (λ z. AddsRegions rows lists (shape_of z ∷ []) out out) (sym c.in-Empty.is) (adds_empty rows lists out)
 
 pub push_area-returns-in-Block : goal.push_area-returns-in-Block
 push_area-returns-in-Block t c =
-    let rows = rows_of c.args.rows.now.items in
+    let rows = c.args.rows.now in
     let lists = c.args.sibs.now.lists in
     let out = c.args.out.now.items in
     on_ok c.push_list.result
@@ -27,13 +27,13 @@ push_area-returns-in-Block t c =
 pub push_areas-areas-preserved : goal.push_areas-areas-preserved
 push_areas-areas-preserved t c =
     let u = uncons c.areas.rest.now c.area-item.result _ c.in-len1-up.len_at_least c.area-item.is in
-    region_step (rows_of c.args.rows.now.items) c.args.sibs.now.lists c.args.sibs.now.homes c.args.areas.now c.areas.rest.now _ c.area-item.result c.args.out.now.items c.areas.out.items c.push_area.new.out.items u c.in_ok-push_area.ensures c.areas.invariant
+    region_step c.args.rows.now c.args.sibs.now.lists c.args.sibs.now.homes c.args.areas.now c.areas.rest.now _ c.area-item.result c.args.out.now.items c.areas.out.items c.push_area.new.out.items u c.in_ok-push_area.ensures c.areas.invariant
 
 pub push_areas-returns : goal.push_areas-returns
-push_areas-returns t c = regions_done (rows_of c.args.rows.now.items) c.args.sibs.now.lists c.args.sibs.now.homes c.args.areas.now c.areas.rest.now c.args.out.now.items c.areas.out.items c.in_default.len_below c.areas.invariant
+push_areas-returns t c = regions_done c.args.rows.now c.args.sibs.now.lists c.args.sibs.now.homes c.args.areas.now c.areas.rest.now c.args.out.now.items c.areas.out.items c.in_default.len_below c.areas.invariant
 
 pub push_list-ops-init : goal.push_list-ops-init
-push_list-ops-init t c = slots_start (rows_of c.args.rows.now.items) c.args.sibs.now.lists c.args.head c.first-at.result c.args.out.now.items c.first-at.ensures
+push_list-ops-init t c = slots_start c.args.rows.now c.args.sibs.now.lists c.args.head c.first-at.result c.args.out.now.items c.first-at.ensures
 
 pub push_list-next-at-requires : goal.push_list-next-at-requires
 push_list-next-at-requires t c = listed_item c.args.sibs.now.lists c.args.sibs.now.homes c.requires.laws c.args.head c.in-Some.key c.requires.head (c.ops.invariant.0.there c.in-Some.key c.in-Some.is)
@@ -42,25 +42,24 @@ pub push_list-ops-smaller : goal.push_list-ops-smaller
 push_list-ops-smaller t c =
     let ls = c.args.sibs.now.lists in
     let m = c.requires.laws.members c.args.head c.in-Some.key (c.ops.invariant.0.there c.in-Some.key c.in-Some.is) in
-    slots_less (rows_of c.args.rows.now.items) ls c.args.head (c.requires.laws.once c.args.head) c.in-Some.key c.ops.at c.next-at.result c.args.out.now.items c.ops.out.items c.in-Some.is
+    slots_less c.args.rows.now ls c.args.head (c.requires.laws.once c.args.head) c.in-Some.key c.ops.at c.next-at.result c.args.out.now.items c.ops.out.items c.in-Some.is
     (c.next-at.ensures ∙ ap (λ z. after c.in-Some.key (list_at ls z)) m.0) c.ops.invariant
 
 pub push_list-ops-preserved : goal.push_list-ops-preserved
 push_list-ops-preserved t c =
     let ls = c.args.sibs.now.lists in
     let m = c.requires.laws.members c.args.head c.in-Some.key (c.ops.invariant.0.there c.in-Some.key c.in-Some.is) in
-    slots_step (rows_of c.args.rows.now.items) ls c.args.head (c.requires.laws.once c.args.head) c.in-Some.key c.ops.at c.next-at.result c.args.out.now.items c.ops.out.items c.push_op.new.out.items c.in-Some.is
+    slots_step c.args.rows.now ls c.args.head (c.requires.laws.once c.args.head) c.in-Some.key c.ops.at c.next-at.result c.args.out.now.items c.ops.out.items c.push_op.new.out.items c.in-Some.is
     (c.next-at.ensures ∙ ap (λ z. after c.in-Some.key (list_at ls z)) m.0) c.in_ok-push_op.ensures c.ops.invariant
 
 pub push_list-returns : goal.push_list-returns
-push_list-returns t c = slots_done (rows_of c.args.rows.now.items) c.args.sibs.now.lists c.args.head c.ops.at c.args.out.now.items c.ops.out.items c.in_default.is c.ops.invariant
+push_list-returns t c = slots_done c.args.rows.now c.args.sibs.now.lists c.args.head c.ops.at c.args.out.now.items c.ops.out.items c.in_default.is c.ops.invariant
 
 pub push_op-returns : goal.push_op-returns
 push_op-returns t c =
-    let rows = rows_of c.args.rows.now.items in
+    let rows = c.args.rows.now in
     let lists = c.args.sibs.now.lists in
-    let e = c.in-Some.ensures in
     on_ok c.push_areas.result
-    (λ g. added_op rows lists c.args.key c.args.out.now.items c.push.new.self.items c.push_areas.new.out.items c.in-Some.row.now.id (ap (λ z. z.head.id) e) c.in_ok-push.ensures.items
-    (subst (λ z. AddsRegions rows lists z c.push.new.self.items c.push_areas.new.out.items) (c.areas.ensures ∙ ap (λ z. z.shapes) e) g))
+    (λ g. added_op rows lists c.args.key c.args.out.now.items c.push.new.self.items c.push_areas.new.out.items c.id.result c.id.ensures c.in_ok-push.ensures.items
+    (subst (λ z. AddsRegions rows lists z c.push.new.self.items c.push_areas.new.out.items) c.areas.ensures g))
     c.push_areas.ensures

@@ -1,11 +1,11 @@
 use Rattle.std.proofs.Common.{◌∙◌, ◌≡◌, ◌+◌, ap, set, arith}
-use Rattle.ir_store_slots.specs.Rows.{rows_of, row_at}
+use Rattle.ir_store_slots.specs.Rows.{row_at}
 use Rattle.ir_store_slots.specs.Marks.{home_of, node_of_slot}
 use Rattle.ir_store_slots.proofs.Marking.{can_put}
 use Rattle.ir_store_slots.proofs.marks.put_mark.Goals as goal
 
 pub set_home-requires : goal.set_home-requires
-set_home-requires c = can_put c.args.marks.now.homes c.args.key (row_at (rows_of c.args.rows.now.items) c.args.key) (c.args.key + 2) c.mark_at.result c.laws.ensures.few (omega arith) c.mark_at.ensures c.requires
+set_home-requires c = can_put c.args.marks.now.homes c.args.key (row_at c.args.rows.now c.args.key) (c.args.key + 2) c.mark_at.result c.laws.ensures.few (omega arith) c.mark_at.ensures c.requires
 
 pub returns : goal.returns
 returns c =

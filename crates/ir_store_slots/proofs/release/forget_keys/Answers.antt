@@ -1,31 +1,27 @@
 use Rattle.std.proofs.Common.{◌∙◌, ◌<◌, sym, ap, subst, length, arith}
 use Rattle.ir_store_lists.specs.Lists.{list_at}
-use Rattle.ir_store_slots.specs.Rows.{rows_of}
-use Rattle.ir_store_slots.proofs.Listed.{forget_inside, forget_two, forget_item, forget_live, forget_less, forget_on, forgot_end, listed_without}
+use Rattle.ir_store_slots.proofs.Listed.{forget_inside, forget_two, forget_item, forget_less, forget_on, forgot_end, listed_without}
 use Rattle.ir_store_slots.proofs.release.forget_keys.Goals as goal
 
 pub overflow_sub-node : goal.overflow_sub-node
-overflow_sub-node c = forget_two (rows_of c.args.rows.now.items) c.lacking.rows.items c.lacking.marks.lists c.lacking.marks.homes c.laws.ensures c.in-Some.node (sym c.in-Some.is ∙ c.lacking.invariant.1) c.lacking.invariant.0
+overflow_sub-node c = forget_two c.args.rows.now c.lacking.rows c.lacking.marks.lists c.lacking.marks.homes c.laws.ensures c.in-Some.node (sym c.in-Some.is ∙ c.lacking.invariant.1) c.lacking.invariant.0
 
-pub index_mut-row-requires : goal.index_mut-row-requires
-index_mut-row-requires c = let l = forget_inside (rows_of c.args.rows.now.items) c.lacking.rows.items c.lacking.marks.lists c.lacking.marks.homes c.laws.ensures c.in-Some.node (sym c.in-Some.is ∙ c.lacking.invariant.1) c.lacking.invariant.0 in omega (arith, l)
-
-pub drop_keys-requires : goal.drop_keys-requires
-drop_keys-requires c = forget_live (rows_of c.args.rows.now.items) c.lacking.rows.items c.lacking.marks.lists c.lacking.marks.homes c.laws.ensures c.in-Some.node (sym c.in-Some.is ∙ c.lacking.invariant.1) c.lacking.invariant.0 c.index_mut-row.result.now c.index_mut-row.ensures.value
+pub drop_gone-requires : goal.drop_gone-requires
+drop_gone-requires c = forget_inside c.args.rows.now c.lacking.rows c.lacking.marks.lists c.lacking.marks.homes c.laws.ensures c.in-Some.node (sym c.in-Some.is ∙ c.lacking.invariant.1) c.lacking.invariant.0
 
 pub remove-requires : goal.remove-requires
-remove-requires c = forget_item (rows_of c.args.rows.now.items) c.lacking.rows.items c.lacking.marks.lists c.lacking.marks.homes c.laws.ensures c.in-Some.node (sym c.in-Some.is ∙ c.lacking.invariant.1) c.lacking.invariant.0
+remove-requires c = forget_item c.args.rows.now c.lacking.rows c.lacking.marks.lists c.lacking.marks.homes c.laws.ensures c.in-Some.node (sym c.in-Some.is ∙ c.lacking.invariant.1) c.lacking.invariant.0
 
 pub first-at-requires-in-Some : goal.first-at-requires-in-Some
-first-at-requires-in-Some c = (forget_on (rows_of c.args.rows.now.items) c.lacking.rows.items c.lacking.marks.lists c.lacking.marks.homes c.laws.ensures c.in-Some.node (sym c.in-Some.is ∙ c.lacking.invariant.1) c.lacking.invariant.0 c.index_mut-row.result.now c.drop_keys.new.row c.index_mut-row.ensures.value c.drop_keys.ensures c.remove.new.self.homes c.remove.ensures.homes).marked.lacking
+first-at-requires-in-Some c = (forget_on c.args.rows.now c.lacking.rows c.lacking.marks.lists c.lacking.marks.homes c.laws.ensures c.in-Some.node (sym c.in-Some.is ∙ c.lacking.invariant.1) c.lacking.invariant.0 c.drop_gone.new.self c.drop_gone.ensures c.remove.new.self.homes c.remove.ensures.homes).marked.lacking
 
 pub lacking-smaller : goal.lacking-smaller
 lacking-smaller c =
     subst (λ z. length z < length (list_at c.lacking.marks.lists 1)) (sym (ap (λ z. list_at z 1) c.remove.ensures.lists ∙ listed_without c.lacking.marks.lists 1 c.in-Some.node))
-    (forget_less (rows_of c.args.rows.now.items) c.lacking.rows.items c.lacking.marks.lists c.lacking.marks.homes c.laws.ensures c.in-Some.node (sym c.in-Some.is ∙ c.lacking.invariant.1) c.lacking.invariant.0)
+    (forget_less c.args.rows.now c.lacking.rows c.lacking.marks.lists c.lacking.marks.homes c.laws.ensures c.in-Some.node (sym c.in-Some.is ∙ c.lacking.invariant.1) c.lacking.invariant.0)
 
 pub lacking-preserved : goal.lacking-preserved
-lacking-preserved c = (forget_on (rows_of c.args.rows.now.items) c.lacking.rows.items c.lacking.marks.lists c.lacking.marks.homes c.laws.ensures c.in-Some.node (sym c.in-Some.is ∙ c.lacking.invariant.1) c.lacking.invariant.0 c.index_mut-row.result.now c.drop_keys.new.row c.index_mut-row.ensures.value c.drop_keys.ensures c.remove.new.self.homes c.remove.ensures.homes, c.first-at-in-Some.ensures)
+lacking-preserved c = (forget_on c.args.rows.now c.lacking.rows c.lacking.marks.lists c.lacking.marks.homes c.laws.ensures c.in-Some.node (sym c.in-Some.is ∙ c.lacking.invariant.1) c.lacking.invariant.0 c.drop_gone.new.self c.drop_gone.ensures c.remove.new.self.homes c.remove.ensures.homes, c.first-at-in-Some.ensures)
 
 pub returns-clause-forgets : goal.returns-clause-forgets
-returns-clause-forgets c = forgot_end (rows_of c.args.rows.now.items) (rows_of c.lacking.rows.items) c.lacking.marks.lists c.lacking.marks.homes c.laws-2.ensures c.lacking.invariant.0 (sym c.in_default.is ∙ c.lacking.invariant.1)
+returns-clause-forgets c = forgot_end c.args.rows.now c.lacking.rows c.lacking.marks.lists c.lacking.marks.homes c.laws-2.ensures c.lacking.invariant.0 (sym c.in_default.is ∙ c.lacking.invariant.1)

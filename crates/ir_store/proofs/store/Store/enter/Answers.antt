@@ -10,7 +10,7 @@ use Rattle.ir_store.specs.Calls.{after_entry}
 use Rattle.ir_store.proofs.Called.{rows_in, keys_in, same_inside}
 use Rattle.ir_store_reads.proofs.Marking.{can_mark_used}
 use Rattle.ir_store_reads.proofs.Slots.{found}
-use Rattle.ir_store.proofs.Dictionaries.{refused_some, refused_memory, revert_sorted, revert_slot, entry_found, entry_row, there_before, entry_given, same_given, entry_fits, same_fits, entry_done, same_done}
+use Rattle.ir_store.proofs.Dictionaries.{refused_some, refused_memory, revert_sorted, revert_slot, entry_found, there_before, entry_given, same_given, entry_fits, same_fits, entry_done, same_done}
 use Rattle.ir_store.proofs.store.Store.enter.Goals as goal
 
 pub same-self : goal.same-self
@@ -29,12 +29,11 @@ returns-in-Err-clause-slot c = λ _ _.
     sym (ap (λ s. set_entry_reason (key_before_in c.args.ctx.now) c.args.op c.args.part c.args.key c.args.value s.module_of.tree) c.self.view_is)
     ∙ entry_found c.self.inside c.self.invariant c.args.op c.args.part c.args.key (key_before_in c.args.ctx.now) c.args.value (Err c.in-Err.e) c.in-Err.ensures
 
-pub change_row-requires : goal.change_row-requires
-change_row-requires c =
+pub change-requires-clause-entry : goal.change-requires-clause-entry
+change-requires-clause-entry c =
     let before = key_before_in c.args.ctx.now in
     let p = entry_found c.self.inside c.self.invariant c.args.op c.args.part c.args.key before c.args.value (Ok c.in-Ok.at) c.in-Ok.ensures in
-    let row = entry_row c.self.inside c.self.invariant c.args.op c.args.part c.args.key before c.args.value c.in-Ok.at p.0 c.index_mut-row.result.now c.index_mut-row.ensures.value in
-    there_before before c.args.key c.args.value _ (sym (ap (λ r. entry_reason before c.args.key c.args.value (part_of c.args.part r.head)) row) ∙ p.1.1)
+    there_before before c.args.key c.args.value _ p.1.1
 
 pub put_mark-requires : goal.put_mark-requires
 put_mark-requires c =
@@ -47,57 +46,57 @@ pub invariant_of-self-inside-2 : goal.invariant_of-self-inside-2
 invariant_of-self-inside-2 c =
     let before = key_before_in c.args.ctx.now in
     let p = entry_found c.self.inside c.self.invariant c.args.op c.args.part c.args.key before c.args.value (Ok c.in-Ok.at) c.in-Ok.ensures in
-    entry_given c.self.inside c.self.invariant c.args.op c.args.part c.args.key before c.args.value c.in-Ok.at p.0 c.index_mut-row.result.now c.index_mut-row.ensures.value c.change_row.new.row c.in-Ok-change_row.ensures.ok
+    entry_given c.self.inside c.self.invariant c.args.op c.args.part c.args.key before c.args.value c.in-Ok.at p.0 c.change.new.self c.in-Ok-change.ensures.ok
 
-pub invariant_of-self-inside-in-Err-change_row : goal.invariant_of-self-inside-in-Err-change_row
-invariant_of-self-inside-in-Err-change_row c =
+pub invariant_of-self-inside-in-Err-change : goal.invariant_of-self-inside-in-Err-change
+invariant_of-self-inside-in-Err-change c =
     let before = key_before_in c.args.ctx.now in
     let p = entry_found c.self.inside c.self.invariant c.args.op c.args.part c.args.key before c.args.value (Ok c.in-Ok.at) c.in-Ok.ensures in
-    same_given c.self.inside c.self.invariant c.args.op c.args.part c.args.key before c.args.value c.in-Ok.at p.0 c.index_mut-row.result.now c.index_mut-row.ensures.value c.change_row.new.row c.in-Err-change_row.ensures.err
+    same_given c.self.inside c.self.invariant c.args.op c.args.part c.args.key before c.args.value c.in-Ok.at p.0 c.change.new.self c.in-Err-change.ensures.err
 
 pub invariant_of-self : goal.invariant_of-self
 invariant_of-self c =
     let before = key_before_in c.args.ctx.now in
     let p = entry_found c.self.inside c.self.invariant c.args.op c.args.part c.args.key before c.args.value (Ok c.in-Ok.at) c.in-Ok.ensures in
-    same_fits c.self.inside c.self.invariant c.args.op c.args.part c.args.key before c.args.value c.in-Ok.at p.0 c.index_mut-row.result.now c.index_mut-row.ensures.value c.change_row.new.row
-    c.in-Err-change_row.ensures.err c.self-in-Err-change_row-1.given.0
+    same_fits c.self.inside c.self.invariant c.args.op c.args.part c.args.key before c.args.value c.in-Ok.at p.0 c.change.new.self
+    c.in-Err-change.ensures.err c.self-in-Err-change-1.given.0
 
 pub returns-clause-done : goal.returns-clause-done
 returns-clause-done c =
     let before = key_before_in c.args.ctx.now in
     let p = entry_found c.self.inside c.self.invariant c.args.op c.args.part c.args.key before c.args.value (Ok c.in-Ok.at) c.in-Ok.ensures in (
       sym (ap (λ s. set_entry_reason before c.args.op c.args.part c.args.key c.args.value s.module_of.tree) c.self.view_is) ∙ p.1.0,
-      entry_done c.self.inside c.self.invariant c.args.op c.args.part c.args.key before c.args.value c.in-Ok.at p.0 c.index_mut-row.result.now c.index_mut-row.ensures.value c.change_row.new.row
-          c.in-Ok-change_row.ensures.ok c.self-3-1.given.0 c.self-3-1.given.1.0 c.self-3-1.given.1.1.0
+      entry_done c.self.inside c.self.invariant c.args.op c.args.part c.args.key before c.args.value c.in-Ok.at p.0 c.change.new.self
+          c.in-Ok-change.ensures.ok c.self-2-1.given.0 c.self-2-1.given.1.0 c.self-2-1.given.1.1.0
           ∙ ap (after_entry before c.args.op c.args.part c.args.key c.args.value) c.self.view_is,
     )
 
-pub returns-in-Err-change_row-clause-done : goal.returns-in-Err-change_row-clause-done
-returns-in-Err-change_row-clause-done c =
+pub returns-in-Err-change-clause-done : goal.returns-in-Err-change-clause-done
+returns-in-Err-change-clause-done c =
     let before = key_before_in c.args.ctx.now in
     let p = entry_found c.self.inside c.self.invariant c.args.op c.args.part c.args.key before c.args.value (Ok c.in-Ok.at) c.in-Ok.ensures in (
       refused_memory _ (sym (ap (λ s. set_entry_reason before c.args.op c.args.part c.args.key c.args.value s.module_of.tree) c.self.view_is) ∙ p.1.0),
-      same_done c.self.inside c.self.invariant c.args.op c.args.part c.args.key before c.args.value c.in-Ok.at p.0 c.index_mut-row.result.now c.index_mut-row.ensures.value c.change_row.new.row
-          c.in-Err-change_row.ensures.err c.self-in-Err-change_row-1.given.0 c.self-in-Err-change_row-1.given.1.0 c.self-in-Err-change_row-1.given.1.1.0
+      same_done c.self.inside c.self.invariant c.args.op c.args.part c.args.key before c.args.value c.in-Ok.at p.0 c.change.new.self
+          c.in-Err-change.ensures.err c.self-in-Err-change-1.given.0 c.self-in-Err-change-1.given.1.0 c.self-in-Err-change-1.given.1.1.0
           ∙ c.self.view_is,
     )
 
-pub returns-in-Err-change_row-clause-slot : goal.returns-in-Err-change_row-clause-slot
-returns-in-Err-change_row-clause-slot c = λ sound wants.
+pub returns-in-Err-change-clause-slot : goal.returns-in-Err-change-clause-slot
+returns-in-Err-change-clause-slot c = λ sound wants.
     let before = key_before_in c.args.ctx.now in
     let p = entry_found c.self.inside c.self.invariant c.args.op c.args.part c.args.key before c.args.value (Ok c.in-Ok.at) c.in-Ok.ensures in
-    let sorted = revert_sorted c.self.inside c.self.invariant c.args.op c.args.part c.args.key before c.args.value c.in-Ok.at p.0 c.index_mut-row.result.now c.index_mut-row.ensures.value
+    let sorted = revert_sorted c.self.inside c.self.invariant c.args.op c.args.part c.args.key before c.args.value c.in-Ok.at p.0
     (ap (λ s. every (dictionaries_rise before) s.module_of.tree) c.self.view_is ∙ sound.sorted) in
     let slot = ⊎_elim
     (λ e. inl e)
-    (λ e. inr (revert_slot c.self.inside c.self.invariant c.args.op c.args.part c.args.key before c.args.value c.in-Ok.at p.0 c.index_mut-row.result.now c.index_mut-row.ensures.value
+    (λ e. inr (revert_slot c.self.inside c.self.invariant c.args.op c.args.part c.args.key before c.args.value c.in-Ok.at p.0
     (ap (has_slot c.args.op c.args.part c.args.key) c.self.view_is ∙ e)))
     wants in
-    absurd (false≢true (c.in-Err-change_row.ensures.slot sorted slot))
+    absurd (false≢true (c.in-Err-change.ensures.slot sorted slot))
 
 pub invariant_of-self-2 : goal.invariant_of-self-2
 invariant_of-self-2 c =
     let before = key_before_in c.args.ctx.now in
     let p = entry_found c.self.inside c.self.invariant c.args.op c.args.part c.args.key before c.args.value (Ok c.in-Ok.at) c.in-Ok.ensures in
-    entry_fits c.self.inside c.self.invariant c.args.op c.args.part c.args.key before c.args.value c.in-Ok.at p.0 c.index_mut-row.result.now c.index_mut-row.ensures.value c.change_row.new.row
-    c.in-Ok-change_row.ensures.ok c.self-3-1.given.0 c.put_mark.new.marks.homes c.put_mark.ensures
+    entry_fits c.self.inside c.self.invariant c.args.op c.args.part c.args.key before c.args.value c.in-Ok.at p.0 c.change.new.self
+    c.in-Ok-change.ensures.ok c.self-2-1.given.0 c.put_mark.new.marks.homes c.put_mark.ensures

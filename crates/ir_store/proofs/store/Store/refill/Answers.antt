@@ -1,17 +1,16 @@
-use Rattle.std.proofs.Common.{◌≡◌, ◌<◌, slice_set, ℕ, refl, sym, ap, ◌∙◌, length, eqb, cond, Some, arith}
+use Rattle.std.proofs.Common.{◌≡◌, slice_set, ℕ, subst, refl, sym, ap, ◌∙◌, length, eqb, cond, Some, arith}
 use Rattle.std.specs.FinMap as finmap
 use Rattle.std.proofs.lemmas.Bool.{eq-eqb, ne_eqb, cond-true, cond-false}
-use Rattle.std.proofs.lemmas.List.{length-set, length-map}
-use Rattle.ir_store_reads.specs.Rows.{row_of, rows_of, row_at}
+use Rattle.ir_store_reads.specs.Rows.{row_at}
 use Rattle.ir_store_reads.specs.Stored.{known}
 use Rattle.ir_store_reads.specs.Emptied.{after_grow}
-use Rattle.ir_store_reads.specs.Grows.{Grown}
+use Rattle.ir_store_reads.specs.Grows.{Wider, Grown}
 use Rattle.ir_store_reads.proofs.Fitting.{some_told}
 use Rattle.ir_store.proofs.Called.{keys_in, same_inside}
-use Rattle.ir_store_reads.proofs.Items.{other_row, own_row}
+use Rattle.ir_store.proofs.OneRow.{put_long, put_own, put_other}
 use Rattle.ir_store_reads.proofs.Marking.{grow_there}
 use Rattle.ir_store_reads.proofs.Wide.{wide_same}
-use Rattle.ir_store.proofs.Growing.{parts, is_even, key_put, no_key, grow_can_mark, spare_apart, wide_given, wide_fits, wide_done, grow_given, grow_fits, grow_done}
+use Rattle.ir_store.proofs.Growing.{parts, is_even, key_put, key_back, no_key, grow_can_mark, spare_apart, wide_given, wide_fits, wide_done, grow_given, grow_fits, grow_done}
 use Rattle.ir_store.proofs.store.Store.refill.Goals as goal
 
 pub same-self : goal.same-self
@@ -43,9 +42,9 @@ insert-requires c =
     let q = parts a in
     let wide = wide_same q (is_even a w c.laws.ensures) in
     let none = no_key a w c.args.op (ap (known c.args.op) c.self.view_is ∙ c.requires) in
-    let k = c.in-Ok-Some.found.1 in
-    let v = row_of c.in-Ok-Some.found.2 in
-    let grown = some_told (λ p. Grown 0 q c.args.op c.args.header.now p.1 (row_of p.2)) c.in-Ok-Some.field-0 c.in-Ok-Some.found c.in-Ok-Some.field-0-is c.in-Ok-Some.ensures in
+    let k = c.in-Ok-Some.found.slot in
+    let v = c.in-Ok-Some.found.draft in
+    let grown = some_told (λ p. Grown 0 q c.args.op c.args.header.now p.slot p.draft) c.in-Ok-Some.field-0 c.in-Ok-Some.found c.in-Ok-Some.field-0-is c.in-Ok-Some.ensures in
     let ready = grown.ready (keys_in a) none in
     omega (arith, ready.inside, wide.even.long, c.laws.ensures.few)
 
@@ -73,18 +72,66 @@ returns-in-Err-insert-clause-err c =
     let wide = wide_same q (is_even a w c.laws.ensures) in
     wide_done a w q wide c.laws.ensures.few c.laws-2.ensures.few (finmap.get c.insert.new.self) (λ y. ap (λ m. finmap.get m y) c.in-Err-insert.ensures.refused) c.in-Err-insert.self-in-Err-insert-1-own.given.0 c.in-Err-insert.self-in-Err-insert-1-own.given.1.0 c.in-Err-insert.self-in-Err-insert-1-own.given.1.1.0 ∙ c.self.view_is
 
-pub put_row-requires : goal.put_row-requires
-put_row-requires c =
+pub put-requires : goal.put-requires
+put-requires c =
     let a = c.self.inside in
     let w = c.self.invariant in
     let q = parts a in
     let wide = wide_same q (is_even a w c.laws.ensures) in
     let none = no_key a w c.args.op (ap (known c.args.op) c.self.view_is ∙ c.requires) in
-    let k = c.in-Ok-Some.found.1 in
-    let v = row_of c.in-Ok-Some.found.2 in
-    let grown = some_told (λ p. Grown 0 q c.args.op c.args.header.now p.1 (row_of p.2)) c.in-Ok-Some.field-0 c.in-Ok-Some.found c.in-Ok-Some.field-0-is c.in-Ok-Some.ensures in
+    let k = c.in-Ok-Some.found.slot in
+    let v = c.in-Ok-Some.found.draft in
+    let grown = some_told (λ p. Grown 0 q c.args.op c.args.header.now p.slot p.draft) c.in-Ok-Some.field-0 c.in-Ok-Some.found c.in-Ok-Some.field-0-is c.in-Ok-Some.ensures in
     let ready = grown.ready (keys_in a) none in
-    omega (arith, ready.inside, ap length c.take_spare-self-inside.ensures)
+    ready.inside
+
+pub invariant_of-self-inside-in-Err-put : goal.invariant_of-self-inside-in-Err-put
+invariant_of-self-inside-in-Err-put c =
+    let a = c.self.inside in
+    let w = c.self.invariant in
+    let q = parts a in
+    let wide = wide_same q (is_even a w c.laws.ensures) in
+    let none = no_key a w c.args.op (ap (known c.args.op) c.self.view_is ∙ c.requires) in
+    let k = c.in-Ok-Some.found.slot in
+    let v = c.in-Ok-Some.found.draft in
+    let grown = some_told (λ p. Grown 0 q c.args.op c.args.header.now p.slot p.draft) c.in-Ok-Some.field-0 c.in-Ok-Some.found c.in-Ok-Some.field-0-is c.in-Ok-Some.ensures in
+    let ready = grown.ready (keys_in a) none in
+    let back = key_back a.keys c.insert.new.self c.remove.new.self c.args.op c.number.result c.number-in-Err-put.result k c.number.ensures c.number-in-Err-put.ensures c.in-Ok-insert.ensures.inserted c.remove.ensures none in
+    let q2 = record q { rows = c.put.new.self } in
+    let wide2 : Wider q q2 = subst (λ z. Wider q (record q { rows = z })) (sym c.in-Err-put.ensures.err) wide in
+    wide_given a w q2 wide2 c.laws.ensures.few c.laws-2.ensures.few (finmap.get c.remove.new.self) back
+
+pub invariant_of-self-in-Err-put : goal.invariant_of-self-in-Err-put
+invariant_of-self-in-Err-put c =
+    let a = c.self.inside in
+    let w = c.self.invariant in
+    let q = parts a in
+    let wide = wide_same q (is_even a w c.laws.ensures) in
+    let none = no_key a w c.args.op (ap (known c.args.op) c.self.view_is ∙ c.requires) in
+    let k = c.in-Ok-Some.found.slot in
+    let v = c.in-Ok-Some.found.draft in
+    let grown = some_told (λ p. Grown 0 q c.args.op c.args.header.now p.slot p.draft) c.in-Ok-Some.field-0 c.in-Ok-Some.found c.in-Ok-Some.field-0-is c.in-Ok-Some.ensures in
+    let ready = grown.ready (keys_in a) none in
+    let back = key_back a.keys c.insert.new.self c.remove.new.self c.args.op c.number.result c.number-in-Err-put.result k c.number.ensures c.number-in-Err-put.ensures c.in-Ok-insert.ensures.inserted c.remove.ensures none in
+    let q2 = record q { rows = c.put.new.self } in
+    let wide2 : Wider q q2 = subst (λ z. Wider q (record q { rows = z })) (sym c.in-Err-put.ensures.err) wide in
+    wide_fits a w q2 wide2 c.laws.ensures.few c.laws-2.ensures.few (finmap.get c.remove.new.self) back c.self-in-Err-put-1.given.0 c.reach.new.marks.homes c.reach.ensures.nodes
+
+pub returns-in-Err-put-clause-err : goal.returns-in-Err-put-clause-err
+returns-in-Err-put-clause-err c =
+    let a = c.self.inside in
+    let w = c.self.invariant in
+    let q = parts a in
+    let wide = wide_same q (is_even a w c.laws.ensures) in
+    let none = no_key a w c.args.op (ap (known c.args.op) c.self.view_is ∙ c.requires) in
+    let k = c.in-Ok-Some.found.slot in
+    let v = c.in-Ok-Some.found.draft in
+    let grown = some_told (λ p. Grown 0 q c.args.op c.args.header.now p.slot p.draft) c.in-Ok-Some.field-0 c.in-Ok-Some.found c.in-Ok-Some.field-0-is c.in-Ok-Some.ensures in
+    let ready = grown.ready (keys_in a) none in
+    let back = key_back a.keys c.insert.new.self c.remove.new.self c.args.op c.number.result c.number-in-Err-put.result k c.number.ensures c.number-in-Err-put.ensures c.in-Ok-insert.ensures.inserted c.remove.ensures none in
+    let q2 = record q { rows = c.put.new.self } in
+    let wide2 : Wider q q2 = subst (λ z. Wider q (record q { rows = z })) (sym c.in-Err-put.ensures.err) wide in
+    wide_done a w q2 wide2 c.laws.ensures.few c.laws-2.ensures.few (finmap.get c.remove.new.self) back c.self-in-Err-put-1.given.0 c.self-in-Err-put-1.given.1.0 c.self-in-Err-put-1.given.1.1.0 ∙ c.self.view_is
 
 pub put_mark-requires : goal.put_mark-requires
 put_mark-requires c =
@@ -93,11 +140,11 @@ put_mark-requires c =
     let q = parts a in
     let wide = wide_same q (is_even a w c.laws.ensures) in
     let none = no_key a w c.args.op (ap (known c.args.op) c.self.view_is ∙ c.requires) in
-    let k = c.in-Ok-Some.found.1 in
-    let v = row_of c.in-Ok-Some.found.2 in
-    let grown = some_told (λ p. Grown 0 q c.args.op c.args.header.now p.1 (row_of p.2)) c.in-Ok-Some.field-0 c.in-Ok-Some.found c.in-Ok-Some.field-0-is c.in-Ok-Some.ensures in
+    let k = c.in-Ok-Some.found.slot in
+    let v = c.in-Ok-Some.found.draft in
+    let grown = some_told (λ p. Grown 0 q c.args.op c.args.header.now p.slot p.draft) c.in-Ok-Some.field-0 c.in-Ok-Some.found c.in-Ok-Some.field-0-is c.in-Ok-Some.ensures in
     let ready = grown.ready (keys_in a) none in
-    let there = grow_there k q.rows c.reach.new.marks.homes c.len.result ready.inside (omega (arith, c.len.ensures, length-map a.rows.items row_of)) c.in-Ok.ensures.there in
+    let there = grow_there k q.rows c.reach.new.marks.homes c.len.result ready.inside (omega (arith, c.len.ensures)) c.in-Ok.ensures.there in
     grow_can_mark a w q wide c.laws.ensures.few c.laws-2.ensures.few c.reach.new.marks.homes c.reach.ensures.nodes k there
 
 pub invariant_of-self-inside-2 : goal.invariant_of-self-inside-2
@@ -107,21 +154,18 @@ invariant_of-self-inside-2 c =
     let q = parts a in
     let wide = wide_same q (is_even a w c.laws.ensures) in
     let none = no_key a w c.args.op (ap (known c.args.op) c.self.view_is ∙ c.requires) in
-    let k = c.in-Ok-Some.found.1 in
-    let v = row_of c.in-Ok-Some.found.2 in
-    let grown = some_told (λ p. Grown 0 q c.args.op c.args.header.now p.1 (row_of p.2)) c.in-Ok-Some.field-0 c.in-Ok-Some.found c.in-Ok-Some.field-0-is c.in-Ok-Some.ensures in
+    let k = c.in-Ok-Some.found.slot in
+    let v = c.in-Ok-Some.found.draft in
+    let grown = some_told (λ p. Grown 0 q c.args.op c.args.header.now p.slot p.draft) c.in-Ok-Some.field-0 c.in-Ok-Some.found c.in-Ok-Some.field-0-is c.in-Ok-Some.ensures in
     let ready = grown.ready (keys_in a) none in
     let look : (y : ℕ) → finmap.get c.insert.new.self y ≡ cond (eqb c.args.op y) (Some k) (keys_in a y) = key_put a.keys c.insert.new.self c.args.op c.number.result k c.number.ensures c.in-Ok-insert.ensures.inserted in
     let here = look c.args.op ∙ cond-true (eqb c.args.op c.args.op) (Some k) (keys_in a c.args.op) (eq-eqb c.args.op c.args.op refl) in
     let others : (y : ℕ) → (y ≡ c.args.op → ⊥) → finmap.get c.insert.new.self y ≡ keys_in a y = λ y ne. look y ∙ cond-false (eqb c.args.op y) (Some k) (keys_in a y) (ne_eqb c.args.op y (λ e. ne (sym e))) in
-    let mid = c.take_spare-self-inside.new.rows.items in
-    let em : rows_of mid ≡ q.rows = c.take_spare-self-inside.ensures in
-    let rows' = rows_of c.put_row.new.rows.items in
-    let er = ap rows_of c.put_row.ensures in
-    let long' = ap length er ∙ length-map (slice_set mid k c.in-Ok-Some.found.2) row_of ∙ length-set mid k c.in-Ok-Some.found.2 ∙ sym (length-map mid row_of) ∙ ap length em in
-    let inside : k < length mid = omega (arith, ready.inside, length-map mid row_of, ap length em) in
-    let same : (y : ℕ) → (y ≡ k → ⊥) → row_at rows' y ≡ row_at q.rows y = λ y ne. ap (λ z. row_at z y) er ∙ other_row mid k c.in-Ok-Some.found.2 y ne ∙ ap (λ z. row_at z y) em in
-    let own = ap (λ z. row_at z k) er ∙ own_row mid k c.in-Ok-Some.found.2 inside in
+    let rows' = c.take_spare-self-inside.new.rows in
+    let er : rows' ≡ slice_set q.rows k v = c.take_spare-self-inside.ensures ∙ c.in-Ok-put.ensures.ok in
+    let long' = put_long q.rows rows' k v er in
+    let same : (y : ℕ) → (y ≡ k → ⊥) → row_at rows' y ≡ row_at q.rows y = put_other q.rows rows' k v er in
+    let own = put_own q.rows rows' k v er ready.inside in
     grow_given a w q wide c.laws.ensures.few c.laws-2.ensures.few c.args.op c.args.header.now k v none 0 grown (spare_apart a w q wide c.laws.ensures.few c.laws-2.ensures.few 0 k c.args.op v ready) (finmap.get c.insert.new.self) here others rows' long' same own
 
 pub invariant_of-self-2 : goal.invariant_of-self-2
@@ -131,22 +175,19 @@ invariant_of-self-2 c =
     let q = parts a in
     let wide = wide_same q (is_even a w c.laws.ensures) in
     let none = no_key a w c.args.op (ap (known c.args.op) c.self.view_is ∙ c.requires) in
-    let k = c.in-Ok-Some.found.1 in
-    let v = row_of c.in-Ok-Some.found.2 in
-    let grown = some_told (λ p. Grown 0 q c.args.op c.args.header.now p.1 (row_of p.2)) c.in-Ok-Some.field-0 c.in-Ok-Some.found c.in-Ok-Some.field-0-is c.in-Ok-Some.ensures in
+    let k = c.in-Ok-Some.found.slot in
+    let v = c.in-Ok-Some.found.draft in
+    let grown = some_told (λ p. Grown 0 q c.args.op c.args.header.now p.slot p.draft) c.in-Ok-Some.field-0 c.in-Ok-Some.found c.in-Ok-Some.field-0-is c.in-Ok-Some.ensures in
     let ready = grown.ready (keys_in a) none in
     let look : (y : ℕ) → finmap.get c.insert.new.self y ≡ cond (eqb c.args.op y) (Some k) (keys_in a y) = key_put a.keys c.insert.new.self c.args.op c.number.result k c.number.ensures c.in-Ok-insert.ensures.inserted in
     let here = look c.args.op ∙ cond-true (eqb c.args.op c.args.op) (Some k) (keys_in a c.args.op) (eq-eqb c.args.op c.args.op refl) in
     let others : (y : ℕ) → (y ≡ c.args.op → ⊥) → finmap.get c.insert.new.self y ≡ keys_in a y = λ y ne. look y ∙ cond-false (eqb c.args.op y) (Some k) (keys_in a y) (ne_eqb c.args.op y (λ e. ne (sym e))) in
-    let mid = c.take_spare-self-inside.new.rows.items in
-    let em : rows_of mid ≡ q.rows = c.take_spare-self-inside.ensures in
-    let rows' = rows_of c.put_row.new.rows.items in
-    let er = ap rows_of c.put_row.ensures in
-    let long' = ap length er ∙ length-map (slice_set mid k c.in-Ok-Some.found.2) row_of ∙ length-set mid k c.in-Ok-Some.found.2 ∙ sym (length-map mid row_of) ∙ ap length em in
-    let inside : k < length mid = omega (arith, ready.inside, length-map mid row_of, ap length em) in
-    let same : (y : ℕ) → (y ≡ k → ⊥) → row_at rows' y ≡ row_at q.rows y = λ y ne. ap (λ z. row_at z y) er ∙ other_row mid k c.in-Ok-Some.found.2 y ne ∙ ap (λ z. row_at z y) em in
-    let own = ap (λ z. row_at z k) er ∙ own_row mid k c.in-Ok-Some.found.2 inside in
-    let there = grow_there k q.rows c.reach.new.marks.homes c.len.result ready.inside (omega (arith, c.len.ensures, length-map a.rows.items row_of)) c.in-Ok.ensures.there in
+    let rows' = c.take_spare-self-inside.new.rows in
+    let er : rows' ≡ slice_set q.rows k v = c.take_spare-self-inside.ensures ∙ c.in-Ok-put.ensures.ok in
+    let long' = put_long q.rows rows' k v er in
+    let same : (y : ℕ) → (y ≡ k → ⊥) → row_at rows' y ≡ row_at q.rows y = put_other q.rows rows' k v er in
+    let own = put_own q.rows rows' k v er ready.inside in
+    let there = grow_there k q.rows c.reach.new.marks.homes c.len.result ready.inside (omega (arith, c.len.ensures)) c.in-Ok.ensures.there in
     grow_fits a w q wide c.laws.ensures.few c.laws-2.ensures.few c.args.op c.args.header.now k v none 0 grown (spare_apart a w q wide c.laws.ensures.few c.laws-2.ensures.few 0 k c.args.op v ready) (finmap.get c.insert.new.self) here others rows' long' same own c.self-2-1.given.0 c.reach.new.marks.homes c.put_mark.new.marks.homes c.reach.ensures.nodes there c.put_mark.ensures
 
 pub returns-clause-ok : goal.returns-clause-ok
@@ -156,20 +197,17 @@ returns-clause-ok c =
     let q = parts a in
     let wide = wide_same q (is_even a w c.laws.ensures) in
     let none = no_key a w c.args.op (ap (known c.args.op) c.self.view_is ∙ c.requires) in
-    let k = c.in-Ok-Some.found.1 in
-    let v = row_of c.in-Ok-Some.found.2 in
-    let grown = some_told (λ p. Grown 0 q c.args.op c.args.header.now p.1 (row_of p.2)) c.in-Ok-Some.field-0 c.in-Ok-Some.found c.in-Ok-Some.field-0-is c.in-Ok-Some.ensures in
+    let k = c.in-Ok-Some.found.slot in
+    let v = c.in-Ok-Some.found.draft in
+    let grown = some_told (λ p. Grown 0 q c.args.op c.args.header.now p.slot p.draft) c.in-Ok-Some.field-0 c.in-Ok-Some.found c.in-Ok-Some.field-0-is c.in-Ok-Some.ensures in
     let ready = grown.ready (keys_in a) none in
     let look : (y : ℕ) → finmap.get c.insert.new.self y ≡ cond (eqb c.args.op y) (Some k) (keys_in a y) = key_put a.keys c.insert.new.self c.args.op c.number.result k c.number.ensures c.in-Ok-insert.ensures.inserted in
     let here = look c.args.op ∙ cond-true (eqb c.args.op c.args.op) (Some k) (keys_in a c.args.op) (eq-eqb c.args.op c.args.op refl) in
     let others : (y : ℕ) → (y ≡ c.args.op → ⊥) → finmap.get c.insert.new.self y ≡ keys_in a y = λ y ne. look y ∙ cond-false (eqb c.args.op y) (Some k) (keys_in a y) (ne_eqb c.args.op y (λ e. ne (sym e))) in
-    let mid = c.take_spare-self-inside.new.rows.items in
-    let em : rows_of mid ≡ q.rows = c.take_spare-self-inside.ensures in
-    let rows' = rows_of c.put_row.new.rows.items in
-    let er = ap rows_of c.put_row.ensures in
-    let long' = ap length er ∙ length-map (slice_set mid k c.in-Ok-Some.found.2) row_of ∙ length-set mid k c.in-Ok-Some.found.2 ∙ sym (length-map mid row_of) ∙ ap length em in
-    let inside : k < length mid = omega (arith, ready.inside, length-map mid row_of, ap length em) in
-    let same : (y : ℕ) → (y ≡ k → ⊥) → row_at rows' y ≡ row_at q.rows y = λ y ne. ap (λ z. row_at z y) er ∙ other_row mid k c.in-Ok-Some.found.2 y ne ∙ ap (λ z. row_at z y) em in
-    let own = ap (λ z. row_at z k) er ∙ own_row mid k c.in-Ok-Some.found.2 inside in
+    let rows' = c.take_spare-self-inside.new.rows in
+    let er : rows' ≡ slice_set q.rows k v = c.take_spare-self-inside.ensures ∙ c.in-Ok-put.ensures.ok in
+    let long' = put_long q.rows rows' k v er in
+    let same : (y : ℕ) → (y ≡ k → ⊥) → row_at rows' y ≡ row_at q.rows y = put_other q.rows rows' k v er in
+    let own = put_own q.rows rows' k v er ready.inside in
     grow_done a w q wide c.laws.ensures.few c.laws-2.ensures.few c.args.op c.args.header.now k v none 0 grown (spare_apart a w q wide c.laws.ensures.few c.laws-2.ensures.few 0 k c.args.op v ready) (finmap.get c.insert.new.self) here others rows' long' same own c.self-2-1.given.0 c.self-2-1.given.1.0 c.self-2-1.given.1.1.0
     ∙ ap (after_grow c.args.op c.args.header.now) c.self.view_is

@@ -29,17 +29,17 @@ put_mark-requires c =
 pub invariant_of-self-inside-2 : goal.invariant_of-self-inside-2
 invariant_of-self-inside-2 c =
     joint_given c.self.inside c.self.invariant.right c.laws.ensures c.args.op c.in-Some.key c.in-Some.ensures.0 c.args.place c.in-Some.head c.in-Some.before c.in-Some.ensures.1
-    c.index_mut-row.result.now c.index_mut-row.ensures.value c.link.new.sibs c.link.ensures.lists c.link.ensures.homes
+    c.set_live.new.self c.set_live.ensures c.link.new.sibs c.link.ensures.lists c.link.ensures.homes
 
 pub invariant_of-self : goal.invariant_of-self
 invariant_of-self c =
     restore_fits c.self.inside c.self.invariant c.laws.ensures c.args.op c.args.place c.args.fresh (subst (CanRestore c.args.op c.args.place c.args.fresh) (sym c.self.view_is) c.requires) c.in-Some.key c.in-Some.ensures.0 c.in-Some.head c.in-Some.before c.in-Some.ensures.1
-    c.index_mut-row.result.now c.index_mut-row.ensures.value c.link.new.sibs c.link.ensures.lists c.link.ensures.homes c.lead_row.new.uses.homes c.lead_row.ensures c.self-3-1.given.0 c.raised-self-inside.result c.raised-self-inside.ensures c.put_mark.new.marks.homes c.put_mark.ensures
+    c.set_live.new.self c.set_live.ensures c.link.new.sibs c.link.ensures.lists c.link.ensures.homes c.lead_row.new.uses.homes c.lead_row.ensures c.self-2-1.given.0 c.raised-self-inside.result c.raised-self-inside.ensures c.put_mark.new.marks.homes c.put_mark.ensures
 
 pub returns : goal.returns
 returns c =
     restore_done c.self.inside c.self.invariant c.laws.ensures c.args.op c.args.place c.args.fresh (subst (CanRestore c.args.op c.args.place c.args.fresh) (sym c.self.view_is) c.requires) c.in-Some.key c.in-Some.ensures.0 c.in-Some.head c.in-Some.before c.in-Some.ensures.1
-    c.index_mut-row.result.now c.index_mut-row.ensures.value c.link.new.sibs c.link.ensures.lists c.link.ensures.homes c.lead_row.new.uses.homes c.lead_row.ensures c.self-3-1.given.0 c.self-3-1.given.1.0 c.self-3-1.given.1.1.0 c.raised-self-inside.result c.raised-self-inside.ensures
+    c.set_live.new.self c.set_live.ensures c.link.new.sibs c.link.ensures.lists c.link.ensures.homes c.lead_row.new.uses.homes c.lead_row.ensures c.self-2-1.given.0 c.self-2-1.given.1.0 c.self-2-1.given.1.1.0 c.raised-self-inside.result c.raised-self-inside.ensures
     ∙ ap (after_restore c.args.op c.args.place c.args.fresh) c.self.view_is
 
 pub link-requires-clause-before : goal.link-requires-clause-before

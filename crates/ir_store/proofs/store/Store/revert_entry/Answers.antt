@@ -11,20 +11,20 @@ use Rattle.ir_store.proofs.Changes.{set_sound}
 use Rattle.ir_store.proofs.Dictionaries.{revert_found, revert_sorted, revert_slot, revert_there, entry_given, entry_fits, entry_done}
 use Rattle.ir_store.proofs.store.Store.revert_entry.Goals as goal
 
-pub revert_row-requires-clause-sorted : goal.revert_row-requires-clause-sorted
-revert_row-requires-clause-sorted c =
+pub revert-requires-clause-sorted : goal.revert-requires-clause-sorted
+revert-requires-clause-sorted c =
     let before = key_before_in c.args.ctx.now in
-    revert_sorted c.self.inside c.self.invariant c.args.op c.args.part c.args.key before c.args.value c.in-Some.at c.in-Some.ensures c.index_mut-row.result.now c.index_mut-row.ensures.value
+    revert_sorted c.self.inside c.self.invariant c.args.op c.args.part c.args.key before c.args.value c.in-Some.at c.in-Some.ensures
     (ap (λ s. every (dictionaries_rise before) s.module_of.tree) c.self.view_is ∙ c.requires.sound.sorted)
 
-pub revert_row-requires-clause-slot : goal.revert_row-requires-clause-slot
-revert_row-requires-clause-slot c =
-    revert_slot c.self.inside c.self.invariant c.args.op c.args.part c.args.key (key_before_in c.args.ctx.now) c.args.value c.in-Some.at c.in-Some.ensures c.index_mut-row.result.now c.index_mut-row.ensures.value
+pub revert-requires-clause-slot : goal.revert-requires-clause-slot
+revert-requires-clause-slot c =
+    revert_slot c.self.inside c.self.invariant c.args.op c.args.part c.args.key (key_before_in c.args.ctx.now) c.args.value c.in-Some.at c.in-Some.ensures
     (ap (has_slot c.args.op c.args.part c.args.key) c.self.view_is ∙ c.requires.can.slot)
 
-pub revert_row-requires-clause-entry : goal.revert_row-requires-clause-entry
-revert_row-requires-clause-entry c e =
-    revert_there c.self.inside c.self.invariant c.args.op c.args.part c.args.key (key_before_in c.args.ctx.now) c.args.value c.in-Some.at c.in-Some.ensures c.index_mut-row.result.now c.index_mut-row.ensures.value
+pub revert-requires-clause-entry : goal.revert-requires-clause-entry
+revert-requires-clause-entry c e =
+    revert_there c.self.inside c.self.invariant c.args.op c.args.part c.args.key (key_before_in c.args.ctx.now) c.args.value c.in-Some.at c.in-Some.ensures
     (ap (has_entry c.args.op c.args.part c.args.key) c.self.view_is ∙ c.requires.can.entry e)
 
 pub same-self : goal.same-self
@@ -42,24 +42,24 @@ put_mark-requires c =
 
 pub invariant_of-self-inside-2 : goal.invariant_of-self-inside-2
 invariant_of-self-inside-2 c =
-    entry_given c.self.inside c.self.invariant c.args.op c.args.part c.args.key (key_before_in c.args.ctx.now) c.args.value c.in-Some.at c.in-Some.ensures c.index_mut-row.result.now c.index_mut-row.ensures.value c.revert_row.new.row c.revert_row.ensures
+    entry_given c.self.inside c.self.invariant c.args.op c.args.part c.args.key (key_before_in c.args.ctx.now) c.args.value c.in-Some.at c.in-Some.ensures c.revert.new.self c.revert.ensures
 
 pub invariant_of-self : goal.invariant_of-self
 invariant_of-self c =
-    entry_fits c.self.inside c.self.invariant c.args.op c.args.part c.args.key (key_before_in c.args.ctx.now) c.args.value c.in-Some.at c.in-Some.ensures c.index_mut-row.result.now c.index_mut-row.ensures.value c.revert_row.new.row c.revert_row.ensures
-    c.self-3-1.given.0 c.put_mark.new.marks.homes c.put_mark.ensures
+    entry_fits c.self.inside c.self.invariant c.args.op c.args.part c.args.key (key_before_in c.args.ctx.now) c.args.value c.in-Some.at c.in-Some.ensures c.revert.new.self c.revert.ensures
+    c.self-2-1.given.0 c.put_mark.new.marks.homes c.put_mark.ensures
 
 pub returns-clause-done : goal.returns-clause-done
 returns-clause-done c =
     let before = key_before_in c.args.ctx.now in
-    entry_done c.self.inside c.self.invariant c.args.op c.args.part c.args.key before c.args.value c.in-Some.at c.in-Some.ensures c.index_mut-row.result.now c.index_mut-row.ensures.value c.revert_row.new.row c.revert_row.ensures
-    c.self-3-1.given.0 c.self-3-1.given.1.0 c.self-3-1.given.1.1.0
+    entry_done c.self.inside c.self.invariant c.args.op c.args.part c.args.key before c.args.value c.in-Some.at c.in-Some.ensures c.revert.new.self c.revert.ensures
+    c.self-2-1.given.0 c.self-2-1.given.1.0 c.self-2-1.given.1.1.0
     ∙ ap (after_entry before c.args.op c.args.part c.args.key c.args.value) c.self.view_is
 
 pub returns-clause-sound : goal.returns-clause-sound
 returns-clause-sound c =
     let before = key_before_in c.args.ctx.now in
     set_sound c.args.ctx.now c.args.op c.args.part c.args.key c.args.value c.args.self.now _ c.requires.key c.requires.value c.requires.sound
-    (entry_done c.self.inside c.self.invariant c.args.op c.args.part c.args.key before c.args.value c.in-Some.at c.in-Some.ensures c.index_mut-row.result.now c.index_mut-row.ensures.value c.revert_row.new.row c.revert_row.ensures
-    c.self-3-1.given.0 c.self-3-1.given.1.0 c.self-3-1.given.1.1.0
+    (entry_done c.self.inside c.self.invariant c.args.op c.args.part c.args.key before c.args.value c.in-Some.at c.in-Some.ensures c.revert.new.self c.revert.ensures
+    c.self-2-1.given.0 c.self-2-1.given.1.0 c.self-2-1.given.1.1.0
     ∙ ap (after_entry before c.args.op c.args.part c.args.key c.args.value) c.self.view_is)

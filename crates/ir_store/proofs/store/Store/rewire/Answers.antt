@@ -3,7 +3,7 @@ use Rattle.std.specs.Prelude.{Ok, Err}
 use Rattle.ir_tree_laws.specs.Changes.{operand_at}
 use Rattle.ir_store.specs.Calls.{after_operand}
 use Rattle.ir_store_reads.specs.Reasoned.{rewire_reason}
-use Rattle.ir_store.proofs.Called.{same_inside, operand_was, operands_of, write_given, write_done}
+use Rattle.ir_store.proofs.Called.{same_inside, operand_was, write_given, write_done}
 use Rattle.ir_store.proofs.Whole.{rewire_head, rewired, rewire_item, rewire_free, rewire_headed, rewire_fits}
 use Rattle.ir_store_reads.specs.Lists.{IsItem, free}
 use Rattle.ir_store.proofs.store.Store.rewire.Goals as goal
@@ -36,7 +36,7 @@ remove-requires c =
 pub put_operand-old-requires : goal.put_operand-old-requires
 put_operand-old-requires c =
     let p = rewired c.self.inside c.self.invariant c.args.op c.args.place c.args.value (Ok c.in-Ok.found) c.in-Ok.ensures in
-    subst (λ z. c.args.place < length z) (operands_of c.self.inside c.self.invariant.right c.args.op c.in-Ok.found.0 c.args.place c.args.value p.0 c.index_mut-row.result.now c.index_mut-row.ensures.value) p.1.0
+    p.1.0
 
 pub push_back-requires-clause-free : goal.push_back-requires-clause-free
 push_back-requires-clause-free c =
@@ -51,19 +51,19 @@ push_back-requires-clause-head c =
 pub invariant_of-self-inside-2 : goal.invariant_of-self-inside-2
 invariant_of-self-inside-2 c =
     let p = rewired c.self.inside c.self.invariant c.args.op c.args.place c.args.value (Ok c.in-Ok.found) c.in-Ok.ensures in
-    write_given c.self.inside c.self.invariant.right c.args.op c.in-Ok.found.0 c.args.place c.args.value p.0 c.index_mut-row.result.now c.index_mut-row.ensures.value c.put_operand-old.new.row c.put_operand-old.ensures.put
+    write_given c.self.inside c.self.invariant.right c.args.op c.in-Ok.found.0 c.args.place c.args.value p.0 c.put_operand-old.new.self c.put_operand-old.ensures.put
 
 pub invariant_of-self : goal.invariant_of-self
 invariant_of-self c =
     let p = rewired c.self.inside c.self.invariant c.args.op c.args.place c.args.value (Ok c.in-Ok.found) c.in-Ok.ensures in
-    rewire_fits c.self.inside c.self.invariant c.args.op c.args.place c.args.value c.in-Ok.found.0 c.in-Ok.found.1 p.0 p.1.0 p.1.1.1 c.index_mut-row.result.now c.index_mut-row.ensures.value c.put_operand-old.new.row c.put_operand-old.ensures.put p.1.1.0 c.self-3-1.given.0 c.remove.new.self.homes c.push_back.new.self.homes
+    rewire_fits c.self.inside c.self.invariant c.args.op c.args.place c.args.value c.in-Ok.found.0 c.in-Ok.found.1 p.0 p.1.0 p.1.1.1 c.put_operand-old.new.self c.put_operand-old.ensures.put p.1.1.0 c.self-2-1.given.0 c.remove.new.self.homes c.push_back.new.self.homes
     (c.remove.ensures.homes ∙ ap (λ z. set c.self.inside.uses.homes z free) c.use_node-node.ensures) (c.push_back.ensures.homes ∙ ap (λ z. set c.remove.new.self.homes z c.in-Ok.found.1) c.use_node-node.ensures)
 
 pub returns-clause-done : goal.returns-clause-done
 returns-clause-done c =
     let p = rewired c.self.inside c.self.invariant c.args.op c.args.place c.args.value (Ok c.in-Ok.found) c.in-Ok.ensures in (
       sym (ap (λ s. rewire_reason c.args.op c.args.place c.args.value s.module_of.tree) c.self.view_is) ∙ p.1.1.0,
-      write_done c.self.inside c.self.invariant.right c.args.op c.in-Ok.found.0 c.args.place c.args.value p.0 c.index_mut-row.result.now c.index_mut-row.ensures.value c.put_operand-old.new.row c.put_operand-old.ensures.put c.self-3-1.given.0 c.self-3-1.given.1.0 c.self-3-1.given.1.1.0
+      write_done c.self.inside c.self.invariant.right c.args.op c.in-Ok.found.0 c.args.place c.args.value p.0 c.put_operand-old.new.self c.put_operand-old.ensures.put c.self-2-1.given.0 c.self-2-1.given.1.0 c.self-2-1.given.1.1.0
           ∙ ap (after_operand c.args.op c.args.place c.args.value) c.self.view_is,
     )
 
@@ -71,4 +71,4 @@ pub returns-clause-was : goal.returns-clause-was
 returns-clause-was c =
     let p = rewired c.self.inside c.self.invariant c.args.op c.args.place c.args.value (Ok c.in-Ok.found) c.in-Ok.ensures in
     sym (ap (λ s. operand_at c.args.op c.args.place s.module_of.tree) c.self.view_is)
-    ∙ operand_was c.self.inside c.self.invariant.right c.args.op c.in-Ok.found.0 c.args.place c.args.value p.0 c.index_mut-row.result.now c.index_mut-row.ensures.value _ c.put_operand-old.ensures.was
+    ∙ operand_was c.self.inside c.self.invariant.right c.args.op c.in-Ok.found.0 c.args.place c.args.value p.0 _ c.put_operand-old.ensures.was

@@ -42,19 +42,19 @@ pub invariant_of-self-inside-2 : goal.invariant_of-self-inside-2
 invariant_of-self-inside-2 c =
     let a = c.self.inside in
     let p = plan a c.self.invariant c.laws.ensures c.args.op (Ok c.in-Ok.key) c.in-Ok.ensures in
-    cut_given a c.self.invariant.right c.args.op c.in-Ok.key p.0 c.index_mut-row.result.now c.index_mut-row.ensures.value c.remove.new.self c.remove.ensures.lists c.remove.ensures.homes
+    cut_given a c.self.invariant.right c.args.op c.in-Ok.key p.0 c.set_live.new.self c.set_live.ensures c.remove.new.self c.remove.ensures.lists c.remove.ensures.homes
 
 pub invariant_of-self : goal.invariant_of-self
 invariant_of-self c =
     let a = c.self.inside in
     let p = plan a c.self.invariant c.laws.ensures c.args.op (Ok c.in-Ok.key) c.in-Ok.ensures in
-    take_fits a c.self.invariant c.args.op c.in-Ok.key p.0 c.use_run-base.result c.use_run-base.ensures c.index_mut-row.result.now c.index_mut-row.ensures.value c.remove.new.self c.remove.ensures.lists c.remove.ensures.homes c.free_uses.new.uses.homes c.free_uses.ensures (no_take_reason c.args.op a.spelled.0 p.1).spared c.self-3-1.given.0 c.put_mark.new.marks.homes c.put_mark.ensures
+    take_fits a c.self.invariant c.args.op c.in-Ok.key p.0 c.use_run-base.result c.use_run-base.ensures c.set_live.new.self c.set_live.ensures c.remove.new.self c.remove.ensures.lists c.remove.ensures.homes c.free_uses.new.uses.homes c.free_uses.ensures (no_take_reason c.args.op a.spelled.0 p.1).spared c.self-2-1.given.0 c.put_mark.new.marks.homes c.put_mark.ensures
 
 pub returns : goal.returns
 returns c =
     let a = c.self.inside in
     let p = plan a c.self.invariant c.laws.ensures c.args.op (Ok c.in-Ok.key) c.in-Ok.ensures in (
       sym (ap (λ s. take_reason c.args.op s.module_of.tree) c.self.view_is) ∙ p.1,
-      cut_done a c.self.invariant.right c.args.op c.in-Ok.key p.0 c.index_mut-row.result.now c.index_mut-row.ensures.value c.remove.new.self c.remove.ensures.lists c.remove.ensures.homes c.self-3-1.given.0 c.self-3-1.given.1.0 c.self-3-1.given.1.1.0
+      cut_done a c.self.invariant.right c.args.op c.in-Ok.key p.0 c.set_live.new.self c.set_live.ensures c.remove.new.self c.remove.ensures.lists c.remove.ensures.homes c.self-2-1.given.0 c.self-2-1.given.1.0 c.self-2-1.given.1.1.0
           ∙ ap (after_take c.args.op) c.self.view_is,
     )

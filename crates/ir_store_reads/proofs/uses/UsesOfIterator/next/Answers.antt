@@ -1,5 +1,4 @@
 use Rattle.std.proofs.Common.{◌∷◌, length, sym, ap, ◌∙◌, subst, arith}
-use Rattle.ir_store_slots.specs.Rows.{rows_of}
 use Rattle.ir_store_slots.specs.Index.{cells_of}
 use Rattle.ir_store_reads.specs.Uses.{uses_left, IsNode}
 use Rattle.ir_store_reads.proofs.Using.{next_left, next_node}
@@ -9,12 +8,12 @@ pub invariant_of-self : goal.invariant_of-self
 invariant_of-self c =
     let a = c.self.inside in
     let item = subst (IsNode a.uses.now.homes) c.in-Some.is c.self.invariant in
-    next_node (rows_of a.rows.now.items) (cells_of a.cells.now.items) a.uses.now c.laws.ensures c.in-Some.node item c.next-self-inside.result c.next-self-inside.ensures
+    next_node a.rows.now (cells_of a.cells.now.items) a.uses.now c.laws.ensures c.in-Some.node item c.next-self-inside.result c.next-self-inside.ensures
 
 pub returns-clause-steps : goal.returns-clause-steps
 returns-clause-steps c =
     let a = c.self.inside in
-    let rows = rows_of a.rows.now.items in
+    let rows = a.rows.now in
     let cells = cells_of a.cells.now.items in
     let item = subst (IsNode a.uses.now.homes) c.in-Some.is c.self.invariant in
     sym c.self.view_is

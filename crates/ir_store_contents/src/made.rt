@@ -1,0 +1,282 @@
+//! What an operation has, beside its name and its places.
+ghost use Rattle.std.specs.Prelude.{◌≡◌, ◌<◌, [], ◌||◌, true, nat_lt, map, length, slice_get, slice_set, Some, None, is_some, IfOk, IsOk, IfSome, OnOk, OnErr};
+ghost use Rattle.ir_tree.specs.Edits.{entry_at};
+ghost use Rattle.ir_tree.specs.Meaning.{key_before_in, rises};
+ghost use Rattle.ir_tree.specs.Tree.{head};
+ghost use Rattle.ir_store_contents.specs.Slots.{has_key, has_slot as is_slot, with_change, WantsNoSlot};
+ghost use Rattle.ir_store_contents.specs.Shapes.{shape_of};
+ghost use Rattle.ir_store_contents.specs.Contents.{contents_with, with_operand, no_entries, entries_with, entries_at, with_part, entries_kept};
+ghost use Rattle.ir_store_contents.specs.Made.{short_contents, plain_contents, made_contents};
+
+use crate::area::Area;
+use crate::dictionary::Dictionary;
+use arrayvec::ArrayVec;
+use ir_tree::place::Part;
+use ir_tree::tree::TreeOp;
+use ir_tree::value::Value;
+use ir_types::context::Context;
+use ir_types::ids::{AttrId, NameId, TypeId};
+use smallvec::SmallVec;
+use std::alloc::{AllocError, Global};
+use std::mem::replace;
+
+/// How many operands and results an operation has at most whose lists are short.
+pub const FEW: usize = 2;
+
+/// What an operation has of which both lists are short, as most are: with a slab's tag it takes one line of the cache.
+#[derive(Drop)]
+pub struct Short {
+    pub operands: ArrayVec<Value, 2>,
+    pub results: ArrayVec<TypeId, 2>,
+}
+
+/// What every operation has. Short lists lie in it.
+#[derive(Drop)]
+pub struct Plain {
+    pub operands: SmallVec<Value, 2>,
+    pub results: SmallVec<TypeId, 4>,
+}
+
+/// The two dictionaries of an operation.
+#[derive(Drop)]
+pub struct Entries {
+    /// The properties, and the slots of those that were taken out.
+    pub props: Dictionary,
+    /// The discardable attributes, in the same way.
+    pub attrs: Dictionary,
+}
+
+/// An operation with dictionaries.
+#[derive(Drop)]
+pub struct Entered {
+    pub plain: Plain,
+    pub entries: Entries,
+}
+
+/// An operation with dictionaries and regions.
+#[derive(Drop)]
+pub struct Whole {
+    pub plain: Plain,
+    pub entries: Entries,
+    pub areas: Vec<Area>,
+}
+
+/// What an operation has, before it stands under a key: no more room than that takes.
+#[derive(Drop)]
+pub enum Made {
+    Short(Short),
+    Plain(Plain),
+    Entered(Entered),
+    Whole(Whole),
+}
+
+impl Short {
+    /// The operands and the results of a header, where they are few.
+    fn new(header: &TreeOp) -> Option<Short>
+        ensures operands { IfSome result (λ p. p.operands.items ≡ (head header.now).operands) }
+        ensures results { IfSome result (λ p. p.results.items ≡ (head header.now).results) }
+    {
+        let mut operands = ArrayVec::new();
+        let mut results = ArrayVec::new();
+        match operands.try_extend_from_slice(&header.operands) {
+            Ok(()) => {}
+            Err(_) => return None,
+        }
+        match results.try_extend_from_slice(&header.results) {
+            Ok(()) => {}
+            Err(_) => return None,
+        }
+        Some(Short { operands, results })
+    }
+
+    /// The same with room for more.
+    pub fn plain(&self, alloc: Global) -> Result<Plain, AllocError>
+        ensures { IfOk result (λ p. plain_contents p ≡ short_contents self.now) }
+    {
+        Ok(Plain {
+            operands: SmallVec::from_slice(alloc, self.operands.as_slice())?,
+            results: SmallVec::from_slice(alloc, self.results.as_slice())?,
+        })
+    }
+
+    /// Makes a value an operand, and gives the one that was there.
+    pub fn put_operand(&mut self, place: usize, value: Value) -> Value
+        requires { place < length self.old.operands.items }
+        ensures put { self.new.operands.items ≡ slice_set self.old.operands.items place value }
+        ensures rest { self.new.results ≡ self.old.results }
+        ensures was { slice_get self.old.operands.items place ≡ Some result }
+    {
+        replace(&mut self.operands[place], value)
+    }
+}
+
+impl Plain {
+    /// The operands and the results of a header.
+    fn new(alloc: Global, header: &TreeOp) -> Result<Plain, AllocError>
+        ensures operands { IfOk result (λ p. p.operands.items ≡ (head header.now).operands) }
+        ensures results { IfOk result (λ p. p.results.items ≡ (head header.now).results) }
+    {
+        Ok(Plain {
+            operands: SmallVec::from_slice(alloc, &header.operands)?,
+            results: SmallVec::from_slice(alloc, &header.results)?,
+        })
+    }
+
+    /// Makes a value an operand, and gives the one that was there.
+    pub fn put_operand(&mut self, place: usize, value: Value) -> Value
+        requires { place < length self.old.operands.items }
+        ensures put { self.new.operands.items ≡ slice_set self.old.operands.items place value }
+        ensures rest { self.new.results ≡ self.old.results }
+        ensures was { slice_get self.old.operands.items place ≡ Some result }
+    {
+        replace(&mut self.operands[place], value)
+    }
+}
+
+impl Entries {
+    /// No entries.
+    pub fn empty(alloc: Global) -> Entries
+        ensures { result ≡ no_entries }
+    {
+        Entries {
+            props: Dictionary::new(alloc),
+            attrs: Dictionary::new(alloc),
+        }
+    }
+
+    /// The entries of a header.
+    fn new(alloc: Global, header: &TreeOp) -> Result<Entries, AllocError>
+        ensures { IfOk result (λ e. e ≡ entries_with (head header.now)) }
+    {
+        Ok(Entries {
+            props: Dictionary::from_slice(alloc, &header.props)?,
+            attrs: Dictionary::from_slice(alloc, &header.attrs)?,
+        })
+    }
+
+    /// One of the two.
+    pub fn part(&self, part: Part) -> &Dictionary
+        ensures { result.now ≡ entries_at part self.now }
+    {
+        match part {
+            Part::Props => &self.props,
+            Part::Attrs => &self.attrs,
+        }
+    }
+
+    /// Sets a key of one of the two to an attribute, or takes it out.
+    pub fn change(
+        &mut self,
+        ctx: &Context,
+        part: Part,
+        key: NameId,
+        value: Option<AttrId>,
+    ) -> Result<(), AllocError>
+        requires { value ≡ None → is_some (entry_at (key_before_in ctx.now) key (entries_at part self.old).present) ≡ true }
+        ensures ok { OnOk result (self.new ≡ with_part part (with_change (key_before_in ctx.now) key value (entries_at part self.old)) self.old) }
+        ensures err { OnErr result (self.new ≡ self.old) }
+        ensures slot { rises (key_before_in ctx.now) (entries_at part self.old).present ≡ true → WantsNoSlot key value (entries_at part self.old) → IsOk result }
+    {
+        match part {
+            Part::Props => change(ctx, &mut self.props, key, value),
+            Part::Attrs => change(ctx, &mut self.attrs, key, value),
+        }
+    }
+
+    /// Sets a key that has a slot in one of the two, or takes it out, without memory.
+    pub fn revert(&mut self, ctx: &Context, part: Part, key: NameId, value: Option<AttrId>)
+        requires sorted { rises (key_before_in ctx.now) (entries_at part self.old).present ≡ true }
+        requires slot { is_slot key (entries_at part self.old) ≡ true }
+        requires entry { value ≡ None → has_key key (entries_at part self.old).present ≡ true }
+        ensures { self.new ≡ with_part part (with_change (key_before_in ctx.now) key value (entries_at part self.old)) self.old }
+    {
+        match part {
+            Part::Props => self.props.revert(ctx, key, value),
+            Part::Attrs => self.attrs.revert(ctx, key, value),
+        }
+    }
+
+    /// Gives up the slots of the keys that are gone.
+    pub fn drop_gone(&mut self)
+        ensures { self.new ≡ entries_kept self.old }
+    {
+        self.props.drop_gone();
+        self.attrs.drop_gone();
+    }
+
+    /// Whether a key was taken out of one of the two whose slot still stands.
+    pub fn has_gone(&self) -> bool
+        ensures { result ≡ (nat_lt 0 (length self.now.props.gone) || nat_lt 0 (length self.now.attrs.gone)) }
+    {
+        self.props.has_gone() || self.attrs.has_gone()
+    }
+}
+
+impl Made {
+    /// What an operation has that is read off a tree, with these regions.
+    pub fn new(alloc: Global, header: &TreeOp, areas: Vec<Area>) -> Result<Made, AllocError>
+        ensures { IfOk result (λ m. made_contents m ≡ contents_with (head header.now) (map shape_of areas.items)) }
+    {
+        if !areas.is_empty() {
+            made_whole(alloc, header, areas)
+        } else if header.props.is_empty() && header.attrs.is_empty() {
+            made_plain(alloc, header)
+        } else {
+            made_entered(alloc, header)
+        }
+    }
+}
+
+/// An operation without entries and regions.
+fn made_plain(alloc: Global, header: &TreeOp) -> Result<Made, AllocError>
+    requires properties { (head header.now).properties ≡ [] }
+    requires attributes { (head header.now).attributes ≡ [] }
+    ensures { IfOk result (λ m. made_contents m ≡ contents_with (head header.now) []) }
+{
+    match Short::new(header) {
+        Some(it) => Ok(Made::Short(it)),
+        None => Ok(Made::Plain(Plain::new(alloc, header)?)),
+    }
+}
+
+/// An operation without regions.
+fn made_entered(alloc: Global, header: &TreeOp) -> Result<Made, AllocError>
+    ensures { IfOk result (λ m. made_contents m ≡ contents_with (head header.now) []) }
+{
+    Ok(Made::Entered(Entered {
+        plain: Plain::new(alloc, header)?,
+        entries: Entries::new(alloc, header)?,
+    }))
+}
+
+/// Any operation.
+fn made_whole(alloc: Global, header: &TreeOp, areas: Vec<Area>) -> Result<Made, AllocError>
+    ensures { IfOk result (λ m. made_contents m ≡ contents_with (head header.now) (map shape_of areas.items)) }
+{
+    Ok(Made::Whole(Whole {
+        plain: Plain::new(alloc, header)?,
+        entries: Entries::new(alloc, header)?,
+        areas,
+    }))
+}
+
+/// Sets a key of a dictionary to an attribute, or takes it out.
+fn change(
+    ctx: &Context,
+    entries: &mut Dictionary,
+    key: NameId,
+    value: Option<AttrId>,
+) -> Result<(), AllocError>
+    requires { value ≡ None → is_some (entry_at (key_before_in ctx.now) key entries.old.present) ≡ true }
+    ensures ok { OnOk result (entries.new ≡ with_change (key_before_in ctx.now) key value entries.old) }
+    ensures err { OnErr result (entries.new ≡ entries.old) }
+    ensures slot { rises (key_before_in ctx.now) entries.old.present ≡ true → WantsNoSlot key value entries.old → IsOk result }
+{
+    match value {
+        None => {
+            entries.take_out(ctx, key);
+            Ok(())
+        }
+        Some(attr) => entries.set(ctx, key, attr),
+    }
+}
