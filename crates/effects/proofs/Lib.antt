@@ -16,3 +16,7 @@ pub mod Raising
 pub mod Finding
 pub mod Names
 pub mod Judging
+pub mod Down
+pub mod Idling
+pub mod Reached
+pub mod Unused

@@ -1,11 +1,12 @@
 -- Operations that are dead: they have no effect that anyone would miss, and nobody uses what they give (Operation
 -- Canonicalization, "General Design").
-use Rattle.std.specs.Prelude.{ℕ, List, codes, eqb, Bool, false, ◌||◌, ◌&&◌, not}
+use Rattle.std.specs.Prelude.{ℕ, List, codes, eqb, Bool, false, ◌||◌, ◌&&◌, not, Option, Some, None}
 use Rattle.std.specs.List.{list_all}
 use Rattle.std.specs.Str.{bytes_eq}
 use Rattle.ir_tree.specs.declared.value.Value.{Value}
 use Rattle.ir_tree.specs.declared.value.Value.TheVariants.{Result, Arg}
 use Rattle.ir_tree.specs.Tree.{OpOf, head}
+use Rattle.ir_tree.specs.Ids.{find}
 use Rattle.ir_tree.specs.Limits.{every}
 use Rattle.ir_tree.specs.Meaning.{Operation}
 use Rattle.op_registry.specs.declared.definition.Trait.TheVariants.{Terminator}
@@ -33,3 +34,11 @@ may_go s = not (s.unknown || (s.free || s.write))
 -- whether an operation of a whole tree is dead
 abbrev pub is_dead : Operation → Operation → Bool
 is_dead whole o = is_unused (head o).id whole && (not (is_kept (head o).name) && may_go (effects own_of o))
+
+-- whether operation x of a tree is there, and dead
+abbrev pub dead_in : Operation → Option Operation → Bool
+dead_in t None = false
+dead_in t (Some o) = is_dead t o
+
+abbrev pub dead_at : ℕ → Operation → Bool
+dead_at x t = dead_in t (find x t)

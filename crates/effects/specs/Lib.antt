@@ -8,3 +8,5 @@ pub mod Found
 pub mod Counts
 pub mod Listed
 pub mod Listeners
+pub mod Idle
+pub mod Within

@@ -6,6 +6,7 @@ mod collect;
 mod counting;
 mod counts;
 pub mod dead;
+pub mod dead_op;
 pub mod effects;
 mod follow;
 pub mod kinds;

@@ -12,22 +12,10 @@ use Rattle.patterns_base.specs.Looks.{Header, when, is_clean, front_of}
 use Rattle.patterns_base.specs.Rules.{rule}
 use Rattle.patterns_base.specs.Rewrites.{edits_of}
 use Rattle.patterns_plans.specs.Reads.{head_at}
-use Rattle.patterns.specs.Applied.{IsWritten}
 
 edits_are : (r : ℕ) (m : Module) (x : ℕ) → edits_of r m x ≡ given (find x m.tree) (λ o. given (front_of x m.tree) (λ front. when (is_clean m.tree (head o)) (rule r m.tree m.next front o)))
 unfolding edits_of
 edits_are r m x = refl
-
--- rules that look at the head alone
-bare_does : (r : ℕ) → IsWritten r → (t : Operation) (n : ℕ) (front : Place) (o : Operation) → rule r t n front o ≡ rule r t n front (op (head o) no_regions)
-unfolding rule
-bare_does r (inl e) t n front o = subst (λ r. rule r t n front o ≡ rule r t n front (op (head o) no_regions)) (sym e) refl
-bare_does r (inr (inl e)) t n front o = subst (λ r. rule r t n front o ≡ rule r t n front (op (head o) no_regions)) (sym e) refl
-bare_does r (inr (inr (inl e))) t n front o = subst (λ r. rule r t n front o ≡ rule r t n front (op (head o) no_regions)) (sym e) refl
-bare_does r (inr (inr (inr (inl e)))) t n front o = subst (λ r. rule r t n front o ≡ rule r t n front (op (head o) no_regions)) (sym e) refl
-bare_does r (inr (inr (inr (inr (inl e))))) t n front o = subst (λ r. rule r t n front o ≡ rule r t n front (op (head o) no_regions)) (sym e) refl
-bare_does r (inr (inr (inr (inr (inr (inl e)))))) t n front o = subst (λ r. rule r t n front o ≡ rule r t n front (op (head o) no_regions)) (sym e) refl
-bare_does r (inr (inr (inr (inr (inr (inr e)))))) t n front o = subst (λ r. rule r t n front o ≡ rule r t n front (op (head o) no_regions)) (sym e) refl
 
 pub none_there : (r : ℕ) (m : Module) (x : ℕ) → None ≡ head_at x m.tree → None ≡ edits_of r m x
 none_there r m x e = go (find x m.tree) e ∙ sym (edits_are r m x)
@@ -44,12 +32,12 @@ none_front r m x e = go (find x m.tree) ∙ sym (edits_are r m x)
     go (Some o) = ap (λ f. given f (λ front. when (is_clean m.tree (head o)) (rule r m.tree m.next front o))) e
 
 -- what is shown of x, with its id, is its head
-record Found (x : ℕ) (t : Operation) (h : Header) : Type 0 where
-  here : Operation
-  is : find x t ≡ Some here
-  same : record h { id = x } ≡ head here
+pub record Found (x : ℕ) (t : Operation) (h : Header) : Type 0 where
+  pub here : Operation
+  pub is : find x t ≡ Some here
+  pub same : record h { id = x } ≡ head here
 
-found : (x : ℕ) (t : Operation) (h : Header) → Some h ≡ head_at x t → Found x t h
+pub found : (x : ℕ) (t : Operation) (h : Header) → Some h ≡ head_at x t → Found x t h
 found x t h e = go (find x t) refl e
   where
     go : (o : Option Operation) → find x t ≡ o → Some h ≡ option_map (λ o. head o) o → Found x t h
@@ -69,11 +57,11 @@ none_clean r m x h b e c n =
     go o e None = refl
     go o e (Some front) = sym (ap (λ c. when c (rule r m.tree m.next front o)) e)
 
-pub by_rule : (r : ℕ) → IsWritten r → (m : Module) (x : ℕ) (h : Header) (b : Bool) (f : Place) (p : Option (List Edit)) → Some h ≡ head_at x m.tree → Some f ≡ front_of x m.tree → b ≡ is_clean m.tree (record h { id = x }) → b ≡ true
-    → p ≡ rule r m.tree m.next f (op (record h { id = x }) no_regions) → p ≡ edits_of r m x
-by_rule r written m x h b f p e g c y is =
+pub by_rule : (r : ℕ) (m : Module) (x : ℕ) (h : Header) (f : Place) (p : Option (List Edit)) → Some h ≡ head_at x m.tree → Some f ≡ front_of x m.tree → is_clean m.tree (record h { id = x }) ≡ true
+    → ((o : Operation) → find x m.tree ≡ Some o → p ≡ rule r m.tree m.next f o) → p ≡ edits_of r m x
+by_rule r m x h f p e g y is =
     let w = found x m.tree h e in
-    is ∙ ap (λ z. rule r m.tree m.next f (op z no_regions)) w.same ∙ sym (bare_does r written m.tree m.next f w.here)
+    is w.here w.is
     ∙ sym (edits_are r m x ∙ ap (λ o. given o (λ o. given (front_of x m.tree) (λ front. when (is_clean m.tree (head o)) (rule r m.tree m.next front o)))) w.is
     ∙ ap (λ k. given k (λ front. when (is_clean m.tree (head w.here)) (rule r m.tree m.next front w.here))) (sym g)
-    ∙ ap (λ k. when k (rule r m.tree m.next f w.here)) (ap (is_clean m.tree) (sym w.same) ∙ sym c ∙ y))
+    ∙ ap (λ k. when k (rule r m.tree m.next f w.here)) (ap (is_clean m.tree) (sym w.same) ∙ y))

@@ -1,16 +1,26 @@
 -- What applying a rule makes of a module.
-use Rattle.std.specs.Prelude.{◌≡◌, ◌⊎◌, ℕ, ◌+◌, List, [], ◌∷◌, Bool, true, false}
+use Rattle.std.specs.Prelude.{◌≡◌, ◌⊎◌, ℕ, ◌+◌, nat_le, Bool, true, false, Option, None}
+use Rattle.ir_types.specs.Things.{Things, Grows}
 use Rattle.ir_types.specs.declared.refusal.Refusal.{Refusal}
-use Rattle.ir_types.specs.declared.refusal.Refusal.TheVariants.{Memory, NoSuchOp}
-use Rattle.ir_tree.specs.Ids.{has_id}
+use Rattle.ir_types.specs.declared.refusal.Refusal.TheVariants.{Full, IdsExhausted, Memory, NoSuchOp}
+use Rattle.ir_tree.specs.Ids.{has_id, op_count}
+use Rattle.ir_tree.specs.Limits.{most_ops, most_next}
+use Rattle.ir_tree_laws.specs.Reasons.{unless}
+use Rattle.ir_event.specs.Listener.{Listener}
 use Rattle.ir_event.specs.Modules.{Module}
-use Rattle.patterns_base.specs.Rewrites.{Rewrite, none, refused, becomes, rewrite_of}
-use Rattle.patterns_runs.specs.Edit.{Edit}
-use Rattle.patterns_runs.specs.Edit.TheVariants as edit
+use Rattle.patterns_base.specs.Rewrites.{Rewrite, none, refused, becomes}
+use Rattle.patterns_makes.specs.Interned.{IsFull}
+use Rattle.patterns_plans.specs.Planned.{IsPlannedRule}
+use Rattle.patterns_runs.specs.Benched.{Benched, Led}
+use Rattle.patterns_runs.specs.Held.{open_marks}
 
 -- the rules that are written so far
 abbrev pub IsWritten : ℕ → Type 0
-IsWritten r = (r ≡ 3) ⊎ ((r ≡ 4) ⊎ ((r ≡ 5) ⊎ ((r ≡ 8) ⊎ ((r ≡ 15) ⊎ ((r ≡ 16) ⊎ (r ≡ 18))))))
+IsWritten r = IsPlannedRule r
+
+-- why a module can't have k operations more, if it can't: there would be too many, or ids wouldn't be enough
+abbrev pub limit_reason : ℕ → Module → Option Refusal
+limit_reason k m = unless (nat_le (op_count m.tree + k) most_ops) Full (unless (nat_le (m.next + k) most_next) IdsExhausted None)
 
 -- an answer, and what was made of the module
 abbrev pub Gave : Rewrite → Bool → Module → Module → Type 0
@@ -24,19 +34,14 @@ IsRefusedSo none e = ⊥
 IsRefusedSo (becomes n) e = ⊥
 IsRefusedSo (refused f) e = f ≡ e
 
--- why a rule was refused at operation x
-abbrev pub IsReason : ℕ → ℕ → Module → Refusal → Type 0
-IsReason r x m e = (e ≡ Memory) ⊎ (((e ≡ NoSuchOp) × (has_id x m.tree ≡ false)) ⊎ IsRefusedSo (rewrite_of r m x) e)
+-- why a rewrite wasn't made at operation x, where c is the context after it: memory was refused, x isn't there, the
+-- rewrite is refused, or the context is full
+abbrev pub IsReason : Rewrite → ℕ → Module → Things → Refusal → Type 0
+IsReason w x m c e = (e ≡ Memory) ⊎ (((e ≡ NoSuchOp) × (has_id x m.tree ≡ false)) ⊎ (IsRefusedSo w e ⊎ ((e ≡ Full) × IsFull c)))
 
--- how many operations an edit makes, and some
-abbrev pub makes : Edit → ℕ
-makes (edit.Make place o) = 1
-makes (edit.SetOperand x k v) = 0
-makes (edit.Replace v w) = 0
-makes (edit.Move x place) = 0
-makes (edit.Erase x) = 0
-makes (edit.SetAttr x k a) = 0
-
-abbrev pub all_make : List Edit → ℕ
-all_make [] = 0
-all_make (e ∷ es) = makes e + all_make es
+-- what stays: the context grew at most, the open marks are there with their modules, and the listeners were told of what
+-- led from the one module to the other, and of nothing else
+pub record Applied {B : Type 0} (meaning : B → Listener) (old new : Benched B) : Type 0 where
+  pub grows : Grows old.desk.ctx new.desk.ctx
+  pub opens : open_marks new.desk ≡ open_marks old.desk
+  pub led : Led meaning old new

@@ -1,5 +1,9 @@
-//! The rules, at an operation of a bench's module.
+//! The rules, at an operation of a bench's module: one of them, or the lowest that applies.
 #![tactic(auto)]
 
-mod apply;
+pub mod apply;
+mod carry;
+pub mod laws;
+mod limits;
+mod lowest;
 mod plan;

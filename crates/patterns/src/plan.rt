@@ -1,77 +1,91 @@
-//! The edits of a rule at an operation.
-ghost use Rattle.std.specs.Prelude.{◌≡◌, IfOk, IfSome, option_map};
-ghost use Rattle.ir_event.specs.Modules.{module_in};
-ghost use Rattle.patterns_runs.specs.Lists.{AllFit, edits_meaning};
-ghost use Rattle.patterns_base.specs.Rules.{rule as rule_of};
+//! The plan of a rule at an operation.
+ghost use Rattle.std.specs.Prelude.{◌≡◌, true, IfOk, IfSome, Some, option_map};
+ghost use Rattle.ir_event.specs.Modules.{NodeIsOf, module_in};
+ghost use Rattle.patterns_base.specs.Looks.{front_of, is_clean as clean_at};
 ghost use Rattle.patterns_base.specs.Rewrites.{edits_of};
-ghost use Rattle.patterns_plans.specs.Reads.{bare_in};
+ghost use Rattle.patterns_makes.specs.Plans.{PlanIsOf, plan_meaning};
+ghost use Rattle.patterns_plans.specs.Reads.{head_at, head_in};
 ghost use Rattle.patterns.specs.Applied.{IsWritten};
+ghost use Rattle.patterns.specs.Planned.{IsPlanFor, planned_edits};
 
 use ir_event::world::World;
 use ir_store::node::Node;
 use ir_tree::place::Place;
 use ir_types::ids::OpId;
+use patterns_makes::plan::Plan;
+use patterns_plans::by_number::plan_by;
 use patterns_plans::clean::is_clean;
-use patterns_plans::given::{plan_4, plan_5, plan_8, plan_15, plan_16};
-use patterns_plans::in_place::{plan_3, plan_18};
 use patterns_plans::look::{front, shown};
-use patterns_runs::edit::Edit;
 use std::alloc::{AllocError, Global};
 
-/// Those of a rule at a clean operation, of which this is shown.
-#[tactic(auto, unfolding(patterns_base::specs::Rules::rule))]
-fn plan_by(
+/// What a rule makes of an operation, and the place in front of that.
+#[derive(Drop)]
+pub struct Planned {
+    pub front: Place,
+    pub plan: Plan,
+}
+
+/// What a rule makes of an operation of the module, of which this is shown, behind a place, if it applies. That the
+/// operation is clean, and stands there, is asked before.
+fn plan_of(
     alloc: Global,
     world: &World,
     rule: u8,
     front: &Place,
     op: OpId,
     node: &Node<'_>,
-) -> Result<Option<Vec<Edit>>, AllocError>
+) -> Result<Option<Plan>, AllocError>
     requires written { IsWritten rule }
-    ensures edits { IfOk result (λ p. option_map (λ es. edits_meaning world.now.ctx es.items) p ≡ rule_of rule (module_in world.now).tree (module_in world.now).next front.now (bare_in world.now.ctx op node.now)) }
-    ensures fit { IfOk result (λ p. IfSome p (λ es. AllFit world.now.ctx es.items)) }
+    requires shown { Some (head_in world.now.ctx node.now) ≡ head_at op (module_in world.now).tree }
+    requires of { NodeIsOf world.now.ctx node.now }
+    ensures edits { IfOk result (IsPlanFor rule world.now op front.now) }
+    ensures of { IfOk result (λ p. IfSome p (PlanIsOf world.now.ctx)) }
 {
-    if rule == 3 {
-        return plan_3(alloc, world, front, op, node);
-    }
-    if rule == 4 {
-        return plan_4(alloc, world, front, op, node);
-    }
-    if rule == 5 {
-        return plan_5(alloc, world, front, op, node);
-    }
-    if rule == 8 {
-        return plan_8(alloc, world, front, op, node);
-    }
-    if rule == 15 {
-        return plan_15(alloc, world, front, op, node);
-    }
-    if rule == 16 {
-        return plan_16(alloc, world, front, op, node);
-    }
-    plan_18(alloc, world, front, op, node)
+    plan_by(alloc, world, rule, op, node)
 }
 
-/// Those of a rule at an operation, if it applies.
+/// The plan of a rule at a clean operation, of which this is shown, behind its place, if it applies.
 pub(crate) fn plan_at(
     alloc: Global,
     world: &World,
     rule: u8,
+    front: &Place,
     op: OpId,
-) -> Result<Option<Vec<Edit>>, AllocError>
+    node: &Node<'_>,
+) -> Result<Option<Plan>, AllocError>
     requires written { IsWritten rule }
-    ensures edits { IfOk result (λ p. option_map (λ es. edits_meaning world.now.ctx es.items) p ≡ edits_of rule (module_in world.now) op) }
-    ensures fit { IfOk result (λ p. IfSome p (λ es. AllFit world.now.ctx es.items)) }
+    requires shown { Some (head_in world.now.ctx node.now) ≡ head_at op (module_in world.now).tree }
+    requires of { NodeIsOf world.now.ctx node.now }
+    requires front { Some front.now ≡ front_of op (module_in world.now).tree }
+    requires clean { clean_at (module_in world.now).tree (record (head_in world.now.ctx node.now) { id = op }) ≡ true }
+    ensures edits { IfOk result (λ p. option_map (plan_meaning world.now.ctx (module_in world.now).next op front.now) p ≡ edits_of rule (module_in world.now) op) }
+    ensures of { IfOk result (λ p. IfSome p (PlanIsOf world.now.ctx)) }
+{
+    plan_of(alloc, world, rule, front, op, node)
+}
+
+/// The plan of a rule at an operation, if it applies.
+pub(crate) fn find_plan(
+    alloc: Global,
+    world: &World,
+    rule: u8,
+    op: OpId,
+) -> Result<Option<Planned>, AllocError>
+    requires written { IsWritten rule }
+    ensures edits { IfOk result (λ p. option_map (planned_edits world.now.ctx (module_in world.now).next op) p ≡ edits_of rule (module_in world.now) op) }
+    ensures of { IfOk result (λ p. IfSome p (λ p. PlanIsOf world.now.ctx p.plan)) }
 {
     let Some(node) = shown(world, op) else {
         return Ok(None);
     };
-    let Some(place) = front(world, op) else {
+    let Some(front) = front(world, op) else {
         return Ok(None);
     };
     if !is_clean(alloc, world, op, &node)? {
         return Ok(None);
     }
-    plan_by(alloc, world, rule, &place, op, &node)
+    match plan_at(alloc, world, rule, &front, op, &node)? {
+        Some(plan) => Ok(Some(Planned { front, plan })),
+        None => Ok(None),
+    }
 }

@@ -1,30 +1,31 @@
 //! Rules that give a value for an operation's result.
-ghost use Rattle.std.specs.Prelude.{◌≡◌, IfOk, IfSome, option_map};
+ghost use Rattle.std.specs.Prelude.{◌≡◌, IfOk, ℕ};
 ghost use Rattle.ir_types.specs.Things.{Things};
-ghost use Rattle.ir_event.specs.Modules.{NodeIsOf, module_in};
-ghost use Rattle.patterns_edits.specs.Lists.{AllFit, edits_meaning};
+ghost use Rattle.ir_tree.specs.declared.place.Place.{Place as At};
+ghost use Rattle.ir_event.specs.Modules.{NodeIsOf};
 ghost use Rattle.patterns_reads.specs.Makes.{give};
-ghost use Rattle.patterns_reads.specs.Folding.{rule_4, rule_5, rule_8, rule_15, rule_16, rule_17};
-ghost use Rattle.patterns_reads.specs.Reads.{bare_in};
+ghost use Rattle.patterns_reads.specs.Folding.{rule_4, rule_5, rule_6, rule_8, rule_15, rule_16, rule_17};
+ghost use Rattle.patterns_reads.specs.Plans.{PlanIsOf, plan_meaning};
+ghost use Rattle.patterns_plans.specs.Planned.{FitsIn, IsPlanned};
 
-use crate::types::is_boolean;
+use crate::types::{all_ones, is_boolean};
 use crate::words::{ignores_one, ignores_zero, is_keeping};
 use ir_event::world::World;
 use ir_store::node::Node;
-use ir_tree::place::Place;
 use ir_tree::uses::is_same;
 use ir_tree::value::Value;
 use ir_types::ids::OpId;
 use ir_types::word::Word;
 use patterns_edits::edit::Edit;
 use patterns_reads::known::{is_number, known};
+use patterns_reads::plan::Plan;
 use patterns_reads::shapes::{three_of, two_of};
 use std::alloc::{AllocError, Global};
 
 /// A value is given for an operation's result, and the operation is erased.
-pub(crate) fn give(alloc: Global, op: OpId, value: Value) -> Result<Vec<Edit>, AllocError>
-    ensures edits { IfOk result (λ es. (c : Things) → edits_meaning c es.items ≡ give op value) }
-    ensures fit { IfOk result (λ es. (c : Things) → AllFit c es.items) }
+pub(crate) fn give(alloc: Global, op: OpId, value: Value) -> Result<Plan, AllocError>
+    ensures edits { IfOk result (λ p. (c : Things) (n : ℕ) (front : At) → plan_meaning c n op front p ≡ give op value) }
+    ensures fit { IfOk result (λ p. (c : Things) → PlanIsOf c p) }
 {
     let mut edits = Vec::new(alloc);
     edits.push(Edit::Replace {
@@ -32,19 +33,18 @@ pub(crate) fn give(alloc: Global, op: OpId, value: Value) -> Result<Vec<Edit>, A
         new: value,
     })?;
     edits.push(Edit::Erase { op })?;
-    Ok(edits)
+    Ok(Plan::Edits(edits))
 }
 
 /// 0 second: the first.
-pub fn plan_4(
+pub(crate) fn plan_4(
     alloc: Global,
     world: &World,
-    front: &Place,
     op: OpId,
     node: &Node<'_>,
-) -> Result<Option<Vec<Edit>>, AllocError>
-    ensures edits { IfOk result (λ p. option_map (λ es. edits_meaning world.now.ctx es.items) p ≡ rule_4 (module_in world.now).tree (module_in world.now).next front.now (bare_in world.now.ctx op node.now)) }
-    ensures fit { IfOk result (λ p. IfSome p (λ es. AllFit world.now.ctx es.items)) }
+) -> Result<Option<Plan>, AllocError>
+    ensures edits { IfOk result (IsPlanned rule_4 world.now op node.now) }
+    ensures fit { IfOk result (FitsIn world.now.ctx) }
 {
     let Some(p) = two_of(node) else {
         return Ok(None);
@@ -55,20 +55,19 @@ pub fn plan_4(
     if !is_number(alloc, world, 0, &p.second)? {
         return Ok(None);
     }
-    let edits = give(alloc, op, p.first)?;
-    Ok(Some(edits))
+    let plan = give(alloc, op, p.first)?;
+    Ok(Some(plan))
 }
 
 /// 1 second: the first.
-pub fn plan_5(
+pub(crate) fn plan_5(
     alloc: Global,
     world: &World,
-    front: &Place,
     op: OpId,
     node: &Node<'_>,
-) -> Result<Option<Vec<Edit>>, AllocError>
-    ensures edits { IfOk result (λ p. option_map (λ es. edits_meaning world.now.ctx es.items) p ≡ rule_5 (module_in world.now).tree (module_in world.now).next front.now (bare_in world.now.ctx op node.now)) }
-    ensures fit { IfOk result (λ p. IfSome p (λ es. AllFit world.now.ctx es.items)) }
+) -> Result<Option<Plan>, AllocError>
+    ensures edits { IfOk result (IsPlanned rule_5 world.now op node.now) }
+    ensures fit { IfOk result (FitsIn world.now.ctx) }
 {
     let Some(p) = two_of(node) else {
         return Ok(None);
@@ -79,20 +78,46 @@ pub fn plan_5(
     if !is_number(alloc, world, 1, &p.second)? {
         return Ok(None);
     }
-    let edits = give(alloc, op, p.first)?;
-    Ok(Some(edits))
+    let plan = give(alloc, op, p.first)?;
+    Ok(Some(plan))
+}
+
+/// All ones second: the first.
+pub(crate) fn plan_6(
+    alloc: Global,
+    world: &World,
+    op: OpId,
+    node: &Node<'_>,
+) -> Result<Option<Plan>, AllocError>
+    requires of { NodeIsOf world.now.ctx node.now }
+    ensures edits { IfOk result (IsPlanned rule_6 world.now op node.now) }
+    ensures fit { IfOk result (FitsIn world.now.ctx) }
+{
+    let Some(p) = two_of(node) else {
+        return Ok(None);
+    };
+    if !world.ctx.is_word(p.name, Word::ArithAndi) {
+        return Ok(None);
+    }
+    let Some(bits) = known(alloc, world, &p.second)? else {
+        return Ok(None);
+    };
+    if bits.value != all_ones(&world.ctx, p.ty) {
+        return Ok(None);
+    }
+    let plan = give(alloc, op, p.first)?;
+    Ok(Some(plan))
 }
 
 /// A value and itself: the value.
-pub fn plan_8(
+pub(crate) fn plan_8(
     alloc: Global,
     world: &World,
-    front: &Place,
     op: OpId,
     node: &Node<'_>,
-) -> Result<Option<Vec<Edit>>, AllocError>
-    ensures edits { IfOk result (λ p. option_map (λ es. edits_meaning world.now.ctx es.items) p ≡ rule_8 (module_in world.now).tree (module_in world.now).next front.now (bare_in world.now.ctx op node.now)) }
-    ensures fit { IfOk result (λ p. IfSome p (λ es. AllFit world.now.ctx es.items)) }
+) -> Result<Option<Plan>, AllocError>
+    ensures edits { IfOk result (IsPlanned rule_8 world.now op node.now) }
+    ensures fit { IfOk result (FitsIn world.now.ctx) }
 {
     let Some(p) = two_of(node) else {
         return Ok(None);
@@ -103,20 +128,19 @@ pub fn plan_8(
     if !is_same(&p.first, &p.second) {
         return Ok(None);
     }
-    let edits = give(alloc, op, p.first)?;
-    Ok(Some(edits))
+    let plan = give(alloc, op, p.first)?;
+    Ok(Some(plan))
 }
 
 /// A choice between a value and itself: the value.
-pub fn plan_15(
+pub(crate) fn plan_15(
     alloc: Global,
     world: &World,
-    front: &Place,
     op: OpId,
     node: &Node<'_>,
-) -> Result<Option<Vec<Edit>>, AllocError>
-    ensures edits { IfOk result (λ p. option_map (λ es. edits_meaning world.now.ctx es.items) p ≡ rule_15 (module_in world.now).tree (module_in world.now).next front.now (bare_in world.now.ctx op node.now)) }
-    ensures fit { IfOk result (λ p. IfSome p (λ es. AllFit world.now.ctx es.items)) }
+) -> Result<Option<Plan>, AllocError>
+    ensures edits { IfOk result (IsPlanned rule_15 world.now op node.now) }
+    ensures fit { IfOk result (FitsIn world.now.ctx) }
 {
     let Some(p) = three_of(node) else {
         return Ok(None);
@@ -127,20 +151,19 @@ pub fn plan_15(
     if !is_same(&p.second, &p.third) {
         return Ok(None);
     }
-    let edits = give(alloc, op, p.second)?;
-    Ok(Some(edits))
+    let plan = give(alloc, op, p.second)?;
+    Ok(Some(plan))
 }
 
 /// A choice by a constant: the chosen one.
-pub fn plan_16(
+pub(crate) fn plan_16(
     alloc: Global,
     world: &World,
-    front: &Place,
     op: OpId,
     node: &Node<'_>,
-) -> Result<Option<Vec<Edit>>, AllocError>
-    ensures edits { IfOk result (λ p. option_map (λ es. edits_meaning world.now.ctx es.items) p ≡ rule_16 (module_in world.now).tree (module_in world.now).next front.now (bare_in world.now.ctx op node.now)) }
-    ensures fit { IfOk result (λ p. IfSome p (λ es. AllFit world.now.ctx es.items)) }
+) -> Result<Option<Plan>, AllocError>
+    ensures edits { IfOk result (IsPlanned rule_16 world.now op node.now) }
+    ensures fit { IfOk result (FitsIn world.now.ctx) }
 {
     let Some(p) = three_of(node) else {
         return Ok(None);
@@ -152,21 +175,20 @@ pub fn plan_16(
         return Ok(None);
     };
     let chosen = if bits.value == 0 { p.third } else { p.second };
-    let edits = give(alloc, op, chosen)?;
-    Ok(Some(edits))
+    let plan = give(alloc, op, chosen)?;
+    Ok(Some(plan))
 }
 
 /// A choice between true and false: the condition.
-pub fn plan_17(
+pub(crate) fn plan_17(
     alloc: Global,
     world: &World,
-    front: &Place,
     op: OpId,
     node: &Node<'_>,
-) -> Result<Option<Vec<Edit>>, AllocError>
+) -> Result<Option<Plan>, AllocError>
     requires of { NodeIsOf world.now.ctx node.now }
-    ensures edits { IfOk result (λ p. option_map (λ es. edits_meaning world.now.ctx es.items) p ≡ rule_17 (module_in world.now).tree (module_in world.now).next front.now (bare_in world.now.ctx op node.now)) }
-    ensures fit { IfOk result (λ p. IfSome p (λ es. AllFit world.now.ctx es.items)) }
+    ensures edits { IfOk result (IsPlanned rule_17 world.now op node.now) }
+    ensures fit { IfOk result (FitsIn world.now.ctx) }
 {
     let Some(p) = three_of(node) else {
         return Ok(None);
@@ -183,6 +205,6 @@ pub fn plan_17(
     if !is_number(alloc, world, 0, &p.third)? {
         return Ok(None);
     }
-    let edits = give(alloc, op, p.first)?;
-    Ok(Some(edits))
+    let plan = give(alloc, op, p.first)?;
+    Ok(Some(plan))
 }

@@ -1,32 +1,31 @@
 //! Rules that change operands in place.
-ghost use Rattle.std.specs.Prelude.{◌≡◌, IfOk, IfSome, option_map};
-ghost use Rattle.ir_event.specs.Modules.{module_in};
-ghost use Rattle.patterns_edits.specs.Lists.{AllFit, edits_meaning};
-ghost use Rattle.patterns_reads.specs.Folding.{rule_3, rule_18};
-ghost use Rattle.patterns_reads.specs.Reads.{bare_in};
+ghost use Rattle.std.specs.Prelude.{◌≡◌, IfOk, ℕ};
+ghost use Rattle.ir_event.specs.Modules.{NodeIsOf};
+ghost use Rattle.patterns_reads.specs.Folding.{rule_3, rule_13, rule_18};
+ghost use Rattle.patterns_plans.specs.Planned.{FitsIn, IsPlanned};
 
+use crate::predicates::{mirrored, predicate};
 use crate::words::is_swapping;
 use ir_event::world::World;
 use ir_store::node::Node;
-use ir_tree::place::Place;
 use ir_types::ids::OpId;
 use ir_types::word::Word;
 use patterns_edits::edit::Edit;
 use patterns_reads::known::{is_known, is_number, source};
 use patterns_reads::look::is_constant;
+use patterns_reads::plan::Plan;
 use patterns_reads::shapes::{three_of, two_of};
 use std::alloc::{AllocError, Global};
 
 /// A constant first and none second: swapped.
-pub fn plan_3(
+pub(crate) fn plan_3(
     alloc: Global,
     world: &World,
-    front: &Place,
     op: OpId,
     node: &Node<'_>,
-) -> Result<Option<Vec<Edit>>, AllocError>
-    ensures edits { IfOk result (λ p. option_map (λ es. edits_meaning world.now.ctx es.items) p ≡ rule_3 (module_in world.now).tree (module_in world.now).next front.now (bare_in world.now.ctx op node.now)) }
-    ensures fit { IfOk result (λ p. IfSome p (λ es. AllFit world.now.ctx es.items)) }
+) -> Result<Option<Plan>, AllocError>
+    ensures edits { IfOk result (IsPlanned rule_3 world.now op node.now) }
+    ensures fit { IfOk result (FitsIn world.now.ctx) }
 {
     let Some(p) = two_of(node) else {
         return Ok(None);
@@ -51,19 +50,50 @@ pub fn plan_3(
         operand: 1,
         value: p.first,
     })?;
-    Ok(Some(edits))
+    Ok(Some(Plan::Edits(edits)))
+}
+
+/// A comparison of a constant first and none second: swapped and mirrored.
+pub(crate) fn plan_13(
+    alloc: Global,
+    world: &World,
+    node: &Node<'_>,
+) -> Result<Option<Plan>, AllocError>
+    requires of { NodeIsOf world.now.ctx node.now }
+    ensures edits { (x : ℕ) → IfOk result (IsPlanned rule_13 world.now x node.now) }
+    ensures fit { IfOk result (FitsIn world.now.ctx) }
+{
+    let Some(p) = two_of(node) else {
+        return Ok(None);
+    };
+    if !world.ctx.is_word(p.name, Word::ArithCmpi) {
+        return Ok(None);
+    }
+    let Some(asks) = predicate(&world.ctx, node) else {
+        return Ok(None);
+    };
+    if !is_known(alloc, world, &p.first)? {
+        return Ok(None);
+    }
+    if is_constant(world, &p.second) {
+        return Ok(None);
+    }
+    Ok(Some(Plan::Mirrored {
+        predicate: mirrored(asks),
+        first: p.second,
+        second: p.first,
+    }))
 }
 
 /// A choice by the opposite of a condition: by the condition, with both swapped.
-pub fn plan_18(
+pub(crate) fn plan_18(
     alloc: Global,
     world: &World,
-    front: &Place,
     op: OpId,
     node: &Node<'_>,
-) -> Result<Option<Vec<Edit>>, AllocError>
-    ensures edits { IfOk result (λ p. option_map (λ es. edits_meaning world.now.ctx es.items) p ≡ rule_18 (module_in world.now).tree (module_in world.now).next front.now (bare_in world.now.ctx op node.now)) }
-    ensures fit { IfOk result (λ p. IfSome p (λ es. AllFit world.now.ctx es.items)) }
+) -> Result<Option<Plan>, AllocError>
+    ensures edits { IfOk result (IsPlanned rule_18 world.now op node.now) }
+    ensures fit { IfOk result (FitsIn world.now.ctx) }
 {
     let Some(p) = three_of(node) else {
         return Ok(None);
@@ -96,5 +126,5 @@ pub fn plan_18(
         operand: 2,
         value: p.second,
     })?;
-    Ok(Some(edits))
+    Ok(Some(Plan::Edits(edits)))
 }

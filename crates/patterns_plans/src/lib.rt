@@ -1,9 +1,18 @@
-//! The edits that rules make.
+//! What rules make of operations, before anything is interned for it: plans by what is shown of an operation.
 #![tactic(auto)]
 
-pub mod given;
-pub mod in_place;
+pub mod by_number;
+mod casts;
+mod combined;
+mod constant;
+mod dead;
+mod expanded;
+mod given;
+mod in_place;
+pub mod may;
+mod predicates;
+mod sources;
 mod types;
 mod words;
 
-pub use patterns_reads::{clean, look};
+pub use patterns_reads::{clean, look, plan};

@@ -26,7 +26,7 @@ fn constant_bits(ctx: &Context, node: &Node<'_>) -> Option<Bits>
 }
 
 /// What the operation has of which a value is a result, if that is clean.
-fn clean_giver<'a>(
+pub fn clean_giver<'a>(
     alloc: Global,
     world: &'a World,
     value: &Value,

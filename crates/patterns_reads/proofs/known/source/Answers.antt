@@ -9,10 +9,10 @@ use Rattle.patterns_reads.proofs.known.source.Goals as goal
 
 pub returns-then-not-is_word-clause-node : goal.returns-then-not-is_word-clause-node
 returns-then-not-is_word-clause-node c =
-    word_not (module_in c.args.world.now).tree c.args.value.now (word_bytes c.args.word) (head_in c.args.world.now.ctx c.in-Some.giver) c.is_word.result c.in-Some.ensures
+    word_not (module_in c.args.world.now).tree c.args.value.now (word_bytes c.args.word) (head_in c.args.world.now.ctx c.in-Some.giver) c.is_word.result c.in-Some.ensures.node
     (c.is_word.ensures ∙ ap (λ n. bytes_eq (name_term c.args.world.now.ctx n) (word_bytes c.args.word)) c.name.ensures) c.if-not-is_word.true
 
 pub returns-clause-node : goal.returns-clause-node
 returns-clause-node c =
-    word_is (module_in c.args.world.now).tree c.args.value.now (word_bytes c.args.word) (head_in c.args.world.now.ctx c.in-Some.giver) c.is_word.result _ c.in-Some.ensures
+    word_is (module_in c.args.world.now).tree c.args.value.now (word_bytes c.args.word) (head_in c.args.world.now.ctx c.in-Some.giver) c.is_word.result _ c.in-Some.ensures.node
     (c.is_word.ensures ∙ ap (λ n. bytes_eq (name_term c.args.world.now.ctx n) (word_bytes c.args.word)) c.name.ensures) c.if-not-is_word.false c.in_ok-node.ensures.node

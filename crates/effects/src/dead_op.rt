@@ -1,0 +1,116 @@
+//! Whether one operation of a module is dead, without a listener and without memory.
+ghost use Rattle.std.specs.Prelude.{◌≡◌, ◌≤◌, IfSome, option_map};
+ghost use Rattle.ir_tree.specs.Tree.{region_count, head};
+ghost use Rattle.ir_tree.specs.Ids.{find};
+ghost use Rattle.ir_store.specs.Nodes.{node_of};
+ghost use Rattle.ir_event.specs.Modules.{module_in};
+ghost use Rattle.effects.specs.Dead.{dead_at, may_go};
+ghost use Rattle.effects.specs.Effects.{own_by, own_kinds};
+ghost use Rattle.effects.specs.Idle.{AreUnused, idle_at, idle_ops};
+ghost use Rattle.effects.specs.Within.{list_at, regions_of};
+
+use crate::kinds::{EffectKinds, recursive};
+use crate::own::own;
+use crate::tally::is_kept;
+use ir_event::world::World;
+use ir_store::node::Node;
+use ir_tree::value::Value;
+use ir_types::ids::OpId;
+use op_registry::own::Own;
+
+/// What an operation has, if it is in the module.
+fn shown(world: &World, op: OpId) -> Option<Node<'_>>
+    ensures { result ≡ option_map node_of (find op world.now.store.module_of.tree) }
+{
+    if !world.store.in_tree(op) {
+        return None;
+    }
+    world.store.node(op)
+}
+
+/// Whether nobody would miss what an operation has by itself.
+fn may_go(own: &Own) -> bool
+    ensures { result ≡ may_go (own_kinds own.now) }
+{
+    let kinds = EffectKinds::of(own);
+    !(kinds.unknown || kinds.free || kinds.write)
+}
+
+/// What an operation of the module has by itself, and how many regions, if it is there.
+fn own_at(world: &World, op: OpId) -> Option<(Own, u32)>
+    ensures own { option_map (λ l. l.0) result ≡ option_map (λ o. own_by world.now.ctx (head o).name) (find op world.now.store.module_of.tree) }
+    ensures regions { IfSome result (λ l. l.1 ≡ region_count (regions_of (find op world.now.store.module_of.tree))) }
+{
+    let Some(node) = shown(world, op) else {
+        return None;
+    };
+    let own = own(&world.ctx, &world.registry, node.name());
+    Some((own, node.region_count() as u32))
+}
+
+/// Whether nobody would miss what an operation of the module does, if it is there.
+#[cycle(idle)]
+fn is_idle(world: &World, op: OpId) -> bool
+    ensures { result ≡ idle_at (own_by world.now.ctx) op world.now.store.module_of.tree }
+{
+    let Some((own, count)) = own_at(world, op) else {
+        return true;
+    };
+    if !recursive(&own) {
+        return may_go(&own);
+    }
+    let mut region = 0;
+    'regions: while region < count {
+        if !is_list_idle(world, op, region) {
+            return false;
+        }
+        region += 1;
+    }
+    true
+}
+
+/// Whether nobody would miss what the operations of the block of a region do.
+#[cycle(idle)]
+fn is_list_idle(world: &World, op: OpId, region: u32) -> bool
+    ensures { result ≡ idle_ops (own_by world.now.ctx) (list_at op region world.now.store.module_of.tree) }
+{
+    let mut at = world.store.first(op, region);
+    'ops: while let Some(inner) = at {
+        if !is_idle(world, inner) {
+            return false;
+        }
+        at = world.store.next(inner);
+    }
+    true
+}
+
+/// Whether no operation of the module has one of the first so many results of an operation as an operand.
+fn is_unused(world: &World, op: OpId, count: u32) -> bool
+    ensures { AreUnused op count world.now.store.module_of.tree result }
+{
+    let mut number = 0;
+    'results: while number < count {
+        if world.store.first_use(Value::Result(op, number)).is_some() {
+            return false;
+        }
+        number += 1;
+    }
+    true
+}
+
+/// Whether an operation is in the module and dead: nobody uses what it gives, it isn't kept whatever it does, and
+/// nobody would miss what it does (Operation Canonicalization, "General Design"). It takes no memory.
+pub fn dead_op(world: &World, op: OpId) -> bool
+    ensures { result ≡ dead_at op (module_in world.now).tree }
+{
+    let Some(node) = shown(world, op) else {
+        return false;
+    };
+    if !is_unused(world, op, node.results().len() as u32) {
+        return false;
+    }
+    if is_kept(&world.ctx, &world.registry, node.name()) {
+        return false;
+    }
+    is_idle(world, op)
+}

@@ -1,0 +1,104 @@
+-- What carrying out a plan comes to.
+use Rattle.std.proofs.Common.{◌≡◌, refl, ap, sym, ◌∙◌, subst, ℕ, ◌+◌, ◌≤◌, List, ◌++◌, [], Bool, true, false, Option, Some, None, inl, inr, leb-true}
+use Rattle.std.specs.Prelude.{nat_le, if◌then◌else◌}
+use Rattle.ir_types.specs.Things.{Things, Grows}
+use Rattle.ir_types.specs.Sound.{Holds}
+use Rattle.ir_types.specs.declared.refusal.Refusal.{Refusal}
+use Rattle.ir_types.specs.declared.refusal.Refusal.TheVariants.{Full, IdsExhausted}
+use Rattle.ir_types.proofs.Growth.{grows_refl}
+use Rattle.ir_tree.specs.Ids.{op_count}
+use Rattle.ir_tree.specs.Limits.{most_ops, most_next}
+use Rattle.ir_tree_laws.specs.Reasons.{unless}
+use Rattle.ir_event.specs.Listener.{Listener}
+use Rattle.ir_event.specs.Modules.{Module, module_in, module_meaning}
+use Rattle.ir_event.specs.declared.world.World.{World}
+use Rattle.rewriter.proofs.Told.{heard_none, heard_more}
+use Rattle.patterns_runs.specs.Benched.{Benched}
+use Rattle.patterns_runs.specs.Contents.{Edit, all_edited}
+use Rattle.patterns_runs.specs.Held.{Held, module_held}
+use Rattle.patterns_runs.specs.Runs.{Along}
+use Rattle.patterns_base.specs.Makes.{made_by}
+use Rattle.patterns_base.specs.Rewrites.{becomes, refused, carried_out}
+use Rattle.patterns_makes.specs.Interned.{Added, IsNoRoom}
+use Rattle.patterns_makes.specs.Making.{plan_makes}
+use Rattle.patterns_makes.proofs.Counted.{plan_made}
+use Rattle.patterns.specs.Applied.{Applied, limit_reason}
+use Rattle.patterns.specs.Planned.{IsStopped, planned_edits}
+use Rattle.patterns.specs.declared.plan.Planned.{Planned}
+
+-- ---- limits
+
+pub limited : (es : List Edit) (m : Module) (k : ℕ) (r : Refusal) → made_by es ≡ k → limit_reason k m ≡ Some r → carried_out es m ≡ refused r
+limited es m k r e h = go (nat_le (op_count m.tree + made_by es) most_ops) (nat_le (m.next + made_by es) most_next) (ap (λ j. limit_reason j m) e ∙ h)
+  where
+    go : (a b : Bool) → unless a Full (unless b IdsExhausted None) ≡ Some r → (if a then (if b then becomes (all_edited es m) else refused IdsExhausted) else refused Full) ≡ refused r
+    go true true h = absurd cc
+    go true false h = (let n : IdsExhausted ≡ r = cc in ap refused n)
+    go false b h = (let n : Full ≡ r = cc in ap refused n)
+
+pub unlimited : (es : List Edit) (m : Module) (k : ℕ) → made_by es ≡ k → limit_reason k m ≡ None → carried_out es m ≡ becomes (all_edited es m)
+unlimited es m k e h = go (nat_le (op_count m.tree + made_by es) most_ops) (nat_le (m.next + made_by es) most_next) (ap (λ j. limit_reason j m) e ∙ h)
+  where
+    go : (a b : Bool) → unless a Full (unless b IdsExhausted None) ≡ None → (if a then (if b then becomes (all_edited es m) else refused IdsExhausted) else refused Full) ≡ becomes (all_edited es m)
+    go true true h = refl
+    go true false h = absurd cc
+    go false b h = absurd cc
+
+pub ids_left : (m : Module) (k : ℕ) → limit_reason k m ≡ None → m.next + k ≤ most_next
+ids_left m k h = go (nat_le (op_count m.tree + k) most_ops) (nat_le (m.next + k) most_next) refl h
+  where
+    go : (a b : Bool) → nat_le (m.next + k) most_next ≡ b → unless a Full (unless b IdsExhausted None) ≡ None → m.next + k ≤ most_next
+    go true true is h = leb-true (m.next + k) most_next is
+    go true false is h = absurd cc
+    go false b is h = absurd cc
+
+-- ---- what stays
+
+module _ {B : Type 0} (meaning : B → Listener) where
+  pub applied_none : (a : Benched B) → Applied meaning a a
+  applied_none a = record { grows = grows_refl a.desk.ctx; opens = refl; led = ([], heard_none meaning a) }
+
+  pub applied_added : (a b : Benched B) → Added meaning a b → Applied meaning a b
+  applied_added a b p = record { grows = p.grown.grows; opens = p.grown.marked; led = p.led }
+
+  pub applied_along : (a b c : Benched B) → Holds b.desk.ctx → Added meaning a b → Along meaning b c → Applied meaning a c
+  applied_along a b c holds p q =
+      record {
+        grows = subst (λ (d : Things). Grows a.desk.ctx d) (sym q.ctx) p.grown.grows;
+        opens = q.opens ∙ p.grown.marked;
+        led = (p.led.0 ++ q.led.0, heard_more meaning p.led.0 q.led.0 a b c holds p.led.1 q.led.1);
+      }
+
+-- ---- a plan at operation x, where a world shows what a bench holds
+
+module _ (w : World) (h : Held) (ctx : w.ctx ≡ h.ctx) (store : w.store ≡ h.store) (x : ℕ) (p : Planned) where
+  same_module : module_in w ≡ module_held h
+  same_module i = module_meaning (ctx i) (store i).module_of
+
+  abbrev es : List Edit
+  es = planned_edits h.ctx (module_held h).next x p
+
+  makes : made_by es ≡ plan_makes p.plan
+  makes = plan_made h.ctx (module_held h).next x p.front p.plan
+
+  pub was_limited : (k : ℕ) (r : Refusal) (reason : Option Refusal) → k ≡ plan_makes p.plan → reason ≡ limit_reason k (module_in w) → reason ≡ Some r → IsStopped es (module_held h) h.ctx r
+  was_limited k r reason count is due = inr (inl (limited es (module_held h) k r (makes ∙ sym count) (ap (limit_reason k) (sym same_module) ∙ sym is ∙ due)))
+
+  module _ (k : ℕ) (reason : Option Refusal) (count : k ≡ plan_makes p.plan) (is : reason ≡ limit_reason k (module_in w)) (none : reason ≡ None) (n : ℕ) (next : n ≡ w.store.module_of.next) where
+    no_reason : limit_reason k (module_held h) ≡ None
+    no_reason = ap (limit_reason k) (sym same_module) ∙ sym is ∙ none
+
+    same_next : (module_held h).next ≡ n
+    same_next = ap (λ (m : Module). m.next) (sym same_module) ∙ sym next
+
+    pub has_ids : n + plan_makes p.plan ≤ most_next
+    has_ids = subst (λ (z : ℕ × ℕ). z.0 + z.1 ≤ most_next) (λ i. (same_next i, count i)) (ids_left (module_held h) k no_reason)
+
+    pub was_carried : (g after : Held) (made : List Edit) → module_held g ≡ module_held h → made ≡ planned_edits h.ctx n x p → module_held after ≡ all_edited made (module_held g) → carried_out es (module_held h) ≡ becomes (module_held after)
+    was_carried g after made same due e =
+        unlimited es (module_held h) k (makes ∙ sym count) no_reason
+        ∙ ap becomes (sym (e ∙ λ i. all_edited ((due ∙ ap (λ j. planned_edits h.ctx j x p) (sym same_next)) i) (same i)))
+
+pub no_room : (edits : List Edit) (m : Module) (c : Things) (e : Refusal) → IsNoRoom c e → IsStopped edits m c e
+no_room edits m c e (inl h) = inl h
+no_room edits m c e (inr h) = inr (inr h)

@@ -1,0 +1,60 @@
+-- What comes of the lowest rule that applies.
+use Rattle.std.proofs.Common.{◌≡◌, refl, ap, sym, ◌∙◌, subst, ℕ, ◌≤◌, List, false, Option, Some, None, Result, Ok, Err, option_map}
+use Rattle.std.specs.Prelude.{IfOk, IfSome}
+use Rattle.ir_tree.specs.declared.place.Place.{Place}
+use Rattle.ir_tree.specs.Tree.{head}
+use Rattle.ir_event.specs.Modules.{Module, module_in}
+use Rattle.ir_event.specs.declared.world.World.{World}
+use Rattle.patterns_runs.specs.Held.{Held, module_held}
+use Rattle.patterns_plans.specs.Reads.{head_at}
+use Rattle.patterns_base.specs.Looks.{Header}
+use Rattle.patterns_base.specs.Rules.{rules_for}
+use Rattle.patterns_base.specs.Canonicalization.{TableSuffices, first_rule, lowest}
+use Rattle.patterns_base.specs.Rewrites.{none, edits_of, rewrite_of, carried_out}
+use Rattle.patterns_makes.specs.Plan.{Plan}
+use Rattle.patterns_makes.specs.Plans.{PlanIsOf, plan_meaning}
+use Rattle.patterns.specs.Applied.{Gave}
+use Rattle.patterns.specs.Lowest.{AreWritten, RowIsWritten, IsLowest, IsPlanOf, TriedFirst, greedy}
+use Rattle.patterns.specs.Planned.{planned_edits}
+use Rattle.patterns.specs.declared.lowest.Found.{Found}
+use Rattle.patterns.proofs.Applying.{rewrite_due, same_module}
+use Rattle.patterns.proofs.Firsts.{left_out, taken}
+use Rattle.patterns.proofs.Planned.{found}
+
+module _ (w : World) (x : ℕ) (front : Place) (r : ℕ) (low : r ≤ 24) where
+  tried : (p : Option Plan) → option_map (plan_meaning w.ctx (module_in w).next x front) p ≡ edits_of r (module_in w) x → IfSome p (PlanIsOf w.ctx) → TriedFirst r w x front p
+  tried None e of = left_out r (module_in w) x low e
+  tried (Some p) e of = (record { edits = e; of = of }, taken r (module_in w) x (plan_meaning w.ctx (module_in w).next x front p) low e)
+
+  pub tried_ok : {E : Type 0} (result : Result (Option Plan) E) → IfOk result (λ p. option_map (plan_meaning w.ctx (module_in w).next x front) p ≡ edits_of r (module_in w) x) → IfOk result (λ p. IfSome p (PlanIsOf w.ctx)) → IfOk result (TriedFirst r w x front)
+  tried_ok (Ok p) e of = tried p e of
+  tried_ok (Err f) e of = tt
+
+-- the row of an operation's name
+module _ (table : TableSuffices) (m : Module) (x : ℕ) (h : Header) (shown : Some h ≡ head_at x m.tree) (rules : List ℕ) (row : rules ≡ rules_for h.name) where
+  name_is : rules ≡ rules_for (head (found x m.tree h shown).here).name
+  name_is = row ∙ ap (λ (k : Header). rules_for k.name) (found x m.tree h shown).same
+
+  pub row_suffices : lowest m x ≡ first_rule (greedy rules) m x
+  row_suffices = table m x (found x m.tree h shown).here (found x m.tree h shown).is ∙ ap (λ rs. first_rule (greedy rs) m x) (sym name_is)
+
+  pub row_written : RowIsWritten m.tree x → AreWritten rules
+  row_written written = subst AreWritten (sym name_is) (written (found x m.tree h shown).here (found x m.tree h shown).is)
+
+-- what a bench's world shows, and what the bench holds
+module _ (w : World) (b : Held) (ctx : w.ctx ≡ b.ctx) (store : w.store ≡ b.store) (x : ℕ) where
+  pub none_held : lowest (module_in w) x ≡ none → Gave (lowest (module_held b) x) false (module_held b) (module_held b)
+  none_held e = subst (λ a. Gave a false (module_held b) (module_held b)) (sym (ap (λ m. lowest m x) (sym (same_module w b ctx store x)) ∙ e)) (refl, refl)
+
+  pub row_held : RowIsWritten (module_held b).tree x → RowIsWritten (module_in w).tree x
+  row_held = λ h. subst (λ (m : Module). RowIsWritten m.tree x) (sym (same_module w b ctx store x)) h
+
+  module _ (f : Found) (is : IsLowest w x (Some f)) where
+    pub fits_held : PlanIsOf b.ctx f.planned.plan
+    fits_held = subst (λ c. PlanIsOf c f.planned.plan) ctx is.0.of
+
+    pub rule_held : lowest (module_held b) x ≡ rewrite_of f.rule (module_held b) x
+    rule_held = subst (λ m. lowest m x ≡ rewrite_of f.rule m x) (same_module w b ctx store x) is.1
+
+    pub lowest_due : lowest (module_held b) x ≡ carried_out (planned_edits b.ctx (module_held b).next x f.planned) (module_held b)
+    lowest_due = rule_held ∙ rewrite_due w b ctx store x f.rule (Some f.planned) is.0.edits f.planned refl

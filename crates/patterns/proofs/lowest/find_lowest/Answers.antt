@@ -1,0 +1,28 @@
+use Rattle.std.proofs.Common.{◌∙◌, ap, sym}
+use Rattle.ir_types.specs.Terms.{name_term}
+use Rattle.ir_event.specs.Modules.{module_in}
+use Rattle.patterns_base.specs.Rules.{rules_for}
+use Rattle.patterns_plans.specs.Reads.{head_in}
+use Rattle.patterns.proofs.Firsts.{none_lowest}
+use Rattle.patterns.proofs.Lowering.{row_suffices, row_written}
+use Rattle.patterns.proofs.Planned.{none_there, none_front, none_clean}
+use Rattle.patterns.proofs.lowest.find_lowest.Goals as goal
+
+pub returns-in_default : goal.returns-in_default
+returns-in_default c = none_lowest (module_in c.args.world.now) c.args.op (λ r. none_there r (module_in c.args.world.now) c.args.op c.in_default.ensures.node)
+
+pub returns-in_default-front : goal.returns-in_default-front
+returns-in_default-front c = none_lowest (module_in c.args.world.now) c.args.op (λ r. none_front r (module_in c.args.world.now) c.args.op c.in_default-front.ensures)
+
+pub returns-then-not-branch : goal.returns-then-not-branch
+returns-then-not-branch c =
+    none_lowest (module_in c.args.world.now) c.args.op
+    (λ r. none_clean r (module_in c.args.world.now) c.args.op (head_in c.args.world.now.ctx c.in-Some.node) _ c.in-Some.ensures.node c.in_ok-is_clean.ensures c.if-not-branch.true)
+
+pub first_plan-requires-clause-clean : goal.first_plan-requires-clause-clean
+first_plan-requires-clause-clean c = sym c.in_ok-is_clean.ensures ∙ c.if-not-branch.false
+
+pub first_plan-requires-clause-written : goal.first_plan-requires-clause-written
+first_plan-requires-clause-written c =
+    row_written c.only_listed_rules_apply.ensures.lowest (module_in c.args.world.now) c.args.op (head_in c.args.world.now.ctx c.in-Some.node) c.in-Some.ensures.node c.rules_of-rules.result.now
+    (c.rules_of-rules.ensures c.args.world.now.ctx c.sound.ensures ∙ ap (λ n. rules_for (name_term c.args.world.now.ctx n)) c.name.ensures) c.requires.written

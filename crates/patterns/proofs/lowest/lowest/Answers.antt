@@ -1,0 +1,50 @@
+use Rattle.std.proofs.Common.{◌∙◌, refl, inl, subst}
+use Rattle.patterns_base.specs.Canonicalization.{lowest}
+use Rattle.patterns_runs.specs.Held.{module_held}
+use Rattle.patterns.specs.Lowest.{IsLowest}
+use Rattle.patterns.specs.Planned.{planned_edits}
+use Rattle.patterns.proofs.Applying.{gave, not_there, stopped}
+use Rattle.patterns.proofs.Carrying.{applied_none}
+use Rattle.patterns.proofs.Lowering.{none_held, row_held, fits_held, rule_held, lowest_due}
+use Rattle.patterns.proofs.lowest.lowest.Goals as goal
+
+pub returns-then-not-in_tree-clause-refused : goal.returns-then-not-in_tree-clause-refused
+returns-then-not-in_tree-clause-refused g c = not_there c.world-world.result.now c.args.bench.now.desk c.world-world.ensures.ctx c.world-world.ensures.store c.args.op (lowest (module_held c.args.bench.now.desk) c.args.op) c.args.bench.now.desk.ctx c.in_tree.result c.in_tree.ensures c.if-not-in_tree.true
+
+pub returns-then-not-in_tree-clause-stays : goal.returns-then-not-in_tree-clause-stays
+returns-then-not-in_tree-clause-stays g c = applied_none g.L.Analysis.meaning c.args.bench.now
+
+pub find_lowest-requires : goal.find_lowest-requires
+find_lowest-requires g c = record { written = row_held c.world-world.result.now c.args.bench.now.desk c.world-world.ensures.ctx c.world-world.ensures.store c.args.op c.requires.written }
+
+pub returns-in_default-clause-refused : goal.returns-in_default-clause-refused
+returns-in_default-clause-refused g c = inl refl
+
+pub returns-in_default-clause-stays : goal.returns-in_default-clause-stays
+returns-in_default-clause-stays g c = applied_none g.L.Analysis.meaning c.args.bench.now
+
+pub returns-in_default-lowest-clause-ok : goal.returns-in_default-lowest-clause-ok
+returns-in_default-lowest-clause-ok g c = none_held c.world-world.result.now c.args.bench.now.desk c.world-world.ensures.ctx c.world-world.ensures.store c.args.op (subst (IsLowest c.world-world.result.now c.args.op) c.in_default-lowest.is c.in-Ok.ensures)
+
+pub returns-in_default-lowest-clause-stays : goal.returns-in_default-lowest-clause-stays
+returns-in_default-lowest-clause-stays g c = applied_none g.L.Analysis.meaning c.args.bench.now
+
+pub carry_plan-requires : goal.carry_plan-requires
+carry_plan-requires g c = fits_held c.world-world.result.now c.args.bench.now.desk c.world-world.ensures.ctx c.world-world.ensures.store c.args.op c.in-Some.found (subst (IsLowest c.world-world.result.now c.args.op) c.in-Some.is c.in-Ok.ensures)
+
+pub returns-in-Ok-carry_plan-clause-ok : goal.returns-in-Ok-carry_plan-clause-ok
+returns-in-Ok-carry_plan-clause-ok g c =
+    gave (lowest (module_held c.args.bench.now.desk) c.args.op) (module_held c.args.bench.now.desk) (module_held c.carry_plan.new.bench.desk)
+    (lowest_due c.world-world.result.now c.args.bench.now.desk c.world-world.ensures.ctx c.world-world.ensures.store c.args.op c.in-Some.found (subst (IsLowest c.world-world.result.now c.args.op) c.in-Some.is c.in-Ok.ensures)
+    ∙ c.in-Ok-carry_plan.ensures.carried)
+
+pub returns-in-Ok-carry_plan-clause-rule : goal.returns-in-Ok-carry_plan-clause-rule
+returns-in-Ok-carry_plan-clause-rule g c = rule_held c.world-world.result.now c.args.bench.now.desk c.world-world.ensures.ctx c.world-world.ensures.store c.args.op c.in-Some.found (subst (IsLowest c.world-world.result.now c.args.op) c.in-Some.is c.in-Ok.ensures)
+
+pub returns-in-Err-clause-err : goal.returns-in-Err-clause-err
+returns-in-Err-clause-err g c = c.in-Err.ensures.carried.0
+
+pub returns-in-Err-clause-refused : goal.returns-in-Err-clause-refused
+returns-in-Err-clause-refused g c =
+    stopped (lowest (module_held c.args.bench.now.desk) c.args.op) (planned_edits c.args.bench.now.desk.ctx (module_held c.args.bench.now.desk).next c.args.op c.in-Some.found.planned) c.args.op (module_held c.args.bench.now.desk) c.carry_plan.new.bench.desk.ctx c.in-Err.refusal
+    (lowest_due c.world-world.result.now c.args.bench.now.desk c.world-world.ensures.ctx c.world-world.ensures.store c.args.op c.in-Some.found (subst (IsLowest c.world-world.result.now c.args.op) c.in-Some.is c.in-Ok.ensures)) c.in-Err.ensures.carried.1

@@ -1,0 +1,14 @@
+-- What a store shows of operations.
+use Rattle.std.specs.Prelude.{ℕ, List, [], Option, Some, None}
+use Rattle.ir_tree.specs.declared.value.Value.{Value}
+use Rattle.ir_tree.specs.Tree.{Op, head}
+use Rattle.ir_store.specs.Stored.{Stored, known}
+
+-- the operands of an operation that there may be
+abbrev pub operands_found : Option Op → List Value
+operands_found None = []
+operands_found (Some o) = (head o).operands
+
+-- those of an operation of the module, or of a held one
+abbrev pub shown_operands : Stored → ℕ → List Value
+shown_operands s x = operands_found (known x s)

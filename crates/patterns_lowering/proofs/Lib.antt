@@ -1,0 +1,9 @@
+pub mod Edited
+pub mod Joined
+pub mod Typed
+pub mod Meant
+pub mod Fitting
+pub mod Interning
+pub mod Read
+pub mod Reached
+pub mod Regions

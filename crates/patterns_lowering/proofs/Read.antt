@@ -1,0 +1,52 @@
+-- What is read of an operation, and rule 28.
+use Rattle.std.proofs.Common.{◌≡◌, refl, ap, sym, ℕ, ◌+◌, ◌++◌, List, [], ◌∷◌, map, Bool, ◌&&◌, ◌||◌, Some}
+use Rattle.ir_types.specs.Terms.{TypeTerm, AttrTerm}
+use Rattle.ir_tree.specs.declared.value.Value.{Value}
+use Rattle.ir_tree.specs.declared.place.Place.{Place}
+use Rattle.ir_tree.specs.Tree.{OpOf, op, RegionsOf, no_regions, region, empty, block, no_ops, head}
+use Rattle.ir_tree.specs.Maps.{map_tree, map_head, map_regions}
+use Rattle.ir_tree.specs.Meaning.{Operation}
+use Rattle.patterns_base.specs.Words.{among, index_users}
+use Rattle.patterns_base.specs.Looks.{when, is_index_value}
+use Rattle.patterns_edits.specs.Edits.{Make}
+use Rattle.patterns_base.specs.Made.{i64}
+use Rattle.patterns_base.specs.Keeps.{lowered_type}
+use Rattle.patterns_base.specs.Lowering.{bridges, crossed, marked, indices, any, lowered_header, lowered_regions, lowered_op, rule_28}
+use Rattle.patterns_lowering.specs.Bare.{bare, bare_regions}
+use Rattle.patterns_lowering.specs.Meanings.{operation_lowered, results_given}
+
+-- an operation without those in its blocks becomes the same on i64
+lowered_bare : (rs : RegionsOf (List ℕ) TypeTerm AttrTerm) → lowered_regions (bare_regions rs) ≡ lowered_regions rs
+lowered_bare no_regions = refl
+lowered_bare (region empty rs) = ap (region empty) (lowered_bare rs)
+lowered_bare (region (block args os) rs) = ap (region (block (map lowered_type args) no_ops)) (lowered_bare rs)
+
+op_bare : (o : Operation) (vs : List Value) → lowered_op (bare o) vs ≡ lowered_op o vs
+op_bare (op h rs) vs = ap (op (lowered_header h vs)) (lowered_bare rs)
+
+-- whether rule 28 is one for an operation
+abbrev pub applies_28 : Operation → Operation → Bool
+applies_28 t o = among index_users (head o).name && (any (map (is_index_value t) (head o).operands) || any (indices (head o).results))
+
+-- its edits, by what is read
+pub rule_28_read : (t : Operation) (n : ℕ) (front : Place) (o : Operation)
+    → rule_28 t n front o ≡ when (applies_28 t o) (Some (operation_lowered n front (map (is_index_value t) (head o).operands) (indices (head o).results) (bare o)))
+rule_28_read t n front (op h rs) =
+    ap
+    (λ (m : Operation).
+    when (applies_28 t (op h rs))
+    (Some
+    (bridges i64 front (map (is_index_value t) h.operands) h.operands
+    ++ Make front m ∷ []
+    ++ results_given n front (map (is_index_value t) h.operands) (indices h.results) (op h rs) (n + marked (map (is_index_value t) h.operands)) (n + marked (map (is_index_value t) h.operands) + 1))))
+    (sym (op_bare (op h rs) (crossed n (map (is_index_value t) h.operands) h.operands)))
+
+-- what an operation without those in its blocks stands for
+module _ {N T A M U B : Type 0} (f : N → M) (g : T → U) (h : A → B) where
+  bare_mapped_regions : (rs : RegionsOf N T A) → map_regions f g h (bare_regions rs) ≡ bare_regions (map_regions f g h rs)
+  bare_mapped_regions no_regions = refl
+  bare_mapped_regions (region empty rs) = ap (region empty) (bare_mapped_regions rs)
+  bare_mapped_regions (region (block args os) rs) = ap (region (block (map g args) no_ops)) (bare_mapped_regions rs)
+
+  pub bare_mapped : (o : OpOf N T A) → map_tree f g h (bare o) ≡ bare (map_tree f g h o)
+  bare_mapped (op x rs) = ap (op (map_head f g h x)) (bare_mapped_regions rs)

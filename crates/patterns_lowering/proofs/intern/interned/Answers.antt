@@ -1,0 +1,26 @@
+use Rattle.std.proofs.Common.{subst, sym}
+use Rattle.ir_tree.specs.Tree.{Op, head}
+use Rattle.ir_tree.proofs.Meanings.{stays_sound}
+use Rattle.patterns_lowering.specs.Lowered.{AreKnown}
+use Rattle.patterns_lowering.proofs.Fitting.{entries_sound}
+use Rattle.patterns_lowering.proofs.Interning.{interned_on, types_stay}
+use Rattle.patterns_lowering.proofs.intern.interned.Goals as goal
+
+pub lowered_entries-requires-clause-known : goal.lowered_entries-requires-clause-known
+lowered_entries-requires-clause-known g c =
+    let old = c.args.bench.now.desk.ctx in
+    let new = c.interned_types.new.bench.desk.ctx in
+    subst (AreKnown new) (sym c.deref.ensures.value)
+    (subst (λ (o : Op). AreKnown new (head o).properties) (sym c.op.view_is) (entries_sound new c.args.op.now (stays_sound old new c.args.op.now c.in-Ok.ensures.interned.grown.grows c.requires)))
+
+pub returns-in-Ok-lowered_entries-clause-types : goal.returns-in-Ok-lowered_entries-clause-types
+returns-in-Ok-lowered_entries-clause-types g c =
+    types_stay c.interned_types.new.bench.desk.ctx c.lowered_entries.new.bench.desk.ctx c.in-Ok.types.0 c.in-Ok.types.1 c.in-Ok-lowered_entries.ensures.interned.grown.grows c.in-Ok.ensures.types
+
+pub returns-in-Ok-lowered_entries-clause-interned : goal.returns-in-Ok-lowered_entries-clause-interned
+returns-in-Ok-lowered_entries-clause-interned g c =
+    interned_on g.L.Analysis.meaning c.led_benches_are_kept.ensures.more c.args.bench.now c.interned_types.new.bench c.lowered_entries.new.bench c.is_formed-2.ensures.context.holds c.is_formed-in-Ok-lowered_entries.ensures.context.holds c.in-Ok.ensures.interned c.in-Ok-lowered_entries.ensures.interned
+
+pub returns-in-Err-lowered_entries-clause-interned : goal.returns-in-Err-lowered_entries-clause-interned
+returns-in-Err-lowered_entries-clause-interned g c =
+    interned_on g.L.Analysis.meaning c.led_benches_are_kept.ensures.more c.args.bench.now c.interned_types.new.bench c.lowered_entries.new.bench c.is_formed-2.ensures.context.holds c.is_formed-in-Err-lowered_entries.ensures.context.holds c.in-Ok.ensures.interned c.in-Err-lowered_entries.ensures.interned

@@ -1,0 +1,67 @@
+//! Operations are read without the operations in their blocks.
+ghost use Rattle.std.specs.Prelude.{◌≡◌, ◌≤◌, IfOk, length, map, option_map};
+ghost use Rattle.ir_tree.specs.Ids.{find};
+ghost use Rattle.ir_tree.specs.Limits.{most_regions};
+ghost use Rattle.ir_tree.specs.View.{region_view};
+ghost use Rattle.ir_store.specs.Nodes.{node_of};
+ghost use Rattle.patterns_lowering.specs.Bare.{bare_read, region_with};
+
+use ir_event::world::World;
+use ir_store::node::Node;
+use ir_tree::tree::{TreeOp, TreeRegion};
+use ir_types::ids::{OpId, TypeId};
+use std::alloc::{AllocError, Global};
+
+/// An operation of the module, to be read.
+pub(crate) fn found(world: &World, op: OpId) -> Option<Node<'_>>
+    ensures { result ≡ option_map node_of (find op world.now.store.module_of.tree) }
+{
+    if !world.store.in_tree(op) {
+        return None;
+    }
+    world.store.node(op)
+}
+
+/// A region whose block has these arguments, if there is one.
+fn bare_region(alloc: Global, arguments: Option<&[TypeId]>) -> Result<TreeRegion, AllocError>
+    ensures { IfOk result (λ r. region_view r ≡ region_with (option_map (λ a. a.now) arguments.entry)) }
+{
+    match arguments {
+        Some(arguments) => Ok(TreeRegion::Block {
+            args: Vec::from_slice(alloc, arguments)?,
+            ops: Vec::new(alloc),
+        }),
+        None => Ok(TreeRegion::Empty),
+    }
+}
+
+/// The regions of a node.
+fn bare_regions(alloc: Global, node: &Node<'_>) -> Result<Vec<TreeRegion>, AllocError>
+    requires { length node.now.arguments ≤ most_regions }
+    ensures { IfOk result (λ rs. map region_view rs.items ≡ map region_with node.now.arguments) }
+{
+    let mut regions = Vec::new(alloc);
+    let count = node.region_count() as u32;
+    'regions: for number in 0..count {
+        let region = bare_region(alloc, node.arguments(number))?;
+        regions.push(region)?;
+    }
+    Ok(regions)
+}
+
+/// The operation of which a node is read.
+pub(crate) fn bare(alloc: Global, op: OpId, node: &Node<'_>) -> Result<TreeOp, AllocError>
+    requires { length node.now.arguments ≤ most_regions }
+    ensures { IfOk result (λ o. o ≡ bare_read op node.now) }
+{
+    let regions = bare_regions(alloc, node)?;
+    Ok(TreeOp {
+        id: op,
+        name: node.name(),
+        operands: Vec::from_slice(alloc, node.operands())?,
+        results: Vec::from_slice(alloc, node.results())?,
+        props: Vec::from_slice(alloc, node.properties())?,
+        attrs: Vec::from_slice(alloc, node.attributes())?,
+        regions,
+    })
+}

@@ -1,0 +1,37 @@
+//! The results of one operation are given for those of another.
+ghost use Rattle.std.specs.Prelude.{◌≡◌, ◌≤◌, ◌+◌, OnOk, ◌++◌, length};
+ghost use Rattle.ir_tree.specs.Limits.{most_next};
+ghost use Rattle.ir_tree.specs.Tree.{head};
+ghost use Rattle.patterns_base.specs.Lowering.{marked};
+ghost use Rattle.patterns_lowering.specs.Numbers.{give_edits};
+
+use crate::lists::{crossed, push_bridges, push_replaced, put, results_of};
+use ir_tree::place::Place;
+use ir_tree::tree::TreeOp;
+use ir_types::ids::{OpId, TypeId};
+use patterns_edits::edit::Edit;
+use std::alloc::{AllocError, Global};
+
+/// The results of an operation are given for those of `op`, through casts to index whose ids begin with `first`, and
+/// `op` is erased.
+pub(crate) fn push_given(
+    alloc: Global,
+    edits: &mut Vec<Edit>,
+    index: TypeId,
+    front: &Place,
+    marks: &[bool],
+    op: &TreeOp,
+    giver: OpId,
+    first: u32,
+) -> Result<(), AllocError>
+    requires few { length (head op.now).results ≤ 256 }
+    requires room { first + marked marks.now ≤ most_next }
+    ensures { OnOk result (edits.new.items ≡ edits.old.items ++ give_edits index front.now marks.now op.now giver first) }
+{
+    let given = results_of(alloc, giver, &op.results)?;
+    push_bridges(alloc, edits, index, front, marks, &given)?;
+    let casts = crossed(alloc, first, marks, &given)?;
+    let olds = results_of(alloc, op.id, &op.results)?;
+    push_replaced(edits, &olds, &casts)?;
+    put(edits, Edit::Erase { op: op.id })
+}

@@ -1,0 +1,82 @@
+//! Rule 28: an operation on index becomes one on i64, with casts around it.
+ghost use Rattle.std.specs.Prelude.{◌≡◌, ◌≤◌, ◌+◌, IfOk, OnOk, ◌++◌, ◌∷◌, []};
+ghost use Rattle.ir_tree.specs.Limits.{most_next};
+ghost use Rattle.ir_tree.specs.Tree.{head};
+ghost use Rattle.patterns_base.specs.Lowering.{crossed, marked};
+ghost use Rattle.patterns_edits.specs.declared.edit.Edit.TheVariants.{Make};
+ghost use Rattle.patterns_lowering.specs.Numbers.{op_lowered, operation_edits};
+ghost use Rattle.patterns_lowering.specs.Plans.{IsIndexed};
+
+use crate::give::push_given;
+use crate::lists::{crossed, push_bridges, put};
+use crate::lower::lowered;
+use crate::marks::marked;
+use crate::numbers::Numbers;
+use crate::plan::Indexed;
+use ir_tree::place::Place;
+use ir_types::context::Context;
+use ir_types::ids::{AttrId, NameId, OpId, TypeId};
+use patterns_edits::edit::Edit;
+use std::alloc::{AllocError, Global};
+
+/// The operation on i64 is made at a place. The casts of its operands have the ids from `next` on.
+fn push_made(
+    alloc: Global,
+    ctx: &Context,
+    edits: &mut Vec<Edit>,
+    wide: TypeId,
+    properties: Vec<(NameId, AttrId)>,
+    next: u32,
+    front: &Place,
+    of: &Indexed,
+) -> Result<(), AllocError>
+    requires of { IsIndexed ctx.now of.now }
+    requires room { next + marked of.now.index_operands.items ≤ most_next }
+    ensures { OnOk result (edits.new.items ≡ edits.old.items ++ Make front.now (op_lowered ctx.now wide properties.items (crossed next of.now.index_operands.items (head of.now.op).operands) of.now.op) ∷ []) }
+{
+    let operands = crossed(alloc, next, &of.index_operands, &of.op.operands)?;
+    let op = lowered(alloc, ctx, wide, properties, operands, &of.op)?;
+    put(edits, Edit::Make { place: *front, op })
+}
+
+/// The edits of rule 28, for what was interned.
+pub(crate) fn operation_edits(
+    alloc: Global,
+    ctx: &Context,
+    numbers: Numbers,
+    next: u32,
+    front: &Place,
+    of: &Indexed,
+) -> Result<Vec<Edit>, AllocError>
+    requires of { IsIndexed ctx.now of.now }
+    requires room { next + marked of.now.index_operands.items + 1 + marked of.now.index_results.items ≤ most_next }
+    ensures { IfOk result (λ es. es.items ≡ operation_edits ctx.now numbers.wide numbers.index numbers.properties.items next front.now of.now.index_operands.items of.now.index_results.items of.now.op) }
+{
+    let Numbers {
+        wide,
+        index,
+        properties,
+    } = numbers;
+    let mut edits = Vec::new(alloc);
+    push_bridges(
+        alloc,
+        &mut edits,
+        wide,
+        front,
+        &of.index_operands,
+        &of.op.operands,
+    )?;
+    push_made(alloc, ctx, &mut edits, wide, properties, next, front, of)?;
+    let id = next + marked(&of.index_operands);
+    push_given(
+        alloc,
+        &mut edits,
+        index,
+        front,
+        &of.index_results,
+        &of.op,
+        OpId::new(id),
+        id + 1,
+    )?;
+    Ok(edits)
+}

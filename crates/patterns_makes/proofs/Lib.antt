@@ -1,0 +1,5 @@
+pub mod Adding
+pub mod Counted
+pub mod Leaves
+pub mod Numbers
+pub mod Standing

@@ -1,0 +1,11 @@
+//! Where a rule puts what it makes.
+use ir_tree::place::Place;
+use ir_types::ids::OpId;
+
+/// The place in front of an operation, the next free id, and the operation.
+#[derive(Clone, Copy)]
+pub struct Site {
+    pub front: Place,
+    pub next: OpId,
+    pub op: OpId,
+}

@@ -1,0 +1,157 @@
+-- Rules that don't apply where a cheap test fails.
+use Rattle.std.proofs.Common.{◌≡◌, refl, ap, sym, ◌∙◌, ℕ, Bool, true, false, ◌&&◌, List, Option, Some, None}
+use Rattle.std.specs.Prelude.{codes, is_some}
+use Rattle.ir_tree.specs.declared.place.Place.{Place}
+use Rattle.ir_tree.specs.declared.value.Value.{Value}
+use Rattle.ir_tree.specs.Tree.{head}
+use Rattle.ir_tree.specs.Uses.{same_value}
+use Rattle.ir_tree.specs.Meaning.{Operation}
+use Rattle.dialects_int.specs.Folds.{Known}
+use Rattle.patterns_reads.proofs.Cleaned.{known_not}
+use Rattle.patterns_reads.specs.Casting.{resizing, rule_19, rule_20}
+use Rattle.patterns_reads.specs.Contents.{Edit}
+use Rattle.patterns_reads.specs.Folding.{rule_3, rule_4, rule_5, rule_6, rule_7, rule_8, rule_9, rule_10, rule_11, rule_12, rule_13, rule_14, rule_15, rule_16, rule_17, rule_18}
+use Rattle.patterns_reads.specs.Keeps.{given}
+use Rattle.patterns_reads.specs.Looks.{Header, One, Two, Three, giver, is_clean, is_constant, known, one, passes, predicate, source, source_among, two, three, when}
+use Rattle.patterns_reads.specs.Words.{among, extensions, named}
+use Rattle.patterns_plans.specs.May.{of_one, of_two, of_three, is_called, chooses_by_opposite, cuts_cast, extends_extension, first_is_constant, second_is_constant, chooses_by_constant, chooses_constant, has_twins, chooses_twins}
+
+never : {X : Type 0} (a : Bool) (r : Option X) → None ≡ when (a && false) r
+never true r = refl
+never false r = refl
+
+nothing : {X : Type 0} (a : Bool) → None ≡ when {X = X} a None
+nothing true = refl
+nothing false = refl
+
+no_case : {X Y : Type 0} (o : Option X) → None ≡ given {X = X} {Y = Y} o (λ x. None)
+no_case None = refl
+no_case (Some x) = refl
+
+module _ (t : Operation) where
+  -- what isn't a constant's result isn't known
+  unknown : (v : Value) → is_constant t v ≡ false → None ≡ known t v
+  unknown v e = known_not t v (is_constant t v) refl e
+
+  second_passes : (a : Two → Bool) (f : Two → Known → Bool) (r : Two → Option (List Edit)) (q : Option Two) → of_two (λ p. is_constant t p.second) q ≡ false → None ≡ given q (λ p. when (a p && passes (f p) (known t p.second)) (r p))
+  second_passes a f r None e = refl
+  second_passes a f r (Some p) e = never (a p) (r p) ∙ ap (λ k. when (a p && passes (f p) k) (r p)) (unknown p.second e)
+
+  second_given : (a : Two → Bool) (f : Two → Known → Option (List Edit)) (q : Option Two) → of_two (λ p. is_constant t p.second) q ≡ false → None ≡ given q (λ p. when (a p) (given (known t p.second) (f p)))
+  second_given a f None e = refl
+  second_given a f (Some p) e = nothing (a p) ∙ ap (λ k. when (a p) (given k (f p))) (unknown p.second e)
+
+  second_compared : (a : Two → Bool) (o : Option ℕ) (f : Known → Bool) (g : ℕ → Bool) (r : Two → ℕ → Option (List Edit)) (q : Option Two) → of_two (λ p. is_constant t p.second) q ≡ false
+      → None ≡ given q (λ p. when (a p) (given o (λ asks. when (passes f (known t p.second) && g asks) (r p asks))))
+  second_compared a o f g r None e = refl
+  second_compared a o f g r (Some p) e = nothing (a p) ∙ ap (when (a p)) (no_case o) ∙ ap (λ k. when (a p) (given o (λ asks. when (passes f k && g asks) (r p asks)))) (unknown p.second e)
+
+  first_swapped : (a : Two → Bool) (g : Two → Bool) (r : Two → Option (List Edit)) (q : Option Two) → of_two (λ p. is_constant t p.first) q ≡ false → None ≡ given q (λ p. when (a p && (is_some (known t p.first) && g p)) (r p))
+  first_swapped a g r None e = refl
+  first_swapped a g r (Some p) e = never (a p) (r p) ∙ ap (λ k. when (a p && (is_some k && g p)) (r p)) (unknown p.first e)
+
+  first_compared : (a : Two → Bool) (o : Option ℕ) (g : Two → Bool) (r : Two → ℕ → Option (List Edit)) (q : Option Two) → of_two (λ p. is_constant t p.first) q ≡ false
+      → None ≡ given q (λ p. when (a p) (given o (λ asks. when (is_some (known t p.first) && g p) (r p asks))))
+  first_compared a o g r None e = refl
+  first_compared a o g r (Some p) e = nothing (a p) ∙ ap (when (a p)) (no_case o) ∙ ap (λ k. when (a p) (given o (λ asks. when (is_some k && g p) (r p asks)))) (unknown p.first e)
+
+  first_chosen : (a : Three → Bool) (f : Three → Known → Option (List Edit)) (q : Option Three) → of_three (λ p. is_constant t p.first) q ≡ false → None ≡ given q (λ p. when (a p) (given (known t p.first) (f p)))
+  first_chosen a f None e = refl
+  first_chosen a f (Some p) e = nothing (a p) ∙ ap (λ k. when (a p) (given k (f p))) (unknown p.first e)
+
+  second_chosen : (a b : Three → Bool) (f : Known → Bool) (g : Three → Bool) (r : Three → Option (List Edit)) (q : Option Three) → of_three (λ p. is_constant t p.second) q ≡ false
+      → None ≡ given q (λ p. when (a p) (when (b p && (passes f (known t p.second) && g p)) (r p)))
+  second_chosen a b f g r None e = refl
+  second_chosen a b f g r (Some p) e = nothing (a p) ∙ ap (when (a p)) (never (b p) (r p)) ∙ ap (λ k. when (a p) (when (b p && (passes f k && g p)) (r p))) (unknown p.second e)
+
+twins_pass : (a : Two → Bool) (r : Two → Option (List Edit)) (q : Option Two) → of_two (λ p. same_value p.first p.second) q ≡ false → None ≡ given q (λ p. when (a p && same_value p.first p.second) (r p))
+twins_pass a r None e = refl
+twins_pass a r (Some p) e = never (a p) (r p) ∙ ap (λ b. when (a p && b) (r p)) (sym e)
+
+twins_compared : (a : Two → Bool) (o : Option ℕ) (r : Two → ℕ → Option (List Edit)) (q : Option Two) → of_two (λ p. same_value p.first p.second) q ≡ false → None ≡ given q (λ p. when (a p) (given o (λ asks. when (same_value p.first p.second) (r p asks))))
+twins_compared a o r None e = refl
+twins_compared a o r (Some p) e = nothing (a p) ∙ ap (when (a p)) (no_case o) ∙ ap (λ b. when (a p) (given o (λ asks. when b (r p asks)))) (sym e)
+
+twins_chosen : (a : Three → Bool) (r : Three → Option (List Edit)) (q : Option Three) → of_three (λ p. same_value p.second p.third) q ≡ false → None ≡ given q (λ p. when (a p) (when (same_value p.second p.third) (r p)))
+twins_chosen a r None e = refl
+twins_chosen a r (Some p) e = nothing (a p) ∙ ap (λ b. when (a p) (when b (r p))) (sym e)
+
+-- each rule
+module _ (t : Operation) (n : ℕ) (front : Place) (o : Operation) where
+  pub never_4 : second_is_constant t (head o) ≡ false → None ≡ rule_4 t n front o
+  never_4 e = second_passes t _ _ _ (two (head o)) e
+
+  pub never_5 : second_is_constant t (head o) ≡ false → None ≡ rule_5 t n front o
+  never_5 e = second_passes t _ _ _ (two (head o)) e
+
+  pub never_6 : second_is_constant t (head o) ≡ false → None ≡ rule_6 t n front o
+  never_6 e = second_passes t _ _ _ (two (head o)) e
+
+  pub never_9 : second_is_constant t (head o) ≡ false → None ≡ rule_9 t n front o
+  never_9 e = second_passes t _ _ _ (two (head o)) e
+
+  pub never_10 : second_is_constant t (head o) ≡ false → None ≡ rule_10 t n front o
+  never_10 e = second_given t _ _ (two (head o)) e
+
+  pub never_11 : second_is_constant t (head o) ≡ false → None ≡ rule_11 t n front o
+  never_11 e = second_given t _ _ (two (head o)) e
+
+  pub never_14 : second_is_constant t (head o) ≡ false → None ≡ rule_14 t n front o
+  never_14 e = second_compared t _ (predicate (head o)) _ _ _ (two (head o)) e
+
+  pub never_3 : first_is_constant t (head o) ≡ false → None ≡ rule_3 t n front o
+  never_3 e = first_swapped t _ _ _ (two (head o)) e
+
+  pub never_13 : first_is_constant t (head o) ≡ false → None ≡ rule_13 t n front o
+  never_13 e = first_compared t _ (predicate (head o)) _ _ (two (head o)) e
+
+  pub never_16 : chooses_by_constant t (head o) ≡ false → None ≡ rule_16 t n front o
+  never_16 e = first_chosen t _ _ (three (head o)) e
+
+  pub never_17 : chooses_constant t (head o) ≡ false → None ≡ rule_17 t n front o
+  never_17 e = second_chosen t _ _ _ _ _ (three (head o)) e
+
+  pub never_7 : has_twins (head o) ≡ false → None ≡ rule_7 t n front o
+  never_7 e = twins_pass _ _ (two (head o)) e
+
+  pub never_8 : has_twins (head o) ≡ false → None ≡ rule_8 t n front o
+  never_8 e = twins_pass _ _ (two (head o)) e
+
+  pub never_12 : has_twins (head o) ≡ false → None ≡ rule_12 t n front o
+  never_12 e = twins_compared _ (predicate (head o)) _ (two (head o)) e
+
+  pub never_15 : chooses_twins (head o) ≡ false → None ≡ rule_15 t n front o
+  never_15 e = twins_chosen _ _ (three (head o)) e
+
+-- by what gives an operand
+never_among : (t : Operation) (names : List (List ℕ)) (v : Value) → is_called (among names) (giver t v) ≡ false → None ≡ source_among t names v
+never_among t names v e = go (giver t v) e
+  where
+    go : (g : Option Header) → is_called (among names) g ≡ false → None ≡ given g (λ h. when (among names h.name && is_clean t h) (Some h))
+    go None e = refl
+    go (Some h) e = sym (ap (λ b. when (b && is_clean t h) (Some h)) e)
+
+never_named : (t : Operation) (name : List ℕ) (v : Value) → is_called (named name) (giver t v) ≡ false → None ≡ source t name v
+never_named t name v e = go (giver t v) e
+  where
+    go : (g : Option Header) → is_called (named name) g ≡ false → None ≡ given g (λ h. when (named name h.name && is_clean t h) (Some h))
+    go None e = refl
+    go (Some h) e = sym (ap (λ b. when (b && is_clean t h) (Some h)) e)
+
+cast_of : (t : Operation) (names : List (List ℕ)) (a : One → Bool) (f : One → Header → Option (List Edit)) (q : Option One) → of_one (λ p. is_called (among names) (giver t p.first)) q ≡ false → None ≡ given q (λ p. when (a p) (given (source_among t names p.first) (f p)))
+cast_of t names a f None e = refl
+cast_of t names a f (Some p) e = nothing (a p) ∙ ap (λ s. when (a p) (given s (f p))) (never_among t names p.first e)
+
+choice_by : (t : Operation) (name : List ℕ) (a : Three → Bool) (f : Three → Header → Option (List Edit)) (q : Option Three) → of_three (λ p. is_called (named name) (giver t p.first)) q ≡ false → None ≡ given q (λ p. when (a p) (given (source t name p.first) (f p)))
+choice_by t name a f None e = refl
+choice_by t name a f (Some p) e = nothing (a p) ∙ ap (λ s. when (a p) (given s (f p))) (never_named t name p.first e)
+
+module _ (t : Operation) (n : ℕ) (front : Place) (o : Operation) where
+  pub never_18 : chooses_by_opposite t (head o) ≡ false → None ≡ rule_18 t n front o
+  never_18 e = choice_by t (codes "arith.xori") _ _ (three (head o)) e
+
+  pub never_19 : extends_extension t (head o) ≡ false → None ≡ rule_19 t n front o
+  never_19 e = cast_of t extensions _ _ (one (head o)) e
+
+  pub never_20 : cuts_cast t (head o) ≡ false → None ≡ rule_20 t n front o
+  never_20 e = cast_of t resizing _ _ (one (head o)) e

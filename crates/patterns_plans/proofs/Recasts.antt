@@ -1,0 +1,60 @@
+-- Casts of casts.
+use Rattle.std.proofs.Common.{◌≡◌, refl, ap, sym, ◌∙◌, ℕ, List, Bool, true, false, ◌||◌, Option, Some, None, if◌then◌else◌}
+use Rattle.std.specs.Prelude.{codes, option_map}
+use Rattle.std.specs.Option.{option_eq}
+use Rattle.ir_types.specs.Things.{Things}
+use Rattle.ir_types.specs.Terms.{TypeTerm, name_term, type_term, attr_term}
+use Rattle.ir_types.specs.SameTypes.{same_type}
+use Rattle.ir_tree.specs.declared.place.Place.{Place}
+use Rattle.ir_tree.specs.declared.value.Value.{Value}
+use Rattle.ir_tree.specs.Tree.{Op, head}
+use Rattle.ir_tree.specs.Meaning.{Operation, meaning}
+use Rattle.ir_tree_laws.specs.Values.{type_of_value}
+use Rattle.ir_tree_laws.proofs.Contents.{map_type_of_value}
+use Rattle.patterns_reads.specs.Casting.{resizing, rule_21, unrealized, through_index, back_from}
+use Rattle.patterns_reads.specs.Contents.{Edit}
+use Rattle.patterns_reads.specs.Keeps.{given}
+use Rattle.patterns_reads.specs.Makes.{give}
+use Rattle.patterns_reads.specs.Looks.{Header, One, is_of_type, one, source, when}
+use Rattle.patterns_reads.specs.Words.{named, among, extensions, index_casts}
+
+-- the type of a value
+pub typed : (c : Things) (t : Op) (v : Value) (ty : TypeTerm) (b : Bool) (o : Option ℕ) → o ≡ type_of_value v t → b ≡ option_eq same_type (option_map (type_term c) o) (Some ty) → b ≡ is_of_type (meaning c t) ty v
+typed c t v ty b o e f = f ∙ ap (λ p. option_eq same_type (option_map (type_term c) p) (Some ty)) e ∙ ap (λ p. option_eq same_type p (Some ty)) (sym (map_type_of_value (name_term c) (type_term c) (attr_term c) v t))
+
+-- one of two
+pub or_true : (r a b : Bool) → r ≡ a → r ≡ true → r ≡ (a || b)
+or_true true a b e h = ap (λ z. z || b) e
+or_true false a b e h = absurd cc
+
+pub or_false : (r s a b : Bool) → r ≡ a → r ≡ false → s ≡ b → s ≡ (a || b)
+or_false true s a b e h k = absurd cc
+or_false false s a b e h k = k ∙ ap (λ z. z || b) e
+
+pub resizing_is : (name : List ℕ) → among resizing name ≡ (named (codes "arith.trunci") name || among extensions name)
+unfolding resizing
+resizing_is name = refl
+
+module _ (t : Operation) (n : ℕ) (front : Place) (o : Operation) (p : One) where
+  -- where what gives the operand has not one operand and one result
+  none_back : (s : Option Header) (h : Header) (f : One → Option (List Edit)) → s ≡ source t p.name p.first → s ≡ Some h → None ≡ one h → None ≡ given (source t p.name p.first) (λ y. given (one y) f)
+  none_back s h f e i k = ap (λ q. given q f) k ∙ ap (λ z. given z (λ y. given (one y) f)) (sym i ∙ e)
+
+  pub none_through : (s : Option Header) (h : Header) → s ≡ source t p.name p.first → s ≡ Some h → None ≡ one h → None ≡ through_index t n front o p
+  none_through s h e i k = none_back s h _ e i k
+
+  pub none_unrealized : (s : Option Header) (h : Header) (b : Bool) → b ≡ is_of_type t p.ty p.first → b ≡ false → s ≡ source t p.name p.first → s ≡ Some h → None ≡ one h → None ≡ unrealized t n front o p
+  none_unrealized s h b d g e i k =
+      none_back s h (back_from t n front o p) e i k
+      ∙ sym (ap (λ c. if c then Some (give (head o).id p.first) else given (source t p.name p.first) (λ y. given (one y) (back_from t n front o p))) (sym d ∙ g))
+
+  pub by_unrealized : (b : Bool) → Some p ≡ one (head o) → b ≡ named (codes "builtin.unrealized_conversion_cast") p.name → b ≡ true → unrealized t n front o p ≡ rule_21 t n front o
+  by_unrealized b e d g =
+      sym (ap (λ c. if c then unrealized t n front o p else when (among index_casts p.name) (through_index t n front o p)) (sym d ∙ g))
+      ∙ ap (λ q. given q (λ p. if named (codes "builtin.unrealized_conversion_cast") p.name then unrealized t n front o p else when (among index_casts p.name) (through_index t n front o p))) e
+
+  pub by_index : (b k : Bool) → Some p ≡ one (head o) → b ≡ named (codes "builtin.unrealized_conversion_cast") p.name → b ≡ false → k ≡ among index_casts p.name → k ≡ true → through_index t n front o p ≡ rule_21 t n front o
+  by_index b k e d g i j =
+      sym (ap (λ c. when c (through_index t n front o p)) (sym i ∙ j))
+      ∙ sym (ap (λ c. if c then unrealized t n front o p else when (among index_casts p.name) (through_index t n front o p)) (sym d ∙ g))
+      ∙ ap (λ q. given q (λ p. if named (codes "builtin.unrealized_conversion_cast") p.name then unrealized t n front o p else when (among index_casts p.name) (through_index t n front o p))) e

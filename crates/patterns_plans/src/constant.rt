@@ -1,0 +1,184 @@
+//! Rules that give a constant for an operation's result.
+ghost use Rattle.std.specs.Prelude.{◌≡◌, IfOk, ℕ, map, option_map};
+ghost use Rattle.ir_event.specs.Modules.{NodeIsOf, module_in};
+ghost use Rattle.dialects_int.specs.Folds.{known_of};
+ghost use Rattle.patterns_reads.specs.Folding.{rule_2, rule_7, rule_9, rule_12, rule_14};
+ghost use Rattle.patterns_plans.specs.Numbers.{known_each, readable};
+ghost use Rattle.patterns_plans.specs.Planned.{FitsIn, IsPlanned};
+
+use crate::predicates::{holds_of_itself, predicate};
+use crate::words::{is_cancelling, is_remainder};
+use dialects_int::fold::fold;
+use ir_event::world::World;
+use ir_store::node::Node;
+use ir_tree::uses::is_same;
+use ir_tree::value::Value;
+use ir_types::bits::Bits;
+use ir_types::word::Word;
+use patterns_reads::known::{is_number, known};
+use patterns_reads::look::is_constant;
+use patterns_reads::plan::Plan;
+use patterns_reads::shapes::two_of;
+use std::alloc::{AllocError, Global};
+
+/// What is known of a value, if it is no constant, or a clean one.
+fn readable(alloc: Global, world: &World, value: &Value) -> Result<Option<Option<Bits>>, AllocError>
+    ensures { IfOk result (λ r. option_map known_of r ≡ readable (module_in world.now).tree value.now) }
+{
+    if !is_constant(world, value) {
+        return Ok(Some(None));
+    }
+    match known(alloc, world, value)? {
+        Some(bits) => Ok(Some(Some(bits))),
+        None => Ok(None),
+    }
+}
+
+/// What is known of each of some values, if each is no constant, or a clean one.
+fn known_each(
+    alloc: Global,
+    world: &World,
+    values: &[Value],
+) -> Result<Option<Vec<Option<Bits>>>, AllocError>
+    ensures { IfOk result (λ r. option_map (λ v. map known_of v.items) r ≡ known_each (module_in world.now).tree values.now) }
+{
+    let mut known = Vec::new(alloc);
+    let mut rest = values;
+    'values: while let [value, tail @ ..] = rest {
+        let Some(bits) = readable(alloc, world, value)? else {
+            return Ok(None);
+        };
+        known.push(bits)?;
+        rest = tail;
+    }
+    Ok(Some(known))
+}
+
+/// No constant, and folds over its constant operands: the constant.
+pub(crate) fn plan_2(
+    alloc: Global,
+    world: &World,
+    node: &Node<'_>,
+) -> Result<Option<Plan>, AllocError>
+    requires of { NodeIsOf world.now.ctx node.now }
+    ensures edits { (x : ℕ) → IfOk result (IsPlanned rule_2 world.now x node.now) }
+    ensures fit { IfOk result (FitsIn world.now.ctx) }
+{
+    if world.ctx.is_word(node.name(), Word::ArithConstant) {
+        return Ok(None);
+    }
+    let Some(operands) = known_each(alloc, world, node.operands())? else {
+        return Ok(None);
+    };
+    let [ty] = node.results() else {
+        return Ok(None);
+    };
+    match fold(
+        &world.ctx,
+        node.name(),
+        node.properties(),
+        &operands,
+        node.results(),
+    ) {
+        Some(bits) => Ok(Some(Plan::Constant {
+            ty: *ty,
+            bits: bits.value,
+        })),
+        None => Ok(None),
+    }
+}
+
+/// A value and itself: 0.
+pub(crate) fn plan_7(world: &World, node: &Node<'_>) -> Option<Plan>
+    requires of { NodeIsOf world.now.ctx node.now }
+    ensures edits { (x : ℕ) → IsPlanned rule_7 world.now x node.now result }
+    ensures fit { FitsIn world.now.ctx result }
+{
+    let Some(p) = two_of(node) else {
+        return None;
+    };
+    if !is_cancelling(&world.ctx, p.name) {
+        return None;
+    }
+    if !is_same(&p.first, &p.second) {
+        return None;
+    }
+    Some(Plan::Constant { ty: p.ty, bits: 0 })
+}
+
+/// A remainder by 1: 0.
+pub(crate) fn plan_9(
+    alloc: Global,
+    world: &World,
+    node: &Node<'_>,
+) -> Result<Option<Plan>, AllocError>
+    requires of { NodeIsOf world.now.ctx node.now }
+    ensures edits { (x : ℕ) → IfOk result (IsPlanned rule_9 world.now x node.now) }
+    ensures fit { IfOk result (FitsIn world.now.ctx) }
+{
+    let Some(p) = two_of(node) else {
+        return Ok(None);
+    };
+    if !is_remainder(&world.ctx, p.name) {
+        return Ok(None);
+    }
+    if !is_number(alloc, world, 1, &p.second)? {
+        return Ok(None);
+    }
+    Ok(Some(Plan::Constant { ty: p.ty, bits: 0 }))
+}
+
+/// A comparison of a value and itself: true or false.
+pub(crate) fn plan_12(world: &World, node: &Node<'_>) -> Option<Plan>
+    requires of { NodeIsOf world.now.ctx node.now }
+    ensures edits { (x : ℕ) → IsPlanned rule_12 world.now x node.now result }
+    ensures fit { FitsIn world.now.ctx result }
+{
+    let Some(p) = two_of(node) else {
+        return None;
+    };
+    if !world.ctx.is_word(p.name, Word::ArithCmpi) {
+        return None;
+    }
+    let Some(asks) = predicate(&world.ctx, node) else {
+        return None;
+    };
+    if !is_same(&p.first, &p.second) {
+        return None;
+    }
+    Some(Plan::Constant {
+        ty: p.ty,
+        bits: holds_of_itself(asks),
+    })
+}
+
+/// A comparison with 0, which nothing is below: true or false.
+pub(crate) fn plan_14(
+    alloc: Global,
+    world: &World,
+    node: &Node<'_>,
+) -> Result<Option<Plan>, AllocError>
+    requires of { NodeIsOf world.now.ctx node.now }
+    ensures edits { (x : ℕ) → IfOk result (IsPlanned rule_14 world.now x node.now) }
+    ensures fit { IfOk result (FitsIn world.now.ctx) }
+{
+    let Some(p) = two_of(node) else {
+        return Ok(None);
+    };
+    if !world.ctx.is_word(p.name, Word::ArithCmpi) {
+        return Ok(None);
+    }
+    let Some(asks) = predicate(&world.ctx, node) else {
+        return Ok(None);
+    };
+    if !is_number(alloc, world, 0, &p.second)? {
+        return Ok(None);
+    }
+    if asks == 6 {
+        return Ok(Some(Plan::Constant { ty: p.ty, bits: 0 }));
+    }
+    if asks == 9 {
+        return Ok(Some(Plan::Constant { ty: p.ty, bits: 1 }));
+    }
+    Ok(None)
+}

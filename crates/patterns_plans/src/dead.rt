@@ -1,0 +1,36 @@
+//! The rule on dead operations.
+ghost use Rattle.std.specs.Prelude.{◌≡◌, IfOk, ℕ, [], ◌∷◌};
+ghost use Rattle.ir_types.specs.Things.{Things};
+ghost use Rattle.ir_tree.specs.declared.place.Place.{Place as At};
+ghost use Rattle.patterns_edits.specs.Edits.{Erase};
+ghost use Rattle.patterns_reads.specs.Plans.{PlanIsOf, plan_meaning};
+ghost use Rattle.patterns_plans.specs.Planned.{FitsIn, IsPlanAt};
+
+use effects::dead_op::dead_op;
+use ir_event::world::World;
+use ir_types::ids::OpId;
+use patterns_edits::edit::Edit;
+use patterns_reads::plan::Plan;
+use std::alloc::{AllocError, Global};
+
+/// An operation is erased.
+fn erase(alloc: Global, op: OpId) -> Result<Plan, AllocError>
+    ensures edits { IfOk result (λ p. (c : Things) (n : ℕ) (front : At) → plan_meaning c n op front p ≡ Erase op ∷ []) }
+    ensures fit { IfOk result (λ p. (c : Things) → PlanIsOf c p) }
+{
+    let mut edits = Vec::new(alloc);
+    edits.push(Edit::Erase { op })?;
+    Ok(Plan::Edits(edits))
+}
+
+/// A dead operation: erased.
+pub(crate) fn plan_1(alloc: Global, world: &World, op: OpId) -> Result<Option<Plan>, AllocError>
+    ensures edits { IfOk result (IsPlanAt 1 world.now op) }
+    ensures fit { IfOk result (FitsIn world.now.ctx) }
+{
+    if !dead_op(world, op) {
+        return Ok(None);
+    }
+    let plan = erase(alloc, op)?;
+    Ok(Some(plan))
+}

@@ -1,0 +1,73 @@
+//! Rules that make several operations of one, for conversion.
+ghost use Rattle.std.specs.Prelude.{◌≡◌, ℕ};
+ghost use Rattle.ir_event.specs.Modules.{NodeIsOf};
+ghost use Rattle.patterns_reads.specs.Folding.{rule_25, rule_26, rule_27};
+ghost use Rattle.patterns_plans.specs.Planned.{FitsIn, IsPlanned};
+
+use crate::types::all_ones;
+use crate::words::{asking, division};
+use ir_event::world::World;
+use ir_store::node::Node;
+use ir_types::word::Word;
+use patterns_reads::plan::Plan;
+use patterns_reads::shapes::two_of;
+
+/// The greater or the lesser: a comparison and a choice.
+pub(crate) fn plan_25(world: &World, node: &Node<'_>) -> Option<Plan>
+    requires of { NodeIsOf world.now.ctx node.now }
+    ensures edits { (x : ℕ) → IsPlanned rule_25 world.now x node.now result }
+    ensures fit { FitsIn world.now.ctx result }
+{
+    let Some(p) = two_of(node) else {
+        return None;
+    };
+    let Some(predicate) = asking(&world.ctx, p.name) else {
+        return None;
+    };
+    Some(Plan::Chosen {
+        predicate,
+        ty: p.ty,
+        first: p.first,
+        second: p.second,
+    })
+}
+
+/// A difference: a sum with the complement, and 1.
+pub(crate) fn plan_26(world: &World, node: &Node<'_>) -> Option<Plan>
+    requires of { NodeIsOf world.now.ctx node.now }
+    ensures edits { (x : ℕ) → IsPlanned rule_26 world.now x node.now result }
+    ensures fit { FitsIn world.now.ctx result }
+{
+    let Some(p) = two_of(node) else {
+        return None;
+    };
+    if !world.ctx.is_word(p.name, Word::ArithSubi) {
+        return None;
+    }
+    Some(Plan::Difference {
+        ty: p.ty,
+        first: p.first,
+        second: p.second,
+        ones: all_ones(&world.ctx, p.ty),
+    })
+}
+
+/// A remainder: what is left behind a division.
+pub(crate) fn plan_27(world: &World, node: &Node<'_>) -> Option<Plan>
+    requires of { NodeIsOf world.now.ctx node.now }
+    ensures edits { (x : ℕ) → IsPlanned rule_27 world.now x node.now result }
+    ensures fit { FitsIn world.now.ctx result }
+{
+    let Some(p) = two_of(node) else {
+        return None;
+    };
+    let Some(division) = division(&world.ctx, p.name) else {
+        return None;
+    };
+    Some(Plan::Remainder {
+        division,
+        ty: p.ty,
+        first: p.first,
+        second: p.second,
+    })
+}

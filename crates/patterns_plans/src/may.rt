@@ -1,0 +1,242 @@
+//! Whether rules may apply, by tests that ask for no diagnostics and take no memory.
+ghost use Rattle.std.specs.Prelude.{◌≡◌, ◌≤◌, None, Some, codes, false};
+ghost use Rattle.ir_event.specs.Modules.{module_in};
+ghost use Rattle.patterns_reads.specs.Casting.{resizing};
+ghost use Rattle.patterns_reads.specs.Looks.{giver};
+ghost use Rattle.patterns_laws.specs.Words.{among, extensions, named};
+ghost use Rattle.patterns_reads.specs.Reads.{head_at, head_in};
+ghost use Rattle.patterns_plans.specs.May.{chooses_by_constant, chooses_by_opposite, chooses_constant, chooses_twins, cuts_cast, extends_extension, first_is_constant, has_twins, is_called, reads_constant, second_is_constant};
+ghost use Rattle.patterns_plans.specs.Planned.{IsPlanAt};
+
+use crate::words::{is_extension, is_resizing};
+use effects::dead_op::dead_op;
+use ir_event::world::World;
+use ir_store::node::Node;
+use ir_tree::uses::is_same;
+use ir_tree::value::Value;
+use ir_types::ids::OpId;
+use ir_types::word::Word;
+use patterns_reads::look::{giver_node, is_constant};
+use patterns_reads::shapes::{one_of, three_of, two_of};
+
+/// Whether the first of two operands is the result of a constant.
+fn first_is_constant(world: &World, node: &Node<'_>) -> bool
+    ensures { result ≡ first_is_constant (module_in world.now).tree (head_in world.now.ctx node.now) }
+{
+    match two_of(node) {
+        Some(p) => is_constant(world, &p.first),
+        None => false,
+    }
+}
+
+/// Whether the second is.
+fn second_is_constant(world: &World, node: &Node<'_>) -> bool
+    ensures { result ≡ second_is_constant (module_in world.now).tree (head_in world.now.ctx node.now) }
+{
+    match two_of(node) {
+        Some(p) => is_constant(world, &p.second),
+        None => false,
+    }
+}
+
+/// Whether the condition of a choice is.
+fn chooses_by_constant(world: &World, node: &Node<'_>) -> bool
+    ensures { result ≡ chooses_by_constant (module_in world.now).tree (head_in world.now.ctx node.now) }
+{
+    match three_of(node) {
+        Some(p) => is_constant(world, &p.first),
+        None => false,
+    }
+}
+
+/// Whether its first alternative is.
+fn chooses_constant(world: &World, node: &Node<'_>) -> bool
+    ensures { result ≡ chooses_constant (module_in world.now).tree (head_in world.now.ctx node.now) }
+{
+    match three_of(node) {
+        Some(p) => is_constant(world, &p.second),
+        None => false,
+    }
+}
+
+/// Whether two operands are one value.
+fn has_twins(world: &World, node: &Node<'_>) -> bool
+    ensures { result ≡ has_twins (head_in world.now.ctx node.now) }
+{
+    match two_of(node) {
+        Some(p) => is_same(&p.first, &p.second),
+        None => false,
+    }
+}
+
+/// Whether the alternatives of a choice are.
+fn chooses_twins(world: &World, node: &Node<'_>) -> bool
+    ensures { result ≡ chooses_twins (head_in world.now.ctx node.now) }
+{
+    match three_of(node) {
+        Some(p) => is_same(&p.second, &p.third),
+        None => false,
+    }
+}
+
+/// Whether some operand is the result of a constant.
+fn reads_constant(world: &World, node: &Node<'_>) -> bool
+    ensures { result ≡ reads_constant (module_in world.now).tree (head_in world.now.ctx node.now) }
+{
+    let mut rest = node.operands();
+    'operands: while let [value, tail @ ..] = rest {
+        if is_constant(world, value) {
+            return true;
+        }
+        rest = tail;
+    }
+    false
+}
+
+/// Whether a value is the result of an extension.
+fn giver_extends(world: &World, value: &Value) -> bool
+    ensures { result ≡ is_called (among extensions) (giver (module_in world.now).tree value.now) }
+{
+    match giver_node(world, value) {
+        Some(giver) => is_extension(&world.ctx, giver.name()),
+        None => false,
+    }
+}
+
+/// Whether it is that of a cast between integers.
+fn giver_resizes(world: &World, value: &Value) -> bool
+    ensures { result ≡ is_called (among resizing) (giver (module_in world.now).tree value.now) }
+{
+    match giver_node(world, value) {
+        Some(giver) => is_resizing(&world.ctx, giver.name()),
+        None => false,
+    }
+}
+
+/// Whether it is that of an exclusive or.
+fn giver_excludes(world: &World, value: &Value) -> bool
+    ensures { result ≡ is_called (named (codes "arith.xori")) (giver (module_in world.now).tree value.now) }
+{
+    match giver_node(world, value) {
+        Some(giver) => world.ctx.is_word(giver.name(), Word::ArithXori),
+        None => false,
+    }
+}
+
+/// Whether the operand is the result of an extension.
+fn extends_extension(world: &World, node: &Node<'_>) -> bool
+    ensures { result ≡ extends_extension (module_in world.now).tree (head_in world.now.ctx node.now) }
+{
+    match one_of(node) {
+        Some(p) => giver_extends(world, &p.first),
+        None => false,
+    }
+}
+
+/// Whether it is that of a cast between integers.
+fn cuts_cast(world: &World, node: &Node<'_>) -> bool
+    ensures { result ≡ cuts_cast (module_in world.now).tree (head_in world.now.ctx node.now) }
+{
+    match one_of(node) {
+        Some(p) => giver_resizes(world, &p.first),
+        None => false,
+    }
+}
+
+/// Whether the condition of a choice is that of an exclusive or.
+fn chooses_by_opposite(world: &World, node: &Node<'_>) -> bool
+    ensures { result ≡ chooses_by_opposite (module_in world.now).tree (head_in world.now.ctx node.now) }
+{
+    match three_of(node) {
+        Some(p) => giver_excludes(world, &p.first),
+        None => false,
+    }
+}
+
+/// Rules 2 to 10.
+fn may_to_10(world: &World, rule: u8, op: OpId, node: &Node<'_>) -> bool
+    requires { Some (head_in world.now.ctx node.now) ≡ head_at op (module_in world.now).tree }
+    ensures { result ≡ false → IsPlanAt rule world.now op None }
+{
+    if rule == 2 {
+        return reads_constant(world, node);
+    }
+    if rule == 3 {
+        return first_is_constant(world, node);
+    }
+    if rule == 4 {
+        return second_is_constant(world, node);
+    }
+    if rule == 5 {
+        return second_is_constant(world, node);
+    }
+    if rule == 6 {
+        return second_is_constant(world, node);
+    }
+    if rule == 7 {
+        return has_twins(world, node);
+    }
+    if rule == 8 {
+        return has_twins(world, node);
+    }
+    if rule == 9 {
+        return second_is_constant(world, node);
+    }
+    if rule == 10 {
+        return second_is_constant(world, node);
+    }
+    true
+}
+
+/// Rules 11 to 20.
+fn may_to_20(world: &World, rule: u8, op: OpId, node: &Node<'_>) -> bool
+    requires { Some (head_in world.now.ctx node.now) ≡ head_at op (module_in world.now).tree }
+    ensures { result ≡ false → IsPlanAt rule world.now op None }
+{
+    if rule == 11 {
+        return second_is_constant(world, node);
+    }
+    if rule == 12 {
+        return has_twins(world, node);
+    }
+    if rule == 13 {
+        return first_is_constant(world, node);
+    }
+    if rule == 14 {
+        return second_is_constant(world, node);
+    }
+    if rule == 15 {
+        return chooses_twins(world, node);
+    }
+    if rule == 16 {
+        return chooses_by_constant(world, node);
+    }
+    if rule == 17 {
+        return chooses_constant(world, node);
+    }
+    if rule == 18 {
+        return chooses_by_opposite(world, node);
+    }
+    if rule == 19 {
+        return extends_extension(world, node);
+    }
+    if rule == 20 {
+        return cuts_cast(world, node);
+    }
+    true
+}
+
+/// Whether a rule may apply at an operation, of which this is shown: it doesn't where this is false. No diagnostics are
+/// asked for, and no memory.
+pub fn may_apply(world: &World, rule: u8, op: OpId, node: &Node<'_>) -> bool
+    requires { Some (head_in world.now.ctx node.now) ≡ head_at op (module_in world.now).tree }
+    ensures { result ≡ false → IsPlanAt rule world.now op None }
+{
+    if rule == 1 {
+        return dead_op(world, op);
+    }
+    if rule <= 10 {
+        return may_to_10(world, rule, op, node);
+    }
+    may_to_20(world, rule, op, node)
+}

@@ -1,0 +1,125 @@
+-- Nodes, and the operations that they show.
+use Rattle.std.proofs.Common.{Bor, ◌≡◌, refl, ap, sym, ◌∙◌, subst, ℕ, zero, suc, ◌≤◌, ◌<◌, List, [], ◌∷◌, length, map, Bool, true, false, Option, Some, None, arith}
+use Rattle.std.specs.Prelude.{is_some, slice_get, option_map, option_and_then}
+use Rattle.std.specs.FinMap as finmap
+use Rattle.std.proofs.lemmas.Option.{slice_get-map}
+use Rattle.ir_types.specs.Things.{Things}
+use Rattle.ir_types.specs.Terms.{TypeTerm, AttrTerm, name_term, type_term, attr_term}
+use Rattle.ir_tree.specs.Tree.{op, Op, RegionsOf, no_regions, region, RegionOf, empty, block, head, regions}
+use Rattle.ir_tree.specs.Ids.{HasDistinctIds, find, has_id, first_of}
+use Rattle.ir_tree.specs.Meaning.{Operation, meaning}
+use Rattle.ir_tree.proofs.Mapped.{map_find}
+use Rattle.ir_tree_laws.specs.Values.{region_at, arguments_of, arguments_at}
+use Rattle.ir_tree_laws.proofs.Members.{stand_found, found_stands}
+use Rattle.ir_tree_laws.proofs.Around.{absent_find, present_stand}
+use Rattle.ir_store.specs.Nodes.{NodeOf, Node, node_of, regions_arguments}
+use Rattle.ir_store.specs.Stored.{Stored, known}
+use Rattle.ir_event.specs.Modules.{node_meaning}
+use Rattle.ir_event.proofs.Nodes.{node_shown}
+use Rattle.patterns_reads.specs.Reads.{head_in}
+use Rattle.patterns_regions.specs.Blocks.{Shows, is_block}
+
+-- an operation that isn't there, and one that is
+pub none_at : (c : Things) (x : ℕ) (t : Op) (b : Bool) → b ≡ has_id x t → b ≡ false → None ≡ option_map (λ o. node_of o) (find x (meaning c t))
+none_at c x t b e f = sym (ap (option_map (λ o. node_of o)) (map_find (name_term c) (type_term c) (attr_term c) x t ∙ ap (option_map (meaning c)) (absent_find x t (sym e ∙ f))))
+
+pub some_at : (c : Things) (x : ℕ) (s : Stored) → HasDistinctIds s.module_of.tree → (r : Option Node) (b : Bool) → b ≡ has_id x s.module_of.tree → b ≡ true → r ≡ option_map node_of (known x s)
+    → option_map (node_meaning c) r ≡ option_map (λ o. node_of o) (find x (meaning c s.module_of.tree))
+some_at c x s d r b e f is =
+    let t = s.module_of.tree in
+    let w = present_stand [] t x (sym e ∙ f) in
+    let found : find x t ≡ Some w.0.here = ap (λ y. find y t) (sym w.2) ∙ stand_found t d w.0 w.1 in
+    ap (option_map (node_meaning c)) (is ∙ ap (λ o. option_map node_of (first_of o (finmap.get s.held x))) found)
+    ∙ ap Some (sym (node_shown c w.0.here))
+    ∙ sym (ap (option_map (λ o. node_of o)) (map_find (name_term c) (type_term c) (attr_term c) x t ∙ ap (option_map (meaning c)) found))
+
+-- what is true of the operation that a node shows, whatever is in its blocks, is true of the one that is there
+module _ (c : Things) (n : Node) (f : Option Operation) (P : Option Operation → Type 0) where
+  pub viewed : Some (node_meaning c n) ≡ option_map (λ o. node_of o) f → ((rs : RegionsOf (List ℕ) TypeTerm AttrTerm) → Shows c n (op (head_in c n) rs) → f ≡ Some (op (head_in c n) rs) → P (Some (op (head_in c n) rs))) → P f
+  viewed e g = go f refl e
+    where
+      go : (z : Option Operation) → f ≡ z → Some (node_meaning c n) ≡ option_map (λ o. node_of o) z → P f
+      go None k e = absurd cc
+      go (Some (op h rs)) k e =
+          let one : node_meaning c n ≡ node_of (op h rs) = cc in
+          let heads : h ≡ head_in c n = sym (ap (λ (z : NodeOf (List ℕ) TypeTerm AttrTerm). z.head) one) in
+          let is : f ≡ Some (op (head_in c n) rs) = k ∙ ap (λ j. Some (op j rs)) heads in
+          let shows : Shows c n (op (head_in c n) rs) = one ∙ ap (λ j. node_of (op j rs)) heads in
+          subst P (sym is) (g rs shows is)
+
+-- the id of what is found
+pub found_id : (x : ℕ) (t o : Operation) → find x t ≡ Some o → (head o).id ≡ x
+found_id x t o e = let w = found_stands x t o e in ap (λ (z : Operation). (head z).id) (sym w.3) ∙ w.2
+
+-- a node's arguments are those of the regions
+arguments_get : (rs : RegionsOf (List ℕ) TypeTerm AttrTerm) (r : ℕ) → slice_get (regions_arguments rs) r ≡ option_map (λ g. arguments_of g) (region_at r rs)
+arguments_get no_regions zero = refl
+arguments_get no_regions (suc r) = refl
+arguments_get (region g rs) zero = refl
+arguments_get (region g rs) (suc r) = arguments_get rs r
+
+node_arguments : (o : Operation) → (node_of o).arguments ≡ regions_arguments (regions o)
+node_arguments (op h rs) = refl
+
+shown_region : (c : Things) (n : Node) (o : Operation) (r : ℕ) → Shows c n o → option_map (λ g. arguments_of g) (region_at r (regions o)) ≡ option_map (option_map (map (type_term c))) (slice_get n.arguments r)
+shown_region c n o r e =
+    sym (arguments_get (regions o) r)
+    ∙ ap (λ l. slice_get l r) (sym (node_arguments o) ∙ sym (ap (λ (z : NodeOf (List ℕ) TypeTerm AttrTerm). z.arguments) e))
+    ∙ slice_get-map (option_map (map (type_term c))) n.arguments r
+
+shown_block : (c : Things) (n : Node) (o : Operation) (r : ℕ) → Shows c n o → option_map is_block (region_at r (regions o)) ≡ option_map is_some (slice_get n.arguments r)
+shown_block c n o r e = blocks (region_at r (regions o)) ∙ ap (option_map is_some) (shown_region c n o r e) ∙ same (slice_get n.arguments r)
+  where
+    blocks : (g : Option (RegionOf (List ℕ) TypeTerm AttrTerm)) → option_map is_block g ≡ option_map is_some (option_map (λ g. arguments_of g) g)
+    blocks None = refl
+    blocks (Some empty) = refl
+    blocks (Some (block args os)) = refl
+
+    same : (a : Option (Option (List ℕ))) → option_map is_some (option_map (option_map (map (type_term c))) a) ≡ option_map is_some a
+    same None = refl
+    same (Some None) = refl
+    same (Some (Some l)) = refl
+
+past : {X : Type 0} (xs : List X) (k : ℕ) → length xs ≤ k → slice_get xs k ≡ None
+past [] zero h = refl
+past [] (suc k) h = refl
+past (x ∷ xs) zero h = absurd (omega (arith, h))
+past (x ∷ xs) (suc k) h = past xs k (omega (arith, h))
+
+within : {X : Type 0} (xs : List X) (k : ℕ) → k < length xs → (x : X) × (slice_get xs k ≡ Some x)
+within [] k h = absurd (omega (arith, h))
+within (x ∷ xs) zero h = (x, refl)
+within (x ∷ xs) (suc k) h = within xs k (omega (arith, h))
+
+-- no region, and a region
+pub no_block : (c : Things) (n : Node) (o : Operation) (r : ℕ) → Shows c n o → length n.arguments ≤ r → None ≡ option_map is_block (region_at r (regions o))
+no_block c n o r e h = sym (shown_block c n o r e ∙ ap (option_map is_some) (past n.arguments r h))
+
+pub some_block : (c : Things) (n : Node) (o : Operation) (r : ℕ) → Shows c n o → r < length n.arguments → (b : Bool) → b ≡ is_some (option_and_then (λ a. a) (slice_get n.arguments r)) → Some b ≡ option_map is_block (region_at r (regions o))
+some_block c n o r e h b f =
+    let w = within n.arguments r h in
+    ap Some (f ∙ ap (λ (z : Option (Option (List ℕ))). is_some (option_and_then (λ a. a) z)) w.1) ∙ sym (shown_block c n o r e ∙ ap (option_map is_some) w.1)
+
+-- the arguments of a block
+pub block_types : (c : Things) (n : Node) (o : Operation) (r : ℕ) → Shows c n o → option_map (map (type_term c)) (option_and_then (λ a. a) (slice_get n.arguments r)) ≡ arguments_at r o
+block_types c n o r e = sym (joined (region_at r (regions o)) ∙ ap (option_and_then (λ a. a)) (shown_region c n o r e) ∙ inside (slice_get n.arguments r))
+  where
+    joined : (g : Option (RegionOf (List ℕ) TypeTerm AttrTerm)) → option_and_then (λ g. arguments_of g) g ≡ option_and_then (λ a. a) (option_map (λ g. arguments_of g) g)
+    joined None = refl
+    joined (Some g) = refl
+
+    inside : (a : Option (Option (List ℕ))) → option_and_then (λ a. a) (option_map (option_map (map (type_term c))) a) ≡ option_map (map (type_term c)) (option_and_then (λ a. a) a)
+    inside None = refl
+    inside (Some a) = refl
+
+-- what references lead to
+pub seen : {X : Type 0} (r : Option (Bor X)) (q : Option X) → option_map (λ a. a.now) r ≡ q → is_some r ≡ is_some q
+seen {X = X} r q e = go r ∙ ap is_some e
+  where
+    go : (r : Option (Bor X)) → is_some r ≡ is_some (option_map (λ (a : Bor X). a.now) r)
+    go None = refl
+    go (Some a) = refl
+
+pub pointed : {X Y : Type 0} (f : X → Y) (r : Option (Bor X)) → option_map (λ a. f a.now) r ≡ option_map f (option_map (λ a. a.now) r)
+pointed f None = refl
+pointed f (Some a) = refl

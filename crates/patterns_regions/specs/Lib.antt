@@ -1,0 +1,4 @@
+pub mod Blocks
+pub mod Opened
+pub mod Times
+pub mod Rules

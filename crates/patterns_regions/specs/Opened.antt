@@ -1,0 +1,35 @@
+-- Operations that are opened: what is in a block of theirs comes in front of them.
+use Rattle.std.specs.Prelude.{ℕ, ◌+◌, List, [], ◌∷◌, ◌++◌, map}
+use Rattle.ir_tree.specs.declared.value.Value.{Value}
+use Rattle.ir_tree.specs.declared.value.Value.TheVariants.{Result, Arg}
+use Rattle.ir_tree.specs.declared.place.Place.{Place}
+use Rattle.patterns_reads.specs.Contents.{Edit}
+use Rattle.patterns_reads.specs.Makes.{arguments_from, replacing, replaced, give_body}
+use Rattle.patterns_reads.specs.Edit.{Edit as Coded}
+use Rattle.patterns_reads.specs.Edit.TheVariants as coded
+
+-- the arguments of block 0 of operation x are replaced by values, operations come in front of x, x's results are
+-- replaced by what is handed on, and x is erased
+abbrev pub opening : ℕ → Place → List ℕ → List Value → List Value → List Edit
+opening x front ops values handed =
+    let args = arguments_from x 0 values in
+    replacing args values ++ give_body front x ops (map (replaced args values) handed)
+
+-- what a value is where the arguments of x's block 0 are replaced by values
+abbrev pub put_for : ℕ → List Value → Value → Value
+put_for x values v = replaced (arguments_from x 0 values) values v
+
+-- the edits of the code: values for arguments, from number k on
+abbrev pub argument_edits : ℕ → ℕ → List Value → List Coded
+argument_edits x k [] = []
+argument_edits x k (v ∷ vs) = coded.Replace (Arg x 0 k) v ∷ argument_edits x (k + 1) vs
+
+-- operations moved to a place
+abbrev pub move_edits : Place → List ℕ → List Coded
+move_edits place [] = []
+move_edits place (x ∷ xs) = coded.Move x place ∷ move_edits place xs
+
+-- what is handed on for results, from number k on
+abbrev pub result_edits : ℕ → List Value → ℕ → List Value → List Coded
+result_edits x values k [] = []
+result_edits x values k (v ∷ vs) = coded.Replace (Result x k) (put_for x values v) ∷ result_edits x values (k + 1) vs

@@ -1,0 +1,31 @@
+-- The rules at an operation of a tree, by its id.
+use Rattle.std.specs.Prelude.{ℕ, List, Option, Some}
+use Rattle.ir_tree.specs.declared.value.Value.{Value}
+use Rattle.ir_tree.specs.declared.place.Place.{Place}
+use Rattle.ir_tree.specs.Tree.{regions}
+use Rattle.ir_tree.specs.Ids.{find}
+use Rattle.ir_tree.specs.Meaning.{Operation}
+use Rattle.ir_tree_laws.specs.Values.{region_at}
+use Rattle.patterns_reads.specs.Contents.{Edit}
+use Rattle.patterns_reads.specs.Keeps.{given}
+use Rattle.patterns_base.specs.Opening.{chosen, rule_22, rule_23, rule_24}
+use Rattle.patterns_regions.specs.Blocks.{body_at}
+use Rattle.patterns_regions.specs.Opened.{opening}
+
+-- operation x by its block r, whose arguments are replaced by values
+abbrev pub opened_at : ℕ → ℕ → Operation → Place → List Value → Option (List Edit)
+opened_at x r t front values = given (body_at x r t) (λ e. Some (opening x front e.before values e.last.operands))
+
+-- operation x by its region r
+abbrev pub chosen_at : ℕ → ℕ → Operation → Place → Option (List Edit)
+chosen_at x r t front = given (find x t) (λ o. given (region_at r (regions o)) (λ g. chosen t front o g r))
+
+-- rules 22 to 24 at operation x
+abbrev pub rule_22_at : ℕ → Operation → Place → Option (List Edit)
+rule_22_at x t front = given (find x t) (λ o. rule_22 t front o)
+
+abbrev pub rule_23_at : ℕ → Operation → Place → Option (List Edit)
+rule_23_at x t front = given (find x t) (λ o. rule_23 t front o)
+
+abbrev pub rule_24_at : ℕ → Operation → Place → Option (List Edit)
+rule_24_at x t front = given (find x t) (λ o. rule_24 t front o)

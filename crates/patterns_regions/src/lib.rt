@@ -1,0 +1,8 @@
+//! Rules of operations with regions whose branch or bounds are known: what they read of blocks, and what they make.
+#![tactic(auto)]
+
+pub mod block;
+mod bounds;
+mod opened;
+pub mod plans;
+pub mod tests;

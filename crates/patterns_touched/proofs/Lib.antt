@@ -1,0 +1,14 @@
+pub mod Ending
+pub mod Locality
+pub mod Reaching
+pub mod Seeing
+pub mod Feeling
+pub mod Still
+pub mod Tracking
+pub mod Tracked
+pub mod Usings
+pub mod Rules
+pub mod Opened
+pub mod Lasting
+pub mod Unlisted
+pub mod Applying

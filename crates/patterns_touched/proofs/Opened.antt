@@ -1,0 +1,110 @@
+-- Rules 22 to 24 apply alike at operations of two trees, where these show the same of the operands, have regions of one
+-- shape, and each of their blocks ends alike.
+use Rattle.std.proofs.Common.{◌≡◌, refl, ap, sym, ◌∙◌, ℕ, List, [], ◌∷◌, Bool, true, false, true≢false, eqb, cond, Option, Some, None, inl, inr}
+use Rattle.std.specs.Prelude.{codes, is_some, option_map, int_lt}
+use Rattle.ir_types.specs.Terms.{TypeTerm, AttrTerm}
+use Rattle.ir_tree.specs.declared.value.Value.{Value}
+use Rattle.ir_tree.specs.declared.place.Place.{Place}
+use Rattle.ir_tree.specs.Tree.{RegionOf, empty, block, head, regions}
+use Rattle.ir_tree.specs.Meaning.{Operation}
+use Rattle.ir_tree_laws.specs.Members.{In}
+use Rattle.ir_tree_laws.specs.Values.{region_at}
+use Rattle.patterns_laws.specs.Keeps.{given}
+use Rattle.patterns_laws.specs.Words.{named}
+use Rattle.patterns_base.specs.Looks.{Header, Ended, when, is_clean, known, ended, body}
+use Rattle.patterns_base.specs.Opening.{Loop, loop_from, reading, chosen, by_condition, once, by_end, rule_22, rule_23, rule_24}
+use Rattle.patterns_touched.specs.Alike.{Same, ShowsAlike, shape_of, EndsAlike}
+use Rattle.patterns_touched.proofs.Rules.{given_alike, when_alike, if_alike, known_alike, number_alike}
+
+pub given_both : {X Y Z W : Type 0} (a : Option X) (b : Option Y) (f : X → Option Z) (g : Y → Option W) → Same a b → ((x : X) (y : Y) → a ≡ Some x → b ≡ Some y → Same (f x) (g y)) → Same (given a f) (given b g)
+given_both None None f g e h = refl
+given_both None (Some y) f g e h = absurd (true≢false (sym e))
+given_both (Some x) None f g e h = absurd (true≢false e)
+given_both (Some x) (Some y) f g e h = h x y refl refl
+
+module _ (t u : Operation) (f g : Place) (o p : Operation) (same : head o ≡ head p) (operands : (v : Value) → In v (head o).operands → ShowsAlike t u v) (ends : EndsAlike t u o p) where
+  -- the last operations of two blocks
+  last_same : (r : ℕ) (e d : Ended) → given (region_at r (regions o)) ended ≡ Some e → given (region_at r (regions p)) ended ≡ Some d → e.last ≡ d.last
+  last_same r e d i j =
+      let k : Some e.last ≡ Some d.last = sym (ap (option_map (λ (w : Ended). w.last)) i) ∙ ends.lasts r ∙ ap (option_map (λ (w : Ended). w.last)) j in
+      cc
+
+  both_end : (r : ℕ) → Same (given (region_at r (regions o)) ended) (given (region_at r (regions p)) ended)
+  both_end r = sym (kept (given (region_at r (regions o)) ended)) ∙ ap is_some (ends.lasts r) ∙ kept (given (region_at r (regions p)) ended)
+    where
+      kept : (a : Option Ended) → is_some (option_map (λ (w : Ended). w.last) a) ≡ is_some a
+      kept None = refl
+      kept (Some w) = refl
+
+  clean_same : (r : ℕ) (e d : Ended) → given (region_at r (regions o)) ended ≡ Some e → given (region_at r (regions p)) ended ≡ Some d → is_clean t e.last ≡ is_clean u d.last
+  clean_same r e d i j = ends.clean r e.last (ap (option_map (λ (w : Ended). w.last)) i) ∙ ap (is_clean u) (last_same r e d i j)
+
+  body_alike : (r : ℕ) → Same (body t o r) (body u p r)
+  body_alike r = given_both (given (region_at r (regions o)) ended) (given (region_at r (regions p)) ended) _ _ (both_end r) (λ e d i j. when_alike _ _ _ _ (clean_same r e d i j) refl)
+
+  body_ended : (t o : Operation) (r : ℕ) (e : Ended) → body t o r ≡ Some e → given (region_at r (regions o)) ended ≡ Some e
+  body_ended t o r e i = go (given (region_at r (regions o)) ended) refl i
+    where
+      pick : (b : Bool) (x : Ended) → when b (Some x) ≡ Some e → x ≡ e
+      pick true x k = cc
+      pick false x k = absurd cc
+
+      go : (a : Option Ended) → given (region_at r (regions o)) ended ≡ a → given a (λ x. when (is_clean t x.last) (Some x)) ≡ Some e → given (region_at r (regions o)) ended ≡ Some e
+      go None j k = absurd cc
+      go (Some x) j k = j ∙ ap Some (pick (is_clean t x.last) x k)
+
+  region_alike : (r : ℕ) → Same (given (region_at r (regions o)) (λ a. chosen t f o a r)) (given (region_at r (regions p)) (λ a. chosen u g p a r))
+  region_alike r = go (region_at r (regions o)) (region_at r (regions p)) (ends.shapes r)
+    where
+      go : (a b : Option (RegionOf (List ℕ) TypeTerm AttrTerm)) → shape_of a ≡ shape_of b → Same (given a (λ z. chosen t f o z r)) (given b (λ z. chosen u g p z r))
+      go None None e = refl
+      go None (Some empty) e = absurd cc
+      go None (Some (block args os)) e = absurd cc
+      go (Some empty) None e = absurd cc
+      go (Some empty) (Some empty) e = refl
+      go (Some empty) (Some (block args os)) e = absurd cc
+      go (Some (block args os)) None e = absurd cc
+      go (Some (block args os)) (Some empty) e = absurd cc
+      go (Some (block args os)) (Some (block bs us)) e = given_both (body t o r) (body u p r) _ _ (body_alike r) (λ x y i j. refl)
+
+  condition_alike : (vs : List Value) → ((v : Value) → In v vs → ShowsAlike t u v) → Same (by_condition t f o vs) (by_condition u g p vs)
+  condition_alike [] h = refl
+  condition_alike (c ∷ []) h = given_alike (known t c) (known u c) _ _ (known_alike t u c (h c (inl refl))) (λ k i. region_alike (cond (eqb k.1 0) 1 0))
+  condition_alike (c ∷ d ∷ vs) h = refl
+
+  pub same_22 : Same (rule_22 t f o) (rule_22 u g p)
+  same_22 = when_alike _ _ _ _ (ap (λ (h : Header). named (codes "scf.if") h.name) same) (condition_alike (head o).operands operands ∙ ap (λ (h : Header). is_some (by_condition u g p h.operands)) same)
+
+  -- loops
+  loop_operands : (vs : List Value) (l : Loop) → loop_from vs ≡ Some l → In l.lower vs × (In l.upper vs × In l.step vs)
+  loop_operands [] l e = absurd cc
+  loop_operands (a ∷ []) l e = absurd cc
+  loop_operands (a ∷ b ∷ []) l e = absurd cc
+  loop_operands (a ∷ b ∷ c ∷ vs) l e =
+      let w : record { lower = a; upper = b; step = c; inits = vs } ≡ l = cc in
+      (inl (ap (λ (z : Loop). z.lower) (sym w)), (inr (inl (ap (λ (z : Loop). z.upper) (sym w))), inr (inr (inl (ap (λ (z : Loop). z.step) (sym w))))))
+
+  once_alike : (l : Loop) → Same (once t f o l) (once u g p l)
+  once_alike l = given_both (body t o 0) (body u p 0) _ _ (body_alike 0) (λ x y i j. refl)
+
+  pub same_23 : Same (rule_23 t f o) (rule_23 u g p)
+  same_23 = when_alike _ _ _ _ (ap (λ (h : Header). named (codes "scf.for") h.name) same)
+      (given_alike (loop_from (head o).operands) (loop_from (head p).operands) _ _ (ap (λ (h : Header). loop_from h.operands) same) (λ l e.
+      let w = loop_operands (head o).operands l e in
+      given_alike (known t l.lower) (known u l.lower) _ _ (known_alike t u l.lower (operands l.lower w.0)) (λ low i.
+      given_alike (known t l.upper) (known u l.upper) _ _ (known_alike t u l.upper (operands l.upper w.1.0)) (λ high j.
+      if_alike (int_lt (reading low) (reading high)) _ _ _ _ _ refl
+      (given_alike (known t l.step) (known u l.step) _ _ (known_alike t u l.step (operands l.step w.1.1)) (λ s k. when_alike _ _ _ _ refl (once_alike l)))
+      refl))))
+
+  end_alike : (e d : Ended) (vs : List Value) → ((v : Value) → In v vs → ShowsAlike t u v) → Same (by_end t f o e vs) (by_end u g p d vs)
+  end_alike e d [] h = refl
+  end_alike e d (c ∷ vs) h = when_alike _ _ _ _ (number_alike t u 0 c (h c (inl refl))) refl
+
+  pub same_24 : Same (rule_24 t f o) (rule_24 u g p)
+  same_24 = when_alike _ _ _ _ (ap (λ (h : Header). named (codes "scf.while") h.name) same)
+      (given_both (body t o 0) (body u p 0) _ _ (body_alike 0) (λ e d i j.
+      let a = body_ended t o 0 e i in
+      let b = body_ended u p 0 d j in
+      end_alike e d e.last.operands (λ v h. ends.operands 0 e.last (ap (option_map (λ (w : Ended). w.last)) a) v h)
+      ∙ ap (λ (h : Header). is_some (by_end u g p d h.operands)) (last_same 0 e d a b)))

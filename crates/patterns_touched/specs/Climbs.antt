@@ -1,0 +1,39 @@
+-- Operations around one, as far as each has the effects of what is directly inside it.
+use Rattle.std.specs.Prelude.{◌≡◌, ℕ, zero, suc, Bool, true, false, ◌&&◌, ◌||◌, eqb, Option, Some, None}
+use Rattle.ir_tree.specs.Tree.{OpOf, op, RegionsOf, no_regions, region, RegionOf, empty, block, OpsOf, no_ops, next, head}
+use Rattle.ir_tree.specs.Ids.{find}
+use Rattle.ir_tree_laws.specs.Reads.{parent_of}
+use Rattle.op_registry.specs.declared.own.Own.{Own}
+use Rattle.effects.specs.Effects.{is_recursive}
+
+module _ {N T A : Type 0} (own : N → Own) where
+  abbrev recursive_found : Option (OpOf N T A) → Bool
+  recursive_found None = false
+  recursive_found (Some o) = is_recursive (own (head o).name)
+
+  -- whether operation x is there and has the effects of what is directly inside it
+  abbrev pub recursive_at : ℕ → OpOf N T A → Bool
+  recursive_at x t = recursive_found (find x t)
+
+  -- operation y is operation x or so many levels around it, and all from x on to y have the effects of what is
+  -- directly inside
+  abbrev pub Climbs : ℕ → ℕ → ℕ → OpOf N T A → Type 0
+  Climbs zero y x t = (recursive_at x t ≡ true) × (x ≡ y)
+  Climbs (suc k) y x t = (recursive_at x t ≡ true) × ((p : ℕ) × (parent_of x t ≡ Some p) × Climbs k y p t)
+
+  -- whether the effects of an operation are made of those of operation x inside it, among others
+  abbrev mutual
+    pub feels : ℕ → OpOf N T A → Bool
+    feels x (op h rs) = is_recursive (own h.name) && regions_feel x rs
+
+    pub regions_feel : ℕ → RegionsOf N T A → Bool
+    regions_feel x no_regions = false
+    regions_feel x (region g rs) = region_feels x g || regions_feel x rs
+
+    pub region_feels : ℕ → RegionOf N T A → Bool
+    region_feels x empty = false
+    region_feels x (block args os) = ops_feel x os
+
+    pub ops_feel : ℕ → OpsOf N T A → Bool
+    ops_feel x no_ops = false
+    ops_feel x (next o os) = eqb (head o).id x || (feels x o || ops_feel x os)

@@ -1,0 +1,6 @@
+pub mod Reached
+pub mod Sights
+pub mod Climbs
+pub mod Near
+pub mod Alike
+pub mod Listing
