@@ -1,0 +1,276 @@
+-- Operations in turn, and the parts of a conversion.
+use Rattle.std.proofs.Common.{◌≡◌, refl, ap, sym, ◌∙◌, subst, inl, inr, ◌⊎◌, ℕ, suc, ◌+◌, ◌-◌, ◌<◌, ◌≤◌, Bool, true, false, true≢false, List, [], ◌∷◌, length, take, drop, get_or, if◌then◌else◌, Result, Ok, Err, Some, None, arith}
+use Rattle.std.specs.Prelude.{is_ok}
+use Rattle.ir_types.specs.Things.{Things}
+use Rattle.ir_types.specs.declared.refusal.Refusal.{Refusal}
+use Rattle.ir_event.specs.Modules.{Module}
+use Rattle.conversion.specs.declared.fault.Fault.{Fault}
+use Rattle.conversion.specs.declared.tried.Tried.{Tried}
+use Rattle.conversion_base.specs.Rewrites.{Rewrite, none, refused, becomes}
+use Rattle.conversion_base.specs.Targets.{Aim}
+use Rattle.conversion_base.specs.Legalization.{Outcome, legalised, failed, stopped}
+use Rattle.conversion_base.specs.Reconciling.{rewrite_or, first_rewrite, go_on, next_collapse, collapsed, all_collapsed}
+use Rattle.conversion_base.specs.Conversion.{Ended, converted, given_up, counted, next_part, in_turn, ended, ended_at, failing, cast_ended, casts_left, checked, later_parts}
+use Rattle.conversion.specs.States.{State, Applied, Refuses, Answers, IsWant, Comes, Wants, Faults, EndsWith, Ends, none_of, Converts, Closed, marked}
+use Rattle.conversion.proofs.Trying.{rest_at, noted}
+
+-- ---- the first answer at some operations
+
+module _ (f : Module → ℕ → Rewrite) (all : List ℕ) (start : State) where
+  -- what is left of the operations gives what all of them give, and the module is as it was
+  pub record Scanning (rest : List ℕ) (here : State) : Type 0 where
+    pub same : first_rewrite (f start.held) rest ≡ first_rewrite (f start.held) all
+    pub held : here.held ≡ start.held
+
+  took : (a b all : Rewrite) (m n p : Module) → rewrite_or a b ≡ all → p ≡ m → Applied a true p n → Applied all true m n
+  took none b all m n p e h c = absurd (true≢false c.0)
+  took (refused r) b all m n p e h c = absurd c
+  took (becomes q) b all m n p e h c = subst (λ (a : Rewrite). Applied a true m n) e c
+
+  left : (a b : Rewrite) (m n p : Module) → p ≡ m → Applied a false p n → (b ≡ rewrite_or a b) × (n ≡ m)
+  left none b m n p h c = (refl, c.1 ∙ h)
+  left (refused r) b m n p h c = absurd c
+  left (becomes q) b m n p h c = absurd (true≢false (sym c.0))
+
+  stops : (a b : Rewrite) (c : Things) (e : Refusal) → Refuses a c e → Refuses (rewrite_or a b) c e
+  stops none none c e r = r
+  stops none (refused f) c e r = inr r
+  stops none (becomes p) c e r = r
+  stops (refused f) b c e r = r
+  stops (becomes p) b c e r = r
+
+  here_is : (xs : List ℕ) (x : ℕ) (here : State) → 1 ≤ length xs → x ≡ get_or xs 0 x → Scanning xs here
+      → rewrite_or (f here.held x) (first_rewrite (f start.held) (take (length xs - 1) (drop 1 xs))) ≡ first_rewrite (f start.held) all
+  here_is xs x here l z h =
+      ap (λ m. rewrite_or (f m x) (first_rewrite (f start.held) (take (length xs - 1) (drop 1 xs)))) h.held ∙ sym (ap (first_rewrite (f start.held)) (rest_at xs x l z)) ∙ h.same
+
+  pub scanning_found : (xs : List ℕ) (x : ℕ) (here next : State) (b : Bool) → 1 ≤ length xs → x ≡ get_or xs 0 x → Scanning xs here → Answers (f here.held x) (Ok b) here next → b ≡ true → Answers (first_rewrite (f start.held) all) (Ok true) start next
+  scanning_found xs x here next b l z h a t =
+      took (f here.held x) _ _ start.held next.held here.held (here_is xs x here l z h) h.held (subst (λ c. Applied (f here.held x) c here.held next.held) t a)
+
+  pub scanning_refused : (xs : List ℕ) (x : ℕ) (here next : State) (e : Refusal) → 1 ≤ length xs → x ≡ get_or xs 0 x → Scanning xs here → Answers (f here.held x) (Err e) here next → Answers (first_rewrite (f start.held) all) (Err e) start next
+  scanning_refused xs x here next e l z h a =
+      (subst (λ (a : Rewrite). Refuses a next.things e) (here_is xs x here l z h) (stops (f here.held x) _ next.things e a.0), a.1 ∙ h.held)
+
+  pub scanning_more : (xs : List ℕ) (x : ℕ) (here next : State) (b : Bool) → 1 ≤ length xs → x ≡ get_or xs 0 x → Scanning xs here → Answers (f here.held x) (Ok b) here next → b ≡ false → Scanning (take (length xs - 1) (drop 1 xs)) next
+  scanning_more xs x here next b l z h a t =
+      let p = left (f here.held x) (first_rewrite (f start.held) (take (length xs - 1) (drop 1 xs))) start.held next.held here.held h.held
+      (subst (λ c. Applied (f here.held x) c here.held next.held) t a) in
+      record { same = p.0 ∙ here_is xs x here l z h; held = p.1 }
+
+  pub scanning_done : (xs : List ℕ) (here : State) → length xs < 1 → Scanning xs here → Answers (first_rewrite (f start.held) all) (Ok false) start here
+  scanning_done [] here l h = subst (λ (a : Rewrite). Applied a false start.held here.held) h.same (refl, h.held)
+  scanning_done (x ∷ xs) here l h = absurd (omega (arith, l))
+
+pub scanning_none : (f : Module → ℕ → Rewrite) (all : List ℕ) (start : State) → Scanning f all start all start
+scanning_none f all start = record { same = refl; held = refl }
+
+-- ---- ends one behind another
+
+wanted : (e : Ended) (f : Fault) (c : Things) → Wants c f → Faults e f c
+wanted (converted m k) f c w = w
+wanted (given_up r x) f c w = inr w
+
+pub counted_both : (j k : ℕ) (e : Ended) → counted (j + k) e ≡ counted j (counted k e)
+counted_both j k (converted m n) = let e : (j + k) + n ≡ j + (k + n) = omega arith in ap (converted m) e
+counted_both j k (given_up r x) = refl
+
+pub counted_none : (e : Ended) → counted 0 e ≡ e
+counted_none (converted m n) = let e : 0 + n ≡ n = omega arith in ap (converted m) e
+counted_none (given_up r x) = refl
+
+faults_counted : (k : ℕ) (e : Ended) (f : Fault) (c : Things) → Faults e f c → Faults (counted k e) f c
+faults_counted k (converted m n) f c h = h
+faults_counted k (given_up r x) f c h = h
+
+pub part_stops : (g : Module → Ended) (e : Ended) (f : Fault) (c : Things) → Faults e f c → Faults (next_part g e) f c
+part_stops g (converted m k) f c h = wanted (counted k (g m)) f c h
+part_stops g (given_up r x) f c h = h
+
+pub part_goes : (g : Module → Ended) (e : Ended) (k : ℕ) (n : Module) → EndsWith e k n → counted k (g n) ≡ next_part g e
+part_goes g (converted m j) k n h = λ i. counted (h.0 i) (g (h.1 i))
+part_goes g (given_up r x) k n h = absurd h
+
+ends_counted : (j : ℕ) (e : Ended) (k : ℕ) (n : Module) → EndsWith e k n → EndsWith (counted j e) (j + k) n
+ends_counted j (converted m i) k n h = (ap (λ l. j + l) h.0, h.1)
+ends_counted j (given_up r x) k n h = absurd h
+
+-- ---- operations in turn
+
+module _ (f : Module → ℕ → Ended) (all : List ℕ) (start : State) where
+  -- what is left of the operations gives, behind the that stand, what all of them give
+  abbrev pub Turning : List ℕ → ℕ → State → Type 0
+  Turning rest count here = counted count (in_turn f rest here.held) ≡ in_turn f all start.held
+
+  turn_is : (xs : List ℕ) (x : ℕ) (count : ℕ) (here : State) → 1 ≤ length xs → x ≡ get_or xs 0 x → Turning xs count here
+      → counted count (next_part (in_turn f (take (length xs - 1) (drop 1 xs))) (f here.held x)) ≡ in_turn f all start.held
+  turn_is xs x count here l z h = sym (ap (λ ys. counted count (in_turn f ys here.held)) (rest_at xs x l z)) ∙ h
+
+  pub turning_stops : (xs : List ℕ) (x : ℕ) (count : ℕ) (here next : State) (e : Fault) → 1 ≤ length xs → x ≡ get_or xs 0 x → Turning xs count here → Ends (f here.held x) (Err e) next → Ends (in_turn f all start.held) (Err e) next
+  turning_stops xs x count here next e l z h c =
+      subst (λ (d : Ended). Faults d e next.things) (turn_is xs x count here l z h) (faults_counted count _ e next.things (part_stops _ (f here.held x) e next.things c))
+
+  pub turning_more : (xs : List ℕ) (x : ℕ) (count k : ℕ) (here next : State) → 1 ≤ length xs → x ≡ get_or xs 0 x → Turning xs count here → Ends (f here.held x) (Ok k) next → Turning (take (length xs - 1) (drop 1 xs)) (count + k) next
+  turning_more xs x count k here next l z h c =
+      counted_both count k (in_turn f (take (length xs - 1) (drop 1 xs)) next.held)
+      ∙ ap (counted count) (part_goes (in_turn f (take (length xs - 1) (drop 1 xs))) (f here.held x) k next.held c) ∙ turn_is xs x count here l z h
+
+  pub turning_done : (xs : List ℕ) (count : ℕ) (here : State) → length xs < 1 → Turning xs count here → Ends (in_turn f all start.held) (Ok count) here
+  turning_done [] count here l h =
+      let e : count ≡ count + 0 = omega arith in
+      subst (λ (d : Ended). EndsWith d count here.held) h (e, refl)
+  turning_done (x ∷ xs) count here l h = absurd (omega (arith, l))
+
+pub turning_none : (f : Module → ℕ → Ended) (all : List ℕ) (start : State) → Turning f all start all 0 start
+turning_none f all start = counted_none (in_turn f all start.held)
+
+-- ---- collapsing
+
+-- what is left of the times gives what all of them give
+abbrev pub Collapsing : ℕ → State → ℕ → State → Type 0
+Collapsing most start times here = collapsed times here.held ≡ collapsed most start.held
+
+times_more : (times : ℕ) → 0 < times → times ≡ suc (times - 1)
+times_more times l = omega arith
+
+module _ (most : ℕ) (start : State) where
+  goes : (a b : Rewrite) (m : Module) (f : Module → Rewrite) (n : Module) → Applied a true m n → f n ≡ go_on f m a
+  goes none b m f n c = absurd (true≢false c.0)
+  goes (refused e) b m f n c = absurd c
+  goes (becomes p) b m f n c = ap f c.1
+
+  pub collapsing_more : (times : ℕ) (here next : State) (b : Bool) → 0 < times → Collapsing most start times here → Answers (next_collapse here.held) (Ok b) here next → b ≡ true → Collapsing most start (times - 1) next
+  collapsing_more times here next b l h a t =
+      goes (next_collapse here.held) none here.held (collapsed (times - 1)) next.held (subst (λ c. Applied (next_collapse here.held) c here.held next.held) t a)
+      ∙ sym (ap (λ k. collapsed k here.held) (times_more times l)) ∙ h
+
+  ends : (a : Rewrite) (m n p : Module) (f : Module → Rewrite) → Applied a false m n → EndsWith (ended (go_on f m a) p) 0 n
+  ends none m n p f c = (refl, c.1)
+  ends (refused e) m n p f c = absurd c
+  ends (becomes q) m n p f c = absurd (true≢false (sym c.0))
+
+  pub collapsing_ends : (times : ℕ) (here next : State) (b : Bool) → 0 < times → Collapsing most start times here → Answers (next_collapse here.held) (Ok b) here next → b ≡ false → Ends (ended (collapsed most start.held) start.held) (Ok 0) next
+  collapsing_ends times here next b l h a t =
+      subst (λ (d : Rewrite). EndsWith (ended d start.held) 0 next.held) (sym (ap (λ k. collapsed k here.held) (times_more times l)) ∙ h)
+      (ends (next_collapse here.held) here.held next.held start.held (collapsed (times - 1)) (subst (λ c. Applied (next_collapse here.held) c here.held next.held) t a))
+
+  given : (a : Rewrite) (m p : Module) (f : Module → Rewrite) (g : Fault) (c : Things) (e : Refusal) → Refuses a c e → g.refusal ≡ e → g.id ≡ None → Faults (ended (go_on f m a) p) g c
+  given none m p f g c e r i n = (n, subst (IsWant c) (sym i) r)
+  given (becomes q) m p f g c e r i n = wanted (ended (f q) p) g c (n, subst (IsWant c) (sym i) r)
+  given (refused d) m p f g c e (inl is) i n = inl (i ∙ is, n)
+  given (refused d) m p f g c e (inr w) i n = inr (n, subst (IsWant c) (sym i) w)
+
+  pub collapsing_stops : (times : ℕ) (here next : State) (e : Refusal) (f : Fault) → 0 < times → Collapsing most start times here → Answers (next_collapse here.held) (Err e) here next → f.refusal ≡ e → f.id ≡ None
+      → Ends (ended (collapsed most start.held) start.held) (Err f) next
+  collapsing_stops times here next e f l h a i n =
+      subst (λ (d : Rewrite). Faults (ended d start.held) f next.things) (sym (ap (λ k. collapsed k here.held) (times_more times l)) ∙ h)
+      (given (next_collapse here.held) here.held start.held (collapsed (times - 1)) f next.things e a.0 i n)
+
+  pub collapsing_done : (times : ℕ) (here : State) → times ≤ 0 → Collapsing most start times here → Ends (ended (collapsed most start.held) start.held) (Ok 0) here
+  collapsing_done times here l h =
+      let e : times ≡ 0 = omega arith in
+      subst (λ (d : Rewrite). EndsWith (ended d start.held) 0 here.held) (sym (ap (λ k. collapsed k here.held) e) ∙ h) (refl, refl)
+
+-- ---- casts
+
+pub cast_faults : (x : ℕ) (a : Rewrite) (c : Things) (e : Refusal) (f : Fault) → Refuses a c e → f.refusal ≡ e → f.id ≡ None → Faults (cast_ended x a) f c
+cast_faults x none c e f r i n = inr (n, subst (IsWant c) (sym i) r)
+cast_faults x (becomes q) c e f r i n = (n, subst (IsWant c) (sym i) r)
+cast_faults x (refused d) c e f (inl is) i n = inl (i ∙ is, n)
+cast_faults x (refused d) c e f (inr w) i n = inr (n, subst (IsWant c) (sym i) w)
+
+-- a part that makes no rule stand
+none_goes : (a b : Module → Ended) (e : Ended) (k : ℕ) (n m : Module) → EndsWith e k n → EndsWith (a n) 0 m → EndsWith (next_part a e) k m
+none_goes a b e k n m h r =
+    let z : k + 0 ≡ k = omega arith in
+    subst (λ (d : Ended). EndsWith d k m) (part_goes a e k n h) (subst (λ j. EndsWith (counted k (a n)) j m) z (ends_counted k (a n) 0 m r))
+
+pub part_none : (a : Module → Ended) (e : Ended) (k : ℕ) (n m : Module) → EndsWith e k n → EndsWith (a n) 0 m → EndsWith (next_part a e) k m
+part_none a e k n m = none_goes a a e k n m
+
+pub part_faults : (a : Module → Ended) (e : Ended) (k : ℕ) (n : Module) (f : Fault) (c : Things) → EndsWith e k n → Faults (a n) f c → Faults (next_part a e) f c
+part_faults a e k n f c h r = subst (λ (d : Ended). Faults d f c) (part_goes a e k n h) (faults_counted k (a n) f c r)
+
+-- ---- legalising at an operation
+
+pub legalised_ends : (x : ℕ) (o : Outcome) (t : Tried) (a b : State) → Comes o (Ok t) a b → t.legal ≡ true → Ends (ended_at x o) (Ok t.count) b
+legalised_ends x (legalised p k deep) t a b c is = (c.1.0, c.1.1.1)
+legalised_ends x (failed deep) t a b c is = absurd (true≢false (sym is ∙ c.0))
+legalised_ends x (stopped e) t a b c is = absurd c
+
+pub failed_ends : (x : ℕ) (o : Outcome) (t : Tried) (a b : State) (f : Fault) → Comes o (Ok t) a b → t.legal ≡ false → f.refusal ≡ failing t.met → f.id ≡ Some x → Ends (ended_at x o) (Err f) b
+failed_ends x (legalised p k deep) t a b f c is r i = absurd (true≢false (sym c.0 ∙ is))
+failed_ends x (failed deep) t a b f c is r i = inl (r ∙ ap failing c.1.0, i)
+failed_ends x (stopped e) t a b f c is r i = absurd c
+
+pub stopped_ends : (x : ℕ) (o : Outcome) (e : Refusal) (a b : State) (f : Fault) → Comes o (Err e) a b → f.refusal ≡ e → f.id ≡ None → Ends (ended_at x o) (Err f) b
+stopped_ends x (legalised p k deep) e a b f c r i = (i, subst (IsWant b.things) (sym r) c.0)
+stopped_ends x (failed deep) e a b f c r i = inr (i, subst (IsWant b.things) (sym r) c.0)
+stopped_ends x (stopped d) e a b f c r i = stop c.0
+  where
+    stop : (e ≡ d) ⊎ IsWant b.things e → ((f.refusal ≡ d) × (f.id ≡ None)) ⊎ Wants b.things f
+    stop (inl is) = inl (r ∙ is, i)
+    stop (inr w) = inr (i, subst (IsWant b.things) (sym r) w)
+
+-- ---- a conversion behind a mark
+
+module _ (start here end : State) (closing : (well : Bool) → Closed well here end → end ≡ record { things = here.things; held = if well then here.held else start.held; marks = start.marks }) where
+  whole : (e : Ended) (r : Result ℕ Fault) → Ends e r here → Closed (is_ok r) here end → Converts e r start end
+  whole e (Ok n) c is = subst (λ (m : Module). EndsWith e n m) (sym (ap (λ (s : State). s.held) (closing true is))) c
+  whole e (Err f) c is = (subst (λ (d : Things). Faults e f d) (sym (ap (λ (s : State). s.things) (closing false is))) c, ap (λ (s : State). s.held) (closing false is))
+
+pub converted_whole : (f : Things → Module → Ended) (r : Result ℕ Fault) (start stepped here end : State) → stepped ≡ marked start → here.marks ≡ stepped.marks → Ends (f stepped.things stepped.held) r here
+    → (well : Bool) → well ≡ is_ok r → Closed well here end → Converts (f start.things start.held) r start end
+converted_whole f r start stepped here end e m c well w is =
+    whole start here end (λ b k. k (record { marked = start.held; counted = false }) start.marks (noted start stepped here e m)) (f start.things start.held) r (subst (λ (s : State). Ends (f s.things s.held) r here) e c)
+    (subst (λ b. Closed b here end) w is)
+
+-- ---- the parts
+
+counted_part : (f : Module → Ended) (k : ℕ) (e : Ended) → next_part f (counted k e) ≡ counted k (next_part f e)
+counted_part f k (converted m j) = counted_both k j (f m)
+counted_part f k (given_up r x) = refl
+
+later_counted : (g : Aim) (k : ℕ) (e : Ended) → later_parts g (counted k e) ≡ counted k (later_parts g e)
+later_counted g k e =
+    let f = λ (n : Module). ended (all_collapsed n) n in
+    ap (λ d. next_part (checked g) (next_part casts_left d)) (counted_part f k e)
+    ∙ ap (next_part (checked g)) (counted_part casts_left k (next_part f e)) ∙ counted_part (checked g) k (next_part casts_left (next_part f e))
+
+later_goes : (g : Aim) (e : Ended) (k : ℕ) (n : Module) → EndsWith e k n → counted k (later_parts g (converted n 0)) ≡ later_parts g e
+later_goes g (converted m j) k n h =
+    let z : k + 0 ≡ k = omega arith in
+    sym (later_counted g k (converted n 0)) ∙ (λ i. later_parts g (converted (h.1 i) ((z ∙ h.0) i)))
+later_goes g (given_up r x) k n h = absurd h
+
+-- legalising was given up
+pub parts_stop : (g : Aim) (e : Ended) (f : Fault) (c : Things) → Faults e f c → Faults (later_parts g e) f c
+parts_stop g e f c h = part_stops (checked g) _ f c (part_stops casts_left _ f c (part_stops (λ n. ended (all_collapsed n) n) e f c h))
+
+-- it went well, and what comes behind it goes or is given up
+pub parts_go : (g : Aim) (e : Ended) (k : ℕ) (n : Module) (t : State) → EndsWith e k n → Ends (later_parts g (converted n 0)) (Ok 0) t → Ends (later_parts g e) (Ok k) t
+parts_go g e k n t h c =
+    let z : k + 0 ≡ k = omega arith in
+    subst (λ (d : Ended). EndsWith d k t.held) (later_goes g e k n h) (subst (λ j. EndsWith (counted k (later_parts g (converted n 0))) j t.held) z (ends_counted k (later_parts g (converted n 0)) 0 t.held c))
+
+pub parts_fail : (g : Aim) (e : Ended) (k : ℕ) (n : Module) (f : Fault) (c : Things) → EndsWith e k n → Faults (later_parts g (converted n 0)) f c → Faults (later_parts g e) f c
+parts_fail g e k n f c h r = subst (λ (d : Ended). Faults d f c) (later_goes g e k n h) (faults_counted k (later_parts g (converted n 0)) f c r)
+
+-- casts can't be taken away
+pub collapse_fails : (g : Aim) (m : Module) (f : Fault) (c : Things) → Faults (ended (all_collapsed m) m) f c → Faults (later_parts g (converted m 0)) f c
+collapse_fails g m f c h = part_stops (checked g) _ f c (part_stops casts_left _ f c (part_faults (λ n. ended (all_collapsed n) n) (converted m 0) 0 m f c (refl, refl) h))
+
+-- or can't be made anew
+pub casts_fail : (g : Aim) (m n : Module) (f : Fault) (c : Things) → EndsWith (ended (all_collapsed m) m) 0 n → Faults (casts_left n) f c → Faults (later_parts g (converted m 0)) f c
+casts_fail g m n f c h r =
+    let first = part_none (λ n. ended (all_collapsed n) n) (converted m 0) 0 m n (refl, refl) h in
+    part_stops (checked g) _ f c (part_faults casts_left _ 0 n f c first r)
+
+-- the check ends it
+pub check_ends : {A : Type 0} (g : Aim) (m n p : Module) (r : Result A Fault) (t : State) → EndsWith (ended (all_collapsed m) m) 0 n → EndsWith (casts_left n) 0 p → Ends (checked g p) (none_of r) t → Ends (later_parts g (converted m 0)) (none_of r) t
+check_ends g m n p (Ok u) t h k c =
+    let first = part_none (λ n. ended (all_collapsed n) n) (converted m 0) 0 m n (refl, refl) h in
+    part_none (checked g) _ 0 p t.held (part_none casts_left _ 0 n p first k) c
+check_ends g m n p (Err f) t h k c =
+    let first = part_none (λ n. ended (all_collapsed n) n) (converted m 0) 0 m n (refl, refl) h in
+    part_faults (checked g) _ 0 p f t.things (part_none casts_left _ 0 n p first k) c

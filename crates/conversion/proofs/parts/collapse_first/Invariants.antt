@@ -1,0 +1,12 @@
+use Rattle.std.proofs.Common.{length}
+use Rattle.conversion_base.specs.Reconciling.{collapse}
+use Rattle.conversion.specs.States.{Leads}
+use Rattle.conversion.proofs.Turns.{Scanning}
+use Rattle.conversion.proofs.parts.collapse_first.Given as goal
+
+abbrev pub invariant-ops : goal.invariant-ops
+invariant-ops g l =
+    Scanning (collapse) l.ops (g.B.Rewriting.state l.initial.bench) l.rest (g.B.Rewriting.state l.bench) × Leads g.B.Rewriting.state g.B.Rewriting.led l.initial.bench l.bench
+
+abbrev pub decreases-ops : goal.decreases-ops
+decreases-ops g l = length l.rest

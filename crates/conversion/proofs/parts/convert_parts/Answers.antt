@@ -1,0 +1,35 @@
+use Rattle.std.proofs.Common.{subst, Ok, Err}
+use Rattle.ir_tree.specs.Ids.{ids}
+use Rattle.conversion_base.specs.Conversion.{converted, in_turn, later_parts, legalised_at}
+use Rattle.conversion.specs.States.{Ends}
+use Rattle.conversion_base.specs.Targets.{Aim, aim_of}
+use Rattle.conversion.proofs.Aims.{aim_known, aim_stays}
+use Rattle.conversion.proofs.Turns.{parts_fail, parts_go}
+use Rattle.conversion.proofs.parts.convert_parts.Goals as goal
+
+pub reconcile-requires : goal.reconcile-requires
+reconcile-requires g c =
+    let state = g.B.Rewriting.state in
+    record { aim = aim_known (state c.args.bench.now).things (state c.legalise_all.new.bench).things c.args.target.now c.legalise_all.ensures.leads.grows c.requires.aim }
+
+pub returns-in-Ok-reconcile-clause-ends : goal.returns-in-Ok-reconcile-clause-ends
+returns-in-Ok-reconcile-clause-ends g c =
+    let state = g.B.Rewriting.state in
+    let start = state c.args.bench.now in
+    let mid = state c.legalise_all.new.bench in
+    let last = state c.reconcile.new.bench in
+    let a = aim_of start.things c.args.target.now in
+    let same = aim_stays start.things mid.things c.args.target.now c.legalise_all.ensures.leads.grows c.requires.aim in
+    parts_go a (in_turn (legalised_at a) (ids start.held.tree) start.held) c.in-Ok.count mid.held last c.in-Ok.ensures.ends
+    (subst (λ (b : Aim). Ends (later_parts b (converted mid.held 0)) (Ok 0) last) same c.in-Ok-reconcile.ensures.ends)
+
+pub returns-in-Err-reconcile-clause-ends : goal.returns-in-Err-reconcile-clause-ends
+returns-in-Err-reconcile-clause-ends g c =
+    let state = g.B.Rewriting.state in
+    let start = state c.args.bench.now in
+    let mid = state c.legalise_all.new.bench in
+    let last = state c.reconcile.new.bench in
+    let a = aim_of start.things c.args.target.now in
+    let same = aim_stays start.things mid.things c.args.target.now c.legalise_all.ensures.leads.grows c.requires.aim in
+    parts_fail a (in_turn (legalised_at a) (ids start.held.tree) start.held) c.in-Ok.count mid.held c.in-Err-reconcile.fault last.things c.in-Ok.ensures.ends
+    (subst (λ (b : Aim). Ends (later_parts b (converted mid.held 0)) (Err c.in-Err-reconcile.fault) last) same c.in-Err-reconcile.ensures.ends)

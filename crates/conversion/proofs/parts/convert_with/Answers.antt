@@ -1,0 +1,25 @@
+use Rattle.std.proofs.Common.{◌∙◌, ap, sym, subst, if◌then◌else◌, None}
+use Rattle.ir_types.specs.declared.refusal.Refusal.TheVariants.{BadTarget}
+use Rattle.conversion_base.specs.Conversion.{Ended, all_parts, given_up}
+use Rattle.conversion.specs.States.{Converts}
+use Rattle.conversion_base.specs.Targets.{aim_of}
+use Rattle.conversion.proofs.Trying.{leads_whole}
+use Rattle.conversion.proofs.Turns.{converted_whole}
+use Rattle.conversion.proofs.parts.convert_with.Goals as goal
+
+pub returns-clause-converts : goal.returns-clause-converts
+returns-clause-converts g c =
+    let state = g.B.Rewriting.state in
+    let start = state c.args.bench.now in
+    let end = state c.close.new.bench in
+    let a = aim_of start.things c.args.target.now in
+    let accepted = sym c.is_accepted.ensures ∙ c.if-not-is_accepted.false in
+    subst (λ (e : Ended). Converts e c.convert_parts-made.result start end) (sym (ap (λ b. if b then all_parts a start.held else given_up BadTarget None) accepted))
+    (converted_whole (λ d m. all_parts (aim_of d c.args.target.now) m) c.convert_parts-made.result start (state c.step.new.self) (state c.convert_parts-made.new.bench) end
+    c.in_default.ensures.ok c.convert_parts-made.ensures.leads.marks c.convert_parts-made.ensures.ends c.is_converted.result c.is_converted.ensures c.close.ensures.closed)
+
+pub returns-clause-leads : goal.returns-clause-leads
+returns-clause-leads g c =
+    let state = g.B.Rewriting.state in
+    leads_whole state g.B.Rewriting.led g.B.Rewriting.led_more c.args.bench.now c.step.new.self c.convert_parts-made.new.bench c.close.new.bench c.in_default.ensures.ok c.step.ensures.led c.convert_parts-made.ensures.leads c.close.ensures.led
+    c.is_converted.result c.close.ensures.closed

@@ -1,0 +1,6 @@
+pub mod States
+pub use Rattle.conversion_base.specs.Targets
+pub use Rattle.conversion_base.specs.Legalization
+pub use Rattle.conversion_base.specs.Reconciling
+pub use Rattle.conversion_base.specs.Conversion
+pub use Rattle.conversion_base.specs.Rewrites

@@ -1,0 +1,127 @@
+-- What a bench holds, as conversions see it, and what their parts make of it.
+use Rattle.std.specs.Prelude.{◌≡◌, ℕ, ◌≤◌, List, ◌∷◌, Bool, true, false, ◌⊎◌, length, if◌then◌else◌, Result, Ok, Err, None}
+use Rattle.ir_types.specs.Things.{Things, Grows}
+use Rattle.ir_types.specs.declared.refusal.Refusal.{Refusal}
+use Rattle.ir_types.specs.declared.refusal.Refusal.TheVariants.{Memory, Full}
+use Rattle.ir_event.specs.Modules.{Module}
+use Rattle.conversion_base.specs.Machine.{OpenMark}
+use Rattle.conversion_base.specs.Rewrites.{Rewrite, none, refused, becomes}
+use Rattle.conversion.specs.declared.tried.Tried.{Tried}
+use Rattle.conversion.specs.declared.fault.Fault.{Fault}
+use Rattle.conversion_base.specs.Conversion.{Ended, converted, given_up}
+use Rattle.conversion_base.specs.Legalization.{Outcome, legalised, failed, stopped}
+
+-- the context, the module in contents, and the open marks, the newest first
+pub record State : Type 0 where
+  pub things : Things
+  pub held : Module
+  pub marks : List OpenMark
+
+-- the context stays or grows, the marks stay, and those who listen are led on
+pub record Leads {S : Type 0} (state : S → State) (led : S → S → Type 0) (old new : S) : Type 0 where
+  pub grows : Grows (state old).things (state new).things
+  pub marks : (state new).marks ≡ (state old).marks
+  pub told : led old new
+
+-- a mark more, which isn't counted, of the module held
+abbrev pub marked : State → State
+marked s = record { things = s.things; held = s.held; marks = record { marked = s.held; counted = false } ∷ s.marks }
+
+-- the newest mark was dropped, and the module stays
+abbrev pub Committed : State → State → Type 0
+Committed old new = (k : OpenMark) (ks : List OpenMark) → old.marks ≡ k ∷ ks → new ≡ record { things = old.things; held = old.held; marks = ks }
+
+-- or the module of the mark is held again
+abbrev pub RolledBack : State → State → Type 0
+RolledBack old new = (k : OpenMark) (ks : List OpenMark) → old.marks ≡ k ∷ ks → new ≡ record { things = old.things; held = k.marked; marks = ks }
+
+-- a context that takes no more
+abbrev pub IsFull : Things → Type 0
+IsFull c = (16777216 ≤ length c.names) ⊎ ((16777216 ≤ length c.types) ⊎ (16777216 ≤ length c.attrs))
+
+-- a refusal for want of memory, or of room in the context
+abbrev pub IsWant : Things → Refusal → Type 0
+IsWant c e = (e ≡ Memory) ⊎ ((e ≡ Full) × IsFull c)
+
+-- ---- rules
+
+-- an answer, and how the call of a rule ended: whether it applied, or a refusal, which is the answer's or a want, and leaves
+-- the module
+abbrev pub Applied : Rewrite → Bool → Module → Module → Type 0
+Applied none done m n = (done ≡ false) × (n ≡ m)
+Applied (becomes p) done m n = (done ≡ true) × (n ≡ p)
+Applied (refused e) done m n = ⊥
+
+abbrev pub Refuses : Rewrite → Things → Refusal → Type 0
+Refuses none c e = IsWant c e
+Refuses (becomes p) c e = IsWant c e
+Refuses (refused f) c e = (e ≡ f) ⊎ IsWant c e
+
+abbrev pub Answers : Rewrite → Result Bool Refusal → State → State → Type 0
+Answers a (Ok done) s t = Applied a done s.held t.held
+Answers a (Err e) s t = Refuses a t.things e × (t.held ≡ s.held)
+
+-- ---- legalising
+
+-- an outcome, and how a try to get there ended: where it fails or is refused, the module stays; a refusal is the outcome's, or
+-- a want
+abbrev pub Told : Outcome → Tried → Module → Module → Type 0
+Told (legalised p k deep) t m n = (t.legal ≡ true) × ((t.count ≡ k) × ((t.met ≡ deep) × (n ≡ p)))
+Told (failed deep) t m n = (t.legal ≡ false) × ((t.met ≡ deep) × (n ≡ m))
+Told (stopped e) t m n = ⊥
+
+abbrev pub Stops : Outcome → Things → Refusal → Type 0
+Stops (legalised p k deep) c e = IsWant c e
+Stops (failed deep) c e = IsWant c e
+Stops (stopped f) c e = (e ≡ f) ⊎ IsWant c e
+
+abbrev pub Comes : Outcome → Result Tried Refusal → State → State → Type 0
+Comes o (Ok t) a b = Told o t a.held b.held
+Comes o (Err e) a b = Stops o b.things e × (b.held ≡ a.held)
+
+-- the same where a mark stands before it: where it fails or is refused, the module may be any
+abbrev pub ToldBehind : Outcome → Tried → Module → Type 0
+ToldBehind (legalised p k deep) t n = (t.legal ≡ true) × ((t.count ≡ k) × ((t.met ≡ deep) × (n ≡ p)))
+ToldBehind (failed deep) t n = (t.legal ≡ false) × (t.met ≡ deep)
+ToldBehind (stopped e) t n = ⊥
+
+abbrev pub ComesBehind : Outcome → Result Tried Refusal → State → Type 0
+ComesBehind o (Ok t) b = ToldBehind o t b.held
+ComesBehind o (Err e) b = Stops o b.things e
+
+-- whether it went well
+abbrev pub went_well : Result Tried Refusal → Bool
+went_well (Ok t) = t.legal
+went_well (Err e) = false
+
+-- the newest mark was dropped, and the module stays or not
+abbrev pub Closed : Bool → State → State → Type 0
+Closed stays old new = (k : OpenMark) (ks : List OpenMark) → old.marks ≡ k ∷ ks → new ≡ record { things = old.things; held = if stays then old.held else k.marked; marks = ks }
+
+-- ---- converting
+
+-- an end, and how a call came to it, behind a mark: where it is given up, the module may be any. A fault is the end's, or a want
+abbrev pub Wants : Things → Fault → Type 0
+Wants c f = (f.id ≡ None) × IsWant c f.refusal
+
+abbrev pub Faults : Ended → Fault → Things → Type 0
+Faults (converted m k) f c = Wants c f
+Faults (given_up e x) f c = ((f.refusal ≡ e) × (f.id ≡ x)) ⊎ Wants c f
+
+abbrev pub EndsWith : Ended → ℕ → Module → Type 0
+EndsWith (converted m k) n p = (n ≡ k) × (p ≡ m)
+EndsWith (given_up e x) n p = ⊥
+
+abbrev pub Ends : Ended → Result ℕ Fault → State → Type 0
+Ends e (Ok n) s = EndsWith e n s.held
+Ends e (Err f) s = Faults e f s.things
+
+-- of a part that makes no rule stand
+abbrev pub none_of : {A : Type 0} → Result A Fault → Result ℕ Fault
+none_of (Ok u) = Ok 0
+none_of (Err f) = Err f
+
+-- and without a mark: where it is given up, the module stays
+abbrev pub Converts : Ended → Result ℕ Fault → State → State → Type 0
+Converts e (Ok n) a b = EndsWith e n b.held
+Converts e (Err f) a b = Faults e f b.things × (b.held ≡ a.held)

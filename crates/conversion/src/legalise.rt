@@ -1,0 +1,205 @@
+//! Operations are legalised: a rule is tried, and what it makes is legalised in turn, or all of it is undone.
+ghost use Rattle.std.specs.Prelude.{◌≡◌, ◌<◌, true, false, ◌||◌};
+ghost use Rattle.conversion_base.specs.Rewrites.{rewrite_of};
+ghost use Rattle.conversion_base.specs.Legalization.{after_rule as rule_outcome, behind, each_of, first_rule as rules_outcome, legalization_of, made_since, standing};
+ghost use Rattle.conversion.specs.States.{Closed, Comes, ComesBehind, Leads, went_well};
+ghost use Rattle.conversion_base.specs.Targets.{IsAimIn, aim_of, is_for_conversion};
+
+use crate::rewriting::Rewriting;
+use crate::tried::Tried;
+use conversion_base::target::Target;
+use ir_types::ids::OpId;
+use ir_types::refusal::Refusal;
+use std::alloc::Global;
+
+/// A try that made nothing.
+fn nothing(legal: bool, met: bool) -> Tried
+    ensures legal { result.legal ≡ legal }
+    ensures count { result.count ≡ 0 }
+    ensures met { result.met ≡ met }
+{
+    Tried {
+        legal,
+        count: 0,
+        met,
+    }
+}
+
+/// A try behind others, of which some met the depth or none did.
+fn joined(met: bool, tried: Tried) -> Tried
+    ensures legal { result.legal ≡ tried.legal }
+    ensures count { result.count ≡ tried.count }
+    ensures met { result.met ≡ (met || tried.met) }
+{
+    Tried {
+        legal: tried.legal,
+        count: tried.count,
+        met: met || tried.met,
+    }
+}
+
+/// Legalises an operation, if it still stands, where what rules make may be so many levels below it. Where it fails, or is refused, the module
+/// is as it was.
+#[cycle(legalise)]
+pub(crate) fn legalise<B: Rewriting>(
+    alloc: Global,
+    bench: &mut B,
+    target: &Target,
+    below: u32,
+    op: OpId,
+) -> Result<Tried, Refusal>
+    requires aim { IsAimIn (B.state bench.old).things target.now }
+    ensures comes { Comes (standing (legalization_of (aim_of (B.state bench.old).things target.now) below) (B.state bench.old).held op) result (B.state bench.old) (B.state bench.new) }
+    ensures leads { Leads B.state B.led bench.old bench.new }
+{
+    if !bench.in_tree(op) {
+        return Ok(nothing(true, false));
+    }
+    if bench.is_legal(target, op) {
+        return Ok(nothing(true, false));
+    }
+    if below == 0 {
+        return Ok(nothing(false, true));
+    }
+    first_rule(alloc, bench, target, below - 1, op)
+}
+
+/// Tries the rules of a target, up to the first after which all goes well.
+#[cycle(legalise)]
+fn first_rule<B: Rewriting>(
+    alloc: Global,
+    bench: &mut B,
+    target: &Target,
+    below: u32,
+    op: OpId,
+) -> Result<Tried, Refusal>
+    requires aim { IsAimIn (B.state bench.old).things target.now }
+    ensures comes { Comes (rules_outcome (legalization_of (aim_of (B.state bench.old).things target.now) below) target.now.rules (B.state bench.old).held op) result (B.state bench.old) (B.state bench.new) }
+    ensures leads { Leads B.state B.led bench.old bench.new }
+{
+    let mut met = false;
+    let mut rest = target.rules.as_slice();
+    'rules: while let [rule, tail @ ..] = rest {
+        match try_rule(alloc, bench, target, below, *rule, op) {
+            Ok(tried) => {
+                let tried = joined(met, tried);
+                if tried.legal {
+                    return Ok(tried);
+                }
+                met = tried.met;
+            }
+            Err(refusal) => return Err(refusal),
+        }
+        rest = tail;
+    }
+    Ok(nothing(false, met))
+}
+
+/// Tries a rule behind a mark: where it fails, or is refused, the module is as it was.
+#[cycle(legalise)]
+fn try_rule<B: Rewriting>(
+    alloc: Global,
+    bench: &mut B,
+    target: &Target,
+    below: u32,
+    rule: u32,
+    op: OpId,
+) -> Result<Tried, Refusal>
+    requires aim { IsAimIn (B.state bench.old).things target.now }
+    requires rule { is_for_conversion rule ≡ true }
+    ensures comes { Comes (rule_outcome (legalization_of (aim_of (B.state bench.old).things target.now) below) (B.state bench.old).held (rewrite_of rule (B.state bench.old).held op)) result (B.state bench.old) (B.state bench.new) }
+    ensures leads { Leads B.state B.led bench.old bench.new }
+{
+    if let Err(refusal) = bench.step() {
+        return Err(refusal);
+    }
+    let tried = after_rule(alloc, bench, target, below, rule, op);
+    close(bench, is_well(&tried));
+    tried
+}
+
+/// Whether a try went well.
+fn is_well(tried: &Result<Tried, Refusal>) -> bool
+    ensures { result ≡ went_well tried.now }
+{
+    match tried {
+        Ok(tried) => tried.legal,
+        Err(_) => false,
+    }
+}
+
+/// Drops the newest mark. The module stays, or the one of the mark is held again.
+pub(crate) fn close<B: Rewriting>(bench: &mut B, stays: bool)
+    ensures closed { Closed stays (B.state bench.old) (B.state bench.new) }
+    ensures led { B.led bench.old bench.new }
+{
+    if stays {
+        bench.commit();
+        return;
+    }
+    bench.rollback();
+}
+
+/// Applies a rule and legalises what it made.
+#[cycle(legalise)]
+fn after_rule<B: Rewriting>(
+    alloc: Global,
+    bench: &mut B,
+    target: &Target,
+    below: u32,
+    rule: u32,
+    op: OpId,
+) -> Result<Tried, Refusal>
+    requires aim { IsAimIn (B.state bench.old).things target.now }
+    requires rule { is_for_conversion rule ≡ true }
+    ensures comes { ComesBehind (rule_outcome (legalization_of (aim_of (B.state bench.old).things target.now) below) (B.state bench.old).held (rewrite_of rule (B.state bench.old).held op)) result (B.state bench.new) }
+    ensures leads { Leads B.state B.led bench.old bench.new }
+{
+    let from = bench.next_id();
+    match bench.apply(alloc, rule, op) {
+        Ok(true) => each_made(alloc, bench, target, below, from),
+        Ok(false) => Ok(nothing(false, false)),
+        Err(refusal) => Err(refusal),
+    }
+}
+
+/// Legalises the operations that were made from an id on, by rising id. The rule that made them is
+/// counted too.
+#[cycle(legalise)]
+fn each_made<B: Rewriting>(
+    alloc: Global,
+    bench: &mut B,
+    target: &Target,
+    below: u32,
+    from: u32,
+) -> Result<Tried, Refusal>
+    requires aim { IsAimIn (B.state bench.old).things target.now }
+    requires from { from < (B.state bench.old).held.next }
+    ensures comes { ComesBehind (behind 1 false (each_of (legalization_of (aim_of (B.state bench.old).things target.now) below) (made_since from (B.state bench.old).held) (B.state bench.old).held)) result (B.state bench.new) }
+    ensures leads { Leads B.state B.led bench.old bench.new }
+{
+    let end = bench.next_id();
+    let mut id = from;
+    let mut count = 1;
+    let mut met = false;
+    'made: while id < end {
+        match legalise(alloc, bench, target, below, OpId::new(id)) {
+            Ok(tried) => {
+                let tried = joined(met, tried);
+                if !tried.legal {
+                    return Ok(tried);
+                }
+                met = tried.met;
+                let _free = bench.next_id();
+                count += tried.count;
+            }
+            Err(refusal) => return Err(refusal),
+        }
+        id += 1;
+    }
+    Ok(Tried {
+        legal: true,
+        count,
+        met,
+    })
+}

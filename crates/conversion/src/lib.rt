@@ -1,0 +1,10 @@
+//! Dialect conversion: the operations of a module are legalised for a target by rules, and casts between types are reconciled.
+#![tactic(auto)]
+
+pub mod fault;
+mod legalise;
+mod parts;
+mod rewriting;
+mod tried;
+
+pub use conversion_base::{laws, target};

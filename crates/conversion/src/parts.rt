@@ -1,0 +1,280 @@
+//! Dialect conversion: the operations of a module are legalised in turn, then casts are reconciled.
+ghost use Rattle.std.specs.Prelude.{◌≡◌, ◌+◌, ◌≤◌, IfOk, is_ok};
+ghost use Rattle.ir_tree.specs.Ids.{ids};
+ghost use Rattle.conversion_base.specs.Conversion.{all_parts, cast_at as cast_end, casts_left, checked, converted, conversion_of, ended, failing as failing_of, first_illegal, in_turn, later_parts, legalised_at as legalised_end};
+ghost use Rattle.conversion_base.specs.Reconciling.{all_collapsed, collapse, collapsed, first_rewrite, next_collapse};
+ghost use Rattle.conversion.specs.States.{Answers, Converts, Ends, Leads, none_of};
+ghost use Rattle.conversion_base.specs.Targets.{IsAimIn, IsNamedIn, aim_of};
+
+use crate::fault::Fault;
+use crate::legalise::{close, legalise};
+use crate::rewriting::Rewriting;
+use conversion_base::target::Target;
+use ir_types::ids::OpId;
+use ir_types::refusal::Refusal;
+use std::alloc::Global;
+
+/// Why an operation of the start isn't legalised.
+fn failing(met: bool) -> Refusal
+    ensures { result ≡ failing_of met }
+{
+    if met {
+        return Refusal::ChainTooDeep;
+    }
+    Refusal::NotLegalised
+}
+
+/// Legalises an operation of the start, if it still stands. The answer is how many rules stand.
+fn legalise_at<B: Rewriting>(
+    alloc: Global,
+    bench: &mut B,
+    target: &Target,
+    op: OpId,
+) -> Result<u32, Fault>
+    requires aim { IsAimIn (B.state bench.old).things target.now }
+    ensures ends { Ends (legalised_end (aim_of (B.state bench.old).things target.now) (B.state bench.old).held op) result (B.state bench.new) }
+    ensures few { IfOk result (λ k. k + (B.state bench.old).held.next ≤ (B.state bench.new).held.next) }
+    ensures leads { Leads B.state B.led bench.old bench.new }
+{
+    match legalise(alloc, bench, target, target.depth, op) {
+        Ok(tried) => {
+            if tried.legal {
+                return Ok(tried.count);
+            }
+            Err(Fault::at(failing(tried.met), op))
+        }
+        Err(refusal) => Err(Fault::of(refusal)),
+    }
+}
+
+/// Legalises operations in turn. The answer is how many rules stand.
+fn legalise_each<B: Rewriting>(
+    alloc: Global,
+    bench: &mut B,
+    target: &Target,
+    ops: &[OpId],
+) -> Result<u32, Fault>
+    requires aim { IsAimIn (B.state bench.old).things target.now }
+    ensures ends { Ends (in_turn (legalised_end (aim_of (B.state bench.old).things target.now)) ops.now (B.state bench.old).held) result (B.state bench.new) }
+    ensures leads { Leads B.state B.led bench.old bench.new }
+{
+    let mut count = 0;
+    let mut rest = ops;
+    'ops: while let [op, tail @ ..] = rest {
+        match legalise_at(alloc, bench, target, *op) {
+            Ok(more) => {
+                let _free = bench.next_id();
+                count += more;
+            }
+            Err(fault) => return Err(fault),
+        }
+        rest = tail;
+    }
+    Ok(count)
+}
+
+/// Takes the first of some operations away that is a cast and isn't used or collapses. The answer is whether there is one.
+fn collapse_first<B: Rewriting>(alloc: Global, bench: &mut B, ops: &[OpId]) -> Result<bool, Refusal>
+    ensures answers { Answers (first_rewrite (collapse (B.state bench.old).held) ops.now) result (B.state bench.old) (B.state bench.new) }
+    ensures leads { Leads B.state B.led bench.old bench.new }
+{
+    let mut rest = ops;
+    'ops: while let [op, tail @ ..] = rest {
+        match bench.collapse(alloc, *op) {
+            Ok(true) => return Ok(true),
+            Ok(false) => {}
+            Err(refusal) => return Err(refusal),
+        }
+        rest = tail;
+    }
+    Ok(false)
+}
+
+/// The same of all operations, in pre-order.
+fn collapse_next<B: Rewriting>(alloc: Global, bench: &mut B) -> Result<bool, Refusal>
+    ensures answers { Answers (next_collapse (B.state bench.old).held) result (B.state bench.old) (B.state bench.new) }
+    ensures leads { Leads B.state B.led bench.old bench.new }
+{
+    match bench.operations() {
+        Ok(ops) => collapse_first(alloc, bench, &ops),
+        Err(_) => Err(Refusal::Memory),
+    }
+}
+
+/// Takes casts away, as long as one isn't used or collapses, and at most so many.
+fn collapse_up_to<B: Rewriting>(alloc: Global, bench: &mut B, most: usize) -> Result<(), Fault>
+    ensures ends { Ends (ended (collapsed most (B.state bench.old).held) (B.state bench.old).held) (none_of result) (B.state bench.new) }
+    ensures leads { Leads B.state B.led bench.old bench.new }
+{
+    let mut left = most;
+    'casts: while left > 0 {
+        match collapse_next(alloc, bench) {
+            Ok(true) => {}
+            Ok(false) => return Ok(()),
+            Err(refusal) => return Err(Fault::of(refusal)),
+        }
+        left -= 1;
+    }
+    Ok(())
+}
+
+/// Takes casts away, as long as one isn't used or collapses.
+fn collapse_all<B: Rewriting>(alloc: Global, bench: &mut B) -> Result<(), Fault>
+    ensures ends { Ends (ended (all_collapsed (B.state bench.old).held) (B.state bench.old).held) (none_of result) (B.state bench.new) }
+    ensures leads { Leads B.state B.led bench.old bench.new }
+{
+    match bench.operations() {
+        Ok(ops) => collapse_up_to(alloc, bench, ops.len()),
+        Err(_) => Err(Fault::of(Refusal::Memory)),
+    }
+}
+
+/// Puts an `arith.index_cast` in the place of an operation, if it still stands and is a cast.
+fn cast_at<B: Rewriting>(alloc: Global, bench: &mut B, op: OpId) -> Result<(), Fault>
+    ensures ends { Ends (cast_end (B.state bench.old).held op) (none_of result) (B.state bench.new) }
+    ensures leads { Leads B.state B.led bench.old bench.new }
+{
+    if !bench.is_cast(op) {
+        return Ok(());
+    }
+    match bench.cast_index(alloc, op) {
+        Ok(true) => Ok(()),
+        Ok(false) => Err(Fault::at(Refusal::Unreconciled, op)),
+        Err(refusal) => Err(Fault::of(refusal)),
+    }
+}
+
+/// The same of operations in turn.
+fn cast_each<B: Rewriting>(alloc: Global, bench: &mut B, ops: &[OpId]) -> Result<(), Fault>
+    ensures ends { Ends (in_turn cast_end ops.now (B.state bench.old).held) (none_of result) (B.state bench.new) }
+    ensures leads { Leads B.state B.led bench.old bench.new }
+{
+    let mut rest = ops;
+    'ops: while let [op, tail @ ..] = rest {
+        match cast_at(alloc, bench, *op) {
+            Ok(()) => {}
+            Err(fault) => return Err(fault),
+        }
+        rest = tail;
+    }
+    Ok(())
+}
+
+/// Puts an `arith.index_cast` in the place of each cast.
+fn cast_all<B: Rewriting>(alloc: Global, bench: &mut B) -> Result<(), Fault>
+    ensures ends { Ends (casts_left (B.state bench.old).held) (none_of result) (B.state bench.new) }
+    ensures leads { Leads B.state B.led bench.old bench.new }
+{
+    match bench.operations() {
+        Ok(ops) => cast_each(alloc, bench, &ops),
+        Err(_) => Err(Fault::of(Refusal::Memory)),
+    }
+}
+
+/// The first of some operations that isn't legal.
+fn illegal_of<B: Rewriting>(bench: &B, target: &Target, ops: &[OpId]) -> Option<OpId>
+    requires aim { IsAimIn (B.state bench.now).things target.now }
+    ensures { result ≡ first_illegal (aim_of (B.state bench.now).things target.now) (B.state bench.now).held.tree ops.now }
+{
+    let mut rest = ops;
+    'ops: while let [op, tail @ ..] = rest {
+        if !bench.is_legal(target, *op) {
+            return Some(*op);
+        }
+        rest = tail;
+    }
+    None
+}
+
+/// In full mode every operation has to be legal.
+fn check<B: Rewriting>(bench: &B, target: &Target) -> Result<(), Fault>
+    requires aim { IsAimIn (B.state bench.now).things target.now }
+    ensures ends { Ends (checked (aim_of (B.state bench.now).things target.now) (B.state bench.now).held) (none_of result) (B.state bench.now) }
+{
+    if !target.full {
+        return Ok(());
+    }
+    match bench.operations() {
+        Ok(ops) => match illegal_of(bench, target, &ops) {
+            Some(op) => Err(Fault::at(Refusal::NotLegalised, op)),
+            None => Ok(()),
+        },
+        Err(_) => Err(Fault::of(Refusal::Memory)),
+    }
+}
+
+/// Converts a module behind a mark: where it is refused, the module may be any.
+fn convert_parts<B: Rewriting>(alloc: Global, bench: &mut B, target: &Target) -> Result<u32, Fault>
+    requires aim { IsAimIn (B.state bench.old).things target.now }
+    ensures ends { Ends (all_parts (aim_of (B.state bench.old).things target.now) (B.state bench.old).held) result (B.state bench.new) }
+    ensures leads { Leads B.state B.led bench.old bench.new }
+{
+    let count = match legalise_all(alloc, bench, target) {
+        Ok(count) => count,
+        Err(fault) => return Err(fault),
+    };
+    match reconcile(alloc, bench, target) {
+        Ok(()) => Ok(count),
+        Err(fault) => Err(fault),
+    }
+}
+
+/// Legalises the operations of the module, as they are at the start, in pre-order. The answer is how many rules stand.
+fn legalise_all<B: Rewriting>(alloc: Global, bench: &mut B, target: &Target) -> Result<u32, Fault>
+    requires aim { IsAimIn (B.state bench.old).things target.now }
+    ensures ends { Ends (in_turn (legalised_end (aim_of (B.state bench.old).things target.now)) (ids (B.state bench.old).held.tree) (B.state bench.old).held) result (B.state bench.new) }
+    ensures leads { Leads B.state B.led bench.old bench.new }
+{
+    match bench.operations() {
+        Ok(ops) => legalise_each(alloc, bench, target, &ops),
+        Err(_) => Err(Fault::of(Refusal::Memory)),
+    }
+}
+
+/// Reconciles casts, and checks.
+fn reconcile<B: Rewriting>(alloc: Global, bench: &mut B, target: &Target) -> Result<(), Fault>
+    requires aim { IsAimIn (B.state bench.old).things target.now }
+    ensures ends { Ends (later_parts (aim_of (B.state bench.old).things target.now) (converted (B.state bench.old).held 0)) (none_of result) (B.state bench.new) }
+    ensures leads { Leads B.state B.led bench.old bench.new }
+{
+    if let Err(fault) = collapse_all(alloc, bench) {
+        return Err(fault);
+    }
+    if let Err(fault) = cast_all(alloc, bench) {
+        return Err(fault);
+    }
+    check(bench, target)
+}
+
+/// Whether a conversion went well.
+fn is_converted(made: &Result<u32, Fault>) -> bool
+    ensures { result ≡ is_ok made.now }
+{
+    made.is_ok()
+}
+
+/// Converts the module of a bench: each of its operations that isn't legal for a target is legalised by rules, then casts
+/// between types are reconciled, and in full mode every operation has to be legal then. The answer is how many rules stand.
+/// It is whole or not made at all.
+///
+/// Refusals: `BadTarget`; `NotLegalised` or `ChainTooDeep` for an operation of the start, and `Unreconciled` for a cast, and
+/// `NotLegalised` in full mode, each with its id; `Full` and `IdsExhausted`, where a rule has no room; and `Memory`.
+pub(crate) fn convert_with<B: Rewriting>(
+    alloc: Global,
+    bench: &mut B,
+    target: &Target,
+) -> Result<u32, Fault>
+    requires names { IsNamedIn (B.state bench.old).things target.now }
+    ensures converts { Converts (conversion_of (aim_of (B.state bench.old).things target.now) (B.state bench.old).held) result (B.state bench.old) (B.state bench.new) }
+    ensures leads { Leads B.state B.led bench.old bench.new }
+{
+    if !bench.is_accepted(target) {
+        return Err(Fault::of(Refusal::BadTarget));
+    }
+    if let Err(refusal) = bench.step() {
+        return Err(Fault::of(refusal));
+    }
+    let made = convert_parts(alloc, bench, target);
+    close(bench, is_converted(&made));
+    made
+}

@@ -1,0 +1,84 @@
+//! What conversions need of a bench and of the rules.
+ghost use Rattle.std.specs.Prelude.{◌≡◌, true, OnOk, OnErr, IfErr, IfOk};
+ghost use Rattle.ir_types.specs.declared.refusal.Refusal.TheVariants.{Memory as NoMemory};
+ghost use Rattle.ir_tree.specs.Ids.{has_id, ids};
+ghost use Rattle.conversion_base.specs.Rewrites.{rewrite_of};
+ghost use Rattle.conversion_base.specs.Targets.{IsAimIn, IsNamedIn, aim_of, is_accepted, is_for_conversion, is_legal};
+ghost use Rattle.conversion_base.specs.Reconciling.{collapse, index_rewrite, is_cast};
+ghost use Rattle.conversion.specs.States.{State, Answers, Committed, Leads, RolledBack, marked};
+
+use conversion_base::target::Target;
+use ir_types::ids::OpId;
+use ir_types::refusal::Refusal;
+use std::alloc::{AllocError, Global};
+
+/// A bench with rules. Each call that is refused leaves the module and the marks as they were.
+pub(crate) trait Rewriting {
+    ghost state: { Self → State };
+
+    /// All that any calls do to those who listen. It is reflexive and goes through.
+    ghost led: { Self → Self → Type 0 };
+
+    ghost led_none: { (a : Self) → led a a };
+
+    ghost led_more: { (a b c : Self) → led a b → led b c → led a c };
+
+    /// The next free id.
+    fn next_id(&self) -> u32
+        ensures { result ≡ (state self.now).held.next };
+
+    /// Whether an operation is in the module.
+    fn in_tree(&self, op: OpId) -> bool
+        ensures { result ≡ has_id op (state self.now).held.tree };
+
+    /// Whether a target is accepted.
+    fn is_accepted(&self, target: &Target) -> bool
+        requires { IsNamedIn (state self.now).things target.now }
+        ensures { result ≡ is_accepted (aim_of (state self.now).things target.now) };
+
+    /// Whether an operation is legal.
+    fn is_legal(&self, target: &Target, op: OpId) -> bool
+        requires { IsAimIn (state self.now).things target.now }
+        ensures { result ≡ is_legal (aim_of (state self.now).things target.now) op (state self.now).held.tree };
+
+    /// Applies a rule at an operation. The answer is whether it applied.
+    fn apply(&mut self, alloc: Global, rule: u32, op: OpId) -> Result<bool, Refusal>
+        requires { is_for_conversion rule ≡ true }
+        ensures answers { Answers (rewrite_of rule (state self.old).held op) result (state self.old) (state self.new) }
+        ensures leads { Leads state led self.old self.new };
+
+    /// The operations in pre-order.
+    fn operations(&self) -> Result<Vec<OpId>, AllocError>
+        ensures { IfOk result (λ v. v.items ≡ ids (state self.now).held.tree) };
+
+    /// Whether an operation is a cast between types that was left for the time being.
+    fn is_cast(&self, op: OpId) -> bool
+        ensures { result ≡ is_cast op (state self.now).held.tree };
+
+    /// Takes a cast away that isn't used, or that rule 21 collapses. The answer is whether it did.
+    fn collapse(&mut self, alloc: Global, op: OpId) -> Result<bool, Refusal>
+        ensures answers { Answers (collapse (state self.old).held op) result (state self.old) (state self.new) }
+        ensures leads { Leads state led self.old self.new };
+
+    /// Puts an `arith.index_cast` in the place of a cast between index and i64. The answer is whether it did.
+    fn cast_index(&mut self, alloc: Global, op: OpId) -> Result<bool, Refusal>
+        ensures answers { Answers (index_rewrite (state self.old).held op) result (state self.old) (state self.new) }
+        ensures leads { Leads state led self.old self.new };
+
+    /// Makes a mark that isn't counted.
+    fn step(&mut self) -> Result<(), Refusal>
+        ensures ok { OnOk result (state self.new ≡ marked (state self.old)) }
+        ensures err { OnErr result (state self.new ≡ state self.old) }
+        ensures refused { IfErr result (λ e. e ≡ NoMemory) }
+        ensures led { led self.old self.new };
+
+    /// Drops the newest mark, if there is one. The module stays.
+    fn commit(&mut self)
+        ensures committed { Committed (state self.old) (state self.new) }
+        ensures led { led self.old self.new };
+
+    /// Drops the newest mark, if there is one, and holds its module again.
+    fn rollback(&mut self)
+        ensures rolled { RolledBack (state self.old) (state self.new) }
+        ensures led { led self.old self.new };
+}

@@ -1,0 +1,10 @@
+pub mod Shown
+pub mod Recast
+pub mod Makes
+pub mod Falls
+pub mod Enough
+pub mod Gone
+pub mod AllLegal
+pub mod Named
+pub mod Unused
+pub mod Readings

@@ -1,0 +1,100 @@
+-- What is shown of an operation, in numbers and in contents.
+use Rattle.std.proofs.Common.{◌≡◌, refl, ap, sym, ◌∙◌, subst, ℕ, ◌<◌, ◌≤◌, Bool, true, false, true≢false, ◌&&◌, [], length, Option, Some, None, option_map, arith, leb-true}
+use Rattle.std.specs.Prelude.{nat_le, slice_get, is_some, option_and_then}
+use Rattle.std.specs.FinMap as finmap
+use Rattle.ir_types.specs.Things.{Things}
+use Rattle.ir_types.specs.Terms.{name_term, type_term, attr_term}
+use Rattle.ir_tree.specs.declared.value.Value.TheVariants.{Result}
+use Rattle.ir_tree.specs.Tree.{Op, op, RegionsOf, no_regions, region, head, region_count}
+use Rattle.ir_tree.specs.Ids.{HasDistinctIds, find, has_id, first_of}
+use Rattle.ir_tree.specs.Limits.{most_items, most_regions, items_fit, head_fits, all_arguments_pass, op_fits}
+use Rattle.ir_tree.specs.Meaning.{meaning}
+use Rattle.ir_tree.specs.WellFormed.{IsFormed}
+use Rattle.ir_tree.proofs.Mapped.{map_find}
+use Rattle.ir_tree_laws.specs.Values.{has_value}
+use Rattle.ir_tree_laws.proofs.Around.{absent_find, present_stand}
+use Rattle.ir_tree_laws.proofs.Formed.{from_formed}
+use Rattle.ir_tree_laws.proofs.Listed.{both}
+use Rattle.ir_tree_laws.proofs.Members.{found_stands, stand_found}
+use Rattle.ir_tree_laws.proofs.Reverted.{got_below}
+use Rattle.ir_store.specs.Nodes.{Node, node_of, regions_arguments}
+use Rattle.ir_store.specs.Stored.{Stored, known}
+use Rattle.ir_event.specs.Modules.{node_meaning}
+use Rattle.ir_event.proofs.Nodes.{node_shown}
+
+pub shown_none : (x : ℕ) (t : Op) (b : Bool) → b ≡ has_id x t → b ≡ false → None ≡ option_map node_of (find x t)
+shown_none x t b e f = sym (ap (option_map node_of) (absent_find x t (sym e ∙ f)))
+
+there_is : (x : ℕ) (t : Op) → HasDistinctIds t → has_id x t ≡ true → find x t ≡ None → ⊥
+there_is x t d h g =
+    let w = present_stand [] t x h in
+    let e = ap (λ z. find z t) (sym w.2) ∙ stand_found t d w.0 w.1 in
+    let no : None ≡ Some w.0.here = sym g ∙ e in
+    absurd cc
+
+pub shown_some : (x : ℕ) (s : Stored) → HasDistinctIds s.module_of.tree → (r : Option Node) (b : Bool) → b ≡ has_id x s.module_of.tree → b ≡ true → r ≡ option_map node_of (known x s) → r ≡ option_map node_of (find x s.module_of.tree)
+shown_some x s d r b e f is = is ∙ go (find x s.module_of.tree) refl
+  where
+    go : (o : Option Op) → find x s.module_of.tree ≡ o → option_map node_of (first_of o (finmap.get s.held x)) ≡ option_map node_of o
+    go None g = absurd (there_is x s.module_of.tree d (sym e ∙ f) g)
+    go (Some o) g = refl
+
+-- what it stands for
+pub meant : (c : Things) (x : ℕ) (t : Op) → option_map node_of (find x (meaning c t)) ≡ option_map (node_meaning c) (option_map node_of (find x t))
+meant c x t = ap (option_map node_of) (map_find (name_term c) (type_term c) (attr_term c) x t) ∙ go (find x t)
+  where
+    go : (o : Option Op) → option_map node_of (option_map (meaning c) o) ≡ option_map (node_meaning c) (option_map node_of o)
+    go None = refl
+    go (Some o) = ap Some (node_shown c o)
+
+-- its counts are within the limits
+pub record Found (x : ℕ) (t : Op) (n : Node) : Type 0 where
+  pub here : Op
+  pub is : find x t ≡ Some here
+  pub same : n ≡ node_of here
+
+pub found : (x : ℕ) (t : Op) (n : Node) → Some n ≡ option_map node_of (find x t) → Found x t n
+found x t n e = go (find x t) refl e
+  where
+    go : (o : Option Op) → find x t ≡ o → Some n ≡ option_map node_of o → Found x t n
+    go None f e = absurd cc
+    go (Some o) f e = record { here = o; is = f; same = (let one : n ≡ node_of o = cc in one) }
+
+regions_counted : (rs : RegionsOf ℕ ℕ ℕ) → length (regions_arguments rs) ≡ region_count rs
+regions_counted no_regions = refl
+regions_counted (region g rs) = (let e = regions_counted rs in omega (arith, e))
+
+few : (o : Op) → op_fits o ≡ true → (length (node_of o).arguments ≤ 16) × (length (node_of o).head.results ≤ 256)
+few (op h rs) e =
+    let own = both (head_fits h) (nat_le (region_count rs) most_regions && all_arguments_pass items_fit rs) e in
+    let regions = leb-true (region_count rs) most_regions (both (nat_le (region_count rs) most_regions) (all_arguments_pass items_fit rs) own.1).0 in
+    let count = regions_counted rs in
+    let rest = (both (items_fit h.operands) (items_fit h.results && (items_fit h.properties && items_fit h.attributes)) own.0).1 in
+    let results = leb-true (length h.results) most_items (both (items_fit h.results) (items_fit h.properties && items_fit h.attributes) rest).0 in
+    (omega (arith, regions, count), results)
+
+pub few_shown : (isolated : ℕ → Bool) (x : ℕ) (t : Op) → IsFormed isolated t → (n : Node) → Some n ≡ option_map node_of (find x t) → (length n.arguments ≤ 16) × (length n.head.results ≤ 256)
+few_shown isolated x t formed n e =
+    let w = found x t n e in
+    let s = found_stands x t w.here w.is in
+    subst (λ (m : Node). (length m.arguments ≤ 16) × (length m.head.results ≤ 256)) (sym w.same) (few w.here (ap op_fits (sym s.3) ∙ (from_formed isolated t formed).fits s.0 s.1))
+
+-- its results
+results_in : (o : Op) (k : ℕ) → is_some (slice_get (head o).results k) ≡ true → k < length (node_of o).head.results
+results_in (op h rs) k e = go (slice_get h.results k) refl e
+  where
+    go : (f : Option ℕ) → slice_get h.results k ≡ f → is_some f ≡ true → k < length h.results
+    go None e h = absurd (true≢false (sym h))
+    go (Some y) e i = got_below h.results k y e
+
+pub counted : (x k : ℕ) (t : Op) (n : Node) → Some n ≡ option_map node_of (find x t) → has_value (Result x k) t ≡ true → k < length n.head.results
+counted x k t n e h =
+    let w = found x t n e in
+    subst (λ (m : Node). k < length m.head.results) (sym w.same) (results_in w.here k (sym (ap (λ o. is_some (option_and_then (λ (z : Op). slice_get (head z).results k) o)) w.is) ∙ h))
+
+pub not_counted : (x k : ℕ) (t : Op) → None ≡ option_map node_of (find x t) → has_value (Result x k) t ≡ true → ⊥
+not_counted x k t e h = go (find x t) e h
+  where
+    go : (o : Option Op) → None ≡ option_map node_of o → is_some (option_and_then (λ (z : Op). slice_get (head z).results k) o) ≡ true → ⊥
+    go None e h = true≢false (sym h)
+    go (Some o) e h = absurd cc

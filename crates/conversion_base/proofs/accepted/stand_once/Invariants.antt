@@ -1,0 +1,15 @@
+use Rattle.std.proofs.Common.{◌≡◌, ◌++◌, length, map}
+use Rattle.std.specs.List.{All}
+use Rattle.ir_types.specs.Things.{IsName}
+use Rattle.ir_types.specs.Terms.{name_term}
+use Rattle.conversion_base.specs.Numbers.{once_before}
+use Rattle.conversion_base.proofs.accepted.stand_once.Given as goal
+
+abbrev pub invariant-names : goal.invariant-names
+invariant-names l = record {
+  known : All (IsName l.ctx) l.rest;
+  left : once_before (map (name_term l.ctx) l.rest) (map (name_term l.ctx) l.more ++ map (name_term l.ctx) l.most) ≡ once_before (map (name_term l.ctx) l.fn.names) (map (name_term l.ctx) l.more ++ map (name_term l.ctx) l.most);
+}
+
+abbrev pub decreases-names : goal.decreases-names
+decreases-names l = length l.rest

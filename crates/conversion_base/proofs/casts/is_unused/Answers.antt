@@ -1,0 +1,18 @@
+use Rattle.std.proofs.Common.{◌∙◌, sym, arith}
+use Rattle.ir_tree.specs.Meaning.{isolated_in}
+use Rattle.conversion_base.proofs.Readings.{some_used, unused_meant}
+use Rattle.conversion_base.proofs.Unused.{none_used}
+use Rattle.conversion_base.proofs.casts.is_unused.Goals as goal
+
+pub returns-then-is_some : goal.returns-then-is_some
+returns-then-is_some c =
+    let t = c.args.world.now.store.module_of.tree in
+    sym (unused_meant c.args.world.now.ctx c.args.op t ∙ some_used c.args.op c.results.number t c.first_use.result c.first_use.ensures c.is_some.result c.is_some.ensures c.if-is_some.true)
+
+pub returns : goal.returns
+returns c =
+    let w = c.args.world.now in
+    let t = w.store.module_of.tree in
+    let past = c.results-test.false in
+    sym (unused_meant w.ctx c.args.op t
+    ∙ none_used (isolated_in w.ctx) c.args.op t w.formed.distinct w.formed.formed.visible (λ k h. let few = c.result_count-count.ensures k h in c.results.invariant k (omega (arith, few, past))))

@@ -1,0 +1,105 @@
+-- Dialect conversion (Dialect Conversion, "Modes of Conversion").
+use Rattle.std.specs.Prelude.{ℕ, ◌+◌, List, [], ◌∷◌, Bool, true, false, not, if◌then◌else◌, Option, Some, None}
+use Rattle.ir_types.specs.declared.refusal.Refusal.{Refusal}
+use Rattle.ir_types.specs.declared.refusal.Refusal.TheVariants.{NotLegalised, ChainTooDeep, Unreconciled, BadTarget}
+use Rattle.ir_tree.specs.Tree.{head}
+use Rattle.ir_tree.specs.Ids.{ids}
+use Rattle.ir_tree.specs.Limits.{every}
+use Rattle.ir_tree.specs.Meaning.{Operation}
+use Rattle.ir_event.specs.Modules.{Module}
+use Rattle.patterns_base.specs.Rewrites.{Rewrite, none, refused, becomes}
+use Rattle.patterns_base.specs.Words.{named}
+use Rattle.conversion_base.specs.Targets.{Aim, cast_name, is_accepted, is_legal}
+use Rattle.conversion_base.specs.Legalization.{Outcome, legalised, failed, stopped, legalization_of, standing}
+use Rattle.conversion_base.specs.Reconciling.{all_collapsed, index_rewrite, is_cast}
+
+-- how a conversion ends: with a module, and how many rules stand in it; or with a refusal, and the id of an operation, if it is
+-- for one
+pub data Ended : Type 0 where
+  converted : Module → ℕ → Ended
+  given_up : Refusal → Option ℕ → Ended
+
+-- an end behind so many rules that stand
+abbrev pub counted : ℕ → Ended → Ended
+counted k (converted m n) = converted m (k + n)
+counted k (given_up e x) = given_up e x
+
+-- what comes next, where it wasn't given up
+abbrev pub next_part : (Module → Ended) → Ended → Ended
+next_part f (converted m k) = counted k (f m)
+next_part f (given_up e x) = given_up e x
+
+-- some operations in turn
+abbrev pub in_turn : (Module → ℕ → Ended) → List ℕ → Module → Ended
+in_turn f [] m = converted m 0
+in_turn f (x ∷ xs) m = next_part (in_turn f xs) (f m x)
+
+-- ---- legalising
+
+-- how an operation of the module at the start fails
+abbrev pub failing : Bool → Refusal
+failing true = ChainTooDeep
+failing false = NotLegalised
+
+abbrev pub ended_at : ℕ → Outcome → Ended
+ended_at x (legalised m k met) = converted m k
+ended_at x (failed met) = given_up (failing met) (Some x)
+ended_at x (stopped e) = given_up e None
+
+-- an operation of the start legalised; one that is gone is skipped
+abbrev pub legalised_at : Aim → Module → ℕ → Ended
+legalised_at g m x = ended_at x (standing (legalization_of g g.depth) m x)
+
+-- ---- reconciling
+
+abbrev pub ended : Rewrite → Module → Ended
+ended none m = converted m 0
+ended (refused e) m = given_up e None
+ended (becomes n) m = converted n 0
+
+-- a cast that is left becomes an `arith.index_cast`, or can't be reconciled
+abbrev pub cast_ended : ℕ → Rewrite → Ended
+cast_ended x none = given_up Unreconciled (Some x)
+cast_ended x (refused e) = given_up e None
+cast_ended x (becomes n) = converted n 0
+
+-- an operation, if it is still there and a cast
+abbrev pub cast_at : Module → ℕ → Ended
+cast_at m x = if is_cast x m.tree then cast_ended x (index_rewrite m x) else converted m 0
+
+-- all casts of a module, in pre-order
+abbrev pub casts_left : Module → Ended
+casts_left m = in_turn cast_at (ids m.tree) m
+
+-- whether no operation of a tree is such a cast
+abbrev pub has_no_cast : Operation → Bool
+has_no_cast t = every (λ o. not (named cast_name (head o).name)) t
+
+-- ---- full conversion
+
+-- the first of some operations that isn't legal
+abbrev pub first_illegal : Aim → Operation → List ℕ → Option ℕ
+first_illegal g t [] = None
+first_illegal g t (x ∷ xs) = if is_legal g x t then first_illegal g t xs else Some x
+
+abbrev pub ended_full : Option ℕ → Module → Ended
+ended_full None m = converted m 0
+ended_full (Some x) m = given_up NotLegalised (Some x)
+
+-- in full mode every operation has to be legal
+abbrev pub checked : Aim → Module → Ended
+checked g m = if g.full then ended_full (first_illegal g m.tree (ids m.tree)) m else converted m 0
+
+-- ---- conversion
+
+-- behind what legalising came to, casts are reconciled; then comes the check
+abbrev pub later_parts : Aim → Ended → Ended
+later_parts g e = next_part (checked g) (next_part casts_left (next_part (λ n. ended (all_collapsed n) n) e))
+
+-- its parts: the operations of a module, as they are at the start, are legalised in pre-order first
+abbrev pub all_parts : Aim → Module → Ended
+all_parts g m = later_parts g (in_turn (legalised_at g) (ids m.tree) m)
+
+-- a module converted
+abbrev pub conversion_of : Aim → Module → Ended
+conversion_of g m = if is_accepted g then all_parts g m else given_up BadTarget None

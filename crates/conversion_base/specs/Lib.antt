@@ -1,0 +1,12 @@
+pub mod Targets
+pub mod Legalization
+pub mod Reconciling
+pub mod Conversion
+pub mod Numbers
+pub use Rattle.patterns_base.specs.Looks
+pub use Rattle.patterns_base.specs.Rewrites
+pub use Rattle.patterns_base.specs.Words
+pub use Rattle.patterns_edits.specs.Contents
+pub use Rattle.patterns_edits.specs.Edits
+pub use Rattle.patterns_edits.specs.Lists
+pub use Rattle.patterns_edits.specs.Machine

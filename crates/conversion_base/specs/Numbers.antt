@@ -1,0 +1,30 @@
+-- What code reads and makes in numbers of a context.
+use Rattle.std.specs.Prelude.{ℕ, Bool, true, not, ◌&&◌, List, [], ◌∷◌, ◌++◌, Option, Some, None}
+use Rattle.ir_types.specs.declared.word.Word.TheVariants.{ArithIndexCast}
+use Rattle.ir_types.specs.WordNames.{word_number}
+use Rattle.ir_tree.specs.declared.value.Value.{Value}
+use Rattle.ir_tree.specs.declared.value.Value.TheVariants.{Result}
+use Rattle.ir_tree.specs.declared.place.Place.{Place}
+use Rattle.ir_tree.specs.Tree.{Op, op, no_regions}
+use Rattle.patterns_edits.specs.declared.edit.Edit.{Edit}
+use Rattle.patterns_edits.specs.declared.edit.Edit.TheVariants.{Make, Replace, Erase}
+use Rattle.patterns_base.specs.Words.{among}
+use Rattle.conversion_base.specs.declared.casts.Ends.{Ends}
+
+-- whether none of some names stands again behind it, or among others
+abbrev pub once_before : List (List ℕ) → List (List ℕ) → Bool
+once_before [] ms = true
+once_before (n ∷ ns) ms = not (among (ns ++ ms) n) && once_before ns ms
+
+-- an `arith.index_cast` of a value, to a type
+abbrev pub new_cast : Value → ℕ → Op
+new_cast v ty = op (record { id = 0; name = word_number ArithIndexCast; operands = v ∷ []; results = ty ∷ []; properties = []; attributes = [] }) no_regions
+
+-- it is put in the place of operation x, where a place is in front of that, and an id is the next free one
+abbrev pub cast_edits : Place → ℕ → ℕ → Value → ℕ → List Edit
+cast_edits front n x v ty = Make front (new_cast v ty) ∷ Replace (Result x 0) (Result n 0) ∷ Erase x ∷ []
+
+-- the operand, and the result's type, of an operation that has one of each
+abbrev pub ends_from : List Value → List ℕ → Option Ends
+ends_from (v ∷ []) (ty ∷ []) = Some (record { operand = v; ty = ty })
+ends_from _ _ = None

@@ -1,0 +1,84 @@
+-- Casts between types that a conversion left are reconciled (Dialect Conversion, "Type Conversion", on unrealized casts).
+use Rattle.std.specs.Prelude.{ℕ, zero, suc, List, [], ◌∷◌, codes, Bool, false, not, ◌&&◌, ◌||◌, eqb, if◌then◌else◌, Option, Some, None}
+use Rattle.ir_types.specs.Terms.{TypeTerm}
+use Rattle.ir_types.specs.SameTypes.{same_type}
+use Rattle.ir_tree.specs.declared.value.Value.{Value}
+use Rattle.ir_tree.specs.Tree.{head}
+use Rattle.ir_tree.specs.Ids.{ids, find, op_count}
+use Rattle.ir_tree.specs.Meaning.{Operation}
+use Rattle.ir_event.specs.Modules.{Module}
+use Rattle.effects.specs.Dead.{is_unused}
+use Rattle.patterns_edits.specs.Contents.{Edit, edited}
+use Rattle.patterns_edits.specs.Edits.{Erase}
+use Rattle.patterns_base.specs.Keeps.{given}
+use Rattle.patterns_base.specs.Looks.{when, front_of, is_index, is_index_value, is_of_type, one}
+use Rattle.patterns_base.specs.Made.{i64, cast}
+use Rattle.patterns_base.specs.Makes.{give_new}
+use Rattle.patterns_base.specs.Rewrites.{Rewrite, none, refused, becomes, rewrite_by, rewrite_of}
+use Rattle.patterns_base.specs.Words.{named}
+use Rattle.conversion_base.specs.Targets.{cast_name}
+
+-- ---- casts that aren't used, or collapse
+
+-- whether an operation that may be there is such a cast
+abbrev pub is_cast_found : Option Operation → Bool
+is_cast_found None = false
+is_cast_found (Some o) = named cast_name (head o).name
+
+-- whether operation x of a tree is
+abbrev pub is_cast : ℕ → Operation → Bool
+is_cast x t = is_cast_found (find x t)
+
+-- the first of two rewrites that there is
+abbrev pub rewrite_or : Rewrite → Rewrite → Rewrite
+rewrite_or none b = b
+rewrite_or (refused e) b = refused e
+rewrite_or (becomes n) b = becomes n
+
+-- an operation of which no result is used is erased
+abbrev pub unused_erased : Module → ℕ → Rewrite
+unused_erased m x = if is_unused x m.tree then becomes (edited (Erase x) m) else none
+
+-- what becomes of operation x where it is a cast and not the root: it is erased, or rule 21 collapses it
+abbrev pub collapse : Module → ℕ → Rewrite
+collapse m x = if is_cast x m.tree && not (eqb (head m.tree).id x) then rewrite_or (unused_erased m x) (rewrite_of 21 m x) else none
+
+-- the first rewrite at one of some operations
+abbrev pub first_rewrite : (ℕ → Rewrite) → List ℕ → Rewrite
+first_rewrite f [] = none
+first_rewrite f (x ∷ xs) = rewrite_or (f x) (first_rewrite f xs)
+
+-- the first such cast, in pre-order
+abbrev pub next_collapse : Module → Rewrite
+next_collapse m = first_rewrite (collapse m) (ids m.tree)
+
+-- going on as long as there is a rewrite
+abbrev pub go_on : (Module → Rewrite) → Module → Rewrite → Rewrite
+go_on f m none = becomes m
+go_on f m (refused e) = refused e
+go_on f m (becomes n) = f n
+
+-- so many of them, one after another
+abbrev pub collapsed : ℕ → Module → Rewrite
+collapsed zero m = becomes m
+collapsed (suc k) m = go_on (collapsed k) m (next_collapse m)
+
+-- all of them: each takes an operation away at least, so there are no more than operations
+abbrev pub all_collapsed : Module → Rewrite
+all_collapsed m = collapsed (op_count m.tree) m
+
+-- ---- casts between index and i64
+
+-- whether a value of index is taken to i64, or one of i64 to index
+abbrev pub takes_index : Operation → Value → TypeTerm → Bool
+takes_index t v ty = is_index_value t v && same_type ty i64 || is_of_type t i64 v && is_index ty
+
+-- the edits that put an `arith.index_cast` in the place of operation x, where it has one operand and one result and takes
+-- index to i64 or back
+abbrev pub index_edits : Module → ℕ → Option (List Edit)
+index_edits m x = given (find x m.tree) (λ o. given (front_of x m.tree) (λ front. given (one (head o)) (λ p.
+    when (takes_index m.tree p.first p.ty) (Some (give_new front m.next x (cast (codes "arith.index_cast") p.ty p.first))))))
+
+-- what becomes of operation x then
+abbrev pub index_rewrite : Module → ℕ → Rewrite
+index_rewrite m x = rewrite_by (index_edits m x) m

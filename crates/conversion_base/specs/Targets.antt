@@ -1,0 +1,111 @@
+-- What a conversion aims at, and which operations are legal then (Dialect Conversion, "Conversion Target").
+use Rattle.std.specs.Prelude.{◌≡◌, ℕ, List, [], ◌∷◌, ◌++◌, codes, map, eqb, Bool, true, false, not, ◌||◌, ◌&&◌, nat_le, Option, Some, None, option_map, refl}
+use Rattle.std.specs.List.{All, list_any, list_all}
+use Rattle.std.specs.Coded.{Coded, code_by, coded_ℕ, coded_bool, coded_list, coded×}
+use Rattle.ir_types.specs.Things.{Things, IsName}
+use Rattle.ir_types.specs.Terms.{TypeTerm, name_term}
+use Rattle.ir_tree.specs.Ids.{find}
+use Rattle.ir_tree.specs.Meaning.{Operation}
+use Rattle.ir_store.specs.Nodes.{node_of}
+use Rattle.ir_event.specs.Modules.{Node}
+use Rattle.patterns_base.specs.Looks.{is_index, is_index_value}
+use Rattle.patterns_base.specs.Rewrites.{converting_rules}
+use Rattle.patterns_base.specs.Words.{named, among}
+
+-- a target: whether each operation has to be legal in the end; the names of operations that are legal, that aren't, and
+-- that are where they have no value of type index; the rules to be tried, in this order; how deep the operations that rules
+-- make are legalised
+pub record TargetOf (N : Type 0) : Type 0 where
+  pub full : Bool
+  pub legal : List N
+  pub illegal : List N
+  pub dynamic : List N
+  pub rules : List ℕ
+  pub depth : ℕ
+
+-- names by their bytes
+abbrev pub Aim : Type 0
+Aim = TargetOf (List ℕ)
+
+-- what a target of numbers of a context stands for
+abbrev pub aim_of : Things → TargetOf ℕ → Aim
+aim_of c g =
+    record { full = g.full; legal = map (name_term c) g.legal; illegal = map (name_term c) g.illegal; dynamic = map (name_term c) g.dynamic; rules = g.rules; depth = g.depth }
+
+-- the names of a target
+abbrev pub names_of : {N : Type 0} → TargetOf N → List N
+names_of g = g.legal ++ g.illegal ++ g.dynamic
+
+-- the name of the casts between types that a conversion leaves for the time being
+abbrev pub cast_name : List ℕ
+cast_name = codes "builtin.unrealized_conversion_cast"
+
+-- ---- which targets are accepted
+
+-- whether each name stands once
+abbrev pub each_once : List (List ℕ) → Bool
+each_once [] = true
+each_once (n ∷ ns) = not (among ns n) && each_once ns
+
+-- whether conversion may try a rule
+abbrev pub is_for_conversion : ℕ → Bool
+is_for_conversion r = list_any (eqb r) converting_rules
+
+-- the greatest depth
+abbrev pub most_depth : ℕ
+most_depth = 16
+
+-- whether a target is accepted: each name stands once in its lists, casts stand in none, conversion may try each of its
+-- rules, and the depth is within its limits
+abbrev pub is_accepted : Aim → Bool
+is_accepted g =
+    each_once (names_of g) && (not (list_any (named cast_name) (names_of g)) && (list_all is_for_conversion g.rules && (nat_le 1 g.depth && nat_le g.depth most_depth)))
+
+-- ---- which operations are legal
+
+-- whether the block of a region, if it has one, has an argument of type index
+abbrev pub index_argument : Option (List TypeTerm) → Bool
+index_argument None = false
+index_argument (Some types) = list_any is_index types
+
+-- whether an operation of a tree has an operand, a result or an argument of type index
+abbrev pub has_index : Operation → Node → Bool
+has_index t n = list_any (is_index_value t) n.head.operands || (list_any is_index n.head.results || list_any index_argument n.arguments)
+
+-- whether an operation of a tree is legal: it is such a cast; it is named as legal, or, without a value of type index, as
+-- dynamic; or it isn't named, and need not be
+abbrev pub is_legal_node : Aim → Operation → Node → Bool
+is_legal_node g t n =
+    named cast_name n.head.name
+    || (among g.legal n.head.name
+    || (among g.dynamic n.head.name && not (has_index t n)
+    || not g.full && not (among (names_of g) n.head.name)))
+
+-- whether an operation that may be there is
+abbrev pub is_legal_found : Aim → Operation → Option Node → Bool
+is_legal_found g t None = false
+is_legal_found g t (Some n) = is_legal_node g t n
+
+-- whether operation x of a tree is
+abbrev pub is_legal : Aim → ℕ → Operation → Bool
+is_legal g x t = is_legal_found g t (option_map node_of (find x t))
+
+-- ---- targets of numbers
+
+-- the names of a target are of a context
+pub record IsNamedIn (c : Things) (g : TargetOf ℕ) : Type 0 where
+  pub legal : All (IsName c) g.legal
+  pub illegal : All (IsName c) g.illegal
+  pub dynamic : All (IsName c) g.dynamic
+
+-- and conversion may try each of its rules
+pub record IsAimIn (c : Things) (g : TargetOf ℕ) : Type 0 where
+  pub names : IsNamedIn c g
+  pub rules : list_all is_for_conversion g.rules ≡ true
+
+abbrev pub target_code : Coded (TargetOf ℕ)
+target_code =
+    code_by (Bool × (List ℕ × (List ℕ × (List ℕ × (List ℕ × ℕ))))) (coded× coded_bool (coded× (coded_list coded_ℕ) (coded× (coded_list coded_ℕ) (coded× (coded_list coded_ℕ) (coded× (coded_list coded_ℕ) coded_ℕ)))))
+    (λ g. (g.full, (g.legal, (g.illegal, (g.dynamic, (g.rules, g.depth))))))
+    (λ p. record { full = p.0; legal = p.1.0; illegal = p.1.1.0; dynamic = p.1.1.1.0; rules = p.1.1.1.1.0; depth = p.1.1.1.1.1 })
+    (λ _. refl)

@@ -1,0 +1,206 @@
+//! Casts between types that a conversion left: what is read of them, and the edits that reconcile them.
+ghost use Rattle.std.specs.Prelude.{◌≡◌, ◌<◌, ◌&&◌, ℕ, true, not, eqb, IfOk, IfSome, option_map};
+ghost use Rattle.ir_types.specs.Things.{Things, IsType};
+ghost use Rattle.ir_types.specs.Terms.{type_term};
+ghost use Rattle.ir_types.specs.SameTypes.{same_type};
+ghost use Rattle.ir_tree.specs.Tree.{head};
+ghost use Rattle.ir_tree.specs.Ids.{has_id};
+ghost use Rattle.ir_tree.specs.declared.value.Value.TheVariants.{Result as result_of};
+ghost use Rattle.ir_tree_laws.specs.Values.{has_value};
+ghost use Rattle.ir_event.specs.Modules.{NodeIsOf, module_in};
+ghost use Rattle.effects.specs.Dead.{is_unused};
+ghost use Rattle.patterns_edits.specs.Lists.{AllFit, edits_meaning};
+ghost use Rattle.patterns_base.specs.Looks.{is_of_type};
+ghost use Rattle.patterns_base.specs.Made.{i64};
+ghost use Rattle.conversion_base.specs.Reconciling.{index_edits, is_cast, takes_index};
+ghost use Rattle.conversion_base.specs.Numbers.{cast_edits, ends_from, new_cast};
+
+use crate::legal::{is_index, is_index_value, shown};
+use ir_event::world::World;
+use ir_store::node::Node;
+use ir_tree::place::Place;
+use ir_tree::tree::TreeOp;
+use ir_tree::value::Value;
+use ir_types::context::Context;
+use ir_types::ids::{OpId, TypeId};
+use ir_types::word::Word;
+use ir_verify_base::types::width_of;
+use patterns_edits::edit::Edit;
+use std::alloc::{AllocError, Global};
+
+/// Whether an operation of the module is a cast between types that was left for the time being.
+pub fn is_cast(world: &World, op: OpId) -> bool
+    ensures { result ≡ is_cast op (module_in world.now).tree }
+{
+    let Some(node) = shown(world, op) else {
+        return false;
+    };
+    world
+        .ctx
+        .is_word(node.name(), Word::BuiltinUnrealizedConversionCast)
+}
+
+/// Whether an operation of the module is the root.
+fn is_root(world: &World, op: OpId) -> bool
+    requires { has_id op world.now.store.module_of.tree ≡ true }
+    ensures { result ≡ eqb (head (module_in world.now).tree).id op }
+{
+    world.store.place(op).is_none()
+}
+
+/// Whether an operation of the module is such a cast, and not the root.
+pub fn is_inner_cast(world: &World, op: OpId) -> bool
+    ensures { result ≡ (is_cast op (module_in world.now).tree && not (eqb (head (module_in world.now).tree).id op)) }
+{
+    is_cast(world, op) && !is_root(world, op)
+}
+
+/// How many results an operation of the module has.
+fn result_count(world: &World, op: OpId) -> u32
+    ensures { (k : ℕ) → has_value (result_of op k) world.now.store.module_of.tree ≡ true → k < result }
+{
+    match shown(world, op) {
+        Some(node) => node.results().len() as u32,
+        None => 0,
+    }
+}
+
+/// Whether no result of an operation of the module is used.
+pub fn is_unused(world: &World, op: OpId) -> bool
+    ensures { result ≡ is_unused op (module_in world.now).tree }
+{
+    let count = result_count(world, op);
+    let mut number = 0;
+    'results: while number < count {
+        if world.store.first_use(Value::Result(op, number)).is_some() {
+            return false;
+        }
+        number += 1;
+    }
+    true
+}
+
+/// Whether a type is `i64`.
+fn is_i64(ctx: &Context, ty: TypeId) -> bool
+    requires { IsType ctx.now ty }
+    ensures { result ≡ same_type (type_term ctx.now ty) i64 }
+{
+    match width_of(ctx, ty) {
+        Some(width) => width == 64,
+        None => false,
+    }
+}
+
+/// Whether a value of the module is of type `i64`.
+fn is_i64_value(world: &World, value: &Value) -> bool
+    ensures { result ≡ is_of_type (module_in world.now).tree i64 value.now }
+{
+    match world.store.value_type(*value) {
+        Some(ty) => is_i64(&world.ctx, ty),
+        None => false,
+    }
+}
+
+/// The operand, and the result's type, of an operation that has one of each.
+#[derive(Clone, Copy)]
+pub struct Ends {
+    pub operand: Value,
+    pub ty: TypeId,
+}
+
+/// Those of an operation of which this is shown, if it has one of each.
+fn ends_of(node: &Node<'_>) -> Option<Ends>
+    ensures ends { result ≡ ends_from node.now.head.operands node.now.head.results }
+    ensures of { (c : Things) → NodeIsOf c node.now → IfSome result (λ e. IsType c e.ty) }
+{
+    let [operand] = node.operands() else {
+        return None;
+    };
+    let [ty] = node.results() else {
+        return None;
+    };
+    Some(Ends {
+        operand: *operand,
+        ty: *ty,
+    })
+}
+
+/// Whether a value of index is taken to i64, or one of i64 to index.
+fn takes_index(world: &World, ends: &Ends) -> bool
+    requires { IsType world.now.ctx ends.now.ty }
+    ensures { result ≡ takes_index (module_in world.now).tree ends.now.operand (type_term world.now.ctx ends.now.ty) }
+{
+    is_index_value(world, &ends.operand) && is_i64(&world.ctx, ends.ty)
+        || is_i64_value(world, &ends.operand) && is_index(&world.ctx, ends.ty)
+}
+
+/// An `arith.index_cast` of a value, to a type.
+fn index_cast(alloc: Global, ends: &Ends) -> Result<TreeOp, AllocError>
+    ensures { IfOk result (λ o. o ≡ new_cast ends.now.operand ends.now.ty) }
+{
+    let operands = [ends.operand].to_vec(alloc)?;
+    let results = [ends.ty].to_vec(alloc)?;
+    Ok(TreeOp {
+        id: OpId::new(0),
+        name: Word::ArithIndexCast.id(),
+        operands,
+        results,
+        props: Vec::new(alloc),
+        attrs: Vec::new(alloc),
+        regions: Vec::new(alloc),
+    })
+}
+
+/// The edits that put an `arith.index_cast` in the place of an operation. A place is in front of the operation, and an id is the
+/// next free one.
+fn cast_edits(
+    alloc: Global,
+    front: Place,
+    next: OpId,
+    op: OpId,
+    ends: &Ends,
+) -> Result<Vec<Edit>, AllocError>
+    ensures { IfOk result (λ es. es.items ≡ cast_edits front next op ends.now.operand ends.now.ty) }
+{
+    let made = index_cast(alloc, ends)?;
+    let mut edits = Vec::new(alloc);
+    edits.push(Edit::Make {
+        place: front,
+        op: made,
+    })?;
+    edits.push(Edit::Replace {
+        old: Value::Result(op, 0),
+        new: Value::Result(next, 0),
+    })?;
+    edits.push(Edit::Erase { op })?;
+    Ok(edits)
+}
+
+/// The edits that put an `arith.index_cast` in the place of an operation of the module, if it has one operand and one result and
+/// takes index to i64 or back.
+pub fn index_edits(alloc: Global, world: &World, op: OpId) -> Result<Option<Vec<Edit>>, AllocError>
+    ensures edits { IfOk result (λ p. option_map (λ es. edits_meaning world.now.ctx es.items) p ≡ index_edits (module_in world.now) op) }
+    ensures fit { IfOk result (λ p. IfSome p (λ es. AllFit world.now.ctx es.items)) }
+{
+    world.ctx.sound();
+    let Some(node) = shown(world, op) else {
+        return Ok(None);
+    };
+    let Some(place) = world.store.place(op) else {
+        return Ok(None);
+    };
+    let Some(ends) = ends_of(&node) else {
+        return Ok(None);
+    };
+    if !takes_index(world, &ends) {
+        return Ok(None);
+    }
+    let front = Place {
+        parent: place.parent,
+        region: place.region,
+        before: Some(op),
+    };
+    let next = OpId::new(world.store.next_id());
+    let edits = cast_edits(alloc, front, next, op, &ends)?;
+    Ok(Some(edits))
+}

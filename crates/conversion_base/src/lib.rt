@@ -1,0 +1,8 @@
+//! What dialect conversion is: targets, legal operations, how operations are legalised and casts reconciled.
+#![tactic(auto)]
+
+pub mod accepted;
+pub mod casts;
+pub mod laws;
+pub mod legal;
+pub mod target;

@@ -1,0 +1,31 @@
+//! What a conversion aims at.
+use ir_types::ids::NameId;
+use std::marker::Model;
+
+/// What a conversion aims at (Dialect Conversion, "Conversion Target").
+#[derive(Drop)]
+pub struct Target {
+    /// Whether each operation has to be legal in the end.
+    pub full: bool,
+    /// The names of operations that are legal.
+    pub legal: Vec<NameId>,
+    /// The names of those that aren't.
+    pub illegal: Vec<NameId>,
+    /// The names of those that are where they have no value of type index.
+    pub dynamic: Vec<NameId>,
+    /// The rules to be tried, in this order.
+    pub rules: Vec<u32>,
+    /// How deep the operations that rules make are legalised.
+    pub depth: u32,
+}
+
+impl Model for Target {
+    ghost use Rattle.conversion_base.specs.Targets.{TargetOf, target_code};
+    ghost use Rattle.std.specs.Prelude.{ℕ};
+
+    ghost Value = { TargetOf ℕ };
+
+    ghost coded = { target_code };
+
+    ghost view = { λ g. record { full = g.full; legal = g.legal.items; illegal = g.illegal.items; dynamic = g.dynamic.items; rules = g.rules.items; depth = g.depth } };
+}

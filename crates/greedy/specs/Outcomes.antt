@@ -1,0 +1,55 @@
+-- What runs of greedy canonicalization come to.
+use Rattle.std.specs.Prelude.{◌≡◌, ◌≢◌, ◌⊎◌, ◌↔◌, ℕ, Bool, true, false, ◌&&◌, nat_le}
+use Rattle.ir_types.specs.declared.refusal.Refusal.{Refusal}
+use Rattle.ir_types.specs.declared.refusal.Refusal.TheVariants.{Memory, BadLimit, Full}
+use Rattle.ir_event.specs.Modules.{Module}
+use Rattle.patterns_base.specs.Rewrites.{Rewrite, none, refused, becomes}
+use Rattle.patterns_base.specs.Canonicalization.{End, converged, limited, stopped, ended, canonical_from, canonicalization_of, most_rewrites}
+use Rattle.greedy.specs.declared.outcome.Outcome.{Outcome}
+use Rattle.greedy.specs.declared.outcome.Outcome.TheVariants.{Converged, Limit}
+
+-- a rewrite, and what was made of the module
+abbrev pub Applied : Rewrite → Bool → Module → Module → Type 0
+Applied none done m n = (done ≡ false) × (n ≡ m)
+Applied (becomes p) done m n = (done ≡ true) × (n ≡ p)
+Applied (refused e) done m n = ⊥
+
+-- a rewrite is refused for want of memory, or as it is itself, or, where there is one, because no more can be numbered
+abbrev pub Refuses : Rewrite → Type 0 → Refusal → Type 0
+Refuses a is_full e = (e ≡ Memory) ⊎ ((a ≡ refused e) ⊎ ((e ≡ Full) × ((a ≢ none) × is_full)))
+
+-- whether there is a rewrite
+abbrev pub Tells : Rewrite → Bool → Type 0
+Tells a true = a ≢ none
+Tells a false = a ≡ none
+
+-- how many rewrites an outcome tells, and how it says that they ended
+abbrev pub count_of : Outcome → ℕ
+count_of (Converged k) = k
+count_of (Limit k) = k
+
+abbrev pub ending_of : Outcome → End
+ending_of (Converged k) = converged
+ending_of (Limit k) = limited
+
+-- at most so many rewrites of module m come to an outcome and to module n
+abbrev pub ComeTo : ℕ → Module → Outcome → Module → Type 0
+ComeTo limit m o n = canonical_from limit 0 m ≡ ended n (count_of o) (ending_of o)
+
+-- or to a refusal, for want of memory, by the definition, or because no more can be numbered
+abbrev pub Stop : ℕ → Module → Type 0 → Refusal → Type 0
+Stop limit m is_full e = (e ≡ Memory) ⊎ ((canonical_from limit 0 m ≡ stopped e) ⊎ ((e ≡ Full) × is_full))
+
+-- the canonicalization of module m comes to an outcome and to module n
+abbrev pub IsCanonical : ℕ → Module → Outcome → Module → Type 0
+IsCanonical limit m o n = canonicalization_of limit m ≡ ended n (count_of o) (ending_of o)
+
+-- whether a limit may be asked for
+abbrev pub is_limit : ℕ → Bool
+is_limit limit = nat_le 1 limit && nat_le limit most_rewrites
+
+-- why the canonicalization of module m is refused: exactly for its limit, where that may not be asked for; else for
+-- want of memory, by the definition, or because no more can be numbered
+pub record IsReason (limit : ℕ) (m : Module) (is_full : Type 0) (e : Refusal) : Type 0 where
+  pub limited : (e ≡ BadLimit) ↔ (is_limit limit ≡ false)
+  pub others : is_limit limit ≡ true → (e ≡ Memory) ⊎ ((canonicalization_of limit m ≡ stopped e) ⊎ ((e ≡ Full) × is_full))

@@ -1,0 +1,103 @@
+-- The worklist: the operations at which a rule may apply.
+use Rattle.std.specs.Prelude.{◌≡◌, ◌⊎◌, ◌<◌, ◌+◌, length, ℕ, List, [], ◌∷◌, Bool, true, false, ◌||◌, eqb, if◌then◌else◌, Option, Some, None}
+use Rattle.ir_tree.specs.Ids.{ids, has_id, HasDistinctIds}
+use Rattle.ir_tree.specs.Meaning.{Operation}
+use Rattle.ir_tree_laws.specs.Reads.{precedes}
+use Rattle.ir_event.specs.Modules.{Module}
+use Rattle.patterns_base.specs.Rewrites.{none}
+use Rattle.patterns_base.specs.Canonicalization.{lowest}
+use Rattle.patterns_touched.specs.Sights.{is_listed}
+
+-- the first of a list, and the one behind the first a in a list
+abbrev pub first_id : List ℕ → Option ℕ
+first_id [] = None
+first_id (x ∷ xs) = Some x
+
+abbrev pub comes_next : ℕ → List ℕ → Option ℕ
+comes_next a [] = None
+comes_next a (x ∷ xs) = if eqb x a then first_id xs else comes_next a xs
+
+-- the operation after operation x in pre-order
+abbrev pub following : ℕ → Operation → Option ℕ
+following x t = comes_next x (ids t)
+
+-- ---- what a rewrite at operation x leaves
+
+-- the operations before x stay, and those that stay are in the order in which they were
+pub record Orderly (x : ℕ) (m n : Module) : Type 0 where
+  pub stays : (y : ℕ) → precedes y x m.tree ≡ true → has_id y n.tree ≡ true
+  pub order : (a b : ℕ) → has_id a m.tree ≡ true → has_id b m.tree ≡ true → has_id a n.tree ≡ true → has_id b n.tree ≡ true → precedes a b n.tree ≡ precedes a b m.tree
+
+-- ---- the worklist
+
+-- whether an operation waits: it comes after the one that was passed last, or is to be looked at again
+abbrev pub waits : ℕ → List ℕ → Operation → ℕ → Bool
+waits passed again t x = precedes passed x t || is_listed x again
+
+-- operations in the order opposed to pre-order, each once
+abbrev pub Falls : Operation → List ℕ → Type 0
+Falls t [] = Unit {0}
+Falls t (y ∷ ys) = ((z : ℕ) → is_listed z ys ≡ true → precedes z y t ≡ true) × Falls t ys
+
+-- a worklist in a tree: the operations that are to be looked at again are there, each once, the first in pre-order
+-- last, and none of them comes after the one that was passed last
+pub record IsWork (passed : ℕ) (again : List ℕ) (t : Operation) : Type 0 where
+  pub there : has_id passed t ≡ true
+  pub inside : (y : ℕ) → is_listed y again ≡ true → has_id y t ≡ true
+  pub behind : (y : ℕ) → is_listed y again ≡ true → precedes passed y t ≡ false
+  pub falls : Falls t again
+
+-- no rule applies at an operation that doesn't wait
+abbrev pub Covers : ℕ → List ℕ → Module → Type 0
+Covers passed again m = (x : ℕ) → has_id x m.tree ≡ true → waits passed again m.tree x ≡ false → lowest m x ≡ none
+
+-- a worklist of a module
+pub record Right (passed : ℕ) (again : List ℕ) (m : Module) : Type 0 where
+  pub work : IsWork passed again m.tree
+  pub covers : Covers passed again m
+
+-- how many stand behind the first a in a list, and how many wait at most
+abbrev pub count_after : ℕ → List ℕ → ℕ
+count_after a [] = 0
+count_after a (x ∷ xs) = if eqb x a then length xs else count_after a xs
+
+abbrev pub left : ℕ → List ℕ → Operation → ℕ
+left passed again t = count_after passed (ids t) + length again
+
+-- ---- its calls
+
+-- operation x was taken from a worklist: no other that waited comes before it, and the others still wait
+pub record Taken (x passed : ℕ) (again : List ℕ) (passed2 : ℕ) (again2 : List ℕ) (t : Operation) : Type 0 where
+  pub there : has_id x t ≡ true
+  pub first : (z : ℕ) → precedes z x t ≡ true → waits passed again t z ≡ false
+  pub others : (z : ℕ) → has_id z t ≡ true → waits passed again t z ≡ true → (z ≡ x) ⊎ (waits passed2 again2 t z ≡ true)
+  pub work : IsWork passed2 again2 t
+  pub fewer : left passed2 again2 t < left passed again t
+
+-- no operation waits
+abbrev pub NoneWaits : ℕ → List ℕ → Operation → Type 0
+NoneWaits passed again t = (z : ℕ) → has_id z t ≡ true → waits passed again t z ≡ false
+
+-- what waited in one tree, and is in another, waits there
+abbrev pub StillWaits : ℕ → List ℕ → Operation → ℕ → List ℕ → Operation → Type 0
+StillWaits passed again t passed2 again2 u = (z : ℕ) → has_id z t ≡ true → has_id z u ≡ true → waits passed again t z ≡ true → waits passed2 again2 u z ≡ true
+
+-- a list that falls, parted by operation x: those that x comes before, and the others
+pub record Parted (x : ℕ) (t : Operation) (front back : List ℕ) : Type 0 where
+  pub later : (z : ℕ) → is_listed z front ≡ true → precedes x z t ≡ true
+  pub others : (z : ℕ) → is_listed z back ≡ true → precedes x z t ≡ false
+
+-- no rule applies at an operation that doesn't wait, but perhaps at operation x
+abbrev pub CoversBut : ℕ → ℕ → List ℕ → Module → Type 0
+CoversBut x passed again m = (z : ℕ) → has_id z m.tree ≡ true → waits passed again m.tree z ≡ false → (z ≡ x) ⊎ (lowest m z ≡ none)
+
+-- a worklist from which operation x was taken, at which a rule was applied, which led from m to n
+pub record Rewritten (x before : ℕ) (m n : Module) : Type 0 where
+  pub distinct : HasDistinctIds m.tree
+  pub orderly : Orderly x m n
+  pub nearby : precedes before x m.tree ≡ true
+
+-- whether a list begins with operation x
+abbrev pub begins_with : ℕ → List ℕ → Bool
+begins_with x [] = false
+begins_with x (y ∷ ys) = eqb y x

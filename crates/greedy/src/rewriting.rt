@@ -1,0 +1,117 @@
+//! What the driver needs of a bench and of the rules.
+ghost use Rattle.std.specs.Prelude.{◌≡◌, ◌≢◌, ◌≤◌, IfOk, IfErr, OnErr, OnOk, IfSome, IfNone, ◌⊎◌, [], ◌∷◌, List, ℕ, true, false};
+ghost use Rattle.ir_types.specs.declared.refusal.Refusal.TheVariants.{Memory as NoMemory};
+ghost use Rattle.ir_tree.specs.Ids.{HasDistinctIds, has_id};
+ghost use Rattle.ir_tree.specs.Tree.{head};
+ghost use Rattle.ir_tree_laws.specs.Reads.{precedes};
+ghost use Rattle.ir_event.specs.Modules.{Module};
+ghost use Rattle.rewriter_machine.specs.Machine.{OpenMark};
+ghost use Rattle.patterns_base.specs.Rewrites.{becomes, none};
+ghost use Rattle.patterns_base.specs.Canonicalization.{lowest};
+ghost use Rattle.greedy.specs.Outcomes.{Applied, Refuses};
+ghost use Rattle.greedy.specs.Work.{Orderly, following};
+ghost use Rattle.patterns_touched.specs.Listing.{Touched};
+
+use ir_types::ids::OpId;
+use ir_types::refusal::Refusal;
+use std::alloc::Global;
+
+/// A bench with rules.
+pub trait Rewriting {
+    /// The module held, the open marks, the newest first, how many events the journal has, and the module before its
+    /// events from one on.
+    ghost held: { Self → Module };
+
+    ghost marks: { Self → List OpenMark };
+
+    ghost events: { Self → ℕ };
+
+    ghost before: { Self → ℕ → Module };
+
+    /// Which modules are held, and what the rules do with these.
+    ghost formed: { Module → Type 0 };
+
+    ghost distinct: { (m : Module) → formed m → HasDistinctIds m.tree };
+
+    ghost rootless: { (m : Module) → formed m → lowest m (head m.tree).id ≡ none };
+
+    ghost orderly: { (m : Module) (x : ℕ) (n : Module) → formed m → lowest m x ≡ becomes n → Orderly x m n };
+
+    /// What its calls keep beside: of a bench, that its listeners are told of what leads from one module to the other.
+    ghost onward: { Self → Self → Type 0 };
+
+    ghost stays: { (b : Self) → onward b b };
+
+    ghost through: { (a b d : Self) → onward a b → onward b d → onward a d };
+
+    /// That no more names, types or attributes can be numbered, which stays so.
+    ghost full: { Self → Type 0 };
+
+    ghost stays_full: { (a b : Self) → onward a b → full a → full b };
+
+    /// What is true of each module held.
+    fn is_formed(&self)
+        ensures { formed (held self.now) };
+
+    /// The outermost operation.
+    fn root(&self) -> OpId
+        ensures { result ≡ (head (held self.now).tree).id };
+
+    /// Whether an operation is in the module.
+    fn in_tree(&self, op: OpId) -> bool
+        ensures { result ≡ has_id op (held self.now).tree };
+
+    /// Whether an operation comes before another in pre-order.
+    fn precedes(&self, op: OpId, other: OpId) -> bool
+        ensures { result ≡ precedes op other (held self.now).tree };
+
+    /// The operation after another in pre-order.
+    fn following(&self, op: OpId) -> Option<OpId>
+        requires { has_id op (held self.now).tree ≡ true }
+        ensures { result ≡ following op (held self.now).tree };
+
+    /// An operation that comes before another in pre-order, and not far from it; the root has none.
+    fn preceding(&self, op: OpId) -> Option<OpId>
+        requires { has_id op (held self.now).tree ≡ true }
+        ensures some { IfSome result (λ p. precedes p op (held self.now).tree ≡ true) }
+        ensures none { IfNone result (op ≡ (head (held self.now).tree).id) };
+
+    /// How many events the journal has.
+    fn journal_len(&self) -> usize
+        ensures { result ≡ events self.now };
+
+    /// Applies the lowest rule of 1 to 24 that applies at an operation. The answer is whether there is one.
+    fn lowest(&mut self, alloc: Global, op: OpId) -> Result<bool, Refusal>
+        requires { has_id op (held self.old).tree ≡ true }
+        ensures ok { IfOk result (λ done. Applied (lowest (held self.old) op) done (held self.old) (held self.new)) }
+        ensures err { OnErr result (held self.new ≡ held self.old) }
+        ensures refused { IfErr result (λ e. Refuses (lowest (held self.old) op) (full self.new) e) }
+        ensures noted { marks self.old ≢ [] → (events self.old ≤ events self.new) × (before self.new (events self.old) ≡ held self.old) }
+        ensures marks { marks self.new ≡ marks self.old }
+        ensures onward { onward self.old self.new };
+
+    /// The operations at which the rules may apply otherwise than before the events from one on.
+    fn touched(&self, alloc: Global, from: usize) -> Result<Vec<OpId>, Refusal>
+        requires { from ≤ events self.now }
+        ensures ok { IfOk result (λ v. Touched (before self.now from) (held self.now) v.items) }
+        ensures refused { IfErr result (λ e. e ≡ NoMemory) };
+
+    /// Opens a mark that isn't counted.
+    fn step(&mut self) -> Result<(), Refusal>
+        ensures ok { OnOk result (marks self.new ≡ record { marked = held self.old; counted = false } ∷ marks self.old) }
+        ensures held { held self.new ≡ held self.old }
+        ensures err { OnErr result (marks self.new ≡ marks self.old) }
+        ensures refused { IfErr result (λ e. e ≡ NoMemory) }
+        ensures onward { onward self.old self.new };
+
+    /// Closes the newest mark, if there is one.
+    fn commit(&mut self)
+        ensures held { held self.new ≡ held self.old }
+        ensures marks { (k : OpenMark) (ks : List OpenMark) → marks self.old ≡ k ∷ ks → marks self.new ≡ ks }
+        ensures onward { onward self.old self.new };
+
+    /// Closes the newest mark and holds its module again, if there is one.
+    fn rollback(&mut self)
+        ensures marks { (k : OpenMark) (ks : List OpenMark) → marks self.old ≡ k ∷ ks → (marks self.new ≡ ks) × (held self.new ≡ k.marked) }
+        ensures onward { onward self.old self.new };
+}

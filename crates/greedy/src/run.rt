@@ -1,0 +1,240 @@
+//! The driver.
+ghost use Rattle.std.specs.Prelude.{◌≡◌, ◌≢◌, ◌⊎◌, ◌≤◌, ℕ, IfOk, IfErr, OnErr, OnOk, MatchResult, List, [], ◌++◌, ◌∷◌, true, false};
+ghost use Rattle.ir_types.specs.declared.refusal.Refusal.TheVariants.{Memory as NoMemory};
+ghost use Rattle.ir_tree.specs.Ids.{has_id};
+ghost use Rattle.patterns_base.specs.Canonicalization.{next_rewrite};
+ghost use Rattle.greedy.specs.Outcomes.{Applied, ComeTo, IsCanonical, IsReason, Refuses, Stop, Tells};
+ghost use Rattle.greedy.specs.Work.{IsWork, Right, CoversBut, Rewritten, StillWaits, waits};
+ghost use Rattle.patterns_touched.specs.Sights.{is_listed};
+ghost use Rattle.patterns_touched.specs.Listing.{Touched};
+
+use crate::outcome::Outcome;
+use crate::rewriting::Rewriting;
+use crate::work::{Work, add, settle, take};
+use ir_types::ids::OpId;
+use ir_types::refusal::Refusal;
+use std::alloc::Global;
+
+/// Lets all of a list wait that are in the module.
+fn add_all<R: Rewriting>(bench: &R, work: &mut Work, ops: &[OpId]) -> Result<(), Refusal>
+    requires { IsWork work.old.passed work.old.again.items (R.held bench.now).tree }
+    ensures work { IsWork work.new.passed work.new.again.items (R.held bench.now).tree }
+    ensures added { OnOk result ((z : ℕ) → is_listed z ops.now ≡ true → has_id z (R.held bench.now).tree ≡ true → waits work.new.passed work.new.again.items (R.held bench.now).tree z ≡ true) }
+    ensures others { StillWaits work.old.passed work.old.again.items (R.held bench.now).tree work.new.passed work.new.again.items (R.held bench.now).tree }
+    ensures refused { IfErr result (λ e. e ≡ NoMemory) }
+{
+    let mut rest = ops;
+    'ops: while let [op, tail @ ..] = rest {
+        match add(bench, work, *op) {
+            Ok(()) => {}
+            Err(refusal) => return Err(refusal),
+        }
+        rest = tail;
+    }
+    Ok(())
+}
+
+/// After a rewrite at an operation, before which another comes, all wait that did, and those at which the rules may now
+/// apply otherwise.
+fn renew<R: Rewriting>(
+    alloc: Global,
+    bench: &R,
+    work: &mut Work,
+    op: OpId,
+    before: OpId,
+    from: usize,
+) -> Result<(), Refusal>
+    requires within { from ≤ R.events bench.now }
+    requires rewritten { Rewritten op before (R.before bench.now from) (R.held bench.now) }
+    requires work { IsWork work.old.passed work.old.again.items (R.before bench.now from).tree }
+    requires covers { CoversBut op work.old.passed work.old.again.items (R.before bench.now from) }
+    ensures ok { OnOk result (Right work.new.passed work.new.again.items (R.held bench.now)) }
+    ensures refused { IfErr result (λ e. e ≡ NoMemory) }
+{
+    let listed = match bench.touched(alloc, from) {
+        Ok(listed) => listed,
+        Err(refusal) => return Err(refusal),
+    };
+    settle(bench, work, before);
+    match add(bench, work, op) {
+        Ok(()) => {}
+        Err(refusal) => return Err(refusal),
+    }
+    match add_all(bench, work, &listed) {
+        Ok(()) => Ok(()),
+        Err(refusal) => Err(refusal),
+    }
+}
+
+/// Whether a rule applies anywhere; if so, one rewrite: the first operation in pre-order at which a rule applies, with the
+/// lowest such rule.
+fn one<R: Rewriting>(
+    alloc: Global,
+    bench: &mut R,
+    work: &mut Work,
+    examined: &mut u64,
+) -> Result<bool, Refusal>
+    requires marked { R.marks bench.old ≢ [] }
+    requires right { Right work.old.passed work.old.again.items (R.held bench.old) }
+    ensures ok { IfOk result (λ done. Applied (next_rewrite (R.held bench.old)) done (R.held bench.old) (R.held bench.new)) }
+    ensures refused { IfErr result (λ e. Refuses (next_rewrite (R.held bench.old)) (R.full bench.new) e) }
+    ensures right { IfOk result (λ done. done ≡ true → Right work.new.passed work.new.again.items (R.held bench.new)) }
+    ensures marks { R.marks bench.new ≡ R.marks bench.old }
+    ensures onward { R.onward bench.old bench.new }
+{
+    'waiting: while let Some(op) = take(bench, work) {
+        bench.is_formed();
+        if let Some(before) = bench.preceding(op) {
+            *examined = examined.saturating_add(1);
+            let from = bench.journal_len();
+            match bench.lowest(alloc, op) {
+                Ok(true) => {
+                    return match renew(alloc, bench, work, op, before, from) {
+                        Ok(()) => Ok(true),
+                        Err(refusal) => Err(refusal),
+                    };
+                }
+                Ok(false) => {}
+                Err(refusal) => return Err(refusal),
+            }
+        }
+    }
+    Ok(false)
+}
+
+/// What a try says that was refused: a rule applies, but for want of memory.
+fn tried(refusal: Refusal) -> Result<bool, Refusal>
+    ensures ok { IfOk result (λ any. (any ≡ true) × (refusal ≢ NoMemory)) }
+    ensures refused { IfErr result (λ e. e ≡ NoMemory) }
+{
+    match refusal {
+        Refusal::Memory => Err(Refusal::Memory),
+        _ => Ok(true),
+    }
+}
+
+/// Whether a rule applies anywhere. The module is held again afterwards.
+fn applies<R: Rewriting>(
+    alloc: Global,
+    bench: &mut R,
+    work: &mut Work,
+    examined: &mut u64,
+) -> Result<bool, Refusal>
+    requires right { Right work.old.passed work.old.again.items (R.held bench.old) }
+    ensures ok { IfOk result (λ any. Tells (next_rewrite (R.held bench.old)) any) }
+    ensures held { R.held bench.new ≡ R.held bench.old }
+    ensures marks { R.marks bench.new ≡ R.marks bench.old }
+    ensures onward { R.onward bench.old bench.new }
+    ensures refused { IfErr result (λ e. e ≡ NoMemory) }
+{
+    match bench.step() {
+        Ok(()) => {}
+        Err(_) => return Err(Refusal::Memory),
+    }
+    let done = one(alloc, bench, work, examined);
+    bench.rollback();
+    match done {
+        Ok(any) => Ok(any),
+        Err(refusal) => tried(refusal),
+    }
+}
+
+/// Up to so many rewrites.
+fn rewrites<R: Rewriting>(
+    alloc: Global,
+    bench: &mut R,
+    work: &mut Work,
+    examined: &mut u64,
+    limit: u32,
+) -> Result<Outcome, Refusal>
+    requires marked { R.marks bench.old ≢ [] }
+    requires right { Right work.old.passed work.old.again.items (R.held bench.old) }
+    ensures ok { IfOk result (λ o. ComeTo limit (R.held bench.old) o (R.held bench.new)) }
+    ensures refused { IfErr result (λ e. Stop limit (R.held bench.old) (R.full bench.new) e) }
+    ensures marks { R.marks bench.new ≡ R.marks bench.old }
+    ensures onward { R.onward bench.old bench.new }
+{
+    let mut count = 0;
+    'rewrites: while count < limit {
+        match one(alloc, bench, work, examined) {
+            Ok(true) => {}
+            Ok(false) => return Ok(Outcome::Converged(count)),
+            Err(refusal) => return Err(refusal),
+        }
+        count += 1;
+    }
+    match applies(alloc, bench, work, examined) {
+        Ok(true) => Ok(Outcome::Limit(count)),
+        Ok(false) => Ok(Outcome::Converged(count)),
+        Err(_) => Err(Refusal::Memory),
+    }
+}
+
+/// Up to so many rewrites, from a module at whose every operation a rule may apply.
+fn rewritten<R: Rewriting>(
+    alloc: Global,
+    bench: &mut R,
+    examined: &mut u64,
+    limit: u32,
+) -> Result<Outcome, Refusal>
+    requires marked { R.marks bench.old ≢ [] }
+    ensures ok { IfOk result (λ o. ComeTo limit (R.held bench.old) o (R.held bench.new)) }
+    ensures refused { IfErr result (λ e. Stop limit (R.held bench.old) (R.full bench.new) e) }
+    ensures marks { R.marks bench.new ≡ R.marks bench.old }
+    ensures onward { R.onward bench.old bench.new }
+{
+    bench.is_formed();
+    let mut work = Work {
+        passed: bench.root(),
+        again: Vec::new(alloc),
+    };
+    rewrites(alloc, bench, &mut work, examined, limit)
+}
+
+/// Rewrites, as often as a rule applies and up to a limit: the first operation in pre-order at which a rule
+/// applies, with the lowest such rule. The answer is also how many operations were looked at. Refused, all is as it was.
+pub fn run_counted<R: Rewriting>(
+    alloc: Global,
+    bench: &mut R,
+    limit: u32,
+) -> Result<(Outcome, u64), Refusal>
+    ensures ok { IfOk result (λ o. IsCanonical limit (R.held bench.old) o.0 (R.held bench.new)) }
+    ensures err { OnErr result (R.held bench.new ≡ R.held bench.old) }
+    ensures refused { IfErr result (λ e. IsReason limit (R.held bench.old) (R.full bench.new) e) }
+    ensures marks { R.marks bench.new ≡ R.marks bench.old }
+    ensures onward { R.onward bench.old bench.new }
+{
+    if limit < 1 || limit > 1_000_000 {
+        return Err(Refusal::BadLimit);
+    }
+    match bench.step() {
+        Ok(()) => {}
+        Err(_) => return Err(Refusal::Memory),
+    }
+    let mut examined = 0;
+    match rewritten(alloc, bench, &mut examined, limit) {
+        Ok(outcome) => {
+            bench.commit();
+            Ok((outcome, examined))
+        }
+        Err(refusal) => {
+            bench.rollback();
+            Err(refusal)
+        }
+    }
+}
+
+/// Rewrites, as often as a rule applies and up to a limit: the first operation in pre-order at which a rule
+/// applies, with the lowest such rule. Refused, all is as it was.
+pub fn run<R: Rewriting>(alloc: Global, bench: &mut R, limit: u32) -> Result<Outcome, Refusal>
+    ensures ok { IfOk result (λ o. IsCanonical limit (R.held bench.old) o (R.held bench.new)) }
+    ensures err { OnErr result (R.held bench.new ≡ R.held bench.old) }
+    ensures refused { IfErr result (λ e. IsReason limit (R.held bench.old) (R.full bench.new) e) }
+    ensures marks { R.marks bench.new ≡ R.marks bench.old }
+    ensures onward { R.onward bench.old bench.new }
+{
+    match run_counted(alloc, bench, limit) {
+        Ok((outcome, _)) => Ok(outcome),
+        Err(refusal) => Err(refusal),
+    }
+}

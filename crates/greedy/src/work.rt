@@ -1,0 +1,110 @@
+//! The worklist.
+ghost use Rattle.std.specs.Prelude.{◌≡◌, ◌≢◌, ◌⊎◌, ◌≤◌, ℕ, ◌||◌, length, take, drop, not, IfOk, IfErr, OnErr, OnOk, IfSome, IfNone, MatchOption, true, false};
+ghost use Rattle.ir_types.specs.declared.refusal.Refusal.TheVariants.{Memory as NoMemory};
+ghost use Rattle.ir_tree.specs.Ids.{HasDistinctIds, has_id};
+ghost use Rattle.ir_tree.specs.Tree.{head};
+ghost use Rattle.ir_tree_laws.specs.Reads.{precedes};
+ghost use Rattle.ir_event.specs.Modules.{Module};
+ghost use Rattle.greedy.specs.Work.{begins_with, Parted, Rewritten, IsWork, waits, Taken, NoneWaits, StillWaits, Orderly, Falls};
+ghost use Rattle.patterns_touched.specs.Sights.{is_listed};
+
+use crate::rewriting::Rewriting;
+use ir_types::ids::OpId;
+use ir_types::refusal::Refusal;
+use std::alloc::Global;
+
+/// The operations at which a rule may apply: each that comes after `passed` in pre-order, and those of `again`, of
+/// which the first in pre-order is last.
+#[derive(Drop)]
+pub(crate) struct Work {
+    pub(crate) passed: OpId,
+    pub(crate) again: Vec<OpId>,
+}
+
+/// Takes the first operation that waits.
+pub(crate) fn take<R: Rewriting>(bench: &R, work: &mut Work) -> Option<OpId>
+    requires { IsWork work.old.passed work.old.again.items (R.held bench.now).tree }
+    ensures { MatchOption result (NoneWaits work.old.passed work.old.again.items (R.held bench.now).tree) (λ x. Taken x work.old.passed work.old.again.items work.new.passed work.new.again.items (R.held bench.now).tree) }
+{
+    bench.is_formed();
+    if let Some(op) = work.again.pop() {
+        return Some(op);
+    }
+    let Some(op) = bench.following(work.passed) else {
+        return None;
+    };
+    work.passed = op;
+    Some(op)
+}
+
+/// How many of the operations of a list that falls another comes before.
+fn behind<R: Rewriting>(bench: &R, again: &[OpId], op: OpId) -> usize
+    requires { Falls (R.held bench.now).tree again.now }
+    ensures bound { result ≤ length again.now }
+    ensures parted { Parted op (R.held bench.now).tree (take result again.now) (drop result again.now) }
+{
+    bench.is_formed();
+    again.partition_point(
+        |other: &OpId| -> bool
+            ensures { result ≡ precedes op other.now (R.held bench.entry.now).tree }
+        { bench.precedes(op, *other) },
+    )
+}
+
+/// Whether an operation stands at a place of a list.
+fn is_at(again: &[OpId], place: usize, op: OpId) -> bool
+    requires { place ≤ length again.now }
+    ensures { result ≡ begins_with op (drop place again.now) }
+{
+    match again.get(place) {
+        None => false,
+        Some(other) => *other == op,
+    }
+}
+
+/// Lets an operation wait that is in the module.
+pub(crate) fn add<R: Rewriting>(bench: &R, work: &mut Work, op: OpId) -> Result<(), Refusal>
+    requires { IsWork work.old.passed work.old.again.items (R.held bench.now).tree }
+    ensures work { IsWork work.new.passed work.new.again.items (R.held bench.now).tree }
+    ensures added { OnOk result (has_id op (R.held bench.now).tree ≡ true → waits work.new.passed work.new.again.items (R.held bench.now).tree op ≡ true) }
+    ensures others { StillWaits work.old.passed work.old.again.items (R.held bench.now).tree work.new.passed work.new.again.items (R.held bench.now).tree }
+    ensures refused { IfErr result (λ e. e ≡ NoMemory) }
+{
+    bench.is_formed();
+    if !bench.in_tree(op) {
+        return Ok(());
+    }
+    if bench.precedes(work.passed, op) {
+        return Ok(());
+    }
+    let place = behind(bench, &work.again, op);
+    if is_at(&work.again, place, op) {
+        return Ok(());
+    }
+    match work.again.insert(place, op) {
+        Ok(()) => Ok(()),
+        Err(_) => Err(Refusal::Memory),
+    }
+}
+
+/// Keeps what is still in the module after a rewrite. Where the operation that was passed last is gone, another that
+/// comes before the rewrite is the one that was passed last.
+pub(crate) fn settle<R: Rewriting>(bench: &R, work: &mut Work, before: OpId)
+    ensures work { (m : Module) (x : ℕ) → Rewritten x before m (R.held bench.now) → IsWork work.old.passed work.old.again.items m.tree → IsWork work.new.passed work.new.again.items (R.held bench.now).tree }
+    ensures others { (m : Module) (x : ℕ) → Rewritten x before m (R.held bench.now) → IsWork work.old.passed work.old.again.items m.tree → StillWaits work.old.passed work.old.again.items m.tree work.new.passed work.new.again.items (R.held bench.now).tree }
+{
+    work.again.retain(
+        |op: &OpId| -> bool
+            ensures { result ≡ has_id op.now (R.held bench.entry.now).tree }
+        { bench.in_tree(*op) },
+    );
+    if bench.in_tree(work.passed) {
+        return;
+    }
+    work.passed = before;
+    work.again.retain(
+        |op: &OpId| -> bool
+            ensures { result ≡ not (precedes before op.now (R.held bench.entry.now).tree) }
+        { !bench.precedes(before, *op) },
+    );
+}
