@@ -1,7 +1,7 @@
 """Whole runs with some listeners, and what they write by the rules (bench/reference); mlir_work_cases.py makes cases of them.
 
 For diagnostics there are the cases of verifier_cases.py. For each other listener there are modules by hand, modules by
-chance, and scripts that set operands; for all six together edits by hand that change rows elsewhere, and scripts of edits,
+chance, and scripts that set operands; for all seven together edits by hand that change rows elsewhere, and scripts of edits,
 marks and rollbacks with all rows after each command. By chance is from the seed below."""
 import random
 
@@ -11,8 +11,8 @@ from reference.module import text_of
 
 SEED = 20
 MODULES, SCRIPTS, COMMANDS = 300, 100, 10
-KINDS = ("symbols", "effects", "dead", "constants")
-GROUPS = (("symbols",), ("effects", "dead"), ("constants",))
+KINDS = ("symbols", "effects", "dead", "constants", "unreached")
+GROUPS = (("symbols",), ("effects", "dead"), ("constants",), ("unreached",))
 
 
 class Cases:
@@ -47,6 +47,8 @@ def known(*values):
 CALL = '"func.call"() <{callee = @f}> : () -> ()\n'
 YIELD = '"scf.yield"() : () -> ()\n'
 TRUE = '%true = "test.d"() : () -> i1\n'
+RETURN = '"func.return"() : () -> ()\n'
+PRIVATE = ', sym_visibility = "private"'
 # Modules with their rows of one kind, written by hand.
 BY_HAND = {
     "symbols": [
@@ -73,6 +75,33 @@ BY_HAND = {
          ["def #0 @f #1", "def #0 @g #2", "use #3 @f #1", "use #3 @g #2", "unresolved #3 @h", 'unresolved #3 @"i j"', "unresolved #3 @g::@h"]),
         ('"builtin.module"() <{sym_name = "m"}> ({\n' + module("n", CALL) + '}) {k = @n, l = @m} : () -> ()\n', ["def #0 @n #1", "use #0 @n #1", "unresolved #0 @m", "unresolved #2 @f"]),
         ('"builtin.module"() <{sym_name = "m"}> ({\n"builtin.module"() <{sym_name = "n"}> ({\n^bb0:\n}) {k = @n} : () -> ()\n}) : () -> ()\n', ["def #0 @n #1", "use #1 @n #1"]),
+    ],
+    "unreached": [
+        ("", []),
+        # Who calls one another, and is called by nobody else; a function that only itself calls.
+        (function("m", "() -> ()", "", CALL.replace("@f", "@a") + RETURN) + function("a", "() -> ()", "", RETURN, PRIVATE)
+         + "".join(function(one, "() -> ()", "", CALL.replace("@f", other) + RETURN, PRIVATE) for one, other in (("b", "@c"), ("c", "@b"))), ["#6 @b", "#9 @c"]),
+        (function("f", "() -> ()", "", CALL + RETURN, PRIVATE), ["#1 @f"]),
+        (function("f", "() -> ()", "", RETURN, PRIVATE).replace('}) : ', '}) {k = @f} : '), ["#1 @f"]),
+        # References from properties and attributes, inside arrays and dictionaries.
+        (declared("f") + CALL, []),
+        (declared("f") + declared("g") + declared("h") + '"test.a"() <{p = [{a = @f}]}> {k = {b = [@g]}} : () -> ()\n', ["#3 @h"]),
+        (declared("f") + function("g", "() -> ()", "", CALL + RETURN, PRIVATE), ["#1 @f", "#2 @g"]),
+        # Only the string "private" among the properties makes a definition private.
+        (declared("f").replace('"private"', '"nested"') + declared("g").replace(', sym_visibility = "private"', "") + '"func.func"() <{sym_name = "h", sym_visibility = @private}> ({}) : () -> ()\n', []),
+        # Each front of a reference counts, also where a further part isn't there.
+        (module("m", declared("f")).replace('"m"', '"m"' + PRIVATE) + '"test.a"() {k = @m::@f} : () -> ()\n', []),
+        (module("m", declared("f")).replace('"m"', '"m"' + PRIVATE) + '"test.a"() {k = @m::@g} : () -> ()\n', ["#2 @f"]),
+        (module("m", declared("f")).replace('"m"', '"m"' + PRIVATE) + CALL, ["#1 @m", "#2 @f"]),
+        # What stands in a private module counts where that is reached.
+        (module("m", declared("f") + CALL).replace('"m"', '"m"' + PRIVATE) + '"test.a"() : () -> ()\n', ["#1 @m", "#2 @f"]),
+        (module("m", declared("f") + CALL).replace('"m"', '"m"' + PRIVATE) + '"test.a"() {k = @m} : () -> ()\n', []),
+        (module("m", function("n", "() -> ()", "", CALL + RETURN, PRIVATE) + declared("f")) + '"test.a"() {k = @m::@f} : () -> ()\n', ["#2 @n"]),
+        # Of several definitions of a name the first counts; a reference looks in the nearest table alone.
+        (declared("f") + declared("f") + CALL, ["#2 @f"]),
+        (declared("f") + module("m", CALL), ["#1 @f"]),
+        # What stands in no table is no definition.
+        ('"test.r"() ({\n' + declared("f") + '}) : () -> ()\n', []),
     ],
     "effects": [
         ("", ["#0 unknown"]),
@@ -203,7 +232,7 @@ def by_edits(cases):
 
 def by_scripts(cases, maker):
     for number in range(SCRIPTS):
-        text = text_of(chance.module(maker, maker.randrange(5, 14), maker.choice([0, 0.1, 0.3]), (KINDS + ("any",))[number % 5])).encode()
+        text = text_of(chance.module(maker, maker.randrange(5, 14), maker.choice([0, 0.1, 0.3]), (KINDS + ("any",))[number % 6])).encode()
         lines, brief = chance.commands(maker, text, COMMANDS, chance.Scripter.edit_or_mark), number % 10 != 0
         cases.run(script_of(text, lines, asked(script.BOXES) if brief else ""), brief)
 

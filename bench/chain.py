@@ -1,7 +1,7 @@
 #!/usr/bin/env python3
 """Times a `set-operand` of a script that makes a chain of 1,000 known values known anew, through a built program, listings off:
 the first operand of the first sum is set, and each value is known by the one before it. Microseconds of processor time for a
-command and for a link of the chain, with no listener, with that of constants alone and with all six, as bench/commands.py
+command and for a link of the chain, with no listener, with that of constants alone and with all seven, as bench/commands.py
 takes them.
 
 usage: bench/chain.py PROGRAM [ROUNDS [COMMANDS]]"""
@@ -10,7 +10,7 @@ import sys
 import marks
 from edit_scripts import Chain
 
-KEPT = {"0": (), "constants": ("constants",), "6": marks.KINDS}
+KEPT = {"0": (), "constants": ("constants",), "7": marks.KINDS}
 
 
 def main():

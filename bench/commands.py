@@ -1,7 +1,7 @@
 #!/usr/bin/env python3
 """Times the commands of a script through a built program, listings off: microseconds of processor time for one command, what
 reading and replying to it takes included, at modules of 1,000 to 1,000,000 operations, with no listener, two (uses and
-diagnostics) and all six, and how often the last size's time is the first's.
+diagnostics) and all seven, and how often the last size's time is the first's.
 
 Replies are written part by part. The program's processor time is taken before each part (bench/marks.c stands before the C
 library), and a figure is the time between the first part behind the module's own lines and the last full one, for each
@@ -19,7 +19,7 @@ import sys
 import marks
 from edit_scripts import SHAPES, scripts, undone_scripts
 
-KEPT = {"0": (), "2": marks.KINDS[:2], "6": marks.KINDS}
+KEPT = {"0": (), "2": marks.KINDS[:2], "7": marks.KINDS}
 ALONE = {kind: (kind,) for kind in marks.KINDS}
 ONE_EVENT = ("set-operand", "move", "insert, erase")
 SIZES = "1000,10000,100000,1000000"

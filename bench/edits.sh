@@ -1,6 +1,6 @@
 #!/bin/bash
 # Edits of modules of 1,000 to 1,000,000 operations through the program: microseconds of processor time for each kind of
-# command, in one block and in functions of 20 operations, without listeners, with two and with all six, beside a run of
+# command, in one block and in functions of 20 operations, without listeners, with two and with all seven, beside a run of
 # mlir-opt where MLIR_OPT names one; then edits that are rolled back one by one, and each listener alone
 # (`bench/commands.py`). Then a chain of 1,000 known values whose first operand is set (`bench/chain.py`), and the bytes
 # that tree, store and each listener take for an operation (`bench/held.py`). Builds the program where it isn't. Run at

@@ -4,7 +4,7 @@ the status and every byte that is written: replies, modules, and the rows of eac
 
 usage: bench/edits_fuzz.py PROGRAM [COUNT [SEED [KINDS [rewrites]]]]
 
-COUNT is 2000 and SEED 19 where they aren't given; KINDS are the program's listeners in their order, with commas (all six where
+COUNT is 2000 and SEED 19 where they aren't given; KINDS are the program's listeners in their order, with commas (all seven where
 they aren't given). With `rewrites` there are canonicalizations and conversions too. The seed is printed. A difference is printed
 whole, and ends it with status 1."""
 import random

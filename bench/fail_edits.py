@@ -5,7 +5,7 @@ explains by the rules (bench/reference/refused.py). It needs a C compiler.
 
 usage: bench/fail_edits.py PROGRAM [KINDS]
 
-KINDS are the program's listeners in their order, with commas (all six where they aren't given)."""
+KINDS are the program's listeners in their order, with commas (all seven where they aren't given)."""
 import collections
 import sys
 import tempfile

@@ -29,7 +29,7 @@ AT_ONCE = 4
 EVENTS = ["Put", "Take", "SetOperand", "SetEntry", "Shift"]
 # The events that a listener may need memory to follow.
 NEEDS = {"uses": {"Put", "SetOperand"}, "symbols": {"Put", "SetOperand", "SetEntry", "Shift"}, "diagnostics": set(EVENTS), "effects": {"Put"}, "dead": {"Put"},
-         "constants": {"Put", "SetOperand", "SetEntry"}}
+         "constants": {"Put", "SetOperand", "SetEntry"}, "unreached": {"Put", "SetOperand", "SetEntry", "Shift"}}
 OUTCOMES = ["stale", "whole", "refused", "not attached", "other not attached", "no module"]
 INVERSE = {"Put": "Take", "Take": "Put"}
 
@@ -48,17 +48,18 @@ BASE = """%x = "test.d"() : () -> i32
 %r = "func.call"(%x) <{callee = @f}> : (i32) -> i32
 """
 HOLDS = 12
-CONTAINERS = {"symbols": '"builtin.module"() <{{sym_name = "m"}}> ({{ ^bb0: {} }}) : () -> ()'}
+CONTAINERS = dict.fromkeys(("symbols", "unreached"), '"builtin.module"() <{{sym_name = "m"}}> ({{ ^bb0: {} }}) : () -> ()')
 CONTAINER = '"test.r"() ({{ ^bb0: {} }}) : () -> ()'
 # What is said of each operation in the container has its own row in the listener's table.
 FILLERS = {"uses": '"test.u"({s}, {c}) : (i32, i32) -> ()', "symbols": '"func.func"() <{{function_type = (i32) -> i32, sym_name = "h"}}> ({{}}) {{k = [@f, @g]}} : () -> ()',
            "diagnostics": '"arith.addi"({s}) : (i32) -> ()', "effects": '"memref.alloc"() : () -> memref<i32>', "dead": '"arith.addi"({s}, {c}) : (i32, i32) -> i32',
-           "constants": '"arith.addi"({s}, {c}) : (i32, i32) -> i32'}
+           "constants": '"arith.addi"({s}, {c}) : (i32, i32) -> i32',
+           "unreached": '"func.func"() <{{function_type = (i32) -> i32, sym_name = "h", sym_visibility = "private"}}> ({{}}) {{k = [@f, @g]}} : () -> ()'}
 # Edits that are one event, or several of one kind, and an edit that is its inverse.
-OPERANDS = {"symbols": ("set-operand #11 0 %v2.0", "set-operand #11 0 %v1.0"), "diagnostics": ("set-operand #4 1 %v2.0", "set-operand #4 1 %v3.0")}
+OPERANDS = {**dict.fromkeys(("symbols", "unreached"), ("set-operand #11 0 %v2.0", "set-operand #11 0 %v1.0")), "diagnostics": ("set-operand #4 1 %v2.0", "set-operand #4 1 %v3.0")}
 OPERAND = "set-operand #4 1 %v1.0", "set-operand #4 1 %v3.0"
 REPLACES = "replace %v3.0 %v1.0", "replace %v1.0 %v3.0"
-ENTRIES = {"symbols": ("set-attr #11 callee @g::@h", "drop-attr #11 callee"), "diagnostics": ("set-attr #3 value 7 : i64", "drop-attr #3 value")}
+ENTRIES = {**dict.fromkeys(("symbols", "unreached"), ("set-attr #11 callee @g::@h", "drop-attr #11 callee")), "diagnostics": ("set-attr #3 value 7 : i64", "drop-attr #3 value")}
 ENTRY = "set-attr #3 value 7 : i32", "drop-attr #3 value"
 SHIFTS = "move #8 end #7 0", "move #8 start #7 0"
 ELSEWHERE = "insert end #0 0 \"test.u\"(%v3.0) : (i32) -> ()"
@@ -75,7 +76,7 @@ def container(kind, count, values):
 def edits(kind, size):
     """Each event with an edit that makes it, and the edit back, if there is one."""
     values, new = ("%v4.0", "%v3.0"), HOLDS + size + 1
-    yield "Put", f"insert end #{HOLDS} 0 {filler(kind, values if kind != 'symbols' else ())}", f"erase #{new}"
+    yield "Put", f"insert end #{HOLDS} 0 {filler(kind, values if kind not in CONTAINERS else ())}", f"erase #{new}"
     yield "Put", f"insert end #0 0 {container(kind, size, values)}", f"erase #{new}"
     # These were there when the listener began.
     yield "Take", f"erase #{HOLDS}", None

@@ -7,7 +7,7 @@ import subprocess
 import sys
 import tempfile
 
-KINDS = ("uses", "diagnostics", "symbols", "effects", "dead", "constants")
+KINDS = ("uses", "diagnostics", "symbols", "effects", "dead", "constants", "unreached")
 PAGES = {"GLIBC_TUNABLES": "glibc.malloc.hugetlb=1"}
 MARKS = pathlib.Path(__file__).with_name("marks.c")
 DIVIDER = b"// -----\n"

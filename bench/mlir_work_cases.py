@@ -24,7 +24,7 @@ case = TABLE.case
 
 
 # What a script's words say.
-KINDS = {1: b"uses", 2: b"symbols", 3: b"diagnostics", 4: b"effects", 5: b"dead", 6: b"constants"}
+KINDS = {1: b"uses", 2: b"symbols", 3: b"diagnostics", 4: b"effects", 5: b"dead", 6: b"constants", 7: b"unreached"}
 NUMBERS = {name: number for number, name in KINDS.items()}
 
 
@@ -110,7 +110,7 @@ def line_says(line):
     if not text or text.startswith(b"//"):
         return "nothing"
     words = re.split(rb"[ \t]+", text)
-    if words in ([b"print"], [b"begin"], [b"commit"], [b"rollback"]):
+    if words in ([b"print"], [b"begin"], [b"commit"], [b"rollback"], [b"sweep"]):
         return words[0].decode()
     if len(words) == 2 and words[0] == b"erase" and op_of(words[1]):
         return f"erase {op_of(words[1])[0]}"
@@ -143,7 +143,7 @@ def line(text, want=None):
 
 NOTHING = ["", " ", "\t\r", "//", "// x", "  //x\r", "//report uses"]
 REPORTS = {"report uses": 1, "report symbols": 2, "report diagnostics": 3, "report effects": 4, "report dead": 5, "report constants": 6,
-           "report kind0": 0, "report kind7": 7, "report kind9": 9, "report kind255": 255, " \treport \t kind10\t\r": 10}
+           "report unreached": 7, "report kind0": 0, "report kind8": 8, "report kind9": 9, "report kind255": 255, " \treport \t kind10\t\r": 10}
 PRINTS = ["print", "  print", "print\t", "print \r"]
 SETS = {"set-operand #3 0 %v2.0": "3 0 2.0", "set-operand\t#3\t\t0 %v2.1\r": "3 0 2.1", "set-operand #003 01 %v02.0010": "3 1 2.10",
         "set-operand #4294967295 4294967295 %v4294967295.4294967295": "4294967295 4294967295 4294967295.4294967295",
@@ -151,8 +151,8 @@ SETS = {"set-operand #3 0 %v2.0": "3 0 2.0", "set-operand\t#3\t\t0 %v2.1\r": "3 
         "set-operand #0 00 %a001.000.4294967295": "0 0 1.0.4294967295"}
 MOVES = {"move #3 before #2": "3 before 2", "move\t#3  after\t#002\r": "3 after 2", "move #3 start #1 0": "3 start 1 0", "move #3 end #1 00": "3 end 1 0",
          "move #4294967295 end #4294967295 4294967295": "4294967295 end 4294967295 4294967295"}
-KINDS_ALONE = {"detach uses": "detach 1", "resync uses": "resync 1", "detach kind9": "detach 9", "\tresync  kind255 \r": "resync 255", "detach constants": "detach 6"}
-ALONE = {"begin": "begin", "\tcommit \r": "commit", "rollback\t": "rollback", "erase #1": "erase 1", " erase\t#0004294967295": "erase 4294967295",
+KINDS_ALONE = {"detach uses": "detach 1", "resync uses": "resync 1", "detach kind9": "detach 9", "\tresync  kind255 \r": "resync 255", "detach constants": "detach 6", "resync unreached": "resync 7"}
+ALONE = {"begin": "begin", "\tcommit \r": "commit", "rollback\t": "rollback", "sweep": "sweep", " sweep\t\r": "sweep", "erase #1": "erase 1", " erase\t#0004294967295": "erase 4294967295",
          "replace %v1.0 %a2.0.1": "replace 1.0 2.0.1", "replace\t%a1.2.3  %v01.00\r": "replace 1.2.3 1.0", "replace %v1.0 %v1.0": "replace 1.0 1.0"}
 INSERTS = {"insert end #0 0 x": "insert end 0 0 [x]", "insert before #3 \"test.a\"() : () -> ()": 'insert before 3 ["test.a"() : () -> ()]',
            "insert\tafter\t#03\t\t%a  =  \r": "insert after 3 [%a  =]", "insert start #1 00 // x": "insert start 1 0 [// x]", "insert end #1 2 0": "insert end 1 2 [0]",
@@ -172,7 +172,7 @@ erase|erase 1|erase #|erase #1 x|erase #1 #2|erase #4294967296|Erase #1|erase#1|
 replace %v4294967296.0 %v1.0|insert|insert end|insert end #0|insert end #0 0|insert end #0 0 \t|insert end #0 x y|insert end 0 0 x|insert before #1|insert before #1 \t|insert before 1 x|insert under #1 x
 insert end #0 4294967296 x|insert "test.a"() : () -> ()|begin x|begin //|Begin|commit 1|commits|rollback #1|rollback  x|roll back|undo
 report|report nonsense|report Uses|report use|report uses uses|report uses \r x|reportuses|Report uses|report kind|report kind1
-report kind6|report kind07|report kind00|report kind256|report kind4294967305|report kind-1|report kind9x|report 1|report unreached
+report kind6|report kind07|report kind00|report kind256|report kind4294967305|report kind-1|report kind9x|report 1|report kind7|report Unreached|sweep x|sweep //|Sweep|sweeps|swee|sweep #1
 print x|print //|Print|prin|prints|/print|print\x0b|\x0cprint|jump|set-operand|set-operand #3|set-operand #3 0|set-operand #3 0 %v2.0 x
 set-operand 3 0 %v2.0|set-operand # 0 %v2.0|set-operand ##3 0 %v2.0|set-operand # 3 0 %v2.0|set-operand #3 x %v2.0|set-operand #3 -1 %v2.0
 set-operand #3 +1 %v2.0|set-operand #0x3 0 %v2.0|set-operand #3 0 #2|set_operand #3 0 %v2.0|set-operand #3 0 v2.0|set-operand #3 0 %
@@ -280,6 +280,8 @@ def replies():
     out = []
     for n in (0, 1, 9, 10, 12, 99, 100, 4294967295, 4294967296, 2 ** 64 - 1):
         out += [(f"ok {n}", f"{n} ok\n"), (f"number {n}", f"{n}"), (f"refused {n} HasUses", f"{n} refused 22 HasUses\n")]
+        out += [(f"came {n} {word} {n}", f"{n} {word} {n}\n") for word in ("swept", "converged", "limit", "converted")]
+        out += [(f"refused-on {n} NotLegalised {op}", f"{n} refused 51 NotLegalised #{op}\n") for op in (0, 2, 4294967295)]
     for refusal in REFUSALS:
         word = refusal.split()[1]
         out += [(f"refused 1 {word}", f"1 refused {refusal}\n"), (f"module {word}", f"module refused {refusal}\n"), (f"module {word} 16", f"module refused {refusal} at 16\n"), (f"refused-at 9 {word} 17", f"9 refused {refusal} at 17\n"),
@@ -304,7 +306,7 @@ def writes():
     for call, text in replies():
         case("write " + call, told(text.encode()))
     samples = dict(replies())
-    for call in ("ab cd", "ok 12", "refused 7 NotVisible", "refused-at 1 LeftOut 10", "module BadValue 16", "module Memory", "attach 1 Memory", "attach 200 KindTaken", "rows 3", "stale 9",
+    for call in ("ab cd", "ok 12", "refused 7 NotVisible", "refused-at 1 LeftOut 10", "refused-on 9 NotLegalised 2", "came 10 swept 10", "module BadValue 16", "module Memory", "attach 1 Memory", "attach 200 KindTaken", "rows 3", "stale 9",
                  "memory 1", "module-memory", "number 4294967295", "op 10", "value 2.0", "value 1.0.3", ""):
         text = samples[call].encode()
         for fault in ("fails", "interrupted", "nothing"):
@@ -435,13 +437,13 @@ def runs():
             run(f"narrow {fault} {at}", text, 4 if at else 1, taken)
 
 
-def due(text, refusals=()):
+def due(text, refusals=(), boxes=BOXES):
     """A run in both forms, with what is due by the rules; these refusals are among its replies, and no others."""
     for how in ("brief", "full"):
-        status, out = script.run(text, how == "brief", BOXES, script.ALL)
+        status, out = script.run(text, how == "brief", boxes, script.ALL)
         seen = set(re.findall(rb"(?m)^[0-9]+ refused ([0-9]+) ", out))
         assert seen == {str(number).encode() for number in refusals}, (text, seen)
-        run(how, text, status, out)
+        run(how, text, status, out, boxes)
 
 
 BLOCKS = b"""%a = "t.a"() : () -> i1
@@ -532,6 +534,27 @@ def panels():
     due(over + b"detach kind9\nresync effects\ndetach uses\ndetach diagnostics\nmove #2 start #1 0\nprint\n", [41])
 
 
+def sweeps():
+    """The private symbols that nothing reaches are taken away, all of them or none."""
+    shown = b"report unreached\nreport symbols\nprint\n"
+    private = b'<{function_type = () -> (), sym_name = "%s", sym_visibility = "private"}>'
+    one = b'"func.func"() ' + private + b" ({}) : () -> ()\n"
+    call = b'"func.call"() <{callee = @%s}> : () -> ()\n'
+    caller = b'"func.func"() ' + private + b" ({\n" + call + b'"func.return"() : () -> ()\n}) : () -> ()\n'
+    boxes = script.BOXES
+    due(DIVIDER + b"sweep\nsweep\n" + shown, [41], boxes[:1])
+    for text in (one % b"f", one % b"f" + call % b"f", caller % (b"f", b"g") + caller % (b"g", b"f") + one % b"h" + call % b"h", one % b"f" + one % b"f" + call % b"f"):
+        due(text + DIVIDER + b"sweep\n" + shown + b"sweep\n", (), boxes)
+        due(text + DIVIDER + b"begin\nsweep\nset-attr #0 k unit\nrollback\n" + shown + b"sweep\nbegin\ncommit\n" + shown, (), boxes)
+    # What is inside goes first, and is counted too.
+    due(b'"builtin.module"() <{sym_name = "m", sym_visibility = "private"}> ({\n' + one % b"f" + caller % (b"g", b"f") + b'}) : () -> ()\n"test.b"() : () -> ()\n' + DIVIDER + b"begin\nsweep\n" + shown + b"rollback\n" + shown, (), boxes)
+    # One whose result is used: nothing goes, also not what came before it.
+    used = b'%0 = "func.func"() ' + private % b"p" + b' ({}) : () -> i32\n"test.u"(%0) : (i32) -> ()\n'
+    due(one % b"f" + used + one % b"g" + DIVIDER + b"sweep\nbegin\nsweep\n" + shown + b"rollback\nerase #3\nsweep\n" + shown, [22], boxes)
+    # A use inside another one that goes doesn't matter, since the last goes first.
+    due(used.replace(b"test.u", b"func.func").replace(b"(%0)", b'(%0) <{sym_name = "q", sym_visibility = "private"}> ({})') + DIVIDER + b"sweep\n" + shown, (), boxes)
+
+
 def command_lines():
     """What the words of a command line ask for, or what is printed of them, and whether that is a fault."""
     help_text = pathlib.Path("bench/help.txt").read_bytes()
@@ -574,8 +597,8 @@ def refused():
 
 
 def worked():
-    """Each row of bench/worked_rows.txt that holds where there are no later commands, with all listeners."""
-    for row in worked_rows.holding(()):
+    """Each row of bench/worked_rows.txt that holds where no later command but `sweep` is there, with all listeners."""
+    for row in worked_rows.holding(("sweep",)):
         status, out = script.run(row.input, row.options == "--brief", script.BOXES, script.ALL)
         assert (status, worked_rows.is_output(row, out)) == (row.status, True), row.input
         run("brief" if row.options == "--brief" else "full", row.input, status, out, script.BOXES)
@@ -594,7 +617,7 @@ def analyses(kinds, text, brief=True):
 
 
 print("seeds", analyses_cases.SEED, verifier_cases.SEED, heard_cases.SEED)
-for part in (lines, words, cuts, writes, reads, runs, moves, entries, wholes, panels, command_lines, examples, over_limits, refused, worked):
+for part in (lines, words, cuts, writes, reads, runs, moves, entries, wholes, panels, sweeps, command_lines, examples, over_limits, refused, worked):
     part()
 analyses_cases.all_cases(analyses)
 heard_cases.all_cases(case)

@@ -1,13 +1,10 @@
 """Runs a module and a script by the rules, as the program does, in bench/:
 
-python3 -m reference [--brief] [--limit N] < INPUT
-
-In the environment, REFERENCE_UNREACHED gives it the listener of unreached definitions, and the command `sweep`."""
-import os
+python3 -m reference [--brief] [--limit N] < INPUT"""
 import re
 import sys
 
-from .script import BOXES, LAST, LIMIT, MOST_LIMIT, REWRITES, run
+from .script import BOXES, LIMIT, MOST_LIMIT, REWRITES, run
 
 
 def options(words):
@@ -30,7 +27,6 @@ asked = options(sys.argv[1:])
 if asked is None:
     print(__doc__, file=sys.stderr)
     sys.exit(2)
-boxes, commands = ((*BOXES, "unreached"), LAST) if os.environ.get("REFERENCE_UNREACHED") else (BOXES, REWRITES)
-status, out = run(sys.stdin.buffer.read(), asked[0], boxes, commands, asked[1])
+status, out = run(sys.stdin.buffer.read(), asked[0], BOXES, REWRITES, asked[1])
 sys.stdout.buffer.write(out)
 sys.exit(status)

@@ -193,4 +193,4 @@ def constants(module):
 
 ANALYSES = {"uses": uses, "symbols": symbols, "diagnostics": diagnostics, "effects": effects, "dead": dead,
             "constants": constants, "unreached": unreached}
-KINDS = {1: "uses", 2: "symbols", 3: "diagnostics", 4: "effects", 5: "dead", 6: "constants"}
+KINDS = {1: "uses", 2: "symbols", 3: "diagnostics", 4: "effects", 5: "dead", 6: "constants", 7: "unreached"}

@@ -15,6 +15,7 @@ TASTES = {
     "symbols": ("function*3 declaration*3 nested*4 call*2 unlisted*2", "call*5 unlisted*3 nested constant function declaration"),
     "effects": ("function*2 loop*2 branch*2 while_loop alloc access unlisted", "loop*2 branch*3 while_loop*2 alloc*2 access*5 constant unlisted call binary"),
     "dead": ("function*2 loop*2 branch*2 while_loop alloc access binary", "loop branch*2 while_loop alloc*2 access*2 constant*3 binary*4 select unrealized unlisted"),
+    "unreached": ("function*4 declaration*2 nested*4 call*2 referring*3", "call*4 referring*3 nested*2 function declaration unlisted"),
     "constants": ("function*2 constant*3 binary*6 compare*2 select*2 cast*3 branch", "constant*3 binary*9 compare*3 select*3 cast*5 branch loop unlisted"),
 }
 
@@ -38,6 +39,8 @@ class Maker:
     def __init__(self, chance, most, wrong, taste="any"):
         self.chance, self.left, self.wrong, self.next, self.functions = chance, most, wrong, 0, []
         self.outer, self.inner = map(listed, TASTES[taste])
+        # How many functions and modules say that they are private, beside those that are by chance.
+        self.hidden = 0.6 if taste == "unreached" else 0
         # Values without a maker come from an operation of which nothing is known, or from a cast, which has no effect.
         self.giver = b"builtin.unrealized_conversion_cast" if taste in ("effects", "dead") else b"test.d"
 
@@ -257,6 +260,7 @@ class Maker:
         props = {b"function_type": ("ty", ("func", tuple(inputs), tuple(outputs))), b"sym_name": ("str", self.chance.choice(SYMBOLS))}
         if self.is_so(0.3):
             props[b"sym_visibility"] = ("str", self.chance.choice([b"private", b"nested", b"public"]))
+        self.hide(props)
         self.functions.append((props[b"sym_name"][1], inputs, outputs))
         return props, inputs
 
@@ -272,7 +276,22 @@ class Maker:
 
     def nested(self, block, seen):
         props = {b"sym_name": ("str", self.chance.choice(SYMBOLS))} if self.is_so(0.7) else {}
+        self.hide(props)
         self.put(block, seen, MODULE, [], [], props, [[]])
+
+    def hide(self, props):
+        if self.hidden and self.is_so(self.hidden):
+            props[b"sym_visibility"] = ("str", b"private")
+
+    def symbol(self):
+        """A reference of some parts."""
+        return ("sym", tuple(self.chance.choice(SYMBOLS) for _ in range(self.chance.choice([1, 1, 1, 2, 2, 3]))))
+
+    def referring(self, block, seen):
+        """An operation that refers to symbols from its properties and attributes."""
+        here = [self.symbol(), ("array", (self.symbol(), self.symbol())), ("dict", ((b"a", self.symbol()), (b"b", ("array", (self.symbol(),)))))]
+        op = self.put(block, seen, self.chance.choice(UNLISTED), [], [], {b"p": self.chance.choice(here)} if self.is_so(0.5) else {}, [[]] if self.is_so(0.2) else [])
+        op.attrs.update({b"k": self.chance.choice(here)} if self.is_so(0.6) else {})
 
 
 def module(chance, most, wrong, taste="any"):
@@ -401,9 +420,12 @@ class Scripter:
     def insert(self):
         return f"insert {self.place()} {self.inserted()}"
 
+    def sweep(self):
+        return "sweep"
+
     def edit(self):
         return self.chance.choice([self.set_operand] * 4 + [self.erase] * 3 + [self.move] * 3 + [self.replace] * 2 + [self.set_attr] * 3
-                                  + [self.drop_attr, self.insert, self.insert, self.insert])()
+                                  + [self.drop_attr, self.insert, self.insert, self.insert, self.sweep])()
 
     def mark(self):
         words = ["begin", "begin", "commit", "rollback", "rollback"] if self.run.marks else ["begin"] * 6 + ["commit", "rollback"]

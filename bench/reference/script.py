@@ -13,9 +13,8 @@ BOXES = tuple(KINDS.values())
 MOST_MARKS = 16
 FIRST = {"report", "print", "set-operand", "move", "set-attr", "drop-attr", "resync", "detach"}
 EDITS = FIRST | {"erase", "insert", "replace"}
-ALL = EDITS | {"begin", "commit", "rollback"}
+ALL = EDITS | {"begin", "commit", "rollback", "sweep"}
 REWRITES = ALL | {"canon", "convert"}
-LAST = REWRITES | {"sweep"}
 MOST_LIMIT, LIMIT = 1000000, 1000
 
 
@@ -83,7 +82,7 @@ class Run:
     """A module with its marks and the kinds that are attached."""
 
     def __init__(self, module, boxes=BOXES, commands=ALL, limit=LIMIT):
-        self.limit, self.kinds = limit, {**KINDS, 7: "unreached"} if "sweep" in commands else KINDS
+        self.limit = limit
         self.module, self.boxes, self.commands, self.marks = module, list(boxes), commands, []
 
     def edit(self, call, *args):
@@ -93,7 +92,7 @@ class Run:
         self.module = tried
 
     def kind_of(self, word):
-        need(word in [self.kinds.get(kind, f"kind{kind}") for kind in range(256)])
+        need(word in [KINDS.get(kind, f"kind{kind}") for kind in range(256)])
         return word
 
     def is_attached(self, kind):

@@ -1,5 +1,5 @@
 -- How a table of uses follows events.
-use Rattle.std.specs.Prelude.{◌≡◌, ℕ, List, ◌++◌, Option, Some, option_map}
+use Rattle.std.specs.Prelude.{◌≡◌, ℕ, List, ◌++◌, Bool, true, false, Option, Some, option_map}
 use Rattle.ir_tree.specs.declared.value.Value.{Value}
 use Rattle.ir_store.specs.Nodes.{Node, node_of}
 use Rattle.ir_store.specs.Stored.{Stored, known}
@@ -8,6 +8,14 @@ use Rattle.ir_event.specs.declared.event.Event.TheVariants.{Put, Take, SetOperan
 use Rattle.listeners.specs.declared.key.Use.{Use}
 use Rattle.listeners.specs.Uses.{operand_uses, in_order}
 use Rattle.listeners.specs.Others.{others}
+
+-- whether an event gives no operation an operand: a table of uses that follows it doesn't grow
+abbrev pub adds_no_use : Event → Bool
+adds_no_use (Put x place fresh) = false
+adds_no_use (Take x place fresh) = true
+adds_no_use (SetOperand x k old new) = false
+adds_no_use (SetEntry x part key old new) = true
+adds_no_use (Shift x old new) = true
 
 -- the operands of an operation that a store knows
 abbrev pub operands_in : Stored → ℕ → Option (List Value)

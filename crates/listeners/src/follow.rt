@@ -3,9 +3,8 @@ ghost use Rattle.std.specs.Prelude.{◌≡◌, ◌≤◌, ◌+◌, List, Some, t
 ghost use Rattle.std.specs.Bool.{OnTrue};
 ghost use Rattle.ir_tree.specs.declared.value.Value.{Value as TreeValue};
 ghost use Rattle.ir_event.specs.Looks.{one_more};
-ghost use Rattle.ir_event.specs.Listener.{is_take};
 ghost use Rattle.listeners.specs.Tables.{table_uses};
-ghost use Rattle.listeners.specs.Following.{IsFollowed, HasNow, operands_in};
+ghost use Rattle.listeners.specs.Following.{IsFollowed, HasNow, adds_no_use, operands_in};
 
 use crate::table::Table;
 use ir_event::event::Event;
@@ -26,10 +25,10 @@ fn put(alloc: Global, table: &mut Table, view: &mut View<'_>, op: OpId) -> bool
 }
 
 /// Follows an event, with one look where an operation was put or an operand was set. It is false where memory was
-/// refused; where an operation is taken none is needed.
+/// refused, which only these two events need.
 pub(crate) fn follow(alloc: Global, table: &mut Table, view: &mut View<'_>, event: &Event) -> bool
     ensures followed { OnTrue result (IsFollowed (operands_in view.old.world.now.store) event.now (table_uses table.old) (table_uses table.new)) }
-    ensures take { is_take event.now ≡ true → result ≡ true }
+    ensures grown { adds_no_use event.now ≡ true → result ≡ true }
     ensures looks { view.new.looks ≤ view.old.looks + 1 }
     ensures world { view.new.world.now ≡ view.old.world.now }
 {

@@ -10,6 +10,7 @@ use ir_event::analysis::Analysis;
 use ir_verify::diagnostics::Diagnostics;
 use listeners::Symbols;
 use listeners::uses::Uses;
+use listeners_unreached::unreached::Unreached;
 use mlir_work_run::options::options_of;
 use mlir_work_run::run::{Options, run_keyed};
 use std::alloc::AllocError;
@@ -68,6 +69,7 @@ fn run_all(rt: &HostRuntime, options: Options) -> Result<u8, AllocError> {
     boxes.push(Box::new(rt.alloc(), Effects::new(rt.alloc()))?)?;
     boxes.push(Box::new(rt.alloc(), Dead::new(rt.alloc()))?)?;
     boxes.push(Box::new(rt.alloc(), Constants::new(rt.alloc()))?)?;
+    boxes.push(Box::new(rt.alloc(), Unreached::new(rt.alloc()))?)?;
     let mut reader = rt.stdin();
     let Ok(mut writer) = BufWriter::new(rt.alloc(), io::writer(rt)) else {
         return Err(AllocError);

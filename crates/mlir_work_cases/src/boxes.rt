@@ -7,6 +7,7 @@ use ir_verify::diagnostics::Diagnostics;
 use listeners::Symbols;
 use listeners::uses::Uses;
 use listeners_example::additions::AdditionCount;
+use listeners_unreached::unreached::Unreached;
 use mlir_work_cases_base::at_most::AtMost;
 use mlir_work_cases_base::texts::number;
 use mlir_work_cases_base::witness::{Plan, Witness};
@@ -54,6 +55,7 @@ pub fn status_of<R: Read, W: Write>(
             "constants" => boxes.push(Box::new(alloc, Constants::new(alloc))?)?,
             "effects" => boxes.push(Box::new(alloc, AtMost::new(Effects::new(alloc), most))?)?,
             "dead" => boxes.push(Box::new(alloc, AtMost::new(Dead::new(alloc), most))?)?,
+            "unreached" => boxes.push(Box::new(alloc, AtMost::new(Unreached::new(alloc), most))?)?,
             "additions" => boxes.push(Box::new(alloc, AdditionCount::new(alloc))?)?,
             "stale" => {
                 let plan = Plan::Until(most as usize);

@@ -101,6 +101,7 @@ fn told_command(alloc: Global, command: &Command<'_>) -> Result<String, AllocErr
         Command::Print => String::from_str(alloc, "print"),
         Command::Detach(kind) => format!(in alloc; "detach {}", kind.number()),
         Command::Resync(kind) => format!(in alloc; "resync {}", kind.number()),
+        Command::Sweep => String::from_str(alloc, "sweep"),
         Command::Begin => String::from_str(alloc, "begin"),
         Command::Commit => String::from_str(alloc, "commit"),
         Command::Rollback => String::from_str(alloc, "rollback"),

@@ -5,9 +5,10 @@ use ir_types::refusal::Refusal;
 use mlir_work_cases_base::texts::{first, number, small};
 use mlir_work_run::cells::{put_number, put_op_id, put_value};
 use mlir_work_run::kind::Kind;
+use mlir_work_run::outcome::Outcome;
 use mlir_work_run::replies::{
     put_attach_refused, put_kind, put_kind_memory, put_module_memory, put_module_refused, put_ok,
-    put_refused, put_refused_at, put_stale,
+    put_outcome, put_refused, put_refused_at, put_refused_on, put_stale,
 };
 use mlir_work_run::writing::{WriteFault, put_all};
 use std::alloc::{AllocError, Global};
@@ -104,6 +105,28 @@ fn put_refused_text<W: Write>(writer: &mut W, text: &str) -> Result<(), WriteFau
     put_refused_at(writer, number(n), refusal(word), number(offset) as usize)
 }
 
+/// The outcome of a word and a number.
+fn outcome(word: &str, count: usize) -> Outcome {
+    match word {
+        "swept" => Outcome::Swept(count),
+        "converged" => Outcome::Converged(count),
+        "limit" => Outcome::Limited(count),
+        _ => Outcome::Converted(count),
+    }
+}
+
+fn put_what_came<W: Write>(writer: &mut W, text: &str) -> Result<(), WriteFault> {
+    let (n, rest) = first(text);
+    let (word, count) = first(rest);
+    put_outcome(writer, number(n), outcome(word, number(count) as usize))
+}
+
+fn put_refused_op<W: Write>(writer: &mut W, text: &str) -> Result<(), WriteFault> {
+    let (n, rest) = first(text);
+    let (word, op) = first(rest);
+    put_refused_on(writer, number(n), refusal(word), OpId::new(small(op)))
+}
+
 fn put_box<W: Write>(writer: &mut W, text: &str) -> Result<(), WriteFault> {
     let (number, word) = first(text);
     put_attach_refused(writer, kind(number), refusal(word))
@@ -115,6 +138,8 @@ pub fn put_reply<W: Write>(writer: &mut W, call: &str, text: &str) -> Result<(),
         "ok" => put_ok(writer, number(text)),
         "refused" => put_refused_command(writer, text),
         "refused-at" => put_refused_text(writer, text),
+        "refused-on" => put_refused_op(writer, text),
+        "came" => put_what_came(writer, text),
         "module" => put_module(writer, text),
         "attach" => put_box(writer, text),
         "rows" => put_kind(writer, kind(text)),

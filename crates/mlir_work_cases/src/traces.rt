@@ -16,6 +16,7 @@ use mlir_work_cases_base::texts::{bytes, first, small};
 use mlir_work_cases_base::witness::{Plan, Witness};
 use mlir_work_run::Bench;
 use mlir_work_run::input::split;
+use mlir_work_run::manner::Manner;
 use mlir_work_run::script::run_script;
 use std::alloc::{AllocError, Global};
 use std::fmt::Write;
@@ -72,7 +73,12 @@ fn run_heard<L: Analysis>(
     if bench.attach(listener).is_err() {
         return Err(AllocError);
     }
-    Ok(run_script(alloc, true, bytes, bench, script, written).unwrap_or(4))
+    let manner = Manner {
+        brief: true,
+        bytes,
+        limit: 1000,
+    };
+    Ok(run_script(alloc, &manner, bench, script, written).unwrap_or(4))
 }
 
 /// Runs the script of an input of so many bytes over a bench with a witness, and writes the status, the output, what was

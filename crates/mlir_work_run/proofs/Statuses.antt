@@ -7,9 +7,11 @@ use Rattle.mlir_work_session.specs.Lines.{lines_of}
 use Rattle.mlir_work_session.specs.Parts.{script_text}
 use Rattle.mlir_work_session.specs.Machine.{State}
 use Rattle.mlir_work_session.specs.Panels.{Shown}
-use Rattle.mlir_work_session.specs.Output.{Line, Manner, Runs, IsSession, worse, is_accepted}
+use Rattle.mlir_work_session.specs.declared.manner.Manner.{Manner}
+use Rattle.mlir_work_session.specs.Output.{Line, Runs, IsSession, worse, is_accepted}
 use Rattle.mlir_work_run.specs.Ends.{EndedSo, HasStatus, IsFinal, status_of}
-use Rattle.mlir_work_run.specs.Whole.{IsOutput}
+use Rattle.mlir_work_run.specs.Whole.{IsOutput, manner_of}
+use Rattle.mlir_work_run.specs.declared.run.Options.{Options}
 use Rattle.mlir_work_run.specs.declared.run.Fault.{Fault}
 use Rattle.mlir_work_run.specs.declared.run.Fault.TheVariants.{Read as ReadFailed, Write as WriteFailed}
 
@@ -39,20 +41,20 @@ final_low status (inl e) = inl e
 final_low status (inr e) = inr (inl e)
 
 -- an output has a status below that of a fault
-final_output : (brief : Bool) (boxes : List Shown) (input : List ℕ) (status : ℕ) (out : List ℕ) → IsOutput brief boxes input status out → IsFinal status
-final_output brief boxes input status out (inl h) = inr (inr h.1.0)
-final_output brief boxes input status out (inr (short, inl (refusal, offset, why, h))) = inr (inr h.0)
-final_output brief boxes input status out (inr (short, inr (m, read, h))) = final_low status (low_session (record { brief = brief; bytes = length input }) boxes m (script_text input) status out h)
+final_output : (options : Options) (boxes : List Shown) (input : List ℕ) (status : ℕ) (out : List ℕ) → IsOutput options boxes input status out → IsFinal status
+final_output options boxes input status out (inl h) = inr (inr h.1.0)
+final_output options boxes input status out (inr (short, inl (refusal, offset, why, h))) = inr (inr h.0)
+final_output options boxes input status out (inr (short, inr (m, read, h))) = final_low status (low_session (manner_of options (length input)) boxes m (script_text input) status out h)
 
-ended_status : (brief : Bool) (boxes : List Shown) (input : List ℕ) (a b : Option (List ℕ)) (r : Result ℕ Fault) → EndedSo (IsOutput brief boxes input) a b r → HasStatus (IsOutput brief boxes input) a b (status_of r)
-ended_status brief boxes input a b (Ok status) (out, h, wrote) = inl (final_output brief boxes input status out h, (out, h, wrote))
-ended_status brief boxes input a b (Err ReadFailed) h = inr (refl, inl h)
-ended_status brief boxes input a b (Err WriteFailed) h = inr (refl, inr h)
+ended_status : (options : Options) (boxes : List Shown) (input : List ℕ) (a b : Option (List ℕ)) (r : Result ℕ Fault) → EndedSo (IsOutput options boxes input) a b r → HasStatus (IsOutput options boxes input) a b (status_of r)
+ended_status options boxes input a b (Ok status) (out, h, wrote) = inl (final_output options boxes input status out h, (out, h, wrote))
+ended_status options boxes input a b (Err ReadFailed) h = inr (refl, inl h)
+ended_status options boxes input a b (Err WriteFailed) h = inr (refl, inr h)
 
 -- what is known of a run is known of its exit status
-has_status : (brief : Bool) (boxes : List Shown) (input : List ℕ) (a b : Option (List ℕ)) (r : Result ℕ Fault) (status : ℕ) → status ≡ status_of r → EndedSo (IsOutput brief boxes input) a b r → HasStatus (IsOutput brief boxes input) a b status
-has_status brief boxes input a b r status e h = subst (λ (n : ℕ). HasStatus (IsOutput brief boxes input) a b n) (sym e) (ended_status brief boxes input a b r h)
+has_status : (options : Options) (boxes : List Shown) (input : List ℕ) (a b : Option (List ℕ)) (r : Result ℕ Fault) (status : ℕ) → status ≡ status_of r → EndedSo (IsOutput options boxes input) a b r → HasStatus (IsOutput options boxes input) a b status
+has_status options boxes input a b r status e h = subst (λ (n : ℕ). HasStatus (IsOutput options boxes input) a b n) (sym e) (ended_status options boxes input a b r h)
 
-pub if_has_status : (o : Option (List ℕ)) (brief : Bool) (boxes : List Shown) (a b : Option (List ℕ)) (r : Result ℕ Fault) (status : ℕ) → status ≡ status_of r → IfSome o (λ input. EndedSo (IsOutput brief boxes input) a b r) → IfSome o (λ input. HasStatus (IsOutput brief boxes input) a b status)
-if_has_status None brief boxes a b r status e h = tt
-if_has_status (Some input) brief boxes a b r status e h = has_status brief boxes input a b r status e h
+pub if_has_status : (o : Option (List ℕ)) (options : Options) (boxes : List Shown) (a b : Option (List ℕ)) (r : Result ℕ Fault) (status : ℕ) → status ≡ status_of r → IfSome o (λ input. EndedSo (IsOutput options boxes input) a b r) → IfSome o (λ input. HasStatus (IsOutput options boxes input) a b status)
+if_has_status None options boxes a b r status e h = tt
+if_has_status (Some input) options boxes a b r status e h = has_status options boxes input a b r status e h

@@ -1,5 +1,5 @@
 -- The output of an input: the text of a module, and a script.
-use Rattle.std.specs.Prelude.{◌≡◌, ℕ, ◌<◌, ◌≤◌, List, Bool, ◌⊎◌, Option, Some, None, length}
+use Rattle.std.specs.Prelude.{◌≡◌, ℕ, ◌<◌, ◌≤◌, List, ◌⊎◌, Option, Some, None, length}
 use Rattle.ir_types.specs.Refusals.{number_of}
 use Rattle.ir_types.specs.declared.refusal.Refusal.{Refusal}
 use Rattle.ir_types.specs.declared.refusal.Refusal.TheVariants.{TooMany, Memory}
@@ -12,6 +12,8 @@ use Rattle.mlir_work_session.specs.Replies.{module_refused_line}
 use Rattle.mlir_work_session.specs.TheConstants.{MAX_INPUT_BYTES}
 use Rattle.mlir_work_session.specs.Panels.{Shown}
 use Rattle.mlir_work_session.specs.Output.{IsSession}
+use Rattle.mlir_work_session.specs.declared.manner.Manner.{Manner}
+use Rattle.mlir_work_run.specs.declared.run.Options.{Options}
 
 -- the module is refused
 abbrev pub IsRefusal : Refusal → Option ℕ → ℕ → List ℕ → Type 0
@@ -35,12 +37,16 @@ IsWorldOf text m = (t : Operation) × Spells text t × (m ≡ record { tree = t;
 abbrev pub IsTooMany : List ℕ → ℕ → List ℕ → Type 0
 IsTooMany input status out = (MAX_INPUT_BYTES < length input) × IsRefusal TooMany (Some MAX_INPUT_BYTES) status out
 
+-- how the script of an input of so many bytes is run
+abbrev pub manner_of : Options → ℕ → Manner
+manner_of options bytes = record { brief = options.brief; bytes = bytes; limit = options.limit }
+
 -- the text spells a tree; boxes are attached to its module, and the script is run over it
-abbrev pub IsRead : Bool → List Shown → List ℕ → ℕ → List ℕ → Type 0
-IsRead brief boxes input status out = (m : Module) × IsWorldOf (module_text input) m × IsSession (record { brief = brief; bytes = length input }) boxes m (script_text input) status out
+abbrev pub IsRead : Options → List Shown → List ℕ → ℕ → List ℕ → Type 0
+IsRead options boxes input status out = (m : Module) × IsWorldOf (module_text input) m × IsSession (manner_of options (length input)) boxes m (script_text input) status out
 
 -- this status and these bytes are an output of the input, with these boxes; an input that is too long has but one
-abbrev pub IsOutput : Bool → List Shown → List ℕ → ℕ → List ℕ → Type 0
-IsOutput brief boxes input status out =
+abbrev pub IsOutput : Options → List Shown → List ℕ → ℕ → List ℕ → Type 0
+IsOutput options boxes input status out =
     IsTooMany input status out
-    ⊎ ((length input ≤ MAX_INPUT_BYTES) × (IsUnread (module_text input) status out ⊎ IsRead brief boxes input status out))
+    ⊎ ((length input ≤ MAX_INPUT_BYTES) × (IsUnread (module_text input) status out ⊎ IsRead options boxes input status out))

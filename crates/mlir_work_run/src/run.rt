@@ -11,11 +11,12 @@ ghost use Rattle.mlir_work_session.specs.Panels.{all_shown};
 ghost use Rattle.mlir_work_session.specs.Lines.{lines_of};
 ghost use Rattle.mlir_work_session.specs.Parts.{module_text, script_text};
 ghost use Rattle.mlir_work_session.specs.TheConstants.{MAX_SCRIPT_BYTES};
-ghost use Rattle.mlir_work_session.specs.Output.{IsSession, Manner};
+ghost use Rattle.mlir_work_session.specs.Output.{IsSession};
+ghost use Rattle.mlir_work_session.specs.declared.manner.Manner.{Manner as Way};
 ghost use Rattle.mlir_work_session.specs.PrintsAlone.{all_print, kinds_apart};
 ghost use Rattle.mlir_work_session.specs.Ran.{RanOut};
 ghost use Rattle.mlir_work_run.specs.Ends.{EndedSo, HasStatus, ended_of, status_of};
-ghost use Rattle.mlir_work_run.specs.Whole.{IsOutput, IsRefusal, WhyNot};
+ghost use Rattle.mlir_work_run.specs.Whole.{IsOutput, IsRefusal, WhyNot, manner_of};
 
 use dialects_int::tables::registry;
 use ir_event::analysis::Analysis;
@@ -25,6 +26,7 @@ use ir_tree::tree::TreeOp;
 use ir_types::context::Context;
 use ir_types::refusal::Refusal;
 use mlir_work_session::input::{MAX_INPUT_BYTES, ReadFault, read_all, script_is_too_long, split};
+use mlir_work_session::manner::Manner;
 use mlir_work_session::prints::{only_prints, print_session};
 use mlir_work_session::reader;
 use mlir_work_session::reader::ReadError;
@@ -198,7 +200,7 @@ fn answer_prints<W: Write, L: Analysis>(
     requires short { length script.now ≤ MAX_SCRIPT_BYTES }
     requires prints { all_print (lines_of script.now) ≡ true }
     requires apart { kinds_apart L.meaning boxes.now ≡ true }
-    ensures { (manner : Manner) (next : ℕ) → RanOut (IsSession manner (all_shown L.meaning boxes.now) (record { tree = meaning ctx.now tree.now; next = next }) script.now) (W.contents writer.old) (W.contents writer.new) result }
+    ensures { (way : Way) (next : ℕ) → RanOut (IsSession way (all_shown L.meaning boxes.now) (record { tree = meaning ctx.now tree.now; next = next }) script.now) (W.contents writer.old) (W.contents writer.new) result }
 {
     match print_session(alloc, ctx, tree, script, writer, boxes) {
         Ok(status) => finish(writer, status),
@@ -209,8 +211,7 @@ fn answer_prints<W: Write, L: Analysis>(
 /// Makes a world of a tree that was read, and runs a script over it.
 fn answer_script<W: Write, L: Analysis>(
     alloc: Global,
-    brief: bool,
-    bytes: usize,
+    manner: &Manner,
     world: World,
     script: &[u8],
     writer: &mut W,
@@ -218,11 +219,22 @@ fn answer_script<W: Write, L: Analysis>(
 ) -> Result<u8, WriteFault>
     requires slotted { IsSlotted world.store }
     requires tidy { IsTidy world.store }
-    ensures { RanOut (IsSession (record { brief = brief; bytes = bytes }) (all_shown L.meaning boxes.items) (module_in world) script.now) (W.contents writer.old) (W.contents writer.new) result }
+    ensures { RanOut (IsSession manner.now (all_shown L.meaning boxes.items) (module_in world) script.now) (W.contents writer.old) (W.contents writer.new) result }
 {
-    match run_session(alloc, brief, bytes, world, script, writer, boxes) {
+    match run_session(alloc, manner, world, script, writer, boxes) {
         Ok(status) => finish(writer, status),
         Err(fault) => Err(fault),
+    }
+}
+
+/// How the script of an input of so many bytes is run.
+fn manner_of(options: Options, bytes: usize) -> Manner
+    ensures { result ≡ manner_of options bytes }
+{
+    Manner {
+        brief: options.brief,
+        bytes,
+        limit: options.limit,
     }
 }
 
@@ -230,15 +242,15 @@ fn answer_script<W: Write, L: Analysis>(
 fn answer_input<W: Write, L: Analysis>(
     alloc: Global,
     key: u64,
-    brief: bool,
+    options: Options,
     input: Vec<u8>,
     writer: &mut W,
     boxes: Vec<L>,
 ) -> Result<u8, WriteFault>
     requires { length input.items ≤ MAX_INPUT_BYTES }
-    ensures { RanOut (IsOutput brief (all_shown L.meaning boxes.items) input.items) (W.contents writer.old) (W.contents writer.new) result }
+    ensures { RanOut (IsOutput options (all_shown L.meaning boxes.items) input.items) (W.contents writer.old) (W.contents writer.new) result }
 {
-    let bytes = input.len();
+    let manner = manner_of(options, input.len());
     let ((ctx, tree), script) = match taken_apart(alloc, key, input) {
         Ok(parts) => parts,
         Err(unread) => return refuse(writer, unread),
@@ -249,7 +261,7 @@ fn answer_input<W: Write, L: Analysis>(
     let Some(world) = hold(alloc, ctx, tree) else {
         return refuse(writer, no_memory());
     };
-    answer_script(alloc, brief, bytes, world, &script, writer, boxes)
+    answer_script(alloc, &manner, world, &script, writer, boxes)
 }
 
 fn ended(ran: Result<u8, WriteFault>) -> Result<u8, Fault>
@@ -271,7 +283,7 @@ pub fn read_and_answer<R: Read, W: Write, L: Analysis>(
     writer: &mut W,
     boxes: Vec<L>,
 ) -> Result<u8, Fault>
-    ensures ran { IfSome (R.remaining reader.old) (λ input. EndedSo (IsOutput options.brief (all_shown L.meaning boxes.items) input) (W.contents writer.old) (W.contents writer.new) result) }
+    ensures ran { IfSome (R.remaining reader.old) (λ input. EndedSo (IsOutput options (all_shown L.meaning boxes.items) input) (W.contents writer.old) (W.contents writer.new) result) }
     ensures unread { IfErr result (λ e. e ≡ Fault.Read → Keeps (W.contents writer.old) (W.contents writer.new)) }
 {
     let input = match read_all(alloc, reader) {
@@ -286,7 +298,7 @@ pub fn read_and_answer<R: Read, W: Write, L: Analysis>(
         Err(ReadFault::Memory) => return ended(refuse(writer, no_memory())),
         Err(ReadFault::Broken) => return Err(Fault::Read),
     };
-    ended(answer_input(alloc, key, options.brief, input, writer, boxes))
+    ended(answer_input(alloc, key, options, input, writer, boxes))
 }
 
 fn exit_status(ended: Result<u8, Fault>) -> u8
@@ -309,7 +321,7 @@ pub fn run<L: Analysis, R: Read, W: Write>(
     writer: &mut W,
     boxes: Vec<L>,
 ) -> u8
-    ensures { IfSome (R.remaining reader.old) (λ input. HasStatus (IsOutput options.brief (all_shown L.meaning boxes.items) input) (W.contents writer.old) (W.contents writer.new) result) }
+    ensures { IfSome (R.remaining reader.old) (λ input. HasStatus (IsOutput options (all_shown L.meaning boxes.items) input) (W.contents writer.old) (W.contents writer.new) result) }
 {
     run_keyed(alloc, 0, options, reader, writer, boxes)
 }
@@ -324,7 +336,7 @@ pub fn run_keyed<L: Analysis, R: Read, W: Write>(
     writer: &mut W,
     boxes: Vec<L>,
 ) -> u8
-    ensures { IfSome (R.remaining reader.old) (λ input. HasStatus (IsOutput options.brief (all_shown L.meaning boxes.items) input) (W.contents writer.old) (W.contents writer.new) result) }
+    ensures { IfSome (R.remaining reader.old) (λ input. HasStatus (IsOutput options (all_shown L.meaning boxes.items) input) (W.contents writer.old) (W.contents writer.new) result) }
 {
     exit_status(read_and_answer(alloc, key, options, reader, writer, boxes))
 }

@@ -32,6 +32,8 @@ To edit:
   set-attr #N KEY ATTRIBUTE  ATTRIBUTE, the rest of the line, becomes the entry
                              KEY of operation #N
   drop-attr #N KEY           the entry KEY of operation #N is taken out
+  sweep                      the private symbols that nothing reaches are taken
+                             away, with what is inside them, or none of them
 
 Marks, of which 16 may be open:
   begin                      a mark is made of the module
@@ -56,10 +58,10 @@ Operations are numbered in the order of the text, and the module around them is
   ATTRIBUTE  as in a text: a string has quotes, and `5` is `5 : i64`
 
 Each command is replied to by a line that begins with its number: `1 ok`, and
-behind an insert the number of the new operation, as `1 ok #4`. What is refused,
-as `1 refused 23 NotVisible`, changes nothing, and the next command is tried;
-`1 refused 2 Unexpected at 4` says at which byte the ATTRIBUTE or the OPERATION
-is wrong.
+behind an insert the number of the new operation, as `1 ok #4`; a sweep by how
+many symbols it took, as `1 swept 2`. What is refused, as `1 refused 23
+NotVisible`, changes nothing, and the next command is tried; `1 refused 2
+Unexpected at 4` says at which byte the ATTRIBUTE or the OPERATION is wrong.
 
 Kinds:
   uses         the uses of each value: the value, the operation that uses it,
@@ -74,6 +76,8 @@ Kinds:
                is written or freed
   constants    the values that are known without running, each with its
                attribute
+  unreached    the private symbols that nothing reaches: the operation, and its
+               name
 
 Exit status:
   0  each command was accepted; also of --help

@@ -33,8 +33,8 @@ unnamed_again n h e = rw e (rw (number_again n (omega arith)) (numbered_again n 
 named_again : (n k : ℕ) → (n == k) ≡ true → kind_of (kind_word k) ≡ Some k → kind_of (kind_word n) ≡ Some n
 named_again n k e h = subst (λ m. kind_of (kind_word m) ≡ Some m) (sym (equal n k e)) h
 
-no_name : (n : ℕ) → (n == 1) ≡ false → (n == 2) ≡ false → (n == 3) ≡ false → (n == 4) ≡ false → (n == 5) ≡ false → (n == 6) ≡ false → kind_name n ≡ None
-no_name n a b c d e f = rw (a, b, c, d, e, f) refl
+no_name : (n : ℕ) → (n == 1) ≡ false → (n == 2) ≡ false → (n == 3) ≡ false → (n == 4) ≡ false → (n == 5) ≡ false → (n == 6) ≡ false → (n == 7) ≡ false → kind_name n ≡ None
+no_name n a b c d e f g = rw (a, b, c, d, e, f, g) refl
 
 pub word_again : (n : ℕ) → n < 256 → kind_of (kind_word n) ≡ Some n
 word_again n h = elim (either (n == 1)) [
@@ -49,7 +49,10 @@ word_again n h = elim (either (n == 1)) [
           | inl e ↦ named_again n 5 e refl
           | inr f ↦ elim (either (n == 6)) [
             | inl e ↦ named_again n 6 e refl
-            | inr g ↦ unnamed_again n h (no_name n a b c d f g)
+            | inr g ↦ elim (either (n == 7)) [
+              | inl e ↦ named_again n 7 e refl
+              | inr k ↦ unnamed_again n h (no_name n a b c d f g k)
+            ]
           ]
         ]
       ]
@@ -123,4 +126,5 @@ word_only word n =
     (first_of_words word 4 n (bytes_eq word (codes "effects")) _ refl (omega arith)
     (first_of_words word 5 n (bytes_eq word (codes "dead")) _ refl (omega arith)
     (first_of_words word 6 n (bytes_eq word (codes "constants")) _ refl (omega arith)
-    (numbered_only word n (starts_with nat_eq word (codes "kind")) refl))))))
+    (first_of_words word 7 n (bytes_eq word (codes "unreached")) _ refl (omega arith)
+    (numbered_only word n (starts_with nat_eq word (codes "kind")) refl)))))))

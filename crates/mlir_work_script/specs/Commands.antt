@@ -35,6 +35,7 @@ said_of (code.DropAttr op key) = said.DropAttr op (key_bytes key)
 said_of (code.Erase op) = said.Erase op
 said_of (code.Insert spot operation) = said.Insert (spot_of spot) operation.now
 said_of (code.Replace old new) = said.Replace old new
+said_of code.Sweep = said.Sweep
 said_of code.Begin = said.Begin
 said_of code.Commit = said.Commit
 said_of code.Rollback = said.Rollback
@@ -123,6 +124,12 @@ mark_command name rest =
     else if bytes_eq name (codes "rollback") then alone rest (Some said.Rollback)
     else None
 
+-- one that transforms the module
+abbrev pub transforming_command : List ℕ → List ℕ → Option Said
+transforming_command name rest =
+    if bytes_eq name (codes "sweep") then alone rest (Some said.Sweep)
+    else mark_command name rest
+
 -- one that shows or follows
 abbrev pub panel_command : List ℕ → List ℕ → Option Said
 panel_command name rest =
@@ -130,7 +137,7 @@ panel_command name rest =
     else if bytes_eq name (codes "print") then alone rest (Some said.Print)
     else if bytes_eq name (codes "detach") then with_kind said.Detach rest
     else if bytes_eq name (codes "resync") then with_kind said.Resync rest
-    else mark_command name rest
+    else transforming_command name rest
 
 -- one that edits entries
 abbrev pub entry_command : List ℕ → List ℕ → Option Said

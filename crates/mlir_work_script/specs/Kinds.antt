@@ -15,6 +15,7 @@ kind_name n =
     else if n == 4 then Some (codes "effects")
     else if n == 5 then Some (codes "dead")
     else if n == 6 then Some (codes "constants")
+    else if n == 7 then Some (codes "unreached")
     else None
 
 abbrev pub named_or_numbered : Option (List ℕ) → ℕ → List ℕ
@@ -43,4 +44,5 @@ kind_of word =
     else if bytes_eq word (codes "effects") then Some 4
     else if bytes_eq word (codes "dead") then Some 5
     else if bytes_eq word (codes "constants") then Some 6
+    else if bytes_eq word (codes "unreached") then Some 7
     else numbered_kind word

@@ -9,4 +9,5 @@ pub mod Spots
 pub mod Keys
 pub mod Commands
 pub mod Writes
+pub mod Outcomes
 pub mod Replies

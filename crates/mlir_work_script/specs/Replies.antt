@@ -3,7 +3,9 @@ use Rattle.std.specs.Prelude.{ℕ, List, ◌++◌, Option, Some, None, codes}
 use Rattle.std.specs.Fmt.{decimal}
 use Rattle.ir_types.specs.Refusals.{text_of}
 use Rattle.ir_types.specs.declared.refusal.Refusal.{Refusal}
+use Rattle.rewriter_machine.specs.Machine.{Outcome}
 use Rattle.mlir_work_script.specs.Kinds.{kind_word}
+use Rattle.mlir_work_script.specs.Outcomes.{outcome_word, outcome_count}
 use Rattle.mlir_work_script.specs.Values.{op_text}
 
 -- `1 ok`
@@ -14,9 +16,17 @@ ok_line n = decimal n ++ codes " ok\n"
 abbrev pub made_line : ℕ → ℕ → List ℕ
 made_line n op = decimal n ++ (codes " ok " ++ (op_text op ++ codes "\n"))
 
+-- `1 swept 2`, `1 converged 3`, `1 limit 1`, `1 converted 2`
+abbrev pub outcome_line : ℕ → Outcome → List ℕ
+outcome_line n outcome = decimal n ++ (codes " " ++ (outcome_word outcome ++ (codes " " ++ (decimal (outcome_count outcome) ++ codes "\n"))))
+
 -- `1 refused 22 HasUses`
 abbrev pub refused_line : ℕ → Refusal → List ℕ
 refused_line n refusal = decimal n ++ (codes " refused " ++ (text_of refusal ++ codes "\n"))
+
+-- `1 refused 51 NotLegalised #2`
+abbrev pub refused_on_line : ℕ → Refusal → ℕ → List ℕ
+refused_on_line n refusal op = decimal n ++ (codes " refused " ++ (text_of refusal ++ (codes " " ++ (op_text op ++ codes "\n"))))
 
 -- where a text is refused, counted in bytes from its first
 abbrev pub at_offset : Option ℕ → List ℕ

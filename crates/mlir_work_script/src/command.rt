@@ -3,7 +3,7 @@ ghost use Rattle.std.specs.Prelude.{◌≡◌, Some};
 ghost use Rattle.std.specs.Option.{option_map};
 ghost use Rattle.std.specs.Str.{is_utf8};
 ghost use Rattle.rewriter_machine.specs.Commands as said;
-ghost use Rattle.mlir_work_script.specs.Commands.{said_of, spoken_of, with_kind, set_operand_in, move_in, set_attr_in, drop_attr_in, erase_in, insert_in, replace_in, alone, entry_command, mark_command, panel_command, command_of, line_says};
+ghost use Rattle.mlir_work_script.specs.Commands.{said_of, spoken_of, with_kind, set_operand_in, move_in, set_attr_in, drop_attr_in, erase_in, insert_in, replace_in, alone, entry_command, mark_command, panel_command, transforming_command, command_of, line_says};
 
 use crate::keys::{Key, split_key};
 use crate::kind::{Kind, kind_named};
@@ -69,6 +69,8 @@ pub enum Command<'a> {
         /// The entry's key.
         key: Key<'a>,
     },
+    /// `sweep` takes the private symbols away that nothing reaches.
+    Sweep,
     /// `begin` makes a mark of the module.
     Begin,
     /// `commit` drops the newest mark.
@@ -199,6 +201,16 @@ fn print(rest: &[u8]) -> Option<Command<'_>>
     Some(Command::Print)
 }
 
+/// `sweep`, behind its name.
+fn sweep(rest: &[u8]) -> Option<Command<'_>>
+    ensures { option_map said_of result ≡ alone rest.now (Some said.Sweep) }
+{
+    if !rest.is_empty() {
+        return None;
+    }
+    Some(Command::Sweep)
+}
+
 /// `begin`, behind its name.
 fn begin(rest: &[u8]) -> Option<Command<'_>>
     ensures { option_map said_of result ≡ alone rest.now (Some said.Begin) }
@@ -270,6 +282,16 @@ fn drop_attr(rest: &[u8]) -> Option<Command<'_>>
     Some(Command::DropAttr { op, key })
 }
 
+/// The command of a name that transforms the module, or is about marks.
+fn transforming_command<'a>(name: &[u8], rest: &'a [u8]) -> Option<Command<'a>>
+    ensures { option_map said_of result ≡ transforming_command name.now rest.now }
+{
+    if name == b"sweep".as_slice() {
+        return sweep(rest);
+    }
+    mark_command(name, rest)
+}
+
 /// The command of a name that is about marks.
 fn mark_command<'a>(name: &[u8], rest: &'a [u8]) -> Option<Command<'a>>
     ensures { option_map said_of result ≡ mark_command name.now rest.now }
@@ -286,7 +308,7 @@ fn mark_command<'a>(name: &[u8], rest: &'a [u8]) -> Option<Command<'a>>
     None
 }
 
-/// The command of a name that shows something, or is of an analysis or of marks.
+/// The command of a name that shows something, is of an analysis, transforms the module or is about marks.
 fn panel_command<'a>(name: &[u8], rest: &'a [u8]) -> Option<Command<'a>>
     ensures { option_map said_of result ≡ panel_command name.now rest.now }
 {
@@ -302,7 +324,7 @@ fn panel_command<'a>(name: &[u8], rest: &'a [u8]) -> Option<Command<'a>>
     if name == b"resync".as_slice() {
         return resync(rest);
     }
-    mark_command(name, rest)
+    transforming_command(name, rest)
 }
 
 /// The command of a name that edits entries, or none.

@@ -18,6 +18,7 @@ pub fn name_of(kind: Kind) -> Option<&'static [u8]>
         4 => Some(b"effects"),
         5 => Some(b"dead"),
         6 => Some(b"constants"),
+        7 => Some(b"unreached"),
         _ => None,
     }
 }
@@ -60,6 +61,9 @@ pub fn kind_named(word: &[u8]) -> Option<Kind>
     }
     if word == b"constants".as_slice() {
         return Some(Kind::CONSTANTS);
+    }
+    if word == b"unreached".as_slice() {
+        return Some(Kind::new(7));
     }
     numbered_kind(word)
 }

@@ -11,6 +11,7 @@ pub mod kind;
 pub mod laws;
 pub mod lines;
 pub mod numbers;
+pub mod outcome;
 pub mod replies;
 pub mod spots;
 pub mod values;

@@ -2,10 +2,12 @@
 ghost use Rattle.std.specs.Prelude.{◌++◌, Some, None, codes};
 ghost use Rattle.ir_types.specs.Refusals.{text_of};
 ghost use Rattle.mlir_work_script.specs.Kinds.{kind_word};
-ghost use Rattle.mlir_work_script.specs.Replies.{made_line, ok_line, refused_line, refused_at_line, module_refused_line, attach_refused_line, kind_line, stale_line, kind_memory_line, module_memory_line};
+ghost use Rattle.mlir_work_script.specs.Outcomes.{outcome_of};
+ghost use Rattle.mlir_work_script.specs.Replies.{made_line, ok_line, outcome_line, refused_line, refused_at_line, refused_on_line, module_refused_line, attach_refused_line, kind_line, stale_line, kind_memory_line, module_memory_line};
 ghost use Rattle.mlir_work_script.specs.Writes.{Puts};
 
 use crate::kind::{Kind, name_of};
+use crate::outcome::Outcome;
 use crate::writing::{WriteFault, put, put_all};
 use ir_types::ids::OpId;
 use ir_types::refusal::Refusal;
@@ -38,6 +40,25 @@ pub fn put_made<W: Write>(writer: &mut W, n: u64, op: OpId) -> Result<(), WriteF
     )
 }
 
+/// Writes what came of a command that transforms the module: `1 swept 2`.
+pub fn put_outcome<W: Write>(writer: &mut W, n: u64, outcome: Outcome) -> Result<(), WriteFault>
+    ensures { Puts (W.contents writer.old) (W.contents writer.new) (outcome_line n (outcome_of outcome)) result }
+{
+    let mut command = Buffer::new();
+    let mut number = Buffer::new();
+    put_all(
+        writer,
+        &[
+            command.format(n).as_bytes(),
+            b" ",
+            outcome.word(),
+            b" ",
+            number.format(outcome.count()).as_bytes(),
+            b"\n",
+        ],
+    )
+}
+
 /// Writes that a command is refused: `1 refused 22 HasUses`.
 pub fn put_refused<W: Write>(writer: &mut W, n: u64, refusal: Refusal) -> Result<(), WriteFault>
     ensures { Puts (W.contents writer.old) (W.contents writer.new) (refused_line n refusal) result }
@@ -52,6 +73,34 @@ pub fn put_refused<W: Write>(writer: &mut W, n: u64, refusal: Refusal) -> Result
             number.format(refusal.number()).as_bytes(),
             b" ",
             refusal.word().as_bytes(),
+            b"\n",
+        ],
+    )
+}
+
+/// Writes that a command is refused because of an operation: `1 refused 51 NotLegalised #2`.
+pub fn put_refused_on<W: Write>(
+    writer: &mut W,
+    n: u64,
+    refusal: Refusal,
+    op: OpId,
+) -> Result<(), WriteFault>
+    ensures { Puts (W.contents writer.old) (W.contents writer.new) (refused_on_line n refusal op) result }
+{
+    let mut command = Buffer::new();
+    let mut number = Buffer::new();
+    let mut about = Buffer::new();
+    put_all(
+        writer,
+        &[
+            command.format(n).as_bytes(),
+            b" refused ",
+            number.format(refusal.number()).as_bytes(),
+            b" ",
+            refusal.word().as_bytes(),
+            b" ",
+            b"#",
+            about.format(op.number()).as_bytes(),
             b"\n",
         ],
     )

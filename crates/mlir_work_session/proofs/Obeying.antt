@@ -14,175 +14,185 @@ use Rattle.rewriter.specs.Texts.{SpellsBeside}
 use Rattle.rewriter.specs.Held.{module_held}
 use Rattle.rewriter.specs.Benched.{Benched, state_of}
 use Rattle.rewriter.specs.Commands as command
-use Rattle.rewriter.specs.Commands.{Command, Asked, Ask, Misplaced, Unread, Asks, Follows, IsAttrRefusal, IsOpRefusal, Response, Replied, TextRefusedAt, TextRefused}
+use Rattle.rewriter.specs.Commands.{Command, Asked, Ask, Misplaced, Unread, Follows, IsAttrRefusal, IsOpRefusal, Response, Replied, TextRefusedAt, TextRefused}
 use Rattle.rewriter.specs.Edits as edit
 use Rattle.rewriter.specs.Machine as call
 use Rattle.rewriter.specs.Machine.{State, OpenMark, Call, Do, Reply, Done, Refused, Shows, Nothing, Rows, Tree, Answer, Goes, due, due_rollback, grows_under, PanelGoes}
 use Rattle.rewriter.specs.Panels.{Shown, is_kind, has_kind, shown}
 use Rattle.rewriter.specs.Spots.{Spot, spot_place}
 use Rattle.mlir_work_session.specs.Texts.{NotRead}
-use Rattle.mlir_work_session.specs.Machine.{Obeys, shows_text}
+use Rattle.mlir_work_sweep.specs.Sweep.{sweeping}
+use Rattle.mlir_work_session.specs.declared.manner.Manner.{Manner}
+use Rattle.mlir_work_session.specs.Machine.{AsksIn, Obeys, canonicalizing, converting, limit_or, shows_text}
 use Rattle.mlir_work_session.specs.RowText.{rows_text}
 use Rattle.mlir_work_session.proofs.Panels.{all_stay, find_shown}
 
--- a command that comes to a call
-pub obeys_call : (s t : State) (c : Command) (call : Call) (reply : Reply) (shows : Shows) → Asks SpellsBeside SpellsAttr c s.held (Ask call) → Goes s call reply shows t → Obeys s c (Replied reply) (shows_text shows) t
-obeys_call s t c call reply shows asks goes = record { asked = Ask call; shows = shows; asks = asks; follows = goes; text = refl }
+module _ (manner : Manner) where
+  -- a command that comes to a call
+  pub obeys_call : (s t : State) (c : Command) (call : Call) (reply : Reply) (shows : Shows) → AsksIn manner c s.held (Ask call) → Goes s call reply shows t → Obeys manner s c (Replied reply) (shows_text shows) t
+  obeys_call s t c call reply shows asks goes = record { asked = Ask call; shows = shows; asks = asks; follows = goes; text = refl }
 
--- one below which nothing is shown, with the response that its reply is
-pub obeys_plain : (s t : State) (c : Command) (call : Call) (reply : Reply) (response : Response) → response ≡ Replied reply → Asks SpellsBeside SpellsAttr c s.held (Ask call) → Goes s call reply Nothing t → Obeys s c response [] t
-obeys_plain s t c call reply response is asks goes = rw is (obeys_call s t c call reply Nothing asks goes)
+  -- one below which nothing is shown, with the response that its reply is
+  pub obeys_plain : (s t : State) (c : Command) (call : Call) (reply : Reply) (response : Response) → response ≡ Replied reply → AsksIn manner c s.held (Ask call) → Goes s call reply Nothing t → Obeys manner s c response [] t
+  obeys_plain s t c call reply response is asks goes = rw is (obeys_call s t c call reply Nothing asks goes)
 
--- a place that is refused, and a text
-pub obeys_misplaced : (x : ℕ) (spot : Spot) (s : State) (refusal : Refusal) → spot_place (Some x) spot s.held.tree ≡ Err refusal → Obeys s (command.Move x spot) (Replied (Refused refusal)) [] s
-obeys_misplaced x spot s refusal e = record { asked = Misplaced refusal; shows = Nothing; asks = e; follows = (refl, refl, refl); text = refl }
+  -- a place that is refused, and a text
+  pub obeys_misplaced : (x : ℕ) (spot : Spot) (s : State) (refusal : Refusal) → spot_place (Some x) spot s.held.tree ≡ Err refusal → Obeys manner s (command.Move x spot) (Replied (Refused refusal)) [] s
+  obeys_misplaced x spot s refusal e = record { asked = Misplaced refusal; shows = Nothing; asks = e; follows = (refl, refl, refl); text = refl }
 
-pub obeys_unread : (x : ℕ) (key text : List ℕ) (s t : State) (response : Response) → t ≡ s → NotRead IsAttrRefusal (SpellsAttr text) response → Obeys s (command.SetAttr x key text) response [] t
-obeys_unread x key text s t response same (refusal, offset, why, is) =
-    record { asked = Unread refusal offset; shows = Nothing; asks = why; follows = (is, refl, same); text = refl }
+  pub obeys_unread : (x : ℕ) (key text : List ℕ) (s t : State) (response : Response) → t ≡ s → NotRead manner.bytes IsAttrRefusal (SpellsAttr text) response → Obeys manner s (command.SetAttr x key text) response [] t
+  obeys_unread x key text s t response same (refusal, offset, why, is) =
+      record { asked = Unread refusal offset; shows = Nothing; asks = why; follows = (is, refl, same); text = refl }
 
-pub obeys_unread_op : (spot : Spot) (text : List ℕ) (s t : State) (response : Response) → t ≡ s → NotRead IsOpRefusal (SpellsBeside s.held text) response → Obeys s (command.Insert spot text) response [] t
-obeys_unread_op spot text s t response same (refusal, offset, why, is) =
-    record { asked = Unread refusal offset; shows = Nothing; asks = why; follows = (is, refl, same); text = refl }
+  pub obeys_unread_op : (spot : Spot) (text : List ℕ) (s t : State) (response : Response) → t ≡ s → NotRead manner.bytes IsOpRefusal (SpellsBeside s.held text) response → Obeys manner s (command.Insert spot text) response [] t
+  obeys_unread_op spot text s t response same (refusal, offset, why, is) =
+      record { asked = Unread refusal offset; shows = Nothing; asks = why; follows = (is, refl, same); text = refl }
 
-pub obeys_unplaced : (spot : Spot) (text : List ℕ) (s t : State) (o : Operation) (refusal : Refusal) → t ≡ s → SpellsBeside s.held text o → spot_place None spot s.held.tree ≡ Err refusal → Obeys s (command.Insert spot text) (Replied (Refused refusal)) [] t
-obeys_unplaced spot text s t o refusal same spelled e =
-    record { asked = Misplaced refusal; shows = Nothing; asks = (o, spelled, e); follows = (refl, refl, same); text = refl }
+  pub obeys_unplaced : (spot : Spot) (text : List ℕ) (s t : State) (o : Operation) (refusal : Refusal) → t ≡ s → SpellsBeside s.held text o → spot_place None spot s.held.tree ≡ Err refusal → Obeys manner s (command.Insert spot text) (Replied (Refused refusal)) [] t
+  obeys_unplaced spot text s t o refusal same spelled e =
+      record { asked = Misplaced refusal; shows = Nothing; asks = (o, spelled, e); follows = (refl, refl, same); text = refl }
 
--- an entry that isn't dropped since its key finds no memory
-pub obeys_unnamed : (x : ℕ) (key : List ℕ) (s t : State) → t ≡ s → Obeys s (command.DropAttr x key) (Replied (Refused Memory)) [] t
-obeys_unnamed x key s t same = obeys_call s t (command.DropAttr x key) (Do (edit.DropAttr x key)) (Refused Memory) Nothing refl (rw same (record { answer = inr (takes s.marks, refl); panel = all_stay s.panel }))
-  where
-    takes : (ks : List OpenMark) → IsTrue (grows_under ks (edit.DropAttr x key))
-    takes [] = refl
-    takes (k ∷ ks) = refl
+  -- an entry that isn't dropped since its key finds no memory
+  pub obeys_unnamed : (x : ℕ) (key : List ℕ) (s t : State) → t ≡ s → Obeys manner s (command.DropAttr x key) (Replied (Refused Memory)) [] t
+  obeys_unnamed x key s t same = obeys_call s t (command.DropAttr x key) (Do (edit.DropAttr x key)) (Refused Memory) Nothing refl (rw same (record { answer = inr (takes s.marks, refl); panel = all_stay s.panel }))
+    where
+      takes : (ks : List OpenMark) → IsTrue (grows_under ks (edit.DropAttr x key))
+      takes [] = refl
+      takes (k ∷ ks) = refl
 
--- a call behind a context that grew
-pub obeys_behind : (s p t : State) (c : Command) (call : Call) (reply : Reply) (response : Response) → p ≡ s → response ≡ Replied reply → Asks SpellsBeside SpellsAttr c s.held (Ask call) → Goes p call reply Nothing t → Obeys s c response [] t
-obeys_behind s p t c call reply response same is asks goes = obeys_plain s t c call reply response is asks (subst (λ (q : State). Goes q call reply Nothing t) same goes)
+  -- a call behind a context that grew
+  pub obeys_behind : (s p t : State) (c : Command) (call : Call) (reply : Reply) (response : Response) → p ≡ s → response ≡ Replied reply → AsksIn manner c s.held (Ask call) → Goes p call reply Nothing t → Obeys manner s c response [] t
+  obeys_behind s p t c call reply response same is asks goes = obeys_plain s t c call reply response is asks (subst (λ (q : State). Goes q call reply Nothing t) same goes)
 
--- ---- what is shown
+  -- ---- what is shown
 
-pub obeys_printed : (s : State) → Obeys s command.Print (Replied Done) (text_of s.held.tree) s
-obeys_printed s = obeys_call s s command.Print call.Print Done (Tree s.held.tree) refl (record { answer = inl refl; panel = refl })
+  pub obeys_printed : (s : State) → Obeys manner s command.Print (Replied Done) (text_of s.held.tree) s
+  obeys_printed s = obeys_call s s command.Print call.Print Done (Tree s.held.tree) refl (record { answer = inl refl; panel = refl })
 
-pub obeys_unprinted : (s : State) → Obeys s command.Print (Replied (Refused Memory)) [] s
-obeys_unprinted s = obeys_call s s command.Print call.Print (Refused Memory) Nothing refl (record { answer = inr (refl, refl); panel = refl })
+  pub obeys_unprinted : (s : State) → Obeys manner s command.Print (Replied (Refused Memory)) [] s
+  obeys_unprinted s = obeys_call s s command.Print call.Print (Refused Memory) Nothing refl (record { answer = inr (refl, refl); panel = refl })
 
-pub obeys_unreported : (kind : ℕ) (s : State) → Obeys s (command.Report kind) (Replied (Refused Memory)) [] s
-obeys_unreported kind s = obeys_call s s (command.Report kind) (call.Report kind) (Refused Memory) Nothing refl (record { answer = inr (refl, refl); panel = refl })
+  pub obeys_unreported : (kind : ℕ) (s : State) → Obeys manner s (command.Report kind) (Replied (Refused Memory)) [] s
+  obeys_unreported kind s = obeys_call s s (command.Report kind) (call.Report kind) (Refused Memory) Nothing refl (record { answer = inr (refl, refl); panel = refl })
 
-pub obeys_unknown : (kind : ℕ) (s : State) → find (is_kind kind) s.panel ≡ None → Obeys s (command.Report kind) (Replied (Refused NoSuchKind)) [] s
-obeys_unknown kind s e = obeys_call s s (command.Report kind) (call.Report kind) (Refused NoSuchKind) Nothing refl (record { answer = inl (rw e refl); panel = refl })
+  pub obeys_unknown : (kind : ℕ) (s : State) → find (is_kind kind) s.panel ≡ None → Obeys manner s (command.Report kind) (Replied (Refused NoSuchKind)) [] s
+  obeys_unknown kind s e = obeys_call s s (command.Report kind) (call.Report kind) (Refused NoSuchKind) Nothing refl (record { answer = inl (rw e refl); panel = refl })
 
-pub obeys_stale : (kind : ℕ) (s : State) (k : Shown) → find (is_kind kind) s.panel ≡ Some k → k.stale ≡ true → Obeys s (command.Report kind) (Replied (Refused Stale)) [] s
-obeys_stale kind s k e is = obeys_call s s (command.Report kind) (call.Report kind) (Refused Stale) Nothing refl (record { answer = inl (rw (e, is) refl); panel = refl })
+  pub obeys_stale : (kind : ℕ) (s : State) (k : Shown) → find (is_kind kind) s.panel ≡ Some k → k.stale ≡ true → Obeys manner s (command.Report kind) (Replied (Refused Stale)) [] s
+  obeys_stale kind s k e is = obeys_call s s (command.Report kind) (call.Report kind) (Refused Stale) Nothing refl (record { answer = inl (rw (e, is) refl); panel = refl })
 
-pub obeys_reported : (kind : ℕ) (s : State) (k : Shown) → find (is_kind kind) s.panel ≡ Some k → k.stale ≡ false → Obeys s (command.Report kind) (Replied Done) (rows_text (k.analysis s.held.tree)) s
-obeys_reported kind s k e is = obeys_call s s (command.Report kind) (call.Report kind) Done (Rows (k.analysis s.held.tree)) refl (record { answer = inl (rw (e, is) refl); panel = refl })
+  pub obeys_reported : (kind : ℕ) (s : State) (k : Shown) → find (is_kind kind) s.panel ≡ Some k → k.stale ≡ false → Obeys manner s (command.Report kind) (Replied Done) (rows_text (k.analysis s.held.tree)) s
+  obeys_reported kind s k e is = obeys_call s s (command.Report kind) (call.Report kind) Done (Rows (k.analysis s.held.tree)) refl (record { answer = inl (rw (e, is) refl); panel = refl })
 
--- ---- each command has an answer
+  -- ---- each command has an answer
 
-abbrev Some_goes : State → Call → Type 0
-Some_goes s c = (reply : Reply) × (shows : Shows) × (t : State) × Goes s c reply shows t
+  abbrev Some_goes : State → Call → Type 0
+  Some_goes s c = (reply : Reply) × (shows : Shows) × (t : State) × Goes s c reply shows t
 
-abbrev goes_as : (s : State) (a : Answer) → List Shown → State
-goes_as s a ks = record { held = a.held; marks = a.marks; panel = ks }
+  abbrev goes_as : (s : State) (a : Answer) → List Shown → State
+  goes_as s a ks = record { held = a.held; marks = a.marks; panel = ks }
 
-rolls_back : (s : State) (ks : List OpenMark) → s.marks ≡ ks → PanelGoes call.Rollback (due_rollback ks s).reply s.panel s.panel
-rolls_back s [] e = refl
-rolls_back s (k ∷ ks) e = all_stay s.panel
+  rolls_back : (s : State) (ks : List OpenMark) → s.marks ≡ ks → PanelGoes call.Rollback (due_rollback ks s).reply s.panel s.panel
+  rolls_back s [] e = refl
+  rolls_back s (k ∷ ks) e = all_stay s.panel
 
-some_detached : (kind : ℕ) (s : State) (p : Option ℕ) → position (is_kind kind) s.panel ≡ p → Some_goes s (call.Detach kind)
-some_detached kind s None e =
-    let absent : has_kind kind s.panel ≡ false = ap is_some e in
-    (Refused NoSuchKind, Nothing, s, record { answer = inl (rw absent refl); panel = refl })
-some_detached kind s (Some place) e =
-    let there : has_kind kind s.panel ≡ true = ap is_some e in
-    (Done, Nothing, record s { panel = remove s.panel place }, record { answer = inl (rw there refl); panel = record { place = place; is = e; rest = refl } })
+  some_detached : (kind : ℕ) (s : State) (p : Option ℕ) → position (is_kind kind) s.panel ≡ p → Some_goes s (call.Detach kind)
+  some_detached kind s None e =
+      let absent : has_kind kind s.panel ≡ false = ap is_some e in
+      (Refused NoSuchKind, Nothing, s, record { answer = inl (rw absent refl); panel = refl })
+  some_detached kind s (Some place) e =
+      let there : has_kind kind s.panel ≡ true = ap is_some e in
+      (Done, Nothing, record s { panel = remove s.panel place }, record { answer = inl (rw there refl); panel = record { place = place; is = e; rest = refl } })
 
-some_goes : (s : State) (c : Call) → Some_goes s c
-some_goes s (Do e) = let a = due s (Do e) in (a.reply, a.shows, goes_as s a s.panel, record { answer = inl refl; panel = all_stay s.panel })
-some_goes s call.Mark = (Refused Memory, Nothing, s, record { answer = inr (refl, refl); panel = refl })
-some_goes s call.Step = (Refused Memory, Nothing, s, record { answer = inr (refl, refl); panel = refl })
-some_goes s call.Commit = let a = due s call.Commit in (a.reply, a.shows, goes_as s a s.panel, record { answer = inl refl; panel = refl })
-some_goes s call.Rollback = let a = due s call.Rollback in (a.reply, a.shows, goes_as s a s.panel, record { answer = inl refl; panel = rolls_back s s.marks refl })
-some_goes s (call.Attach k) = (Refused Memory, Nothing, s, record { answer = inr (refl, refl); panel = refl })
-some_goes s (call.Detach kind) = some_detached kind s (position (is_kind kind) s.panel) refl
-some_goes s (call.Resync kind) = (Refused Memory, Nothing, s, record { answer = inr (refl, refl); panel = inl refl })
-some_goes s (call.Report kind) = (Refused Memory, Nothing, s, record { answer = inr (refl, refl); panel = refl })
-some_goes s call.Print = (Refused Memory, Nothing, s, record { answer = inr (refl, refl); panel = refl })
+  some_goes : (s : State) (c : Call) → Some_goes s c
+  some_goes s (Do e) = let a = due s (Do e) in (a.reply, a.shows, goes_as s a s.panel, record { answer = inl refl; panel = all_stay s.panel })
+  some_goes s (call.Change f) = (Refused Memory, Nothing, s, record { answer = inr (refl, inl refl); panel = all_stay s.panel })
+  some_goes s call.Mark = (Refused Memory, Nothing, s, record { answer = inr (refl, refl); panel = refl })
+  some_goes s call.Step = (Refused Memory, Nothing, s, record { answer = inr (refl, refl); panel = refl })
+  some_goes s call.Commit = let a = due s call.Commit in (a.reply, a.shows, goes_as s a s.panel, record { answer = inl refl; panel = refl })
+  some_goes s call.Rollback = let a = due s call.Rollback in (a.reply, a.shows, goes_as s a s.panel, record { answer = inl refl; panel = rolls_back s s.marks refl })
+  some_goes s (call.Attach k) = (Refused Memory, Nothing, s, record { answer = inr (refl, refl); panel = refl })
+  some_goes s (call.Detach kind) = some_detached kind s (position (is_kind kind) s.panel) refl
+  some_goes s (call.Resync kind) = (Refused Memory, Nothing, s, record { answer = inr (refl, refl); panel = inl refl })
+  some_goes s (call.Report kind) = (Refused Memory, Nothing, s, record { answer = inr (refl, refl); panel = refl })
+  some_goes s call.Print = (Refused Memory, Nothing, s, record { answer = inr (refl, refl); panel = refl })
 
-abbrev pub SomeAnswer : State → Command → Type 0
-SomeAnswer s c = (response : Response) × (bytes : List ℕ) × (t : State) × Obeys s c response bytes t × ((why : Refusal) (offset : ℕ) → response ≡ TextRefusedAt why offset → ⊥)
+  abbrev pub SomeAnswer : State → Command → Type 0
+  SomeAnswer s c = (response : Response) × (bytes : List ℕ) × (t : State) × Obeys manner s c response bytes t × ((why : Refusal) (offset : ℕ) → response ≡ TextRefusedAt why offset → ⊥)
 
-by_call : (s : State) (c : Command) (does : Call) → Asks SpellsBeside SpellsAttr c s.held (Ask does) → SomeAnswer s c
-by_call s c does asks = let g = some_goes s does in (Replied g.0, shows_text g.1, g.2, obeys_call s g.2 c does g.0 g.1 asks g.3, λ why offset e. cc)
+  by_call : (s : State) (c : Command) (does : Call) → AsksIn manner c s.held (Ask does) → SomeAnswer s c
+  by_call s c does asks = let g = some_goes s does in (Replied g.0, shows_text g.1, g.2, obeys_call s g.2 c does g.0 g.1 asks g.3, λ why offset e. cc)
 
-by_place : (s : State) (x : ℕ) (spot : Spot) (r : Result Place Refusal) → spot_place (Some x) spot s.held.tree ≡ r → SomeAnswer s (command.Move x spot)
-by_place s x spot (Ok place) e = by_call s (command.Move x spot) (Do (edit.Move x place)) (place, e, refl)
-by_place s x spot (Err refusal) e = (Replied (Refused refusal), [], s, record { asked = Misplaced refusal; shows = Nothing; asks = e; follows = (refl, refl, refl); text = refl }, λ why offset e. cc)
+  by_place : (s : State) (x : ℕ) (spot : Spot) (r : Result Place Refusal) → spot_place (Some x) spot s.held.tree ≡ r → SomeAnswer s (command.Move x spot)
+  by_place s x spot (Ok place) e = by_call s (command.Move x spot) (Do (edit.Move x place)) (place, e, refl)
+  by_place s x spot (Err refusal) e = (Replied (Refused refusal), [], s, record { asked = Misplaced refusal; shows = Nothing; asks = e; follows = (refl, refl, refl); text = refl }, λ why offset e. cc)
 
-no_memory : {X : Type 0} (Spelled : X → Type 0) → TextRefused IsAttrRefusal Spelled Memory None
-no_memory Spelled = (refl, inr (inr refl))
+  no_memory : {X : Type 0} (Spelled : X → Type 0) → TextRefused manner.bytes IsAttrRefusal Spelled Memory None
+  no_memory Spelled = (refl, inr (inr refl))
 
-no_memory_op : {X : Type 0} (Spelled : X → Type 0) → TextRefused IsOpRefusal Spelled Memory None
-no_memory_op Spelled = (inr refl, inr (inr refl))
+  no_memory_op : {X : Type 0} (Spelled : X → Type 0) → TextRefused manner.bytes IsOpRefusal Spelled Memory None
+  no_memory_op Spelled = (inr refl, inr (inr refl))
 
--- where a text is refused at a byte, it may be refused for want of memory too
-memory_too : (s t : State) (c : Command) (asked : Asked) (shows : Shows) (why : Refusal) (offset : ℕ) → Asks SpellsBeside SpellsAttr c s.held asked → Follows s asked (TextRefusedAt why offset) shows t
-    → Asks SpellsBeside SpellsAttr c s.held (Unread Memory None) × (shows ≡ Nothing) × (t ≡ s)
-memory_too s t c (Ask does) shows why offset asks follows = absurd follows
-memory_too s t c (Misplaced refusal) shows why offset asks follows = absurd (let e : TextRefusedAt why offset ≡ Replied (Refused refusal) = follows.0 in cc)
-memory_too s t (command.Insert spot text) (Unread refusal at_byte) shows why offset asks follows = (no_memory_op (SpellsBeside s.held text), follows.1, follows.2)
-memory_too s t (command.SetAttr x key text) (Unread refusal at_byte) shows why offset asks follows = (no_memory (SpellsAttr text), follows.1, follows.2)
-memory_too s t (command.Move x spot) (Unread refusal at_byte) shows why offset asks follows = absurd asks
-memory_too s t (command.Erase x) (Unread refusal at_byte) shows why offset asks follows = absurd (let e : Unread refusal at_byte ≡ Ask (Do (edit.Erase x)) = asks in cc)
-memory_too s t (command.SetOperand x k v) (Unread refusal at_byte) shows why offset asks follows = absurd (let e : Unread refusal at_byte ≡ Ask (Do (edit.SetOperand x k v)) = asks in cc)
-memory_too s t (command.Replace old new) (Unread refusal at_byte) shows why offset asks follows = absurd (let e : Unread refusal at_byte ≡ Ask (Do (edit.Replace old new)) = asks in cc)
-memory_too s t (command.DropAttr x key) (Unread refusal at_byte) shows why offset asks follows = absurd (let e : Unread refusal at_byte ≡ Ask (Do (edit.DropAttr x key)) = asks in cc)
-memory_too s t command.Begin (Unread refusal at_byte) shows why offset asks follows = absurd (let e : Unread refusal at_byte ≡ Ask call.Mark = asks in cc)
-memory_too s t command.Commit (Unread refusal at_byte) shows why offset asks follows = absurd (let e : Unread refusal at_byte ≡ Ask call.Commit = asks in cc)
-memory_too s t command.Rollback (Unread refusal at_byte) shows why offset asks follows = absurd (let e : Unread refusal at_byte ≡ Ask call.Rollback = asks in cc)
-memory_too s t (command.Detach kind) (Unread refusal at_byte) shows why offset asks follows = absurd (let e : Unread refusal at_byte ≡ Ask (call.Detach kind) = asks in cc)
-memory_too s t (command.Resync kind) (Unread refusal at_byte) shows why offset asks follows = absurd (let e : Unread refusal at_byte ≡ Ask (call.Resync kind) = asks in cc)
-memory_too s t (command.Report kind) (Unread refusal at_byte) shows why offset asks follows = absurd (let e : Unread refusal at_byte ≡ Ask (call.Report kind) = asks in cc)
-memory_too s t command.Print (Unread refusal at_byte) shows why offset asks follows = absurd (let e : Unread refusal at_byte ≡ Ask call.Print = asks in cc)
+  -- where a text is refused at a byte, it may be refused for want of memory too
+  memory_too : (s t : State) (c : Command) (asked : Asked) (shows : Shows) (why : Refusal) (offset : ℕ) → AsksIn manner c s.held asked → Follows s asked (TextRefusedAt why offset) shows t
+      → AsksIn manner c s.held (Unread Memory None) × (shows ≡ Nothing) × (t ≡ s)
+  memory_too s t c (Ask does) shows why offset asks follows = absurd follows
+  memory_too s t c (Misplaced refusal) shows why offset asks follows = absurd (let e : TextRefusedAt why offset ≡ Replied (Refused refusal) = follows.0 in cc)
+  memory_too s t (command.Insert spot text) (Unread refusal at_byte) shows why offset asks follows = (no_memory_op (SpellsBeside s.held text), follows.1, follows.2)
+  memory_too s t (command.SetAttr x key text) (Unread refusal at_byte) shows why offset asks follows = (no_memory (SpellsAttr text), follows.1, follows.2)
+  memory_too s t (command.Move x spot) (Unread refusal at_byte) shows why offset asks follows = absurd asks
+  memory_too s t (command.Erase x) (Unread refusal at_byte) shows why offset asks follows = absurd (let e : Unread refusal at_byte ≡ Ask (Do (edit.Erase x)) = asks in cc)
+  memory_too s t (command.SetOperand x k v) (Unread refusal at_byte) shows why offset asks follows = absurd (let e : Unread refusal at_byte ≡ Ask (Do (edit.SetOperand x k v)) = asks in cc)
+  memory_too s t (command.Replace old new) (Unread refusal at_byte) shows why offset asks follows = absurd (let e : Unread refusal at_byte ≡ Ask (Do (edit.Replace old new)) = asks in cc)
+  memory_too s t (command.DropAttr x key) (Unread refusal at_byte) shows why offset asks follows = absurd (let e : Unread refusal at_byte ≡ Ask (Do (edit.DropAttr x key)) = asks in cc)
+  memory_too s t (command.Canon limit) (Unread refusal at_byte) shows why offset asks follows = absurd (let e : Unread refusal at_byte ≡ Ask (call.Change (canonicalizing (limit_or manner.limit limit))) = asks in cc)
+  memory_too s t (command.Convert target) (Unread refusal at_byte) shows why offset asks follows = absurd (let e : Unread refusal at_byte ≡ Ask (call.Change (converting target)) = asks in cc)
+  memory_too s t command.Sweep (Unread refusal at_byte) shows why offset asks follows = absurd (let e : Unread refusal at_byte ≡ Ask (call.Change sweeping) = asks in cc)
+  memory_too s t command.Begin (Unread refusal at_byte) shows why offset asks follows = absurd (let e : Unread refusal at_byte ≡ Ask call.Mark = asks in cc)
+  memory_too s t command.Commit (Unread refusal at_byte) shows why offset asks follows = absurd (let e : Unread refusal at_byte ≡ Ask call.Commit = asks in cc)
+  memory_too s t command.Rollback (Unread refusal at_byte) shows why offset asks follows = absurd (let e : Unread refusal at_byte ≡ Ask call.Rollback = asks in cc)
+  memory_too s t (command.Detach kind) (Unread refusal at_byte) shows why offset asks follows = absurd (let e : Unread refusal at_byte ≡ Ask (call.Detach kind) = asks in cc)
+  memory_too s t (command.Resync kind) (Unread refusal at_byte) shows why offset asks follows = absurd (let e : Unread refusal at_byte ≡ Ask (call.Resync kind) = asks in cc)
+  memory_too s t (command.Report kind) (Unread refusal at_byte) shows why offset asks follows = absurd (let e : Unread refusal at_byte ≡ Ask (call.Report kind) = asks in cc)
+  memory_too s t command.Print (Unread refusal at_byte) shows why offset asks follows = absurd (let e : Unread refusal at_byte ≡ Ask call.Print = asks in cc)
 
-pub obeys_within : (s t : State) (c : Command) (response within : Response) (bytes : List ℕ) → (within ≡ response) ⊎ ((refusal : Refusal) × (offset : ℕ) × (response ≡ TextRefusedAt refusal offset) × (within ≡ Replied (Refused Memory))) → Obeys s c response bytes t → Obeys s c within bytes t
-obeys_within s t c response within bytes (inl same) h = subst (λ (r : Response). Obeys s c r bytes t) (sym same) h
-obeys_within s t c response within bytes (inr (why, offset, is, then)) h =
-    let m = memory_too s t c h.asked h.shows why offset h.asks (subst (λ (r : Response). Follows s h.asked r h.shows t) is h.follows) in
-    record { asked = Unread Memory None; shows = Nothing; asks = m.0; follows = (then, refl, m.2); text = h.text ∙ ap shows_text m.1 }
+  pub obeys_within : (s t : State) (c : Command) (response within : Response) (bytes : List ℕ) → (within ≡ response) ⊎ ((refusal : Refusal) × (offset : ℕ) × (response ≡ TextRefusedAt refusal offset) × (within ≡ Replied (Refused Memory))) → Obeys manner s c response bytes t → Obeys manner s c within bytes t
+  obeys_within s t c response within bytes (inl same) h = subst (λ (r : Response). Obeys manner s c r bytes t) (sym same) h
+  obeys_within s t c response within bytes (inr (why, offset, is, then)) h =
+      let m = memory_too s t c h.asked h.shows why offset h.asks (subst (λ (r : Response). Follows s h.asked r h.shows t) is h.follows) in
+      record { asked = Unread Memory None; shows = Nothing; asks = m.0; follows = (then, refl, m.2); text = h.text ∙ ap shows_text m.1 }
 
-pub some_answer : (s : State) (c : Command) → SomeAnswer s c
-some_answer s (command.Erase x) = by_call s (command.Erase x) (Do (edit.Erase x)) refl
-some_answer s (command.Move x spot) = by_place s x spot (spot_place (Some x) spot s.held.tree) refl
-some_answer s (command.Insert spot text) = (Replied (Refused Memory), [], s, record { asked = Unread Memory None; shows = Nothing; asks = no_memory_op (SpellsBeside s.held text); follows = (refl, refl, refl); text = refl }, λ why offset e. cc)
-some_answer s (command.SetOperand x k v) = by_call s (command.SetOperand x k v) (Do (edit.SetOperand x k v)) refl
-some_answer s (command.Replace old new) = by_call s (command.Replace old new) (Do (edit.Replace old new)) refl
-some_answer s (command.SetAttr x key text) = (Replied (Refused Memory), [], s, record { asked = Unread Memory None; shows = Nothing; asks = no_memory (SpellsAttr text); follows = (refl, refl, refl); text = refl }, λ why offset e. cc)
-some_answer s (command.DropAttr x key) = by_call s (command.DropAttr x key) (Do (edit.DropAttr x key)) refl
-some_answer s command.Begin = by_call s command.Begin call.Mark refl
-some_answer s command.Commit = by_call s command.Commit call.Commit refl
-some_answer s command.Rollback = by_call s command.Rollback call.Rollback refl
-some_answer s (command.Detach kind) = by_call s (command.Detach kind) (call.Detach kind) refl
-some_answer s (command.Resync kind) = by_call s (command.Resync kind) (call.Resync kind) refl
-some_answer s (command.Report kind) = by_call s (command.Report kind) (call.Report kind) refl
-some_answer s command.Print = by_call s command.Print call.Print refl
+  pub some_answer : (s : State) (c : Command) → SomeAnswer s c
+  some_answer s (command.Erase x) = by_call s (command.Erase x) (Do (edit.Erase x)) refl
+  some_answer s (command.Move x spot) = by_place s x spot (spot_place (Some x) spot s.held.tree) refl
+  some_answer s (command.Insert spot text) = (Replied (Refused Memory), [], s, record { asked = Unread Memory None; shows = Nothing; asks = no_memory_op (SpellsBeside s.held text); follows = (refl, refl, refl); text = refl }, λ why offset e. cc)
+  some_answer s (command.SetOperand x k v) = by_call s (command.SetOperand x k v) (Do (edit.SetOperand x k v)) refl
+  some_answer s (command.Replace old new) = by_call s (command.Replace old new) (Do (edit.Replace old new)) refl
+  some_answer s (command.SetAttr x key text) = (Replied (Refused Memory), [], s, record { asked = Unread Memory None; shows = Nothing; asks = no_memory (SpellsAttr text); follows = (refl, refl, refl); text = refl }, λ why offset e. cc)
+  some_answer s (command.DropAttr x key) = by_call s (command.DropAttr x key) (Do (edit.DropAttr x key)) refl
+  some_answer s (command.Canon limit) = by_call s (command.Canon limit) (call.Change (canonicalizing (limit_or manner.limit limit))) refl
+  some_answer s (command.Convert target) = by_call s (command.Convert target) (call.Change (converting target)) refl
+  some_answer s command.Sweep = by_call s command.Sweep (call.Change sweeping) refl
+  some_answer s command.Begin = by_call s command.Begin call.Mark refl
+  some_answer s command.Commit = by_call s command.Commit call.Commit refl
+  some_answer s command.Rollback = by_call s command.Rollback call.Rollback refl
+  some_answer s (command.Detach kind) = by_call s (command.Detach kind) (call.Detach kind) refl
+  some_answer s (command.Resync kind) = by_call s (command.Resync kind) (call.Resync kind) refl
+  some_answer s (command.Report kind) = by_call s (command.Report kind) (call.Report kind) refl
+  some_answer s command.Print = by_call s command.Print call.Print refl
 
--- ---- listeners
+  -- ---- listeners
 
-module _ {B : Type 0} (meaning : B → Listener) where
-  -- a report, by the listener of its kind
-  pub reports_none : (kind : ℕ) (a : Benched B) → None ≡ find (has_this_kind meaning kind) a.listeners → Obeys (state_of meaning a) (command.Report kind) (Replied (Refused NoSuchKind)) [] (state_of meaning a)
-  reports_none kind a e = obeys_unknown kind (state_of meaning a) (find_shown meaning kind a.listeners ∙ ap (option_map (λ b. shown (meaning b))) (sym e))
+  module _ {B : Type 0} (meaning : B → Listener) where
+    -- a report, by the listener of its kind
+    pub reports_none : (kind : ℕ) (a : Benched B) → None ≡ find (has_this_kind meaning kind) a.listeners → Obeys manner (state_of meaning a) (command.Report kind) (Replied (Refused NoSuchKind)) [] (state_of meaning a)
+    reports_none kind a e = obeys_unknown kind (state_of meaning a) (find_shown meaning kind a.listeners ∙ ap (option_map (λ b. shown (meaning b))) (sym e))
 
-  pub reports_stale : (kind : ℕ) (a : Benched B) (b : B) → Some b ≡ find (has_this_kind meaning kind) a.listeners → (meaning b).stale ≡ true → Obeys (state_of meaning a) (command.Report kind) (Replied (Refused Stale)) [] (state_of meaning a)
-  reports_stale kind a b e s = obeys_stale kind (state_of meaning a) (shown (meaning b)) (find_shown meaning kind a.listeners ∙ ap (option_map (λ b. shown (meaning b))) (sym e)) s
+    pub reports_stale : (kind : ℕ) (a : Benched B) (b : B) → Some b ≡ find (has_this_kind meaning kind) a.listeners → (meaning b).stale ≡ true → Obeys manner (state_of meaning a) (command.Report kind) (Replied (Refused Stale)) [] (state_of meaning a)
+    reports_stale kind a b e s = obeys_stale kind (state_of meaning a) (shown (meaning b)) (find_shown meaning kind a.listeners ∙ ap (option_map (λ b. shown (meaning b))) (sym e)) s
 
-  pub reports_rows : (kind : ℕ) (a : Benched B) (b : B) (bytes : List ℕ) → Some b ≡ find (has_this_kind meaning kind) a.listeners → (meaning b).stale ≡ false → bytes ≡ rows_text ((meaning b).analysis (module_held a.desk).tree) → Obeys (state_of meaning a) (command.Report kind) (Replied Done) bytes (state_of meaning a)
-  reports_rows kind a b bytes e s is = rw is (obeys_reported kind (state_of meaning a) (shown (meaning b)) (find_shown meaning kind a.listeners ∙ ap (option_map (λ b. shown (meaning b))) (sym e)) s)
+    pub reports_rows : (kind : ℕ) (a : Benched B) (b : B) (bytes : List ℕ) → Some b ≡ find (has_this_kind meaning kind) a.listeners → (meaning b).stale ≡ false → bytes ≡ rows_text ((meaning b).analysis (module_held a.desk).tree) → Obeys manner (state_of meaning a) (command.Report kind) (Replied Done) bytes (state_of meaning a)
+    reports_rows kind a b bytes e s is = rw is (obeys_reported kind (state_of meaning a) (shown (meaning b)) (find_shown meaning kind a.listeners ∙ ap (option_map (λ b. shown (meaning b))) (sym e)) s)
 
-pub prints : (s : State) (bytes : List ℕ) → bytes ≡ text_of s.held.tree → Obeys s command.Print (Replied Done) bytes s
-prints s bytes is = rw is (obeys_printed s)
+  pub prints : (s : State) (bytes : List ℕ) → bytes ≡ text_of s.held.tree → Obeys manner s command.Print (Replied Done) bytes s
+  prints s bytes is = rw is (obeys_printed s)

@@ -137,6 +137,9 @@ the_print (said.SetOperand x k v) e = absurd (true≢false (sym e))
 the_print (said.Replace old new) e = absurd (true≢false (sym e))
 the_print (said.SetAttr x key text) e = absurd (true≢false (sym e))
 the_print (said.DropAttr x key) e = absurd (true≢false (sym e))
+the_print (said.Canon limit) e = absurd (true≢false (sym e))
+the_print (said.Convert target) e = absurd (true≢false (sym e))
+the_print said.Sweep e = absurd (true≢false (sym e))
 the_print said.Begin e = absurd (true≢false (sym e))
 the_print said.Commit e = absurd (true≢false (sym e))
 the_print said.Rollback e = absurd (true≢false (sym e))
@@ -146,21 +149,21 @@ the_print (said.Report kind) e = absurd (true≢false (sym e))
 the_print said.Print e = refl
 
 -- the module is shown, or memory is refused
-shown_text : (s : State) → Obeys s said.Print (Replied Done) (text_of s.held.tree) s
-shown_text s = record { asked = Ask call.Print; shows = Tree s.held.tree; asks = refl; follows = record { answer = inl refl; panel = refl }; text = refl }
+shown_text : (manner : Manner) (s : State) → Obeys manner s said.Print (Replied Done) (text_of s.held.tree) s
+shown_text manner s = record { asked = Ask call.Print; shows = Tree s.held.tree; asks = refl; follows = record { answer = inl refl; panel = refl }; text = refl }
 
-shown_none : (s : State) → Obeys s said.Print (Replied (Refused Memory)) [] s
-shown_none s = record { asked = Ask call.Print; shows = NoRows; asks = refl; follows = record { answer = inr (refl, refl); panel = refl }; text = refl }
+shown_none : (manner : Manner) (s : State) → Obeys manner s said.Print (Replied (Refused Memory)) [] s
+shown_none manner s = record { asked = Ask call.Print; shows = NoRows; asks = refl; follows = record { answer = inr (refl, refl); panel = refl }; text = refl }
 
-answered : (s : State) (reply : Reply) (shows : List ℕ) → IsPrinted s.held.tree reply shows → Obeys s said.Print (response_of reply) shows s
-answered s reply shows (inl p) = subst (λ (r : Reply). Obeys s said.Print (response_of r) shows s) (sym p.0) (subst (λ (o : List ℕ). Obeys s said.Print (Replied Done) o s) (sym p.1) (shown_text s))
-answered s reply shows (inr p) = subst (λ (r : Reply). Obeys s said.Print (response_of r) shows s) (sym p.0) (subst (λ (o : List ℕ). Obeys s said.Print (Replied (Refused Memory)) o s) (sym p.1) (shown_none s))
+answered : (manner : Manner) (s : State) (reply : Reply) (shows : List ℕ) → IsPrinted s.held.tree reply shows → Obeys manner s said.Print (response_of reply) shows s
+answered manner s reply shows (inl p) = subst (λ (r : Reply). Obeys manner s said.Print (response_of r) shows s) (sym p.0) (subst (λ (o : List ℕ). Obeys manner s said.Print (Replied Done) o s) (sym p.1) (shown_text manner s))
+answered manner s reply shows (inr p) = subst (λ (r : Reply). Obeys manner s said.Print (response_of r) shows s) (sym p.0) (subst (λ (o : List ℕ). Obeys manner s said.Print (Replied (Refused Memory)) o s) (sym p.1) (shown_none manner s))
 
 -- a line that asks for the module is answered with its text, or for want of memory
-printed : (s : State) (spoken : Spoken) (reply : Reply) (shows : List ℕ) → prints_alone spoken ≡ true → says_nothing spoken ≡ false → IsPrinted s.held.tree reply shows → Replies s spoken (response_of reply) shows s
-printed s Nothing reply shows e f p = absurd (true≢false f)
-printed s Bad reply shows e f p = absurd (true≢false (sym e))
-printed s (Obey command) reply shows e f p = subst (λ (k : Command). Obeys s k (response_of reply) shows s) (sym (the_print command e)) (answered s reply shows p)
+printed : (manner : Manner) (s : State) (spoken : Spoken) (reply : Reply) (shows : List ℕ) → prints_alone spoken ≡ true → says_nothing spoken ≡ false → IsPrinted s.held.tree reply shows → Replies manner s spoken (response_of reply) shows s
+printed manner s Nothing reply shows e f p = absurd (true≢false f)
+printed manner s Bad reply shows e f p = absurd (true≢false (sym e))
+printed manner s (Obey command) reply shows e f p = subst (λ (k : Command). Obeys manner s k (response_of reply) shows s) (sym (the_print command e)) (answered manner s reply shows p)
 
 -- and has no listing
 bare : (brief : Bool) (s : State) (n : ℕ) (reply : Reply) (shows : List ℕ) → IsReplied (not brief && false) s n (response_of reply) shows (reply_line n (response_of reply) ++ shows)
@@ -187,7 +190,7 @@ printed_bounded bytes t reply shows (inr h) = subst (λ (r : Reply). IsBounded b
 pub print_step : (manner : Manner) (n : ℕ) (s : State) (text line more : List ℕ) (reply : Reply) (shows : List ℕ) → lines_of text ≡ line ∷ lines_of more → prints_alone (line_says line) ≡ true → false ≡ says_nothing (line_says line) → IsPrinted s.held.tree reply shows →
     (later : ℕ) (rest : List ℕ) → Runs manner (n + 1) s (lines_of more) later rest → Runs manner n s (lines_of text) (worse (is_accepted (response_of reply)) later) ((reply_line n (response_of reply) ++ shows) ++ rest)
 print_step manner n s text line more reply shows e is f p later rest h =
-    run_step manner n s text line more (line_says line) (response_of reply) shows s (reply_line n (response_of reply) ++ shows) e refl f (printed s (line_says line) reply shows is (sym f) p) (unlisted manner.brief s n (line_says line) reply shows is (sym f)) (printed_bounded manner.bytes s.held.tree reply shows p) later rest h
+    run_step manner n s text line more (line_says line) (response_of reply) shows s (reply_line n (response_of reply) ++ shows) e refl f (printed manner s (line_says line) reply shows is (sym f) p) (unlisted manner.brief s n (line_says line) reply shows is (sym f)) (printed_bounded manner.bytes s.held.tree reply shows p) later rest h
 
 -- ---- sessions
 

@@ -1,10 +1,12 @@
 -- Texts and keys that are read, beside the module of a bench whose context grows.
 use Rattle.std.proofs.Common.{◌≡◌, ◌∙◌, sym, ap, subst, refl, inl, inr, ◌⊎◌, ℕ, zero, suc, ◌≤◌, ◌<◌, List, [], ◌∷◌, ◌++◌, length, Option, Some, None, true, arith, slice_get}
-use Rattle.std.specs.Prelude.{Result, Ok, Err}
+use Rattle.std.specs.Prelude.{Result, Ok, Err, IsTrue, nat_le}
 use Rattle.ir_types.specs.Interning.{with_name}
 use Rattle.ir_types.specs.Refusals.{number_of}
 use Rattle.ir_types.specs.Sound.{Holds, IsSound}
 use Rattle.ir_types.specs.Terms.{name_term, attr_term}
+use Rattle.ir_types.proofs.WordNumbers.{word_count}
+use Rattle.std.proofs.lemmas.Bool.{leb-true}
 use Rattle.ir_types.specs.Things.{Things, Grows, IsName, IsAttr}
 use Rattle.ir_types.specs.declared.refusal.Refusal.{Refusal}
 use Rattle.ir_types.specs.declared.refusal.Refusal.TheVariants.{Memory, TooMany, IdsExhausted}
@@ -18,7 +20,7 @@ use Rattle.ir_event.specs.Listener.{Listener}
 use Rattle.ir_event.specs.Modules.{things_in, module_in, module_meaning}
 use Rattle.ir_text.specs.Printing.{text_of}
 use Rattle.ir_text.specs.Public.{SpellsAttr}
-use Rattle.rewriter.specs.Commands.{IsAttrRefusal, IsOpRefusal, Replied, TextRefusedAt}
+use Rattle.rewriter.specs.Commands.{CanFill, IsAttrRefusal, IsOpRefusal, Replied, TextRefusedAt}
 use Rattle.rewriter.specs.Machine.{State, Refused}
 use Rattle.rewriter.specs.Panels.{all_shown}
 use Rattle.rewriter.specs.Spots.{Spot, spot_place}
@@ -95,33 +97,37 @@ module _ {B : Type 0} (meaning : B → Listener) where
 
 -- ---- texts that aren't read
 
-pub unread_memory : {X : Type 0} (Spelled : X → Type 0) → NotRead IsAttrRefusal Spelled (Replied (Refused Memory))
-unread_memory Spelled = (Memory, None, (refl, inr (inr refl)), refl)
+-- a test whether an input can fill a context
+pub fills : (bytes : ℕ) → IsTrue (nat_le 16777162 bytes) → CanFill bytes
+fills bytes h = let many = word_count in let least = leb-true 16777162 bytes h in omega (arith, least, many)
 
-pub unread_memory_op : {X : Type 0} (Spelled : X → Type 0) → NotRead IsOpRefusal Spelled (Replied (Refused Memory))
-unread_memory_op Spelled = (Memory, None, (inr refl, inr (inr refl)), refl)
+pub unread_memory : {X : Type 0} (bytes : ℕ) (Spelled : X → Type 0) → NotRead bytes IsAttrRefusal Spelled (Replied (Refused Memory))
+unread_memory bytes Spelled = (Memory, None, (refl, inr (inr refl)), refl)
 
-pub unread_full : {X : Type 0} (Spelled : X → Type 0) (offset : ℕ) → NotRead IsAttrRefusal Spelled (TextRefusedAt TooMany offset)
-unread_full Spelled offset = (TooMany, Some offset, (omega arith, inr (inl refl)), refl)
+pub unread_memory_op : {X : Type 0} (bytes : ℕ) (Spelled : X → Type 0) → NotRead bytes IsOpRefusal Spelled (Replied (Refused Memory))
+unread_memory_op bytes Spelled = (Memory, None, (inr refl, inr (inr refl)), refl)
 
-pub unread_full_op : {X : Type 0} (Spelled : X → Type 0) (offset : ℕ) → NotRead IsOpRefusal Spelled (TextRefusedAt TooMany offset)
-unread_full_op Spelled offset = (TooMany, Some offset, (omega arith, inr (inl refl)), refl)
+pub unread_full : {X : Type 0} (bytes : ℕ) (Spelled : X → Type 0) (offset : ℕ) → CanFill bytes → NotRead bytes IsAttrRefusal Spelled (TextRefusedAt TooMany offset)
+unread_full bytes Spelled offset can = (TooMany, Some offset, (omega arith, inr (inl (refl, can))), refl)
 
-unread_ids : {X : Type 0} (Spelled : X → Type 0) → ((x : X) → Spelled x → ⊥) → NotRead IsOpRefusal Spelled (Replied (Refused IdsExhausted))
-unread_ids Spelled none = (IdsExhausted, None, (inl refl, inl none), refl)
+pub unread_full_op : {X : Type 0} (bytes : ℕ) (Spelled : X → Type 0) (offset : ℕ) → CanFill bytes → NotRead bytes IsOpRefusal Spelled (TextRefusedAt TooMany offset)
+unread_full_op bytes Spelled offset can = (TooMany, Some offset, (omega arith, inr (inl (refl, can))), refl)
 
-pub ids_refused : {X : Type 0} (Spelled : X → Type 0) (refusal : Refusal) → refusal ≡ IdsExhausted → ((x : X) → Spelled x → ⊥) → NotRead IsOpRefusal Spelled (Replied (Refused refusal))
-ids_refused Spelled refusal is none = subst (λ r. NotRead IsOpRefusal Spelled (Replied (Refused r))) (sym is) (unread_ids Spelled none)
+unread_ids : {X : Type 0} (bytes : ℕ) (Spelled : X → Type 0) → ((x : X) → Spelled x → ⊥) → NotRead bytes IsOpRefusal Spelled (Replied (Refused IdsExhausted))
+unread_ids bytes Spelled none = (IdsExhausted, None, (inl refl, inl none), refl)
+
+pub ids_refused : {X : Type 0} (bytes : ℕ) (Spelled : X → Type 0) (refusal : Refusal) → refusal ≡ IdsExhausted → ((x : X) → Spelled x → ⊥) → NotRead bytes IsOpRefusal Spelled (Replied (Refused refusal))
+ids_refused bytes Spelled refusal is none = subst (λ r. NotRead bytes IsOpRefusal Spelled (Replied (Refused r))) (sym is) (unread_ids bytes Spelled none)
 
 -- no attribute is refused for want of ids
 pub ids_are_late : (refusal : Refusal) → refusal ≡ IdsExhausted → number_of refusal ≤ 14 → ⊥
 ids_are_late refusal is small = (let late : number_of IdsExhausted ≤ 14 = subst (λ r. number_of r ≤ 14) is small in omega (arith, late))
 
-pub unread_at : {X : Type 0} (Spelled : X → Type 0) (refusal : Refusal) (offset : ℕ) → number_of refusal ≤ 14 → ((x : X) → Spelled x → ⊥) → NotRead IsAttrRefusal Spelled (TextRefusedAt refusal offset)
-unread_at Spelled refusal offset small none = (refusal, Some offset, (small, inl none), refl)
+pub unread_at : {X : Type 0} (bytes : ℕ) (Spelled : X → Type 0) (refusal : Refusal) (offset : ℕ) → number_of refusal ≤ 14 → ((x : X) → Spelled x → ⊥) → NotRead bytes IsAttrRefusal Spelled (TextRefusedAt refusal offset)
+unread_at bytes Spelled refusal offset small none = (refusal, Some offset, (small, inl none), refl)
 
-pub unread_at_op : {X : Type 0} (Spelled : X → Type 0) (refusal : Refusal) (offset : ℕ) → number_of refusal ≤ 14 → ((x : X) → Spelled x → ⊥) → NotRead IsOpRefusal Spelled (TextRefusedAt refusal offset)
-unread_at_op Spelled refusal offset small none = (refusal, Some offset, (small, inl none), refl)
+pub unread_at_op : {X : Type 0} (bytes : ℕ) (Spelled : X → Type 0) (refusal : Refusal) (offset : ℕ) → number_of refusal ≤ 14 → ((x : X) → Spelled x → ⊥) → NotRead bytes IsOpRefusal Spelled (TextRefusedAt refusal offset)
+unread_at_op bytes Spelled refusal offset small none = (refusal, Some offset, (small, inl none), refl)
 
 -- ---- names and attributes
 

@@ -36,7 +36,7 @@ runs_replied manner n s text line more status out e f h = rw e (line_replied (λ
 
 -- a reply, and then what may follow, is what may be from here
 pub run_step : (manner : Manner) (n : ℕ) (s : State) (text line more : List ℕ) (spoken : Spoken) (reply : Response) (shows : List ℕ) (t : State) (told : List ℕ) →
-    lines_of text ≡ line ∷ lines_of more → spoken ≡ line_says line → false ≡ says_nothing spoken → Replies s spoken reply shows t → IsReplied (not manner.brief && not (asks spoken)) t n reply shows told → IsBounded manner.bytes reply →
+    lines_of text ≡ line ∷ lines_of more → spoken ≡ line_says line → false ≡ says_nothing spoken → Replies manner s spoken reply shows t → IsReplied (not manner.brief && not (asks spoken)) t n reply shows told → IsBounded manner.bytes reply →
     (later : ℕ) (rest : List ℕ) → Runs manner (n + 1) t (lines_of more) later rest → Runs manner n s (lines_of text) (worse (is_accepted reply) later) (told ++ rest)
 run_step manner n s text line more spoken reply shows t told e is f r told_is full later rest h =
     rw e (line_replied (λ m t st o. Runs manner m t (lines_of more) st o) manner n s (line_says line) _ _ (rw (← is) (sym f)) (record {
@@ -54,7 +54,7 @@ run_step manner n s text line more spoken reply shows t told e is f r told_is fu
       out_is = refl;
     }))
 
-some_replied : (Rest : ℕ → State → ℕ → List ℕ → Type 0) (manner : Manner) (n : ℕ) (s : State) (spoken : Spoken) (reply : Response) (shows : List ℕ) (t : State) → Replies s spoken reply shows t → IsBounded manner.bytes reply → ((m : ℕ) (t : State) → (st : ℕ) × (o : List ℕ) × Rest m t st o) → (st : ℕ) × (o : List ℕ) × Replied Rest manner n s spoken st o
+some_replied : (Rest : ℕ → State → ℕ → List ℕ → Type 0) (manner : Manner) (n : ℕ) (s : State) (spoken : Spoken) (reply : Response) (shows : List ℕ) (t : State) → Replies manner s spoken reply shows t → IsBounded manner.bytes reply → ((m : ℕ) (t : State) → (st : ℕ) × (o : List ℕ) × Rest m t st o) → (st : ℕ) × (o : List ℕ) × Replied Rest manner n s spoken st o
 some_replied Rest manner n s spoken reply shows t r full some =
     let more = some_listing_if (not manner.brief && not (asks spoken)) t in
     let rest = some (n + 1) t in
@@ -80,7 +80,7 @@ some_replied Rest manner n s spoken reply shows t r full some =
 some_line : (Rest : ℕ → State → ℕ → List ℕ → Type 0) (manner : Manner) (n : ℕ) (s : State) (spoken : Spoken) → ((m : ℕ) (t : State) → (st : ℕ) × (o : List ℕ) × Rest m t st o) → (st : ℕ) × (o : List ℕ) × Line Rest manner n s spoken st o
 some_line Rest manner n s Nothing some = some n s
 some_line Rest manner n s Bad some = some_replied Rest manner n s Bad (Says (Refused BadCommand)) [] s (refl, refl, refl) (λ why offset e. absurd cc) some
-some_line Rest manner n s (Obey command) some = let a = some_answer s command in some_replied Rest manner n s (Obey command) a.0 a.1 a.2 a.3 (λ why offset e. absurd (a.4 why offset e)) some
+some_line Rest manner n s (Obey command) some = let a = some_answer manner s command in some_replied Rest manner n s (Obey command) a.0 a.1 a.2 a.3 (λ why offset e. absurd (a.4 why offset e)) some
 
 -- from each state each script has an output, as each command has an answer
 pub some_runs : (manner : Manner) (lines : List (List ℕ)) (n : ℕ) (s : State) → (st : ℕ) × (o : List ℕ) × Runs manner n s lines st o

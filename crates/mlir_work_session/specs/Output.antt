@@ -8,14 +8,15 @@ use Rattle.ir_event.specs.Rows.{RowTerm}
 use Rattle.ir_tree.specs.Meaning.{Operation}
 use Rattle.ir_text.specs.Printing.{text_of}
 use Rattle.rewriter.specs.Commands.{Command, Report, Print, Response, Replied as Says, TextRefusedAt}
-use Rattle.rewriter.specs.Machine.{State, Done, DoneAs, Refused}
+use Rattle.rewriter.specs.Machine.{State, Done, DoneAs, DoneWith, Refused, RefusedOn}
 use Rattle.rewriter.specs.Panels.{Shown, Attached, has_kind}
 use Rattle.mlir_work_script.specs.Commands.{Spoken, Nothing, Bad, Obey, line_says}
 use Rattle.mlir_work_script.specs.Lines.{lines_of}
 use Rattle.mlir_work_script.specs.declared.input.TheConstants.{MAX_SCRIPT_BYTES}
-use Rattle.mlir_work_script.specs.Replies.{ok_line, made_line, refused_line, refused_at_line, attach_refused_line, kind_line, stale_line, kind_memory_line, module_memory_line}
+use Rattle.mlir_work_script.specs.Replies.{ok_line, made_line, outcome_line, refused_line, refused_on_line, refused_at_line, attach_refused_line, kind_line, stale_line, kind_memory_line, module_memory_line}
 use Rattle.mlir_work_session.specs.RowText.{rows_text}
 use Rattle.mlir_work_session.specs.Machine.{Obeys}
+pub use Rattle.mlir_work_session.specs.declared.manner.Manner.{Manner}
 
 -- ---- replies
 
@@ -23,14 +24,18 @@ use Rattle.mlir_work_session.specs.Machine.{Obeys}
 abbrev pub reply_line : ℕ → Response → List ℕ
 reply_line n (Says Done) = ok_line n
 reply_line n (Says (DoneAs x)) = made_line n x
+reply_line n (Says (DoneWith outcome)) = outcome_line n outcome
 reply_line n (Says (Refused refusal)) = refused_line n refusal
+reply_line n (Says (RefusedOn refusal x)) = refused_on_line n refusal x
 reply_line n (TextRefusedAt refusal offset) = refused_at_line n refusal offset
 
 -- whether the command was accepted
 abbrev pub is_accepted : Response → Bool
 is_accepted (Says Done) = true
 is_accepted (Says (DoneAs x)) = true
+is_accepted (Says (DoneWith outcome)) = true
 is_accepted (Says (Refused refusal)) = false
+is_accepted (Says (RefusedOn refusal x)) = false
 is_accepted (TextRefusedAt refusal offset) = false
 
 -- the status is 1 where something was refused
@@ -84,19 +89,14 @@ asks Bad = false
 asks (Obey command) = shows_alone command
 
 -- the reply to a line that isn't nothing
-abbrev pub Replies : State → Spoken → Response → List ℕ → State → Type 0
-Replies s Nothing response shows t = ⊥
-Replies s Bad response shows t = (response ≡ Says (Refused BadCommand)) × (shows ≡ []) × (t ≡ s)
-Replies s (Obey command) response shows t = Obeys s command response shows t
+abbrev pub Replies : Manner → State → Spoken → Response → List ℕ → State → Type 0
+Replies manner s Nothing response shows t = ⊥
+Replies manner s Bad response shows t = (response ≡ Says (Refused BadCommand)) × (shows ≡ []) × (t ≡ s)
+Replies manner s (Obey command) response shows t = Obeys manner s command response shows t
 
 -- a reply, what it shows, and a listing where one is due
 abbrev pub IsReplied : Bool → State → ℕ → Response → List ℕ → List ℕ → Type 0
 IsReplied listed t n response shows out = (more : List ℕ) × IsListingIf listed t more × (out ≡ reply_line n response ++ (shows ++ more))
-
--- how a script is run: with listings or without, and of an input of how many bytes
-pub record Manner : Type 0 where
-  pub brief : Bool
-  pub bytes : ℕ
 
 -- the byte at which a text is refused stands in the input, or right behind it
 abbrev pub IsBounded : ℕ → Response → Type 0
@@ -110,7 +110,7 @@ pub record Replied (Rest : ℕ → State → ℕ → List ℕ → Type 0) (manne
   pub text : List ℕ
   pub later : ℕ
   pub rest : List ℕ
-  pub replies : Replies s spoken response shows after
+  pub replies : Replies manner s spoken response shows after
   pub replied : IsReplied (not manner.brief && not (asks spoken)) after n response shows text
   pub full : IsBounded manner.bytes response
   pub goes_on : Rest (n + 1) after later rest

@@ -16,6 +16,6 @@ pub record Grown {B : Type 0} (meaning : B → Listener) (old new : Benched B) :
   pub next : new.desk.store.module_of.next ≡ old.desk.store.module_of.next
   pub kept : IsKept meaning old → IsKept meaning new
 
--- a text that should spell one of some things was refused, with this response
-abbrev pub NotRead : {X : Type 0} → (Refusal → Option ℕ → Type 0) → (X → Type 0) → Response → Type 0
-NotRead IsRefusal Spelled response = (refusal : Refusal) × (offset : Option ℕ) × TextRefused IsRefusal Spelled refusal offset × (response ≡ text_response refusal offset)
+-- a text that should spell one of some things was refused, with this response, where the input has so many bytes
+abbrev pub NotRead : {X : Type 0} → ℕ → (Refusal → Option ℕ → Type 0) → (X → Type 0) → Response → Type 0
+NotRead bytes IsRefusal Spelled response = (refusal : Refusal) × (offset : Option ℕ) × TextRefused bytes IsRefusal Spelled refusal offset × (response ≡ text_response refusal offset)

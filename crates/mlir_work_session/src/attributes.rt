@@ -36,15 +36,19 @@ fn parse<L: Analysis>(bench: &mut Bench<L>, text: &[u8]) -> Result<AttrId, ReadE
     read
 }
 
-/// The attribute that a text spells, or the reply where it isn't read.
-fn attribute_of<L: Analysis>(bench: &mut Bench<L>, text: &[u8]) -> Result<AttrId, Reply>
+/// The attribute that a text of an input of so many bytes spells, or the reply where it isn't read.
+fn attribute_of<L: Analysis>(
+    bytes: usize,
+    bench: &mut Bench<L>,
+    text: &[u8],
+) -> Result<AttrId, Reply>
     ensures attr { IfOk result (λ a. IsAttr bench.new.desk.ctx a × SpellsAttr text.now (attr_term bench.new.desk.ctx a)) }
-    ensures unread { IfErr result (λ reply. NotRead IsAttrRefusal (SpellsAttr text.now) (response_of reply)) }
+    ensures unread { IfErr result (λ reply. NotRead bytes IsAttrRefusal (SpellsAttr text.now) (response_of reply)) }
     ensures grown { Grown L.meaning bench.old bench.new }
 {
     match parse(bench, text) {
         Ok(attribute) => Ok(attribute),
-        Err(error) => Err(reply_unread(&error)),
+        Err(error) => Err(reply_unread(bytes, &error)),
     }
 }
 
@@ -83,16 +87,17 @@ pub(crate) fn name_of<L: Analysis>(
 /// A key and the attribute that a text spells, or the reply where the text isn't read, or there is no room for the key.
 pub(crate) fn entry_of<L: Analysis>(
     alloc: Global,
+    bytes: usize,
     bench: &mut Bench<L>,
     key: &Key<'_>,
     text: &[u8],
 ) -> Result<(NameId, AttrId), Reply>
     ensures key { IfOk result (λ x. IsName bench.new.desk.ctx x.0 × (name_term bench.new.desk.ctx x.0 ≡ key_bytes key.now)) }
     ensures attr { IfOk result (λ x. IsAttr bench.new.desk.ctx x.1 × SpellsAttr text.now (attr_term bench.new.desk.ctx x.1)) }
-    ensures unread { IfErr result (λ reply. NotRead IsAttrRefusal (SpellsAttr text.now) (response_of reply)) }
+    ensures unread { IfErr result (λ reply. NotRead bytes IsAttrRefusal (SpellsAttr text.now) (response_of reply)) }
     ensures grown { Grown L.meaning bench.old bench.new }
 {
-    let attribute = match attribute_of(bench, text) {
+    let attribute = match attribute_of(bytes, bench, text) {
         Ok(attribute) => attribute,
         Err(reply) => return Err(reply),
     };

@@ -4,17 +4,23 @@ ghost use Rattle.mlir_work_script.specs.Commands.{said_of};
 ghost use Rattle.rewriter.specs.Benched.{IsKept, state_of};
 ghost use Rattle.mlir_work_session.specs.Machine.{Obeys, response_of};
 
+use crate::manner::Manner;
 use crate::shows::{Answered, plain, show_module, show_rows};
-use crate::{edits, marks};
+use crate::{edits, marks, texts, transforming};
 use ir_event::analysis::Analysis;
 use mlir_work_script::command::Command;
 use rewriter::Bench;
 use std::alloc::Global;
 
-/// Obeys a command, or leaves the module as it is.
-pub fn obey<L: Analysis>(alloc: Global, bench: &mut Bench<L>, command: &Command<'_>) -> Answered
+/// Obeys a command of a script that is run so, or leaves the module as it is.
+pub fn obey<L: Analysis>(
+    alloc: Global,
+    manner: &Manner,
+    bench: &mut Bench<L>,
+    command: &Command<'_>,
+) -> Answered
     requires { IsKept L.meaning bench.old }
-    ensures obeys { Obeys (state_of L.meaning bench.old) (said_of command.now) (response_of result.reply) result.shows.items (state_of L.meaning bench.new) }
+    ensures obeys { Obeys manner.now (state_of L.meaning bench.old) (said_of command.now) (response_of result.reply) result.shows.items (state_of L.meaning bench.new) }
     ensures kept { IsKept L.meaning bench.new }
 {
     match command {
@@ -27,12 +33,16 @@ pub fn obey<L: Analysis>(alloc: Global, bench: &mut Bench<L>, command: &Command<
         Command::Erase(op) => plain(alloc, edits::erase(bench, *op)),
         Command::Move { op, spot } => plain(alloc, edits::move_op(bench, *op, spot)),
         Command::Insert { spot, operation } => {
-            plain(alloc, edits::insert(bench, spot, operation))
+            plain(alloc, texts::insert(manner, bench, spot, operation))
         }
         Command::SetAttr { op, key, attribute } => {
-            plain(alloc, edits::set_attr(alloc, bench, *op, key, attribute))
+            plain(
+                alloc,
+                texts::set_attr(alloc, manner, bench, *op, key, attribute),
+            )
         }
         Command::DropAttr { op, key } => plain(alloc, edits::drop_attr(alloc, bench, *op, key)),
+        Command::Sweep => plain(alloc, transforming::sweep(alloc, bench)),
         Command::Begin => plain(alloc, marks::begin(bench)),
         Command::Commit => plain(alloc, marks::commit(bench)),
         Command::Rollback => plain(alloc, marks::rollback(bench)),

@@ -1,16 +1,16 @@
 //! Commands that edit the module of a bench.
 ghost use Rattle.std.specs.Prelude.{◌≡◌, []};
-ghost use Rattle.rewriter.specs.Commands.{DropAttr, Erase, Insert, Move, Replace, SetAttr, SetOperand};
+ghost use Rattle.rewriter.specs.Commands.{DropAttr, Erase, Move, Replace, SetOperand};
 ghost use Rattle.mlir_work_script.specs.Keys.{key_bytes};
 ghost use Rattle.mlir_work_script.specs.Spots.{spot_of};
 ghost use Rattle.rewriter.specs.Benched.{IsKept, state_of};
 ghost use Rattle.mlir_work_session.specs.Machine.{Obeys, response_of};
+ghost use Rattle.mlir_work_session.specs.Output.{Manner};
 
-use crate::attributes::{entry_of, name_of};
-use crate::operations::operation_of;
+use crate::attributes::name_of;
 use crate::places::place_for;
 use crate::reply::Reply;
-use crate::replying::{reply_as, reply_to};
+use crate::replying::reply_to;
 use ir_event::analysis::Analysis;
 use ir_tree::value::Value;
 use ir_types::ids::OpId;
@@ -29,7 +29,7 @@ pub(crate) fn set_operand<L: Analysis>(
     value: Value,
 ) -> Reply
     requires { IsKept L.meaning bench.old }
-    ensures obeys { Obeys (state_of L.meaning bench.old) (SetOperand op operand value) (response_of result) [] (state_of L.meaning bench.new) }
+    ensures obeys { (manner : Manner) → Obeys manner (state_of L.meaning bench.old) (SetOperand op operand value) (response_of result) [] (state_of L.meaning bench.new) }
     ensures kept { IsKept L.meaning bench.new }
 {
     led_benches_are_kept::<L>();
@@ -39,7 +39,7 @@ pub(crate) fn set_operand<L: Analysis>(
 /// Sets one value in place of another, wherever it is used.
 pub(crate) fn replace<L: Analysis>(bench: &mut Bench<L>, old: Value, new: Value) -> Reply
     requires { IsKept L.meaning bench.old }
-    ensures obeys { Obeys (state_of L.meaning bench.old) (Replace old new) (response_of result) [] (state_of L.meaning bench.new) }
+    ensures obeys { (manner : Manner) → Obeys manner (state_of L.meaning bench.old) (Replace old new) (response_of result) [] (state_of L.meaning bench.new) }
     ensures kept { IsKept L.meaning bench.new }
 {
     led_benches_are_kept::<L>();
@@ -49,7 +49,7 @@ pub(crate) fn replace<L: Analysis>(bench: &mut Bench<L>, old: Value, new: Value)
 /// Takes an operation away, with what is inside it.
 pub(crate) fn erase<L: Analysis>(bench: &mut Bench<L>, op: OpId) -> Reply
     requires { IsKept L.meaning bench.old }
-    ensures obeys { Obeys (state_of L.meaning bench.old) (Erase op) (response_of result) [] (state_of L.meaning bench.new) }
+    ensures obeys { (manner : Manner) → Obeys manner (state_of L.meaning bench.old) (Erase op) (response_of result) [] (state_of L.meaning bench.new) }
     ensures kept { IsKept L.meaning bench.new }
 {
     led_benches_are_kept::<L>();
@@ -59,7 +59,7 @@ pub(crate) fn erase<L: Analysis>(bench: &mut Bench<L>, op: OpId) -> Reply
 /// Moves an operation to the place that is named.
 pub(crate) fn move_op<L: Analysis>(bench: &mut Bench<L>, op: OpId, spot: &Spot) -> Reply
     requires { IsKept L.meaning bench.old }
-    ensures obeys { Obeys (state_of L.meaning bench.old) (Move op (spot_of spot.now)) (response_of result) [] (state_of L.meaning bench.new) }
+    ensures obeys { (manner : Manner) → Obeys manner (state_of L.meaning bench.old) (Move op (spot_of spot.now)) (response_of result) [] (state_of L.meaning bench.new) }
     ensures kept { IsKept L.meaning bench.new }
 {
     led_benches_are_kept::<L>();
@@ -70,44 +70,6 @@ pub(crate) fn move_op<L: Analysis>(bench: &mut Bench<L>, op: OpId, spot: &Spot) 
     reply_to(bench.move_op(op, place))
 }
 
-/// Inserts the operation that a text spells at the place that is named.
-pub(crate) fn insert<L: Analysis>(bench: &mut Bench<L>, spot: &Spot, text: &[u8]) -> Reply
-    requires { IsKept L.meaning bench.old }
-    ensures obeys { Obeys (state_of L.meaning bench.old) (Insert (spot_of spot.now) text.now) (response_of result) [] (state_of L.meaning bench.new) }
-    ensures kept { IsKept L.meaning bench.new }
-{
-    led_benches_are_kept::<L>();
-    let tree = match operation_of(bench, text) {
-        Ok(tree) => tree,
-        Err(reply) => return reply,
-    };
-    let place = match place_for(&bench.world().store, None, spot) {
-        Ok(place) => place,
-        Err(refusal) => return Reply::Refused(refusal),
-    };
-    reply_as(bench.insert(place, &tree))
-}
-
-/// Sets an entry of an operation to the attribute that a text spells.
-pub(crate) fn set_attr<L: Analysis>(
-    alloc: Global,
-    bench: &mut Bench<L>,
-    op: OpId,
-    key: &Key<'_>,
-    text: &[u8],
-) -> Reply
-    requires { IsKept L.meaning bench.old }
-    ensures obeys { Obeys (state_of L.meaning bench.old) (SetAttr op (key_bytes key.now) text.now) (response_of result) [] (state_of L.meaning bench.new) }
-    ensures kept { IsKept L.meaning bench.new }
-{
-    led_benches_are_kept::<L>();
-    let (key, attribute) = match entry_of(alloc, bench, key, text) {
-        Ok(entry) => entry,
-        Err(reply) => return reply,
-    };
-    reply_to(bench.set_attr(op, key, attribute))
-}
-
 /// Takes an entry of an operation out.
 pub(crate) fn drop_attr<L: Analysis>(
     alloc: Global,
@@ -116,7 +78,7 @@ pub(crate) fn drop_attr<L: Analysis>(
     key: &Key<'_>,
 ) -> Reply
     requires { IsKept L.meaning bench.old }
-    ensures obeys { Obeys (state_of L.meaning bench.old) (DropAttr op (key_bytes key.now)) (response_of result) [] (state_of L.meaning bench.new) }
+    ensures obeys { (manner : Manner) → Obeys manner (state_of L.meaning bench.old) (DropAttr op (key_bytes key.now)) (response_of result) [] (state_of L.meaning bench.new) }
     ensures kept { IsKept L.meaning bench.new }
 {
     led_benches_are_kept::<L>();

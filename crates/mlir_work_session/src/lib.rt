@@ -7,6 +7,7 @@ pub mod boxes;
 pub mod commands;
 mod edits;
 pub mod listing;
+pub mod manner;
 mod marks;
 mod operations;
 mod places;
@@ -17,10 +18,13 @@ mod rows;
 pub mod script;
 pub mod session;
 pub mod shows;
+mod texts;
+mod transforming;
 mod unread;
 
 pub use ir_text::reader;
 pub use mlir_work_script::{
-    cells, command, input, keys, kind, lines, numbers, replies, spots, values, words, writing,
+    cells, command, input, keys, kind, lines, numbers, outcome, replies, spots, values, words,
+    writing,
 };
 pub use rewriter::Bench;

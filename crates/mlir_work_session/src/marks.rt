@@ -3,6 +3,7 @@ ghost use Rattle.std.specs.Prelude.{◌≡◌, []};
 ghost use Rattle.rewriter.specs.Commands.{Begin, Commit, Detach, Resync, Rollback};
 ghost use Rattle.rewriter.specs.Benched.{IsKept, state_of};
 ghost use Rattle.mlir_work_session.specs.Machine.{Obeys, response_of};
+ghost use Rattle.mlir_work_session.specs.Output.{Manner};
 
 use crate::reply::Reply;
 use crate::replying::reply_to;
@@ -14,7 +15,7 @@ use rewriter::laws::led_benches_are_kept;
 /// Makes a mark of the module.
 pub(crate) fn begin<L: Analysis>(bench: &mut Bench<L>) -> Reply
     requires { IsKept L.meaning bench.old }
-    ensures obeys { Obeys (state_of L.meaning bench.old) Begin (response_of result) [] (state_of L.meaning bench.new) }
+    ensures obeys { (manner : Manner) → Obeys manner (state_of L.meaning bench.old) Begin (response_of result) [] (state_of L.meaning bench.new) }
     ensures kept { IsKept L.meaning bench.new }
 {
     led_benches_are_kept::<L>();
@@ -24,7 +25,7 @@ pub(crate) fn begin<L: Analysis>(bench: &mut Bench<L>) -> Reply
 /// Drops the newest mark.
 pub(crate) fn commit<L: Analysis>(bench: &mut Bench<L>) -> Reply
     requires { IsKept L.meaning bench.old }
-    ensures obeys { Obeys (state_of L.meaning bench.old) Commit (response_of result) [] (state_of L.meaning bench.new) }
+    ensures obeys { (manner : Manner) → Obeys manner (state_of L.meaning bench.old) Commit (response_of result) [] (state_of L.meaning bench.new) }
     ensures kept { IsKept L.meaning bench.new }
 {
     led_benches_are_kept::<L>();
@@ -34,7 +35,7 @@ pub(crate) fn commit<L: Analysis>(bench: &mut Bench<L>) -> Reply
 /// Goes back to the newest mark.
 pub(crate) fn rollback<L: Analysis>(bench: &mut Bench<L>) -> Reply
     requires { IsKept L.meaning bench.old }
-    ensures obeys { Obeys (state_of L.meaning bench.old) Rollback (response_of result) [] (state_of L.meaning bench.new) }
+    ensures obeys { (manner : Manner) → Obeys manner (state_of L.meaning bench.old) Rollback (response_of result) [] (state_of L.meaning bench.new) }
     ensures kept { IsKept L.meaning bench.new }
 {
     led_benches_are_kept::<L>();
@@ -44,7 +45,7 @@ pub(crate) fn rollback<L: Analysis>(bench: &mut Bench<L>) -> Reply
 /// Drops the listener of a kind.
 pub(crate) fn detach<L: Analysis>(bench: &mut Bench<L>, kind: Kind) -> Reply
     requires { IsKept L.meaning bench.old }
-    ensures obeys { Obeys (state_of L.meaning bench.old) (Detach kind) (response_of result) [] (state_of L.meaning bench.new) }
+    ensures obeys { (manner : Manner) → Obeys manner (state_of L.meaning bench.old) (Detach kind) (response_of result) [] (state_of L.meaning bench.new) }
     ensures kept { IsKept L.meaning bench.new }
 {
     reply_to(bench.detach(kind))
@@ -53,7 +54,7 @@ pub(crate) fn detach<L: Analysis>(bench: &mut Bench<L>, kind: Kind) -> Reply
 /// Begins the listener of a kind again.
 pub(crate) fn resync<L: Analysis>(bench: &mut Bench<L>, kind: Kind) -> Reply
     requires { IsKept L.meaning bench.old }
-    ensures obeys { Obeys (state_of L.meaning bench.old) (Resync kind) (response_of result) [] (state_of L.meaning bench.new) }
+    ensures obeys { (manner : Manner) → Obeys manner (state_of L.meaning bench.old) (Resync kind) (response_of result) [] (state_of L.meaning bench.new) }
     ensures kept { IsKept L.meaning bench.new }
 {
     reply_to(bench.resync(kind))

@@ -35,16 +35,21 @@ fn read<L: Analysis>(bench: &mut Bench<L>, text: &[u8]) -> Result<TreeOp, ReadEr
     read
 }
 
-/// The operation that a text spells beside the module, numbered from its next id, or the reply where it isn't read.
-pub(crate) fn operation_of<L: Analysis>(bench: &mut Bench<L>, text: &[u8]) -> Result<TreeOp, Reply>
+/// The operation that a text of an input of so many bytes spells beside the module, numbered from its next id, or the
+/// reply where it isn't read.
+pub(crate) fn operation_of<L: Analysis>(
+    bytes: usize,
+    bench: &mut Bench<L>,
+    text: &[u8],
+) -> Result<TreeOp, Reply>
     ensures read { IfOk result (λ t. SpellsBeside (module_held bench.old.desk) text.now (meaning bench.new.desk.ctx t)) }
     ensures sound { IfOk result (λ t. IsSoundIn bench.new.desk.ctx t) }
     ensures numbered { IfOk result (λ t. IsNumberedFrom bench.new.desk.store.module_of.next t) }
-    ensures unread { IfErr result (λ reply. NotRead IsOpRefusal (SpellsBeside (module_held bench.old.desk) text.now) (response_of reply)) }
+    ensures unread { IfErr result (λ reply. NotRead bytes IsOpRefusal (SpellsBeside (module_held bench.old.desk) text.now) (response_of reply)) }
     ensures grown { Grown L.meaning bench.old bench.new }
 {
     match read(bench, text) {
         Ok(tree) => Ok(tree),
-        Err(error) => Err(reply_unread(&error)),
+        Err(error) => Err(reply_unread(bytes, &error)),
     }
 }

@@ -5,6 +5,7 @@ ghost use Rattle.mlir_work_session.specs.Output.{is_accepted as accepts};
 
 use ir_types::ids::OpId;
 use ir_types::refusal::Refusal;
+use mlir_work_script::outcome::Outcome;
 
 /// The reply to a command.
 #[derive(Clone, Copy)]
@@ -13,8 +14,12 @@ pub enum Reply {
     Done,
     /// It was accepted, and made this operation.
     DoneAs(OpId),
+    /// It was accepted, and this came of it.
+    DoneWith(Outcome),
     /// It was refused, and the module is as it was.
     Refused(Refusal),
+    /// It was refused because of this operation, and the module is as it was.
+    RefusedOn(Refusal, OpId),
     /// Its text was refused, so many bytes behind its first, and the module is as it was.
     RefusedAt(Refusal, usize),
 }
@@ -27,7 +32,9 @@ impl Reply {
         match self {
             Reply::Done => true,
             Reply::DoneAs(_) => true,
+            Reply::DoneWith(_) => true,
             Reply::Refused(_) => false,
+            Reply::RefusedOn(_, _) => false,
             Reply::RefusedAt(_, _) => false,
         }
     }

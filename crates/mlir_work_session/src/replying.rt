@@ -2,11 +2,13 @@
 ghost use Rattle.std.specs.Prelude.{◌≡◌};
 ghost use Rattle.rewriter.specs.Commands.{Replied};
 ghost use Rattle.rewriter.specs.Benched.{id_reply_of, reply_of};
+ghost use Rattle.mlir_work_sweep.specs.Sweep.{sweep_reply};
 ghost use Rattle.mlir_work_session.specs.Machine.{response_of};
 
 use crate::reply::Reply;
 use ir_types::ids::OpId;
 use ir_types::refusal::Refusal;
+use mlir_work_script::outcome::Outcome;
 
 /// The reply to a call that changes.
 pub(crate) fn reply_to(called: Result<(), Refusal>) -> Reply
@@ -14,6 +16,16 @@ pub(crate) fn reply_to(called: Result<(), Refusal>) -> Reply
 {
     match called {
         Ok(()) => Reply::Done,
+        Err(refusal) => Reply::Refused(refusal),
+    }
+}
+
+/// The reply to a sweep.
+pub(crate) fn reply_swept(called: Result<usize, Refusal>) -> Reply
+    ensures { response_of result ≡ Replied (sweep_reply called) }
+{
+    match called {
+        Ok(count) => Reply::DoneWith(Outcome::Swept(count)),
         Err(refusal) => Reply::Refused(refusal),
     }
 }

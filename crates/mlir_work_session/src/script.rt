@@ -10,6 +10,7 @@ ghost use Rattle.mlir_work_session.specs.Ran.{RanOut};
 
 use crate::commands::obey;
 use crate::listing::put_listing;
+use crate::manner::Manner;
 use crate::reply::Reply;
 use crate::shows::Answered;
 use crate::unread::reply_within;
@@ -17,7 +18,9 @@ use ir_event::analysis::Analysis;
 use ir_types::refusal::Refusal;
 use mlir_work_script::command::{Command, Line, read_line};
 use mlir_work_script::lines::split_line;
-use mlir_work_script::replies::{put_made, put_ok, put_refused, put_refused_at};
+use mlir_work_script::replies::{
+    put_made, put_ok, put_outcome, put_refused, put_refused_at, put_refused_on,
+};
 use mlir_work_script::writing::{WriteFault, put};
 use rewriter::Bench;
 use std::alloc::Global;
@@ -67,24 +70,24 @@ pub(crate) fn both(a: bool, b: bool) -> bool
     a && b
 }
 
-/// What a line of an input of so many bytes that isn't nothing is answered.
+/// What a line that isn't nothing is answered, in a script that is run so.
 fn answer<L: Analysis>(
     alloc: Global,
-    bytes: usize,
+    manner: &Manner,
     bench: &mut Bench<L>,
     line: &Line<'_>,
 ) -> Answered
     requires kept { IsKept L.meaning bench.old }
     requires something { says_nothing (spoken_of line.now) ≡ false }
-    ensures replies { Replies (state_of L.meaning bench.old) (spoken_of line.now) (response_of result.reply) result.shows.items (state_of L.meaning bench.new) }
-    ensures bounded { IsBounded bytes (response_of result.reply) }
+    ensures replies { Replies manner.now (state_of L.meaning bench.old) (spoken_of line.now) (response_of result.reply) result.shows.items (state_of L.meaning bench.new) }
+    ensures bounded { IsBounded manner.now.bytes (response_of result.reply) }
     ensures kept { IsKept L.meaning bench.new }
 {
     match line {
         Line::Obey(command) => {
-            let answered = obey(alloc, bench, command);
+            let answered = obey(alloc, manner, bench, command);
             Answered {
-                reply: reply_within(bytes, answered.reply),
+                reply: reply_within(manner.bytes, answered.reply),
                 shows: answered.shows,
             }
         }
@@ -102,7 +105,9 @@ pub(crate) fn put_reply<W: Write>(writer: &mut W, n: u64, reply: Reply) -> Resul
     match reply {
         Reply::Done => put_ok(writer, n),
         Reply::DoneAs(op) => put_made(writer, n, op),
+        Reply::DoneWith(outcome) => put_outcome(writer, n, outcome),
         Reply::Refused(refusal) => put_refused(writer, n, refusal),
+        Reply::RefusedOn(refusal, op) => put_refused_on(writer, n, refusal, op),
         Reply::RefusedAt(refusal, offset) => put_refused_at(writer, n, refusal, offset),
     }
 }
@@ -134,17 +139,16 @@ fn put_answer<L: Analysis, W: Write>(
 }
 
 /// Runs a script over a module and listeners that each agree with it or are stale, and writes as it goes.
-/// The status is 1 where a command was refused. The whole input, of which the script is a part, has so many bytes.
+/// The status is 1 where a command was refused.
 pub fn run_script<L: Analysis, W: Write>(
     alloc: Global,
-    brief: bool,
-    bytes: usize,
+    manner: &Manner,
     bench: &mut Bench<L>,
     script: &[u8],
     writer: &mut W,
 ) -> Result<u8, WriteFault>
     requires { IsKept L.meaning bench.old }
-    ensures { RanOut (Runs (record { brief = brief; bytes = bytes }) 1 (state_of L.meaning bench.old) (lines_of script.now)) (W.contents writer.old) (W.contents writer.new) result }
+    ensures { RanOut (Runs manner.now 1 (state_of L.meaning bench.old) (lines_of script.now)) (W.contents writer.old) (W.contents writer.new) result }
 {
     let mut text = script;
     let mut n = 1u64;
@@ -156,8 +160,8 @@ pub fn run_script<L: Analysis, W: Write>(
         if is_nothing(&line) {
             continue;
         }
-        let answered = answer(alloc, bytes, bench, &line);
-        let listed = is_listed(brief, &line);
+        let answered = answer(alloc, manner, bench, &line);
+        let listed = is_listed(manner.brief, &line);
         match put_answer(alloc, listed, bench, n, &answered, writer) {
             Ok(()) => {}
             Err(fault) => return Err(fault),

@@ -8,6 +8,7 @@ ghost use Rattle.mlir_work_session.specs.Output.{IsSession, IsBadScript, Session
 ghost use Rattle.mlir_work_session.specs.Ran.{RanOut};
 
 use crate::boxes::attach_all;
+use crate::manner::Manner;
 use crate::script::run_script;
 use ir_event::analysis::Analysis;
 use ir_event::world::World;
@@ -28,8 +29,7 @@ fn worse(accepted: bool, status: u8) -> u8
 /// Attaches listeners to a panel without any, and runs a script.
 fn attach_and_run<L: Analysis, W: Write>(
     alloc: Global,
-    brief: bool,
-    bytes: usize,
+    manner: &Manner,
     bench: &mut Bench<L>,
     script: &[u8],
     writer: &mut W,
@@ -37,13 +37,13 @@ fn attach_and_run<L: Analysis, W: Write>(
 ) -> Result<u8, WriteFault>
     requires none { bench.old.listeners ≡ [] }
     requires unmarked { open_marks bench.old.desk ≡ [] }
-    ensures { RanOut (Session (record { brief = brief; bytes = bytes }) (all_shown L.meaning boxes.items) (module_held bench.old.desk) script.now) (W.contents writer.old) (W.contents writer.new) result }
+    ensures { RanOut (Session manner.now (all_shown L.meaning boxes.items) (module_held bench.old.desk) script.now) (W.contents writer.old) (W.contents writer.new) result }
 {
     let accepted = match attach_all(bench, boxes, writer) {
         Ok(accepted) => accepted,
         Err(fault) => return Err(fault),
     };
-    match run_script(alloc, brief, bytes, bench, script, writer) {
+    match run_script(alloc, manner, bench, script, writer) {
         Ok(status) => Ok(worse(accepted, status)),
         Err(fault) => Err(fault),
     }
@@ -60,12 +60,10 @@ fn refuse_script<W: Write>(writer: &mut W) -> Result<u8, WriteFault>
 }
 
 /// Attaches listeners to a module, in order, and runs a script over it; writes as it goes. The status is 1
-/// where a listener or a command was refused, and else 0. A script over its limit is one bad command. The whole input,
-/// of which the script is a part, has so many bytes.
+/// where a listener or a command was refused, and else 0. A script over its limit is one bad command.
 pub fn run_session<L: Analysis, W: Write>(
     alloc: Global,
-    brief: bool,
-    bytes: usize,
+    manner: &Manner,
     world: World,
     script: &[u8],
     writer: &mut W,
@@ -73,11 +71,11 @@ pub fn run_session<L: Analysis, W: Write>(
 ) -> Result<u8, WriteFault>
     requires slotted { IsSlotted world.store }
     requires tidy { IsTidy world.store }
-    ensures { RanOut (IsSession (record { brief = brief; bytes = bytes }) (all_shown L.meaning boxes.items) (module_in world) script.now) (W.contents writer.old) (W.contents writer.new) result }
+    ensures { RanOut (IsSession manner.now (all_shown L.meaning boxes.items) (module_in world) script.now) (W.contents writer.old) (W.contents writer.new) result }
 {
     if script_is_too_long(script) {
         return refuse_script(writer);
     }
     let mut bench = Bench::over(alloc, world);
-    attach_and_run(alloc, brief, bytes, &mut bench, script, writer, boxes)
+    attach_and_run(alloc, manner, &mut bench, script, writer, boxes)
 }

@@ -10,6 +10,7 @@ ghost use Rattle.rewriter.specs.Commands.{Report, Print};
 ghost use Rattle.rewriter.specs.Benched.{IsKept, state_of};
 ghost use Rattle.mlir_work_session.specs.RowText.{rows_text};
 ghost use Rattle.mlir_work_session.specs.Machine.{Obeys, response_of};
+ghost use Rattle.mlir_work_session.specs.Output.{Manner};
 ghost use Rattle.mlir_work_session.specs.declared.reply.Reply.TheVariants.{Refused};
 
 use crate::reply::Reply;
@@ -52,7 +53,7 @@ pub(crate) fn text_of_module(alloc: Global, world: &World) -> Result<Vec<u8>, Re
 }
 
 pub(crate) fn show_module<L: Analysis>(alloc: Global, bench: &Bench<L>) -> Answered
-    ensures { Obeys (state_of L.meaning bench.now) Print (response_of result.reply) result.shows.items (state_of L.meaning bench.now) }
+    ensures { (manner : Manner) → Obeys manner (state_of L.meaning bench.now) Print (response_of result.reply) result.shows.items (state_of L.meaning bench.now) }
 {
     let Ok(shows) = text_of_module(alloc, bench.world()) else {
         return refused(alloc, Refusal::Memory);
@@ -109,7 +110,7 @@ pub(crate) fn text_of_report<L: Analysis>(
 
 pub(crate) fn show_rows<L: Analysis>(alloc: Global, bench: &Bench<L>, kind: Kind) -> Answered
     requires { IsKept L.meaning bench.now }
-    ensures { Obeys (state_of L.meaning bench.now) (Report kind) (response_of result.reply) result.shows.items (state_of L.meaning bench.now) }
+    ensures { (manner : Manner) → Obeys manner (state_of L.meaning bench.now) (Report kind) (response_of result.reply) result.shows.items (state_of L.meaning bench.now) }
 {
     let Some(listener) = listener_of(bench.listeners(), kind) else {
         return refused(alloc, Refusal::NoSuchKind);

@@ -1,5 +1,5 @@
 //! How a text is replied to that isn't read.
-ghost use Rattle.std.specs.Prelude.{◌≡◌, ◌≤◌, ◌⊎◌, ℕ, List};
+ghost use Rattle.std.specs.Prelude.{◌≡◌, ◌≤◌, ◌⊎◌, ℕ, List, IsTrue};
 ghost use Rattle.ir_types.specs.Refusals.{number_of};
 ghost use Rattle.ir_types.specs.declared.refusal.Refusal.{Refusal as Reason};
 ghost use Rattle.ir_types.specs.declared.refusal.Refusal.TheVariants.{IdsExhausted as WantOfIds, Memory as WantOfMemory};
@@ -10,7 +10,7 @@ ghost use Rattle.ir_text.specs.Public.{IsNoAttr};
 ghost use Rattle.ir_text.specs.Public.{SpellsAttr};
 ghost use Rattle.ir_text.specs.Public.{IsNone};
 ghost use Rattle.rewriter.specs.Texts.{SpellsBeside};
-ghost use Rattle.rewriter.specs.Commands.{IsAttrRefusal, IsOpRefusal, Replied, TextRefusedAt};
+ghost use Rattle.rewriter.specs.Commands.{CanFill, IsAttrRefusal, IsOpRefusal, Replied, TextRefusedAt};
 ghost use Rattle.rewriter.specs.Machine.{Refused};
 ghost use Rattle.mlir_work_session.specs.Output.{IsBounded};
 ghost use Rattle.mlir_work_session.specs.Texts.{NotRead};
@@ -18,12 +18,16 @@ ghost use Rattle.mlir_work_session.specs.Machine.{response_of};
 
 use crate::reply::Reply;
 use ir_text::reader::ReadError;
+use ir_types::limits::MOST_THINGS;
 use ir_types::refusal::Refusal;
+
+/// How many words a context begins with.
+const WORDS: usize = 54;
 
 /// The reply where a text is refused. That no id is left has no place in the text.
 fn refused_at(refusal: Refusal, offset: usize) -> Reply
-    ensures attr { (text : List ℕ) → number_of refusal ≤ 14 → IsNoAttr (SpellsAttr text) → NotRead IsAttrRefusal (SpellsAttr text) (response_of result) }
-    ensures op { (m : Contents) (text : List ℕ) → (number_of refusal ≤ 14) ⊎ (refusal ≡ WantOfIds) → IsNone (SpellsBeside m text) → NotRead IsOpRefusal (SpellsBeside m text) (response_of result) }
+    ensures attr { (bytes : ℕ) (text : List ℕ) → number_of refusal ≤ 14 → IsNoAttr (SpellsAttr text) → NotRead bytes IsAttrRefusal (SpellsAttr text) (response_of result) }
+    ensures op { (bytes : ℕ) (m : Contents) (text : List ℕ) → (number_of refusal ≤ 14) ⊎ (refusal ≡ WantOfIds) → IsNone (SpellsBeside m text) → NotRead bytes IsOpRefusal (SpellsBeside m text) (response_of result) }
 {
     if refusal == Refusal::IdsExhausted {
         return Reply::Refused(refusal);
@@ -31,14 +35,35 @@ fn refused_at(refusal: Refusal, offset: usize) -> Reply
     Reply::RefusedAt(refusal, offset)
 }
 
-/// The reply where a text isn't read.
-pub(crate) fn reply_unread(error: &ReadError) -> Reply
-    ensures attr { (text : List ℕ) → IsTold text error.now → ((r : Reason) (o : ℕ) → error.now ≡ Unread.Refused r o → IsNoAttr (SpellsAttr text)) → NotRead IsAttrRefusal (SpellsAttr text) (response_of result) }
-    ensures op { (m : Contents) (text : List ℕ) → IsOpTold text error.now → ((r : Reason) (o : ℕ) → error.now ≡ Unread.Refused r o → IsNone (SpellsBeside m text)) → NotRead IsOpRefusal (SpellsBeside m text) (response_of result) }
+/// Whether an input of so many bytes can fill a context. One begins with the words of the table, and each name, type and
+/// attribute that is read takes a byte or more.
+fn can_fill(bytes: usize) -> bool
+    ensures { IsTrue result → CanFill bytes }
+{
+    bytes >= MOST_THINGS as usize - WORDS
+}
+
+/// The reply where the context has no room for what a text names. A shorter input than can fill one is refused for want of
+/// memory: it doesn't come so far.
+fn full_at(bytes: usize, offset: usize) -> Reply
+    ensures attr { (text : List ℕ) → NotRead bytes IsAttrRefusal (SpellsAttr text) (response_of result) }
+    ensures op { (m : Contents) (text : List ℕ) → NotRead bytes IsOpRefusal (SpellsBeside m text) (response_of result) }
+{
+    if can_fill(bytes) {
+        Reply::RefusedAt(Refusal::TooMany, offset)
+    } else {
+        Reply::Refused(Refusal::Memory)
+    }
+}
+
+/// The reply where a text of an input of so many bytes isn't read.
+pub(crate) fn reply_unread(bytes: usize, error: &ReadError) -> Reply
+    ensures attr { (text : List ℕ) → IsTold text error.now → ((r : Reason) (o : ℕ) → error.now ≡ Unread.Refused r o → IsNoAttr (SpellsAttr text)) → NotRead bytes IsAttrRefusal (SpellsAttr text) (response_of result) }
+    ensures op { (m : Contents) (text : List ℕ) → IsOpTold text error.now → ((r : Reason) (o : ℕ) → error.now ≡ Unread.Refused r o → IsNone (SpellsBeside m text)) → NotRead bytes IsOpRefusal (SpellsBeside m text) (response_of result) }
 {
     match *error {
         ReadError::Memory => Reply::Refused(Refusal::Memory),
-        ReadError::Full { offset } => Reply::RefusedAt(Refusal::TooMany, offset),
+        ReadError::Full { offset } => full_at(bytes, offset),
         ReadError::Refused { refusal, offset } => refused_at(refusal, offset),
     }
 }

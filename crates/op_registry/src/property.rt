@@ -122,14 +122,7 @@ fn is_integer(node: &AttrNode) -> bool
 {
     match node {
         AttrNode::Int { .. } => true,
-        AttrNode::Str(_) => false,
-        AttrNode::Ty(_) => false,
-        AttrNode::Unit => false,
-        AttrNode::Array(_) => false,
-        AttrNode::Dict(_) => false,
-        AttrNode::Sym(_) => false,
-        AttrNode::Dense { .. } => false,
-        AttrNode::Overflow { .. } => false,
+        _ => false,
     }
 }
 
@@ -138,15 +131,8 @@ fn is_string(node: &AttrNode) -> bool
     ensures { (names : List (List ℕ)) (types : List TypeTerm) (attrs : List AttrTerm) → result ≡ is_some (properties.string_of (attr_from names types attrs node.now)) }
 {
     match node {
-        AttrNode::Int { .. } => false,
         AttrNode::Str(_) => true,
-        AttrNode::Ty(_) => false,
-        AttrNode::Unit => false,
-        AttrNode::Array(_) => false,
-        AttrNode::Dict(_) => false,
-        AttrNode::Sym(_) => false,
-        AttrNode::Dense { .. } => false,
-        AttrNode::Overflow { .. } => false,
+        _ => false,
     }
 }
 
@@ -155,15 +141,8 @@ fn is_overflow(node: &AttrNode) -> bool
     ensures { (names : List (List ℕ)) (types : List TypeTerm) (attrs : List AttrTerm) → result ≡ properties.is_overflow (attr_from names types attrs node.now) }
 {
     match node {
-        AttrNode::Int { .. } => false,
-        AttrNode::Str(_) => false,
-        AttrNode::Ty(_) => false,
-        AttrNode::Unit => false,
-        AttrNode::Array(_) => false,
-        AttrNode::Dict(_) => false,
-        AttrNode::Sym(_) => false,
-        AttrNode::Dense { .. } => false,
         AttrNode::Overflow { .. } => true,
+        _ => false,
     }
 }
 
@@ -172,15 +151,8 @@ fn is_symbol_of_one_part(node: &AttrNode) -> bool
     ensures { (names : List (List ℕ)) (types : List TypeTerm) (attrs : List AttrTerm) → result ≡ properties.is_symbol_of_one_part (attr_from names types attrs node.now) }
 {
     match node {
-        AttrNode::Int { .. } => false,
-        AttrNode::Str(_) => false,
-        AttrNode::Ty(_) => false,
-        AttrNode::Unit => false,
-        AttrNode::Array(_) => false,
-        AttrNode::Dict(_) => false,
         AttrNode::Sym(parts) => parts.len() == 1,
-        AttrNode::Dense { .. } => false,
-        AttrNode::Overflow { .. } => false,
+        _ => false,
     }
 }
 
@@ -191,14 +163,7 @@ fn integer_in(node: &AttrNode) -> Option<(TypeId, u128)>
 {
     match node {
         AttrNode::Int { ty, value } => Some((*ty, *value)),
-        AttrNode::Str(_) => None,
-        AttrNode::Ty(_) => None,
-        AttrNode::Unit => None,
-        AttrNode::Array(_) => None,
-        AttrNode::Dict(_) => None,
-        AttrNode::Sym(_) => None,
-        AttrNode::Dense { .. } => None,
-        AttrNode::Overflow { .. } => None,
+        _ => None,
     }
 }
 
@@ -208,15 +173,8 @@ fn is_visibility(ctx: &Context, node: &AttrNode) -> bool
     ensures { result ≡ properties.is_visibility (properties.string_of (attr_node_term ctx.now node.now)) }
 {
     match node {
-        AttrNode::Int { .. } => false,
         AttrNode::Str(name) => names_visibility(ctx, *name),
-        AttrNode::Ty(_) => false,
-        AttrNode::Unit => false,
-        AttrNode::Array(_) => false,
-        AttrNode::Dict(_) => false,
-        AttrNode::Sym(_) => false,
-        AttrNode::Dense { .. } => false,
-        AttrNode::Overflow { .. } => false,
+        _ => false,
     }
 }
 
@@ -226,15 +184,8 @@ fn is_function(ctx: &Context, node: &AttrNode) -> bool
     ensures { result ≡ properties.is_and properties.is_function (properties.type_of (attr_node_term ctx.now node.now)) }
 {
     match node {
-        AttrNode::Int { .. } => false,
-        AttrNode::Str(_) => false,
         AttrNode::Ty(ty) => is_function_type(type_of(ctx, *ty)),
-        AttrNode::Unit => false,
-        AttrNode::Array(_) => false,
-        AttrNode::Dict(_) => false,
-        AttrNode::Sym(_) => false,
-        AttrNode::Dense { .. } => false,
-        AttrNode::Overflow { .. } => false,
+        _ => false,
     }
 }
 
@@ -244,15 +195,8 @@ fn is_segments(ctx: &Context, node: &AttrNode) -> bool
     ensures { result ≡ properties.is_and (properties.is_signless 32) (properties.element_of (attr_node_term ctx.now node.now)) }
 {
     match node {
-        AttrNode::Int { .. } => false,
-        AttrNode::Str(_) => false,
-        AttrNode::Ty(_) => false,
-        AttrNode::Unit => false,
-        AttrNode::Array(_) => false,
-        AttrNode::Dict(_) => false,
-        AttrNode::Sym(_) => false,
         AttrNode::Dense { elem, .. } => is_signless(type_of(ctx, *elem), 32),
-        AttrNode::Overflow { .. } => false,
+        _ => false,
     }
 }
 
@@ -263,14 +207,7 @@ fn is_predicate(ctx: &Context, node: &AttrNode) -> bool
 {
     match node {
         AttrNode::Int { ty, value } => is_signless(type_of(ctx, *ty), 64) && *value <= 9,
-        AttrNode::Str(_) => false,
-        AttrNode::Ty(_) => false,
-        AttrNode::Unit => false,
-        AttrNode::Array(_) => false,
-        AttrNode::Dict(_) => false,
-        AttrNode::Sym(_) => false,
-        AttrNode::Dense { .. } => false,
-        AttrNode::Overflow { .. } => false,
+        _ => false,
     }
 }
 

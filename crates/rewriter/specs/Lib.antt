@@ -8,6 +8,7 @@ pub use Rattle.rewriter_desk.specs.declared.mark.Mark
 pub use Rattle.rewriter_desk.specs.Journals
 pub use Rattle.rewriter_desk.specs.Texts
 pub use Rattle.rewriter_desk.specs.Commands
+pub use Rattle.rewriter_desk.specs.Contents
 pub use Rattle.rewriter_desk.specs.Edits
 pub use Rattle.rewriter_desk.specs.Machine
 pub use Rattle.rewriter_desk.specs.Panels

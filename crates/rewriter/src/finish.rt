@@ -7,7 +7,7 @@ use crate::bench::Bench;
 use ir_event::analysis::Analysis;
 
 /// Drops the newest mark. The module stays, or the one of the mark is held again.
-pub(crate) fn finish<L: Analysis>(bench: &mut Bench<L>, stays: bool)
+pub fn finish<L: Analysis>(bench: &mut Bench<L>, stays: bool)
     ensures finished { IsFinished stays bench.old.desk bench.new.desk }
     ensures led { Led L.meaning bench.old bench.new }
     ensures untold { stays ≡ true → Heard L.meaning [] bench.old bench.new }

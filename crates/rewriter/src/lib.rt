@@ -9,7 +9,7 @@ mod edits;
 pub mod erase;
 mod fault;
 pub mod faults;
-mod finish;
+pub mod finish;
 mod headers;
 pub mod insert;
 pub mod laws;

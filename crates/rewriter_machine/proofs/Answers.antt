@@ -1,14 +1,14 @@
 -- A refusal leaves the module and the marks, and what an accepted call makes of them.
-use Rattle.std.proofs.Common.{◌≡◌, refl, ap, sym, ◌∙◌, subst, ℕ, zero, suc, Bool, true, false, cond, List, [], ◌∷◌, Option, Some, None, inl, inr, slice_get}
+use Rattle.std.proofs.Common.{◌≡◌, refl, ap, sym, ◌∙◌, subst, ℕ, zero, suc, Bool, true, false, cond, List, [], ◌∷◌, Option, Some, None, Result, Ok, Err, ◌⊎◌, inl, inr, slice_get}
 use Rattle.std.specs.Prelude.{nat_lt, slice_set}
 use Rattle.std.specs.List.{find}
 use Rattle.ir_types.specs.declared.refusal.Refusal.{Refusal}
-use Rattle.ir_types.specs.declared.refusal.Refusal.TheVariants.{Stale, NoSuchKind, KindTaken, TooManyMarks}
+use Rattle.ir_types.specs.declared.refusal.Refusal.TheVariants.{Full, Memory, Stale, NoSuchKind, KindTaken, TooManyMarks}
 use Rattle.ir_event.specs.Modules.{Module}
 use Rattle.ir_event.proofs.Follows.{zip_self}
 use Rattle.rewriter_machine.specs.Edits.{Insert, Make, Erase, Move, SetOperand, Replace, SetAttr, DropAttr}
 use Rattle.rewriter_machine.specs.Contents.{Edit, edit_reason}
-use Rattle.rewriter_machine.specs.Machine.{OpenMark, State, Call, Do, Mark, Step, Commit, Rollback, Attach, Detach, Resync, Report, Print, Reply, Refused, Shows, Nothing, Rows, Answer, due, refused, showing, marked, due_edit, due_commit, due_rollback, due_report, most_marks, counted_marks, Goes, accepted}
+use Rattle.rewriter_machine.specs.Machine.{OpenMark, State, Outcome, Fault, Transformation, Call, Do, Change, Mark, Step, Commit, Rollback, Attach, Detach, Resync, Report, Print, Reply, Done, DoneAs, DoneWith, Refused, RefusedOn, Shows, Nothing, Rows, Answer, due, refused, showing, marked, due_edit, due_change, due_commit, due_rollback, due_report, fault_reply, most_marks, counted_marks, IsUnmade, Goes, accepted}
 use Rattle.rewriter_machine.specs.Panels.{Shown, Ages, AllAge, BegunAgain, has_kind, is_kind}
 use Rattle.rewriter_machine.specs.Runs.{Gives, is_refused}
 
@@ -23,6 +23,34 @@ accepted_is (Replace old new) m = refl
 accepted_is (SetAttr x k a) m = refl
 accepted_is (DropAttr x k) m = refl
 
+-- a fault is a refusal
+fault_is : (refusal : Refusal) (op : Option ℕ) → is_refused (fault_reply refusal op) ≡ true
+fault_is refusal None = refl
+fault_is refusal (Some x) = refl
+
+-- a call for which something is wanting is refused, and leaves all
+record IsLeft (s : State) (a : Answer) : Type 0 where
+  reply : is_refused a.reply ≡ true
+  held : a.held ≡ s.held
+  marks : a.marks ≡ s.marks
+
+left_by : (s : State) (refusal : Refusal) (a : Answer) → a ≡ refused refusal s → IsLeft s a
+left_by s refusal a e = record { reply = ap (λ (a : Answer). is_refused a.reply) e; held = ap (λ (a : Answer). a.held) e; marks = ap (λ (a : Answer). a.marks) e }
+
+unmade_left : (s : State) (call : Call) (a : Answer) → IsUnmade s call a → IsLeft s a
+unmade_left s (Do e) a h = left_by s Memory a h
+unmade_left s (Change f) a (inl h) = left_by s Memory a h
+unmade_left s (Change f) a (inr h) = left_by s Full a h.1
+unmade_left s Mark a h = left_by s Memory a h
+unmade_left s Step a h = left_by s Memory a h
+unmade_left s Commit a h = left_by s Memory a h
+unmade_left s Rollback a h = left_by s Memory a h
+unmade_left s (Attach b) a h = left_by s Memory a h
+unmade_left s (Detach kind) a h = left_by s Memory a h
+unmade_left s (Resync kind) a h = left_by s Memory a h
+unmade_left s (Report kind) a h = left_by s Memory a h
+unmade_left s Print a h = left_by s Memory a h
+
 -- an answer leaves what it refuses
 abbrev Leaves : State → Answer → Type 0
 Leaves s a = is_refused a.reply ≡ true → (a.held ≡ s.held) × (a.marks ≡ s.marks)
@@ -33,6 +61,11 @@ due_leaves s (Do e) = go (edit_reason e s.held)
     go : (r : Option Refusal) → Leaves s (due_edit r e s)
     go None h = (let bad : true ≡ false = sym h ∙ accepted_is e s.held in absurd cc)
     go (Some r) h = (refl, refl)
+due_leaves s (Change f) = go (f.transformed s.held)
+  where
+    go : (r : Result (Outcome × Module) Fault) → Leaves s (due_change r s)
+    go (Ok made) h = absurd cc
+    go (Err fault) h = (refl, refl)
 due_leaves s Mark = go (nat_lt (counted_marks s.marks) most_marks)
   where
     go : (b : Bool) → Leaves s (cond b (marked true s) (refused TooManyMarks s))
@@ -79,7 +112,7 @@ due_leaves s Print = λ h. (refl, refl)
 pub refused_leaves : (s t : State) (call : Call) (reply : Reply) (shows : Shows) → Goes s call reply shows t → is_refused reply ≡ true → (t.held ≡ s.held) × (t.marks ≡ s.marks)
 refused_leaves s t call reply shows g h = elim g.answer [
   | inl e ↦ (let k = due_leaves s call (ap (λ (a : Answer). is_refused a.reply) (sym e) ∙ h) in (ap (λ (a : Answer). a.held) e ∙ k.0, ap (λ (a : Answer). a.marks) e ∙ k.1))
-  | inr e ↦ (ap (λ (a : Answer). a.held) e.1, ap (λ (a : Answer). a.marks) e.1)
+  | inr e ↦ (let k = unmade_left s call _ e.1 in (k.held, k.marks))
 ]
 
 -- what an accepted answer gives
@@ -92,6 +125,11 @@ due_gives s (Do e) = go (edit_reason e s.held) refl
     go : (r : Option Refusal) → edit_reason e s.held ≡ r → Gave s (Do e) (due_edit r e s)
     go None is h = (is, refl, refl)
     go (Some r) is h = absurd cc
+due_gives s (Change f) = go (f.transformed s.held) refl
+  where
+    go : (r : Result (Outcome × Module) Fault) → f.transformed s.held ≡ r → Gave s (Change f) (due_change r s)
+    go (Ok made) is h = ((made.0, is), refl)
+    go (Err fault) is h = (let bad : true ≡ false = sym (fault_is fault.refusal fault.op) ∙ h in absurd cc)
 due_gives s Mark = go (nat_lt (counted_marks s.marks) most_marks)
   where
     go : (b : Bool) → Gave s Mark (cond b (marked true s) (refused TooManyMarks s))
@@ -138,7 +176,7 @@ due_gives s Print = λ h. (refl, refl)
 pub accepted_gives : (s t : State) (call : Call) (reply : Reply) (shows : Shows) → Goes s call reply shows t → is_refused reply ≡ false → Gives call s.held s.marks t.held t.marks
 accepted_gives s t call reply shows g h = elim g.answer [
   | inl e ↦ subst (λ (a : Answer). Gives call s.held s.marks a.held a.marks) (sym e) (due_gives s call (ap (λ (a : Answer). is_refused a.reply) (sym e) ∙ h))
-  | inr e ↦ (let bad : true ≡ false = ap (λ (a : Answer). is_refused a.reply) (sym e.1) ∙ h in absurd cc)
+  | inr e ↦ (let bad : true ≡ false = sym (unmade_left s call _ e.1).reply ∙ h in absurd cc)
 ]
 
 -- ---- the analyses
@@ -160,14 +198,31 @@ again_ages kind old new h =
     subst (AllAge old) (sym h.rest) (set_ages old h.place h.before h.after h.was (record { same = h.same; stale = λ e. h.gives }))
 
 -- a refused call adds, drops, moves and mends no analysis
-pub refused_ages : (s t : State) (call : Call) (refusal : Refusal) (shows : Shows) → Goes s call (Refused refusal) shows t → AllAge s.panel t.panel
-refused_ages s t (Do e) refusal shows g = g.panel
-refused_ages s t Mark refusal shows g = all_self s.panel t.panel g.panel
-refused_ages s t Step refusal shows g = all_self s.panel t.panel g.panel
-refused_ages s t Commit refusal shows g = all_self s.panel t.panel g.panel
-refused_ages s t Rollback refusal shows g = all_self s.panel t.panel g.panel
-refused_ages s t (Attach a) refusal shows g = all_self s.panel t.panel g.panel
-refused_ages s t (Detach kind) refusal shows g = all_self s.panel t.panel g.panel
-refused_ages s t (Resync kind) refusal shows g = elim g.panel [ inl e ↦ all_self s.panel t.panel e | inr h ↦ again_ages kind s.panel t.panel h.1 ]
-refused_ages s t (Report kind) refusal shows g = all_self s.panel t.panel g.panel
-refused_ages s t Print refusal shows g = all_self s.panel t.panel g.panel
+pub refused_ages : (s t : State) (call : Call) (reply : Reply) (shows : Shows) → Goes s call reply shows t → is_refused reply ≡ true → AllAge s.panel t.panel
+refused_ages s t (Do e) reply shows g h = g.panel
+refused_ages s t (Change f) reply shows g h = g.panel
+refused_ages s t Mark reply shows g h = all_self s.panel t.panel g.panel
+refused_ages s t Step reply shows g h = all_self s.panel t.panel g.panel
+refused_ages s t Commit reply shows g h = all_self s.panel t.panel g.panel
+refused_ages s t Rollback (Refused refusal) shows g h = all_self s.panel t.panel g.panel
+refused_ages s t Rollback Done shows g h = g.panel
+refused_ages s t Rollback (DoneAs x) shows g h = absurd g.panel
+refused_ages s t Rollback (DoneWith o) shows g h = absurd g.panel
+refused_ages s t Rollback (RefusedOn refusal x) shows g h = absurd g.panel
+refused_ages s t (Attach a) (Refused refusal) shows g h = all_self s.panel t.panel g.panel
+refused_ages s t (Attach a) Done shows g h = (let bad : false ≡ true = h in absurd cc)
+refused_ages s t (Attach a) (DoneAs x) shows g h = absurd g.panel
+refused_ages s t (Attach a) (DoneWith o) shows g h = absurd g.panel
+refused_ages s t (Attach a) (RefusedOn refusal x) shows g h = absurd g.panel
+refused_ages s t (Detach kind) (Refused refusal) shows g h = all_self s.panel t.panel g.panel
+refused_ages s t (Detach kind) Done shows g h = (let bad : false ≡ true = h in absurd cc)
+refused_ages s t (Detach kind) (DoneAs x) shows g h = absurd g.panel
+refused_ages s t (Detach kind) (DoneWith o) shows g h = absurd g.panel
+refused_ages s t (Detach kind) (RefusedOn refusal x) shows g h = absurd g.panel
+refused_ages s t (Resync kind) (Refused refusal) shows g h = elim g.panel [ inl e ↦ all_self s.panel t.panel e | inr h ↦ again_ages kind s.panel t.panel h.1 ]
+refused_ages s t (Resync kind) Done shows g h = (let bad : false ≡ true = h in absurd cc)
+refused_ages s t (Resync kind) (DoneAs x) shows g h = absurd g.panel
+refused_ages s t (Resync kind) (DoneWith o) shows g h = absurd g.panel
+refused_ages s t (Resync kind) (RefusedOn refusal x) shows g h = absurd g.panel
+refused_ages s t (Report kind) reply shows g h = all_self s.panel t.panel g.panel
+refused_ages s t Print reply shows g h = all_self s.panel t.panel g.panel

@@ -3,7 +3,7 @@
 use Rattle.std.proofs.Common.{◌≡◌, refl, ap, sym, ◌∙◌, subst, ℕ, zero, suc, true, false, List, [], ◌∷◌, ◌++◌, length, Option, Some, None, inl, inr}
 use Rattle.std.specs.Prelude.{option_and_then}
 use Rattle.ir_event.specs.Modules.{Module}
-use Rattle.rewriter_machine.specs.Machine.{OpenMark, State, Call, Do, Mark, Step, Commit, Rollback, Attach, Detach, Resync, Report, Print, Reply, Done, DoneAs, Refused, Shows, Answer, due_rollback, Goes}
+use Rattle.rewriter_machine.specs.Machine.{OpenMark, State, Call, Do, Change, Mark, Step, Commit, Rollback, Attach, Detach, Resync, Report, Print, Reply, Done, DoneAs, DoneWith, Refused, RefusedOn, Shows, Answer, due_rollback, Goes}
 use Rattle.rewriter_machine.specs.Runs.{Answered, Runs, Gives, level, level_after, level_answered, lower, IsNested, IsMarking}
 use Rattle.rewriter_machine.proofs.Answers.{refused_leaves, accepted_gives}
 
@@ -33,6 +33,7 @@ stays n m base old new e l a = (let size : n ≡ m = cc in record { front = a.fr
 
 given_above : (call : Call) (x y : Module) (n m : ℕ) (base old new : List OpenMark) → Gives call x old y new → level_after call n ≡ Some m → Above n base old → Above m base new
 given_above (Do e) x y n m base old new g l a = stays n m base old new g.2 l a
+given_above (Change f) x y n m base old new g l a = stays n m base old new g.1 l a
 given_above Mark x y n m base old new g l a = (let size : suc n ≡ m = cc in subst (λ k. Above k base new) size (one_more _ n base old new g.1 a))
 given_above Step x y n m base old new g l a = (let size : suc n ≡ m = cc in subst (λ k. Above k base new) size (one_more _ n base old new g.1 a))
 given_above Commit x y n m base old new g l a = one_fewer g.1.0 n m base old new g.1.1 l a
@@ -46,6 +47,8 @@ given_above Print x y n m base old new g l a = stays n m base old new g.1 l a
 goes_above : (s t : State) (call : Call) (reply : Reply) (shows : Shows) (n m : ℕ) (base : List OpenMark) → Goes s call reply shows t → level_answered call reply n ≡ Some m → Above n base s.marks → Above m base t.marks
 goes_above s t call Done shows n m base g l a = given_above call s.held t.held n m base s.marks t.marks (accepted_gives s t call Done shows g refl) l a
 goes_above s t call (DoneAs x) shows n m base g l a = given_above call s.held t.held n m base s.marks t.marks (accepted_gives s t call (DoneAs x) shows g refl) l a
+goes_above s t call (DoneWith o) shows n m base g l a = given_above call s.held t.held n m base s.marks t.marks (accepted_gives s t call (DoneWith o) shows g refl) l a
+goes_above s t call (RefusedOn r x) shows n m base g l a = stays n m base s.marks t.marks (refused_leaves s t call (RefusedOn r x) shows g refl).1 l a
 goes_above s t call (Refused r) shows n m base g l a = stays n m base s.marks t.marks (refused_leaves s t call (Refused r) shows g refl).1 l a
 
 runs_above : (calls : List Answered) (s t : State) (n m : ℕ) (base : List OpenMark) → Runs s calls t → level calls n ≡ Some m → Above n base s.marks → Above m base t.marks
@@ -82,6 +85,7 @@ pub rollback_restores : (s u t v : State) (call : Call) (shows last : Shows) (ca
 rollback_restores s u t v Mark shows last calls reply is g r nested back = rollback_gives t v reply last (record { marked = s.held; counted = true }) s.marks back (nested_leaves u t calls r nested ∙ (accepted_gives s u Mark Done shows g refl).1)
 rollback_restores s u t v Step shows last calls reply is g r nested back = rollback_gives t v reply last (record { marked = s.held; counted = false }) s.marks back (nested_leaves u t calls r nested ∙ (accepted_gives s u Step Done shows g refl).1)
 rollback_restores s u t v (Do e) shows last calls reply is g r nested back = absurd is
+rollback_restores s u t v (Change f) shows last calls reply is g r nested back = absurd is
 rollback_restores s u t v Commit shows last calls reply is g r nested back = absurd is
 rollback_restores s u t v Rollback shows last calls reply is g r nested back = absurd is
 rollback_restores s u t v (Attach a) shows last calls reply is g r nested back = absurd is

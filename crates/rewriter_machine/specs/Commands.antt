@@ -1,7 +1,9 @@
 -- The commands of a script, and which call each is.
-use Rattle.std.specs.Prelude.{◌≡◌, ℕ, ◌≤◌, List, ◌⊎◌, Option, Some, None, Ok, Err}
+use Rattle.std.specs.Prelude.{◌≡◌, ℕ, ◌≤◌, ◌+◌, List, length, Bool, ◌⊎◌, Option, Some, None, Ok, Err}
 use Rattle.ir_types.specs.Terms.{AttrTerm}
+use Rattle.ir_types.specs.Limits.{most_things}
 use Rattle.ir_types.specs.Refusals.{number_of}
+use Rattle.ir_types.specs.Words.{words}
 use Rattle.ir_types.specs.declared.refusal.Refusal.{Refusal}
 use Rattle.ir_types.specs.declared.refusal.Refusal.TheVariants.{TooMany, IdsExhausted, Memory}
 use Rattle.ir_tree.specs.declared.value.Value.{Value}
@@ -10,8 +12,20 @@ use Rattle.ir_tree.specs.Meaning.{Operation}
 use Rattle.ir_event.specs.Modules.{Module}
 use Rattle.rewriter_machine.specs.Edits as edit
 use Rattle.rewriter_machine.specs.Machine as call
-use Rattle.rewriter_machine.specs.Machine.{State, Call, Do, Reply, Shows, Nothing, Goes}
+use Rattle.rewriter_machine.specs.Machine.{State, Transformation, Call, Do, Reply, Shows, Nothing, Goes}
 use Rattle.rewriter_machine.specs.Spots.{Spot, spot_place}
+
+-- what a conversion aims at; operations are named by their bytes
+pub record Target : Type 0 where
+  -- whether each operation is to be legal in the end, also one that is named nowhere
+  pub full : Bool
+  -- the operations that are legal, those that aren't, and those that are where nothing of theirs is of type index
+  pub legal : List (List ℕ)
+  pub illegal : List (List ℕ)
+  pub dynamic : List (List ℕ)
+  -- the rules that are tried, in this order, and how deep rules may follow one another
+  pub rules : List ℕ
+  pub depth : ℕ
 
 -- a command; the texts of operations and attributes are bytes
 pub data Command : Type 0 where
@@ -22,6 +36,10 @@ pub data Command : Type 0 where
   Replace : Value → Value → Command
   SetAttr : ℕ → List ℕ → List ℕ → Command
   DropAttr : ℕ → List ℕ → Command
+  -- with a limit, or without one
+  Canon : Option ℕ → Command
+  Convert : Target → Command
+  Sweep : Command
   Begin : Command
   Commit : Command
   Rollback : Command
@@ -47,12 +65,18 @@ abbrev pub IsOpRefusal : Refusal → Option ℕ → Type 0
 IsOpRefusal refusal (Some offset) = number_of refusal ≤ 14
 IsOpRefusal refusal None = (refusal ≡ IdsExhausted) ⊎ (refusal ≡ Memory)
 
--- a text was refused: nothing is spelled, or no room is left for what it names, or no memory
-abbrev pub TextRefused : {X : Type 0} → (Refusal → Option ℕ → Type 0) → (X → Type 0) → Refusal → Option ℕ → Type 0
-TextRefused IsRefusal Spelled refusal offset = IsRefusal refusal offset × (((x : _) → Spelled x → ⊥) ⊎ ((refusal ≡ TooMany) ⊎ (refusal ≡ Memory)))
+-- an input of so many bytes can fill a context, which begins with the words of the table: each name, type and attribute
+-- that is read takes a byte of it or more
+abbrev pub CanFill : ℕ → Type 0
+CanFill bytes = most_things ≤ length words + bytes
 
--- `SpellsOp` tells which operation bytes spell beside a module, and `SpellsAttr` which attribute
-module _ (SpellsOp : Module → List ℕ → Operation → Type 0) (SpellsAttr : List ℕ → AttrTerm → Type 0) where
+-- a text of such an input was refused: nothing is spelled, or no room is left for what it names, or no memory
+abbrev pub TextRefused : {X : Type 0} → ℕ → (Refusal → Option ℕ → Type 0) → (X → Type 0) → Refusal → Option ℕ → Type 0
+TextRefused bytes IsRefusal Spelled refusal offset = IsRefusal refusal offset × (((x : _) → Spelled x → ⊥) ⊎ (((refusal ≡ TooMany) × CanFill bytes) ⊎ (refusal ≡ Memory)))
+
+-- `bytes` is the length of the input; `SpellsOp` tells which operation bytes spell beside a module, and `SpellsAttr` which
+-- attribute; `canonicalization`, `conversion` and `sweeping` are the transformations
+module _ (bytes : ℕ) (SpellsOp : Module → List ℕ → Operation → Type 0) (SpellsAttr : List ℕ → AttrTerm → Type 0) (canonicalization : Option ℕ → Transformation) (conversion : Target → Transformation) (sweeping : Transformation) where
   -- an operation that was read goes to its spot
   abbrev pub Inserts : Spot → Operation → Module → Asked → Type 0
   Inserts spot o m (Ask c) = (place : Place) × (spot_place None spot m.tree ≡ Ok place) × (c ≡ Do (edit.Insert place o))
@@ -67,13 +91,13 @@ module _ (SpellsOp : Module → List ℕ → Operation → Type 0) (SpellsAttr :
 
   -- an operation's text is read before the spot is looked for
   abbrev pub InsertsText : Spot → List ℕ → Module → Asked → Type 0
-  InsertsText spot text m (Unread refusal offset) = TextRefused IsOpRefusal (SpellsOp m text) refusal offset
+  InsertsText spot text m (Unread refusal offset) = TextRefused bytes IsOpRefusal (SpellsOp m text) refusal offset
   InsertsText spot text m asked = (o : Operation) × SpellsOp m text o × Inserts spot o m asked
 
   abbrev pub SetsText : ℕ → List ℕ → List ℕ → Asked → Type 0
   SetsText x key text (Ask c) = (a : AttrTerm) × SpellsAttr text a × (c ≡ Do (edit.SetAttr x key a))
   SetsText x key text (Misplaced refusal) = ⊥
-  SetsText x key text (Unread refusal offset) = TextRefused IsAttrRefusal (SpellsAttr text) refusal offset
+  SetsText x key text (Unread refusal offset) = TextRefused bytes IsAttrRefusal (SpellsAttr text) refusal offset
 
   -- what a command comes to in a module
   abbrev pub Asks : Command → Module → Asked → Type 0
@@ -84,6 +108,9 @@ module _ (SpellsOp : Module → List ℕ → Operation → Type 0) (SpellsAttr :
   Asks (Replace old new) m asked = asked ≡ Ask (Do (edit.Replace old new))
   Asks (SetAttr x key text) m asked = SetsText x key text asked
   Asks (DropAttr x key) m asked = asked ≡ Ask (Do (edit.DropAttr x key))
+  Asks (Canon limit) m asked = asked ≡ Ask (call.Change (canonicalization limit))
+  Asks (Convert target) m asked = asked ≡ Ask (call.Change (conversion target))
+  Asks Sweep m asked = asked ≡ Ask (call.Change sweeping)
   Asks Begin m asked = asked ≡ Ask call.Mark
   Asks Commit m asked = asked ≡ Ask call.Commit
   Asks Rollback m asked = asked ≡ Ask call.Rollback

@@ -1,9 +1,9 @@
 -- The machine: what a bench is, and what each call makes of it, as a relation, since memory may be refused and an
 -- analysis may turn stale where it is told of an edit. All else is determined.
-use Rattle.std.specs.Prelude.{◌≡◌, ℕ, nat_lt, length, List, [], ◌∷◌, Bool, true, false, ◌⊎◌, Option, Some, None, if◌then◌else◌, filter, IsTrue}
+use Rattle.std.specs.Prelude.{◌≡◌, ℕ, nat_lt, length, List, [], ◌∷◌, Bool, true, false, ◌⊎◌, Option, Some, None, Result, Ok, Err, if◌then◌else◌, filter, IsTrue}
 use Rattle.std.specs.List.{find}
 use Rattle.ir_types.specs.declared.refusal.Refusal.{Refusal}
-use Rattle.ir_types.specs.declared.refusal.Refusal.TheVariants.{Memory, Stale, NoSuchKind, KindTaken, TooManyMarks, NoMark}
+use Rattle.ir_types.specs.declared.refusal.Refusal.TheVariants.{Full, Memory, Stale, NoSuchKind, KindTaken, TooManyMarks, NoMark}
 use Rattle.ir_tree.specs.Tree.{head}
 use Rattle.ir_tree.specs.Meaning.{Operation}
 use Rattle.ir_event.specs.Modules.{Module}
@@ -33,12 +33,39 @@ most_marks = 16
 abbrev pub counted_marks : List OpenMark → ℕ
 counted_marks marks = length (filter (λ k. k.counted) marks)
 
+-- ---- transformations: changes of several edits, made whole or not at all
+
+-- what came of one
+pub data Outcome : Type 0 where
+  -- so many operations were swept
+  Swept : ℕ → Outcome
+  -- so many rewrites were made, and no rule applies any more
+  Converged : ℕ → Outcome
+  -- so many rewrites were made, which are as many as are allowed
+  Limited : ℕ → Outcome
+  -- so many rules of a conversion stand
+  Converted : ℕ → Outcome
+
+-- why one isn't made, and the operation that this is about, where it is about one
+pub record Fault : Type 0 where
+  pub refusal : Refusal
+  pub op : Option ℕ
+
+-- a transformation
+pub record Transformation : Type 0 where
+  -- what comes of a module, and the module then; or why it isn't made
+  pub transformed : Module → Result (Outcome × Module) Fault
+  -- whether it makes names, types or attributes, and so may be refused where the context is full, which no module shows
+  pub interns : Bool
+
 -- ---- calls and answers
 
 -- a call
 pub data Call : Type 0 where
   -- an edit
   Do : Edit → Call
+  -- a transformation
+  Change : Transformation → Call
   -- a mark of the module held, counted or not
   Mark : Call
   Step : Call
@@ -53,11 +80,14 @@ pub data Call : Type 0 where
   -- the module asked for
   Print : Call
 
--- a reply: accepted, accepted with the id of a new operation, or refused
+-- a reply: accepted, accepted with the id of a new operation or with what came of a transformation, refused, or refused
+-- because of an operation
 pub data Reply : Type 0 where
   Done : Reply
   DoneAs : ℕ → Reply
+  DoneWith : Outcome → Reply
   Refused : Refusal → Reply
+  RefusedOn : Refusal → ℕ → Reply
 
 -- what is shown beside it: nothing, rows, or the module's tree
 pub data Shows : Type 0 where
@@ -102,6 +132,16 @@ abbrev pub due_edit : Option Refusal → Edit → State → Answer
 due_edit None e s = record { reply = accepted e s.held; shows = Nothing; held = edited e s.held; marks = s.marks }
 due_edit (Some refusal) e s = refused refusal s
 
+-- how a fault is replied to
+abbrev pub fault_reply : Refusal → Option ℕ → Reply
+fault_reply refusal None = Refused refusal
+fault_reply refusal (Some x) = RefusedOn refusal x
+
+-- a transformation is made whole, or refused
+abbrev pub due_change : Result (Outcome × Module) Fault → State → Answer
+due_change (Ok made) s = record { reply = DoneWith made.0; shows = Nothing; held = made.1; marks = s.marks }
+due_change (Err fault) s = record { reply = fault_reply fault.refusal fault.op; shows = Nothing; held = s.held; marks = s.marks }
+
 -- the module held, with a mark of it more
 abbrev pub marked : Bool → State → Answer
 marked counted s = done s.held (record { marked = s.held; counted = counted } ∷ s.marks)
@@ -122,6 +162,7 @@ due_report (Some a) s = if a.stale then refused Stale s else showing (Rows (a.an
 -- the answer to a call where no memory is refused
 abbrev pub due : State → Call → Answer
 due s (Do e) = due_edit (edit_reason e s.held) e s
+due s (Change f) = due_change (f.transformed s.held) s
 due s Mark = if nat_lt (counted_marks s.marks) most_marks then marked true s else refused TooManyMarks s
 due s Step = marked false s
 due s Commit = due_commit s.marks s
@@ -153,6 +194,7 @@ grows_under (k ∷ ks) e = true
 -- whether a call may be refused for want of memory
 abbrev pub takes_memory : State → Call → Bool
 takes_memory s (Do e) = grows_under s.marks e
+takes_memory s (Change f) = true
 takes_memory s Mark = true
 takes_memory s Step = true
 takes_memory s Commit = false
@@ -163,9 +205,14 @@ takes_memory s (Resync kind) = true
 takes_memory s (Report kind) = true
 takes_memory s Print = true
 
--- the answer that is due, or a refusal for want of memory
+-- a call is refused for want of memory, or one that makes names, types or attributes because the context is full
+abbrev pub IsUnmade : State → Call → Answer → Type 0
+IsUnmade s (Change f) a = (a ≡ refused Memory s) ⊎ (IsTrue f.interns × (a ≡ refused Full s))
+IsUnmade s _ a = a ≡ refused Memory s
+
+-- the answer that is due, or a refusal for want of memory or of room in the context
 abbrev pub IsAnswer : State → Call → Answer → Type 0
-IsAnswer s call a = (a ≡ due s call) ⊎ (IsTrue (takes_memory s call) × (a ≡ refused Memory s))
+IsAnswer s call a = (a ≡ due s call) ⊎ (IsTrue (takes_memory s call) × IsUnmade s call a)
 
 -- ---- the analyses
 
@@ -173,24 +220,26 @@ IsAnswer s call a = (a ≡ due s call) ⊎ (IsTrue (takes_memory s call) × (a �
 abbrev pub NotResynced : ℕ → Refusal → List Shown → List Shown → Type 0
 NotResynced kind refusal old new = (new ≡ old) ⊎ ((refusal ≡ Memory) × BegunAgain kind true old new)
 
--- the analyses after a call and its reply: an edit, accepted or not, and a rollback may leave some stale
+-- the analyses after a call and its reply: an edit or a transformation, accepted or not, and a rollback may leave some
+-- stale
 abbrev pub PanelGoes : Call → Reply → List Shown → List Shown → Type 0
 PanelGoes (Do e) reply old new = AllAge old new
+PanelGoes (Change f) reply old new = AllAge old new
 PanelGoes Mark reply old new = new ≡ old
 PanelGoes Step reply old new = new ≡ old
 PanelGoes Commit reply old new = new ≡ old
 PanelGoes Rollback (Refused refusal) old new = new ≡ old
 PanelGoes Rollback Done old new = AllAge old new
-PanelGoes Rollback (DoneAs x) old new = ⊥
+PanelGoes Rollback _ old new = ⊥
 PanelGoes (Attach a) (Refused refusal) old new = new ≡ old
 PanelGoes (Attach a) Done old new = Attached a old new
-PanelGoes (Attach a) (DoneAs x) old new = ⊥
+PanelGoes (Attach a) _ old new = ⊥
 PanelGoes (Detach kind) (Refused refusal) old new = new ≡ old
 PanelGoes (Detach kind) Done old new = Detached kind old new
-PanelGoes (Detach kind) (DoneAs x) old new = ⊥
+PanelGoes (Detach kind) _ old new = ⊥
 PanelGoes (Resync kind) (Refused refusal) old new = NotResynced kind refusal old new
 PanelGoes (Resync kind) Done old new = BegunAgain kind false old new
-PanelGoes (Resync kind) (DoneAs x) old new = ⊥
+PanelGoes (Resync kind) _ old new = ⊥
 PanelGoes (Report kind) reply old new = new ≡ old
 PanelGoes Print reply old new = new ≡ old
 

@@ -1,8 +1,8 @@
 -- Lists of calls, with their replies.
-use Rattle.std.specs.Prelude.{◌≡◌, ℕ, zero, suc, List, [], ◌∷◌, Bool, true, false, Option, Some, None, option_and_then}
+use Rattle.std.specs.Prelude.{◌≡◌, ℕ, zero, suc, List, [], ◌∷◌, Bool, true, false, Option, Some, None, Ok, option_and_then}
 use Rattle.ir_event.specs.Modules.{Module}
 use Rattle.rewriter_machine.specs.Contents.{edited, edit_reason}
-use Rattle.rewriter_machine.specs.Machine.{OpenMark, State, Call, Do, Mark, Step, Commit, Rollback, Attach, Detach, Resync, Report, Print, Reply, Done, DoneAs, Refused, Shows, Goes}
+use Rattle.rewriter_machine.specs.Machine.{OpenMark, State, Outcome, Call, Do, Change, Mark, Step, Commit, Rollback, Attach, Detach, Resync, Report, Print, Reply, Done, DoneAs, DoneWith, Refused, RefusedOn, Shows, Goes}
 
 -- a call and how it was answered
 pub record Answered : Type 0 where
@@ -18,6 +18,7 @@ Runs s (a ∷ more) t = (u : State) × Goes s a.call a.reply a.shows u × Runs u
 -- what an accepted call makes of a module and of the marks
 abbrev pub Gives : Call → Module → List OpenMark → Module → List OpenMark → Type 0
 Gives (Do e) m marks n after = (edit_reason e m ≡ None) × (n ≡ edited e m) × (after ≡ marks)
+Gives (Change f) m marks n after = ((o : Outcome) × (f.transformed m ≡ Ok (o, n))) × (after ≡ marks)
 Gives Mark m marks n after = (n ≡ m) × (after ≡ record { marked = m; counted = true } ∷ marks)
 Gives Step m marks n after = (n ≡ m) × (after ≡ record { marked = m; counted = false } ∷ marks)
 Gives Commit m marks n after = (n ≡ m) × ((k : OpenMark) × (marks ≡ k ∷ after))
@@ -31,7 +32,9 @@ Gives Print m marks n after = (n ≡ m) × (after ≡ marks)
 abbrev pub is_refused : Reply → Bool
 is_refused Done = false
 is_refused (DoneAs x) = false
+is_refused (DoneWith o) = false
 is_refused (Refused refusal) = true
+is_refused (RefusedOn refusal x) = true
 
 -- one mark fewer, if there is one
 abbrev pub lower : ℕ → Option ℕ
@@ -41,6 +44,7 @@ lower (suc n) = Some n
 -- how many marks are open after a call was accepted, where n were before it, and it closed none but these
 abbrev pub level_after : Call → ℕ → Option ℕ
 level_after (Do e) n = Some n
+level_after (Change f) n = Some n
 level_after Mark n = Some (suc n)
 level_after Step n = Some (suc n)
 level_after Commit n = lower n
@@ -54,7 +58,9 @@ level_after Print n = Some n
 abbrev pub level_answered : Call → Reply → ℕ → Option ℕ
 level_answered call Done n = level_after call n
 level_answered call (DoneAs x) n = level_after call n
+level_answered call (DoneWith o) n = level_after call n
 level_answered call (Refused refusal) n = Some n
+level_answered call (RefusedOn refusal x) n = Some n
 
 -- and after a list of them: none, where a mark from before it was closed
 abbrev pub level : List Answered → ℕ → Option ℕ
@@ -68,6 +74,7 @@ IsNested answered = level answered 0 ≡ Some 0
 -- a call that makes a mark
 abbrev pub IsMarking : Call → Type 0
 IsMarking (Do e) = ⊥
+IsMarking (Change f) = ⊥
 IsMarking Mark = Unit {0}
 IsMarking Step = Unit {0}
 IsMarking Commit = ⊥

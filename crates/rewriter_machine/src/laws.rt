@@ -1,7 +1,6 @@
 //! Laws of the machine. Each is a function that does nothing: its contract is the law.
 ghost use Rattle.std.specs.Prelude.{◌≡◌, List, ◌∷◌, None, true, false};
 ghost use Rattle.ir_types.specs.Things.{Things};
-ghost use Rattle.ir_types.specs.declared.refusal.Refusal.{Refusal as Reason};
 ghost use Rattle.ir_tree.specs.declared.value.Value.{Value as TreeValue};
 ghost use Rattle.ir_tree.specs.Meaning.{IsSoundIn, isolated_in};
 ghost use Rattle.ir_tree.specs.WellFormed.{IsWellFormed, Module as Numbered};
@@ -10,7 +9,7 @@ ghost use Rattle.ir_event.specs.Modules.{module_meaning};
 ghost use Rattle.ir_event.specs.Step.{Step as StepOf};
 ghost use Rattle.rewriter_machine.specs.Edits.{Replace, edited_by, reason_by};
 ghost use Rattle.rewriter_machine.specs.Contents.{NumberedEdit, EditIsOf, IsElementary, edit_meaning, edit_reason, edited, tests_in};
-ghost use Rattle.rewriter_machine.specs.Machine.{State, Call, Done, Goes, OpenMark, Refused, Reply, Rollback, Shows};
+ghost use Rattle.rewriter_machine.specs.Machine.{State, Call, Done, Goes, OpenMark, Reply, Rollback, Shows};
 ghost use Rattle.rewriter_machine.specs.Panels.{AllAge};
 ghost use Rattle.rewriter_machine.specs.Runs.{Answered, Gives, IsMarking, IsNested, Runs, is_refused};
 
@@ -35,7 +34,7 @@ pub fn replacing_keeps_form()
 /// A refused call leaves the module and the marks, and adds, drops, moves and mends no analysis.
 pub fn refusals_leave_all()
     ensures held { (s t : State) (call : Call) (reply : Reply) (shows : Shows) → Goes s call reply shows t → is_refused reply ≡ true → (t.held ≡ s.held) × (t.marks ≡ s.marks) }
-    ensures panel { (s t : State) (call : Call) (refusal : Reason) (shows : Shows) → Goes s call (Refused refusal) shows t → AllAge s.panel t.panel }
+    ensures panel { (s t : State) (call : Call) (reply : Reply) (shows : Shows) → Goes s call reply shows t → is_refused reply ≡ true → AllAge s.panel t.panel }
 {}
 
 /// What an accepted call makes of the module and the marks.

@@ -3,7 +3,7 @@ use Rattle.mlir_work_session.proofs.Reading.{grown_trans, unread_memory, attr_ke
 use Rattle.mlir_work_session.proofs.attributes.entry_of.Goals as goal
 
 pub returns-in_default-clause-unread : goal.returns-in_default-clause-unread
-returns-in_default-clause-unread g c = unread_memory (SpellsAttr c.args.text.now)
+returns-in_default-clause-unread g c = unread_memory c.args.bytes (SpellsAttr c.args.text.now)
 
 pub returns-in_default-clause-grown : goal.returns-in_default-clause-grown
 returns-in_default-clause-grown g c = grown_trans g.L.Analysis.meaning _ _ _ c.attribute_of.ensures.grown c.name_of.ensures.grown

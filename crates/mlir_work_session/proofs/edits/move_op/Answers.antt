@@ -8,11 +8,11 @@ use Rattle.mlir_work_session.proofs.Placed.{spot_beside}
 use Rattle.mlir_work_session.proofs.edits.move_op.Goals as goal
 
 pub returns-in-Err-clause-obeys : goal.returns-in-Err-clause-obeys
-returns-in-Err-clause-obeys g c = obeys_misplaced c.args.op (spot_of c.args.spot.now) _ c.in-Err.refusal (spot_beside c.args.bench.now.desk _ (Some c.args.op) (spot_of c.args.spot.now) _ c.world.ensures.store (sym c.in-Err.ensures))
+returns-in-Err-clause-obeys g c manner = obeys_misplaced manner c.args.op (spot_of c.args.spot.now) _ c.in-Err.refusal (spot_beside c.args.bench.now.desk _ (Some c.args.op) (spot_of c.args.spot.now) _ c.world.ensures.store (sym c.in-Err.ensures))
 
 pub returns-clause-obeys : goal.returns-clause-obeys
-returns-clause-obeys g c =
-    obeys_plain _ _ (command.Move c.args.op (spot_of c.args.spot.now)) (Do (edit.Move c.args.op c.in-Ok.place)) _ _ c.reply_to.ensures
+returns-clause-obeys g c manner =
+    obeys_plain manner _ _ (command.Move c.args.op (spot_of c.args.spot.now)) (Do (edit.Move c.args.op c.in-Ok.place)) _ _ c.reply_to.ensures
     (c.in-Ok.place, spot_beside c.args.bench.now.desk _ (Some c.args.op) (spot_of c.args.spot.now) _ c.world.ensures.store (sym c.in-Ok.ensures), refl) c.move_op.ensures.does
 
 pub returns-clause-kept : goal.returns-clause-kept

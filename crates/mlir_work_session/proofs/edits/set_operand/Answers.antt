@@ -6,7 +6,7 @@ use Rattle.mlir_work_session.proofs.Obeying.{obeys_plain}
 use Rattle.mlir_work_session.proofs.edits.set_operand.Goals as goal
 
 pub returns-clause-obeys : goal.returns-clause-obeys
-returns-clause-obeys g c = obeys_plain _ _ (command.SetOperand c.args.op c.args.operand c.args.value) (Do (edit.SetOperand c.args.op c.args.operand c.args.value)) _ _ c.reply_to.ensures refl c.set_operand.ensures.does
+returns-clause-obeys g c manner = obeys_plain manner _ _ (command.SetOperand c.args.op c.args.operand c.args.value) (Do (edit.SetOperand c.args.op c.args.operand c.args.value)) _ _ c.reply_to.ensures refl c.set_operand.ensures.does
 
 pub returns-clause-kept : goal.returns-clause-kept
 returns-clause-kept g c = c.led_benches_are_kept.ensures.kept _ _ c.set_operand.ensures.led c.requires

@@ -5,7 +5,7 @@ use Rattle.mlir_work_session.proofs.Obeying.{obeys_plain}
 use Rattle.mlir_work_session.proofs.marks.detach.Goals as goal
 
 pub returns-clause-obeys : goal.returns-clause-obeys
-returns-clause-obeys g c = obeys_plain _ _ (command.Detach c.args.kind) (call.Detach c.args.kind) _ _ c.reply_to.ensures refl c.detach.ensures.does
+returns-clause-obeys g c manner = obeys_plain manner _ _ (command.Detach c.args.kind) (call.Detach c.args.kind) _ _ c.reply_to.ensures refl c.detach.ensures.does
 
 pub returns-clause-kept : goal.returns-clause-kept
 returns-clause-kept g c = c.detach.ensures.kept c.requires

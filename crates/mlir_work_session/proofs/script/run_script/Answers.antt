@@ -12,7 +12,7 @@ use Rattle.mlir_work_session.proofs.script.run_script.Goals as goal
 pub returns-in-Err : goal.returns-in-Err
 returns-in-Err g c =
     let meaning = g.L.Analysis.meaning in
-    let manner : Manner = record { brief = c.args.brief; bytes = c.args.bytes } in
+    let manner : Manner = c.args.manner.now in
     let front = c.loop-text.invariant.front in
     let told = c.in-Err.ensures.0 in
     let rest = some_runs manner (lines_of c.split_line.result.1.now) (c.loop-text.n + 1) (state_of meaning c.answer-answered.new.bench) in
@@ -23,7 +23,7 @@ returns-in-Err g c =
 pub loop-text-preserved : goal.loop-text-preserved
 loop-text-preserved g c =
     let meaning = g.L.Analysis.meaning in
-    let manner : Manner = record { brief = c.args.brief; bytes = c.args.bytes } in
+    let manner : Manner = c.args.manner.now in
     let front = c.loop-text.invariant.front in
     let told = c.in-Ok.ensures.0 in
     let step = run_step manner c.loop-text.n (state_of meaning c.loop-text.bench) c.loop-text.text.now c.split_line.result.0.now c.split_line.result.1.now (spoken_of c.read_line-line.result) (response_of c.answer-answered.result.reply) c.answer-answered.result.shows.items (state_of meaning c.answer-answered.new.bench) told
@@ -39,9 +39,9 @@ loop-text-preserved g c =
 pub returns-then-accepted : goal.returns-then-accepted
 returns-then-accepted g c =
     let front = c.loop-text.invariant.front in
-    (front, rw (append-nil, c.if-accepted.true) at (c.loop-text.invariant.whole 0 [] (runs_end (record { brief = c.args.brief; bytes = c.args.bytes }) c.loop-text.n (state_of g.L.Analysis.meaning c.loop-text.bench) c.loop-text.text.now (emptied c.loop-text.text.now _ c.is_empty.ensures c.loop-text-test.false))), c.loop-text.invariant.wrote)
+    (front, rw (append-nil, c.if-accepted.true) at (c.loop-text.invariant.whole 0 [] (runs_end c.args.manner.now c.loop-text.n (state_of g.L.Analysis.meaning c.loop-text.bench) c.loop-text.text.now (emptied c.loop-text.text.now _ c.is_empty.ensures c.loop-text-test.false))), c.loop-text.invariant.wrote)
 
 pub returns-else-accepted : goal.returns-else-accepted
 returns-else-accepted g c =
     let front = c.loop-text.invariant.front in
-    (front, rw (append-nil, c.if-accepted.false) at (c.loop-text.invariant.whole 0 [] (runs_end (record { brief = c.args.brief; bytes = c.args.bytes }) c.loop-text.n (state_of g.L.Analysis.meaning c.loop-text.bench) c.loop-text.text.now (emptied c.loop-text.text.now _ c.is_empty.ensures c.loop-text-test.false))), c.loop-text.invariant.wrote)
+    (front, rw (append-nil, c.if-accepted.false) at (c.loop-text.invariant.whole 0 [] (runs_end c.args.manner.now c.loop-text.n (state_of g.L.Analysis.meaning c.loop-text.bench) c.loop-text.text.now (emptied c.loop-text.text.now _ c.is_empty.ensures c.loop-text-test.false))), c.loop-text.invariant.wrote)

@@ -5,4 +5,4 @@ pub returns-clause-held : goal.returns-clause-held
 returns-clause-held _ s t call reply shows g h = refused_leaves s t call reply shows g h
 
 pub returns-clause-panel : goal.returns-clause-panel
-returns-clause-panel _ s t call refusal shows g = refused_ages s t call refusal shows g
+returns-clause-panel _ s t call reply shows g h = refused_ages s t call reply shows g h

@@ -12,6 +12,6 @@ returns-else-not-follow-clause-told c =
       heard = inl refl;
     }
 
-pub returns-else-not-follow-clause-take : goal.returns-else-not-follow-clause-take
-returns-else-not-follow-clause-take c m take step shows held =
+pub returns-else-not-follow-clause-grown : goal.returns-else-not-follow-clause-grown
+returns-else-not-follow-clause-grown c m take step shows held =
     let w = c.args.view.world.now in (held.0, followed_agrees w.ctx c.args.event w.store m _ _ step shows c.if-not-follow.ensures.followed held.1)

@@ -7,10 +7,10 @@ use Rattle.mlir_work_script.specs.Spots.{spot_of}
 use Rattle.mlir_work_session.specs.Machine.{response_of}
 use Rattle.mlir_work_session.proofs.Obeying.{obeys_behind, obeys_unread_op, obeys_unplaced}
 use Rattle.mlir_work_session.proofs.Reading.{spot_behind}
-use Rattle.mlir_work_session.proofs.edits.insert.Goals as goal
+use Rattle.mlir_work_session.proofs.texts.insert.Goals as goal
 
 pub returns-in-Err-clause-obeys : goal.returns-in-Err-clause-obeys
-returns-in-Err-clause-obeys g c = obeys_unread_op (spot_of c.args.spot.now) c.args.text.now _ _ (response_of c.in-Err.reply) c.operation_of.ensures.grown.same c.in-Err.ensures.unread
+returns-in-Err-clause-obeys g c = obeys_unread_op c.args.manner.now (spot_of c.args.spot.now) c.args.text.now _ _ (response_of c.in-Err.reply) c.operation_of.ensures.grown.same c.in-Err.ensures.unread
 
 pub returns-in-Err-clause-kept : goal.returns-in-Err-clause-kept
 returns-in-Err-clause-kept g c = c.operation_of.ensures.grown.kept c.requires
@@ -18,7 +18,7 @@ returns-in-Err-clause-kept g c = c.operation_of.ensures.grown.kept c.requires
 pub returns-in-Err-place_for-clause-obeys : goal.returns-in-Err-place_for-clause-obeys
 returns-in-Err-place_for-clause-obeys g c =
     let o = meaning c.operation_of.new.bench.desk.ctx c.in-Ok.tree in
-    obeys_unplaced (spot_of c.args.spot.now) c.args.text.now _ _ o c.in-Err-place_for.refusal c.operation_of.ensures.grown.same c.in-Ok.ensures.read
+    obeys_unplaced c.args.manner.now (spot_of c.args.spot.now) c.args.text.now _ _ o c.in-Err-place_for.refusal c.operation_of.ensures.grown.same c.in-Ok.ensures.read
     (spot_behind g.L.Analysis.meaning c.args.bench.now c.operation_of.new.bench _ None (spot_of c.args.spot.now) _ c.operation_of.ensures.grown c.world.ensures.store (sym c.in-Err-place_for.ensures))
 
 pub returns-in-Err-place_for-clause-kept : goal.returns-in-Err-place_for-clause-kept
@@ -27,7 +27,7 @@ returns-in-Err-place_for-clause-kept g c = c.operation_of.ensures.grown.kept c.r
 pub returns-clause-obeys : goal.returns-clause-obeys
 returns-clause-obeys g c =
     let o = meaning c.operation_of.new.bench.desk.ctx c.in-Ok.tree in
-    obeys_behind _ _ _ (command.Insert (spot_of c.args.spot.now) c.args.text.now) (Do (edit.Insert c.in-Ok-place_for.place o)) _ _ c.operation_of.ensures.grown.same c.reply_as.ensures
+    obeys_behind c.args.manner.now _ _ _ (command.Insert (spot_of c.args.spot.now) c.args.text.now) (Do (edit.Insert c.in-Ok-place_for.place o)) _ _ c.operation_of.ensures.grown.same c.reply_as.ensures
     (o, c.in-Ok.ensures.read, (c.in-Ok-place_for.place, spot_behind g.L.Analysis.meaning c.args.bench.now c.operation_of.new.bench _ None (spot_of c.args.spot.now) _ c.operation_of.ensures.grown c.world.ensures.store (sym c.in-Ok-place_for.ensures), refl)) c.insert.ensures.does
 
 pub returns-clause-kept : goal.returns-clause-kept

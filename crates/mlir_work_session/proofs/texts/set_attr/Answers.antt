@@ -6,10 +6,10 @@ use Rattle.rewriter.specs.Machine.{Do}
 use Rattle.mlir_work_script.specs.Keys.{key_bytes}
 use Rattle.mlir_work_session.specs.Machine.{response_of}
 use Rattle.mlir_work_session.proofs.Obeying.{obeys_behind, obeys_unread}
-use Rattle.mlir_work_session.proofs.edits.set_attr.Goals as goal
+use Rattle.mlir_work_session.proofs.texts.set_attr.Goals as goal
 
 pub returns-in-Err-clause-obeys : goal.returns-in-Err-clause-obeys
-returns-in-Err-clause-obeys g c = obeys_unread c.args.op (key_bytes c.args.key.now) c.args.text.now _ _ (response_of c.in-Err.reply) c.entry_of.ensures.grown.same c.in-Err.ensures.unread
+returns-in-Err-clause-obeys g c = obeys_unread c.args.manner.now c.args.op (key_bytes c.args.key.now) c.args.text.now _ _ (response_of c.in-Err.reply) c.entry_of.ensures.grown.same c.in-Err.ensures.unread
 
 pub returns-in-Err-clause-kept : goal.returns-in-Err-clause-kept
 returns-in-Err-clause-kept g c = c.entry_of.ensures.grown.kept c.requires
@@ -17,7 +17,7 @@ returns-in-Err-clause-kept g c = c.entry_of.ensures.grown.kept c.requires
 pub returns-clause-obeys : goal.returns-clause-obeys
 returns-clause-obeys g c =
     let d = c.entry_of.new.bench.desk.ctx in
-    obeys_behind _ _ _ (command.SetAttr c.args.op (key_bytes c.args.key.now) c.args.text.now) (Do (edit.SetAttr c.args.op (name_term d c.in-Ok.entry.0) (attr_term d c.in-Ok.entry.1))) _ _ c.entry_of.ensures.grown.same c.reply_to.ensures
+    obeys_behind c.args.manner.now _ _ _ (command.SetAttr c.args.op (key_bytes c.args.key.now) c.args.text.now) (Do (edit.SetAttr c.args.op (name_term d c.in-Ok.entry.0) (attr_term d c.in-Ok.entry.1))) _ _ c.entry_of.ensures.grown.same c.reply_to.ensures
     (attr_term d c.in-Ok.entry.1, c.in-Ok.ensures.attr.1, ap (λ k. Do (edit.SetAttr c.args.op k (attr_term d c.in-Ok.entry.1))) c.in-Ok.ensures.key.1) c.set_attr.ensures.does
 
 pub returns-clause-kept : goal.returns-clause-kept

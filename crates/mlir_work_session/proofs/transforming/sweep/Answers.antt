@@ -1,0 +1,12 @@
+use Rattle.std.proofs.Common.{refl}
+use Rattle.rewriter.specs.Commands as command
+use Rattle.rewriter.specs.Machine as call
+use Rattle.mlir_work_sweep.specs.Sweep.{sweeping}
+use Rattle.mlir_work_session.proofs.Obeying.{obeys_plain}
+use Rattle.mlir_work_session.proofs.transforming.sweep.Goals as goal
+
+pub returns-clause-obeys : goal.returns-clause-obeys
+returns-clause-obeys g c manner = obeys_plain manner _ _ command.Sweep (call.Change sweeping) _ _ c.reply_swept.ensures refl c.sweep.ensures.does
+
+pub returns-clause-kept : goal.returns-clause-kept
+returns-clause-kept g c = c.led_benches_are_kept.ensures.kept _ _ c.sweep.ensures.led c.requires

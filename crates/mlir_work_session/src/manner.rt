@@ -1,0 +1,12 @@
+//! How a script is run.
+
+/// How a script is run.
+#[derive(Clone, Copy)]
+pub struct Manner {
+    /// The module and the rows don't follow each command.
+    pub brief: bool,
+    /// How many bytes the whole input has, of which the script is a part.
+    pub bytes: usize,
+    /// The most rewrites of a `canon` that doesn't say.
+    pub limit: u32,
+}
