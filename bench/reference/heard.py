@@ -4,6 +4,7 @@ A listener is told by a word: a kind, as `uses`; `uses:2`, which turns stale whe
 `additions`, which counts them; `stale:3`, which turns stale at the third event that it hears; `hears:EVENTS`, which is to hear these, `+`
 between them, turns stale at any other, and can't begin again. An event is written in words that `_` joins."""
 from . import edits
+from .analyses import unreached_ops
 from .module import Module, read_op, value_text, walk
 from .script import ALL, LIMIT, Run, cut, cut_key, cut_place, obey, number, op_of, read, split, value_of
 
@@ -132,6 +133,30 @@ class Heard(Run):
         before = self.module
         super().erase(text)
         self.tell(reversed(bare_events("take", before, op_of(text), "old")))
+
+    def sweep(self, text):
+        before = self.module.copy()
+        try:
+            swept = super().sweep(text)
+        except edits.Refused:
+            self.tell(self.taken_one_by_one(before), False)
+            self.tell_back(self.taken_one_by_one(before))
+            raise
+        self.tell(self.taken_one_by_one(before))
+        return swept
+
+    def taken_one_by_one(self, module):
+        """The takes of a sweep: of the last in pre-order first, up to one whose results are used elsewhere."""
+        told, tried = [], module.copy()
+        unreached = unreached_ops(tried)
+        for number in reversed([op.id for op in walk(tried.root) if op.id in unreached]):
+            takes = list(reversed(bare_events("take", tried, number, "old")))
+            try:
+                edits.erase(tried, number)
+            except edits.Refused:
+                break
+            told += takes
+        return told
 
     def replace(self, text):
         old, new = map(value_of, text.split())
