@@ -81,6 +81,25 @@ settled_begun g h none s =
     let alone : HoldsModuleAlone h.store = s.alone (s.marks ∙ none) in
     record { tidy = λ x le. ap (λ m. finmap.get m x) alone.held ∙ finmap.get-empty nat_cmp x; alone = s.alone }
 
+-- the same as what is given up behind a mark
+pub settled_given : (g h : Held) → IsTidy g.store → Settled g h → GivenUp g h
+settled_given g h t s =
+    record {
+      ctx = s.ctx;
+      journal = s.journal;
+      marks = s.marks;
+      module_of = s.module_of;
+      opens = s.opens;
+      tidy = s.tidy t;
+      none = λ e x. ap (λ m. finmap.get m x) (s.alone e).held ∙ finmap.get-empty nat_cmp x;
+      alone = s.alone;
+      behind = s.behind;
+    }
+
+-- what is settled behind a mark that was closed
+pub closed_given : (g h k : Held) → IsSettled g → Closed g h → Settled h k → GivenUp h k
+closed_given g h k i shut s = settled_given h k (subst (λ (l : Held). IsTidy l.store) (sym shut.held) i.tidy) s
+
 pub settled_loaded : (t : Op) (free : ℕ) (g h : Held) → g.marks ≡ [] → Loaded t free g.store → Settled g h → Loaded t free h.store
 settled_loaded t free g h none loaded s = subst (λ (m : Module). Loaded m.tree m.next h.store) (s.module_of ∙ loaded.module_of) (s.alone (s.marks ∙ none))
 

@@ -92,7 +92,7 @@ impl<L: Analysis> Bench<L> {
         }
         self.desk.is_good();
         self.desk.close();
-        give_up(&mut self.desk);
+        settle(&mut self.desk);
         Ok(())
     }
 
