@@ -1,5 +1,5 @@
 -- What applying a rule makes of a module.
-use Rattle.std.specs.Prelude.{◌≡◌, ◌⊎◌, ℕ, ◌+◌, nat_le, Bool, true, false, Option, None}
+use Rattle.std.specs.Prelude.{◌≡◌, ◌⊎◌, ℕ, ◌+◌, ◌≤◌, nat_le, Bool, true, false, Option, None}
 use Rattle.ir_types.specs.Things.{Things, Grows}
 use Rattle.ir_types.specs.declared.refusal.Refusal.{Refusal}
 use Rattle.ir_types.specs.declared.refusal.Refusal.TheVariants.{Full, IdsExhausted, Memory, NoSuchOp}
@@ -10,13 +10,12 @@ use Rattle.ir_event.specs.Listener.{Listener}
 use Rattle.ir_event.specs.Modules.{Module}
 use Rattle.patterns_base.specs.Rewrites.{Rewrite, none, refused, becomes}
 use Rattle.patterns_makes.specs.Interned.{IsFull}
-use Rattle.patterns_plans.specs.Planned.{IsPlannedRule}
 use Rattle.patterns_runs.specs.Benched.{Benched, Led}
 use Rattle.patterns_runs.specs.Held.{open_marks}
 
--- the rules that are written so far
+-- the rules that are applied by their numbers: all but those that conversion alone tries
 abbrev pub IsWritten : ℕ → Type 0
-IsWritten r = IsPlannedRule r
+IsWritten r = (1 ≤ r) × (r ≤ 27)
 
 -- why a module can't have k operations more, if it can't: there would be too many, or ids wouldn't be enough
 abbrev pub limit_reason : ℕ → Module → Option Refusal

@@ -5,7 +5,7 @@ use Rattle.patterns.specs.Lowest.{IsLowest}
 use Rattle.patterns.specs.Planned.{planned_edits}
 use Rattle.patterns.proofs.Applying.{gave, not_there, stopped}
 use Rattle.patterns.proofs.Carrying.{applied_none}
-use Rattle.patterns.proofs.Lowering.{none_held, row_held, fits_held, rule_held, lowest_due}
+use Rattle.patterns.proofs.Lowering.{none_held, fits_held, rule_held, lowest_due}
 use Rattle.patterns.proofs.lowest.lowest.Goals as goal
 
 pub returns-then-not-in_tree-clause-refused : goal.returns-then-not-in_tree-clause-refused
@@ -13,9 +13,6 @@ returns-then-not-in_tree-clause-refused g c = not_there c.world-world.result.now
 
 pub returns-then-not-in_tree-clause-stays : goal.returns-then-not-in_tree-clause-stays
 returns-then-not-in_tree-clause-stays g c = applied_none g.L.Analysis.meaning c.args.bench.now
-
-pub find_lowest-requires : goal.find_lowest-requires
-find_lowest-requires g c = record { written = row_held c.world-world.result.now c.args.bench.now.desk c.world-world.ensures.ctx c.world-world.ensures.store c.args.op c.requires.written }
 
 pub returns-in_default-clause-refused : goal.returns-in_default-clause-refused
 returns-in_default-clause-refused g c = inl refl
