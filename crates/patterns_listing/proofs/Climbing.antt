@@ -1,16 +1,20 @@
 -- The climb from an operation up.
-use Rattle.std.proofs.Common.{◌≡◌, refl, ap, sym, ◌∙◌, subst, ℕ, zero, suc, Bool, true, false, true≢false, List, Option, Some, None, inl, inr, ◌⊎◌}
+use Rattle.std.proofs.Common.{◌≡◌, refl, ap, sym, ◌∙◌, subst, ℕ, zero, suc, Bool, true, false, true≢false, ◌<◌, List, [], ◌∷◌, length, Option, Some, None, inl, inr, ◌⊎◌, arith}
 use Rattle.std.specs.Prelude.{option_map}
 use Rattle.ir_types.specs.Things.{Things}
 use Rattle.ir_types.specs.Terms.{TypeTerm, AttrTerm, name_term, type_term, attr_term}
 use Rattle.ir_tree.specs.declared.place.Place.{Place}
 use Rattle.ir_tree.specs.Tree.{OpOf, Op, op, head}
-use Rattle.ir_tree.specs.Ids.{find}
+use Rattle.ir_tree.specs.Ids.{HasDistinctIds, find}
 use Rattle.ir_tree.specs.Meaning.{Operation, meaning}
-use Rattle.ir_tree.specs.Places.{place_of}
+use Rattle.ir_tree.specs.Places.{place_of, first_id}
 use Rattle.ir_tree.proofs.Mapped.{map_find, map_place}
 use Rattle.ir_store.specs.Nodes.{Node, node_of}
 use Rattle.ir_tree_laws.specs.Reads.{parent_of}
+use Rattle.ir_tree_laws.specs.Stands.{StepOf, StandOf, stand_id, stands, stand_of, place_in}
+use Rattle.ir_tree_laws.specs.Members.{In}
+use Rattle.ir_tree_laws.proofs.Members.{stand, stand_of_member}
+use Rattle.ir_tree_laws.proofs.Around.{around_there, member_of_place}
 use Rattle.ir_event.specs.declared.world.World.{World}
 use Rattle.op_registry.specs.declared.own.Own.{Own}
 use Rattle.op_registry.specs.Registry.{own_of}
@@ -70,12 +74,12 @@ module _ (c : Things) (t : Op) where
   same_climbs zero y x h = (sym (same_recursive x) ∙ h.0, h.1)
   same_climbs (suc k) y x h = (sym (same_recursive x) ∙ h.0, (h.1.0, sym (same_parent x) ∙ h.1.1, same_climbs k y h.1.0 h.1.2))
 
+some_same : (a b : ℕ) → Some a ≡ Some b → a ≡ b
+some_same a b e = cc
+
 module _ (w : World) where
   pub climb_none : (y : ℕ) (xs : List ℕ) → Adding (IsClimbed w y) (IsClimbed w y) xs xs
   climb_none y xs = adding_none (IsClimbed w y) (IsClimbed w y) xs (λ x h. h)
-
-  some_same : (a b : ℕ) → Some a ≡ Some b → a ≡ b
-  some_same a b e = cc
 
   -- a step up
   pub climb_more : (P : ℕ → Type 0) (y : ℕ) (place : Place) (xs ys zs : List ℕ) → place_of y w.store.module_of.tree ≡ Some place → Adding P (IsClimbed w y) xs ys → Adds (λ x. x ≡ y) ys zs → Adding P (IsClimbed w place.parent) xs zs
@@ -102,3 +106,21 @@ module _ (w : World) where
       not : (x k : ℕ) → Climbs (own_by w.ctx) k x y w.store.module_of.tree → ⊥
       not x zero c = true≢false (sym c.0 ∙ e)
       not x (suc k) c = true≢false (sym c.0 ∙ e)
+
+-- ---- the way up ends
+abbrev pub height_of : {N T A : Type 0} → Option (StandOf N T A) → ℕ
+height_of None = 0
+height_of (Some s) = length s.path
+
+pub higher : {N T A : Type 0} (t : OpOf N T A) → HasDistinctIds t → (x : ℕ) (place : Place) → place_of x t ≡ Some place → height_of (stand_of place.parent t) < height_of (stand_of x t)
+higher {N} {T} {A} t d x place e = let w = member_of_place x place t e in go w.0 w.0.path refl w.1 w.2 w.3
+  where
+    go : (s : StandOf N T A) (p : List (StepOf N T A)) → s.path ≡ p → In s (stands [] t) → stand_id s ≡ x → place_in s.path ≡ Some place → height_of (stand_of place.parent t) < height_of (stand_of x t)
+    go s [] q k i u = let no : None ≡ Some place = ap place_in (sym q) ∙ u in absurd cc
+    go s (a ∷ p) q k i u =
+        let two : Some (record { parent = (head a.parent).id; region = a.region; before = first_id a.rest }) ≡ Some place = ap place_in (sym q) ∙ u in
+        let parent : (head a.parent).id ≡ place.parent = some_same _ _ (ap (option_map (λ (z : Place). z.parent)) two) in
+        let around = (around_there t s.here a p (subst (λ l. In (stand s.here l) (stands [] t)) q k)).1 in
+        let outer : height_of (stand_of place.parent t) ≡ length p = ap (λ z. height_of (stand_of z t)) (sym parent) ∙ ap height_of (stand_of_member t d (stand a.parent p) around) in
+        let here : height_of (stand_of x t) ≡ length (a ∷ p) = ap (λ z. height_of (stand_of z t)) (sym i) ∙ ap height_of (stand_of_member t d s k) ∙ ap length q in
+        omega (arith, outer, here)

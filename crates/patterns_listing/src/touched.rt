@@ -1,8 +1,7 @@
 //! The operations at which rules may apply otherwise.
-ghost use Rattle.std.specs.Prelude.{◌≡◌, IfOk, IfErr, drop, false};
+ghost use Rattle.std.specs.Prelude.{◌≡◌, IfOk, IfErr, false};
 ghost use Rattle.ir_types.specs.declared.refusal.Refusal.TheVariants.{Memory as NoMemory};
 ghost use Rattle.ir_event.specs.Modules.{Module, module_in};
-ghost use Rattle.rewriter.specs.Held.{module_at, module_held};
 ghost use Rattle.patterns_touched.specs.Listing.{Lists, Touched};
 ghost use Rattle.patterns_touched.specs.Near.{Leads};
 ghost use Rattle.patterns_listing.specs.Parts.{puts_last, any_puts_last};
@@ -12,12 +11,10 @@ use crate::beside::push_all_beside;
 use crate::block::push_all_around;
 use crate::reach::push_all_reached;
 use crate::users::push_all_with_users;
-use ir_event::analysis::Analysis;
 use ir_event::event::Event;
 use ir_event::world::World;
 use ir_types::ids::OpId;
 use ir_types::refusal::Refusal;
-use rewriter::bench::Bench;
 use std::alloc::{AllocError, Global};
 
 /// Whether an event puts something at the end of a block.
@@ -88,41 +85,4 @@ pub fn touched_by(alloc: Global, world: &World, events: &[Event]) -> Result<Vec<
         Ok(ops) => Ok(ops),
         Err(_) => Err(Refusal::Memory),
     }
-}
-
-/// The events of a bench's journal from one on.
-fn events_from<L: Analysis>(
-    alloc: Global,
-    bench: &Bench<L>,
-    from: usize,
-) -> Result<Vec<Event>, AllocError>
-    ensures { IfOk result (λ v. v.items ≡ drop from bench.now.desk.journal) }
-{
-    let mut events = Vec::new(alloc);
-    let mut place = from;
-    'events: while let Some(event) = bench.journal_at(place) {
-        events.push(event)?;
-        place += 1;
-    }
-    Ok(events)
-}
-
-/// The operations of a bench's module at which the rules 1 to 24 may apply otherwise than before the events of its
-/// journal from one on, and some beside.
-///
-/// Refusals: `Memory`.
-pub fn touched<L: Analysis>(
-    alloc: Global,
-    bench: &Bench<L>,
-    from: usize,
-) -> Result<Vec<OpId>, Refusal>
-    ensures ok { IfOk result (λ v. Touched (module_at from bench.now.desk) (module_held bench.now.desk) v.items) }
-    ensures refused { IfErr result (λ e. e ≡ NoMemory) }
-{
-    bench.is_formed();
-    let events = match events_from(alloc, bench, from) {
-        Ok(events) => events,
-        Err(_) => return Err(Refusal::Memory),
-    };
-    touched_by(alloc, bench.world(), &events)
 }
