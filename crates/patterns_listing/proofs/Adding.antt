@@ -1,6 +1,6 @@
 -- Lists that grow.
 use Rattle.std.proofs.Common.{◌≡◌, refl, ap, sym, ◌∙◌, subst, ℕ, ◌-◌, ◌<◌, ◌≤◌, eqb, eq-eqb, eqb-true, true, List, [], ◌∷◌, ◌++◌, length, take, drop, inl, inr, ◌⊎◌, Result, Ok, Err, take_all, slice_index_or, arith}
-use Rattle.std.specs.Prelude.{OnOk}
+use Rattle.std.specs.Prelude.{OnOk, IfOk}
 use Rattle.ir_tree_laws.specs.Members.{In}
 use Rattle.ir_tree_laws.proofs.Listed.{any_one, one_any, in_left, in_right}
 use Rattle.patterns_touched.specs.Sights.{is_listed}
@@ -9,6 +9,10 @@ use Rattle.patterns_listing.specs.Adding.{Adds, Adding, OneOf}
 pub on_ok : {A E : Type 0} (P Q : Type 0) (r : Result A E) → (P → Q) → OnOk r P → OnOk r Q
 on_ok P Q (Ok a) f h = f h
 on_ok P Q (Err e) f h = tt
+
+pub if_ok : {A E : Type 0} (P Q : A → Type 0) (r : Result A E) → ((a : A) → P a → Q a) → IfOk r P → IfOk r Q
+if_ok P Q (Ok a) f h = f a h
+if_ok P Q (Err e) f h = tt
 
 -- ---- lists
 pub in_listed : (x : ℕ) (ys : List ℕ) → In x ys → is_listed x ys ≡ true

@@ -21,17 +21,25 @@ use Rattle.patterns_listing.proofs.Ending.{ending_place, ending_last, last_below
 some_same : (a b : ℕ) → Some a ≡ Some b → a ≡ b
 some_same a b e = cc
 
+one_place : (a b : Place) → Some a ≡ Some b → a ≡ b
+one_place a b e = cc
+
+some_not : (place : Place) → None ≡ Some place → ⊥
+some_not place e = cc
+
 -- ---- what is around one that ends its block
 module _ (t : Op) (d : HasDistinctIds t) where
   pub around_none : (y : ℕ) → None ≡ place_of y t → (x : ℕ) → IsAround t y x → ⊥
-  around_none y e x k = let w = ending_place t d x y k in let no : None ≡ Some (record { parent = x; region = w.0; before = None }) = e ∙ w.1 in absurd cc
+  around_none y e x k = let w = ending_place t d x y k in some_not (record { parent = x; region = w.0; before = None }) (e ∙ w.1)
 
   pub around_is : (y : ℕ) (place : Place) → Some place ≡ place_of y t → (x : ℕ) → IsAround t y x → (x ≡ place.parent) × (place.before ≡ None)
   around_is y place e x k =
       let w = ending_place t d x y k in
-      let some : Some (record { parent = x; region = w.0; before = None }) ≡ Some place = sym (e ∙ w.1) in
-      let same : record { parent = x; region = w.0; before = None } ≡ place = cc in
+      let same = one_place (record { parent = x; region = w.0; before = None }) place (sym (e ∙ w.1)) in
       (ap (λ (p : Place). p.parent) same, ap (λ (p : Place). p.before) (sym same))
+
+  pub around_not : (y : ℕ) (place : Place) (b : ℕ) → Some place ≡ place_of y t → place.before ≡ Some b → (x : ℕ) → IsAround t y x → ⊥
+  around_not y place b e f x k = let no : Some b ≡ None = sym f ∙ (around_is y place e x k).1 in absurd cc
 
 -- ---- the last operations of blocks
 regions_shown : (o : Op) → length (node_of o).arguments ≡ region_count (regions o)

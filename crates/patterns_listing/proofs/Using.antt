@@ -141,8 +141,8 @@ pub are_users : (v : Value) (t : Op) (us : List (ℕ × ℕ)) → AreUses v t us
 are_users v t us a x u = (u.0, a.same x u.0 ∙ u.1)
 
 -- a walk over uses
-pub uses_none : (us : List (ℕ × ℕ)) (xs : List ℕ) → Adding (IsIn us) (IsIn us) xs xs
-uses_none us xs = adding_none (IsIn us) (IsIn us) xs (λ x h. h)
+pub uses_begin : (whole us : List (ℕ × ℕ)) (xs : List ℕ) → us ≡ whole → Adding (IsIn whole) (IsIn us) xs xs
+uses_begin whole us xs e = adding_none (IsIn whole) (IsIn us) xs (λ x h. subst (λ l. IsIn l x) (sym e) h)
 
 pub uses_more : (P : ℕ → Type 0) (u : ℕ × ℕ) (left rest : List (ℕ × ℕ)) (xs ys zs : List ℕ) → left ≡ u ∷ rest → Adding P (IsIn left) xs ys → Adds (λ x. x ≡ u.0) ys zs → Adding P (IsIn rest) xs zs
 uses_more P u left rest xs ys zs e a b =
