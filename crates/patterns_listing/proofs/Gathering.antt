@@ -77,6 +77,9 @@ module _ (c : Things) (t : Op) where
       ]
 
 -- ---- all parts
+pub moved : {X : Type 0} (R : X → ℕ → Type 0) (l k : List X) (xs ys zs : List ℕ) → l ≡ k → xs ≡ ys → Adds (OneOf R l) xs zs → Adds (OneOf R k) ys zs
+moved R l k xs ys zs e f a = subst (λ z. Adds (OneOf R k) z zs) f (subst (λ z. Adds (OneOf R z) xs zs) e a)
+
 module _ (w : World) (es : List Event) (inner : any_puts_last es ≡ false) (reached seen first second listed : List ℕ)
   (at_reached : Adds (OneOf (IsReached w.store.module_of.tree) es) [] reached)
   (at_seen : Adds (OneOf (IsOrUses w.store.module_of.tree) reached) [] seen)

@@ -5,3 +5,4 @@ mod Using
 mod Climbing
 mod Reaching
 mod Gathering
+mod Journal

@@ -4,6 +4,7 @@
 mod beside;
 mod block;
 mod climb;
+pub mod journal;
 pub mod laws;
 mod push;
 mod reach;

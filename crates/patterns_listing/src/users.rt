@@ -38,7 +38,7 @@ fn push_users(world: &World, ops: &mut Vec<OpId>, op: OpId) -> Result<(), AllocE
     };
     let count = node.results().len() as u32;
     let mut number = 0;
-    'results: while number < count {
+    'numbers: while number < count {
         push_uses(&world.store, ops, Value::Result(op, number))?;
         number += 1;
     }
