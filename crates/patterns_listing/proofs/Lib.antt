@@ -5,4 +5,4 @@ mod Using
 mod Climbing
 mod Reaching
 mod Gathering
-mod Journal
+mod Journaled

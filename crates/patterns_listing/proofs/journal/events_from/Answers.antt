@@ -1,5 +1,5 @@
 use Rattle.std.proofs.Common.{sym, ap, ◌∙◌, ◌++◌, drop, arith}
-use Rattle.patterns_listing.proofs.Journal.{one_read, all_read, read_below}
+use Rattle.patterns_listing.proofs.Journaled.{one_read, all_read, read_below}
 use Rattle.patterns_listing.proofs.journal.events_from.Goals as goal
 
 pub journal-init : goal.journal-init

@@ -6,7 +6,7 @@ use Rattle.patterns_touched.specs.Listing.{Touched}
 use Rattle.patterns_touched.specs.Near.{Leads}
 use Rattle.patterns_listing.specs.Shown.{shown_operands}
 use Rattle.patterns_listing.proofs.Adding.{if_ok}
-use Rattle.patterns_listing.proofs.Journal.{journal_touched}
+use Rattle.patterns_listing.proofs.Journaled.{journal_touched}
 use Rattle.patterns_listing.proofs.journal.touched.Goals as goal
 
 pub returns-clause-ok : goal.returns-clause-ok
