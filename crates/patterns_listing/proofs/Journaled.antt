@@ -1,5 +1,5 @@
 -- The events of a journal from one on, and what the law makes of them.
-use Rattle.std.proofs.Common.{◌≡◌, refl, ap, sym, ◌∙◌, subst, ℕ, zero, suc, ◌+◌, ◌<◌, List, [], ◌∷◌, ◌++◌, append_assoc, append-nil, length, drop, Some, None, arith}
+use Rattle.std.proofs.Common.{◌≡◌, refl, ap, sym, ◌∙◌, subst, ℕ, zero, suc, ◌+◌, ◌≤◌, List, [], ◌∷◌, ◌++◌, append_assoc, append-nil, length, drop, Some, None, arith}
 use Rattle.std.specs.Prelude.{slice_get}
 use Rattle.ir_types.specs.Things.{Things}
 use Rattle.ir_store.specs.Stored.{Stored}
@@ -21,13 +21,18 @@ drop_suc (y ∷ ys) (suc k) x e = drop_suc ys k x e
 
 pub one_read : {X : Type 0} (xs done more whole : List X) (k : ℕ) (x : X) → Some x ≡ slice_get xs k → done ++ drop k xs ≡ whole → more ≡ done ++ x ∷ [] → more ++ drop (k + 1) xs ≡ whole
 one_read xs done more whole k x e f g =
-    let next : drop k xs ≡ x ∷ drop (k + 1) xs = drop_suc xs k x (sym e) ∙ ap (λ n. x ∷ drop n xs) (omega arith) in
+    let step : suc k ≡ k + 1 = omega arith in
+    let next : drop k xs ≡ x ∷ drop (k + 1) xs = drop_suc xs k x (sym e) ∙ ap (λ n. x ∷ drop n xs) step in
     ap (λ l. l ++ drop (k + 1) xs) g ∙ append_assoc done (x ∷ []) (drop (k + 1) xs) ∙ ap (λ l. done ++ l) (sym next) ∙ f
 
-pub read_below : {X : Type 0} (xs : List X) (k : ℕ) (x : X) → Some x ≡ slice_get xs k → k < length xs
-read_below [] k x e = absurd cc
-read_below (y ∷ ys) zero x e = omega arith
-read_below (y ∷ ys) (suc k) x e = omega (arith, read_below ys k x e)
+drop_past : {X : Type 0} (xs : List X) (k : ℕ) → length xs ≤ k → drop k xs ≡ []
+drop_past [] zero l = refl
+drop_past [] (suc k) l = refl
+drop_past (y ∷ ys) zero l = absurd (omega (arith, l))
+drop_past (y ∷ ys) (suc k) l = let m : length ys ≤ k = omega (arith, l) in drop_past ys k m
+
+pub past_all : {X : Type 0} (xs done whole : List X) (k : ℕ) → length xs ≤ k → done ++ drop k xs ≡ whole → done ≡ whole
+past_all xs done whole k l f = sym (append-nil done) ∙ ap (λ l. done ++ l) (sym (drop_past xs k l)) ∙ f
 
 drop_none : {X : Type 0} (xs : List X) (k : ℕ) → None ≡ slice_get xs k → drop k xs ≡ []
 drop_none [] zero e = refl

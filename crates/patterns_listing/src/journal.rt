@@ -21,8 +21,12 @@ fn events_from<L: Analysis>(
     ensures { IfOk result (λ v. v.items ≡ drop from bench.now.desk.journal) }
 {
     let mut events = Vec::new(alloc);
+    let count = bench.journal_len();
     let mut place = from;
-    'journal: while let Some(event) = bench.journal_at(place) {
+    'journal: while place < count {
+        let Some(event) = bench.journal_at(place) else {
+            return Ok(events);
+        };
         events.push(event)?;
         place += 1;
     }
