@@ -1,12 +1,12 @@
 -- The climb from an operation up.
-use Rattle.std.proofs.Common.{◌≡◌, refl, ap, sym, ◌∙◌, subst, ℕ, zero, suc, Bool, true, false, true≢false, ◌<◌, List, [], ◌∷◌, length, Option, Some, None, inl, inr, ◌⊎◌, arith}
+use Rattle.std.proofs.Common.{◌≡◌, refl, ap, sym, ◌∙◌, subst, ℕ, zero, suc, Bool, false, true≢false, ◌<◌, List, [], ◌∷◌, length, Option, Some, None, inl, inr, ◌⊎◌, arith}
 use Rattle.std.specs.Prelude.{option_map}
 use Rattle.ir_types.specs.Things.{Things}
-use Rattle.ir_types.specs.Terms.{TypeTerm, AttrTerm, name_term, type_term, attr_term}
+use Rattle.ir_types.specs.Terms.{name_term, type_term, attr_term}
 use Rattle.ir_tree.specs.declared.place.Place.{Place}
 use Rattle.ir_tree.specs.Tree.{OpOf, Op, op, head}
 use Rattle.ir_tree.specs.Ids.{HasDistinctIds, find}
-use Rattle.ir_tree.specs.Meaning.{Operation, meaning}
+use Rattle.ir_tree.specs.Meaning.{meaning}
 use Rattle.ir_tree.specs.Places.{place_of, first_id}
 use Rattle.ir_tree.proofs.Mapped.{map_find, map_place}
 use Rattle.ir_store.specs.Nodes.{Node, node_of}

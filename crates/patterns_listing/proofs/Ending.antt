@@ -1,8 +1,7 @@
 -- Operations that end blocks, by what is read of them.
-use Rattle.std.proofs.Common.{◌≡◌, refl, ap, sym, ◌∙◌, subst, ℕ, zero, suc, ◌<◌, Bool, true, false, true≢false, eqb, eqb-true, List, [], ◌∷◌, Option, Some, None, arith}
+use Rattle.std.proofs.Common.{◌≡◌, refl, ap, sym, ◌∙◌, subst, ℕ, zero, suc, ◌<◌, Bool, true, true≢false, eqb-true, List, [], ◌∷◌, Option, Some, None, arith}
 use Rattle.std.specs.Prelude.{option_map, option_and_then}
-use Rattle.ir_tree.specs.declared.place.Place.{Place}
-use Rattle.ir_tree.specs.Tree.{HeadOf, OpOf, op, RegionsOf, no_regions, region, RegionOf, empty, block, OpsOf, no_ops, next, head, regions, region_count}
+use Rattle.ir_tree.specs.Tree.{HeadOf, OpOf, op, RegionsOf, no_regions, region, RegionOf, OpsOf, no_ops, next, head, regions, region_count}
 use Rattle.ir_tree.specs.Ids.{HasDistinctIds, find}
 use Rattle.ir_tree.specs.Places.{place_of, first_id}
 use Rattle.ir_store.specs.Nodes.{NodeOf, node_of}
@@ -62,8 +61,7 @@ module _ {N T A : Type 0} where
     -- where it stands
     pub ending_place : (p y : ℕ) → ends p y t ≡ true → (r : ℕ) × (place_of y t ≡ Some (record { parent = p; region = r; before = None }))
     ending_place p y e =
-        let z = ending p y t e in
-        (
+        let z = ending p y t e in (
           z.step.region,
           ap (λ k. place_of k t) (sym z.id) ∙ place_of_member t d z.here z.step z.path z.there ∙ (λ i. Some (record { parent = z.parent i; region = z.step.region; before = first_id (z.last i) })),
         )

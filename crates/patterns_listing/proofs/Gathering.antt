@@ -1,15 +1,12 @@
 -- What is listed after events, put together.
-use Rattle.std.proofs.Common.{◌≡◌, refl, ap, sym, ◌∙◌, subst, ℕ, Bool, true, false, true≢false, ◌||◌, ◌&&◌, eqb, List, [], ◌∷◌, Option, Some, None, inl, inr, ◌⊎◌}
-use Rattle.std.specs.Prelude.{option_map, drop}
+use Rattle.std.proofs.Common.{◌≡◌, refl, ap, sym, ◌∙◌, subst, ℕ, true, false, true≢false, ◌||◌, ◌&&◌, eqb, List, [], ◌∷◌, Option, Some, None, inl, inr}
+use Rattle.std.specs.Prelude.{option_map}
 use Rattle.std.specs.List.{list_any, IsDistinct}
 use Rattle.ir_types.specs.Things.{Things}
-use Rattle.ir_types.specs.Terms.{TypeTerm, AttrTerm, name_term, type_term, attr_term}
-use Rattle.ir_tree.specs.declared.value.Value.{Value}
-use Rattle.ir_tree.specs.declared.place.Place.{Place}
+use Rattle.ir_types.specs.Terms.{name_term, type_term, attr_term}
 use Rattle.ir_tree.specs.Tree.{Op}
 use Rattle.ir_tree.specs.Ids.{HasDistinctIds, ids}
-use Rattle.ir_tree.specs.Maps.{map_head}
-use Rattle.ir_tree.specs.Meaning.{Operation, meaning}
+use Rattle.ir_tree.specs.Meaning.{meaning}
 use Rattle.ir_tree.proofs.Mapped.{map_ids}
 use Rattle.ir_store.specs.Nodes.{NodeOf}
 use Rattle.ir_tree_laws.specs.Members.{In}
@@ -81,11 +78,11 @@ pub moved : {X : Type 0} (R : X → ℕ → Type 0) (l k : List X) (xs ys zs : L
 moved R l k xs ys zs e f a = subst (λ z. Adds (OneOf R k) z zs) f (subst (λ z. Adds (OneOf R z) xs zs) e a)
 
 module _ (w : World) (es : List Event) (inner : any_puts_last es ≡ false) (reached seen first second listed : List ℕ)
-  (at_reached : Adds (OneOf (IsReached w.store.module_of.tree) es) [] reached)
-  (at_seen : Adds (OneOf (IsOrUses w.store.module_of.tree) reached) [] seen)
-  (at_users : Adds (OneOf (IsOrUses w.store.module_of.tree) seen) [] first)
-  (at_around : Adds (OneOf (IsAround w.store.module_of.tree) seen) first second)
-  (at_beside : Adds (OneOf (IsBeside w) es) second listed) where
+    (at_reached : Adds (OneOf (IsReached w.store.module_of.tree) es) [] reached)
+    (at_seen : Adds (OneOf (IsOrUses w.store.module_of.tree) reached) [] seen)
+    (at_users : Adds (OneOf (IsOrUses w.store.module_of.tree) seen) [] first)
+    (at_around : Adds (OneOf (IsAround w.store.module_of.tree) seen) first second)
+    (at_beside : Adds (OneOf (IsBeside w) es) second listed) where
   seen_one : (y x : ℕ) → any_reaches es y (module_in w).tree ≡ true → IsOrUses w.store.module_of.tree y x → is_listed x seen ≡ true
   seen_one y x h k = at_seen.added x (y, listed_in y reached (at_reached.added y (one_reaches w.ctx w.store.module_of.tree es inner y h)), k)
 

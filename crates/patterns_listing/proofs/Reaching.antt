@@ -1,7 +1,6 @@
 -- What ends blocks, and what an event reaches, as it is listed.
-use Rattle.std.proofs.Common.{◌≡◌, refl, ap, sym, ◌∙◌, subst, ℕ, ◌+◌, ◌<◌, ◌≤◌, Bool, true, false, true≢false, ◌||◌, ◌&&◌, eqb, eq-eqb, eqb-true, List, [], ◌∷◌, length, Option, Some, None, inl, inr, ◌⊎◌, arith}
+use Rattle.std.proofs.Common.{◌≡◌, refl, ap, sym, ◌∙◌, subst, ℕ, ◌+◌, ◌<◌, ◌≤◌, true, true≢false, ◌||◌, eqb, eq-eqb, eqb-true, List, [], ◌∷◌, length, Option, Some, None, inl, inr, ◌⊎◌, arith}
 use Rattle.std.specs.Prelude.{option_map}
-use Rattle.ir_tree.specs.declared.value.Value.{Value}
 use Rattle.ir_tree.specs.declared.value.Value.TheVariants.{Result, Arg}
 use Rattle.ir_tree.specs.declared.place.Place.{Place}
 use Rattle.ir_tree.specs.Tree.{Op, op, RegionsOf, no_regions, region, regions, region_count}
@@ -9,10 +8,8 @@ use Rattle.ir_tree.specs.Ids.{HasDistinctIds, find}
 use Rattle.ir_tree.specs.Places.{place_of}
 use Rattle.ir_store.specs.Nodes.{Node, node_of, regions_arguments}
 use Rattle.ir_tree_laws.specs.Reads.{last_at}
-use Rattle.ir_tree_laws.specs.Members.{In}
 use Rattle.ir_tree_laws.proofs.Listed.{bool_cases, either, both}
 use Rattle.patterns_touched.specs.Reached.{is_end, ends, at_end}
-use Rattle.patterns_touched.specs.Sights.{giver}
 use Rattle.patterns_listing.specs.Adding.{Adding, Adds, OneOf}
 use Rattle.patterns_listing.specs.Parts.{IsAround, IsOrEnds, IsOrAtEnd, Gives}
 use Rattle.patterns_listing.proofs.Adding.{adding_none, adding_more, adding_done}

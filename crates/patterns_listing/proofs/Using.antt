@@ -3,8 +3,8 @@ use Rattle.std.proofs.Common.{◌≡◌, refl, ap, sym, ◌∙◌, subst, ℕ, z
 use Rattle.std.specs.Prelude.{option_map, option_and_then, is_some, slice_get}
 use Rattle.ir_tree.specs.declared.value.Value.{Value}
 use Rattle.ir_tree.specs.declared.value.Value.TheVariants.{Result, Arg}
-use Rattle.ir_tree.specs.Tree.{HeadOf, OpOf, Op, op, head}
-use Rattle.ir_tree.specs.Ids.{HasDistinctIds, find}
+use Rattle.ir_tree.specs.Tree.{Op, op, head}
+use Rattle.ir_tree.specs.Ids.{find}
 use Rattle.ir_tree.specs.Meaning.{isolated_in}
 use Rattle.ir_tree.specs.Uses.{same_value, operand_uses, uses_of}
 use Rattle.ir_store.specs.Nodes.{Node, node_of}
@@ -19,7 +19,7 @@ use Rattle.ir_tree_laws.proofs.HeadForm.{in_gather}
 use Rattle.ir_tree_laws.proofs.Values.{seen_by}
 use Rattle.ir_tree_laws.proofs.Formed.{from_formed}
 use Rattle.ir_event.specs.declared.world.World.{World}
-use Rattle.listeners_surroundings.specs.Surroundings.{surround, surroundings}
+use Rattle.listeners_surroundings.specs.Surroundings.{surround}
 use Rattle.patterns_touched.specs.Sights.{Uses, giver, operands_of}
 use Rattle.patterns_listing.specs.Adding.{Adding, Adds}
 use Rattle.patterns_listing.specs.Parts.{IsIn, IsUser}
@@ -83,8 +83,11 @@ module _ (w : World) where
           let is = (seen_by (isolated_in w.ctx) w.store.module_of.tree w.formed.distinct s h v (all_each (sees (isolated_in w.ctx) s.path) (head s.here).operands each v k)).is in
           record {
             number = n;
-            user = (l.0, subst (λ q. is_use q l.0 (uses_of (Result y n) w.store.module_of.tree) ≡ true) i
-                (ap (λ q. is_use (stand_id s) l.0 (uses_of q w.store.module_of.tree)) (sym e) ∙ in_is_use (stand_id s) l.0 (uses_of v w.store.module_of.tree) g));
+            user = (
+              l.0,
+              subst (λ q. is_use q l.0 (uses_of (Result y n) w.store.module_of.tree) ≡ true) i
+                  (ap (λ q. is_use (stand_id s) l.0 (uses_of q w.store.module_of.tree)) (sym e) ∙ in_is_use (stand_id s) l.0 (uses_of v w.store.module_of.tree) g),
+            );
             value = ap (λ q. has_value q w.store.module_of.tree) (sym e) ∙ is;
           }
 

@@ -1,5 +1,5 @@
 -- What is listed, part by part, as read from a world.
-use Rattle.std.specs.Prelude.{◌≡◌, ◌⊎◌, ℕ, ◌≤◌, eqb, List, [], ◌∷◌, Bool, true, false, ◌||◌, Some}
+use Rattle.std.specs.Prelude.{◌≡◌, ◌⊎◌, ℕ, eqb, List, [], ◌∷◌, Bool, true, false, ◌||◌, Some}
 use Rattle.ir_tree.specs.declared.value.Value.{Value}
 use Rattle.ir_tree.specs.declared.place.Place.{Place}
 use Rattle.ir_tree.specs.Tree.{OpOf}

@@ -42,12 +42,7 @@ pub(crate) fn push_all_around(
 }
 
 /// Lists the last operation of the block of a region.
-fn push_last(
-    store: &Store,
-    ops: &mut Vec<OpId>,
-    op: OpId,
-    region: u32,
-) -> Result<(), AllocError>
+fn push_last(store: &Store, ops: &mut Vec<OpId>, op: OpId, region: u32) -> Result<(), AllocError>
     ensures { OnOk result (Adds (λ x. last_at op region store.now.module_of.tree ≡ Some x) ops.old.items ops.new.items) }
 {
     match store.last(op, region) {

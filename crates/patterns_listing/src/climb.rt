@@ -46,12 +46,7 @@ fn push_climb(world: &World, ops: &mut Vec<OpId>, op: OpId) -> Result<(), AllocE
 }
 
 /// Lists what is so around two operations.
-fn push_climbs(
-    world: &World,
-    ops: &mut Vec<OpId>,
-    op: OpId,
-    other: OpId,
-) -> Result<(), AllocError>
+fn push_climbs(world: &World, ops: &mut Vec<OpId>, op: OpId, other: OpId) -> Result<(), AllocError>
     ensures { OnOk result (Adds (λ x. IsClimbed world.now op x ⊎ IsClimbed world.now other x) ops.old.items ops.new.items) }
 {
     push_climb(world, ops, op)?;

@@ -1,4 +1,3 @@
-use Rattle.std.proofs.Common.{◌≡◌, true, ◌⊎◌}
 use Rattle.patterns_listing.specs.Parts.{GivesMoved, IsOuter, IsBeside}
 use Rattle.patterns_listing.specs.Adding.{Adds}
 use Rattle.patterns_listing.proofs.Adding.{on_ok, adds_both}

@@ -1,4 +1,4 @@
-use Rattle.std.proofs.Common.{◌≡◌, true, ◌⊎◌}
+use Rattle.std.proofs.Common.{◌≡◌, true}
 use Rattle.patterns_touched.specs.Reached.{ends}
 use Rattle.patterns_listing.specs.Parts.{IsOrEnds}
 use Rattle.patterns_listing.proofs.Reaching.{is_or_ends}

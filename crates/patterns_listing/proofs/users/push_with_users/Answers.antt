@@ -1,4 +1,4 @@
-use Rattle.std.proofs.Common.{◌≡◌, true, ◌⊎◌}
+use Rattle.std.proofs.Common.{◌≡◌}
 use Rattle.patterns_touched.specs.Sights.{Uses}
 use Rattle.patterns_listing.specs.Parts.{IsOrUses}
 use Rattle.patterns_listing.specs.Adding.{Adds}
