@@ -1,0 +1,2 @@
+//! Rewrites keep the order of the operations that stay.
+#![tactic(auto)]
