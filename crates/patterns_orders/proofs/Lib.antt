@@ -1,2 +1,5 @@
 pub mod Cut
 pub mod Nearby
+pub mod Order
+pub mod Cuts
+pub mod Parts
