@@ -16,6 +16,8 @@ from reference import rewrites  # noqa: E402
 from reference.lines import Table, given, told  # noqa: E402
 from reference.module import read, rules, text_of  # noqa: E402
 
+MOST_NEXT = 4294967295
+WRITTEN = range(1, 28)  # (the rules that `apply` has)
 WIDTHS = ["i1", "i8", "i64", "i65", "i128", "index"]
 SWAPPING = "addi muli andi ori xori maxsi maxui minsi minui".split()
 GIVER = '%{0} = "test.d"() : () -> {1}\n'
@@ -254,7 +256,7 @@ def some(items, most):
 
 
 def cases(most=60):
-    """Lines: a rule, an operation, a module's text, and the module after the rule, or none."""
+    """Lines: a rule, an operation, a module's text, and the module after the rule, or none, and how many operations it made."""
     by_rule = {}
     for rule, template in templates():
         for text in map(numbered, typed(template)):
@@ -271,7 +273,7 @@ def cases(most=60):
                 continue
             op = target(module)
             found = rewrites.apply(module, rule, op.id)
-            kept[found is not None].append((rule, op.id, text, found and text_of(found)))
+            kept[found is not None].append((rule, op.id, text, found and text_of(found), found and found.next - module.next))
         yield from some(kept[True], most)
         yield from some(kept[False], most)
 
@@ -279,21 +281,30 @@ def cases(most=60):
 def edges():
     """An operation that isn't there, and the root, at which no rule applies."""
     text = giver("a", ty="i8") + on_two("addi", "a", "a", "i8", "i8")
-    for rule in range(1, 31):
-        yield rule, 9, text, "20 NoSuchOp"
-        yield rule, 0, text, "none"
+    for rule in WRITTEN:
+        yield rule, 9, 0, text, "20 NoSuchOp", None
+        yield rule, 0, 0, text, "none", None
+
+
+def with_ids(lines):
+    """Lines, and for each rule the first at which it makes operations again with just enough ids, and with one less."""
+    tried = set()
+    for rule, op, text, after, made in lines:
+        yield rule, op, 0, text, "none" if after is None else "applied", after
+        if made and rule not in tried:
+            tried.add(rule)
+            yield rule, op, MOST_NEXT - made, text, "applied", after
+            yield rule, op, MOST_NEXT - made + 1, text, "32 IdsExhausted", None
 
 
 def main():
     table, count = Table(), collections.Counter()
-    for rule, op, text, after in cases():
+    for rule, op, least, text, answer, after in itertools.chain(with_ids(line for line in cases() if line[0] in WRITTEN), edges()):
         count[rule, after is not None] += 1
-        shown = told(f"1 ok\n{text_of(read(text.encode())) if after is None else after}".encode())
-        table.case(f"{rule} {op} {given(text.encode())}", f"{'none' if after is None else 'applied'} {shown}")
-    for rule, op, text, answer in edges():
-        table.case(f"{rule} {op} {given(text.encode())}", answer + " " + told(b"1 ok\n" + text_of(read(text.encode())).encode()))
+        shown = told((text_of(read(text.encode())) if after is None else after).encode())
+        table.case(f"{rule} {op} {least} {given(text.encode())}", f"{answer} {shown}")
     table.write("patterns_cases")
-    for rule in range(1, 31):
+    for rule in WRITTEN:
         print(f"{rule:3}: applies {count[rule, True]}, doesn't {count[rule, False]}")
 
 

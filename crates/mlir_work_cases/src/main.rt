@@ -11,7 +11,6 @@ mod readers;
 mod replies;
 mod runs;
 mod traces;
-mod worlds;
 mod writers;
 
 use std::alloc::AllocError;

@@ -2,7 +2,6 @@
 ghost use Rattle.std.specs.Prelude.{◌≡◌, []};
 
 use crate::runs::told;
-use crate::worlds::{bench_of, world_of};
 use ir_event::analysis::Analysis;
 use ir_event::event::Event;
 use ir_event::view::View;
@@ -18,6 +17,7 @@ use mlir_work_run::Bench;
 use mlir_work_run::input::split;
 use mlir_work_run::manner::Manner;
 use mlir_work_run::script::run_script;
+use rewriter_cases_base::worlds::{bench_of, world_of};
 use std::alloc::{AllocError, Global};
 use std::fmt::Write;
 

@@ -25,7 +25,7 @@ right_in : (x : ℕ) (xs ys : List ℕ) → Listed x ys → Listed x (xs ++ ys)
 right_in x [] ys h = h
 right_in x (z ∷ xs) ys h = listed_more z x (xs ++ ys) (right_in x xs ys h)
 
-in_either : (x : ℕ) (xs ys : List ℕ) → Listed x (xs ++ ys) → (Listed x xs) ⊎ (Listed x ys)
+pub in_either : (x : ℕ) (xs ys : List ℕ) → Listed x (xs ++ ys) → (Listed x xs) ⊎ (Listed x ys)
 in_either x [] ys h = inr h
 in_either x (z ∷ xs) ys h = elim (bool_cases (eqb z x)) [
   | inl e ↦ inl (listed_at z x xs e)
@@ -44,7 +44,7 @@ crossing a b (z ∷ xs) ys h k = elim (bool_cases (eqb z a)) [
   | inr e ↦ after_past a b z (xs ++ ys) e ∙ crossing a b xs ys (listed_past z a xs e h) k
 ]
 
-second : (a b : ℕ) (xs ys : List ℕ) → (Listed a xs → ⊥) → comes_after a b (xs ++ ys) ≡ comes_after a b ys
+pub second : (a b : ℕ) (xs ys : List ℕ) → (Listed a xs → ⊥) → comes_after a b (xs ++ ys) ≡ comes_after a b ys
 second a b [] ys n = refl
 second a b (z ∷ xs) ys n = after_past a b z (xs ++ ys) (not_so (eqb z a) (λ e. n (listed_at z a xs e))) ∙ second a b xs ys (λ h. n (listed_more z a xs h))
 

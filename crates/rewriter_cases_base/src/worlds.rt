@@ -1,4 +1,4 @@
-//! Worlds and benches of the modules that texts spell.
+//! Worlds and benches of the modules that texts spell, and the texts of worlds.
 ghost use Rattle.std.specs.Prelude.{◌≡◌, ◌<◌, [], IsTrue, IfOk};
 ghost use Rattle.std.specs.List.{All};
 ghost use Rattle.ir_tree.specs.Ids.{HasDistinctIds, ids};
@@ -6,13 +6,14 @@ ghost use Rattle.ir_tree.specs.Ids.{HasDistinctIds, ids};
 use dialects_int::tables::registry;
 use ir_event::analysis::Analysis;
 use ir_event::world::World;
+use ir_text::printer::print;
+use ir_text::reader::read_new;
 use ir_tree::count::op_count;
 use ir_tree::find::list_ids;
 use ir_tree::numbered::distinct;
 use ir_tree::tree::TreeOp;
 use ir_types::refusal::Refusal;
-use mlir_work_run::Bench;
-use mlir_work_run::reader::read_new;
+use rewriter::Bench;
 use std::alloc::{AllocError, Global};
 
 /// Whether the ids of a tree are below a number.
@@ -53,17 +54,32 @@ pub fn world_of(alloc: Global, text: &[u8]) -> Result<World, Refusal> {
     World::load(alloc, ctx, registry, &tree, next)
 }
 
-/// A bench over the module that a text spells, or `BadToken` where it spells none.
-pub fn bench_of<L: Analysis>(alloc: Global, text: &[u8]) -> Result<Bench<L>, Refusal>
+/// A bench over the module that a text spells, whose next free id is at least a number, or `BadToken` where it spells none.
+pub fn bench_from<L: Analysis>(alloc: Global, text: &[u8], least: u32) -> Result<Bench<L>, Refusal>
     ensures { IfOk result (λ b. b.listeners ≡ []) }
 {
     let Ok((ctx, tree)) = read_new(alloc, 7, text) else {
         return Err(Refusal::BadToken);
     };
-    let next = next_of(&tree);
+    let next = next_of(&tree).max(least);
     if !is_numbered(alloc, &tree, next)? {
         return Err(Refusal::BadToken);
     }
     let registry = registry(&ctx)?;
     Bench::new(alloc, ctx, registry, &tree, next)
+}
+
+/// A bench over the module that a text spells, or `BadToken` where it spells none.
+pub fn bench_of<L: Analysis>(alloc: Global, text: &[u8]) -> Result<Bench<L>, Refusal>
+    ensures { IfOk result (λ b. b.listeners ≡ []) }
+{
+    bench_from(alloc, text, 0)
+}
+
+/// The text of a world's module.
+pub fn text_of(alloc: Global, world: &World) -> Result<Vec<u8>, Refusal> {
+    let Ok(tree) = world.store.tree() else {
+        return Err(Refusal::Memory);
+    };
+    print(alloc, &world.ctx, &tree)
 }
