@@ -14,14 +14,14 @@ not_so : (b : Bool) → (b ≡ true → ⊥) → b ≡ false
 not_so true h = absurd (h refl)
 not_so false h = refl
 
-left_in : (x : ℕ) (xs ys : List ℕ) → Listed x xs → Listed x (xs ++ ys)
+pub left_in : (x : ℕ) (xs ys : List ℕ) → Listed x xs → Listed x (xs ++ ys)
 left_in x [] ys h = absurd (true≢false (sym h))
 left_in x (z ∷ xs) ys h = elim (bool_cases (eqb z x)) [
   | inl e ↦ listed_at z x (xs ++ ys) e
   | inr e ↦ listed_more z x (xs ++ ys) (left_in x xs ys (listed_past z x xs e h))
 ]
 
-right_in : (x : ℕ) (xs ys : List ℕ) → Listed x ys → Listed x (xs ++ ys)
+pub right_in : (x : ℕ) (xs ys : List ℕ) → Listed x ys → Listed x (xs ++ ys)
 right_in x [] ys h = h
 right_in x (z ∷ xs) ys h = listed_more z x (xs ++ ys) (right_in x xs ys h)
 

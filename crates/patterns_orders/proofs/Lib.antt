@@ -5,3 +5,6 @@ pub mod Cuts
 pub mod Parts
 pub mod Edits
 pub mod Starts
+pub mod Rootless
+pub mod Rules
+pub mod Law
