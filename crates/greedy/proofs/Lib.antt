@@ -2,5 +2,3 @@ pub mod Order
 pub mod Works
 pub mod Scans
 pub mod Comings
-pub mod Cuts
-pub mod Rootless

@@ -9,7 +9,8 @@ ghost use Rattle.rewriter_machine.specs.Machine.{OpenMark};
 ghost use Rattle.patterns_base.specs.Rewrites.{becomes, none};
 ghost use Rattle.patterns_base.specs.Canonicalization.{lowest};
 ghost use Rattle.greedy.specs.Outcomes.{Applied, Refuses};
-ghost use Rattle.greedy.specs.Work.{Orderly, following};
+ghost use Rattle.greedy.specs.Work.{following};
+ghost use Rattle.patterns_orders.specs.Orders.{Orderly};
 ghost use Rattle.patterns_touched.specs.Listing.{Touched};
 
 use ir_types::ids::OpId;
