@@ -13,3 +13,4 @@ pub mod LoopFitting
 pub mod LoopEdited
 pub mod Shown
 pub mod Ruled
+pub mod Numbered

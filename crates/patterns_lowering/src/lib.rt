@@ -19,5 +19,5 @@ mod over;
 pub mod by_number;
 pub mod plan;
 mod plans;
-mod read;
+mod reading;
 mod users;

@@ -8,7 +8,7 @@ use crate::bare::found;
 use crate::index::indices;
 use crate::marks::any;
 use crate::plan::{IndexedChoice, IndexedLoop, Lowering};
-use crate::read::{read, take};
+use crate::reading::{read, take};
 use crate::users::is_user;
 use ir_event::world::World;
 use ir_types::ids::OpId;

@@ -7,7 +7,7 @@ use Rattle.effects.proofs.Reached.{few_regions}
 use Rattle.patterns_base.specs.Looks.{is_index_value}
 use Rattle.patterns_base.specs.Lowering.{indices}
 use Rattle.patterns_lowering.proofs.Shown.{shown_known, was_read}
-use Rattle.patterns_lowering.proofs.read.read.Goals as goal
+use Rattle.patterns_lowering.proofs.reading.read.Goals as goal
 
 pub indices-requires : goal.indices-requires
 indices-requires c = subst (λ l. list_all (is_type c.args.world.now.ctx) l ≡ true) (sym c.results.ensures) (shown_known c.args.world.now c.args.op c.args.node.now c.requires)
