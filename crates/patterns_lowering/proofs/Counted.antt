@@ -13,7 +13,7 @@ use Rattle.patterns_edits.specs.Contents.{Edit}
 use Rattle.patterns_edits.specs.Edits.{Make, Erase}
 use Rattle.patterns_base.specs.Made.{i64, placeholder}
 use Rattle.patterns_base.specs.Makes.{results_from, arguments_from, replacing, replaced, moving, erasing, made_by}
-use Rattle.patterns_base.specs.Lowering.{bridges, crossed, crossing, marked, indices, end_of, before_in}
+use Rattle.patterns_base.specs.Lowering.{bridges, crossed, crossing, marked, end_of, before_in}
 use Rattle.patterns_lowering.specs.declared.plan.Taken.{Taken}
 use Rattle.patterns_lowering.specs.declared.plan.Indexed.{Indexed}
 use Rattle.patterns_lowering.specs.declared.plan.Lowering.{Lowering}

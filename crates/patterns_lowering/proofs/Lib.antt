@@ -14,3 +14,4 @@ pub mod LoopEdited
 pub mod Shown
 pub mod Ruled
 pub mod Numbered
+pub mod Asked

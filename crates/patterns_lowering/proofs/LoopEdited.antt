@@ -1,5 +1,5 @@
 -- The edits of loops and choices, in a context that grew.
-use Rattle.std.proofs.Common.{◌≡◌, refl, ap, sym, ◌∙◌, subst, ℕ, List, [], ◌∷◌, length, map, Bool, true}
+use Rattle.std.proofs.Common.{◌≡◌, refl, ap, sym, ◌∙◌, subst, ℕ, List, [], ◌∷◌, length, map, true}
 use Rattle.std.specs.List.{list_all}
 use Rattle.std.proofs.lemmas.Bool.{ltb-true, lt-ltb}
 use Rattle.std.proofs.lemmas.List.{length-map}
@@ -9,10 +9,9 @@ use Rattle.ir_types.specs.Terms.{type_term}
 use Rattle.ir_types.proofs.Terms.{type_stays}
 use Rattle.ir_tree.specs.declared.place.Place.{Place}
 use Rattle.ir_tree.specs.Tree.{head}
-use Rattle.ir_tree.specs.Meaning.{Operation, is_type}
+use Rattle.ir_tree.specs.Meaning.{is_type}
 use Rattle.ir_tree.proofs.Agreeing.{both}
-use Rattle.ir_tree.proofs.Meanings.{both_hold, stable, stays_sound}
-use Rattle.patterns_edits.specs.Contents.{Edit as Meant}
+use Rattle.ir_tree.proofs.Meanings.{both_hold, stable}
 use Rattle.patterns_edits.specs.declared.edit.Edit.{Edit}
 use Rattle.patterns_edits.specs.Lists.{AllFit, edits_meaning}
 use Rattle.patterns_base.specs.Lowering.{indices}

@@ -17,7 +17,7 @@ use Rattle.patterns_edits.specs.Edits as edit
 use Rattle.patterns_edits.specs.declared.edit.Edit.TheVariants as coded
 use Rattle.patterns_edits.specs.Lists.{edits_meaning}
 use Rattle.patterns_base.specs.Made.{i64, placeholder}
-use Rattle.patterns_base.specs.Makes.{results_from, arguments_from, replacing, replaced, moving, erasing}
+use Rattle.patterns_base.specs.Makes.{arguments_from, replacing, replaced, moving, erasing}
 use Rattle.patterns_base.specs.Lowering.{bridges, crossed, crossing, marked, lowered_op, end_of, before_in}
 use Rattle.patterns_regions.specs.Opened.{put_for}
 use Rattle.patterns_lowering.specs.declared.plan.Taken.{Taken}
@@ -26,7 +26,7 @@ use Rattle.patterns_lowering.specs.declared.plan.IndexedChoice.{IndexedChoice}
 use Rattle.patterns_lowering.specs.declared.plan.Lowering.TheVariants as plan
 use Rattle.patterns_lowering.specs.Lowered.{AreLowered, AreTypes}
 use Rattle.patterns_lowering.specs.Numbers.{bridge_edits, replace_edits, op_lowered, give_edits, numbers_from, first_results, holder_edits, move_edits, erase_edits, over_edits, crossing_edits, handed_edits, loop_ids, front_edits, inside_edits, behind_edits, loop_edits, side_edits, choice_edits}
-use Rattle.patterns_lowering.specs.Meanings.{results_given, operation_made, operation_id, moved_over, handed_on, loop_lowered, choice_lowered, lowering_meaning}
+use Rattle.patterns_lowering.specs.Meanings.{results_given, loop_lowered, choice_lowered, lowering_meaning}
 use Rattle.patterns_lowering.proofs.Joined.{edits_more}
 use Rattle.patterns_lowering.proofs.Meant.{bridges_meant, replaces_meant, op_meant, give_meant}
 

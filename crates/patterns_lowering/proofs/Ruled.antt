@@ -17,13 +17,13 @@ use Rattle.ir_event.specs.declared.world.World.{World}
 use Rattle.ir_event.specs.Modules.{module_in, node_meaning}
 use Rattle.ir_event.proofs.Nodes.{node_shown}
 use Rattle.patterns_edits.specs.Contents.{Edit}
-use Rattle.patterns_edits.specs.Edits.{Make, Erase}
+use Rattle.patterns_edits.specs.Edits.{Make}
 use Rattle.patterns_base.specs.Keeps.{given}
 use Rattle.patterns_base.specs.Made.{i64, placeholder}
 use Rattle.patterns_base.specs.Words.{among, index_users, named}
-use Rattle.patterns_base.specs.Looks.{Ended, body, is_clean, is_index_value, when}
-use Rattle.patterns_base.specs.Makes.{results_from, arguments_from, replacing, replaced, moving, erasing}
-use Rattle.patterns_base.specs.Lowering.{any, bridges, crossed, crossing, marked, indices, lowered_op, lowered_loop, lowered_if, end_of, before_in, rule_28, rule_29, rule_30}
+use Rattle.patterns_base.specs.Looks.{Ended, body, is_index_value, when}
+use Rattle.patterns_base.specs.Makes.{arguments_from, replacing, replaced, moving, erasing}
+use Rattle.patterns_base.specs.Lowering.{any, bridges, crossed, crossing, marked, indices, lowered_loop, lowered_if, end_of, before_in, rule_28, rule_29, rule_30}
 use Rattle.patterns_regions.specs.Blocks.{Shows, body_at}
 use Rattle.patterns_regions.proofs.Viewed.{block_types}
 use Rattle.patterns_yields.specs.Yields.{IsCleanOf}
@@ -39,7 +39,7 @@ use Rattle.patterns_lowering.specs.Meanings.{results_given, operation_lowered, l
 use Rattle.patterns_lowering.specs.Planned.{AreTaken, IsCleanAt, IsLoweredBy, IsReadIn, IsReadOf, IsTaken, Rule}
 use Rattle.patterns_lowering.specs.Plans.{IsIndexed, IsIndexedChoice, IsIndexedLoop}
 use Rattle.patterns_lowering.proofs.Read.{bare_mapped, op_bare, rule_28_read}
-use Rattle.patterns_lowering.proofs.Shown.{Raw, bare_head, distinct_in, indexed_at, meant_there, none_there, raw, shown_results, there_meant, types_few_at, types_known_at}
+use Rattle.patterns_lowering.proofs.Shown.{Raw, bare_head, distinct_in, indexed_at, meant_there, none_there, raw, there_meant, types_few_at, types_known_at}
 
 -- ---- tests
 
@@ -238,8 +238,8 @@ module _ (w : World) (x : ℕ) (n : Node) (shown : Some n ≡ option_map node_of
   taken_here i was q b h = some_of (body t m q) b (subst (λ o. AreTaken o (Some b)) (body_here i was q) h)
 
   module _ (l : IndexedLoop) (was : IsReadOf w x l.of) (b : Bool) (e : b ≡ named (codes "scf.for") (name_term w.ctx n.head.name)) (f : b ≡ true)
-    (types : List ℕ) (block : option_and_then (λ a. a) (slice_get n.arguments 0) ≡ Some types) (arguments : l.arguments.items ≡ types) (marks : l.index_arguments.items ≡ indices (map (type_term w.ctx) types))
-    (taken : AreTaken (body_at x 0 t) (Some l.body)) where
+      (types : List ℕ) (block : option_and_then (λ a. a) (slice_get n.arguments 0) ≡ Some types) (arguments : l.arguments.items ≡ types) (marks : l.index_arguments.items ≡ indices (map (type_term w.ctx) types))
+      (taken : AreTaken (body_at x 0 t) (Some l.body)) where
     abbrev last : TakenOf (body t m 0) l.body
     last = taken_here l.of was 0 l.body taken
 
@@ -280,7 +280,7 @@ module _ (w : World) (x : ℕ) (n : Node) (shown : Some n ≡ option_map node_of
     no_second_30 e = at rule_30 None (λ k front. when_none _ _ (no_second k front (body t m 0) (none_of (body_at x 1 t) e ∙ body_here i was 1)))
 
   module _ (l : IndexedChoice) (was : IsReadOf w x l.of) (b : Bool) (e : b ≡ named (codes "scf.if") (name_term w.ctx n.head.name)) (f : b ≡ true)
-    (first : AreTaken (body_at x 0 t) (Some l.first)) (second : AreTaken (body_at x 1 t) (Some l.second)) where
+      (first : AreTaken (body_at x 0 t) (Some l.first)) (second : AreTaken (body_at x 1 t) (Some l.second)) where
     abbrev one : TakenOf (body t m 0) l.first
     one = taken_here l.of was 0 l.first first
 

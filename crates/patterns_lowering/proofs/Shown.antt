@@ -1,12 +1,12 @@
 -- What is read of an operation that a node shows.
-use Rattle.std.proofs.Common.{◌≡◌, refl, ap, sym, ◌∙◌, subst, ℕ, zero, suc, ◌≤◌, List, [], ◌∷◌, length, map, Bool, true, false, ◌&&◌, Option, Some, None, arith}
-use Rattle.std.specs.Prelude.{All, option_map, option_and_then, slice_get, nat_le}
+use Rattle.std.proofs.Common.{◌≡◌, refl, ap, sym, ◌∙◌, subst, ℕ, zero, suc, ◌≤◌, List, length, map, Bool, true, ◌&&◌, Option, Some, None, arith}
+use Rattle.std.specs.Prelude.{option_map, option_and_then, slice_get, nat_le}
 use Rattle.std.specs.List.{list_all}
 use Rattle.std.proofs.lemmas.Bool.{leb-true}
 use Rattle.std.proofs.lemmas.List.{length-map}
 use Rattle.ir_types.specs.Things.{Things}
 use Rattle.ir_types.specs.Terms.{name_term, type_term, attr_term}
-use Rattle.ir_tree.specs.Tree.{OpOf, Op, op, RegionsOf, no_regions, region, empty, block, head, regions, region_count, regions_of, Region}
+use Rattle.ir_tree.specs.Tree.{Op, op, RegionsOf, no_regions, region, empty, block, head, regions, region_count, regions_of}
 use Rattle.ir_tree.specs.Ids.{HasDistinctIds, find}
 use Rattle.ir_tree.specs.Limits.{all_arguments_pass, every, head_fits, items_fit, most_ops, most_regions, op_fits, regions_every}
 use Rattle.ir_tree.specs.Meaning.{IsSoundIn, Operation, is_attr, is_name, is_type, key_before_in, dictionaries_rise, meaning}

@@ -3,7 +3,7 @@ use Rattle.std.specs.Prelude.{◌≡◌, ℕ, ◌+◌, ◌*◌, ◌≤◌, map, 
 use Rattle.std.specs.List.{list_all}
 use Rattle.ir_types.specs.Things.{Things}
 use Rattle.ir_types.specs.Terms.{type_term}
-use Rattle.ir_tree.specs.Tree.{Op, head}
+use Rattle.ir_tree.specs.Tree.{head}
 use Rattle.ir_tree.specs.Limits.{op_fits}
 use Rattle.ir_tree.specs.Meaning.{IsSoundIn, is_type}
 use Rattle.patterns_base.specs.Lowering.{indices, marked}

@@ -11,11 +11,7 @@ use patterns_edits::edit::Edit;
 use std::alloc::{AllocError, Global};
 
 /// Ids from one on, as many as there are types.
-pub(crate) fn ids_from(
-    alloc: Global,
-    first: u32,
-    types: &[TypeId],
-) -> Result<Vec<OpId>, AllocError>
+pub(crate) fn ids_from(alloc: Global, first: u32, types: &[TypeId]) -> Result<Vec<OpId>, AllocError>
     requires { first + length types.now ≤ most_next }
     ensures { IfOk result (λ xs. xs.items ≡ numbers_from first types.now) }
 {

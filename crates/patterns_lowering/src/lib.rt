@@ -2,6 +2,7 @@
 #![tactic(auto)]
 
 mod bare;
+pub mod by_number;
 mod choices;
 pub mod count;
 pub mod edits;
@@ -16,7 +17,6 @@ mod marks;
 mod numbers;
 mod operation;
 mod over;
-pub mod by_number;
 pub mod plan;
 mod plans;
 mod reading;

@@ -1,4 +1,4 @@
-use Rattle.std.proofs.Common.{◌≡◌, ◌≤◌, ◌+◌, ◌++◌, length, map}
+use Rattle.std.proofs.Common.{◌≡◌, ◌++◌, length}
 use Rattle.patterns_lowering.specs.Numbers.{first_results}
 use Rattle.patterns_lowering.proofs.holders.first_results.Given as goal
 

@@ -1,4 +1,4 @@
-use Rattle.std.proofs.Common.{◌≡◌, ◌≤◌, ◌+◌, ◌++◌, length, map}
+use Rattle.std.proofs.Common.{◌≡◌, ◌++◌, length}
 use Rattle.patterns_lowering.specs.Numbers.{erase_edits}
 use Rattle.patterns_lowering.proofs.holders.push_erased.Given as goal
 

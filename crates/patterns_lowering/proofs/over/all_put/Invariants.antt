@@ -1,4 +1,4 @@
-use Rattle.std.proofs.Common.{◌≡◌, ◌≤◌, ◌+◌, ◌++◌, length, map}
+use Rattle.std.proofs.Common.{◌≡◌, ◌++◌, length, map}
 use Rattle.patterns_regions.specs.Opened.{put_for}
 use Rattle.patterns_lowering.proofs.over.all_put.Given as goal
 

@@ -1,4 +1,4 @@
-use Rattle.std.proofs.Common.{◌≡◌, ◌≤◌, ◌+◌, ◌++◌, length, map}
+use Rattle.std.proofs.Common.{◌≡◌, ◌+◌, ◌++◌, length}
 use Rattle.patterns_base.specs.Makes.{arguments_from}
 use Rattle.patterns_lowering.proofs.over.arguments_of.Given as goal
 

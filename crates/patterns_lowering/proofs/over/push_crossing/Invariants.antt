@@ -1,4 +1,4 @@
-use Rattle.std.proofs.Common.{◌≡◌, ◌≤◌, ◌+◌, ◌++◌, length, map}
+use Rattle.std.proofs.Common.{◌≡◌, ◌≤◌, ◌+◌, ◌++◌, length}
 use Rattle.ir_tree.specs.Limits.{most_next}
 use Rattle.patterns_base.specs.Lowering.{marked}
 use Rattle.patterns_lowering.specs.Numbers.{crossing_edits}

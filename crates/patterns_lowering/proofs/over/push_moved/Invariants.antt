@@ -1,4 +1,4 @@
-use Rattle.std.proofs.Common.{◌≡◌, ◌≤◌, ◌+◌, ◌++◌, length, map}
+use Rattle.std.proofs.Common.{◌≡◌, ◌++◌, length}
 use Rattle.patterns_lowering.specs.Numbers.{move_edits}
 use Rattle.patterns_lowering.proofs.over.push_moved.Given as goal
 

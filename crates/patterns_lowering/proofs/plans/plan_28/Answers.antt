@@ -1,8 +1,7 @@
-use Rattle.std.proofs.Common.{sym, ap, ◌∙◌, Some, None, ◌||◌}
-use Rattle.std.specs.Prelude.{codes}
+use Rattle.std.proofs.Common.{ap, ◌∙◌, ◌||◌}
 use Rattle.ir_types.specs.Terms.{name_term}
-use Rattle.patterns_base.specs.Words.{among, index_users, named}
-use Rattle.patterns_base.specs.Lowering.{any, rule_28, rule_29, rule_30}
+use Rattle.patterns_base.specs.Words.{among, index_users}
+use Rattle.patterns_base.specs.Lowering.{any, rule_28}
 use Rattle.patterns_lowering.proofs.Ruled.{not_there, not_28, unmarked_28, is_28, indexed}
 use Rattle.patterns_lowering.proofs.plans.plan_28.Goals as goal
 

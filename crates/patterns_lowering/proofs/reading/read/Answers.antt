@@ -1,4 +1,4 @@
-use Rattle.std.proofs.Common.{sym, ap, ◌∙◌, ◌≤◌, map, subst, length, true, ◌≡◌}
+use Rattle.std.proofs.Common.{sym, ap, ◌∙◌, map, subst, true, ◌≡◌}
 use Rattle.std.specs.List.{list_all}
 use Rattle.ir_types.specs.Terms.{type_term}
 use Rattle.ir_tree.specs.Meaning.{is_type}
