@@ -1,5 +1,5 @@
 -- The edits of a plan, in a context that grew.
-use Rattle.std.proofs.Common.{◌≡◌, ap, sym, ◌∙◌, subst, ℕ, ◌+◌, List, map, Bool}
+use Rattle.std.proofs.Common.{◌≡◌, ap, sym, ◌∙◌, subst, ℕ, List, map}
 use Rattle.ir_types.specs.Things.{Things, Grows}
 use Rattle.ir_types.specs.Sound.{Holds, IsSound}
 use Rattle.ir_types.specs.Terms.{type_term}

@@ -28,7 +28,7 @@ use Rattle.patterns_lowering.proofs.Joined.{fit_more}
 enough_names : (c : Things) → Holds c → 54 ≤ length c.names
 enough_names c h = omega (arith, length-take 54 c.names, ap length h.words_first, word_count)
 
-cast_sound : (c : Things) (ty : ℕ) (vs : List Value) → Holds c → IsType c ty → IsSoundIn c (cast_op ty vs)
+pub cast_sound : (c : Things) (ty : ℕ) (vs : List Value) → Holds c → IsType c ty → IsSoundIn c (cast_op ty vs)
 cast_sound c ty vs h k =
     let named : is_name c 1 ≡ true = lt-ltb 1 (length c.names) (let e = enough_names c h in omega arith) in
     let typed : is_type c ty ≡ true = lt-ltb ty (length c.types) k in

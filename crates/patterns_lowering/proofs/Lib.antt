@@ -7,3 +7,11 @@ pub mod Interning
 pub mod Read
 pub mod Reached
 pub mod Regions
+pub mod Counted
+pub mod Looped
+pub mod LoopFitting
+pub mod LoopEdited
+pub mod Shown
+pub mod Ruled
+pub mod Numbered
+pub mod Asked

@@ -21,7 +21,7 @@ lowered_bare no_regions = refl
 lowered_bare (region empty rs) = ap (region empty) (lowered_bare rs)
 lowered_bare (region (block args os) rs) = ap (region (block (map lowered_type args) no_ops)) (lowered_bare rs)
 
-op_bare : (o : Operation) (vs : List Value) → lowered_op (bare o) vs ≡ lowered_op o vs
+pub op_bare : (o : Operation) (vs : List Value) → lowered_op (bare o) vs ≡ lowered_op o vs
 op_bare (op h rs) vs = ap (op (lowered_header h vs)) (lowered_bare rs)
 
 -- whether rule 28 is one for an operation

@@ -1,5 +1,6 @@
 pub mod Bare
 pub mod Plans
+pub mod Planned
 pub mod Meanings
 pub mod Interned
 pub mod Lowered

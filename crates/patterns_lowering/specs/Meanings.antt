@@ -1,15 +1,19 @@
--- The edits of rule 28, by what is read of an operation.
-use Rattle.std.specs.Prelude.{ℕ, ◌+◌, List, [], ◌∷◌, ◌++◌, Bool}
+-- The edits of rules 28 to 30, by what is read of an operation.
+use Rattle.std.specs.Prelude.{ℕ, ◌+◌, List, [], ◌∷◌, ◌++◌, map, length, Bool}
+use Rattle.std.specs.List.{range_with_len}
 use Rattle.ir_types.specs.Things.{Things}
-use Rattle.ir_types.specs.Terms.{Index}
+use Rattle.ir_types.specs.Terms.{TypeTerm, Index, type_term}
 use Rattle.ir_tree.specs.declared.place.Place.{Place}
+use Rattle.ir_tree.specs.declared.value.Value.{Value}
+use Rattle.ir_tree.specs.declared.value.Value.TheVariants.{Result}
 use Rattle.ir_tree.specs.Tree.{head}
 use Rattle.ir_tree.specs.Meaning.{Operation, meaning}
 use Rattle.patterns_edits.specs.Contents.{Edit}
 use Rattle.patterns_edits.specs.Edits.{Make, Erase}
-use Rattle.patterns_base.specs.Made.{i64}
-use Rattle.patterns_base.specs.Makes.{results_from, replacing}
-use Rattle.patterns_base.specs.Lowering.{bridges, crossed, marked, lowered_op}
+use Rattle.patterns_base.specs.Made.{i64, placeholder}
+use Rattle.patterns_base.specs.Makes.{results_from, arguments_from, replacing, replaced, moving, erasing}
+use Rattle.patterns_base.specs.Lowering.{bridges, crossed, crossing, marked, lowered_op, end_of, before_in}
+use Rattle.patterns_lowering.specs.declared.plan.Taken.{Taken}
 use Rattle.patterns_lowering.specs.declared.plan.Lowering.{Lowering}
 use Rattle.patterns_lowering.specs.declared.plan.Lowering.TheVariants as plan
 
@@ -34,6 +38,53 @@ module _ (n : ℕ) (front : Place) (operands results : List Bool) (o : Operation
   abbrev pub operation_lowered : List Edit
   operation_lowered = bridges i64 front operands (head o).operands ++ operation_made ++ results_given operation_id (operation_id + 1)
 
+  -- the operations of a block come to the end of block r of operation y
+  abbrev pub moved_over : ℕ → ℕ → Taken → List Edit
+  moved_over y r b = moving (end_of y r) (b.before.items ++ b.last ∷ [])
+
+  -- some values that the last of them hands on, there, go through casts whose ids begin with c
+  abbrev pub handed_on : ℕ → ℕ → ℕ → ℕ → List Value → List Edit
+  handed_on y r c last handed = bridges i64 (before_in y r last) results handed ++ crossing last 0 c results
+
+  -- a loop whose block has some arguments, of which these are of index: casts of its operands, placeholders for its
+  -- arguments, the loop, casts of its arguments, casts of what it hands on, casts of its results
+  abbrev pub loop_lowered : List TypeTerm → List Bool → Taken → List Edit
+  loop_lowered args marks b =
+      let y = operation_id + length args in
+      let arguments_id = y + 1 in
+      let yields_id = arguments_id + marked marks in
+      let results_id = yields_id + marked results in
+      let holder_ids = range_with_len operation_id (length args) in
+      let holders = map (λ i. Result i 0) holder_ids in
+      let olds = arguments_from (head o).id 0 args in
+      let arguments = arguments_from y 0 args in
+      let news = crossed arguments_id marks arguments in
+      bridges i64 front operands (head o).operands
+      ++ map (λ ty. Make front (placeholder ty)) args
+      ++ replacing olds holders
+      ++ operation_made
+      ++ bridges Index (end_of y 0) marks arguments
+      ++ moved_over y 0 b
+      ++ replacing holders news
+      ++ erasing holder_ids
+      ++ handed_on y 0 yields_id b.last (map (replaced olds news) b.handed.items)
+      ++ results_given y results_id
+
+  -- a choice between two blocks: the new one, casts of what its blocks hand on, casts of its results
+  abbrev pub choice_lowered : Taken → Taken → List Edit
+  choice_lowered b d =
+      let y = operation_id in
+      let first_id = y + 1 in
+      let second_id = first_id + marked results in
+      let results_id = second_id + marked results in
+      operation_made
+      ++ moved_over y 0 b ++ handed_on y 0 first_id b.last b.handed.items
+      ++ moved_over y 1 d ++ handed_on y 1 second_id d.last d.handed.items
+      ++ results_given y results_id
+
 -- the edits of a plan, where n is the next free id, and a place is in front of the operation
 abbrev pub lowering_meaning : Things → ℕ → Place → Lowering → List Edit
 lowering_meaning c n front (plan.Operation i) = operation_lowered n front i.index_operands.items i.index_results.items (meaning c i.op)
+lowering_meaning c n front (plan.Loop l) =
+    loop_lowered n front l.of.index_operands.items l.of.index_results.items (meaning c l.of.op) (map (type_term c) l.arguments.items) l.index_arguments.items l.body
+lowering_meaning c n front (plan.Choice d) = choice_lowered n front d.of.index_operands.items d.of.index_results.items (meaning c d.of.op) d.first d.second

@@ -1,17 +1,23 @@
 -- Edits of lowerings, in the numbers of a context.
-use Rattle.std.specs.Prelude.{ℕ, ◌+◌, List, [], ◌∷◌, ◌++◌, map, Bool, true, false, if◌then◌else◌}
+use Rattle.std.specs.Prelude.{ℕ, ◌+◌, List, [], ◌∷◌, ◌++◌, map, length, Bool, true, false, if◌then◌else◌}
 use Rattle.ir_types.specs.Things.{Things}
 use Rattle.ir_types.specs.Terms.{type_term}
 use Rattle.ir_types.specs.declared.word.Word.TheVariants.{BuiltinUnrealizedConversionCast}
 use Rattle.ir_types.specs.WordNames.{word_number}
 use Rattle.ir_tree.specs.declared.value.Value.{Value}
+use Rattle.ir_tree.specs.declared.value.Value.TheVariants.{Result}
 use Rattle.ir_tree.specs.declared.place.Place.{Place}
 use Rattle.ir_tree.specs.Tree.{Op, op, Regions, no_regions, region, Region, empty, block, no_ops, head, regions}
 use Rattle.patterns_edits.specs.declared.edit.Edit.{Edit}
-use Rattle.patterns_edits.specs.declared.edit.Edit.TheVariants.{Make, Replace, Erase}
+use Rattle.patterns_edits.specs.declared.edit.Edit.TheVariants.{Make, SetOperand, Replace, Move, Erase}
 use Rattle.patterns_base.specs.Looks.{is_index}
-use Rattle.patterns_base.specs.Makes.{results_from}
-use Rattle.patterns_base.specs.Lowering.{crossed, marked}
+use Rattle.patterns_base.specs.Makes.{arguments_from, results_from}
+use Rattle.patterns_base.specs.Lowering.{before_in, crossed, end_of, marked}
+use Rattle.patterns_regions.specs.Opened.{put_for}
+use Rattle.patterns_lowering.specs.declared.plan.Taken.{Taken}
+use Rattle.patterns_lowering.specs.declared.plan.IndexedLoop.{IndexedLoop}
+use Rattle.patterns_lowering.specs.declared.plan.IndexedChoice.{IndexedChoice}
+use Rattle.patterns_lowering.specs.declared.loops.LoopIds.{LoopIds}
 
 -- a cast of some values to a type
 abbrev pub cast_op : ℕ → List Value → Op
@@ -60,3 +66,98 @@ operation_edits c wide index properties n front operands results o =
     bridge_edits wide front operands (head o).operands
     ++ Make front (op_lowered c wide properties (crossed n operands (head o).operands) o) ∷ []
     ++ give_edits index front results o (n + marked operands) (n + marked operands + 1)
+
+-- numbers from one on, as many as there are items
+abbrev pub numbers_from : {X : Type 0} → ℕ → List X → List ℕ
+numbers_from n [] = []
+numbers_from n (i ∷ is) = n ∷ numbers_from (n + 1) is
+
+-- the first results of operations
+abbrev pub first_results : List ℕ → List Value
+first_results xs = map (λ x. Result x 0) xs
+
+-- casts out of nothing to types, at a place
+abbrev pub holder_edits : Place → List ℕ → List Edit
+holder_edits place [] = []
+holder_edits place (ty ∷ tys) = Make place (cast_op ty []) ∷ holder_edits place tys
+
+-- operations moved to a place, and erased
+abbrev pub move_edits : Place → List ℕ → List Edit
+move_edits place [] = []
+move_edits place (x ∷ xs) = Move x place ∷ move_edits place xs
+
+abbrev pub erase_edits : List ℕ → List Edit
+erase_edits [] = []
+erase_edits (x ∷ xs) = Erase x ∷ erase_edits xs
+
+-- the operations of a block come to the end of block r of operation y
+abbrev pub over_edits : ℕ → ℕ → Taken → List Edit
+over_edits y r b = move_edits (end_of y r) b.before.items ++ Move b.last (end_of y r) ∷ []
+
+-- casts, whose ids begin with n, set as operands of x from number k on, where these are marked
+abbrev pub crossing_edits : ℕ → ℕ → ℕ → List Bool → List Edit
+crossing_edits x k n [] = []
+crossing_edits x k n (true ∷ ms) = SetOperand x k (Result n 0) ∷ crossing_edits x (k + 1) (n + 1) ms
+crossing_edits x k n (false ∷ ms) = crossing_edits x (k + 1) n ms
+
+-- values that operation `last` hands on go through casts at a place, whose ids begin with n
+abbrev pub handed_edits : ℕ → Place → ℕ → ℕ → List Bool → List Value → List Edit
+handed_edits wide place n last marks handed = bridge_edits wide place marks handed ++ crossing_edits last 0 n marks
+
+-- the ids of what a loop becomes, from n on
+abbrev pub loop_ids : ℕ → IndexedLoop → LoopIds
+loop_ids n l = record {
+  holders = n + marked l.of.index_operands.items;
+  op = n + marked l.of.index_operands.items + length l.arguments.items;
+  arguments = n + marked l.of.index_operands.items + length l.arguments.items + 1;
+  handed = n + marked l.of.index_operands.items + length l.arguments.items + 1 + marked l.index_arguments.items;
+  results = n + marked l.of.index_operands.items + length l.arguments.items + 1 + marked l.index_arguments.items + marked l.of.index_results.items;
+}
+
+-- what comes in front of a loop: casts of its operands, what stands for its arguments, and the loop on i64
+abbrev pub front_edits : Things → ℕ → List (ℕ × ℕ) → ℕ → Place → List Value → IndexedLoop → List Edit
+front_edits c wide properties n front holders l =
+    bridge_edits wide front l.of.index_operands.items (head l.of.op).operands
+    ++ holder_edits front l.arguments.items
+    ++ replace_edits (arguments_from (head l.of.op).id 0 l.arguments.items) holders
+    ++ Make front (op_lowered c wide properties (crossed n l.of.index_operands.items (head l.of.op).operands) l.of.op) ∷ []
+
+-- what comes in its block: casts of its arguments, the operations, which are given these, and what stood for them goes
+abbrev pub inside_edits : ℕ → ℕ → List ℕ → List Value → List Value → List Value → IndexedLoop → List Edit
+inside_edits index y ids holders arguments news l =
+    bridge_edits index (end_of y 0) l.index_arguments.items arguments
+    ++ over_edits y 0 l.body
+    ++ replace_edits holders news
+    ++ erase_edits ids
+
+-- what the block hands on goes through casts, and so do the results
+abbrev pub behind_edits : ℕ → ℕ → Place → LoopIds → List Value → IndexedLoop → List Edit
+behind_edits wide index front ids news l =
+    handed_edits wide (before_in ids.op 0 l.body.last) ids.handed l.body.last l.of.index_results.items (map (put_for (head l.of.op).id news) l.body.handed.items)
+    ++ give_edits index front l.of.index_results.items l.of.op ids.op ids.results
+
+-- the edits of rule 29
+abbrev pub loop_edits : Things → ℕ → ℕ → List (ℕ × ℕ) → ℕ → Place → IndexedLoop → List Edit
+loop_edits c wide index properties n front l =
+    let ids = loop_ids n l in
+    let holder_ids = numbers_from ids.holders l.arguments.items in
+    let holders = first_results holder_ids in
+    let arguments = arguments_from ids.op 0 l.arguments.items in
+    let news = crossed ids.arguments l.index_arguments.items arguments in
+    front_edits c wide properties n front holders l ++ inside_edits index ids.op holder_ids holders arguments news l ++ behind_edits wide index front ids news l
+
+-- the operations of a block become those of block r of operation y, and what they hand on goes through casts whose ids
+-- begin with n
+abbrev pub side_edits : ℕ → ℕ → ℕ → ℕ → List Bool → Taken → List Edit
+side_edits wide y r n marks b = over_edits y r b ++ handed_edits wide (before_in y r b.last) n b.last marks b.handed.items
+
+-- the edits of rule 30
+abbrev pub choice_edits : Things → ℕ → ℕ → List (ℕ × ℕ) → ℕ → Place → IndexedChoice → List Edit
+choice_edits c wide index properties n front d =
+    let o = d.of.op in
+    let results = d.of.index_results.items in
+    let y = n + marked d.of.index_operands.items in
+    Make front (op_lowered c wide properties (crossed n d.of.index_operands.items (head o).operands) o) ∷ []
+    ++ side_edits wide y 0 (y + 1) results d.first
+    ++ side_edits wide y 1 (y + 1 + marked results) results d.second
+    ++ give_edits index front results o y (y + 1 + marked results + marked results)

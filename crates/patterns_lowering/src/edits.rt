@@ -6,11 +6,14 @@ ghost use Rattle.patterns_base.specs.Lowering.{marked};
 ghost use Rattle.patterns_edits.specs.Lists.{AllFit, edits_meaning};
 ghost use Rattle.patterns_lowering.specs.Interned.{Interned, IsWanting};
 ghost use Rattle.patterns_lowering.specs.Meanings.{lowering_meaning, operation_lowered};
-ghost use Rattle.patterns_lowering.specs.Plans.{IsIndexed, LoweringIsOf, lowering_makes};
+ghost use Rattle.patterns_lowering.specs.Plans.{IsIndexed, IsIndexedChoice, IsIndexedLoop, LoweringIsOf, lowering_makes};
+ghost use Rattle.patterns_lowering.specs.declared.plan.Lowering.TheVariants.{Loop, Choice};
 
+use crate::choices::choice_edits;
 use crate::intern::interned;
+use crate::loops::loop_edits;
 use crate::operation::operation_edits;
-use crate::plan::{Indexed, Lowering};
+use crate::plan::{Indexed, IndexedChoice, IndexedLoop, Lowering};
 use ir_event::analysis::Analysis;
 use ir_tree::place::Place;
 use ir_types::refusal::Refusal;
@@ -45,6 +48,60 @@ fn operation<L: Analysis>(
     }
 }
 
+/// The edits of rule 29.
+fn over_loop<L: Analysis>(
+    alloc: Global,
+    bench: &mut Bench<L>,
+    front: &Place,
+    of: &IndexedLoop,
+) -> Result<Vec<Edit>, Refusal>
+    requires of { IsIndexedLoop bench.old.desk.ctx of.now }
+    requires room { bench.old.desk.store.module_of.next + lowering_makes (Loop of.now) ≤ most_next }
+    ensures edits { IfOk result (λ es. edits_meaning bench.new.desk.ctx es.items ≡ lowering_meaning bench.old.desk.ctx bench.old.desk.store.module_of.next front.now (Loop of.now)) }
+    ensures fit { IfOk result (λ es. AllFit bench.new.desk.ctx es.items) }
+    ensures refused { IfErr result (λ e. IsWanting bench.new.desk.ctx e) }
+    ensures interned { Interned L.meaning bench.old bench.new }
+{
+    bench.is_formed();
+    let next = bench.world().store.next_id();
+    let numbers = match interned(alloc, bench, &of.of.op) {
+        Ok(numbers) => numbers,
+        Err(refusal) => return Err(refusal),
+    };
+    bench.is_formed();
+    match loop_edits(alloc, &bench.world().ctx, numbers, next, front, of) {
+        Ok(edits) => Ok(edits),
+        Err(_) => Err(Refusal::Memory),
+    }
+}
+
+/// The edits of rule 30.
+fn over_choice<L: Analysis>(
+    alloc: Global,
+    bench: &mut Bench<L>,
+    front: &Place,
+    of: &IndexedChoice,
+) -> Result<Vec<Edit>, Refusal>
+    requires of { IsIndexedChoice bench.old.desk.ctx of.now }
+    requires room { bench.old.desk.store.module_of.next + lowering_makes (Choice of.now) ≤ most_next }
+    ensures edits { IfOk result (λ es. edits_meaning bench.new.desk.ctx es.items ≡ lowering_meaning bench.old.desk.ctx bench.old.desk.store.module_of.next front.now (Choice of.now)) }
+    ensures fit { IfOk result (λ es. AllFit bench.new.desk.ctx es.items) }
+    ensures refused { IfErr result (λ e. IsWanting bench.new.desk.ctx e) }
+    ensures interned { Interned L.meaning bench.old bench.new }
+{
+    bench.is_formed();
+    let next = bench.world().store.next_id();
+    let numbers = match interned(alloc, bench, &of.of.op) {
+        Ok(numbers) => numbers,
+        Err(refusal) => return Err(refusal),
+    };
+    bench.is_formed();
+    match choice_edits(alloc, &bench.world().ctx, numbers, next, front, of) {
+        Ok(edits) => Ok(edits),
+        Err(_) => Err(Refusal::Memory),
+    }
+}
+
 /// The edits of a plan, for which i64, index, and integers of i64 are interned. The module, its marks and the listeners
 /// stay as they are.
 ///
@@ -64,5 +121,7 @@ pub fn lowering_edits<L: Analysis>(
 {
     match plan {
         Lowering::Operation(of) => operation(alloc, bench, front, of),
+        Lowering::Loop(of) => over_loop(alloc, bench, front, of),
+        Lowering::Choice(of) => over_choice(alloc, bench, front, of),
     }
 }

@@ -2,13 +2,22 @@
 #![tactic(auto)]
 
 mod bare;
+pub mod by_number;
+mod choices;
+pub mod count;
 pub mod edits;
 mod give;
+mod holders;
 mod index;
 mod intern;
 mod lists;
+mod loops;
 mod lower;
 mod marks;
 mod numbers;
 mod operation;
+mod over;
 pub mod plan;
+mod plans;
+mod reading;
+mod users;

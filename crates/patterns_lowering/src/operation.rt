@@ -20,7 +20,7 @@ use patterns_edits::edit::Edit;
 use std::alloc::{AllocError, Global};
 
 /// The operation on i64 is made at a place. The casts of its operands have the ids from `next` on.
-fn push_made(
+pub(crate) fn push_made(
     alloc: Global,
     ctx: &Context,
     edits: &mut Vec<Edit>,

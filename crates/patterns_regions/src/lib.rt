@@ -3,6 +3,6 @@
 
 pub mod block;
 mod bounds;
-mod opened;
+pub mod opened;
 pub mod plans;
 pub mod tests;

@@ -11,7 +11,7 @@ use patterns_edits::edit::Edit;
 use std::alloc::{AllocError, Global};
 
 /// What a value is where the arguments of an operation's block 0 are replaced by values.
-fn put_for(op: OpId, values: &[Value], value: &Value) -> Value
+pub fn put_for(op: OpId, values: &[Value], value: &Value) -> Value
     ensures { result ≡ put_for op values.now value.now }
 {
     let Value::Arg(owner, region, number) = *value else {

@@ -1,0 +1,59 @@
+-- What it is to plan a rule that lowers.
+use Rattle.std.specs.Prelude.{◌≡◌, ℕ, List, map, Option, Some, None, option_map, true}
+use Rattle.ir_types.specs.Terms.{type_term}
+use Rattle.ir_tree.specs.declared.place.Place.{Place}
+use Rattle.ir_tree.specs.Tree.{Op, head}
+use Rattle.ir_tree.specs.Ids.{find}
+use Rattle.ir_tree.specs.Meaning.{Operation}
+use Rattle.ir_event.specs.declared.world.World.{World}
+use Rattle.ir_event.specs.Modules.{module_in}
+use Rattle.patterns_edits.specs.Contents.{Edit}
+use Rattle.patterns_base.specs.Looks.{Ended, is_clean, is_index_value}
+use Rattle.patterns_base.specs.Lowering.{indices}
+use Rattle.patterns_base.specs.Rules.{rule}
+use Rattle.patterns_lowering.specs.declared.plan.Indexed.{Indexed}
+use Rattle.patterns_lowering.specs.declared.plan.Taken.{Taken}
+use Rattle.patterns_lowering.specs.declared.plan.Lowering.{Lowering}
+use Rattle.patterns_lowering.specs.Bare.{bare}
+use Rattle.patterns_lowering.specs.Meanings.{lowering_meaning}
+
+-- a rule: the edits that it makes of an operation of a tree, where an id is the next free one and a place is in front of
+-- the operation, if it applies
+abbrev pub Rule : Type 0
+Rule = Operation → ℕ → Place → Operation → Option (List Edit)
+
+-- a plan, or none, is what a rule makes of operation x of a world's module, if x is there, whatever id is free and
+-- wherever x stands
+abbrev pub IsLoweredBy : Rule → World → ℕ → Option Lowering → Type 0
+IsLoweredBy makes w x p = (o : Operation) → find x (module_in w).tree ≡ Some o → (n : ℕ) (front : Place) → option_map (lowering_meaning w.ctx n front) p ≡ makes (module_in w).tree n front o
+
+-- what rule r makes of it
+abbrev pub IsLoweredAt : ℕ → World → ℕ → Option Lowering → Type 0
+IsLoweredAt r w x p = IsLoweredBy (rule r) w x p
+
+-- operation x of a world's module is clean, if x is there
+abbrev pub IsCleanAt : World → ℕ → Type 0
+IsCleanAt w x = (o : Operation) → find x (module_in w).tree ≡ Some o → is_clean (module_in w).tree (head o) ≡ true
+
+-- what is read of operation o of a world's module: the operation without those in its blocks, and which of its operands
+-- and results are of index
+pub record IsReadIn (w : World) (o : Op) (i : Indexed) : Type 0 where
+  pub op : i.op ≡ bare o
+  pub operands : i.index_operands.items ≡ map (is_index_value (module_in w).tree) (head o).operands
+  pub results : i.index_results.items ≡ indices (map (type_term w.ctx) (head o).results)
+
+-- what is read of operation x, if x is there
+abbrev pub IsReadOf : World → ℕ → Indexed → Type 0
+IsReadOf w x i = (o : Op) → find x w.store.module_of.tree ≡ Some o → IsReadIn w o i
+
+-- what is taken of a block
+pub record IsTaken (e : Ended) (b : Taken) : Type 0 where
+  pub before : b.before.items ≡ e.before
+  pub last : b.last ≡ e.last.id
+  pub handed : b.handed.items ≡ e.last.operands
+
+-- of a block that there may be
+abbrev pub AreTaken : Option Ended → Option Taken → Type 0
+AreTaken None None = Unit {0}
+AreTaken (Some e) (Some b) = IsTaken e b
+AreTaken _ _ = ⊥

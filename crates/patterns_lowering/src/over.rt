@@ -1,0 +1,163 @@
+//! The operations of a block are taken over by another one, where what the last of them hands on goes through casts.
+ghost use Rattle.std.specs.Prelude.{◌≡◌, ◌≤◌, ◌+◌, IfOk, OnOk, List, ◌++◌, ◌∷◌, [], length, map, Bool};
+ghost use Rattle.ir_tree.specs.Limits.{most_next};
+ghost use Rattle.patterns_base.specs.Makes.{arguments_from};
+ghost use Rattle.patterns_base.specs.Lowering.{marked};
+ghost use Rattle.patterns_regions.specs.Opened.{put_for};
+ghost use Rattle.patterns_lowering.specs.Numbers.{crossing_edits, handed_edits, move_edits, over_edits};
+
+use crate::lists::{push_bridges, put};
+use crate::plan::Taken;
+use ir_tree::place::Place;
+use ir_tree::value::Value;
+use ir_types::ids::{OpId, TypeId};
+use patterns_edits::edit::Edit;
+use patterns_regions::opened::put_for;
+use std::alloc::{AllocError, Global};
+
+/// Operations are moved to a place.
+fn push_moved(edits: &mut Vec<Edit>, place: &Place, ops: &[OpId]) -> Result<(), AllocError>
+    ensures { OnOk result (edits.new.items ≡ edits.old.items ++ move_edits place.now ops.now) }
+{
+    let mut rest = ops;
+    'ops: while let [op, tail @ ..] = rest {
+        put(
+            edits,
+            Edit::Move {
+                op: *op,
+                place: *place,
+            },
+        )?;
+        rest = tail;
+    }
+    Ok(())
+}
+
+/// The operations of a block come to the end of the block of a region of an operation.
+pub(crate) fn push_over(
+    edits: &mut Vec<Edit>,
+    op: OpId,
+    region: u32,
+    block: &Taken,
+) -> Result<(), AllocError>
+    ensures { OnOk result (edits.new.items ≡ edits.old.items ++ over_edits op region block.now) }
+{
+    let place = Place {
+        parent: op,
+        region,
+        before: None,
+    };
+    push_moved(edits, &place, &block.before)?;
+    put(
+        edits,
+        Edit::Move {
+            op: block.last,
+            place,
+        },
+    )
+}
+
+/// A cast is set as an operand, if that is marked. The next cast's id.
+fn push_cross(
+    edits: &mut Vec<Edit>,
+    op: OpId,
+    operand: u32,
+    next: u32,
+    mark: bool,
+) -> Result<u32, AllocError>
+    requires { next + marked (mark ∷ []) ≤ most_next }
+    ensures edits { IfOk result (λ n. (ms : List Bool) → edits.new.items ++ crossing_edits op (operand + 1) n ms ≡ edits.old.items ++ crossing_edits op operand next (mark ∷ ms)) }
+    ensures next { IfOk result (λ n. (ms : List Bool) → n + marked ms ≡ next + marked (mark ∷ ms)) }
+{
+    if !mark {
+        return Ok(next);
+    }
+    put(
+        edits,
+        Edit::SetOperand {
+            op,
+            operand,
+            value: Value::Result(OpId::new(next), 0),
+        },
+    )?;
+    Ok(next + 1)
+}
+
+/// Casts, whose ids begin with one, are set as those operands that are marked.
+fn push_crossing(
+    edits: &mut Vec<Edit>,
+    op: OpId,
+    first: u32,
+    marks: &[bool],
+) -> Result<(), AllocError>
+    requires few { length marks.now ≤ 256 }
+    requires room { first + marked marks.now ≤ most_next }
+    ensures { OnOk result (edits.new.items ≡ edits.old.items ++ crossing_edits op 0 first marks.now) }
+{
+    let mut next = first;
+    let mut operand = 0;
+    let mut rest = marks;
+    'marks: while let [mark, tail @ ..] = rest {
+        next = push_cross(edits, op, operand, next, *mark)?;
+        operand += 1;
+        rest = tail;
+    }
+    Ok(())
+}
+
+/// What the last operation of a block hands on there goes through casts, whose ids begin with one, where it is marked.
+pub(crate) fn push_handed(
+    alloc: Global,
+    edits: &mut Vec<Edit>,
+    wide: TypeId,
+    place: &Place,
+    first: u32,
+    last: OpId,
+    marks: &[bool],
+    handed: &[Value],
+) -> Result<(), AllocError>
+    requires few { length marks.now ≤ 256 }
+    requires room { first + marked marks.now ≤ most_next }
+    ensures { OnOk result (edits.new.items ≡ edits.old.items ++ handed_edits wide place.now first last marks.now handed.now) }
+{
+    push_bridges(alloc, edits, wide, place, marks, handed)?;
+    push_crossing(edits, last, first, marks)
+}
+
+/// The arguments of the block of an operation's region 0, as many as there are types.
+pub(crate) fn arguments_of(
+    alloc: Global,
+    op: OpId,
+    types: &[TypeId],
+) -> Result<Vec<Value>, AllocError>
+    requires { length types.now ≤ 256 }
+    ensures { IfOk result (λ vs. vs.items ≡ arguments_from op 0 types.now) }
+{
+    let mut values = Vec::new(alloc);
+    let mut number = 0;
+    let mut rest = types;
+    'types: while let [_, tail @ ..] = rest {
+        values.push(Value::Arg(op, 0, number))?;
+        number += 1;
+        rest = tail;
+    }
+    Ok(values)
+}
+
+/// What values are where the arguments of an operation's block 0 are replaced by others.
+pub(crate) fn all_put(
+    alloc: Global,
+    op: OpId,
+    news: &[Value],
+    values: &[Value],
+) -> Result<Vec<Value>, AllocError>
+    ensures { IfOk result (λ vs. vs.items ≡ map (put_for op news.now) values.now) }
+{
+    let mut kept = Vec::new(alloc);
+    let mut rest = values;
+    'values: while let [value, tail @ ..] = rest {
+        kept.push(put_for(op, news, value))?;
+        rest = tail;
+    }
+    Ok(kept)
+}

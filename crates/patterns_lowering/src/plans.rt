@@ -1,0 +1,110 @@
+//! Rules 28 to 30: what they make of operations on index.
+ghost use Rattle.std.specs.Prelude.{◌≡◌, ◌||◌, IfOk, IfSome};
+ghost use Rattle.patterns_base.specs.Lowering.{any, rule_28, rule_29, rule_30};
+ghost use Rattle.patterns_lowering.specs.Planned.{IsCleanAt, IsLoweredBy};
+ghost use Rattle.patterns_lowering.specs.Plans.{LoweringIsOf};
+
+use crate::bare::found;
+use crate::index::indices;
+use crate::marks::any;
+use crate::plan::{IndexedChoice, IndexedLoop, Lowering};
+use crate::reading::{read, take};
+use crate::users::is_user;
+use ir_event::world::World;
+use ir_types::ids::OpId;
+use ir_types::word::Word;
+use std::alloc::{AllocError, Global};
+
+/// Whether one of two lists is marked.
+fn is_either(some: &[bool], others: &[bool]) -> bool
+    ensures { result ≡ (any some.now || any others.now) }
+{
+    any(some) || any(others)
+}
+
+/// An operation of arith on index: one on i64.
+pub(crate) fn plan_28(
+    alloc: Global,
+    world: &World,
+    op: OpId,
+) -> Result<Option<Lowering>, AllocError>
+    ensures edits { IfOk result (IsLoweredBy rule_28 world.now op) }
+    ensures of { IfOk result (λ p. IfSome p (LoweringIsOf world.now.ctx)) }
+{
+    let Some(node) = found(world, op) else {
+        return Ok(None);
+    };
+    if !is_user(&world.ctx, node.name()) {
+        return Ok(None);
+    }
+    let of = read(alloc, world, op, &node)?;
+    if !is_either(&of.index_operands, &of.index_results) {
+        return Ok(None);
+    }
+    Ok(Some(Lowering::Operation(of)))
+}
+
+/// A loop over index: one over i64.
+pub(crate) fn plan_29(
+    alloc: Global,
+    world: &World,
+    op: OpId,
+) -> Result<Option<Lowering>, AllocError>
+    requires { IsCleanAt world.now op }
+    ensures edits { IfOk result (IsLoweredBy rule_29 world.now op) }
+    ensures of { IfOk result (λ p. IfSome p (LoweringIsOf world.now.ctx)) }
+{
+    let Some(node) = found(world, op) else {
+        return Ok(None);
+    };
+    if !world.ctx.is_word(node.name(), Word::ScfFor) {
+        return Ok(None);
+    }
+    let of = read(alloc, world, op, &node)?;
+    if !any(&of.index_operands) {
+        return Ok(None);
+    }
+    let Some(types) = node.arguments(0) else {
+        return Ok(None);
+    };
+    let Some(body) = take(alloc, world, op, 0)? else {
+        return Ok(None);
+    };
+    let index_arguments = indices(alloc, &world.ctx, types)?;
+    let arguments = Vec::from_slice(alloc, types)?;
+    Ok(Some(Lowering::Loop(IndexedLoop {
+        of,
+        arguments,
+        index_arguments,
+        body,
+    })))
+}
+
+/// A choice that gives an index: one that gives an i64.
+pub(crate) fn plan_30(
+    alloc: Global,
+    world: &World,
+    op: OpId,
+) -> Result<Option<Lowering>, AllocError>
+    requires { IsCleanAt world.now op }
+    ensures edits { IfOk result (IsLoweredBy rule_30 world.now op) }
+    ensures of { IfOk result (λ p. IfSome p (LoweringIsOf world.now.ctx)) }
+{
+    let Some(node) = found(world, op) else {
+        return Ok(None);
+    };
+    if !world.ctx.is_word(node.name(), Word::ScfIf) {
+        return Ok(None);
+    }
+    let of = read(alloc, world, op, &node)?;
+    if !any(&of.index_results) {
+        return Ok(None);
+    }
+    let Some(first) = take(alloc, world, op, 0)? else {
+        return Ok(None);
+    };
+    let Some(second) = take(alloc, world, op, 1)? else {
+        return Ok(None);
+    };
+    Ok(Some(Lowering::Choice(IndexedChoice { of, first, second })))
+}

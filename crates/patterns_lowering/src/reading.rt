@@ -1,0 +1,57 @@
+//! What is read of operations that may be lowered.
+ghost use Rattle.std.specs.Prelude.{◌≡◌, ◌||◌, IfOk, Some, option_map};
+ghost use Rattle.ir_tree.specs.Ids.{find};
+ghost use Rattle.ir_store.specs.Nodes.{node_of};
+ghost use Rattle.ir_event.specs.Modules.{module_in};
+ghost use Rattle.patterns_regions.specs.Blocks.{body_at};
+ghost use Rattle.patterns_lowering.specs.Planned.{AreTaken, IsReadOf};
+
+use crate::bare::bare;
+use crate::index::{index_values, indices};
+use crate::plan::{Indexed, Taken};
+use ir_event::world::World;
+use ir_store::node::Node;
+use ir_types::ids::OpId;
+use patterns_regions::block::{Body, body_of};
+use std::alloc::{AllocError, Global};
+
+/// What is read of an operation of the module, of which this is shown.
+pub(crate) fn read(
+    alloc: Global,
+    world: &World,
+    op: OpId,
+    node: &Node<'_>,
+) -> Result<Indexed, AllocError>
+    requires { Some node.now ≡ option_map node_of (find op world.now.store.module_of.tree) }
+    ensures { IfOk result (IsReadOf world.now op) }
+{
+    let index_operands = index_values(alloc, world, node.operands())?;
+    let index_results = indices(alloc, &world.ctx, node.results())?;
+    let op = bare(alloc, op, node)?;
+    Ok(Indexed {
+        op,
+        index_operands,
+        index_results,
+    })
+}
+
+/// The operations of the block of an operation's region, where the last of them is clean.
+pub(crate) fn take(
+    alloc: Global,
+    world: &World,
+    op: OpId,
+    region: u32,
+) -> Result<Option<Taken>, AllocError>
+    ensures { IfOk result (AreTaken (body_at op region (module_in world.now).tree)) }
+{
+    let Some(body) = body_of(alloc, world, op, region)? else {
+        return Ok(None);
+    };
+    let Body { before, last, node } = body;
+    let handed = Vec::from_slice(alloc, node.operands())?;
+    Ok(Some(Taken {
+        before,
+        last,
+        handed,
+    }))
+}

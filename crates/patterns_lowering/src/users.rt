@@ -1,0 +1,61 @@
+//! The operations that may be on index.
+ghost use Rattle.std.specs.Prelude.{◌≡◌, map};
+ghost use Rattle.ir_types.specs.Terms.{name_term};
+ghost use Rattle.ir_types.specs.WordNames.{word_bytes};
+ghost use Rattle.patterns_base.specs.Words.{among, index_users};
+
+use ir_types::context::Context;
+use ir_types::ids::NameId;
+use ir_types::word::Word;
+
+/// Their words.
+static USERS: [Word; 20] = [
+    Word::ArithConstant,
+    Word::ArithCmpi,
+    Word::ArithSelect,
+    Word::ArithAddi,
+    Word::ArithSubi,
+    Word::ArithMuli,
+    Word::ArithShli,
+    Word::ArithDivsi,
+    Word::ArithDivui,
+    Word::ArithRemsi,
+    Word::ArithRemui,
+    Word::ArithAndi,
+    Word::ArithOri,
+    Word::ArithXori,
+    Word::ArithShrsi,
+    Word::ArithShrui,
+    Word::ArithMaxsi,
+    Word::ArithMaxui,
+    Word::ArithMinsi,
+    Word::ArithMinui,
+];
+
+/// The words of operations that may have an operand or result of index, beside the casts.
+fn users() -> &'static [Word]
+    ensures { map (λ w. word_bytes w) result.now ≡ index_users }
+{
+    &USERS
+}
+
+/// Whether a name is one of those of some words.
+fn is_among(ctx: &Context, name: NameId, words: &[Word]) -> bool
+    ensures { result ≡ among (map (λ w. word_bytes w) words.now) (name_term ctx.now name) }
+{
+    let mut rest = words;
+    'words: while let [word, tail @ ..] = rest {
+        if ctx.is_word(name, *word) {
+            return true;
+        }
+        rest = tail;
+    }
+    false
+}
+
+/// Whether an operation of a name may have an operand or result of index, and isn't a cast.
+pub(crate) fn is_user(ctx: &Context, name: NameId) -> bool
+    ensures { result ≡ among index_users (name_term ctx.now name) }
+{
+    is_among(ctx, name, users())
+}

@@ -1,0 +1,3 @@
+pub mod Unbroken
+pub mod Ends
+pub mod Yielding

@@ -1,0 +1,4 @@
+//! What the blocks of clean loops and choices hand on, and what a clean choice asks for.
+#![tactic(auto)]
+
+pub mod laws;
