@@ -1,4 +1,4 @@
-use Rattle.std.proofs.Common.{◌≡◌, ℕ, List, [], ◌++◌, Option, Some, None, Result, Ok, Err, refl, ap, sym, ◌∙◌, append_assoc, append-nil, ◌+◌, ◌-◌, ◌<◌, length, take, drop, map, get_or, arith, Bor, add-one}
+use Rattle.std.proofs.Common.{◌≡◌, ℕ, List, [], ◌++◌, Option, Some, None, Result, Ok, Err, refl, ap, sym, ◌∙◌, append_assoc, append-nil, ◌+◌, ◌-◌, ◌<◌, ◌≤◌, zero, suc, length, take, drop, map, get_or, arith, Bor, add-one}
 use Rattle.std.proofs.Math.Seq.{drop-cons}
 use Rattle.std.proofs.lemmas.Grind.{common_steps}
 use Rattle.std.specs.Prelude.{IfSome}
@@ -88,3 +88,8 @@ pub kept_more : {V : Type 0} (items : V → List ℕ) (a b : Option V) (front by
 kept_more items a None front bytes lost more h = tt
 kept_more items None (Some all) front bytes lost more h = absurd (let f : Some all ≡ None = lost refl in cc)
 kept_more items (Some before) (Some all) front bytes lost more h = more ∙ ap (λ xs. xs ++ bytes) h
+
+-- each read gives a byte at least
+pub grows_on : (turn count taken : ℕ) → turn ≤ count → (taken ≡ 0 → ⊥) → turn + 1 ≤ count + taken
+grows_on turn count zero h some = absurd (some refl)
+grows_on turn count (suc taken) h some = omega arith

@@ -17,6 +17,9 @@ pub const MAX_INPUT_BYTES: usize = 33_554_432;
 /// The most bytes of a script.
 pub const MAX_SCRIPT_BYTES: usize = 16_777_216;
 
+/// More reads than an input has bytes. Each but the last gives one.
+const MAX_READS: usize = 33_554_433;
+
 /// The bytes that one read asks for.
 const CHUNK: usize = 8192;
 
@@ -62,7 +65,7 @@ pub fn read_all<R: Source>(alloc: Global, reader: &mut R) -> Result<Vec<u8>, Rea
     let mut kept = Some(Vec::new(alloc));
     let mut count = 0usize;
     let mut buffer = [0u8; CHUNK];
-    for _turn in 0..=MAX_INPUT_BYTES {
+    for _turn in 0..MAX_READS {
         match reader.read_some(&mut buffer) {
             Ok(0) => return kept.ok_or(ReadFault::Memory),
             Ok(taken) => {

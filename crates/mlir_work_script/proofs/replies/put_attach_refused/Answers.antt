@@ -20,4 +20,4 @@ returns-in-Ok g c =
 pub returns-in-Err : goal.returns-in-Err
 returns-in-Err g c =
     subst (GrowsFront (g.W.Sink.stream c.args.writer.now) (g.W.Sink.stream c.put_with_kind.new.writer)) (in_two c.args.kind c.args.refusal)
-    (front_more _ _ (codes "attach " ++ (kind_word c.args.kind ++ codes " refused ")) (text_of c.args.refusal ++ codes "\n") c.in-Err.ensures)
+    (front_more (g.W.Sink.stream c.args.writer.now) (g.W.Sink.stream c.put_with_kind.new.writer) (codes "attach " ++ (kind_word c.args.kind ++ codes " refused ")) (text_of c.args.refusal ++ codes "\n") c.in-Err.ensures)

@@ -1,9 +1,6 @@
-use Rattle.std.proofs.Common.{◌++◌, take, refl, []}
-use Rattle.mlir_work_script.proofs.Joins.{cut_is, grows_fails, grows_join, grows_none}
+use Rattle.std.proofs.Common.{◌++◌, take}
+use Rattle.mlir_work_script.proofs.Joins.{cut_is, grows_fails, grows_join}
 use Rattle.mlir_work_script.proofs.writing.put.Goals as goal
-
-pub loop-rest-start : goal.loop-rest-start
-loop-rest-start g c = record { front = []; is = refl; wrote = grows_none _ }
 
 pub returns-in-Err : goal.returns-in-Err
 returns-in-Err g c = grows_fails _ _ _ _ c.loop-rest.invariant.front c.loop-rest.rest.now c.loop-rest.invariant.is c.loop-rest.invariant.wrote c.in-Err.ensures.wrote
