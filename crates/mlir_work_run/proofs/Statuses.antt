@@ -80,3 +80,8 @@ pub fault_at : (taken left : Intake) (a b : Stream) (status : ℕ) → LeavesAt 
 fault_at taken left a b status (inl h) e = absurd (not_final status e h.0)
 fault_at taken left a b status (inr (four, inl h)) e = inl h.0
 fault_at taken left a b status (inr (four, inr h)) e = inr h.1
+
+-- where no read and no write can fail a run has the status of an output
+pub never_four : (P : ℕ → List ℕ → Type 0) (a b : Option (List ℕ)) (status : ℕ) → HasStatus P a b status → (status ≡ 4 → ⊥) → (out : List ℕ) × P status out
+never_four P a b status (inl (final, (out, h, wrote))) none = (out, h)
+never_four P a b status (inr (four, h)) none = absurd (none four)

@@ -2,6 +2,7 @@
 //! line.
 #![tactic(auto)]
 
+pub mod dry;
 pub mod options;
 pub mod run;
 mod text;
