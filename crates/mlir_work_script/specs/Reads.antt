@@ -1,6 +1,6 @@
 -- What was read.
 use Rattle.std.specs.Prelude.{◌≡◌, ◌<◌, ℕ, List, length, Bool, true, Option, ◌⊎◌, IfSome, MatchResult, Result, Ok, Err}
-use Rattle.std.specs.Io.KnownBytes.{Keeps, ReadConsumes, IsAtEnd}
+use Rattle.std.specs.Io.KnownBytes.{ReadConsumes, IsAtEnd}
 use Rattle.mlir_work_script.specs.declared.input.TheConstants.{MAX_INPUT_BYTES}
 use Rattle.mlir_work_script.specs.declared.input.ReadFault.{ReadFault}
 use Rattle.mlir_work_script.specs.declared.input.ReadFault.TheVariants.{Broken, TooMany, Memory as NoMemory}
