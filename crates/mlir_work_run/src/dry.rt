@@ -14,6 +14,7 @@ use std::alloc::Global;
 use std::io::Read;
 
 /// Bytes in memory. No read of them fails.
+#[derive(Drop)]
 struct Bytes<'a> {
     rest: &'a [u8],
 }
@@ -30,6 +31,7 @@ impl Source for Bytes<'_> {
 }
 
 /// Where bytes go of which nothing is kept. No write fails.
+#[derive(Drop)]
 struct Nowhere;
 
 impl Sink for Nowhere {
