@@ -12,7 +12,8 @@ use listeners::Symbols;
 use listeners::uses::Uses;
 use listeners_unreached::unreached::Unreached;
 use mlir_work_run::options::options_of;
-use mlir_work_run::run::{Options, run_keyed};
+use mlir_work_run::run::{Options, run_watched};
+use mlir_work_run::watched::Watched;
 use std::alloc::AllocError;
 use std::io::BufWriter;
 use std::process::ExitCode;
@@ -70,11 +71,12 @@ fn run_all(rt: &HostRuntime, options: Options) -> Result<u8, AllocError> {
     boxes.push(Box::new(rt.alloc(), Dead::new(rt.alloc()))?)?;
     boxes.push(Box::new(rt.alloc(), Constants::new(rt.alloc()))?)?;
     boxes.push(Box::new(rt.alloc(), Unreached::new(rt.alloc()))?)?;
-    let mut reader = rt.stdin();
-    let Ok(mut writer) = BufWriter::new(rt.alloc(), io::writer(rt)) else {
+    let Ok(writer) = BufWriter::new(rt.alloc(), io::writer(rt)) else {
         return Err(AllocError);
     };
-    Ok(run_keyed(
+    let mut reader = Watched::new(rt.stdin());
+    let mut writer = Watched::new(writer);
+    Ok(run_watched(
         rt.alloc(),
         key_of(rt),
         options,

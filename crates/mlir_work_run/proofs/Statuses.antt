@@ -1,5 +1,5 @@
 -- Which statuses an output may have.
-use Rattle.std.proofs.Common.{◌≡◌, sym, subst, inl, inr, ◌⊎◌, refl, ℕ, ◌+◌, List, [], ◌∷◌, length, Bool, true, false, Option, Some, None, Result, Ok, Err}
+use Rattle.std.proofs.Common.{◌≡◌, arith, sym, subst, inl, inr, ◌⊎◌, refl, ℕ, ◌+◌, List, [], ◌∷◌, length, Bool, true, false, Option, Some, None, Result, Ok, Err}
 use Rattle.std.specs.Prelude.{IfSome}
 use Rattle.ir_event.specs.Modules.{Module}
 use Rattle.mlir_work_session.specs.Commands.{Spoken, Nothing, Bad, Obey, line_says}
@@ -7,9 +7,11 @@ use Rattle.mlir_work_session.specs.Lines.{lines_of}
 use Rattle.mlir_work_session.specs.Parts.{script_text}
 use Rattle.mlir_work_session.specs.Machine.{State}
 use Rattle.mlir_work_session.specs.Panels.{Shown}
+use Rattle.mlir_work_session.specs.Reads.{Intake}
+use Rattle.mlir_work_session.specs.Writes.{Stream}
 use Rattle.mlir_work_session.specs.declared.manner.Manner.{Manner}
 use Rattle.mlir_work_session.specs.Output.{Line, Runs, IsSession, worse, is_accepted}
-use Rattle.mlir_work_run.specs.Ends.{EndedSo, HasStatus, IsFinal, status_of}
+use Rattle.mlir_work_run.specs.Ends.{EndedSo, HasFailed, HasStatus, IsFinal, Leaves, LeavesAt, status_of}
 use Rattle.mlir_work_run.specs.Whole.{IsOutput, manner_of}
 use Rattle.mlir_work_run.specs.declared.run.Options.{Options}
 use Rattle.mlir_work_run.specs.declared.run.Fault.{Fault}
@@ -41,7 +43,7 @@ final_low status (inl e) = inl e
 final_low status (inr e) = inr (inl e)
 
 -- an output has a status below that of a fault
-final_output : (options : Options) (boxes : List Shown) (input : List ℕ) (status : ℕ) (out : List ℕ) → IsOutput options boxes input status out → IsFinal status
+pub final_output : (options : Options) (boxes : List Shown) (input : List ℕ) (status : ℕ) (out : List ℕ) → IsOutput options boxes input status out → IsFinal status
 final_output options boxes input status out (inl h) = inr (inr h.1.0)
 final_output options boxes input status out (inr (short, inl (refusal, offset, why, h))) = inr (inr h.0)
 final_output options boxes input status out (inr (short, inr (m, read, h))) = final_low status (low_session (manner_of options (length input)) boxes m (script_text input) status out h)
@@ -58,3 +60,28 @@ has_status options boxes input a b r status e h = subst (λ (n : ℕ). HasStatus
 pub if_has_status : (o : Option (List ℕ)) (options : Options) (boxes : List Shown) (a b : Option (List ℕ)) (r : Result ℕ Fault) (status : ℕ) → status ≡ status_of r → IfSome o (λ input. EndedSo (IsOutput options boxes input) a b r) → IfSome o (λ input. HasStatus (IsOutput options boxes input) a b status)
 if_has_status None options boxes a b r status e h = tt
 if_has_status (Some input) options boxes a b r status e h = has_status options boxes input a b r status e h
+
+-- how a run leaves its reader and its writer is known of its exit status
+leaves_status : (taken left : Intake) (a b : Stream) (r : Result ℕ Fault) → Leaves taken left a b r → LeavesAt taken left a b (status_of r)
+leaves_status taken left a b (Ok status) h = inl h
+leaves_status taken left a b (Err ReadFailed) h = inr (refl, inl h)
+leaves_status taken left a b (Err WriteFailed) h = inr (refl, inr h)
+
+pub leaves_at : (taken left : Intake) (a b : Stream) (r : Result ℕ Fault) (status : ℕ) → status ≡ status_of r → Leaves taken left a b r → LeavesAt taken left a b status
+leaves_at taken left a b r status e h = subst (λ (n : ℕ). LeavesAt taken left a b n) (sym e) (leaves_status taken left a b r h)
+
+not_final : (status : ℕ) → status ≡ 4 → IsFinal status → ⊥
+not_final status e (inl h) = omega arith
+not_final status e (inr (inl h)) = omega arith
+not_final status e (inr (inr h)) = omega arith
+
+-- status 4 is answered only where a read or a write failed
+pub fault_at : (taken left : Intake) (a b : Stream) (status : ℕ) → LeavesAt taken left a b status → status ≡ 4 → HasFailed left b
+fault_at taken left a b status (inl h) e = absurd (not_final status e h.0)
+fault_at taken left a b status (inr (four, inl h)) e = inl h.0
+fault_at taken left a b status (inr (four, inr h)) e = inr h.1
+
+-- where no read and no write can fail a run has the status of an output
+pub never_four : (P : ℕ → List ℕ → Type 0) (a b : Option (List ℕ)) (status : ℕ) → HasStatus P a b status → (status ≡ 4 → ⊥) → (out : List ℕ) × P status out
+never_four P a b status (inl (final, (out, h, wrote))) none = (out, h)
+never_four P a b status (inr (four, h)) none = absurd (none four)

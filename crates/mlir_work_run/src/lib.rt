@@ -2,12 +2,13 @@
 //! line.
 #![tactic(auto)]
 
+pub mod dry;
 pub mod options;
 pub mod run;
 mod text;
 
 pub use mlir_work_session::{
     Bench, cells, command, input, keys, kind, lines, manner, numbers, outcome, reader, replies,
-    script, spots, values, words, writing,
+    script, sink, source, spots, values, watched, words, writing,
 };
 pub use rewriter_journal::laws;

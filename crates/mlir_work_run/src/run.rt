@@ -11,11 +11,12 @@ ghost use Rattle.mlir_work_session.specs.Panels.{all_shown};
 ghost use Rattle.mlir_work_session.specs.Lines.{lines_of};
 ghost use Rattle.mlir_work_session.specs.Parts.{module_text, script_text};
 ghost use Rattle.mlir_work_session.specs.TheConstants.{MAX_SCRIPT_BYTES};
+ghost use Rattle.mlir_work_session.specs.Writes.{HandsOn};
 ghost use Rattle.mlir_work_session.specs.Output.{IsSession};
 ghost use Rattle.mlir_work_session.specs.declared.manner.Manner.{Manner as Way};
 ghost use Rattle.mlir_work_session.specs.PrintsAlone.{all_print, kinds_apart};
 ghost use Rattle.mlir_work_session.specs.Ran.{RanOut};
-ghost use Rattle.mlir_work_run.specs.Ends.{EndedSo, HasStatus, ended_of, status_of};
+ghost use Rattle.mlir_work_run.specs.Ends.{EndedSo, HasFailed, HasStatus, Leaves, LeavesAt, ended_of, status_of};
 ghost use Rattle.mlir_work_run.specs.Whole.{IsOutput, IsRefusal, WhyNot, manner_of};
 
 use dialects_int::tables::registry;
@@ -32,6 +33,8 @@ use mlir_work_session::reader;
 use mlir_work_session::reader::ReadError;
 use mlir_work_session::replies::put_module_refused;
 use mlir_work_session::session::run_session;
+use mlir_work_session::sink::Sink;
+use mlir_work_session::source::Source;
 use mlir_work_session::writing::{WriteFault, flush};
 use rewriter_journal::laws::{stores_stay_slotted, stores_stay_tidy};
 use std::alloc::Global;
@@ -132,8 +135,8 @@ fn no_memory() -> Unread
 }
 
 /// Hands on what a buffering writer still holds, and gives the status.
-fn finish<W: Write>(writer: &mut W, status: u8) -> Result<u8, WriteFault>
-    ensures keeps { Keeps (W.contents writer.old) (W.contents writer.new) }
+fn finish<W: Sink>(writer: &mut W, status: u8) -> Result<u8, WriteFault>
+    ensures handed { HandsOn (W.stream writer.old) (W.stream writer.new) result }
     ensures status { IfOk result (λ s. s ≡ status) }
 {
     match flush(writer) {
@@ -143,8 +146,8 @@ fn finish<W: Write>(writer: &mut W, status: u8) -> Result<u8, WriteFault>
 }
 
 /// Writes that the module is refused.
-fn refuse<W: Write>(writer: &mut W, unread: Unread) -> Result<u8, WriteFault>
-    ensures { RanOut (IsRefusal unread.refusal unread.offset) (W.contents writer.old) (W.contents writer.new) result }
+fn refuse<W: Sink>(writer: &mut W, unread: Unread) -> Result<u8, WriteFault>
+    ensures { RanOut (IsRefusal unread.refusal unread.offset) (W.stream writer.old) (W.stream writer.new) result }
 {
     match put_module_refused(writer, unread.refusal, unread.offset) {
         Ok(()) => finish(writer, 3),
@@ -188,7 +191,7 @@ fn asks_for_prints<L: Analysis>(script: &[u8], boxes: &[L]) -> bool
 }
 
 /// Runs a script that only prints over a tree that was read.
-fn answer_prints<W: Write, L: Analysis>(
+fn answer_prints<W: Sink, L: Analysis>(
     alloc: Global,
     ctx: &Context,
     tree: &TreeOp,
@@ -200,7 +203,7 @@ fn answer_prints<W: Write, L: Analysis>(
     requires short { length script.now ≤ MAX_SCRIPT_BYTES }
     requires prints { all_print (lines_of script.now) ≡ true }
     requires apart { kinds_apart L.meaning boxes.now ≡ true }
-    ensures { (way : Way) (next : ℕ) → RanOut (IsSession way (all_shown L.meaning boxes.now) (record { tree = meaning ctx.now tree.now; next = next }) script.now) (W.contents writer.old) (W.contents writer.new) result }
+    ensures { (way : Way) (next : ℕ) → RanOut (IsSession way (all_shown L.meaning boxes.now) (record { tree = meaning ctx.now tree.now; next = next }) script.now) (W.stream writer.old) (W.stream writer.new) result }
 {
     match print_session(alloc, ctx, tree, script, writer, boxes) {
         Ok(status) => finish(writer, status),
@@ -209,7 +212,7 @@ fn answer_prints<W: Write, L: Analysis>(
 }
 
 /// Makes a world of a tree that was read, and runs a script over it.
-fn answer_script<W: Write, L: Analysis>(
+fn answer_script<W: Sink, L: Analysis>(
     alloc: Global,
     manner: &Manner,
     world: World,
@@ -219,7 +222,7 @@ fn answer_script<W: Write, L: Analysis>(
 ) -> Result<u8, WriteFault>
     requires slotted { IsSlotted world.store }
     requires tidy { IsTidy world.store }
-    ensures { RanOut (IsSession manner.now (all_shown L.meaning boxes.items) (module_in world) script.now) (W.contents writer.old) (W.contents writer.new) result }
+    ensures { RanOut (IsSession manner.now (all_shown L.meaning boxes.items) (module_in world) script.now) (W.stream writer.old) (W.stream writer.new) result }
 {
     match run_session(alloc, manner, world, script, writer, boxes) {
         Ok(status) => finish(writer, status),
@@ -239,7 +242,7 @@ fn manner_of(options: Options, bytes: usize) -> Manner
 }
 
 /// Runs an input that was read. A script that only prints is answered from the tree, without a world.
-fn answer_input<W: Write, L: Analysis>(
+fn answer_input<W: Sink, L: Analysis>(
     alloc: Global,
     key: u64,
     options: Options,
@@ -248,7 +251,7 @@ fn answer_input<W: Write, L: Analysis>(
     boxes: Vec<L>,
 ) -> Result<u8, WriteFault>
     requires { length input.items ≤ MAX_INPUT_BYTES }
-    ensures { RanOut (IsOutput options (all_shown L.meaning boxes.items) input.items) (W.contents writer.old) (W.contents writer.new) result }
+    ensures { RanOut (IsOutput options (all_shown L.meaning boxes.items) input.items) (W.stream writer.old) (W.stream writer.new) result }
 {
     let manner = manner_of(options, input.len());
     let ((ctx, tree), script) = match taken_apart(alloc, key, input) {
@@ -273,9 +276,10 @@ fn ended(ran: Result<u8, WriteFault>) -> Result<u8, Fault>
     }
 }
 
-/// Reads the whole input, and then runs it. After a read fault nothing is written; after a write fault a
-/// front of an output is. Nothing that is written depends on the key with which names are hashed.
-pub fn read_and_answer<R: Read, W: Write, L: Analysis>(
+/// Reads the whole input, and then runs it, with a reader and a writer of which it may be known whether they failed.
+/// After a read fault nothing is written; after a write fault a front of an output is. A fault is answered only where a
+/// read or a write failed. Nothing that is written depends on the key with which names are hashed.
+pub fn read_and_answer_watched<R: Source, W: Sink, L: Analysis>(
     alloc: Global,
     key: u64,
     options: Options,
@@ -283,8 +287,8 @@ pub fn read_and_answer<R: Read, W: Write, L: Analysis>(
     writer: &mut W,
     boxes: Vec<L>,
 ) -> Result<u8, Fault>
-    ensures ran { IfSome (R.remaining reader.old) (λ input. EndedSo (IsOutput options (all_shown L.meaning boxes.items) input) (W.contents writer.old) (W.contents writer.new) result) }
-    ensures unread { IfErr result (λ e. e ≡ Fault.Read → Keeps (W.contents writer.old) (W.contents writer.new)) }
+    ensures ran { IfSome (R.intake reader.old).remaining (λ input. EndedSo (IsOutput options (all_shown L.meaning boxes.items) input) (W.stream writer.old).contents (W.stream writer.new).contents result) }
+    ensures leaves { Leaves (R.intake reader.old) (R.intake reader.new) (W.stream writer.old) (W.stream writer.new) result }
 {
     let input = match read_all(alloc, reader) {
         Ok(input) => input,
@@ -301,6 +305,22 @@ pub fn read_and_answer<R: Read, W: Write, L: Analysis>(
     ended(answer_input(alloc, key, options, input, writer, boxes))
 }
 
+/// Reads the whole input, and then runs it. After a read fault nothing is written; after a write fault a
+/// front of an output is. Nothing that is written depends on the key with which names are hashed.
+pub fn read_and_answer<R: Read, W: Write, L: Analysis>(
+    alloc: Global,
+    key: u64,
+    options: Options,
+    reader: &mut R,
+    writer: &mut W,
+    boxes: Vec<L>,
+) -> Result<u8, Fault>
+    ensures ran { IfSome (R.remaining reader.old) (λ input. EndedSo (IsOutput options (all_shown L.meaning boxes.items) input) (W.contents writer.old) (W.contents writer.new) result) }
+    ensures unread { IfErr result (λ e. e ≡ Fault.Read → Keeps (W.contents writer.old) (W.contents writer.new)) }
+{
+    read_and_answer_watched(alloc, key, options, reader, writer, boxes)
+}
+
 fn exit_status(ended: Result<u8, Fault>) -> u8
     ensures { result ≡ status_of ended }
 {
@@ -308,6 +328,26 @@ fn exit_status(ended: Result<u8, Fault>) -> u8
         Ok(status) => status,
         Err(_) => 4,
     }
+}
+
+/// Reads the whole input, a module and a script, then writes the output, with a reader and a writer of which it may be
+/// known whether they failed. What is written is an output of what was read, and the answer is the exit status: 0 where
+/// all was accepted, 1 where a command or a box was refused, 3 where the module was, and 4 only where a read or a write
+/// failed. After a failed read nothing was written; all is read before the first byte is written. Nothing that is
+/// written depends on the key with which names are hashed.
+pub fn run_watched<L: Analysis, R: Source, W: Sink>(
+    alloc: Global,
+    key: u64,
+    options: Options,
+    reader: &mut R,
+    writer: &mut W,
+    boxes: Vec<L>,
+) -> u8
+    ensures ran { IfSome (R.intake reader.old).remaining (λ input. HasStatus (IsOutput options (all_shown L.meaning boxes.items) input) (W.stream writer.old).contents (W.stream writer.new).contents result) }
+    ensures leaves { LeavesAt (R.intake reader.old) (R.intake reader.new) (W.stream writer.old) (W.stream writer.new) result }
+    ensures fault { result ≡ 4 → HasFailed (R.intake reader.new) (W.stream writer.new) }
+{
+    exit_status(read_and_answer_watched(alloc, key, options, reader, writer, boxes))
 }
 
 /// Reads the whole input, a module and a script, then writes the output. What is written is an output of
@@ -338,5 +378,5 @@ pub fn run_keyed<L: Analysis, R: Read, W: Write>(
 ) -> u8
     ensures { IfSome (R.remaining reader.old) (λ input. HasStatus (IsOutput options (all_shown L.meaning boxes.items) input) (W.contents writer.old) (W.contents writer.new) result) }
 {
-    exit_status(read_and_answer(alloc, key, options, reader, writer, boxes))
+    run_watched(alloc, key, options, reader, writer, boxes)
 }

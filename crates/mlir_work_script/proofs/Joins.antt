@@ -1,9 +1,9 @@
-use Rattle.std.proofs.Common.{◌≡◌, ℕ, List, [], ◌++◌, Option, Some, None, Result, Ok, Err, refl, ap, sym, ◌∙◌, append_assoc, append-nil, ◌+◌, ◌-◌, ◌<◌, length, take, drop, map, get_or, arith, Bor, add-one}
+use Rattle.std.proofs.Common.{◌≡◌, ℕ, List, [], ◌++◌, Option, Some, None, Result, Ok, Err, refl, ap, sym, ◌∙◌, append_assoc, append-nil, ◌+◌, ◌-◌, ◌<◌, ◌≤◌, zero, suc, length, take, drop, map, get_or, arith, Bor, add-one}
 use Rattle.std.proofs.Math.Seq.{drop-cons}
 use Rattle.std.proofs.lemmas.Grind.{common_steps}
 use Rattle.std.specs.Prelude.{IfSome}
 use Rattle.std.specs.Io.KnownBytes.{Appends, Consumes, Keeps}
-use Rattle.mlir_work_script.specs.Writes.{AppendsFront, Puts, PutsSome, joined}
+use Rattle.mlir_work_script.specs.Writes.{AppendsFront, Fails, Grows, GrowsFront, Puts, PutsSome, Stays, Stream, joined}
 
 pub appends_none : (a b : Option (List ℕ)) → Keeps a b → Appends a b []
 appends_none None b k = tt
@@ -20,14 +20,32 @@ appends_join (Some ws) None c xs ys h k = absurd h
 appends_join (Some ws) (Some us) None xs ys h k = absurd k
 appends_join (Some ws) (Some us) (Some vs) xs ys h k = k ∙ (ap (λ zs. zs ++ ys) h ∙ append_assoc ws xs ys)
 
-pub front_join : (a b c : Option (List ℕ)) (xs ys : List ℕ) → Appends a b xs → AppendsFront b c ys → AppendsFront a c (xs ++ ys)
-front_join a b c xs ys h (front, back, is, k) = (xs ++ front, back, ap (λ zs. xs ++ zs) is ∙ sym (append_assoc xs front back), appends_join a b c xs front h k)
+appends_front_join : (a b c : Option (List ℕ)) (xs ys : List ℕ) → Appends a b xs → AppendsFront b c ys → AppendsFront a c (xs ++ ys)
+appends_front_join a b c xs ys h (front, back, is, k) = (xs ++ front, back, ap (λ zs. xs ++ zs) is ∙ sym (append_assoc xs front back), appends_join a b c xs front h k)
 
-pub front_more : (a b : Option (List ℕ)) (xs ys : List ℕ) → AppendsFront a b xs → AppendsFront a b (xs ++ ys)
-front_more a b xs ys (front, back, is, k) = (front, back ++ ys, ap (λ zs. zs ++ ys) is ∙ append_assoc front back ys, k)
+-- nothing was written yet
+pub grows_none : (a : Stream) → Grows a a []
+grows_none a = (appends_none a.contents a.contents (keeps_same a.contents), refl)
 
-pub puts_join : {T E : Type 0} (a b c : Option (List ℕ)) (xs ys : List ℕ) (r : Result T E) → Appends a b xs → Puts b c ys r → Puts a c (xs ++ ys) r
-puts_join a b c xs ys (Ok v) h k = appends_join a b c xs ys h k
+pub grows_join : (a b c : Stream) (xs ys : List ℕ) → Grows a b xs → Grows b c ys → Grows a c (xs ++ ys)
+grows_join a b c xs ys h k = (appends_join a.contents b.contents c.contents xs ys h.0 k.0, k.1 ∙ h.1)
+
+-- what was written is handed on
+pub grows_stays : (a b c : Stream) (xs : List ℕ) → Grows a b xs → Stays b c → Grows a c xs
+grows_stays a b c xs h k = (rw append-nil at (appends_join a.contents b.contents c.contents xs [] h.0 (appends_none b.contents c.contents k.0)), k.1 ∙ h.1)
+
+-- what was written before a write failed is a front of the whole
+pub grows_fails : (a b c : Stream) (whole front rest : List ℕ) → whole ≡ front ++ rest → Grows a b front → Fails b c → GrowsFront a c whole
+grows_fails a b c whole front rest e h k = ((front, rest, e, rw append-nil at (appends_join a.contents b.contents c.contents front [] h.0 (appends_none b.contents c.contents k.0))), k.1)
+
+pub front_join : (a b c : Stream) (xs ys : List ℕ) → Grows a b xs → GrowsFront b c ys → GrowsFront a c (xs ++ ys)
+front_join a b c xs ys h k = (appends_front_join a.contents b.contents c.contents xs ys h.0 k.0, k.1)
+
+pub front_more : (a b : Stream) (xs ys : List ℕ) → GrowsFront a b xs → GrowsFront a b (xs ++ ys)
+front_more a b xs ys ((front, back, is, k), failed) = ((front, back ++ ys, ap (λ zs. zs ++ ys) is ∙ append_assoc front back ys, k), failed)
+
+pub puts_join : {T E : Type 0} (a b c : Stream) (xs ys : List ℕ) (r : Result T E) → Grows a b xs → Puts b c ys r → Puts a c (xs ++ ys) r
+puts_join a b c xs ys (Ok v) h k = grows_join a b c xs ys h k
 puts_join a b c xs ys (Err e) h k = front_join a b c xs ys h k
 
 pub cut_is : (bytes front rest : List ℕ) (n : ℕ) → bytes ≡ front ++ rest → bytes ≡ (front ++ take n rest) ++ take (length rest - n) (drop n rest)
@@ -40,15 +58,15 @@ pub joined_step : (ps : List (Bor (List ℕ))) (i : ℕ) (d : Bor (List ℕ)) �
 joined_step ps i d h = rw (add-one, drop-cons ps i d) refl
 
 -- what was written before, and then a front of the next piece, is a front of the whole
-pub front_within : (a b c : Option (List ℕ)) (whole front piece rest : List ℕ) → whole ≡ front ++ (piece ++ rest) → Appends a b front → AppendsFront b c piece → AppendsFront a c whole
+pub front_within : (a b c : Stream) (whole front piece rest : List ℕ) → whole ≡ front ++ (piece ++ rest) → Grows a b front → GrowsFront b c piece → GrowsFront a c whole
 front_within a b c whole front piece rest e h k = rw e (front_join a b c front (piece ++ rest) h (front_more b c piece rest k))
 
 -- some bytes with P, and then some with Q
-pub then_put : {T E : Type 0} (P Q S : List ℕ → Type 0) (a b c : Option (List ℕ)) (r : Result T E) → ((xs ys : List ℕ) → P xs → Q ys → S (xs ++ ys)) → (xs : List ℕ) × P xs × Appends a b xs → PutsSome Q b c r → PutsSome S a c r
+pub then_put : {T E : Type 0} (P Q S : List ℕ → Type 0) (a b c : Stream) (r : Result T E) → ((xs ys : List ℕ) → P xs → Q ys → S (xs ++ ys)) → (xs : List ℕ) × P xs × Grows a b xs → PutsSome Q b c r → PutsSome S a c r
 then_put P Q S a b c r join (xs, p, h) (ys, q, k) = (xs ++ ys, join xs ys p q, puts_join a b c xs ys r h k)
 
 -- a front of some bytes with P, before some with Q
-pub then_none : (P Q S : List ℕ → Type 0) (a b : Option (List ℕ)) → ((xs ys : List ℕ) → P xs → Q ys → S (xs ++ ys)) → (xs : List ℕ) × P xs × AppendsFront a b xs → (ys : List ℕ) × Q ys → (zs : List ℕ) × S zs × AppendsFront a b zs
+pub then_none : (P Q S : List ℕ → Type 0) (a b : Stream) → ((xs ys : List ℕ) → P xs → Q ys → S (xs ++ ys)) → (xs : List ℕ) × P xs × GrowsFront a b xs → (ys : List ℕ) × Q ys → (zs : List ℕ) × S zs × GrowsFront a b zs
 then_none P Q S a b join (xs, p, h) (ys, q) = (xs ++ ys, join xs ys p q, front_more a b xs ys h)
 
 -- what two reads consumed, one after the other
@@ -70,3 +88,8 @@ pub kept_more : {V : Type 0} (items : V → List ℕ) (a b : Option V) (front by
 kept_more items a None front bytes lost more h = tt
 kept_more items None (Some all) front bytes lost more h = absurd (let f : Some all ≡ None = lost refl in cc)
 kept_more items (Some before) (Some all) front bytes lost more h = more ∙ ap (λ xs. xs ++ bytes) h
+
+-- each read gives a byte at least
+pub grows_on : (turn count taken : ℕ) → turn ≤ count → (taken ≡ 0 → ⊥) → turn + 1 ≤ count + taken
+grows_on turn count zero h some = absurd (some refl)
+grows_on turn count (suc taken) h some = omega arith

@@ -9,5 +9,6 @@ pub mod Spots
 pub mod Keys
 pub mod Commands
 pub mod Writes
+pub mod Reads
 pub mod Outcomes
 pub mod Replies

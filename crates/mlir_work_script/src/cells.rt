@@ -4,30 +4,30 @@ ghost use Rattle.ir_tree.specs.declared.value.Value.TheVariants.{Result as Resul
 ghost use Rattle.mlir_work_script.specs.Values.{op_text, value_text};
 ghost use Rattle.mlir_work_script.specs.Writes.{Puts};
 
+use crate::sink::Sink;
 use crate::writing::{WriteFault, put, put_all};
 use ir_tree::value::Value;
 use ir_types::ids::OpId;
 use itoa::Buffer;
-use std::io::Write;
 
 /// Writes a decimal number.
-pub fn put_number<W: Write>(writer: &mut W, n: u64) -> Result<(), WriteFault>
-    ensures { Puts (W.contents writer.old) (W.contents writer.new) (decimal n) result }
+pub fn put_number<W: Sink>(writer: &mut W, n: u64) -> Result<(), WriteFault>
+    ensures { Puts (W.stream writer.old) (W.stream writer.new) (decimal n) result }
 {
     let mut number = Buffer::new();
     put(writer, number.format(n).as_bytes())
 }
 
 /// Writes an operation by its id: `#3`.
-pub fn put_op_id<W: Write>(writer: &mut W, op: OpId) -> Result<(), WriteFault>
-    ensures { Puts (W.contents writer.old) (W.contents writer.new) (op_text op) result }
+pub fn put_op_id<W: Sink>(writer: &mut W, op: OpId) -> Result<(), WriteFault>
+    ensures { Puts (W.stream writer.old) (W.stream writer.new) (op_text op) result }
 {
     let mut number = Buffer::new();
     put_all(writer, &[b"#", number.format(op.number()).as_bytes()])
 }
 
-fn put_result<W: Write>(writer: &mut W, op: OpId, place: u32) -> Result<(), WriteFault>
-    ensures { Puts (W.contents writer.old) (W.contents writer.new) (value_text (ResultOf op place)) result }
+fn put_result<W: Sink>(writer: &mut W, op: OpId, place: u32) -> Result<(), WriteFault>
+    ensures { Puts (W.stream writer.old) (W.stream writer.new) (value_text (ResultOf op place)) result }
 {
     let mut owner = Buffer::new();
     let mut number = Buffer::new();
@@ -42,13 +42,13 @@ fn put_result<W: Write>(writer: &mut W, op: OpId, place: u32) -> Result<(), Writ
     )
 }
 
-fn put_argument<W: Write>(
+fn put_argument<W: Sink>(
     writer: &mut W,
     op: OpId,
     region: u32,
     place: u32,
 ) -> Result<(), WriteFault>
-    ensures { Puts (W.contents writer.old) (W.contents writer.new) (value_text (Arg op region place)) result }
+    ensures { Puts (W.stream writer.old) (W.stream writer.new) (value_text (Arg op region place)) result }
 {
     let mut owner = Buffer::new();
     let mut block = Buffer::new();
@@ -67,8 +67,8 @@ fn put_argument<W: Write>(
 }
 
 /// Writes a value: a result as `%v2.0`, an argument as `%a1.0.0`.
-pub fn put_value<W: Write>(writer: &mut W, value: Value) -> Result<(), WriteFault>
-    ensures { Puts (W.contents writer.old) (W.contents writer.new) (value_text value) result }
+pub fn put_value<W: Sink>(writer: &mut W, value: Value) -> Result<(), WriteFault>
+    ensures { Puts (W.stream writer.old) (W.stream writer.new) (value_text value) result }
 {
     match value {
         Value::Result(op, place) => put_result(writer, op, place),

@@ -3,11 +3,12 @@ ghost use Rattle.std.specs.Prelude.{◌≡◌, ◌<◌, ◌≤◌, ◌++◌, len
 ghost use Rattle.mlir_work_script.specs.declared.input.ReadFault.TheVariants.{TooMany, Memory as NoMemory};
 ghost use Rattle.mlir_work_script.specs.Lines.{after_line};
 ghost use Rattle.mlir_work_script.specs.Parts.{at_divider, module_text, script_text};
+ghost use Rattle.mlir_work_script.specs.Reads.{ReadsWhole};
 
 use crate::lines::split_line;
+use crate::source::{Source, SourceFault};
 use memchr::memchr;
 use std::alloc::Global;
-use std::io::{ErrorKind, Read};
 use thiserror::Error;
 
 /// The most bytes of an input.
@@ -16,8 +17,8 @@ pub const MAX_INPUT_BYTES: usize = 33_554_432;
 /// The most bytes of a script.
 pub const MAX_SCRIPT_BYTES: usize = 16_777_216;
 
-/// The most reads of an input.
-pub const MAX_READS: u32 = 40_000_000;
+/// More reads than an input has bytes. Each but the last gives one.
+const MAX_READS: usize = 33_554_433;
 
 /// The bytes that one read asks for.
 const CHUNK: usize = 8192;
@@ -28,7 +29,7 @@ const DIVIDER: &[u8] = b"// -----";
 /// Why an input wasn't read.
 #[derive(Clone, Copy, Debug, PartialEq, Eq, Error)]
 pub enum ReadFault {
-    /// A read failed, or one more than `MAX_READS` was needed.
+    /// A read failed.
     #[error("a read failed")]
     Broken,
     /// There are more than `MAX_INPUT_BYTES` bytes.
@@ -52,20 +53,20 @@ fn keep(kept: &mut Option<Vec<u8>>, bytes: &[u8])
     }
 }
 
-/// Reads to the end, by at most `MAX_READS` reads. An interrupted read is made again, and counts among
-/// them. Where there is no memory for the bytes it reads on, so that an input that is too long is always
-/// told to be so.
-pub fn read_all<R: Read>(alloc: Global, reader: &mut R) -> Result<Vec<u8>, ReadFault>
-    ensures whole { IfOk result (λ all. IfSome (R.remaining reader.old) (λ input. all.items ≡ input)) }
+/// Reads to the end. Where there is no memory for the bytes it reads on, so that an input that is too long is
+/// always told to be so.
+pub fn read_all<R: Source>(alloc: Global, reader: &mut R) -> Result<Vec<u8>, ReadFault>
+    ensures whole { IfOk result (λ all. IfSome (R.intake reader.old).remaining (λ input. all.items ≡ input)) }
     ensures within { IfOk result (λ all. length all.items ≤ MAX_INPUT_BYTES) }
-    ensures too_many { IfErr result (λ fault. fault ≡ TooMany → IfSome (R.remaining reader.old) (λ input. MAX_INPUT_BYTES < length input)) }
-    ensures memory { IfErr result (λ fault. fault ≡ NoMemory → IfSome (R.remaining reader.old) (λ input. length input ≤ MAX_INPUT_BYTES)) }
+    ensures too_many { IfErr result (λ fault. fault ≡ TooMany → IfSome (R.intake reader.old).remaining (λ input. MAX_INPUT_BYTES < length input)) }
+    ensures memory { IfErr result (λ fault. fault ≡ NoMemory → IfSome (R.intake reader.old).remaining (λ input. length input ≤ MAX_INPUT_BYTES)) }
+    ensures read { ReadsWhole (R.intake reader.old) (R.intake reader.new) result }
 {
     let mut kept = Some(Vec::new(alloc));
     let mut count = 0usize;
     let mut buffer = [0u8; CHUNK];
     for _turn in 0..MAX_READS {
-        match reader.read(&mut buffer) {
+        match reader.read_some(&mut buffer) {
             Ok(0) => return kept.ok_or(ReadFault::Memory),
             Ok(taken) => {
                 if MAX_INPUT_BYTES - count < taken {
@@ -74,14 +75,10 @@ pub fn read_all<R: Read>(alloc: Global, reader: &mut R) -> Result<Vec<u8>, ReadF
                 count += taken;
                 keep(&mut kept, &buffer[..taken]);
             }
-            Err(error) => {
-                if error.kind() != ErrorKind::Interrupted {
-                    return Err(ReadFault::Broken);
-                }
-            }
+            Err(SourceFault) => return Err(ReadFault::Broken),
         }
     }
-    Err(ReadFault::Broken)
+    Err(ReadFault::TooMany)
 }
 
 /// Whether the first line of a text is exactly the divider. Of another line than a comment only the first

@@ -8,23 +8,23 @@ ghost use Rattle.mlir_work_script.specs.Writes.{Puts};
 
 use crate::kind::{Kind, name_of};
 use crate::outcome::Outcome;
+use crate::sink::Sink;
 use crate::writing::{WriteFault, put, put_all};
 use ir_types::ids::OpId;
 use ir_types::refusal::Refusal;
 use itoa::Buffer;
-use std::io::Write;
 
 /// Writes that a command is accepted: `1 ok`.
-pub fn put_ok<W: Write>(writer: &mut W, n: u64) -> Result<(), WriteFault>
-    ensures { Puts (W.contents writer.old) (W.contents writer.new) (ok_line n) result }
+pub fn put_ok<W: Sink>(writer: &mut W, n: u64) -> Result<(), WriteFault>
+    ensures { Puts (W.stream writer.old) (W.stream writer.new) (ok_line n) result }
 {
     let mut number = Buffer::new();
     put_all(writer, &[number.format(n).as_bytes(), b" ok\n"])
 }
 
 /// Writes that a command is accepted, which made an operation: `1 ok #12`.
-pub fn put_made<W: Write>(writer: &mut W, n: u64, op: OpId) -> Result<(), WriteFault>
-    ensures { Puts (W.contents writer.old) (W.contents writer.new) (made_line n op) result }
+pub fn put_made<W: Sink>(writer: &mut W, n: u64, op: OpId) -> Result<(), WriteFault>
+    ensures { Puts (W.stream writer.old) (W.stream writer.new) (made_line n op) result }
 {
     let mut command = Buffer::new();
     let mut number = Buffer::new();
@@ -41,8 +41,8 @@ pub fn put_made<W: Write>(writer: &mut W, n: u64, op: OpId) -> Result<(), WriteF
 }
 
 /// Writes what came of a command that transforms the module: `1 swept 2`.
-pub fn put_outcome<W: Write>(writer: &mut W, n: u64, outcome: Outcome) -> Result<(), WriteFault>
-    ensures { Puts (W.contents writer.old) (W.contents writer.new) (outcome_line n (outcome_of outcome)) result }
+pub fn put_outcome<W: Sink>(writer: &mut W, n: u64, outcome: Outcome) -> Result<(), WriteFault>
+    ensures { Puts (W.stream writer.old) (W.stream writer.new) (outcome_line n (outcome_of outcome)) result }
 {
     let mut command = Buffer::new();
     let mut number = Buffer::new();
@@ -60,8 +60,8 @@ pub fn put_outcome<W: Write>(writer: &mut W, n: u64, outcome: Outcome) -> Result
 }
 
 /// Writes that a command is refused: `1 refused 22 HasUses`.
-pub fn put_refused<W: Write>(writer: &mut W, n: u64, refusal: Refusal) -> Result<(), WriteFault>
-    ensures { Puts (W.contents writer.old) (W.contents writer.new) (refused_line n refusal) result }
+pub fn put_refused<W: Sink>(writer: &mut W, n: u64, refusal: Refusal) -> Result<(), WriteFault>
+    ensures { Puts (W.stream writer.old) (W.stream writer.new) (refused_line n refusal) result }
 {
     let mut command = Buffer::new();
     let mut number = Buffer::new();
@@ -79,13 +79,13 @@ pub fn put_refused<W: Write>(writer: &mut W, n: u64, refusal: Refusal) -> Result
 }
 
 /// Writes that a command is refused because of an operation: `1 refused 51 NotLegalised #2`.
-pub fn put_refused_on<W: Write>(
+pub fn put_refused_on<W: Sink>(
     writer: &mut W,
     n: u64,
     refusal: Refusal,
     op: OpId,
 ) -> Result<(), WriteFault>
-    ensures { Puts (W.contents writer.old) (W.contents writer.new) (refused_on_line n refusal op) result }
+    ensures { Puts (W.stream writer.old) (W.stream writer.new) (refused_on_line n refusal op) result }
 {
     let mut command = Buffer::new();
     let mut number = Buffer::new();
@@ -108,13 +108,13 @@ pub fn put_refused_on<W: Write>(
 
 /// Writes that a text of a command is refused: `1 refused 3 UnknownValue at 17`. The offset counts in bytes from
 /// the first of that text.
-pub fn put_refused_at<W: Write>(
+pub fn put_refused_at<W: Sink>(
     writer: &mut W,
     n: u64,
     refusal: Refusal,
     offset: usize,
 ) -> Result<(), WriteFault>
-    ensures { Puts (W.contents writer.old) (W.contents writer.new) (refused_at_line n refusal offset) result }
+    ensures { Puts (W.stream writer.old) (W.stream writer.new) (refused_at_line n refusal offset) result }
 {
     let mut command = Buffer::new();
     let mut number = Buffer::new();
@@ -134,12 +134,12 @@ pub fn put_refused_at<W: Write>(
     )
 }
 
-fn put_module_refused_at<W: Write>(
+fn put_module_refused_at<W: Sink>(
     writer: &mut W,
     refusal: Refusal,
     offset: usize,
 ) -> Result<(), WriteFault>
-    ensures { Puts (W.contents writer.old) (W.contents writer.new) (module_refused_line refusal (Some offset)) result }
+    ensures { Puts (W.stream writer.old) (W.stream writer.new) (module_refused_line refusal (Some offset)) result }
 {
     let mut number = Buffer::new();
     let mut place = Buffer::new();
@@ -157,8 +157,8 @@ fn put_module_refused_at<W: Write>(
     )
 }
 
-fn put_module_refused_anywhere<W: Write>(writer: &mut W, refusal: Refusal) -> Result<(), WriteFault>
-    ensures { Puts (W.contents writer.old) (W.contents writer.new) (module_refused_line refusal None) result }
+fn put_module_refused_anywhere<W: Sink>(writer: &mut W, refusal: Refusal) -> Result<(), WriteFault>
+    ensures { Puts (W.stream writer.old) (W.stream writer.new) (module_refused_line refusal None) result }
 {
     let mut number = Buffer::new();
     put_all(
@@ -175,12 +175,12 @@ fn put_module_refused_anywhere<W: Write>(writer: &mut W, refusal: Refusal) -> Re
 
 /// Writes that the module is refused: `module refused 7 BadValue at 16`, or without an offset. The offset
 /// counts in bytes from the first.
-pub fn put_module_refused<W: Write>(
+pub fn put_module_refused<W: Sink>(
     writer: &mut W,
     refusal: Refusal,
     offset: Option<usize>,
 ) -> Result<(), WriteFault>
-    ensures { Puts (W.contents writer.old) (W.contents writer.new) (module_refused_line refusal offset) result }
+    ensures { Puts (W.stream writer.old) (W.stream writer.new) (module_refused_line refusal offset) result }
 {
     match offset {
         Some(offset) => put_module_refused_at(writer, refusal, offset),
@@ -189,26 +189,26 @@ pub fn put_module_refused<W: Write>(
 }
 
 /// Writes a word in two parts between two texts.
-fn put_between<'a, W: Write>(
+fn put_between<'a, W: Sink>(
     writer: &mut W,
     front: &'a [u8],
     stem: &'a [u8],
     digits: &'a [u8],
     back: &'a [u8],
 ) -> Result<(), WriteFault>
-    ensures { Puts (W.contents writer.old) (W.contents writer.new) (front.now ++ (stem.now ++ (digits.now ++ back.now))) result }
+    ensures { Puts (W.stream writer.old) (W.stream writer.new) (front.now ++ (stem.now ++ (digits.now ++ back.now))) result }
 {
     put_all(writer, &[front, stem, digits, back])
 }
 
 /// Writes the word of a kind between two texts.
-fn put_with_kind<W: Write>(
+fn put_with_kind<W: Sink>(
     writer: &mut W,
     front: &[u8],
     kind: Kind,
     back: &[u8],
 ) -> Result<(), WriteFault>
-    ensures { Puts (W.contents writer.old) (W.contents writer.new) (front.now ++ (kind_word kind ++ back.now)) result }
+    ensures { Puts (W.stream writer.old) (W.stream writer.new) (front.now ++ (kind_word kind ++ back.now)) result }
 {
     match name_of(kind) {
         Some(name) => put_between(writer, front, name, b"", back),
@@ -226,8 +226,8 @@ fn put_with_kind<W: Write>(
 }
 
 /// Writes a refusal at the end of a line: `36 Memory`.
-fn put_refusal<W: Write>(writer: &mut W, refusal: Refusal) -> Result<(), WriteFault>
-    ensures { Puts (W.contents writer.old) (W.contents writer.new) (text_of refusal ++ codes "\n") result }
+fn put_refusal<W: Sink>(writer: &mut W, refusal: Refusal) -> Result<(), WriteFault>
+    ensures { Puts (W.stream writer.old) (W.stream writer.new) (text_of refusal ++ codes "\n") result }
 {
     let mut number = Buffer::new();
     put_all(
@@ -242,12 +242,12 @@ fn put_refusal<W: Write>(writer: &mut W, refusal: Refusal) -> Result<(), WriteFa
 }
 
 /// Writes that a box is refused: `attach uses refused 36 Memory`.
-pub fn put_attach_refused<W: Write>(
+pub fn put_attach_refused<W: Sink>(
     writer: &mut W,
     kind: Kind,
     refusal: Refusal,
 ) -> Result<(), WriteFault>
-    ensures { Puts (W.contents writer.old) (W.contents writer.new) (attach_refused_line kind refusal) result }
+    ensures { Puts (W.stream writer.old) (W.stream writer.new) (attach_refused_line kind refusal) result }
 {
     match put_with_kind(writer, b"attach ", kind, b" refused ") {
         Ok(()) => put_refusal(writer, refusal),
@@ -256,29 +256,29 @@ pub fn put_attach_refused<W: Write>(
 }
 
 /// Writes the line over the rows of a kind: `-- uses`.
-pub fn put_kind<W: Write>(writer: &mut W, kind: Kind) -> Result<(), WriteFault>
-    ensures { Puts (W.contents writer.old) (W.contents writer.new) (kind_line kind) result }
+pub fn put_kind<W: Sink>(writer: &mut W, kind: Kind) -> Result<(), WriteFault>
+    ensures { Puts (W.stream writer.old) (W.stream writer.new) (kind_line kind) result }
 {
     put_with_kind(writer, b"-- ", kind, b"\n")
 }
 
 /// Writes that a kind no longer follows the module: `-- uses stale`.
-pub fn put_stale<W: Write>(writer: &mut W, kind: Kind) -> Result<(), WriteFault>
-    ensures { Puts (W.contents writer.old) (W.contents writer.new) (stale_line kind) result }
+pub fn put_stale<W: Sink>(writer: &mut W, kind: Kind) -> Result<(), WriteFault>
+    ensures { Puts (W.stream writer.old) (W.stream writer.new) (stale_line kind) result }
 {
     put_with_kind(writer, b"-- ", kind, b" stale\n")
 }
 
 /// Writes that the rows of a kind found no memory: `-- uses memory`.
-pub fn put_kind_memory<W: Write>(writer: &mut W, kind: Kind) -> Result<(), WriteFault>
-    ensures { Puts (W.contents writer.old) (W.contents writer.new) (kind_memory_line kind) result }
+pub fn put_kind_memory<W: Sink>(writer: &mut W, kind: Kind) -> Result<(), WriteFault>
+    ensures { Puts (W.stream writer.old) (W.stream writer.new) (kind_memory_line kind) result }
 {
     put_with_kind(writer, b"-- ", kind, b" memory\n")
 }
 
 /// Writes that the text of the module found no memory: `-- module memory`.
-pub fn put_module_memory<W: Write>(writer: &mut W) -> Result<(), WriteFault>
-    ensures { Puts (W.contents writer.old) (W.contents writer.new) module_memory_line result }
+pub fn put_module_memory<W: Sink>(writer: &mut W) -> Result<(), WriteFault>
+    ensures { Puts (W.stream writer.old) (W.stream writer.new) module_memory_line result }
 {
     put(writer, b"-- module memory\n")
 }

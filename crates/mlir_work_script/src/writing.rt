@@ -1,9 +1,8 @@
 //! Writing, with nothing kept in memory.
 ghost use Rattle.std.specs.Prelude.{map};
-ghost use Rattle.std.specs.Io.KnownBytes.{Keeps};
-ghost use Rattle.mlir_work_script.specs.Writes.{Puts, joined};
+ghost use Rattle.mlir_work_script.specs.Writes.{HandsOn, Puts, joined};
 
-use std::io::Write;
+use crate::sink::Sink;
 use thiserror::Error;
 
 /// A write failed, was interrupted or took no byte.
@@ -11,24 +10,23 @@ use thiserror::Error;
 #[error("a write failed")]
 pub struct WriteFault;
 
-/// Writes the bytes. At a fault a front of them was written.
-pub fn put<W: Write>(writer: &mut W, bytes: &[u8]) -> Result<(), WriteFault>
-    ensures { Puts (W.contents writer.old) (W.contents writer.new) bytes.now result }
+/// Writes the bytes. At a fault a front of them was written, and then a write failed.
+pub fn put<W: Sink>(writer: &mut W, bytes: &[u8]) -> Result<(), WriteFault>
+    ensures { Puts (W.stream writer.old) (W.stream writer.new) bytes.now result }
 {
     let mut rest = bytes;
     while !rest.is_empty() {
-        match writer.write(rest) {
-            Ok(0) => return Err(WriteFault),
-            Err(_) => return Err(WriteFault),
+        match writer.write_some(rest) {
             Ok(taken) => rest = &rest[taken..],
+            Err(fault) => return Err(fault),
         }
     }
     Ok(())
 }
 
-/// Writes the pieces in a row. At a fault a front of them was written.
-pub fn put_all<W: Write>(writer: &mut W, pieces: &[&[u8]]) -> Result<(), WriteFault>
-    ensures { Puts (W.contents writer.old) (W.contents writer.new) (joined (map (λ piece. piece.now) pieces.now)) result }
+/// Writes the pieces in a row. At a fault a front of them was written, and then a write failed.
+pub fn put_all<W: Sink>(writer: &mut W, pieces: &[&[u8]]) -> Result<(), WriteFault>
+    ensures { Puts (W.stream writer.old) (W.stream writer.new) (joined (map (λ piece. piece.now) pieces.now)) result }
 {
     for piece in pieces {
         match put(writer, piece) {
@@ -40,11 +38,8 @@ pub fn put_all<W: Write>(writer: &mut W, pieces: &[&[u8]]) -> Result<(), WriteFa
 }
 
 /// Hands on what a buffering writer still holds.
-pub fn flush<W: Write>(writer: &mut W) -> Result<(), WriteFault>
-    ensures { Keeps (W.contents writer.old) (W.contents writer.new) }
+pub fn flush<W: Sink>(writer: &mut W) -> Result<(), WriteFault>
+    ensures { HandsOn (W.stream writer.old) (W.stream writer.new) result }
 {
-    match writer.flush() {
-        Ok(()) => Ok(()),
-        Err(_) => Err(WriteFault),
-    }
+    writer.hand_on()
 }

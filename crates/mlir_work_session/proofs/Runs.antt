@@ -1,5 +1,5 @@
 -- Runs of scripts, step by step.
-use Rattle.std.proofs.Common.{◌≡◌, ℕ, ◌+◌, ◌&&◌, List, [], ◌∷◌, ◌++◌, Bool, true, false, not, refl, sym, ◌∙◌, inr, length, ◌≤◌, ◌<◌, ◌==◌, arith, Option, Result, Ok, Err}
+use Rattle.std.proofs.Common.{◌≡◌, ℕ, ◌+◌, ◌&&◌, List, [], ◌∷◌, ◌++◌, Bool, true, false, not, refl, sym, ◌∙◌, inr, length, ◌≤◌, ◌<◌, ◌==◌, arith, Result, Ok, Err}
 use Rattle.std.proofs.lemmas.Bool.Decides.{nat_tests}
 use Rattle.ir_types.specs.declared.refusal.Refusal.{Refusal}
 use Rattle.ir_types.specs.declared.refusal.Refusal.TheVariants.{BadCommand}
@@ -7,6 +7,7 @@ use Rattle.rewriter.specs.Commands.{Response, Replied as Says}
 use Rattle.rewriter.specs.Machine.{Refused}
 use Rattle.mlir_work_script.specs.Commands.{Spoken, Nothing, Bad, Obey, line_says}
 use Rattle.mlir_work_script.specs.Lines.{lines_of}
+use Rattle.mlir_work_script.specs.Writes.{Stream}
 use Rattle.rewriter.specs.Machine.{State}
 use Rattle.mlir_work_session.specs.Output.{IsBounded, Line, Manner, Replied, Replies, IsReplied, Runs, worse, says_nothing, asks, reply_line, is_accepted}
 use Rattle.mlir_work_session.specs.Ran.{RanOut}
@@ -98,6 +99,6 @@ filled (b ∷ bs) r e f = omega arith
 pub emptied : (text : List ℕ) (r : Bool) → r ≡ (length text == 0) → r ≡ true → length text ≤ 0
 emptied text r e f = grind (arith, nat_tests)
 
-pub ran_weaker : {E : Type 0} (P Q : ℕ → List ℕ → Type 0) (a b : Option (List ℕ)) (r : Result ℕ E) → ((st : ℕ) (o : List ℕ) → P st o → Q st o) → RanOut P a b r → RanOut Q a b r
+pub ran_weaker : {E : Type 0} (P Q : ℕ → List ℕ → Type 0) (a b : Stream) (r : Result ℕ E) → ((st : ℕ) (o : List ℕ) → P st o → Q st o) → RanOut P a b r → RanOut Q a b r
 ran_weaker P Q a b (Ok st) f (o, p, h) = (o, f st o p, h)
 ran_weaker P Q a b (Err e) f (st, o, p, h) = (st, o, f st o p, h)

@@ -1,11 +1,10 @@
 -- Sessions: boxes are attached, and then a script is run.
-use Rattle.std.proofs.Common.{◌≡◌, ◌≤◌, ◌<◌, ◌++◌, ◌↔◌, IsTrue, refl, ℕ, List, [], Bool, false, arith, Option, Result, Ok, Err}
+use Rattle.std.proofs.Common.{◌≡◌, ◌≤◌, ◌<◌, ◌++◌, ◌↔◌, IsTrue, refl, ℕ, List, [], Bool, false, arith, Result, Ok, Err}
 use Rattle.ir_event.specs.Modules.{Module}
 use Rattle.mlir_work_script.specs.Lines.{lines_of}
-use Rattle.mlir_work_script.specs.Writes.{AppendsFront}
+use Rattle.mlir_work_script.specs.Writes.{Grows, GrowsFront, Stream}
 use Rattle.mlir_work_script.specs.declared.input.TheConstants.{MAX_SCRIPT_BYTES}
-use Rattle.std.specs.Io.KnownBytes.{Appends}
-use Rattle.mlir_work_script.proofs.Joins.{appends_join, front_join, front_more}
+use Rattle.mlir_work_script.proofs.Joins.{grows_join, front_join, front_more}
 use Rattle.rewriter.specs.Panels.{Shown}
 use Rattle.mlir_work_session.specs.Output.{Attaches, Manner, Runs, Session, worse}
 use Rattle.mlir_work_session.specs.Ran.{RanOut}
@@ -16,18 +15,18 @@ module _ (manner : Manner) (boxes : List Shown) (m : Module) (script : List ℕ)
   session_of panel accepted front later rest h k = record { panel = panel; accepted = accepted; front = front; later = later; rest = rest; attached = h; runs = k; status_is = refl; out_is = refl }
 
   -- the boxes were attached, and then the script ran to its end
-  pub session_ran : (a b c : Option (List ℕ)) (panel : List Shown) (accepted : Bool) (front : List ℕ) (later : ℕ) (rest : List ℕ) → Attaches boxes [] panel accepted front → Appends a b front → Runs manner 1 (record { held = m; marks = []; panel = panel }) (lines_of script) later rest → Appends b c rest →
-      (out : List ℕ) × Session manner boxes m script (worse accepted later) out × Appends a c out
-  session_ran a b c panel accepted front later rest h wrote k more = (front ++ rest, session_of panel accepted front later rest h k, appends_join a b c front rest wrote more)
+  pub session_ran : (a b c : Stream) (panel : List Shown) (accepted : Bool) (front : List ℕ) (later : ℕ) (rest : List ℕ) → Attaches boxes [] panel accepted front → Grows a b front → Runs manner 1 (record { held = m; marks = []; panel = panel }) (lines_of script) later rest → Grows b c rest →
+      (out : List ℕ) × Session manner boxes m script (worse accepted later) out × Grows a c out
+  session_ran a b c panel accepted front later rest h wrote k more = (front ++ rest, session_of panel accepted front later rest h k, grows_join a b c front rest wrote more)
 
   -- or not
-  pub session_cut : (a b c : Option (List ℕ)) (panel : List Shown) (accepted : Bool) (front : List ℕ) (later : ℕ) (rest : List ℕ) → Attaches boxes [] panel accepted front → Appends a b front → Runs manner 1 (record { held = m; marks = []; panel = panel }) (lines_of script) later rest → AppendsFront b c rest →
-      (status : ℕ) × (out : List ℕ) × Session manner boxes m script status out × AppendsFront a c out
+  pub session_cut : (a b c : Stream) (panel : List Shown) (accepted : Bool) (front : List ℕ) (later : ℕ) (rest : List ℕ) → Attaches boxes [] panel accepted front → Grows a b front → Runs manner 1 (record { held = m; marks = []; panel = panel }) (lines_of script) later rest → GrowsFront b c rest →
+      (status : ℕ) × (out : List ℕ) × Session manner boxes m script status out × GrowsFront a c out
   session_cut a b c panel accepted front later rest h wrote k more = (worse accepted later, front ++ rest, session_of panel accepted front later rest h k, front_join a b c front rest wrote more)
 
   -- or the boxes weren't all attached
-  pub session_begun : (a b : Option (List ℕ)) (panel : List Shown) (accepted : Bool) (front : List ℕ) → Attaches boxes [] panel accepted front → AppendsFront a b front →
-      (status : ℕ) × (out : List ℕ) × Session manner boxes m script status out × AppendsFront a b out
+  pub session_begun : (a b : Stream) (panel : List Shown) (accepted : Bool) (front : List ℕ) → Attaches boxes [] panel accepted front → GrowsFront a b front →
+      (status : ℕ) × (out : List ℕ) × Session manner boxes m script status out × GrowsFront a b out
   session_begun a b panel accepted front h wrote =
       let some = some_runs manner (lines_of script) 1 (record { held = m; marks = []; panel = panel }) in
       (worse accepted some.0, front ++ some.1, session_of panel accepted front some.0 some.1 h some.2, front_more a b front some.1 wrote)
@@ -35,6 +34,6 @@ module _ (manner : Manner) (boxes : List Shown) (m : Module) (script : List ℕ)
 pub short : (n : ℕ) (long : Bool) → (IsTrue long ↔ (MAX_SCRIPT_BYTES < n)) → long ≡ false → n ≤ MAX_SCRIPT_BYTES
 short n long h e = grind (arith, h.1, e)
 
-pub ran_weaker : {E : Type 0} (P Q : ℕ → List ℕ → Type 0) (a b : Option (List ℕ)) (r : Result ℕ E) → ((st : ℕ) (o : List ℕ) → P st o → Q st o) → RanOut P a b r → RanOut Q a b r
+pub ran_weaker : {E : Type 0} (P Q : ℕ → List ℕ → Type 0) (a b : Stream) (r : Result ℕ E) → ((st : ℕ) (o : List ℕ) → P st o → Q st o) → RanOut P a b r → RanOut Q a b r
 ran_weaker P Q a b (Ok st) f (o, p, h) = (o, f st o p, h)
 ran_weaker P Q a b (Err e) f (st, o, p, h) = (st, o, f st o p, h)

@@ -8,6 +8,7 @@ pub use Rattle.mlir_work_script.specs.Commands
 pub use Rattle.mlir_work_script.specs.Lines
 pub use Rattle.mlir_work_script.specs.Parts
 pub use Rattle.mlir_work_script.specs.Replies
+pub use Rattle.mlir_work_script.specs.Reads
 pub use Rattle.mlir_work_script.specs.Writes
 pub use Rattle.mlir_work_script.specs.declared.input.TheConstants
 pub use Rattle.mlir_work_script.specs.declared.writing.WriteFault

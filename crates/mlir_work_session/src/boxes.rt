@@ -11,9 +11,9 @@ use ir_event::analysis::Analysis;
 use ir_types::refusal::Refusal;
 use mlir_work_script::kind::Kind;
 use mlir_work_script::replies::put_attach_refused;
+use mlir_work_script::sink::Sink;
 use mlir_work_script::writing::WriteFault;
 use rewriter::Bench;
-use std::io::Write;
 
 /// Attaches a listener, or answers why not.
 fn attach<L: Analysis>(bench: &mut Bench<L>, listener: L) -> Option<Refusal>
@@ -30,8 +30,8 @@ fn attach<L: Analysis>(bench: &mut Bench<L>, listener: L) -> Option<Refusal>
 }
 
 /// Writes the line of a listener that is refused.
-fn put_tried<W: Write>(writer: &mut W, kind: Kind, tried: Option<Refusal>) -> Result<(), WriteFault>
-    ensures { Puts (W.contents writer.old) (W.contents writer.new) (box_line kind tried) result }
+fn put_tried<W: Sink>(writer: &mut W, kind: Kind, tried: Option<Refusal>) -> Result<(), WriteFault>
+    ensures { Puts (W.stream writer.old) (W.stream writer.new) (box_line kind tried) result }
 {
     match tried {
         None => Ok(()),
@@ -46,13 +46,13 @@ fn both(accepted: bool, tried: Option<Refusal>) -> bool
 }
 
 /// Attaches listeners in order, and writes a line for each that is refused. It is true where none is.
-pub fn attach_all<L: Analysis, W: Write>(
+pub fn attach_all<L: Analysis, W: Sink>(
     bench: &mut Bench<L>,
     boxes: Vec<L>,
     writer: &mut W,
 ) -> Result<bool, WriteFault>
     requires { IsKept L.meaning bench.old }
-    ensures attached { AttachedOut (Attaches (all_shown L.meaning boxes.items) (all_shown L.meaning bench.old.listeners)) (all_shown L.meaning bench.new.listeners) (W.contents writer.old) (W.contents writer.new) result }
+    ensures attached { AttachedOut (Attaches (all_shown L.meaning boxes.items) (all_shown L.meaning bench.old.listeners)) (all_shown L.meaning bench.new.listeners) (W.stream writer.old) (W.stream writer.new) result }
     ensures desk { bench.new.desk ≡ bench.old.desk }
     ensures kept { IsKept L.meaning bench.new }
 {

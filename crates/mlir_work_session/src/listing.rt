@@ -14,14 +14,14 @@ use ir_event::row::ReportFault;
 use ir_event::world::World;
 use mlir_work_script::kind::Kind;
 use mlir_work_script::replies::{put_kind, put_kind_memory, put_module_memory, put_stale};
+use mlir_work_script::sink::Sink;
 use mlir_work_script::writing::{WriteFault, put};
 use rewriter::Bench;
 use std::alloc::Global;
-use std::io::Write;
 
 /// Writes the module, or that there is no memory for its text.
-fn put_module<W: Write>(alloc: Global, world: &World, writer: &mut W) -> Result<(), WriteFault>
-    ensures { PutsSome (IsModule (module_in world.now).tree) (W.contents writer.old) (W.contents writer.new) result }
+fn put_module<W: Sink>(alloc: Global, world: &World, writer: &mut W) -> Result<(), WriteFault>
+    ensures { PutsSome (IsModule (module_in world.now).tree) (W.stream writer.old) (W.stream writer.new) result }
 {
     match text_of_module(alloc, world) {
         Ok(text) => put(writer, &text),
@@ -30,8 +30,8 @@ fn put_module<W: Write>(alloc: Global, world: &World, writer: &mut W) -> Result<
 }
 
 /// Writes rows under the line of their kind.
-fn put_rows<W: Write>(writer: &mut W, kind: Kind, text: &[u8]) -> Result<(), WriteFault>
-    ensures { Puts (W.contents writer.old) (W.contents writer.new) (kind_line kind ++ text.now) result }
+fn put_rows<W: Sink>(writer: &mut W, kind: Kind, text: &[u8]) -> Result<(), WriteFault>
+    ensures { Puts (W.stream writer.old) (W.stream writer.new) (kind_line kind ++ text.now) result }
 {
     match put_kind(writer, kind) {
         Ok(()) => put(writer, text),
@@ -47,14 +47,14 @@ pub(crate) fn kind_of<L: Analysis>(listener: &L) -> Kind
 }
 
 /// Writes the rows of a listener, or why there are none.
-fn put_listener<L: Analysis, W: Write>(
+fn put_listener<L: Analysis, W: Sink>(
     alloc: Global,
     world: &World,
     listener: &L,
     writer: &mut W,
 ) -> Result<(), WriteFault>
     requires { (L.meaning listener.now).agrees (things_in world.now) (module_in world.now) ⊎ ((L.meaning listener.now).stale ≡ true) }
-    ensures { PutsSome (IsKind (module_in world.now).tree (shown (L.meaning listener.now))) (W.contents writer.old) (W.contents writer.new) result }
+    ensures { PutsSome (IsKind (module_in world.now).tree (shown (L.meaning listener.now))) (W.stream writer.old) (W.stream writer.new) result }
 {
     let kind = kind_of(listener);
     match text_of_report(alloc, listener, world) {
@@ -64,14 +64,14 @@ fn put_listener<L: Analysis, W: Write>(
     }
 }
 
-fn put_listeners<L: Analysis, W: Write>(
+fn put_listeners<L: Analysis, W: Sink>(
     alloc: Global,
     world: &World,
     listeners: &[L],
     writer: &mut W,
 ) -> Result<(), WriteFault>
     requires { AllKept L.meaning (things_in world.now) (module_in world.now) listeners.now }
-    ensures { PutsSome (AreKinds (module_in world.now).tree (all_shown L.meaning listeners.now)) (W.contents writer.old) (W.contents writer.new) result }
+    ensures { PutsSome (AreKinds (module_in world.now).tree (all_shown L.meaning listeners.now)) (W.stream writer.old) (W.stream writer.new) result }
 {
     for listener in listeners {
         match put_listener(alloc, world, listener, writer) {
@@ -83,13 +83,13 @@ fn put_listeners<L: Analysis, W: Write>(
 }
 
 /// Writes the module and the rows of each listener.
-pub fn put_listing<L: Analysis, W: Write>(
+pub fn put_listing<L: Analysis, W: Sink>(
     alloc: Global,
     bench: &Bench<L>,
     writer: &mut W,
 ) -> Result<(), WriteFault>
     requires { IsKept L.meaning bench.now }
-    ensures { PutsSome (IsListing (state_of L.meaning bench.now)) (W.contents writer.old) (W.contents writer.new) result }
+    ensures { PutsSome (IsListing (state_of L.meaning bench.now)) (W.stream writer.old) (W.stream writer.new) result }
 {
     let world = bench.world();
     match put_module(alloc, world, writer) {

@@ -24,9 +24,9 @@ use ir_types::context::Context;
 use ir_types::refusal::Refusal;
 use mlir_work_script::command::{Command, Line, read_line};
 use mlir_work_script::lines::split_line;
+use mlir_work_script::sink::Sink;
 use mlir_work_script::writing::{WriteFault, put};
 use std::alloc::Global;
-use std::io::Write;
 
 /// Whether a command asks for the module.
 fn is_print(command: &Command<'_>) -> bool
@@ -115,8 +115,8 @@ fn show_tree(alloc: Global, ctx: &Context, tree: &TreeOp) -> Answered
 }
 
 /// Writes a reply and what it shows.
-fn put_shown<W: Write>(writer: &mut W, n: u64, answered: &Answered) -> Result<(), WriteFault>
-    ensures { Puts (W.contents writer.old) (W.contents writer.new) (reply_line n (response_of answered.now.reply) ++ answered.now.shows.items) result }
+fn put_shown<W: Sink>(writer: &mut W, n: u64, answered: &Answered) -> Result<(), WriteFault>
+    ensures { Puts (W.stream writer.old) (W.stream writer.new) (reply_line n (response_of answered.now.reply) ++ answered.now.shows.items) result }
 {
     match put_reply(writer, n, answered.reply) {
         Ok(()) => put(writer, &answered.shows),
@@ -125,7 +125,7 @@ fn put_shown<W: Write>(writer: &mut W, n: u64, answered: &Answered) -> Result<()
 }
 
 /// Runs a script that only prints over the module of a tree.
-fn print_lines<W: Write>(
+fn print_lines<W: Sink>(
     alloc: Global,
     ctx: &Context,
     tree: &TreeOp,
@@ -134,7 +134,7 @@ fn print_lines<W: Write>(
 ) -> Result<u8, WriteFault>
     requires known { IsTrue (is_known ctx.now tree.now) }
     requires prints { all_print (lines_of script.now) ≡ true }
-    ensures { (manner : Manner) (next : ℕ) (panel : List Shown) → RanOut (Runs manner 1 (record { held = record { tree = meaning ctx.now tree.now; next = next }; marks = []; panel = panel }) (lines_of script.now)) (W.contents writer.old) (W.contents writer.new) result }
+    ensures { (manner : Manner) (next : ℕ) (panel : List Shown) → RanOut (Runs manner 1 (record { held = record { tree = meaning ctx.now tree.now; next = next }; marks = []; panel = panel }) (lines_of script.now)) (W.stream writer.old) (W.stream writer.new) result }
 {
     let mut text = script;
     let mut n = 1u64;
@@ -159,7 +159,7 @@ fn print_lines<W: Write>(
 
 /// Runs a script that only prints over the module of a tree, as a session with listeners of different kinds would: no
 /// line asks for what they keep, so none of them begins.
-pub fn print_session<L: Analysis, W: Write>(
+pub fn print_session<L: Analysis, W: Sink>(
     alloc: Global,
     ctx: &Context,
     tree: &TreeOp,
@@ -171,7 +171,7 @@ pub fn print_session<L: Analysis, W: Write>(
     requires short { length script.now ≤ MAX_SCRIPT_BYTES }
     requires prints { all_print (lines_of script.now) ≡ true }
     requires apart { kinds_apart L.meaning boxes.now ≡ true }
-    ensures { (manner : Manner) (next : ℕ) → RanOut (IsSession manner (all_shown L.meaning boxes.now) (record { tree = meaning ctx.now tree.now; next = next }) script.now) (W.contents writer.old) (W.contents writer.new) result }
+    ensures { (manner : Manner) (next : ℕ) → RanOut (IsSession manner (all_shown L.meaning boxes.now) (record { tree = meaning ctx.now tree.now; next = next }) script.now) (W.stream writer.old) (W.stream writer.new) result }
 {
     print_lines(alloc, ctx, tree, script, writer)
 }

@@ -21,10 +21,10 @@ use mlir_work_script::lines::split_line;
 use mlir_work_script::replies::{
     put_made, put_ok, put_outcome, put_refused, put_refused_at, put_refused_on,
 };
+use mlir_work_script::sink::Sink;
 use mlir_work_script::writing::{WriteFault, put};
 use rewriter::Bench;
 use std::alloc::Global;
-use std::io::Write;
 
 /// Whether a command asks to be shown something, and so gets no listing.
 fn shows_alone(command: &Command<'_>) -> bool
@@ -99,8 +99,8 @@ fn answer<L: Analysis>(
 }
 
 /// Writes the line of a reply.
-pub(crate) fn put_reply<W: Write>(writer: &mut W, n: u64, reply: Reply) -> Result<(), WriteFault>
-    ensures { Puts (W.contents writer.old) (W.contents writer.new) (reply_line n (response_of reply)) result }
+pub(crate) fn put_reply<W: Sink>(writer: &mut W, n: u64, reply: Reply) -> Result<(), WriteFault>
+    ensures { Puts (W.stream writer.old) (W.stream writer.new) (reply_line n (response_of reply)) result }
 {
     match reply {
         Reply::Done => put_ok(writer, n),
@@ -113,7 +113,7 @@ pub(crate) fn put_reply<W: Write>(writer: &mut W, n: u64, reply: Reply) -> Resul
 }
 
 /// Writes a reply, what it shows, and a listing where one is due.
-fn put_answer<L: Analysis, W: Write>(
+fn put_answer<L: Analysis, W: Sink>(
     alloc: Global,
     listed: bool,
     bench: &Bench<L>,
@@ -122,7 +122,7 @@ fn put_answer<L: Analysis, W: Write>(
     writer: &mut W,
 ) -> Result<(), WriteFault>
     requires { IsKept L.meaning bench.now }
-    ensures { PutsSome (IsReplied listed (state_of L.meaning bench.now) n (response_of answered.now.reply) answered.now.shows.items) (W.contents writer.old) (W.contents writer.new) result }
+    ensures { PutsSome (IsReplied listed (state_of L.meaning bench.now) n (response_of answered.now.reply) answered.now.shows.items) (W.stream writer.old) (W.stream writer.new) result }
 {
     match put_reply(writer, n, answered.reply) {
         Ok(()) => {}
@@ -140,7 +140,7 @@ fn put_answer<L: Analysis, W: Write>(
 
 /// Runs a script over a module and listeners that each agree with it or are stale, and writes as it goes.
 /// The status is 1 where a command was refused.
-pub fn run_script<L: Analysis, W: Write>(
+pub fn run_script<L: Analysis, W: Sink>(
     alloc: Global,
     manner: &Manner,
     bench: &mut Bench<L>,
@@ -148,7 +148,7 @@ pub fn run_script<L: Analysis, W: Write>(
     writer: &mut W,
 ) -> Result<u8, WriteFault>
     requires { IsKept L.meaning bench.old }
-    ensures { RanOut (Runs manner.now 1 (state_of L.meaning bench.old) (lines_of script.now)) (W.contents writer.old) (W.contents writer.new) result }
+    ensures { RanOut (Runs manner.now 1 (state_of L.meaning bench.old) (lines_of script.now)) (W.stream writer.old) (W.stream writer.new) result }
 {
     let mut text = script;
     let mut n = 1u64;

@@ -15,10 +15,10 @@ use ir_event::world::World;
 use ir_types::refusal::Refusal;
 use mlir_work_script::input::script_is_too_long;
 use mlir_work_script::replies::put_refused;
+use mlir_work_script::sink::Sink;
 use mlir_work_script::writing::WriteFault;
 use rewriter::Bench;
 use std::alloc::Global;
-use std::io::Write;
 
 fn worse(accepted: bool, status: u8) -> u8
     ensures { result ≡ worst accepted status }
@@ -27,7 +27,7 @@ fn worse(accepted: bool, status: u8) -> u8
 }
 
 /// Attaches listeners to a panel without any, and runs a script.
-fn attach_and_run<L: Analysis, W: Write>(
+fn attach_and_run<L: Analysis, W: Sink>(
     alloc: Global,
     manner: &Manner,
     bench: &mut Bench<L>,
@@ -37,7 +37,7 @@ fn attach_and_run<L: Analysis, W: Write>(
 ) -> Result<u8, WriteFault>
     requires none { bench.old.listeners ≡ [] }
     requires unmarked { open_marks bench.old.desk ≡ [] }
-    ensures { RanOut (Session manner.now (all_shown L.meaning boxes.items) (module_held bench.old.desk) script.now) (W.contents writer.old) (W.contents writer.new) result }
+    ensures { RanOut (Session manner.now (all_shown L.meaning boxes.items) (module_held bench.old.desk) script.now) (W.stream writer.old) (W.stream writer.new) result }
 {
     let accepted = match attach_all(bench, boxes, writer) {
         Ok(accepted) => accepted,
@@ -50,8 +50,8 @@ fn attach_and_run<L: Analysis, W: Write>(
 }
 
 /// Writes that a script is refused.
-fn refuse_script<W: Write>(writer: &mut W) -> Result<u8, WriteFault>
-    ensures { RanOut IsBadScript (W.contents writer.old) (W.contents writer.new) result }
+fn refuse_script<W: Sink>(writer: &mut W) -> Result<u8, WriteFault>
+    ensures { RanOut IsBadScript (W.stream writer.old) (W.stream writer.new) result }
 {
     match put_refused(writer, 1, Refusal::BadCommand) {
         Ok(()) => Ok(1),
@@ -61,7 +61,7 @@ fn refuse_script<W: Write>(writer: &mut W) -> Result<u8, WriteFault>
 
 /// Attaches listeners to a module, in order, and runs a script over it; writes as it goes. The status is 1
 /// where a listener or a command was refused, and else 0. A script over its limit is one bad command.
-pub fn run_session<L: Analysis, W: Write>(
+pub fn run_session<L: Analysis, W: Sink>(
     alloc: Global,
     manner: &Manner,
     world: World,
@@ -71,7 +71,7 @@ pub fn run_session<L: Analysis, W: Write>(
 ) -> Result<u8, WriteFault>
     requires slotted { IsSlotted world.store }
     requires tidy { IsTidy world.store }
-    ensures { RanOut (IsSession manner.now (all_shown L.meaning boxes.items) (module_in world) script.now) (W.contents writer.old) (W.contents writer.new) result }
+    ensures { RanOut (IsSession manner.now (all_shown L.meaning boxes.items) (module_in world) script.now) (W.stream writer.old) (W.stream writer.new) result }
 {
     if script_is_too_long(script) {
         return refuse_script(writer);

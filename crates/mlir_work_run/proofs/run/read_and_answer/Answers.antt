@@ -1,22 +1,13 @@
-use Rattle.std.proofs.Common.{◌≡◌, ◌<◌, ◌≤◌, List, ℕ, length, inl, inr, refl, subst, None}
-use Rattle.ir_types.specs.declared.refusal.Refusal.TheVariants.{Memory}
-use Rattle.mlir_work_session.specs.TheConstants.{MAX_INPUT_BYTES}
-use Rattle.mlir_work_session.specs.Panels.{all_shown}
-use Rattle.mlir_work_run.specs.Whole.{IsOutput}
-use Rattle.mlir_work_run.proofs.Ended.{ended_so, if_some}
+use Rattle.std.proofs.Common.{true}
+use Rattle.mlir_work_session.specs.Reads.{Intake}
+use Rattle.mlir_work_session.specs.Writes.{Stream}
+use Rattle.mlir_work_run.proofs.Ended.{unread}
 use Rattle.mlir_work_run.proofs.run.read_and_answer.Goals as goal
 
-pub returns-clause-ran : goal.returns-clause-ran
-returns-clause-ran g c =
-    let due : List ℕ → ℕ → List ℕ → Type 0 = IsOutput c.args.options (all_shown g.L.Analysis.meaning c.args.boxes.items) in
-    if_some _ (λ input. c.in-Ok.input.items ≡ input) _ (λ input e. ended_so (due c.in-Ok.input.items) (due input) _ _ c.answer_input.result _ c.ended-2.ensures (λ st o h. subst (λ (i : List ℕ). due i st o) e h) c.answer_input.ensures) c.in-Ok.ensures.whole
-
-pub returns-in-Err-TooMany-clause-ran : goal.returns-in-Err-TooMany-clause-ran
-returns-in-Err-TooMany-clause-ran g c =
-    let due : List ℕ → ℕ → List ℕ → Type 0 = IsOutput c.args.options (all_shown g.L.Analysis.meaning c.args.boxes.items) in
-    if_some _ (λ input. MAX_INPUT_BYTES < length input) _ (λ input lt. ended_so _ (due input) _ _ c.refuse.result _ c.ended.ensures (λ st o h. inl (lt, h)) c.refuse.ensures) (c.in-Err-TooMany.ensures.too_many c.in-Err-TooMany.field-0-is)
-
-pub returns-in-Err-Memory-clause-ran : goal.returns-in-Err-Memory-clause-ran
-returns-in-Err-Memory-clause-ran g c =
-    let due : List ℕ → ℕ → List ℕ → Type 0 = IsOutput c.args.options (all_shown g.L.Analysis.meaning c.args.boxes.items) in
-    if_some _ (λ input. length input ≤ MAX_INPUT_BYTES) _ (λ input short. ended_so _ (due input) _ _ c.refuse-in-Err-Memory.result _ c.ended-in-Err-Memory.ensures (λ st o h. inr (short, inl (Memory, None, refl, rw (c.no_memory.ensures.refusal, c.no_memory.ensures.offset) at h))) c.refuse-in-Err-Memory.ensures) (c.in-Err-Memory.ensures.memory c.in-Err-Memory.field-0-is)
+pub returns-clause-unread : goal.returns-clause-unread
+returns-clause-unread g c =
+    let taken : Intake = record { remaining = g.R.Read.remaining c.args.reader.now; failed = true } in
+    let left : Intake = record { remaining = g.R.Read.remaining c.read_and_answer_watched.new.reader; failed = true } in
+    let old : Stream = record { contents = g.W.Write.contents c.args.writer.now; failed = true } in
+    let new : Stream = record { contents = g.W.Write.contents c.read_and_answer_watched.new.writer; failed = true } in
+    unread taken left old new c.read_and_answer_watched.result c.read_and_answer_watched.ensures.leaves

@@ -8,8 +8,10 @@ use Rattle.mlir_work_script.proofs.input.read_all.Given as goal
 abbrev pub invariant-loop-turn : goal.invariant-loop-turn
 invariant-loop-turn g l = record {
   front : List ℕ;
-  taken : Consumes (g.R.Read.remaining l.initial.reader) (g.R.Read.remaining l.reader) front;
+  taken : Consumes (g.R.Source.intake l.initial.reader).remaining (g.R.Source.intake l.reader).remaining front;
+  failed : (g.R.Source.intake l.reader).failed ≡ (g.R.Source.intake l.initial.reader).failed;
   counted : l.count ≡ length front;
+  turns : l._turn ≤ l.count;
   within : length front ≤ MAX_INPUT_BYTES;
   kept : IfSome l.kept (λ all. all.items ≡ front);
 }

@@ -4,7 +4,7 @@ use Rattle.ir_types.specs.Refusals.{text_of}
 use Rattle.ir_types.specs.declared.refusal.Refusal.{Refusal}
 use Rattle.mlir_work_script.specs.Kinds.{kind_word}
 use Rattle.mlir_work_script.specs.Replies.{attach_refused_line}
-use Rattle.mlir_work_script.specs.Writes.{AppendsFront, Puts}
+use Rattle.mlir_work_script.specs.Writes.{GrowsFront, Puts}
 use Rattle.mlir_work_script.proofs.Joins.{front_more, puts_join}
 use Rattle.mlir_work_script.proofs.replies.put_attach_refused.Goals as goal
 
@@ -14,10 +14,10 @@ in_two kind refusal = ap (λ xs. codes "attach " ++ xs) (append_assoc (kind_word
 
 pub returns-in-Ok : goal.returns-in-Ok
 returns-in-Ok g c =
-    subst (λ xs. Puts (g.W.Write.contents c.args.writer.now) (g.W.Write.contents c.put_refusal.new.writer) xs c.put_refusal.result) (in_two c.args.kind c.args.refusal)
+    subst (λ xs. Puts (g.W.Sink.stream c.args.writer.now) (g.W.Sink.stream c.put_refusal.new.writer) xs c.put_refusal.result) (in_two c.args.kind c.args.refusal)
     (puts_join _ _ _ (codes "attach " ++ (kind_word c.args.kind ++ codes " refused ")) (text_of c.args.refusal ++ codes "\n") c.put_refusal.result c.in-Ok.ensures c.put_refusal.ensures)
 
 pub returns-in-Err : goal.returns-in-Err
 returns-in-Err g c =
-    subst (AppendsFront (g.W.Write.contents c.args.writer.now) (g.W.Write.contents c.put_with_kind.new.writer)) (in_two c.args.kind c.args.refusal)
-    (front_more _ _ (codes "attach " ++ (kind_word c.args.kind ++ codes " refused ")) (text_of c.args.refusal ++ codes "\n") c.in-Err.ensures)
+    subst (GrowsFront (g.W.Sink.stream c.args.writer.now) (g.W.Sink.stream c.put_with_kind.new.writer)) (in_two c.args.kind c.args.refusal)
+    (front_more (g.W.Sink.stream c.args.writer.now) (g.W.Sink.stream c.put_with_kind.new.writer) (codes "attach " ++ (kind_word c.args.kind ++ codes " refused ")) (text_of c.args.refusal ++ codes "\n") c.in-Err.ensures)

@@ -1,5 +1,5 @@
 use Rattle.std.proofs.Common.{◌++◌, ◌∙◌, ap, sym, append_assoc, get_or, [], Bor, List, ℕ}
-use Rattle.mlir_work_script.proofs.Joins.{joined_step, appends_join, front_within}
+use Rattle.mlir_work_script.proofs.Joins.{joined_step, grows_join, front_within}
 use Rattle.mlir_work_script.proofs.writing.put_all.Goals as goal
 
 pub returns-in-Err : goal.returns-in-Err
@@ -15,5 +15,5 @@ loop-piece-preserved g c =
     record {
       front = c.loop-piece.invariant.front ++ (get_or c.args.pieces.now c.loop-piece.piece-index d).now;
       is = c.loop-piece.invariant.is ∙ (ap (λ xs. c.loop-piece.invariant.front ++ xs) step ∙ sym (append_assoc c.loop-piece.invariant.front _ _));
-      wrote = appends_join _ _ _ c.loop-piece.invariant.front _ c.loop-piece.invariant.wrote c.in-Ok.ensures;
+      wrote = grows_join _ _ _ c.loop-piece.invariant.front _ c.loop-piece.invariant.wrote c.in-Ok.ensures;
     }

@@ -1,6 +1,6 @@
 use Rattle.std.proofs.Common.{◌++◌, ◌&&◌, ◌∙◌, ap, sym, length, [], true, refl, append_assoc, append-nil, is_none}
 use Rattle.std.specs.Vec.Iter.{into_iter_items}
-use Rattle.mlir_work_script.proofs.Joins.{appends_join, appends_none, keeps_same, front_within}
+use Rattle.mlir_work_script.proofs.Joins.{grows_join, grows_none, front_within}
 use Rattle.rewriter.specs.Panels.{all_shown}
 use Rattle.mlir_work_session.specs.Output.{box_line}
 use Rattle.mlir_work_session.proofs.Attaching.{box_step, no_box_left, some_attaches, both_there, all_there, one_less, none_of_none}
@@ -12,7 +12,7 @@ loop-listener-init g c = record {
   desk = refl;
   long = ap length c.into_iter-listener-iterator.ensures.into_iter_gives.0 ∙ (sym c.args.boxes.ok.0 ∙ sym c.into_iter-listener-iterator.ensures.into_iter_gives.1);
   front = [];
-  wrote = appends_none _ _ (keeps_same _);
+  wrote = grows_none _;
   whole = λ new there rest h. rw c.into_iter-listener-iterator.ensures.into_iter_gives.0 at h;
 }
 
@@ -35,7 +35,7 @@ loop-listener-preserved g c =
       desk = c.attach-tried.ensures.desk ∙ c.loop-listener.invariant.desk;
       long = one_less _ _ _ _ _ c.in-Some.ensures.steps.0 c.in-Some.ensures.steps.1 c.loop-listener.invariant.long;
       front = front ++ first;
-      wrote = appends_join _ _ _ front first c.loop-listener.invariant.wrote (rw c.kind_of-kind.ensures at c.in-Ok.ensures);
+      wrote = grows_join _ _ _ front first c.loop-listener.invariant.wrote (rw c.kind_of-kind.ensures at c.in-Ok.ensures);
       whole = λ new there rest h. rw (append_assoc, c.both-accepted.ensures, ← both_there) (c.loop-listener.invariant.whole new _ (first ++ rest) (box_step meaning _ (into_iter_items c.next.new.self) c.in-Some.listener _ _ _ c.attach-tried.result there rest c.in-Some.ensures.steps.0 c.attach-tried.ensures.tried h));
     }
 

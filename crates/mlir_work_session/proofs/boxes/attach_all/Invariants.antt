@@ -1,6 +1,6 @@
 use Rattle.std.proofs.Common.{◌≡◌, ◌++◌, ◌&&◌, List, ℕ, Bool, length}
 use Rattle.std.specs.Vec.Iter.{into_iter_items, into_iter_len}
-use Rattle.std.specs.Io.KnownBytes.{Appends}
+use Rattle.mlir_work_script.specs.Writes.{Grows}
 use Rattle.rewriter.specs.Benched.{IsKept}
 use Rattle.rewriter.specs.Panels.{Shown, all_shown}
 use Rattle.mlir_work_session.specs.Output.{Attaches}
@@ -13,6 +13,6 @@ invariant-loop-listener g l = let meaning = g.L.Analysis.meaning in record {
   desk : l.bench.desk ≡ l.initial.bench.desk;
   long : length (into_iter_items l.listener-iterator) ≡ into_iter_len l.listener-iterator;
   front : List ℕ;
-  wrote : Appends (g.W.Write.contents l.initial.writer) (g.W.Write.contents l.writer) front;
+  wrote : Grows (g.W.Sink.stream l.initial.writer) (g.W.Sink.stream l.writer) front;
   whole : (new : List Shown) (there : Bool) (rest : List ℕ) → Attaches (all_shown meaning (into_iter_items l.listener-iterator)) (all_shown meaning l.bench.listeners) new there rest → Attaches (all_shown meaning l.fn.boxes.items) (all_shown meaning l.initial.bench.listeners) new (l.accepted && there) (front ++ rest);
 }

@@ -1,6 +1,6 @@
 use Rattle.std.proofs.Common.{◌++◌, drop, append_assoc, append-nil, refl, ◌+◌, arith, []}
 use Rattle.ir_event.specs.Modules.{module_in}
-use Rattle.mlir_work_script.proofs.Joins.{appends_join, front_within}
+use Rattle.mlir_work_script.proofs.Joins.{grows_join, front_within}
 use Rattle.rewriter.specs.Panels.{all_shown}
 use Rattle.mlir_work_session.proofs.Listings.{some_kinds, shown_step, none_left}
 use Rattle.mlir_work_session.proofs.listing.put_listeners.Goals as goal
@@ -22,7 +22,7 @@ loop-listener-preserved g c =
     let step = shown_step meaning c.args.listeners.now c.loop-listener.listener-index c.listener-item.result c.loop-listener-test.true c.listener-item.is in
     record {
       front = front ++ first;
-      wrote = appends_join _ _ _ front first c.loop-listener.invariant.wrote c.in-Ok.ensures.2;
+      wrote = grows_join _ _ _ front first c.loop-listener.invariant.wrote c.in-Ok.ensures.2;
       whole = λ rest h. rw append_assoc (c.loop-listener.invariant.whole (first ++ rest) (rw step (first, rest, c.in-Ok.ensures.1, h, refl)));
     }
 

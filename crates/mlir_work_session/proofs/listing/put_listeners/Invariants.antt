@@ -1,5 +1,5 @@
 use Rattle.std.proofs.Common.{◌++◌, List, ℕ, drop}
-use Rattle.std.specs.Io.KnownBytes.{Appends}
+use Rattle.mlir_work_script.specs.Writes.{Grows}
 use Rattle.ir_event.specs.Modules.{module_in}
 use Rattle.rewriter.specs.Panels.{all_shown}
 use Rattle.mlir_work_session.specs.Output.{AreKinds}
@@ -9,6 +9,6 @@ use Rattle.mlir_work_session.proofs.listing.put_listeners.Given as goal
 abbrev pub invariant-loop-listener : goal.invariant-loop-listener
 invariant-loop-listener g l = let meaning = g.L.Analysis.meaning in record {
   front : List ℕ;
-  wrote : Appends (g.W.Write.contents l.initial.writer) (g.W.Write.contents l.writer) front;
+  wrote : Grows (g.W.Sink.stream l.initial.writer) (g.W.Sink.stream l.writer) front;
   whole : (rest : List ℕ) → AreKinds (module_in l.world).tree (all_shown meaning (drop l.listener-index l.listeners)) rest → AreKinds (module_in l.world).tree (all_shown meaning l.listeners) (front ++ rest);
 }

@@ -20,7 +20,7 @@ pub returns-in-Err : goal.returns-in-Err
 returns-in-Err g c =
     let meaning = g.L.Analysis.meaning in
     let t = (module_in c.world-world.result.now).tree in
-    then_none (IsModule t) (AreKinds t (all_shown meaning c.args.bench.now.listeners)) (IsListing (state_of meaning c.args.bench.now)) _ _
+    then_none (IsModule t) (AreKinds t (all_shown meaning c.args.bench.now.listeners)) (IsListing (state_of meaning c.args.bench.now)) (g.W.Sink.stream c.args.writer.now) (g.W.Sink.stream c.put_module.new.writer)
     (λ xs ys p q. listing_held meaning c.args.bench.now c.world-world.result.now c.world-world.ensures.ctx c.world-world.ensures.store xs ys p q) c.in-Err.ensures (some_kinds _ _)
 
 pub put_listeners-requires : goal.put_listeners-requires

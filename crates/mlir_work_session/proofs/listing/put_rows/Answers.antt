@@ -6,4 +6,4 @@ pub returns-in-Ok : goal.returns-in-Ok
 returns-in-Ok g c = puts_join _ _ _ (kind_line c.args.kind) c.args.text.now c.put.result c.in-Ok.ensures c.put.ensures
 
 pub returns-in-Err : goal.returns-in-Err
-returns-in-Err g c = front_more _ _ (kind_line c.args.kind) c.args.text.now c.in-Err.ensures
+returns-in-Err g c = front_more (g.W.Sink.stream c.args.writer.now) (g.W.Sink.stream c.put_kind.new.writer) (kind_line c.args.kind) c.args.text.now c.in-Err.ensures

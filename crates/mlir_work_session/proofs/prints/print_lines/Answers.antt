@@ -1,7 +1,7 @@
 use Rattle.std.proofs.Common.{◌++◌, ◌+◌, [], refl, append-nil, append_assoc, arith}
 use Rattle.ir_tree.specs.Meaning.{meaning}
 use Rattle.mlir_work_script.specs.Lines.{lines_of}
-use Rattle.mlir_work_script.proofs.Joins.{appends_join, front_within}
+use Rattle.mlir_work_script.proofs.Joins.{grows_join, front_within}
 use Rattle.rewriter.specs.Machine.{State}
 use Rattle.mlir_work_session.specs.Machine.{response_of}
 use Rattle.mlir_work_session.specs.Output.{is_accepted, reply_line, worse}
@@ -34,7 +34,7 @@ loop-text-preserved g c =
       prints = is.1;
       count = (let h = c.split_line.ensures.shorter (filled c.loop-text.text.now _ c.is_empty.ensures c.loop-text-test.true) in omega arith);
       front = front ++ told;
-      wrote = appends_join _ _ _ front told c.loop-text.invariant.wrote c.in-Ok.ensures;
+      wrote = grows_join _ _ _ front told c.loop-text.invariant.wrote c.in-Ok.ensures;
       whole = λ manner next panel later rest h.
           let step = print_step manner c.loop-text.n (record { held = record { tree = meaning c.args.ctx.now c.args.tree.now; next = next }; marks = []; panel = panel }) c.loop-text.text.now c.split_line.result.0.now c.split_line.result.1.now reply shows cut is.0 (rw c.read_line-line.ensures at c.if-is_nothing.ensures) c.show_tree-answered.ensures later rest h in
           rw (append_assoc, c.both-accepted.ensures, ← worse_both, c.is_accepted.ensures) (c.loop-text.invariant.whole manner next panel _ (told ++ rest) step);

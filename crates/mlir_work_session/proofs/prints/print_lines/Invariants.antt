@@ -1,5 +1,5 @@
 use Rattle.std.proofs.Common.{◌≡◌, ◌++◌, ◌+◌, ◌≤◌, List, [], ℕ, true, length}
-use Rattle.std.specs.Io.KnownBytes.{Appends}
+use Rattle.mlir_work_script.specs.Writes.{Grows}
 use Rattle.ir_tree.specs.Meaning.{meaning}
 use Rattle.mlir_work_script.specs.Lines.{lines_of}
 use Rattle.rewriter.specs.Panels.{Shown}
@@ -13,7 +13,7 @@ invariant-loop-text g l = record {
   prints : all_print (lines_of l.text) ≡ true;
   count : l.n + length l.text ≤ 1 + length l.script;
   front : List ℕ;
-  wrote : Appends (g.W.Write.contents l.initial.writer) (g.W.Write.contents l.writer) front;
+  wrote : Grows (g.W.Sink.stream l.initial.writer) (g.W.Sink.stream l.writer) front;
   whole : (manner : Manner) (next : ℕ) (panel : List Shown) (later : ℕ) (rest : List ℕ) → Runs manner l.n (record { held = record { tree = meaning l.ctx l.tree; next = next }; marks = []; panel = panel }) (lines_of l.text) later rest → Runs manner 1 (record { held = record { tree = meaning l.ctx l.tree; next = next }; marks = []; panel = panel }) (lines_of l.script) (worse l.accepted later) (front ++ rest);
 }
 

@@ -7,4 +7,4 @@ pub returns-in-Ok : goal.returns-in-Ok
 returns-in-Ok g c = puts_join _ _ _ (reply_line c.args.n (response_of c.args.answered.now.reply)) c.args.answered.now.shows.items c.put.result c.in-Ok.ensures (rw c.deref.ensures.value at c.put.ensures)
 
 pub returns-in-Err : goal.returns-in-Err
-returns-in-Err g c = front_more _ _ (reply_line c.args.n (response_of c.args.answered.now.reply)) c.args.answered.now.shows.items c.in-Err.ensures
+returns-in-Err g c = front_more (g.W.Sink.stream c.args.writer.now) (g.W.Sink.stream c.put_reply.new.writer) (reply_line c.args.n (response_of c.args.answered.now.reply)) c.args.answered.now.shows.items c.in-Err.ensures

@@ -1,5 +1,5 @@
 use Rattle.std.proofs.Common.{◌++◌, [], refl, append-nil}
-use Rattle.mlir_work_script.proofs.Joins.{appends_join, puts_join, front_more, front_within}
+use Rattle.mlir_work_script.proofs.Joins.{grows_join, puts_join, front_more, front_within}
 use Rattle.rewriter.specs.Benched.{state_of}
 use Rattle.mlir_work_session.specs.Machine.{response_of}
 use Rattle.mlir_work_session.specs.Output.{reply_line}
@@ -10,7 +10,7 @@ pub returns-in-Err : goal.returns-in-Err
 returns-in-Err g c =
     let line = reply_line c.args.n (response_of c.args.answered.now.reply) in
     let more = some_listing_if c.args.listed (state_of g.L.Analysis.meaning c.args.bench.now) in
-    (line ++ (c.args.answered.now.shows.items ++ more.0), (more.0, more.1, refl), front_more _ _ line (c.args.answered.now.shows.items ++ more.0) c.in-Err.ensures)
+    (line ++ (c.args.answered.now.shows.items ++ more.0), (more.0, more.1, refl), front_more (g.W.Sink.stream c.args.writer.now) (g.W.Sink.stream c.put_reply.new.writer) line (c.args.answered.now.shows.items ++ more.0) c.in-Err.ensures)
 
 pub returns-in-Err-put : goal.returns-in-Err-put
 returns-in-Err-put g c =
@@ -27,4 +27,4 @@ returns-then-listed g c =
 pub returns : goal.returns
 returns g c =
     let line = reply_line c.args.n (response_of c.args.answered.now.reply) in
-    (line ++ (c.args.answered.now.shows.items ++ []), ([], rw c.if-listed.false refl, refl), appends_join _ _ _ line (c.args.answered.now.shows.items ++ []) c.in-Ok.ensures (rw append-nil (rw c.deref.ensures.value at c.in-Ok-put.ensures)))
+    (line ++ (c.args.answered.now.shows.items ++ []), ([], rw c.if-listed.false refl, refl), grows_join _ _ _ line (c.args.answered.now.shows.items ++ []) c.in-Ok.ensures (rw append-nil (rw c.deref.ensures.value at c.in-Ok-put.ensures)))

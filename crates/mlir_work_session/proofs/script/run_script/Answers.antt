@@ -5,7 +5,7 @@ use Rattle.mlir_work_session.specs.Output.{Manner, is_accepted}
 use Rattle.rewriter.specs.Benched.{state_of}
 use Rattle.mlir_work_session.specs.Machine.{response_of}
 use Rattle.mlir_work_session.specs.Output.{worse}
-use Rattle.mlir_work_script.proofs.Joins.{appends_join, front_within}
+use Rattle.mlir_work_script.proofs.Joins.{grows_join, front_within}
 use Rattle.mlir_work_session.proofs.Runs.{run_step, some_runs, worse_both, runs_end, filled, emptied}
 use Rattle.mlir_work_session.proofs.script.run_script.Goals as goal
 
@@ -32,7 +32,7 @@ loop-text-preserved g c =
       kept = c.answer-answered.ensures.kept;
       count = (let h = c.split_line.ensures.shorter (filled c.loop-text.text.now _ c.is_empty.ensures c.loop-text-test.true) in omega arith);
       front = front ++ told;
-      wrote = appends_join _ _ _ front told c.loop-text.invariant.wrote c.in-Ok.ensures.2;
+      wrote = grows_join _ _ _ front told c.loop-text.invariant.wrote c.in-Ok.ensures.2;
       whole = λ later rest h. rw (append_assoc, c.both-accepted.ensures, ← worse_both, c.is_accepted.ensures) (c.loop-text.invariant.whole _ (told ++ rest) (step later rest h));
     }
 

@@ -1,5 +1,5 @@
 use Rattle.std.proofs.Common.{◌++◌, ◌+◌, ◌≤◌, List, ℕ, length}
-use Rattle.std.specs.Io.KnownBytes.{Appends}
+use Rattle.mlir_work_script.specs.Writes.{Grows}
 use Rattle.mlir_work_script.specs.Lines.{lines_of}
 use Rattle.rewriter.specs.Benched.{IsKept, state_of}
 use Rattle.mlir_work_session.specs.Output.{Runs, worse}
@@ -11,7 +11,7 @@ invariant-loop-text g l = let meaning = g.L.Analysis.meaning in record {
   kept : IsKept meaning l.bench;
   count : l.n + length l.text ≤ 1 + length l.script;
   front : List ℕ;
-  wrote : Appends (g.W.Write.contents l.initial.writer) (g.W.Write.contents l.writer) front;
+  wrote : Grows (g.W.Sink.stream l.initial.writer) (g.W.Sink.stream l.writer) front;
   whole : (later : ℕ) (rest : List ℕ) → Runs l.manner l.n (state_of meaning l.bench) (lines_of l.text) later rest → Runs l.manner 1 (state_of meaning l.initial.bench) (lines_of l.script) (worse l.accepted later) (front ++ rest);
 }
 

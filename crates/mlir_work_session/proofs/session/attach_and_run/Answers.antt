@@ -11,7 +11,7 @@ use Rattle.mlir_work_session.proofs.session.attach_and_run.Goals as goal
 pub returns-in-Err : goal.returns-in-Err
 returns-in-Err g c =
     let had = rw c.requires.none at c.in-Err.ensures.attached in
-    session_begun c.args.manner.now (all_shown g.L.Analysis.meaning c.args.boxes.items) (module_held c.args.bench.now.desk) c.args.script.now _ _ had.0 had.1 had.2 had.3 had.4
+    session_begun c.args.manner.now (all_shown g.L.Analysis.meaning c.args.boxes.items) (module_held c.args.bench.now.desk) c.args.script.now (g.W.Sink.stream c.args.writer.now) (g.W.Sink.stream c.attach_all.new.writer) had.0 had.1 had.2 had.3 had.4
 
 pub returns-in-Ok-run_script : goal.returns-in-Ok-run_script
 returns-in-Ok-run_script g c =
