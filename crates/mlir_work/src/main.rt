@@ -1,4 +1,4 @@
-//! Runs a script over a module: `mlir_work [--brief]`.
+//! Runs a script over a module: `mlir_work [--brief] [--limit N]`.
 #![tactic(auto)]
 
 use clap::Error;

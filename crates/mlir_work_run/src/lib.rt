@@ -8,7 +8,7 @@ pub mod run;
 mod text;
 
 pub use mlir_work_session::{
-    Bench, cells, command, input, keys, kind, lines, manner, numbers, outcome, reader, replies,
-    script, sink, source, spots, values, watched, words, writing,
+    Bench, cells, clauses, command, input, keys, kind, lines, manner, numbers, outcome, reader,
+    replies, script, sink, source, spots, values, watched, words, writing,
 };
 pub use rewriter_journal::laws;

@@ -2,10 +2,14 @@
 
 use crate::run::Options;
 use crate::text;
-use clap::{Arg, ArgAction, Command, Error};
+use clap::{Arg, ArgAction, Command, Error, value_parser};
 use std::alloc::{AllocError, Global};
 
-/// The most rewrites of a command that rewrites, where the command line doesn't say.
+/// The most rewrites that may be asked for.
+const MOST_LIMIT: i64 = 1_000_000;
+
+/// The most rewrites of a `canon` that doesn't say, where the command line doesn't either: the number that
+/// `text::DEFAULT_LIMIT` writes.
 const DEFAULT_LIMIT: u32 = 1000;
 
 /// The option that keeps listings away.
@@ -16,15 +20,26 @@ fn brief<'a>(alloc: Global) -> Arg<'a> {
         .action(ArgAction::SetTrue)
 }
 
+/// The option that says how many rewrites a `canon` may make that doesn't say.
+fn limit<'a>(alloc: Global) -> Arg<'a> {
+    Arg::new(alloc, "limit")
+        .long("limit")
+        .value_name("N")
+        .help(text::LIMIT)
+        .default_value(text::DEFAULT_LIMIT)
+        .value_parser(value_parser!(u32).range(1..=MOST_LIMIT))
+}
+
 /// The command line of the program.
 fn command<'a>(alloc: Global) -> Result<Command<'a>, AllocError> {
     Command::new(alloc, "mlir_work")
         .about(text::ABOUT)
         .after_help(text::AFTER)
-        .arg(brief(alloc))
+        .arg(brief(alloc))?
+        .arg(limit(alloc))
 }
 
-/// Reads the words of a command line, the name of the program first. No word says the limit.
+/// Reads the words of a command line, the name of the program first.
 ///
 /// An error is what is wrong with them, or the text of `--help`, or want of memory.
 pub fn options_of(alloc: Global, words: &[String]) -> Result<Options, Error> {
@@ -32,6 +47,6 @@ pub fn options_of(alloc: Global, words: &[String]) -> Result<Options, Error> {
     let matches = command.try_get_matches_from(words)?;
     Ok(Options {
         brief: matches.get_flag("brief"),
-        limit: DEFAULT_LIMIT,
+        limit: matches.get_one::<u32>("limit").unwrap_or(DEFAULT_LIMIT),
     })
 }

@@ -12,6 +12,12 @@ analyses go to standard output.";
 /// What `--brief` says.
 pub(crate) const BRIEF: &str = "Leave out the module and all rows behind each edit";
 
+/// What `--limit` says.
+pub(crate) const LIMIT: &str = "The most rewrites of a `canon` that doesn't say";
+
+/// Its number, where it isn't there.
+pub(crate) const DEFAULT_LIMIT: &str = "1000";
+
 /// What stands below the options.
 pub(crate) const AFTER: &str = "\
 Commands, one a line; empty lines and lines that begin with `//` are skipped and

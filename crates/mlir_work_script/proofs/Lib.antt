@@ -8,3 +8,5 @@ pub mod Dividing
 pub mod Dividers
 pub mod Spanning
 pub mod Quotes
+pub mod Listed
+pub mod Wording

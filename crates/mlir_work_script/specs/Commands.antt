@@ -1,5 +1,5 @@
 -- What a line of a script says.
-use Rattle.std.specs.Prelude.{ℕ, List, [], ◌∷◌, ◌==◌, ◌||◌, Option, Some, None, if◌then◌else◌, codes, length, nat_eq}
+use Rattle.std.specs.Prelude.{ℕ, List, [], ◌∷◌, ◌==◌, ◌||◌, Bool, Option, Some, None, if◌then◌else◌, codes, length, nat_eq}
 use Rattle.std.specs.List.{starts_with}
 use Rattle.std.specs.Option.{option_map}
 use Rattle.std.specs.Str.{bytes_eq, is_utf8}
@@ -7,6 +7,7 @@ use Rattle.ir_tree.specs.declared.value.Value.{Value}
 use Rattle.rewriter_machine.specs.Commands as said
 use Rattle.rewriter_machine.specs.Commands.{Command as Said}
 use Rattle.rewriter_machine.specs.Spots.{Spot}
+use Rattle.mlir_work_script.specs.Clauses.{Clauses, clauses_of, mode_of, no_clauses, target_of, with_clauses}
 use Rattle.mlir_work_script.specs.declared.command.Command.{Command}
 use Rattle.mlir_work_script.specs.declared.command.Command.TheVariants as code
 use Rattle.mlir_work_script.specs.declared.command.Line.{Line}
@@ -16,7 +17,7 @@ use Rattle.mlir_work_script.specs.Kinds.{kind_of}
 use Rattle.mlir_work_script.specs.Numbers.{number_of}
 use Rattle.mlir_work_script.specs.Spots.{spot_of, spot_in}
 use Rattle.mlir_work_script.specs.Values.{op_of, value_of}
-use Rattle.mlir_work_script.specs.Words.{trim, word_of, after_word}
+use Rattle.mlir_work_script.specs.Words.{trim, word_of, after_word, words_of}
 
 -- what a line says: nothing, no command, or a command
 pub data Spoken : Type 0 where
@@ -35,6 +36,8 @@ said_of (code.DropAttr op key) = said.DropAttr op (key_bytes key)
 said_of (code.Erase op) = said.Erase op
 said_of (code.Insert spot operation) = said.Insert (spot_of spot) operation.now
 said_of (code.Replace old new) = said.Replace old new
+said_of (code.Canon limit) = said.Canon limit
+said_of (code.Convert full clauses) = said.Convert (target_of full (clauses_of clauses))
 said_of code.Sweep = said.Sweep
 said_of code.Begin = said.Begin
 said_of code.Commit = said.Commit
@@ -116,6 +119,25 @@ replace_from None new = None
 abbrev pub replace_in : List ℕ → Option Said
 replace_in rest = alone (after_word (after_word rest)) (replace_from (value_of (word_of rest)) (value_of (word_of (after_word rest))))
 
+-- limit N
+abbrev pub limit_in : List ℕ → Option Said
+limit_in text =
+    if bytes_eq (word_of text) (codes "limit") then alone (after_word (after_word text)) (option_map (λ n. said.Canon (Some n)) (number_of (word_of (after_word text))))
+    else None
+
+-- canon [limit N]
+abbrev pub canon_in : List ℕ → Option Said
+canon_in rest = if length rest == 0 then Some (said.Canon None) else limit_in rest
+
+abbrev pub convert_from : Option Bool → Option Clauses → Option Said
+convert_from (Some full) (Some clauses) = Some (said.Convert (target_of full clauses))
+convert_from (Some full) None = None
+convert_from None clauses = None
+
+-- convert (partial | full) CLAUSES
+abbrev pub convert_in : List ℕ → Option Said
+convert_in rest = convert_from (mode_of (word_of rest)) (with_clauses (words_of (after_word rest)) (Some no_clauses))
+
 -- the command of this name, with the text behind the name: one on marks
 abbrev pub mark_command : List ℕ → List ℕ → Option Said
 mark_command name rest =
@@ -127,7 +149,9 @@ mark_command name rest =
 -- one that transforms the module
 abbrev pub transforming_command : List ℕ → List ℕ → Option Said
 transforming_command name rest =
-    if bytes_eq name (codes "sweep") then alone rest (Some said.Sweep)
+    if bytes_eq name (codes "canon") then canon_in rest
+    else if bytes_eq name (codes "convert") then convert_in rest
+    else if bytes_eq name (codes "sweep") then alone rest (Some said.Sweep)
     else mark_command name rest
 
 -- one that shows or follows

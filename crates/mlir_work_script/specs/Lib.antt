@@ -3,6 +3,8 @@ pub mod Lines
 pub mod Parts
 pub mod Words
 pub mod Numbers
+pub mod Items
+pub mod Clauses
 pub mod Values
 pub mod Kinds
 pub mod Spots

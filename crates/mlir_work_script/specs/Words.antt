@@ -1,6 +1,7 @@
 -- Words of a line.
 use Rattle.std.specs.Prelude.{ℕ, List, [], ◌∷◌, ◌==◌, ◌||◌, Bool, if◌then◌else◌}
 use Rattle.mlir_work_script.specs.Cuts.{before, after}
+use Rattle.mlir_work_script.specs.Lines.{onto_first}
 
 -- a space or a tab: what separates words
 abbrev pub is_blank : ℕ → Bool
@@ -41,3 +42,13 @@ word_of text = before is_blank text
 -- what stands after the first word and the blanks behind it
 abbrev pub after_word : List ℕ → List ℕ
 after_word text = skip_blanks (after is_blank text)
+
+-- b in front of the words of what follows it: it belongs to the first of them where that follows at once
+abbrev pub onto_word : ℕ → List ℕ → List (List ℕ) → List (List ℕ)
+onto_word b [] words = (b ∷ []) ∷ words
+onto_word b (c ∷ cs) words = if is_blank c then (b ∷ []) ∷ words else onto_first b words
+
+-- the words, in order
+abbrev pub words_of : List ℕ → List (List ℕ)
+words_of [] = []
+words_of (b ∷ bs) = if is_blank b then words_of bs else onto_word b bs (words_of bs)

@@ -3,8 +3,9 @@ ghost use Rattle.std.specs.Prelude.{◌≡◌, Some};
 ghost use Rattle.std.specs.Option.{option_map};
 ghost use Rattle.std.specs.Str.{is_utf8};
 ghost use Rattle.rewriter_machine.specs.Commands as said;
-ghost use Rattle.mlir_work_script.specs.Commands.{said_of, spoken_of, with_kind, set_operand_in, move_in, set_attr_in, drop_attr_in, erase_in, insert_in, replace_in, alone, entry_command, mark_command, panel_command, transforming_command, command_of, line_says};
+ghost use Rattle.mlir_work_script.specs.Commands.{said_of, spoken_of, with_kind, set_operand_in, move_in, set_attr_in, drop_attr_in, erase_in, insert_in, replace_in, alone, limit_in, canon_in, convert_in, entry_command, mark_command, panel_command, transforming_command, command_of, line_says};
 
+use crate::clauses::{Clauses, clauses_in, mode_named};
 use crate::keys::{Key, split_key};
 use crate::kind::{Kind, kind_named};
 use crate::numbers::number;
@@ -68,6 +69,15 @@ pub enum Command<'a> {
         op: OpId,
         /// The entry's key.
         key: Key<'a>,
+    },
+    /// `canon` and `canon limit N` rewrite until no rule applies any more, or so many times.
+    Canon(Option<u32>),
+    /// `convert MODE CLAUSES` rewrites what isn't legal, or leaves all as it was.
+    Convert {
+        /// Whether each operation is to be legal in the end, also one that is named nowhere.
+        full: bool,
+        /// What is legal, and which rules are tried.
+        clauses: Clauses<'a>,
     },
     /// `sweep` takes the private symbols away that nothing reaches.
     Sweep,
@@ -201,6 +211,42 @@ fn print(rest: &[u8]) -> Option<Command<'_>>
     Some(Command::Print)
 }
 
+/// `limit N`.
+fn limit(text: &[u8]) -> Option<Command<'_>>
+    ensures { option_map said_of result ≡ limit_in text.now }
+{
+    let (name, rest) = split_word(text);
+    if name != b"limit".as_slice() {
+        return None;
+    }
+    let (limit, left) = split_word(rest);
+    if !left.is_empty() {
+        return None;
+    }
+    let limit = number(limit)?;
+    Some(Command::Canon(Some(limit)))
+}
+
+/// `canon [limit N]`, behind its name.
+fn canon(rest: &[u8]) -> Option<Command<'_>>
+    ensures { option_map said_of result ≡ canon_in rest.now }
+{
+    if rest.is_empty() {
+        return Some(Command::Canon(None));
+    }
+    limit(rest)
+}
+
+/// `convert MODE CLAUSES`, behind its name.
+fn convert(rest: &[u8]) -> Option<Command<'_>>
+    ensures { option_map said_of result ≡ convert_in rest.now }
+{
+    let (mode, rest) = split_word(rest);
+    let full = mode_named(mode)?;
+    let clauses = clauses_in(rest)?;
+    Some(Command::Convert { full, clauses })
+}
+
 /// `sweep`, behind its name.
 fn sweep(rest: &[u8]) -> Option<Command<'_>>
     ensures { option_map said_of result ≡ alone rest.now (Some said.Sweep) }
@@ -286,6 +332,12 @@ fn drop_attr(rest: &[u8]) -> Option<Command<'_>>
 fn transforming_command<'a>(name: &[u8], rest: &'a [u8]) -> Option<Command<'a>>
     ensures { option_map said_of result ≡ transforming_command name.now rest.now }
 {
+    if name == b"canon".as_slice() {
+        return canon(rest);
+    }
+    if name == b"convert".as_slice() {
+        return convert(rest);
+    }
     if name == b"sweep".as_slice() {
         return sweep(rest);
     }

@@ -3,7 +3,7 @@ ghost use Rattle.std.specs.Prelude.{◌≡◌, ◌==◌, ◌<◌, length, positi
 ghost use Rattle.mlir_work_script.specs.Cuts.{before, after};
 
 /// Where the byte first stands.
-fn place_of(text: &[u8], byte: u8) -> Option<usize>
+pub(crate) fn place_of(text: &[u8], byte: u8) -> Option<usize>
     ensures { result ≡ position (λ b. b == byte) text.now }
 {
     text.iter().position(|b| *b == byte)

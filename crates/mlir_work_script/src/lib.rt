@@ -3,9 +3,11 @@
 #![tactic(auto)]
 
 pub mod cells;
+pub mod clauses;
 pub mod command;
 mod cuts;
 pub mod input;
+pub mod items;
 pub mod keys;
 pub mod kind;
 pub mod laws;

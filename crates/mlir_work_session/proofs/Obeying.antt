@@ -3,7 +3,7 @@ use Rattle.std.proofs.Common.{◌≡◌, ◌∙◌, sym, ap, subst, refl, ◌⊎
 use Rattle.std.specs.Prelude.{position, remove, is_some, option_map, false, true}
 use Rattle.std.specs.List.{find}
 use Rattle.ir_types.specs.declared.refusal.Refusal.{Refusal}
-use Rattle.ir_types.specs.declared.refusal.Refusal.TheVariants.{Memory, NoSuchKind, Stale}
+use Rattle.ir_types.specs.declared.refusal.Refusal.TheVariants.{BadCommand, Memory, NoSuchKind, Stale}
 use Rattle.ir_tree.specs.declared.place.Place.{Place}
 use Rattle.ir_tree.specs.Meaning.{Operation}
 use Rattle.ir_event.specs.Listener.{Listener}
@@ -23,7 +23,7 @@ use Rattle.rewriter.specs.Spots.{Spot, spot_place}
 use Rattle.mlir_work_session.specs.Texts.{NotRead}
 use Rattle.mlir_work_sweep.specs.Sweep.{sweeping}
 use Rattle.mlir_work_session.specs.declared.manner.Manner.{Manner}
-use Rattle.mlir_work_session.specs.Machine.{AsksIn, Obeys, canonicalizing, converting, limit_or, shows_text}
+use Rattle.mlir_work_session.specs.Machine.{AsksIn, Obeys, canonicalizing, converting, limit_or, shows_text, unmade}
 use Rattle.mlir_work_session.specs.RowText.{rows_text}
 use Rattle.mlir_work_session.proofs.Panels.{all_stay, find_shown}
 
@@ -35,6 +35,10 @@ module _ (manner : Manner) where
   -- one below which nothing is shown, with the response that its reply is
   pub obeys_plain : (s t : State) (c : Command) (call : Call) (reply : Reply) (response : Response) → response ≡ Replied reply → AsksIn manner c s.held (Ask call) → Goes s call reply Nothing t → Obeys manner s c response [] t
   obeys_plain s t c call reply response is asks goes = rw is (obeys_call s t c call reply Nothing asks goes)
+
+  -- one for which there is no transformation
+  pub obeys_unmade : (s : State) (c : Command) → AsksIn manner c s.held (Ask (call.Change unmade)) → Obeys manner s c (Replied (Refused BadCommand)) [] s
+  obeys_unmade s c asks = obeys_call s s c (call.Change unmade) (Refused BadCommand) Nothing asks (record { answer = inl refl; panel = all_stay s.panel })
 
   -- a place that is refused, and a text
   pub obeys_misplaced : (x : ℕ) (spot : Spot) (s : State) (refusal : Refusal) → spot_place (Some x) spot s.held.tree ≡ Err refusal → Obeys manner s (command.Move x spot) (Replied (Refused refusal)) [] s
