@@ -1,6 +1,6 @@
 -- What carrying out a plan comes to.
-use Rattle.std.proofs.Common.{◌≡◌, refl, ap, sym, ◌∙◌, subst, ℕ, ◌+◌, ◌≤◌, List, ◌++◌, [], Bool, true, false, Option, Some, None, inl, inr, leb-true}
-use Rattle.std.specs.Prelude.{◌≢◌, length, nat_le, if◌then◌else◌}
+use Rattle.std.proofs.Common.{◌≡◌, refl, ap, sym, ◌∙◌, subst, ℕ, ◌+◌, ◌≤◌, List, [], Bool, true, false, Option, Some, None, inl, inr, leb-true}
+use Rattle.std.specs.Prelude.{length, nat_le, if◌then◌else◌}
 use Rattle.ir_event.specs.declared.event.Event.{Event}
 use Rattle.ir_types.specs.Things.{Things, Grows}
 use Rattle.ir_types.specs.Sound.{Holds}

@@ -1,11 +1,12 @@
 -- What comes of the lowest rule that applies.
-use Rattle.std.proofs.Common.{◌≡◌, refl, ap, sym, ◌∙◌, subst, ℕ, ◌≤◌, List, false, Option, Some, None, Result, Ok, Err, option_map}
+use Rattle.std.proofs.Common.{◌≡◌, refl, ap, sym, ◌∙◌, subst, ℕ, ◌≤◌, ◌<◌, List, false, Option, Some, None, Result, Ok, Err, option_map}
 use Rattle.std.specs.Prelude.{IfOk, IfSome}
 use Rattle.ir_tree.specs.declared.place.Place.{Place}
 use Rattle.ir_tree.specs.Tree.{head}
 use Rattle.ir_event.specs.Modules.{Module, module_in}
 use Rattle.ir_event.specs.declared.world.World.{World}
 use Rattle.patterns_runs.specs.Held.{Held, module_held}
+use Rattle.patterns_plans.specs.Planned.{IsPlanAt}
 use Rattle.patterns_plans.specs.Reads.{head_at}
 use Rattle.patterns_base.specs.Looks.{Header}
 use Rattle.patterns_base.specs.Rules.{rules_for}
@@ -14,12 +15,12 @@ use Rattle.patterns_base.specs.Rewrites.{none, edits_of, rewrite_of, carried_out
 use Rattle.patterns_makes.specs.Plan.{Plan}
 use Rattle.patterns_makes.specs.Plans.{PlanIsOf, plan_meaning}
 use Rattle.patterns.specs.Applied.{Gave}
-use Rattle.patterns.specs.Lowest.{IsFirst, IsLowest, TriedFirst, greedy}
+use Rattle.patterns.specs.Lowest.{IsFirst, IsLeftOut, IsLowest, TriedFirst, greedy}
 use Rattle.patterns.specs.Planned.{planned_edits}
 use Rattle.patterns.specs.declared.lowest.Found.{Found}
 use Rattle.patterns.proofs.Applying.{rewrite_due, same_module}
-use Rattle.patterns.proofs.Firsts.{left_out, taken}
-use Rattle.patterns.proofs.Planned.{found}
+use Rattle.patterns.proofs.Firsts.{left_out, past, taken}
+use Rattle.patterns.proofs.Planned.{found, none_rule}
 
 module _ (w : World) (x : ℕ) (front : Place) (r : ℕ) (low : r ≤ 24) where
   tried : (p : Option Plan) → option_map (plan_meaning w.ctx (module_in w).next x front) p ≡ edits_of r (module_in w) x → IfSome p (PlanIsOf w.ctx) → TriedFirst r w x front p
@@ -60,3 +61,10 @@ module _ (w : World) (b : Held) (ctx : w.ctx ≡ b.ctx) (store : w.store ≡ b.s
 
     pub lowest_due : lowest (module_held b) x ≡ carried_out (planned_edits b.ctx (module_held b).next x f.planned) (module_held b)
     lowest_due = rule_held ∙ rewrite_due w b ctx store x f.rule (Some f.planned) is.0.edits f.planned refl
+
+-- rules that may be left out
+pub never : (w : World) (x r : ℕ) → r ≤ 24 → IsPlanAt r w x None → IsLeftOut r w x
+never w x r low is = left_out r (module_in w) x low (none_rule r (module_in w) x is)
+
+pub high : (w : World) (x r : ℕ) → 24 < r → IsLeftOut r w x
+high w x r above = past r (module_in w) x above

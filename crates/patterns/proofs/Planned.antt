@@ -57,6 +57,21 @@ none_clean r m x h b e c n =
     go o e None = refl
     go o e (Some front) = sym (ap (λ c. when c (rule r m.tree m.next front o)) e)
 
+pub none_rule : (r : ℕ) (m : Module) (x : ℕ) → ((o : Operation) → find x m.tree ≡ Some o → (n : ℕ) (front : Place) → None ≡ rule r m.tree n front o) → None ≡ edits_of r m x
+none_rule r m x is = go (find x m.tree) refl ∙ sym (edits_are r m x)
+  where
+    none_when : (b : Bool) (p : Option (List Edit)) → None ≡ p → None ≡ when b p
+    none_when true p e = e
+    none_when false p e = refl
+
+    none_in : (o : Operation) → find x m.tree ≡ Some o → (f : Option Place) → None ≡ given f (λ front. when (is_clean m.tree (head o)) (rule r m.tree m.next front o))
+    none_in o e None = refl
+    none_in o e (Some front) = none_when (is_clean m.tree (head o)) (rule r m.tree m.next front o) (is o e m.next front)
+
+    go : (o : Option Operation) → find x m.tree ≡ o → None ≡ given o (λ o. given (front_of x m.tree) (λ front. when (is_clean m.tree (head o)) (rule r m.tree m.next front o)))
+    go None e = refl
+    go (Some o) e = none_in o e (front_of x m.tree)
+
 pub by_rule : (r : ℕ) (m : Module) (x : ℕ) (h : Header) (f : Place) (p : Option (List Edit)) → Some h ≡ head_at x m.tree → Some f ≡ front_of x m.tree → is_clean m.tree (record h { id = x }) ≡ true
     → ((o : Operation) → find x m.tree ≡ Some o → p ≡ rule r m.tree m.next f o) → p ≡ edits_of r m x
 by_rule r m x h f p e g y is =

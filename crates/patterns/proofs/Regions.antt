@@ -1,10 +1,13 @@
 -- The plans of rules 22 to 24, by their numbers.
-use Rattle.std.proofs.Common.{◌≡◌, ap, sym, ◌∙◌, ℕ, List, Option, Some}
+use Rattle.std.proofs.Common.{◌≡◌, ap, sym, ◌∙◌, ℕ, List, Option, Some, None, option_map}
 use Rattle.ir_tree.specs.declared.place.Place.{Place}
+use Rattle.ir_tree.specs.Tree.{head}
 use Rattle.ir_tree.specs.Ids.{find}
 use Rattle.ir_tree.specs.Meaning.{Operation}
 use Rattle.patterns_runs.specs.Contents.{Edit}
 use Rattle.patterns_plans.specs.Keeps.{given}
+use Rattle.patterns_plans.specs.Reads.{head_at}
+use Rattle.patterns_base.specs.Looks.{Header}
 use Rattle.patterns_base.specs.Opening.{rule_22, rule_23, rule_24}
 use Rattle.patterns_base.specs.Rules.{rule}
 use Rattle.patterns_regions.specs.Rules.{rule_22_at, rule_23_at, rule_24_at}
@@ -21,3 +24,16 @@ module _ (t : Operation) (n : ℕ) (front : Place) (x : ℕ) (o : Operation) (is
   pub when_24 : r ≡ 24 → p ≡ rule_24_at x t front → p ≡ rule r t n front o
   unfolding rule
   when_24 k e = e ∙ ap (λ z. given z (λ o. rule_24 t front o)) is ∙ ap (λ r. rule r t n front o) (sym k)
+
+-- what is shown of an operation is its head
+pub head_is : (x : ℕ) (t : Operation) (h : Header) (o : Operation) → Some h ≡ head_at x t → find x t ≡ Some o → head o ≡ h
+head_is x t h o e f = (let shown : Some h ≡ Some (head o) = e ∙ ap (option_map (λ o. head o)) f in cc)
+
+module _ (t : Operation) (n : ℕ) (front : Place) (o : Operation) (r : ℕ) where
+  pub never_22 : r ≡ 22 → rule_22 t front o ≡ None → None ≡ rule r t n front o
+  unfolding rule
+  never_22 k e = sym e ∙ ap (λ r. rule r t n front o) (sym k)
+
+  pub never_23 : r ≡ 23 → rule_23 t front o ≡ None → None ≡ rule r t n front o
+  unfolding rule
+  never_23 k e = sym e ∙ ap (λ r. rule r t n front o) (sym k)

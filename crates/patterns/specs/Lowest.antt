@@ -25,9 +25,18 @@ pub record IsPlanOf (w : World) (x : ℕ) (front : Place) (r : ℕ) (p : Plan) :
   pub edits : Some (plan_meaning w.ctx (module_in w).next x front p) ≡ edits_of r (module_in w) x
   pub of : PlanIsOf w.ctx p
 
+-- rule r may be left out at operation x
+abbrev pub IsLeftOut : ℕ → World → ℕ → Type 0
+IsLeftOut r w x = (rs : List ℕ) → first_rule (greedy (r ∷ rs)) (module_in w) x ≡ first_rule (greedy rs) (module_in w) x
+
+-- some rules from the first on that may apply, or none may
+abbrev pub AreLikely : List ℕ → World → ℕ → Option (List ℕ) → Type 0
+AreLikely rs w x None = first_rule (greedy rs) (module_in w) x ≡ none
+AreLikely rs w x (Some ks) = AreWritten ks × (first_rule (greedy rs) (module_in w) x ≡ first_rule (greedy ks) (module_in w) x)
+
 -- the first of rules that is tried applies, with a plan, or may be left out
 abbrev pub TriedFirst : ℕ → World → ℕ → Place → Option Plan → Type 0
-TriedFirst r w x front None = (rs : List ℕ) → first_rule (greedy (r ∷ rs)) (module_in w) x ≡ first_rule (greedy rs) (module_in w) x
+TriedFirst r w x front None = IsLeftOut r w x
 TriedFirst r w x front (Some p) = IsPlanOf w x front r p × ((rs : List ℕ) → first_rule (greedy (r ∷ rs)) (module_in w) x ≡ rewrite_of r (module_in w) x)
 
 -- the first of some rules that applies, with its plan, or that none does

@@ -4,6 +4,7 @@
 pub mod apply;
 mod carry;
 pub mod laws;
+mod likely;
 mod limits;
 pub mod lowest;
 mod plan;

@@ -11,6 +11,7 @@ ghost use Rattle.patterns.specs.Applied.{Applied, Gave, IsReason, IsWritten};
 ghost use Rattle.patterns.specs.Lowest.{AreWritten, IsFirst, IsLowest, TriedFirst};
 
 use crate::carry::carry_plan;
+use crate::likely::{is_likely, likely};
 use crate::plan::{Planned, plan_at};
 use ir_event::analysis::Analysis;
 use ir_event::world::World;
@@ -49,7 +50,7 @@ fn try_rule(
     requires clean { clean_at (module_in world.now).tree (record (head_in world.now.ctx node.now) { id = op }) ≡ true }
     ensures { IfOk result (TriedFirst rule world.now op front.now) }
 {
-    if rule > 24 {
+    if !is_likely(world, rule, op, node) {
         return Ok(None);
     }
     plan_at(alloc, world, rule, front, op, node)
@@ -81,7 +82,7 @@ fn first_plan(
     Ok(None)
 }
 
-/// The lowest rule that applies at an operation.
+/// The lowest rule that applies at an operation. Whether that is clean is asked only where a rule may apply.
 fn find_lowest(alloc: Global, world: &World, op: OpId) -> Result<Option<Found>, AllocError>
     ensures { IfOk result (IsLowest world.now op) }
 {
@@ -90,13 +91,16 @@ fn find_lowest(alloc: Global, world: &World, op: OpId) -> Result<Option<Found>, 
     let Some(node) = shown(world, op) else {
         return Ok(None);
     };
+    let listed = rules_of(node.name());
+    let Some(rules) = likely(world, listed, op, &node) else {
+        return Ok(None);
+    };
     let Some(front) = front(world, op) else {
         return Ok(None);
     };
     if !is_clean(alloc, world, op, &node)? {
         return Ok(None);
     }
-    let rules = rules_of(node.name());
     match first_plan(alloc, world, rules, &front, op, &node)? {
         Some((rule, plan)) => Ok(Some(Found {
             rule,

@@ -24,19 +24,27 @@ pub first_plan-requires-clause-clean : goal.first_plan-requires-clause-clean
 first_plan-requires-clause-clean c = sym c.in_ok-is_clean.ensures ∙ c.if-not-branch.false
 
 pub first_plan-requires-clause-written : goal.first_plan-requires-clause-written
-first_plan-requires-clause-written c =
-    row_written c.rules_of-rules.result.now _ (c.rules_of-rules.ensures c.args.world.now.ctx c.sound.ensures)
+first_plan-requires-clause-written c = c.in-Some-likely.ensures.0
+
+pub likely-requires-clause-written : goal.likely-requires-clause-written
+likely-requires-clause-written c = row_written c.rules_of-listed.result.now _ (c.rules_of-listed.ensures c.args.world.now.ctx c.sound.ensures)
+
+pub returns-in_default-likely : goal.returns-in_default-likely
+returns-in_default-likely c =
+    (row_suffices c.only_listed_rules_apply.ensures.lowest (module_in c.args.world.now) c.args.op (head_in c.args.world.now.ctx c.in-Some.node) c.in-Some.ensures.node c.rules_of-listed.result.now
+    (c.rules_of-listed.ensures c.args.world.now.ctx c.sound.ensures ∙ ap (λ n. rules_for (name_term c.args.world.now.ctx n)) c.name.ensures))
+    ∙ c.in_default-likely.ensures
 
 pub returns-in-None : goal.returns-in-None
 returns-in-None c =
-    none_first_lowest c.args.world.now c.args.op c.in-Some-front.front c.rules_of-rules.result.now
-    (row_suffices c.only_listed_rules_apply.ensures.lowest (module_in c.args.world.now) c.args.op (head_in c.args.world.now.ctx c.in-Some.node) c.in-Some.ensures.node c.rules_of-rules.result.now
-    (c.rules_of-rules.ensures c.args.world.now.ctx c.sound.ensures ∙ ap (λ n. rules_for (name_term c.args.world.now.ctx n)) c.name.ensures))
+    none_first_lowest c.args.world.now c.args.op c.in-Some-front.front c.in-Some-likely.rules.now
+    ((row_suffices c.only_listed_rules_apply.ensures.lowest (module_in c.args.world.now) c.args.op (head_in c.args.world.now.ctx c.in-Some.node) c.in-Some.ensures.node c.rules_of-listed.result.now
+    (c.rules_of-listed.ensures c.args.world.now.ctx c.sound.ensures ∙ ap (λ n. rules_for (name_term c.args.world.now.ctx n)) c.name.ensures)) ∙ c.in-Some-likely.ensures.1)
     _ c.in_ok-rule.ensures c.in-None.is
 
 pub returns-in-Some-2 : goal.returns-in-Some-2
 returns-in-Some-2 c =
-    first_lowest c.args.world.now c.args.op c.in-Some-front.front c.rules_of-rules.result.now
-    (row_suffices c.only_listed_rules_apply.ensures.lowest (module_in c.args.world.now) c.args.op (head_in c.args.world.now.ctx c.in-Some.node) c.in-Some.ensures.node c.rules_of-rules.result.now
-    (c.rules_of-rules.ensures c.args.world.now.ctx c.sound.ensures ∙ ap (λ n. rules_for (name_term c.args.world.now.ctx n)) c.name.ensures))
+    first_lowest c.args.world.now c.args.op c.in-Some-front.front c.in-Some-likely.rules.now
+    ((row_suffices c.only_listed_rules_apply.ensures.lowest (module_in c.args.world.now) c.args.op (head_in c.args.world.now.ctx c.in-Some.node) c.in-Some.ensures.node c.rules_of-listed.result.now
+    (c.rules_of-listed.ensures c.args.world.now.ctx c.sound.ensures ∙ ap (λ n. rules_for (name_term c.args.world.now.ctx n)) c.name.ensures)) ∙ c.in-Some-likely.ensures.1)
     _ c.in-Some-2.rule c.in-Some-2.plan c.in_ok-rule.ensures c.in-Some-2.is
