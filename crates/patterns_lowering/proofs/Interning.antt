@@ -29,6 +29,7 @@ use Rattle.ir_event.specs.Listener.{Listener}
 use Rattle.rewriter.specs.Benched.{Benched, Heard}
 use Rattle.rewriter.specs.Held.{Held}
 use Rattle.rewriter.specs.Moves.{Grown}
+use Rattle.rewriter.proofs.Told.{heard_grown}
 use Rattle.patterns_base.specs.Made.{i64}
 use Rattle.patterns_base.specs.Lowering.{lowered_attr}
 use Rattle.patterns_lowering.specs.Interned.{Interned, IsWanting, as_full}
@@ -47,13 +48,20 @@ grown_on g h k p q = record {
 
 module _ {B : Type 0} (meaning : B → Listener) where
   pub interned_none : ((z : Benched B) → Heard meaning [] z z) → (a : Benched B) → Interned meaning a a
-  interned_none none a = record { grown = record { grows = grows_refl a.desk.ctx; held = refl; same = refl; marked = refl; behind = λ n. refl }; led = ([], none a) }
+  interned_none none a = record { grown = record { grows = grows_refl a.desk.ctx; held = refl; same = refl; marked = refl; behind = λ n. refl }; untold = none a }
 
   abbrev pub Composes : Type 0
   Composes = (es fs : List Event) (a b c : Benched B) → Holds b.desk.ctx → Holds c.desk.ctx → Heard meaning es a b → Heard meaning fs b c → Heard meaning (es ++ fs) a c
 
   pub interned_on : Composes → (a b c : Benched B) → Holds b.desk.ctx → Holds c.desk.ctx → Interned meaning a b → Interned meaning b c → Interned meaning a c
-  interned_on more a b c h k p q = record { grown = grown_on a.desk b.desk c.desk p.grown q.grown; led = (p.led.0 ++ q.led.0, more p.led.0 q.led.0 a b c h k p.led.1 q.led.1) }
+  interned_on more a b c h k p q = record { grown = grown_on a.desk b.desk c.desk p.grown q.grown; untold = more [] [] a b c h k p.untold q.untold }
+
+  -- something is interned
+  pub interned_one : (a b : Benched B) → Holds a.desk.ctx → Holds b.desk.ctx → Grown a.desk b.desk → b.listeners ≡ a.listeners → Interned meaning a b
+  interned_one a b before after grown same = record {
+    grown = grown;
+    untold = subst (λ (xs : List B). Heard meaning [] a (record { desk = b.desk; listeners = xs })) (sym same) (heard_grown meaning a.desk b.desk a.listeners before after grown);
+  }
 
 -- numbers of a context are numbers of a grown one
 longer : {X : Type 0} (xs ys : List X) (n : ℕ) → IsFront xs ys → n < length xs → n < length ys

@@ -1,12 +1,12 @@
 -- What interning for lowerings makes of a bench.
-use Rattle.std.specs.Prelude.{◌≡◌, ◌≤◌, length, ◌⊎◌}
+use Rattle.std.specs.Prelude.{◌≡◌, ◌≤◌, [], length, ◌⊎◌}
 use Rattle.ir_types.specs.Things.{Things}
 use Rattle.ir_types.specs.Limits.{most_things}
 use Rattle.ir_types.specs.declared.refusal.Refusal.{Refusal}
 use Rattle.ir_types.specs.declared.refusal.Refusal.TheVariants.{Memory, Full}
 use Rattle.ir_event.specs.Listener.{Listener}
 use Rattle.rewriter.specs.Moves.{Grown}
-use Rattle.rewriter.specs.Benched.{Benched, Led}
+use Rattle.rewriter.specs.Benched.{Benched, Heard}
 
 -- a context is full: it has as many types, or attributes, as there may be
 abbrev pub IsFull : Things → Type 0
@@ -19,7 +19,7 @@ IsWanting c e = (e ≡ Memory) ⊎ ((e ≡ Full) × IsFull c)
 -- the context grew, and no more: the listeners were told of nothing
 pub record Interned {B : Type 0} (meaning : B → Listener) (old new : Benched B) : Type 0 where
   pub grown : Grown old.desk new.desk
-  pub led : Led meaning old new
+  pub untold : Heard meaning [] old new
 
 -- what a refusal of the context is called: it is full
 abbrev pub as_full : Refusal → Refusal

@@ -43,7 +43,9 @@ fn interned_type<L: Analysis>(bench: &mut Bench<L>, node: TypeNode) -> Result<Ty
     ensures interned { Interned L.meaning bench.old bench.new }
 {
     bench.is_formed();
-    match bench.ty(node) {
+    let made = bench.ty(node);
+    bench.is_formed();
+    match made {
         Ok(id) => Ok(id),
         Err(refusal) => Err(as_full(refusal)),
     }
@@ -84,7 +86,9 @@ fn lowered_attr<L: Analysis>(
     let Some(value) = index_bits(&bench.world().ctx, attr) else {
         return Ok(attr);
     };
-    match bench.attr(AttrNode::Int { ty: wide, value }) {
+    let made = bench.attr(AttrNode::Int { ty: wide, value });
+    bench.is_formed();
+    match made {
         Ok(id) => Ok(id),
         Err(refusal) => Err(as_full(refusal)),
     }

@@ -1,8 +1,24 @@
-use Rattle.patterns_lowering.proofs.Interning.{type_interned}
+use Rattle.std.proofs.Common.{ap, sym, subst}
+use Rattle.ir_types.specs.Things.{Things}
+use Rattle.rewriter.specs.Benched.{Benched}
+use Rattle.patterns_lowering.specs.Interned.{IsWanting, as_full}
+use Rattle.patterns_lowering.proofs.Interning.{interned_one, type_interned, type_wanting}
 use Rattle.patterns_lowering.proofs.intern.interned_type.Goals as goal
 
 pub returns-in-Ok-clause-known : goal.returns-in-Ok-clause-known
-returns-in-Ok-clause-known g c = (type_interned c.args.bench.now.desk.ctx c.ty.new.self.desk.ctx c.args.node c.in-Ok.id c.is_formed.ensures.context.holds c.in-Ok.ensures.ok).0
+returns-in-Ok-clause-known g c = (type_interned c.args.bench.now.desk.ctx c.ty-made.new.self.desk.ctx c.args.node c.in-Ok.id c.is_formed.ensures.context.holds c.in-Ok.ensures.ok).0
 
 pub returns-in-Ok-clause-is : goal.returns-in-Ok-clause-is
-returns-in-Ok-clause-is g c = (type_interned c.args.bench.now.desk.ctx c.ty.new.self.desk.ctx c.args.node c.in-Ok.id c.is_formed.ensures.context.holds c.in-Ok.ensures.ok).1
+returns-in-Ok-clause-is g c = (type_interned c.args.bench.now.desk.ctx c.ty-made.new.self.desk.ctx c.args.node c.in-Ok.id c.is_formed.ensures.context.holds c.in-Ok.ensures.ok).1
+
+pub returns-in-Ok-clause-interned : goal.returns-in-Ok-clause-interned
+returns-in-Ok-clause-interned g c = interned_one g.L.Analysis.meaning c.args.bench.now c.ty-made.new.self c.is_formed.ensures.context.holds c.is_formed-2.ensures.context.holds c.ty-made.ensures.grown c.ty-made.ensures.listeners
+
+pub returns-in-Err-clause-interned : goal.returns-in-Err-clause-interned
+returns-in-Err-clause-interned g c = interned_one g.L.Analysis.meaning c.args.bench.now c.ty-made.new.self c.is_formed.ensures.context.holds c.is_formed-2.ensures.context.holds c.ty-made.ensures.grown c.ty-made.ensures.listeners
+
+pub returns-in-Err-clause-refused : goal.returns-in-Err-clause-refused
+returns-in-Err-clause-refused g c =
+    subst (IsWanting c.ty-made.new.self.desk.ctx) (sym c.as_full.ensures)
+    (subst (λ (t : Things). IsWanting t (as_full c.in-Err.refusal)) (sym (ap (λ (b : Benched _). b.desk.ctx) c.in-Err.ensures.err))
+    (type_wanting c.args.bench.now.desk.ctx c.args.node c.in-Err.refusal c.requires.fine c.in-Err.ensures.refused))
