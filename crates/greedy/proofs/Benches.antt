@@ -1,19 +1,16 @@
 -- Laws of benches under the driver.
-use Rattle.std.proofs.Common.{◌≡◌, refl, ap, sym, ◌∙◌, subst, ℕ, ◌+◌, ◌<◌, ◌≤◌, Bool, true, false, true≢false, ◌||◌, ◌&&◌, cond, eqb, eq-eqb, eqb-true, List, [], ◌∷◌, ◌++◌, length, length-append, Some, None, inl, inr, ◌⊎◌, arith, le-leb}
-use Rattle.std.specs.Prelude.{All, drop, map, reverse, nat_le, ◌≢◌}
+use Rattle.std.proofs.Common.{◌≡◌, refl, ap, sym, ◌∙◌, subst, ℕ, ◌+◌, ◌<◌, ◌≤◌, Bool, true, false, true≢false, ◌||◌, ◌&&◌, cond, eqb, eq-eqb, eqb-true, List, [], ◌∷◌, length, length-append, inl, inr, ◌⊎◌, arith, le-leb}
+use Rattle.std.specs.Prelude.{All, map, reverse, nat_le, ◌≢◌}
 use Rattle.std.specs.List.{IsDistinct, list_any}
 use Rattle.std.proofs.Math.Seq.{drop-length}
 use Rattle.std.proofs.lemmas.Bool.{leb-true}
-use Rattle.ir_types.specs.Things.{Things, Grows, IsFront}
 use Rattle.ir_types.specs.Sound.{Holds}
-use Rattle.ir_types.specs.Limits.{most_things}
 use Rattle.ir_types.specs.Terms.{name_term, type_term, attr_term}
-use Rattle.ir_types.proofs.Growth.{grows_refl, grows_trans}
 use Rattle.ir_tree.specs.Tree.{OpOf, op, head, regions, region_count, Op}
-use Rattle.ir_tree.specs.Ids.{ids, regions_ids, has_id, HasDistinctIds, find}
+use Rattle.ir_tree.specs.Ids.{ids, regions_ids, has_id, HasDistinctIds}
 use Rattle.ir_tree.specs.Limits.{head_fits, op_fits, items_fit, all_arguments_pass, most_regions}
 use Rattle.ir_tree.specs.Meaning.{meaning, isolated_in}
-use Rattle.ir_tree.specs.WellFormed.{ModuleOf, IsWellFormed, Module as Numbered}
+use Rattle.ir_tree.specs.WellFormed.{ModuleOf, IsWellFormed}
 use Rattle.ir_tree.proofs.Mapped.{map_ids}
 use Rattle.ir_tree.proofs.Returns.{absent_first, bool_cases}
 use Rattle.ir_tree_laws.specs.Reads.{precedes, comes_after}
@@ -23,14 +20,11 @@ use Rattle.ir_tree_laws.proofs.Formed.{from_formed, ids_below}
 use Rattle.ir_store_walks.specs.Following.{HasFewRegions}
 use Rattle.ir_store_walks.specs.Following as walks
 use Rattle.ir_event.specs.Listener.{Listener}
-use Rattle.ir_event.specs.Modules.{Module}
 use Rattle.patterns.specs.Benched.{Benched, Led, Journaled}
 use Rattle.patterns.specs.Held.{Held, module_held, module_at, open_marks, open_mark}
-use Rattle.patterns.specs.Interned.{IsFull}
 use Rattle.rewriter.specs.Journals.{before}
 use Rattle.rewriter.specs.Moves.{all_noted}
 use Rattle.rewriter.specs.Mark.{Mark}
-use Rattle.rewriter.proofs.Told.{heard_none, heard_more}
 use Rattle.patterns_orders.proofs.Order.{after_at, after_past, second_there}
 use Rattle.greedy.specs.Benches.{Formed, Onward}
 use Rattle.greedy.specs.Work.{first_id, comes_next, following}

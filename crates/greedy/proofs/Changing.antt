@@ -1,17 +1,16 @@
 -- A run of the driver is what the machine has of a canonicalization.
-use Rattle.std.proofs.Common.{◌≡◌, refl, ap, sym, ◌∙◌, ◌⊎◌, inl, inr, ℕ, Bool, true, false, cond, Option, None, Result, Ok, Err}
+use Rattle.std.proofs.Common.{◌≡◌, refl, ap, sym, ◌∙◌, inl, inr, ℕ, false, cond, Result, Ok, Err}
 use Rattle.std.specs.Prelude.{IfOk, IfErr, OnErr}
 use Rattle.ir_types.specs.declared.refusal.Refusal.{Refusal}
-use Rattle.ir_types.specs.declared.refusal.Refusal.TheVariants.{Memory, BadLimit, Full}
+use Rattle.ir_types.specs.declared.refusal.Refusal.TheVariants.{BadLimit}
 use Rattle.ir_tree.proofs.Returns.{bool_cases}
 use Rattle.ir_event.specs.Listener.{Listener}
 use Rattle.ir_event.specs.Modules.{Module}
-use Rattle.rewriter_machine.specs.Machine as machine
-use Rattle.rewriter_machine.specs.Machine.{State, Answer, Change, Reply, DoneWith, Refused, Nothing, Fault, Outcome, due, due_change, IsAnswer}
+use Rattle.rewriter_machine.specs.Machine.{State, Answer, Change, Reply, DoneWith, Refused, Nothing, due_change, IsAnswer}
 use Rattle.rewriter_machine.specs.Panels.{AllAge}
 use Rattle.rewriter.specs.Benched.{Benched, Does, state_of}
 use Rattle.rewriter.specs.Held.{module_held, open_marks}
-use Rattle.patterns_base.specs.Canonicalization.{Canonical, stopped, ended, canonical_from, canonicalization_of}
+use Rattle.patterns_base.specs.Canonicalization.{Canonical, stopped, canonical_from, canonicalization_of}
 use Rattle.greedy.specs.declared.outcome.Outcome.{Outcome as Ended}
 use Rattle.greedy.specs.declared.outcome.Outcome.TheVariants.{Converged, Limit}
 use Rattle.greedy.specs.Outcomes.{count_of, ending_of, is_limit, IsCanonical, IsReason}

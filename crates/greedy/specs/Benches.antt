@@ -1,5 +1,5 @@
 -- Benches under the driver.
-use Rattle.std.specs.Prelude.{◌≡◌, ◌<◌, ℕ, All}
+use Rattle.std.specs.Prelude.{◌<◌, All}
 use Rattle.ir_types.specs.Things.{Grows}
 use Rattle.ir_types.specs.Sound.{Holds}
 use Rattle.ir_tree.specs.Ids.{ids, HasDistinctIds}

@@ -1,5 +1,5 @@
 -- What the calls of a bench keep beside, once and twice.
-use Rattle.std.proofs.Common.{◌≡◌, ap, ℕ, ◌≤◌, List, ◌++◌, [], length, length-append, inl, inr, ◌⊎◌, arith}
+use Rattle.std.proofs.Common.{ap, ℕ, ◌≤◌, List, ◌++◌, [], length, length-append, inl, inr, arith}
 use Rattle.ir_types.specs.Things.{Things, Grows, IsFront}
 use Rattle.ir_types.specs.Limits.{most_things}
 use Rattle.ir_types.proofs.Growth.{grows_refl, grows_trans}

@@ -1,4 +1,3 @@
-use Rattle.std.proofs.Common.{◌≡◌}
 use Rattle.patterns.specs.Interned.{IsFull}
 use Rattle.greedy.proofs.Changing.{changes}
 use Rattle.greedy.proofs.bench.canonicalize.Goals as goal

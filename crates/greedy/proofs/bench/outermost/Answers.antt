@@ -1,4 +1,4 @@
-use Rattle.std.proofs.Common.{ap, sym, ◌∙◌, subst, ◌<◌, eqb, arith, false, ◌≡◌}
+use Rattle.std.proofs.Common.{ap, sym, ◌∙◌, eqb, arith}
 use Rattle.ir_tree.specs.Tree.{head}
 use Rattle.greedy.proofs.Benches.{root_below, passed}
 use Rattle.greedy.proofs.bench.outermost.Goals as goal

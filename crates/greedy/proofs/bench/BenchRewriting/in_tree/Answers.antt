@@ -1,4 +1,4 @@
-use Rattle.std.proofs.Common.{ap, sym, ◌∙◌, subst, true, ◌≡◌}
+use Rattle.std.proofs.Common.{ap, sym, ◌∙◌}
 use Rattle.ir_store.specs.Stored.{Stored}
 use Rattle.ir_tree.specs.Ids.{has_id}
 use Rattle.greedy.proofs.Benches.{held_has}
