@@ -2,3 +2,5 @@ pub mod Order
 pub mod Works
 pub mod Scans
 pub mod Comings
+pub mod Benches
+pub mod Changing

@@ -1,12 +1,12 @@
 -- Lists without doubles by the ranks of what stands in them.
-use Rattle.std.proofs.Common.{◌≡◌, refl, ap, sym, ◌∙◌, ℕ, zero, suc, ◌+◌, ◌<◌, inl, inr, Bool, true, false, cond, ◌||◌, eqb, eqb-true, eq-eqb, List, [], ◌∷◌, true≢false, arith, length, Some, None}
+use Rattle.std.proofs.Common.{◌≡◌, refl, ap, sym, ◌∙◌, ℕ, zero, suc, ◌+◌, ◌<◌, inl, inr, Bool, true, false, cond, eqb, eqb-true, eq-eqb, List, [], ◌∷◌, true≢false, arith, length, Some, None}
 use Rattle.std.specs.List.{IsDistinct}
 use Rattle.std.proofs.lemmas.Map.Keys.{IsDistinct-tail}
 use Rattle.ir_tree.proofs.Returns.{absent_first}
 use Rattle.ir_tree_laws.specs.Reads.{comes_after}
 use Rattle.ir_tree_laws.proofs.Listed.{bool_cases}
 use Rattle.greedy.specs.Work.{first_id, comes_next, count_after}
-use Rattle.patterns_orders.proofs.Order.{listed_past, listed_at, listed_more, after_at, after_past, first_there, second_there}
+use Rattle.patterns_orders.proofs.Order.{listed_past, listed_at, listed_more, after_at, after_past, second_there}
 use Rattle.patterns_touched.specs.Sights.{is_listed}
 
 -- where a number stands in a list

@@ -87,7 +87,7 @@ pub trait Rewriting {
         ensures ok { IfOk result (λ done. Applied (lowest (held self.old) op) done (held self.old) (held self.new)) }
         ensures err { OnErr result (held self.new ≡ held self.old) }
         ensures refused { IfErr result (λ e. Refuses (lowest (held self.old) op) (full self.new) e) }
-        ensures noted { marks self.old ≢ [] → (events self.old ≤ events self.new) × (before self.new (events self.old) ≡ held self.old) }
+        ensures noted { OnOk result (marks self.old ≢ [] → (events self.old ≤ events self.new) × (before self.new (events self.old) ≡ held self.old)) }
         ensures marks { marks self.new ≡ marks self.old }
         ensures onward { onward self.old self.new };
 

@@ -1,5 +1,5 @@
 -- The ids of a tree with an operation taken out, and with one put in front of another.
-use Rattle.std.proofs.Common.{◌≡◌, refl, ap, sym, ◌∙◌, subst, ℕ, zero, suc, ◌+◌, ◌≤◌, Bool, true, false, true≢false, cond, ◌||◌, eqb, eq-eqb, eqb-true, List, [], ◌∷◌, ◌++◌, length, map, append_assoc, length-append, Option, Some, None, option_map, inl, inr, ◌⊎◌, arith}
+use Rattle.std.proofs.Common.{◌≡◌, refl, ap, sym, ◌∙◌, subst, ℕ, ◌+◌, ◌≤◌, true, false, true≢false, cond, ◌||◌, eqb, eq-eqb, eqb-true, List, [], ◌∷◌, ◌++◌, length, map, append_assoc, length-append, Some, inl, inr, ◌⊎◌, arith}
 use Rattle.std.specs.List.{list_any, IsDistinct}
 use Rattle.std.proofs.lemmas.List.{append_cancel_left}
 use Rattle.std.proofs.lemmas.Map.Keys.{IsDistinct-tail}
@@ -7,14 +7,14 @@ use Rattle.ir_tree.specs.declared.place.Place.{Place}
 use Rattle.ir_tree.specs.Tree.{OpOf, op, RegionsOf, no_regions, region, RegionOf, empty, block, OpsOf, no_ops, next, head, regions}
 use Rattle.ir_tree.specs.Ids.{ids, regions_ids, region_ids, ops_ids, HasDistinctIds, find, regions_find}
 use Rattle.ir_tree.specs.Places.{each_list, regions_each_list, region_each_list, ops_each_list, put_before, put_in, is_in_block, put_here, put, without}
-use Rattle.ir_tree.proofs.Moves.{Absent, absent_parts, neither, ops_unput, list_id}
+use Rattle.ir_tree.proofs.Moves.{Absent, absent_parts, ops_unput, list_id}
 use Rattle.ir_tree.proofs.Returns.{Present, absent_first, halves, bool_cases, elsewhere}
 use Rattle.ir_tree.proofs.Left.{left_distinct}
 use Rattle.ir_tree_laws.specs.Stands.{StandOf, stand_id, stands, is_gone, left_stand, dropping}
 use Rattle.ir_tree_laws.specs.Members.{In}
 use Rattle.ir_tree_laws.proofs.Listed.{both}
 use Rattle.ir_tree_laws.proofs.Members.{stand, within, found_stands, stand_found, found_in}
-use Rattle.ir_tree_laws.proofs.Around.{stand_present, present_stand, gone_within, absent_find}
+use Rattle.ir_tree_laws.proofs.Around.{stand_present, present_stand, gone_within}
 use Rattle.ir_tree_laws.proofs.Without.{left_member}
 use Rattle.ir_tree_laws.proofs.Stretches.{Parted, part, parted_ids, left_ids}
 use Rattle.ir_tree_laws.proofs.Shift.{Inner, inner_of, own_distinct}

@@ -1,9 +1,9 @@
 -- What lists of edits near an operation leave of the order.
-use Rattle.std.proofs.Common.{◌≡◌, refl, ap, sym, ◌∙◌, subst, ℕ, ◌+◌, ◌<◌, ◌≤◌, Bool, true, false, true≢false, ◌||◌, eqb, eq-eqb, eqb-true, List, [], ◌∷◌, ◌++◌, append_assoc, append-nil, Option, Some, None, inl, inr, ◌⊎◌, arith}
-use Rattle.std.specs.List.{list_any, IsDistinct}
+use Rattle.std.proofs.Common.{◌≡◌, refl, ap, sym, ◌∙◌, subst, ℕ, ◌+◌, ◌<◌, ◌≤◌, false, true≢false, ◌||◌, eqb, eqb-true, List, [], ◌∷◌, ◌++◌, append_assoc, append-nil, Some, None, inl, inr, arith}
+use Rattle.std.specs.List.{IsDistinct}
 use Rattle.ir_types.specs.Terms.{TypeTerm, AttrTerm}
 use Rattle.ir_tree.specs.declared.place.Place.{Place}
-use Rattle.ir_tree.specs.Tree.{HeadOf, op, no_regions, head, regions}
+use Rattle.ir_tree.specs.Tree.{HeadOf, op, no_regions, regions}
 use Rattle.ir_tree.specs.Ids.{ids, HasDistinctIds}
 use Rattle.ir_tree.specs.Edits.{each_head, at, put_operand, put_values, change_part, change_entry}
 use Rattle.ir_tree.specs.Places.{put, without, shifted}

@@ -1,8 +1,7 @@
 -- Rewrites by the rules 1 to 24 are orderly.
-use Rattle.std.proofs.Common.{◌≡◌, refl, ap, sym, ◌∙◌, subst, ℕ, ◌+◌, ◌<◌, Bool, true, false, true≢false, eqb, eqb-true, List, [], ◌∷◌, ◌++◌, append-nil, Option, Some, None, inl, inr, ◌⊎◌, cond, arith}
+use Rattle.std.proofs.Common.{◌≡◌, refl, ap, sym, ◌∙◌, subst, ℕ, ◌+◌, ◌<◌, Bool, true, false, true≢false, eqb, eqb-true, List, [], ◌∷◌, ◌++◌, append-nil, Option, Some, None, inl, inr, cond, arith}
 use Rattle.std.specs.Prelude.{All, nat_le, option_map}
 use Rattle.std.specs.List.{IsDistinct}
-use Rattle.ir_types.specs.declared.refusal.Refusal.{Refusal}
 use Rattle.ir_types.specs.declared.refusal.Refusal.TheVariants.{Full, IdsExhausted}
 use Rattle.ir_tree.specs.declared.place.Place.{Place}
 use Rattle.ir_tree.specs.Tree.{head, regions}
@@ -29,7 +28,7 @@ use Rattle.patterns_orders.proofs.Edits.{Still, Opens, names, still_stays, opens
 use Rattle.patterns_orders.proofs.Nearby.{Near, widths}
 use Rattle.patterns_orders.proofs.Order.{Listed}
 use Rattle.patterns_orders.proofs.Rootless.{unplaced}
-use Rattle.patterns_orders.proofs.Rules.{Goes, Fine, OpensOne, all_fine}
+use Rattle.patterns_orders.proofs.Rules.{Goes, Fine, all_fine}
 use Rattle.patterns_orders.proofs.Starts.{Between, between, start, wide, Opened, opened}
 
 -- edits of a rule at an operation

@@ -1,5 +1,5 @@
 -- Edits near an operation x: what stood before it and behind it stays, and what is put in front of it stands between.
-use Rattle.std.proofs.Common.{◌≡◌, refl, ap, sym, ◌∙◌, subst, ℕ, ◌+◌, ◌≤◌, Bool, true, false, true≢false, cond, ◌||◌, eqb, eq-eqb, List, [], ◌∷◌, ◌++◌, length, append_assoc, append-nil, length-append, Option, Some, None, option_map, inl, inr, ◌⊎◌, arith}
+use Rattle.std.proofs.Common.{◌≡◌, refl, ap, sym, ◌∙◌, subst, ℕ, ◌≤◌, true≢false, cond, ◌||◌, eqb, eq-eqb, List, [], ◌∷◌, ◌++◌, length, append_assoc, append-nil, length-append, Some, None, option_map, inl, inr, ◌⊎◌, arith}
 use Rattle.std.specs.List.{list_any, IsDistinct}
 use Rattle.std.proofs.lemmas.List.{append_cancel_left}
 use Rattle.ir_tree.specs.declared.place.Place.{Place}
@@ -16,7 +16,7 @@ use Rattle.ir_tree_laws.proofs.Around.{absent_find}
 use Rattle.ir_tree_laws.proofs.Cuts.{one_cut, absent_before}
 use Rattle.ir_tree_laws.proofs.Put.{put_find}
 use Rattle.ir_tree_laws.proofs.Shift.{own_distinct}
-use Rattle.patterns_orders.proofs.Cut.{Came, MayCome, put_may, put_outside, own_ids, found_id, found_present, not_root, without_ids, without_found, found_within}
+use Rattle.patterns_orders.proofs.Cut.{MayCome, put_may, put_outside, own_ids, found_id, found_present, not_root, without_ids, without_found, found_within}
 
 -- operations by their ids, each with the ids of what stands in it
 abbrev pub Wide : Type 0
@@ -101,8 +101,7 @@ module _ {N T A : Type 0} where
       put_holds [] a h = h
       put_holds (y ∷ ys) a h =
           let two = absent_parts x y.1 (widths ys) a in
-          let in_it : Absent x (ids h.0.0) = subst (Absent x) (sym h.0.2) two.0 in
-          (
+          let in_it : Absent x (ids h.0.0) = subst (Absent x) (sym h.0.2) two.0 in (
             (
               put place o h.0.0,
               put_find place o y.0 (out y.0 w.at h.0.0 h.0.1 w.found) w.at ∙ ap (option_map (put place o)) h.0.1,
@@ -139,11 +138,15 @@ module _ {N T A : Type 0} where
 
           go : MayCome x (ids o) (ids t) (ids (put place o t)) → (more : List ℕ) × ((more ≡ []) ⊎ (more ≡ ids o)) × Near x (front ++ more) back inner outer ys (put place o t)
           go (inl e) = ([], inl refl, subst (λ l. Near x l back inner outer ys (put place o t)) (sym (append-nil front)) (near_with front w.further (e ∙ w.is)))
-          go (inr c) = (ids o, inr refl, near_with (front ++ ids o) longer (
-              c.is
-              ∙ (λ i. fronts i ++ (ids o ++ (x ∷ backs i)))
-              ∙ ap (λ l. front ++ (ids o ++ (l ++ back))) (sym w.own)
-              ∙ sym (append_assoc front (ids o) (ids w.at ++ back))))
+          go (inr c) = (
+            ids o,
+            inr refl,
+            near_with (front ++ ids o) longer (
+                c.is
+                ∙ (λ i. fronts i ++ (ids o ++ (x ∷ backs i)))
+                ∙ ap (λ l. front ++ (ids o ++ (l ++ back))) (sym w.own)
+                ∙ sym (append_assoc front (ids o) (ids w.at ++ back))),
+          )
             where
               longer : 1 ≤ length (front ++ ids o)
               longer = let a = length-append front (ids o) in let b = w.further in omega (arith, a, b)
@@ -215,8 +218,7 @@ module _ {N T A : Type 0} where
     left_holds [] a f h = h
     left_holds (z ∷ zs) a f h =
         let two = absent_parts y.0 z.1 (widths zs) a in
-        let in_it : Present z.0 z.1 = subst (Present z.0) h.0.2 (subst (λ i. Present i (ids h.0.0)) (found_id z.0 w.at h.0.0 h.0.1) (own_present h.0.0)) in
-        (
+        let in_it : Present z.0 z.1 = subst (Present z.0) h.0.2 (subst (λ i. Present i (ids h.0.0)) (found_id z.0 w.at h.0.0 h.0.1) (own_present h.0.0)) in (
           (
             h.0.0,
             without_found y.0 z.0 w.at o h.0.0 (own_distinct x t w.at w.distinct w.found) o_at h.0.1 (f z.0 (present_left z.0 z.1 (widths zs) in_it)) ∙ ap Some (without_absent y.0 h.0.0 (subst (Absent y.0) (sym h.0.2) two.0)),

@@ -1,5 +1,5 @@
 -- Which of a list comes after which.
-use Rattle.std.proofs.Common.{◌≡◌, refl, ap, sym, ◌∙◌, ℕ, Bool, true, false, cond, ◌||◌, eqb, List, [], ◌∷◌, true≢false, inl, inr}
+use Rattle.std.proofs.Common.{◌≡◌, ap, sym, ◌∙◌, ℕ, Bool, true, false, cond, ◌||◌, eqb, List, [], ◌∷◌, true≢false, inl, inr}
 use Rattle.std.specs.List.{list_any}
 use Rattle.ir_tree.proofs.Returns.{bool_cases}
 use Rattle.ir_tree_laws.specs.Reads.{comes_after}

@@ -1,10 +1,10 @@
 -- Lists of which some are left out: the others keep their order.
-use Rattle.std.proofs.Common.{◌≡◌, refl, ap, sym, ◌∙◌, ℕ, Bool, true, false, cond, ◌||◌, eqb, eqb-true, eq-eqb, List, [], ◌∷◌, ◌++◌, append_assoc, append-nil, true≢false, inl, inr, ◌⊎◌}
+use Rattle.std.proofs.Common.{◌≡◌, refl, ap, sym, ◌∙◌, ℕ, true, false, eqb, eqb-true, List, [], ◌∷◌, ◌++◌, true≢false, inl, inr, ◌⊎◌}
 use Rattle.std.specs.List.{IsDistinct, list_any}
 use Rattle.std.proofs.lemmas.Map.Keys.{IsDistinct-tail}
 use Rattle.ir_tree.proofs.Returns.{absent_first, bool_cases}
 use Rattle.ir_tree_laws.specs.Reads.{comes_after}
-use Rattle.patterns_orders.proofs.Order.{Listed, listed_at, listed_more, listed_past, first_there, second_there, after_at, after_past}
+use Rattle.patterns_orders.proofs.Order.{Listed, listed_at, listed_more, listed_past, second_there, after_at, after_past}
 
 -- a list with some of another, in its order
 abbrev pub Part : List ℕ → List ℕ → Type 0

@@ -17,7 +17,7 @@ use Rattle.patterns_base.specs.Looks.{Header, One, Two, Ended, when, is_clean, i
 use Rattle.patterns_base.specs.Makes.{give, give_body, replacing, moving, results_from, arguments_from, replaced}
 use Rattle.patterns_base.specs.Folding.{folded_to, regrouped, rule_1, rule_2, rule_3, rule_4, rule_5, rule_6, rule_7, rule_8, rule_9, rule_10, rule_11, rule_12, rule_13, rule_14, rule_15, rule_16, rule_17, rule_18}
 use Rattle.patterns_base.specs.Casting.{resizing, recast, unrealized, back_from, through_index, rule_19, rule_20, rule_21}
-use Rattle.patterns_base.specs.Opening.{Loop, opened, chosen, by_condition, never, once, by_bounds, by_end, loop_from, reading, rule_22, rule_23, rule_24}
+use Rattle.patterns_base.specs.Opening.{Loop, opened, chosen, by_condition, never, by_bounds, by_end, loop_from, rule_22, rule_23, rule_24}
 use Rattle.patterns_base.specs.Rules.{rule}
 use Rattle.patterns_base.specs.Canonicalization.{greedy_rules}
 use Rattle.patterns_orders.proofs.Edits.{Still, Opens, names}

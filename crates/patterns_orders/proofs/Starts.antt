@@ -1,8 +1,6 @@
 -- Where an operation stands in a tree, and the operations of a block in it.
-use Rattle.std.proofs.Common.{◌≡◌, refl, ap, sym, ◌∙◌, subst, ℕ, zero, suc, ◌+◌, ◌≤◌, true, false, true≢false, eqb, eq-eqb, List, [], ◌∷◌, ◌++◌, length, map, append_assoc, append-nil, Option, Some, None, arith}
-use Rattle.std.specs.List.{IsDistinct}
-use Rattle.ir_types.specs.Terms.{TypeTerm, AttrTerm}
-use Rattle.ir_tree.specs.Tree.{OpOf, op, RegionsOf, no_regions, region, RegionOf, block, OpsOf, no_ops, next, head, regions}
+use Rattle.std.proofs.Common.{◌≡◌, refl, ap, sym, ◌∙◌, ℕ, zero, suc, ◌≤◌, false, true≢false, eqb, eq-eqb, List, [], ◌∷◌, ◌++◌, length, map, append_assoc, append-nil, Some, arith}
+use Rattle.ir_tree.specs.Tree.{OpOf, RegionsOf, no_regions, region, RegionOf, block, OpsOf, no_ops, next, head, regions}
 use Rattle.ir_tree.specs.Ids.{ids, regions_ids, region_ids, ops_ids, HasDistinctIds, find}
 use Rattle.ir_tree_laws.specs.Stands.{StandOf, stand_id}
 use Rattle.ir_tree_laws.specs.Values.{region_at}
