@@ -2,5 +2,5 @@ pub mod Order
 pub mod Works
 pub mod Scans
 pub mod Comings
-pub mod Cuts
-pub mod Rootless
+pub mod Benches
+pub mod Changing

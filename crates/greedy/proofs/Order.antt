@@ -6,6 +6,7 @@ use Rattle.ir_tree.proofs.Returns.{absent_first}
 use Rattle.ir_tree_laws.specs.Reads.{comes_after}
 use Rattle.ir_tree_laws.proofs.Listed.{bool_cases}
 use Rattle.greedy.specs.Work.{first_id, comes_next, count_after}
+use Rattle.patterns_orders.proofs.Order.{listed_past, listed_at, listed_more, after_at, after_past, first_there, second_there}
 use Rattle.patterns_touched.specs.Sights.{is_listed}
 
 -- where a number stands in a list
@@ -18,15 +19,6 @@ rank_at x a xs e = ap (λ b. cond b zero (suc (rank a xs))) e
 
 rank_past : (x a : ℕ) (xs : List ℕ) → eqb x a ≡ false → rank a (x ∷ xs) ≡ suc (rank a xs)
 rank_past x a xs e = ap (λ b. cond b zero (suc (rank a xs))) e
-
-pub listed_past : (x a : ℕ) (xs : List ℕ) → eqb x a ≡ false → is_listed a (x ∷ xs) ≡ true → is_listed a xs ≡ true
-listed_past x a xs e h = sym (ap (λ b. b || is_listed a xs) e) ∙ h
-
-pub listed_at : (x a : ℕ) (xs : List ℕ) → eqb x a ≡ true → is_listed a (x ∷ xs) ≡ true
-listed_at x a xs e = ap (λ b. b || is_listed a xs) e
-
-pub listed_more : (x a : ℕ) (xs : List ℕ) → is_listed a xs ≡ true → is_listed a (x ∷ xs) ≡ true
-listed_more x a xs h = elim (bool_cases (eqb x a)) [ inl e ↦ listed_at x a xs e | inr e ↦ ap (λ b. b || is_listed a xs) e ∙ h ]
 
 pub below : (a : ℕ) (xs : List ℕ) → is_listed a xs ≡ true → rank a xs < length xs
 below a [] h = absurd (true≢false (sym h))
@@ -46,27 +38,6 @@ same_rank a b (x ∷ xs) h k e = elim (bool_cases (eqb x a)) [
     | inl q ↦ absurd (let r = rank_past x a xs p in let s = rank_at x b xs q in omega (arith, r, s, e))
     | inr q ↦ same_rank a b xs (listed_past x a xs p h) (listed_past x b xs q k) (let r = rank_past x a xs p in let s = rank_past x b xs q in omega (arith, r, s, e))
   ]
-]
-
--- of which one stands behind another both stand there
-pub after_at : (a b x : ℕ) (xs : List ℕ) → eqb x a ≡ true → comes_after a b (x ∷ xs) ≡ is_listed b xs
-after_at a b x xs e = ap (λ c. cond c (is_listed b xs) (comes_after a b xs)) e
-
-pub after_past : (a b x : ℕ) (xs : List ℕ) → eqb x a ≡ false → comes_after a b (x ∷ xs) ≡ comes_after a b xs
-after_past a b x xs e = ap (λ c. cond c (is_listed b xs) (comes_after a b xs)) e
-
-pub first_there : (a b : ℕ) (xs : List ℕ) → comes_after a b xs ≡ true → is_listed a xs ≡ true
-first_there a b [] h = absurd (true≢false (sym h))
-first_there a b (x ∷ xs) h = elim (bool_cases (eqb x a)) [
-  | inl e ↦ listed_at x a xs e
-  | inr e ↦ listed_more x a xs (first_there a b xs (sym (after_past a b x xs e) ∙ h))
-]
-
-pub second_there : (a b : ℕ) (xs : List ℕ) → comes_after a b xs ≡ true → is_listed b xs ≡ true
-second_there a b [] h = absurd (true≢false (sym h))
-second_there a b (x ∷ xs) h = elim (bool_cases (eqb x a)) [
-  | inl e ↦ listed_more x b xs (sym (after_at a b x xs e) ∙ h)
-  | inr e ↦ listed_more x b xs (second_there a b xs (sym (after_past a b x xs e) ∙ h))
 ]
 
 -- the first of a list stands in it once

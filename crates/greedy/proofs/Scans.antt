@@ -17,7 +17,7 @@ use Rattle.greedy.specs.Outcomes.{Applied, Refuses}
 use Rattle.greedy.specs.Work.{waits, IsWork, Right, CoversBut, StillWaits, Taken, NoneWaits}
 use Rattle.patterns_touched.specs.Sights.{is_listed}
 use Rattle.patterns_touched.specs.Listing.{Touched}
-use Rattle.greedy.proofs.Order.{first_there, listed_at, listed_more, listed_past}
+use Rattle.patterns_orders.proofs.Order.{first_there, listed_at, listed_more, listed_past}
 
 -- a rewrite that there is
 becomes_none : (p : Module) → becomes p ≡ none → ⊥

@@ -1,2 +1,5 @@
 pub mod Outcomes
 pub mod Work
+pub mod Benches
+pub mod Changes
+pub mod Lawful

@@ -6,6 +6,7 @@ use Rattle.ir_tree_laws.specs.Reads.{precedes}
 use Rattle.ir_event.specs.Modules.{Module}
 use Rattle.patterns_base.specs.Rewrites.{none}
 use Rattle.patterns_base.specs.Canonicalization.{lowest}
+use Rattle.patterns_orders.specs.Orders.{Orderly}
 use Rattle.patterns_touched.specs.Sights.{is_listed}
 
 -- the first of a list, and the one behind the first a in a list
@@ -20,13 +21,6 @@ comes_next a (x ∷ xs) = if eqb x a then first_id xs else comes_next a xs
 -- the operation after operation x in pre-order
 abbrev pub following : ℕ → Operation → Option ℕ
 following x t = comes_next x (ids t)
-
--- ---- what a rewrite at operation x leaves
-
--- the operations before x stay, and those that stay are in the order in which they were
-pub record Orderly (x : ℕ) (m n : Module) : Type 0 where
-  pub stays : (y : ℕ) → precedes y x m.tree ≡ true → has_id y n.tree ≡ true
-  pub order : (a b : ℕ) → has_id a m.tree ≡ true → has_id b m.tree ≡ true → has_id a n.tree ≡ true → has_id b n.tree ≡ true → precedes a b n.tree ≡ precedes a b m.tree
 
 -- ---- the worklist
 

@@ -1,6 +1,7 @@
 //! The greedy driver: the first operation in pre-order at which a rule applies, again and again.
 #![tactic(auto)]
 
+pub mod bench;
 pub mod outcome;
 pub mod rewriting;
 pub mod run;

@@ -9,7 +9,8 @@ ghost use Rattle.rewriter_machine.specs.Machine.{OpenMark};
 ghost use Rattle.patterns_base.specs.Rewrites.{becomes, none};
 ghost use Rattle.patterns_base.specs.Canonicalization.{lowest};
 ghost use Rattle.greedy.specs.Outcomes.{Applied, Refuses};
-ghost use Rattle.greedy.specs.Work.{Orderly, following};
+ghost use Rattle.greedy.specs.Work.{following};
+ghost use Rattle.patterns_orders.specs.Orders.{Orderly};
 ghost use Rattle.patterns_touched.specs.Listing.{Touched};
 
 use ir_types::ids::OpId;
@@ -86,7 +87,7 @@ pub trait Rewriting {
         ensures ok { IfOk result (λ done. Applied (lowest (held self.old) op) done (held self.old) (held self.new)) }
         ensures err { OnErr result (held self.new ≡ held self.old) }
         ensures refused { IfErr result (λ e. Refuses (lowest (held self.old) op) (full self.new) e) }
-        ensures noted { marks self.old ≢ [] → (events self.old ≤ events self.new) × (before self.new (events self.old) ≡ held self.old) }
+        ensures noted { OnOk result (marks self.old ≢ [] → (events self.old ≤ events self.new) × (before self.new (events self.old) ≡ held self.old)) }
         ensures marks { marks self.new ≡ marks self.old }
         ensures onward { onward self.old self.new };
 

@@ -1,16 +1,19 @@
 -- What applying comes to.
-use Rattle.std.proofs.Common.{◌≡◌, refl, ap, sym, ◌∙◌, subst, ℕ, List, Bool, true, false, Option, Some, None, option_map, inl, inr}
+use Rattle.std.proofs.Common.{◌≡◌, ◌≢◌, refl, ap, sym, ◌∙◌, subst, ℕ, List, Bool, true, false, Option, Some, None, option_map, inl, inr}
 use Rattle.ir_types.specs.Things.{Things}
 use Rattle.ir_types.specs.Terms.{name_term, type_term, attr_term}
 use Rattle.ir_types.specs.declared.refusal.Refusal.{Refusal}
-use Rattle.ir_types.specs.declared.refusal.Refusal.TheVariants.{NoSuchOp}
-use Rattle.ir_tree.specs.Ids.{has_id}
+use Rattle.ir_types.specs.declared.refusal.Refusal.TheVariants.{NoSuchOp, Full, IdsExhausted}
+use Rattle.std.specs.Prelude.{nat_le, ◌+◌, if◌then◌else◌}
+use Rattle.ir_tree.specs.Ids.{has_id, op_count}
+use Rattle.ir_tree.specs.Limits.{most_ops, most_next}
 use Rattle.ir_tree_laws.proofs.Contents.{map_has_id}
 use Rattle.ir_event.specs.Modules.{Module, module_in, module_meaning}
 use Rattle.ir_event.specs.declared.world.World.{World}
-use Rattle.patterns_runs.specs.Contents.{Edit}
+use Rattle.patterns_runs.specs.Contents.{Edit, all_edited}
 use Rattle.patterns_runs.specs.Held.{Held, module_held}
-use Rattle.patterns_base.specs.Rewrites.{Rewrite, becomes, edits_of, rewrite_of, rewrite_by, carried_out}
+use Rattle.patterns_base.specs.Makes.{made_by}
+use Rattle.patterns_base.specs.Rewrites.{Rewrite, none, refused, becomes, edits_of, rewrite_of, rewrite_by, carried_out}
 use Rattle.patterns.specs.Applied.{Gave, IsReason, IsRefusedSo}
 use Rattle.patterns.specs.Planned.{IsStopped, planned_edits}
 use Rattle.patterns.specs.declared.plan.Planned.{Planned}
@@ -23,10 +26,19 @@ rewrite_is r m x = refl
 pub gave : (w : Rewrite) (m n : Module) → w ≡ becomes n → Gave w true m n
 gave w m n e = subst (λ a. Gave a true m n) (sym e) (refl, refl)
 
+-- edits that there are make something, or are refused
+some_rewrite : (es : List Edit) (m : Module) → carried_out es m ≢ none
+some_rewrite es m = go (nat_le (op_count m.tree + made_by es) most_ops) (nat_le (m.next + made_by es) most_next)
+  where
+    go : (a b : Bool) → (if a then (if b then becomes (all_edited es m) else refused IdsExhausted) else refused Full) ≢ none
+    go true true = λ e. cc
+    go true false = λ e. cc
+    go false b = λ e. cc
+
 pub stopped : (w : Rewrite) (es : List Edit) (x : ℕ) (m : Module) (c : Things) (e : Refusal) → w ≡ carried_out es m → IsStopped es m c e → IsReason w x m c e
 stopped w es x m c e is (inl h) = inl h
 stopped w es x m c e is (inr (inl h)) = inr (inr (inl (subst (λ a. IsRefusedSo a e) (sym (is ∙ h)) refl)))
-stopped w es x m c e is (inr (inr h)) = inr (inr (inr h))
+stopped w es x m c e is (inr (inr h)) = inr (inr (inr (h.0, (λ n. some_rewrite es m (sym is ∙ n), h.1))))
 
 -- ---- what a bench's world shows, and what the bench holds
 

@@ -1,6 +1,7 @@
 -- What carrying out a plan comes to.
 use Rattle.std.proofs.Common.{◌≡◌, refl, ap, sym, ◌∙◌, subst, ℕ, ◌+◌, ◌≤◌, List, ◌++◌, [], Bool, true, false, Option, Some, None, inl, inr, leb-true}
-use Rattle.std.specs.Prelude.{nat_le, if◌then◌else◌}
+use Rattle.std.specs.Prelude.{◌≢◌, length, nat_le, if◌then◌else◌}
+use Rattle.ir_event.specs.declared.event.Event.{Event}
 use Rattle.ir_types.specs.Things.{Things, Grows}
 use Rattle.ir_types.specs.Sound.{Holds}
 use Rattle.ir_types.specs.declared.refusal.Refusal.{Refusal}
@@ -12,11 +13,13 @@ use Rattle.ir_tree_laws.specs.Reasons.{unless}
 use Rattle.ir_event.specs.Listener.{Listener}
 use Rattle.ir_event.specs.Modules.{Module, module_in, module_meaning}
 use Rattle.ir_event.specs.declared.world.World.{World}
+use Rattle.rewriter.specs.Moves.{Grown, Recorded, all_noted}
 use Rattle.rewriter.proofs.Told.{heard_none, heard_more}
-use Rattle.patterns_runs.specs.Benched.{Benched}
+use Rattle.patterns_runs.specs.Benched.{Benched, Journaled}
 use Rattle.patterns_runs.specs.Contents.{Edit, all_edited}
 use Rattle.patterns_runs.specs.Held.{Held, module_held}
 use Rattle.patterns_runs.specs.Runs.{Along}
+use Rattle.patterns_runs.proofs.Journals.{recorded_none}
 use Rattle.patterns_base.specs.Makes.{made_by}
 use Rattle.patterns_base.specs.Rewrites.{becomes, refused, carried_out}
 use Rattle.patterns_makes.specs.Interned.{Added, IsNoRoom}
@@ -59,15 +62,31 @@ module _ {B : Type 0} (meaning : B → Listener) where
   applied_none a = record { grows = grows_refl a.desk.ctx; opens = refl; led = ([], heard_none meaning a) }
 
   pub applied_added : (a b : Benched B) → Added meaning a b → Applied meaning a b
-  applied_added a b p = record { grows = p.grown.grows; opens = p.grown.marked; led = p.led }
+  applied_added a b p = record { grows = p.grown.grows; opens = p.grown.marked; led = ([], p.untold) }
 
   pub applied_along : (a b c : Benched B) → Holds b.desk.ctx → Added meaning a b → Along meaning b c → Applied meaning a c
   applied_along a b c holds p q =
       record {
         grows = subst (λ (d : Things). Grows a.desk.ctx d) (sym q.ctx) p.grown.grows;
         opens = q.opens ∙ p.grown.marked;
-        led = (p.led.0 ++ q.led.0, heard_more meaning p.led.0 q.led.0 a b c holds p.led.1 q.led.1);
+        led = (q.led.0, heard_more meaning [] q.led.0 a b c holds p.untold q.led.1);
       }
+
+  -- the journal behind a context that grew
+  recorded_grown : (es : List Event) (g h k : Held) → Grown g h → Recorded es h k → Recorded es g k
+  recorded_grown es g h k grown r =
+      let marks : h.marks ≡ g.marks = ap (λ (k : Held). k.marks) grown.held in
+      let was : h.journal ≡ g.journal = ap (λ (k : Held). k.journal) grown.held in
+      record {
+        journal = r.journal ∙ λ i. all_noted (marks i) (was i) es;
+        behind = λ some n le. r.behind (λ z. some (sym marks ∙ z)) n (subst (λ (xs : List Event). n ≤ length xs) (sym was) le) ∙ grown.behind n;
+      }
+
+  pub journaled_none : (a : Benched B) → Journaled meaning a a
+  journaled_none a = ([], heard_none meaning a, recorded_none a.desk)
+
+  pub journaled_along : (a b c : Benched B) → Holds b.desk.ctx → Added meaning a b → Journaled meaning b c → Journaled meaning a c
+  journaled_along a b c holds p q = (q.0, heard_more meaning [] q.0 a b c holds p.untold q.1, recorded_grown q.0 a.desk b.desk c.desk p.grown q.2)
 
 -- ---- a plan at operation x, where a world shows what a bench holds
 

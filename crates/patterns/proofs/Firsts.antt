@@ -1,6 +1,6 @@
 -- The first of some rules that applies.
-use Rattle.std.proofs.Common.{◌≡◌, refl, ap, sym, ◌∙◌, subst, ℕ, ◌+◌, ◌≤◌, ◌<◌, List, [], ◌∷◌, Bool, true, false, Option, Some, None, arith, le-leb, length, get_or, take, ◌-◌}
-use Rattle.std.specs.Prelude.{nat_le, drop, if◌then◌else◌}
+use Rattle.std.proofs.Common.{◌≡◌, refl, ap, sym, ◌∙◌, ℕ, ◌+◌, ◌≤◌, ◌<◌, List, [], ◌∷◌, Bool, true, false, Some, None, arith, le-leb}
+use Rattle.std.specs.Prelude.{nat_le, if◌then◌else◌}
 use Rattle.std.proofs.lemmas.Bool.{leb-true}
 use Rattle.ir_tree.specs.Ids.{op_count}
 use Rattle.ir_tree.specs.Limits.{most_ops, most_next}

@@ -14,7 +14,7 @@ use Rattle.patterns_base.specs.Rewrites.{none, edits_of, rewrite_of, carried_out
 use Rattle.patterns_makes.specs.Plan.{Plan}
 use Rattle.patterns_makes.specs.Plans.{PlanIsOf, plan_meaning}
 use Rattle.patterns.specs.Applied.{Gave}
-use Rattle.patterns.specs.Lowest.{AreWritten, RowIsWritten, IsLowest, IsPlanOf, TriedFirst, greedy}
+use Rattle.patterns.specs.Lowest.{IsFirst, IsLowest, TriedFirst, greedy}
 use Rattle.patterns.specs.Planned.{planned_edits}
 use Rattle.patterns.specs.declared.lowest.Found.{Found}
 use Rattle.patterns.proofs.Applying.{rewrite_due, same_module}
@@ -38,16 +38,18 @@ module _ (table : TableSuffices) (m : Module) (x : ℕ) (h : Header) (shown : So
   pub row_suffices : lowest m x ≡ first_rule (greedy rules) m x
   row_suffices = table m x (found x m.tree h shown).here (found x m.tree h shown).is ∙ ap (λ rs. first_rule (greedy rs) m x) (sym name_is)
 
-  pub row_written : RowIsWritten m.tree x → AreWritten rules
-  row_written written = subst AreWritten (sym name_is) (written (found x m.tree h shown).here (found x m.tree h shown).is)
+-- the first that applies of those that suffice is the lowest
+module _ (w : World) (x : ℕ) (front : Place) (rules : List ℕ) (suffices : lowest (module_in w) x ≡ first_rule (greedy rules) (module_in w) x) where
+  pub none_first_lowest : (f : Option (ℕ × Plan)) → IsFirst rules w x front f → f ≡ None → IsLowest w x None
+  none_first_lowest f is e = suffices ∙ subst (IsFirst rules w x front) e is
+
+  pub first_lowest : (f : Option (ℕ × Plan)) (r : ℕ) (p : Plan) → IsFirst rules w x front f → f ≡ Some (r, p) → IsLowest w x (Some (record { rule = r; planned = record { front = front; plan = p } }))
+  first_lowest f r p is e = (let first = subst (IsFirst rules w x front) e is in (first.0, suffices ∙ first.1))
 
 -- what a bench's world shows, and what the bench holds
 module _ (w : World) (b : Held) (ctx : w.ctx ≡ b.ctx) (store : w.store ≡ b.store) (x : ℕ) where
   pub none_held : lowest (module_in w) x ≡ none → Gave (lowest (module_held b) x) false (module_held b) (module_held b)
   none_held e = subst (λ a. Gave a false (module_held b) (module_held b)) (sym (ap (λ m. lowest m x) (sym (same_module w b ctx store x)) ∙ e)) (refl, refl)
-
-  pub row_held : RowIsWritten (module_held b).tree x → RowIsWritten (module_in w).tree x
-  row_held = λ h. subst (λ (m : Module). RowIsWritten m.tree x) (sym (same_module w b ctx store x)) h
 
   module _ (f : Found) (is : IsLowest w x (Some f)) where
     pub fits_held : PlanIsOf b.ctx f.planned.plan

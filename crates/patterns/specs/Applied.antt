@@ -1,5 +1,5 @@
 -- What applying a rule makes of a module.
-use Rattle.std.specs.Prelude.{◌≡◌, ◌⊎◌, ℕ, ◌+◌, nat_le, Bool, true, false, Option, None}
+use Rattle.std.specs.Prelude.{◌≡◌, ◌≢◌, ◌⊎◌, ℕ, ◌+◌, ◌≤◌, nat_le, Bool, true, false, Option, None}
 use Rattle.ir_types.specs.Things.{Things, Grows}
 use Rattle.ir_types.specs.declared.refusal.Refusal.{Refusal}
 use Rattle.ir_types.specs.declared.refusal.Refusal.TheVariants.{Full, IdsExhausted, Memory, NoSuchOp}
@@ -10,13 +10,12 @@ use Rattle.ir_event.specs.Listener.{Listener}
 use Rattle.ir_event.specs.Modules.{Module}
 use Rattle.patterns_base.specs.Rewrites.{Rewrite, none, refused, becomes}
 use Rattle.patterns_makes.specs.Interned.{IsFull}
-use Rattle.patterns_plans.specs.Planned.{IsPlannedRule}
 use Rattle.patterns_runs.specs.Benched.{Benched, Led}
 use Rattle.patterns_runs.specs.Held.{open_marks}
 
--- the rules that are written so far
+-- the rules that are applied by their numbers: all but those that conversion alone tries
 abbrev pub IsWritten : ℕ → Type 0
-IsWritten r = IsPlannedRule r
+IsWritten r = (1 ≤ r) × (r ≤ 27)
 
 -- why a module can't have k operations more, if it can't: there would be too many, or ids wouldn't be enough
 abbrev pub limit_reason : ℕ → Module → Option Refusal
@@ -35,9 +34,9 @@ IsRefusedSo (becomes n) e = ⊥
 IsRefusedSo (refused f) e = f ≡ e
 
 -- why a rewrite wasn't made at operation x, where c is the context after it: memory was refused, x isn't there, the
--- rewrite is refused, or the context is full
+-- rewrite is refused, or there is one and the context is full
 abbrev pub IsReason : Rewrite → ℕ → Module → Things → Refusal → Type 0
-IsReason w x m c e = (e ≡ Memory) ⊎ (((e ≡ NoSuchOp) × (has_id x m.tree ≡ false)) ⊎ (IsRefusedSo w e ⊎ ((e ≡ Full) × IsFull c)))
+IsReason w x m c e = (e ≡ Memory) ⊎ (((e ≡ NoSuchOp) × (has_id x m.tree ≡ false)) ⊎ (IsRefusedSo w e ⊎ ((e ≡ Full) × ((w ≢ none) × IsFull c))))
 
 -- what stays: the context grew at most, the open marks are there with their modules, and the listeners were told of what
 -- led from the one module to the other, and of nothing else

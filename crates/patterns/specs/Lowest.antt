@@ -2,19 +2,14 @@
 use Rattle.std.specs.Prelude.{◌≡◌, ℕ, ◌≤◌, nat_le, List, ◌∷◌, Option, Some, None}
 use Rattle.std.specs.List.{filter}
 use Rattle.ir_tree.specs.declared.place.Place.{Place}
-use Rattle.ir_tree.specs.Tree.{head}
-use Rattle.ir_tree.specs.Ids.{find}
-use Rattle.ir_tree.specs.Meaning.{Operation}
 use Rattle.ir_event.specs.declared.world.World.{World}
-use Rattle.ir_event.specs.Modules.{Module, module_in}
+use Rattle.ir_event.specs.Modules.{module_in}
 use Rattle.patterns_plans.specs.Keeps.{Each}
 use Rattle.patterns_base.specs.Canonicalization.{first_rule, lowest}
 use Rattle.patterns_base.specs.Rewrites.{none, edits_of, rewrite_of}
-use Rattle.patterns_base.specs.Rules.{rules_for}
 use Rattle.patterns_makes.specs.Plan.{Plan}
 use Rattle.patterns_makes.specs.Plans.{PlanIsOf, plan_meaning}
 use Rattle.patterns.specs.Applied.{IsWritten}
-use Rattle.patterns.specs.Planned.{planned_edits}
 use Rattle.patterns.specs.declared.lowest.Found.{Found}
 
 -- those of some rules that canonicalization tries
@@ -24,10 +19,6 @@ greedy rs = filter (λ r. nat_le r 24) rs
 -- those are written
 abbrev pub AreWritten : List ℕ → Type 0
 AreWritten rs = Each (λ r. r ≤ 24 → IsWritten r) rs
-
--- and those that there may be at operation x
-abbrev pub RowIsWritten : Operation → ℕ → Type 0
-RowIsWritten t x = (o : Operation) → find x t ≡ Some o → AreWritten (rules_for (head o).name)
 
 -- a plan is that of rule r at operation x behind a place
 pub record IsPlanOf (w : World) (x : ℕ) (front : Place) (r : ℕ) (p : Plan) : Type 0 where

@@ -1,5 +1,6 @@
 //! Applying a rule.
-ghost use Rattle.std.specs.Prelude.{◌≡◌, IfOk, IfErr, OnErr};
+ghost use Rattle.std.specs.Prelude.{◌≡◌, IfOk, IfErr, OnErr, OnOk};
+ghost use Rattle.patterns_runs.specs.Benched.{Journaled};
 ghost use Rattle.patterns_runs.specs.Held.{module_held};
 ghost use Rattle.patterns_base.specs.Rewrites.{rewrite_of};
 ghost use Rattle.patterns.specs.Applied.{Applied, Gave, IsReason, IsWritten};
@@ -27,6 +28,7 @@ pub fn apply<L: Analysis>(
     ensures err { OnErr result (module_held bench.new.desk ≡ module_held bench.old.desk) }
     ensures refused { IfErr result (λ e. IsReason (rewrite_of rule (module_held bench.old.desk) op) op (module_held bench.old.desk) bench.new.desk.ctx e) }
     ensures stays { Applied L.meaning bench.old bench.new }
+    ensures journal { OnOk result (Journaled L.meaning bench.old bench.new) }
 {
     let world = bench.world();
     if !world.store.in_tree(op) {

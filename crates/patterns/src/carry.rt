@@ -1,5 +1,7 @@
 //! A plan, carried out.
+ghost use Rattle.std.specs.Prelude.{OnOk};
 ghost use Rattle.ir_event.specs.Modules.{module_meaning};
+ghost use Rattle.patterns_runs.specs.Benched.{Journaled};
 ghost use Rattle.patterns_runs.specs.Held.{module_held};
 ghost use Rattle.patterns_makes.specs.Plans.{PlanIsOf};
 ghost use Rattle.patterns.specs.Applied.{Applied};
@@ -29,6 +31,7 @@ pub(crate) fn carry_plan<L: Analysis>(
     requires { PlanIsOf bench.old.desk.ctx planned.plan }
     ensures carried { WereCarried (planned_edits bench.old.desk.ctx (module_held bench.old.desk).next op planned) result (module_held bench.old.desk) (module_held bench.new.desk) bench.new.desk.ctx }
     ensures stays { Applied L.meaning bench.old bench.new }
+    ensures journal { OnOk result (Journaled L.meaning bench.old bench.new) }
 {
     let world = bench.world();
     if let Some(refusal) = limit_reason(world, plan_makes(&planned.plan)) {

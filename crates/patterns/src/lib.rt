@@ -5,5 +5,5 @@ pub mod apply;
 mod carry;
 pub mod laws;
 mod limits;
-mod lowest;
+pub mod lowest;
 mod plan;

@@ -1,13 +1,14 @@
 //! The lowest rule that applies at an operation.
-ghost use Rattle.std.specs.Prelude.{◌≡◌, ◌≤◌, true, is_some, IfOk, IfErr, IfSome, OnErr, Some};
+ghost use Rattle.std.specs.Prelude.{◌≡◌, ◌≤◌, true, is_some, IfOk, IfErr, IfSome, OnErr, OnOk, Some};
 ghost use Rattle.ir_event.specs.Modules.{NodeIsOf, module_in};
 ghost use Rattle.patterns_base.specs.Canonicalization.{lowest as lowest_of};
 ghost use Rattle.patterns_base.specs.Looks.{front_of, is_clean as clean_at};
 ghost use Rattle.patterns_base.specs.Rewrites.{rewrite_of};
 ghost use Rattle.patterns_plans.specs.Reads.{head_at, head_in};
+ghost use Rattle.patterns_runs.specs.Benched.{Journaled};
 ghost use Rattle.patterns_runs.specs.Held.{module_held};
 ghost use Rattle.patterns.specs.Applied.{Applied, Gave, IsReason, IsWritten};
-ghost use Rattle.patterns.specs.Lowest.{AreWritten, IsFirst, IsLowest, RowIsWritten, TriedFirst};
+ghost use Rattle.patterns.specs.Lowest.{AreWritten, IsFirst, IsLowest, TriedFirst};
 
 use crate::carry::carry_plan;
 use crate::plan::{Planned, plan_at};
@@ -82,7 +83,6 @@ fn first_plan(
 
 /// The lowest rule that applies at an operation.
 fn find_lowest(alloc: Global, world: &World, op: OpId) -> Result<Option<Found>, AllocError>
-    requires written { RowIsWritten (module_in world.now).tree op }
     ensures { IfOk result (IsLowest world.now op) }
 {
     only_listed_rules_apply();
@@ -111,17 +111,17 @@ fn find_lowest(alloc: Global, world: &World, op: OpId) -> Result<Option<Found>, 
 ///
 /// Refusals, in order: `NoSuchOp` where the operation isn't in the module; `Full`; `IdsExhausted`; `Full` where the context
 /// is full; and `Memory`.
-pub(crate) fn lowest<L: Analysis>(
+pub fn lowest<L: Analysis>(
     alloc: Global,
     bench: &mut Bench<L>,
     op: OpId,
 ) -> Result<Option<u8>, Refusal>
-    requires written { RowIsWritten (module_held bench.old.desk).tree op }
     ensures ok { IfOk result (λ r. Gave (lowest_of (module_held bench.old.desk) op) (is_some r) (module_held bench.old.desk) (module_held bench.new.desk)) }
     ensures rule { IfOk result (λ r. IfSome r (λ r. lowest_of (module_held bench.old.desk) op ≡ rewrite_of r (module_held bench.old.desk) op)) }
     ensures err { OnErr result (module_held bench.new.desk ≡ module_held bench.old.desk) }
     ensures refused { IfErr result (λ e. IsReason (lowest_of (module_held bench.old.desk) op) op (module_held bench.old.desk) bench.new.desk.ctx e) }
     ensures stays { Applied L.meaning bench.old bench.new }
+    ensures journal { OnOk result (Journaled L.meaning bench.old bench.new) }
 {
     let world = bench.world();
     if !world.store.in_tree(op) {

@@ -1,5 +1,5 @@
 //! The plan of a rule at an operation.
-ghost use Rattle.std.specs.Prelude.{◌≡◌, true, IfOk, IfSome, Some, option_map};
+ghost use Rattle.std.specs.Prelude.{◌≡◌, ◌≤◌, true, IfOk, IfSome, Some, option_map};
 ghost use Rattle.ir_event.specs.Modules.{NodeIsOf, module_in};
 ghost use Rattle.patterns_base.specs.Looks.{front_of, is_clean as clean_at};
 ghost use Rattle.patterns_base.specs.Rewrites.{edits_of};
@@ -16,6 +16,7 @@ use patterns_makes::plan::Plan;
 use patterns_plans::by_number::plan_by;
 use patterns_plans::clean::is_clean;
 use patterns_plans::look::{front, shown};
+use patterns_regions::plans::{plan_22, plan_23, plan_24};
 use std::alloc::{AllocError, Global};
 
 /// What a rule makes of an operation, and the place in front of that.
@@ -23,6 +24,28 @@ use std::alloc::{AllocError, Global};
 pub struct Planned {
     pub front: Place,
     pub plan: Plan,
+}
+
+/// What one of rules 22 to 24 makes of an operation of the module, behind a place, if it applies.
+fn plan_in_regions(
+    alloc: Global,
+    world: &World,
+    rule: u8,
+    front: &Place,
+    op: OpId,
+) -> Result<Option<Plan>, AllocError>
+    requires low { 22 ≤ rule }
+    requires high { rule ≤ 24 }
+    ensures edits { IfOk result (IsPlanFor rule world.now op front.now) }
+    ensures of { IfOk result (λ p. IfSome p (PlanIsOf world.now.ctx)) }
+{
+    if rule == 22 {
+        return plan_22(alloc, world, front, op);
+    }
+    if rule == 23 {
+        return plan_23(alloc, world, front, op);
+    }
+    plan_24(alloc, world, front, op)
 }
 
 /// What a rule makes of an operation of the module, of which this is shown, behind a place, if it applies. That the
@@ -41,6 +64,9 @@ fn plan_of(
     ensures edits { IfOk result (IsPlanFor rule world.now op front.now) }
     ensures of { IfOk result (λ p. IfSome p (PlanIsOf world.now.ctx)) }
 {
+    if 22 <= rule && rule <= 24 {
+        return plan_in_regions(alloc, world, rule, front, op);
+    }
     plan_by(alloc, world, rule, op, node)
 }
 

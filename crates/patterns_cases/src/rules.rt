@@ -38,9 +38,8 @@ fn put_module(
     let Ok(text) = text_of(alloc, bench.world()) else {
         return Err(AllocError);
     };
-    out.push_str(" [")?;
-    put_all_shown(out, &text)?;
-    out.push(']')
+    out.push(' ')?;
+    put_all_shown(out, &text)
 }
 
 /// A rule at an operation of a bench's module, and the module after it.

@@ -1,12 +1,12 @@
 -- Benches whose context grows.
-use Rattle.std.proofs.Common.{refl, ap, ◌∙◌, [], ◌++◌}
+use Rattle.std.proofs.Common.{◌≡◌, refl, ap, sym, ◌∙◌, subst, List, []}
 use Rattle.ir_types.specs.Things.{Things}
 use Rattle.ir_types.specs.Sound.{Holds}
 use Rattle.ir_types.proofs.Growth.{grows_refl, grows_trans}
 use Rattle.ir_event.specs.Listener.{Listener}
 use Rattle.rewriter.specs.Moves.{Grown}
-use Rattle.rewriter.proofs.Told.{heard_none, heard_more}
-use Rattle.patterns_runs.specs.Benched.{Benched}
+use Rattle.rewriter.proofs.Told.{heard_none, heard_more, heard_grown}
+use Rattle.patterns_runs.specs.Benched.{Benched, Heard}
 use Rattle.patterns_runs.specs.Held.{Held}
 use Rattle.patterns_makes.specs.Interned.{Added}
 
@@ -29,11 +29,19 @@ grown_on a b c p q =
 
 module _ {B : Type 0} (meaning : B → Listener) where
   pub added_none : (a : Benched B) → Added meaning a a
-  added_none a = record { grown = grown_none a.desk; led = ([], heard_none meaning a) }
+  added_none a = record { grown = grown_none a.desk; untold = heard_none meaning a }
 
   pub added_on : (a b c : Benched B) → Holds b.desk.ctx → Added meaning a b → Added meaning b c → Added meaning a c
   added_on a b c holds p q =
       record {
         grown = grown_on a.desk b.desk c.desk p.grown q.grown;
-        led = (p.led.0 ++ q.led.0, heard_more meaning p.led.0 q.led.0 a b c holds p.led.1 q.led.1);
+        untold = heard_more meaning [] [] a b c holds p.untold q.untold;
+      }
+
+  -- something is interned
+  pub added_one : (a b : Benched B) → Holds a.desk.ctx → Holds b.desk.ctx → Grown a.desk b.desk → b.listeners ≡ a.listeners → Added meaning a b
+  added_one a b before after grown same =
+      record {
+        grown = grown;
+        untold = subst (λ (xs : List B). Heard meaning [] a (record { desk = b.desk; listeners = xs })) (sym same) (heard_grown meaning a.desk b.desk a.listeners before after grown);
       }

@@ -1,5 +1,5 @@
 -- Numbers of a context by what they stand for, and what becomes of a bench where its context alone grows.
-use Rattle.std.specs.Prelude.{◌≡◌, ◌≤◌, ℕ, List, length, ◌⊎◌, false, true, Option, Some, None}
+use Rattle.std.specs.Prelude.{◌≡◌, ◌≤◌, ℕ, List, [], length, ◌⊎◌, false, true, Option, Some, None}
 use Rattle.ir_types.specs.Things.{Things, IsName, IsType, IsAttr}
 use Rattle.ir_types.specs.Terms.{TypeTerm, AttrTerm, IntegerOf, Overflow, name_term, type_term, attr_term}
 use Rattle.ir_types.specs.declared.node.AttrNode.{AttrNode}
@@ -10,7 +10,7 @@ use Rattle.ir_types.specs.declared.refusal.Refusal.TheVariants.{Memory, Full}
 use Rattle.ir_event.specs.Listener.{Listener}
 use Rattle.rewriter.specs.Moves.{Grown}
 use Rattle.patterns_laws.specs.Words.{among, flagged}
-use Rattle.patterns_runs.specs.Benched.{Benched, Led}
+use Rattle.patterns_runs.specs.Benched.{Benched, Heard}
 
 -- a number is that of a name, of a type, of an attribute
 abbrev pub IsNameOf : Things → ℕ → List ℕ → Type 0
@@ -44,7 +44,7 @@ IsFull c = (most_things ≤ length c.types) ⊎ (most_things ≤ length c.attrs)
 abbrev pub IsNoRoom : Things → Refusal → Type 0
 IsNoRoom c e = (e ≡ Memory) ⊎ ((e ≡ Full) × IsFull c)
 
--- the context of a bench grew, and no more; the listeners were told of nothing else
+-- the context of a bench grew, and no more; the listeners were told of nothing
 pub record Added {B : Type 0} (meaning : B → Listener) (old new : Benched B) : Type 0 where
   pub grown : Grown old.desk new.desk
-  pub led : Led meaning old new
+  pub untold : Heard meaning [] old new

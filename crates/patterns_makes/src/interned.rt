@@ -22,7 +22,9 @@ fn attr<L: Analysis>(bench: &mut Bench<L>, node: AttrNode) -> Result<AttrId, Ref
     ensures added { Added L.meaning bench.old bench.new }
 {
     bench.is_formed();
-    match bench.attr(node) {
+    let made = bench.attr(node);
+    bench.is_formed();
+    match made {
         Ok(attr) => Ok(attr),
         Err(Refusal::TooMany) => Err(Refusal::Full),
         Err(_) => Err(Refusal::Memory),
@@ -36,10 +38,12 @@ pub(crate) fn integer_type<L: Analysis>(bench: &mut Bench<L>, width: u32) -> Res
     ensures added { Added L.meaning bench.old bench.new }
 {
     bench.is_formed();
-    match bench.ty(TypeNode::Int {
+    let made = bench.ty(TypeNode::Int {
         sign: Sign::Signless,
         width,
-    }) {
+    });
+    bench.is_formed();
+    match made {
         Ok(ty) => Ok(ty),
         Err(Refusal::TooMany) => Err(Refusal::Full),
         Err(_) => Err(Refusal::Memory),

@@ -1,7 +1,7 @@
 -- Edits carried out one after another.
-use Rattle.std.proofs.Common.{◌≡◌, refl, ap, sym, ◌∙◌, subst, ℕ, List, [], ◌∷◌, ◌++◌, append_assoc, append-nil, Option, Some, None, Result, Ok, Err, ◌⊎◌, inl, inr, false, ◌<◌, ◌-◌, length, arith, get_or, take}
+use Rattle.std.proofs.Common.{◌≡◌, refl, ap, sym, ◌∙◌, subst, ℕ, List, [], ◌∷◌, ◌++◌, append_assoc, append-nil, Option, Some, None, Result, Ok, Err, ◌⊎◌, inl, inr, true, false, ◌<◌, ◌-◌, length, arith, get_or, take}
 use Rattle.std.proofs.lemmas.List.{take_all}
-use Rattle.std.specs.Prelude.{drop}
+use Rattle.std.specs.Prelude.{◌≢◌, drop, OnOk, OnErr}
 use Rattle.ir_types.specs.Things.{Things}
 use Rattle.ir_types.specs.Sound.{Holds}
 use Rattle.ir_types.specs.declared.refusal.Refusal.{Refusal}
@@ -13,12 +13,15 @@ use Rattle.patterns_edits.specs.Contents.{Edit, all_edited, edit_meaning, edit_r
 use Rattle.patterns_edits.specs.Edits as edit
 use Rattle.patterns_edits.specs.Machine.{State, Do, Step, Commit, Rollback, Reply, Done, DoneAs, Refused, Nothing, Answer, Goes, due_edit, accepted}
 use Rattle.patterns_edits.proofs.Answers.{accepted_gives, refused_leaves}
-use Rattle.rewriter.specs.Benched.{Benched, Heard, Led, reply_of, state_of}
+use Rattle.rewriter.specs.Benched.{Benched, Heard, Journaled, Led, reply_of, state_of}
 use Rattle.rewriter.specs.Held.{module_held, open_marks}
+use Rattle.rewriter.specs.Rolling.{Dropped}
 use Rattle.rewriter.proofs.Calls.{stepped, committed, rolled_back}
+use Rattle.rewriter.proofs.OpenMarks.{open_none}
 use Rattle.patterns_edits.specs.declared.edit.Edit.{Edit as Coded}
 use Rattle.patterns_edits.specs.Lists.{AllFit, Fits, IsWhy, Tried, edits_meaning, numbered}
 use Rattle.patterns_runs.specs.Runs.{Along}
+use Rattle.patterns_runs.proofs.Journals.{marked_more, recorded_none, recorded_on, recorded_whole, surely}
 
 -- ---- one edit
 
@@ -68,6 +71,10 @@ module _ {B : Type 0} (meaning : B → Listener) where
     led = (p.led.0 ++ q.led.0, more p.led.0 q.led.0 a b c (subst Holds (sym p.ctx) holds) (subst Holds (sym (q.ctx ∙ p.ctx)) holds) p.led.1 q.led.1);
   }
 
+  pub noted_on : Composes → (a b c : Benched B) → Holds a.desk.ctx → Along meaning a b → Along meaning b c → Journaled meaning a b → Journaled meaning b c → Journaled meaning a c
+  noted_on more a b c holds p q h k =
+      (h.0 ++ k.0, more h.0 k.0 a b c (subst Holds (sym p.ctx) holds) (subst Holds (sym (q.ctx ∙ p.ctx)) holds) h.1 k.1, recorded_on h.0 k.0 a.desk b.desk c.desk p.opens h.2 k.2)
+
   -- some were made, and some are left
   pub record Carrying (all rest : List Coded) (a b : Benched B) : Type 0 where
     pub done : List Coded
@@ -75,6 +82,7 @@ module _ {B : Type 0} (meaning : B → Listener) where
     pub held : module_held b.desk ≡ all_edited (edits_meaning a.desk.ctx done) (module_held a.desk)
     pub fit : AllFit a.desk.ctx rest
     pub along : Along meaning a b
+    pub noted : Journaled meaning a b
 
   all_edited_more : (es fs : List Edit) (m : Module) → all_edited (es ++ fs) m ≡ all_edited fs (all_edited es m)
   all_edited_more [] fs m = refl
@@ -85,18 +93,19 @@ module _ {B : Type 0} (meaning : B → Listener) where
   edits_of_more c (e ∷ es) fs = ap (λ l. edit_meaning c (numbered e) ∷ l) (edits_of_more c es fs)
 
   pub carrying_none : ((z : Benched B) → Heard meaning [] z z) → (all : List Coded) (a : Benched B) → AllFit a.desk.ctx all → Carrying all all a a
-  carrying_none none all a fit = record { done = []; parts = refl; held = refl; fit = fit; along = record { ctx = refl; opens = refl; led = ([], none a) } }
+  carrying_none none all a fit = record { done = []; parts = refl; held = refl; fit = fit; along = record { ctx = refl; opens = refl; led = ([], none a) }; noted = ([], none a, recorded_none a.desk) }
 
   pub fits_next : (all rest : List Coded) (e : Coded) (a b : Benched B) → Carrying all (e ∷ rest) a b → Fits b.desk.ctx e
   fits_next all rest e a b c = subst (λ z. Fits z e) (sym c.along.ctx) c.fit.0
 
-  pub carrying_more : Composes → (all rest : List Coded) (e : Coded) (a b d : Benched B) → Holds a.desk.ctx → Carrying all (e ∷ rest) a b → Tried (edit_meaning b.desk.ctx (numbered e)) (Ok tt) (module_held b.desk) (module_held d.desk) → Along meaning b d → Carrying all rest a d
-  carrying_more more all rest e a b d holds c tried along = record {
+  pub carrying_more : Composes → (all rest : List Coded) (e : Coded) (a b d : Benched B) → Holds a.desk.ctx → Carrying all (e ∷ rest) a b → Tried (edit_meaning b.desk.ctx (numbered e)) (Ok tt) (module_held b.desk) (module_held d.desk) → Along meaning b d → Journaled meaning b d → Carrying all rest a d
+  carrying_more more all rest e a b d holds c tried along noted = record {
     done = c.done ++ e ∷ [];
     parts = append_assoc c.done (e ∷ []) rest ∙ c.parts;
     held = tried.1 ∙ (λ i. edited (edit_meaning (c.along.ctx i) (numbered e)) (c.held i)) ∙ sym (ap (λ l. all_edited l (module_held a.desk)) (edits_of_more a.desk.ctx c.done (e ∷ [])) ∙ all_edited_more (edits_meaning a.desk.ctx c.done) (edit_meaning a.desk.ctx (numbered e) ∷ []) (module_held a.desk));
     fit = c.fit.1;
     along = along_on more a b d holds c.along along;
+    noted = noted_on more a b d holds c.along along c.noted noted;
   }
 
   pub carrying_done : (all : List Coded) (a b : Benched B) → Carrying all [] a b → module_held b.desk ≡ all_edited (edits_meaning a.desk.ctx all) (module_held a.desk)
@@ -147,6 +156,22 @@ module _ {B : Type 0} (meaning : B → Listener) where
 
     pub undone_held : (reply : Reply) → Goes (state_of meaning c) Rollback reply Nothing (state_of meaning d) → module_held d.desk ≡ module_held a.desk
     undone_held reply g = (rolled_back (state_of meaning c) (state_of meaning d) reply _ _ newest g).0
+
+  -- edits under a step that is kept
+  module _ (more : Composes) (a b c d : Benched B) (holds : Holds a.desk.ctx) (begun : Begun a b) (went : Along meaning b c) (closed : Closed c d) (mark : b.desk ≡ marked_more a.desk) where
+    some_open : c.desk.marks ≢ []
+    some_open e = (let n : [] ≡ record { marked = module_held a.desk; counted = false } ∷ open_marks a.desk = sym (open_none c.desk e) ∙ newest more a b c d holds begun went closed in cc)
+
+    pub noted_whole : {A : Type 0} (r : Result A Refusal) → OnOk r (Dropped true c.desk d.desk) → OnErr r (c.desk.marks ≡ []) → Along meaning a d → Heard meaning [] a b → Journaled meaning b c → Heard meaning [] c d → (a.desk.marks ≡ [] → a.desk.journal ≡ []) → Journaled meaning a d
+    noted_whole r dropped none along first j last unmarked =
+        let holds_b : Holds b.desk.ctx = subst Holds (sym begun.ctx) holds in
+        let holds_c : Holds c.desk.ctx = subst Holds (sym (went.ctx ∙ begun.ctx)) holds in
+        let holds_d : Holds d.desk.ctx = subst Holds (sym along.ctx) holds in
+        let heard : Heard meaning (j.0 ++ []) a d = more j.0 [] a c d holds_c holds_d (more [] j.0 a b c holds_b holds_c first j.1) last in (
+          j.0,
+          subst (λ es. Heard meaning es a d) (append-nil j.0) heard,
+          recorded_whole a.desk b.desk c.desk d.desk mark j.0 j.2 (surely r c.desk.marks some_open none dropped) along.opens unmarked,
+        )
 
   pub begun_why : (a b : Benched B) (begun : Begun a b) (es : List Coded) (r : Refusal) → IsWhy (edits_meaning b.desk.ctx es) (module_held b.desk) r → IsWhy (edits_meaning a.desk.ctx es) (module_held a.desk) r
   begun_why a b begun es r w = subst (λ (p : List Edit × Module). IsWhy p.0 p.1 r) (λ i. (edits_meaning (begun.ctx i) es, (stepped (state_of meaning a) (state_of meaning b) begun.goes).0 i)) w

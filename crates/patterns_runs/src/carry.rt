@@ -1,6 +1,7 @@
 //! Edits, carried out one after another.
 ghost use Rattle.std.specs.Prelude.{◌≡◌, OnOk, OnErr, IfErr};
 ghost use Rattle.patterns_edits.specs.Contents.{all_edited};
+ghost use Rattle.rewriter.specs.Benched.{Journaled};
 ghost use Rattle.rewriter.specs.Held.{module_held};
 ghost use Rattle.patterns_edits.specs.Lists.{AllFit, IsWhy, edits_meaning};
 ghost use Rattle.patterns_runs.specs.Runs.{Along};
@@ -18,6 +19,7 @@ fn carry<L: Analysis>(bench: &mut Bench<L>, edits: &[Edit]) -> Result<(), Refusa
     ensures ok { OnOk result (module_held bench.new.desk ≡ all_edited (edits_meaning bench.old.desk.ctx edits.now) (module_held bench.old.desk)) }
     ensures refused { IfErr result (λ e. IsWhy (edits_meaning bench.old.desk.ctx edits.now) (module_held bench.old.desk) e) }
     ensures along { Along L.meaning bench.old bench.new }
+    ensures journal { OnOk result (Journaled L.meaning bench.old bench.new) }
 {
     led_benches_are_kept::<L>();
     bench.is_formed();
@@ -40,6 +42,7 @@ pub fn carry_whole<L: Analysis>(bench: &mut Bench<L>, edits: &[Edit]) -> Result<
     ensures err { OnErr result (module_held bench.new.desk ≡ module_held bench.old.desk) }
     ensures refused { IfErr result (λ e. IsWhy (edits_meaning bench.old.desk.ctx edits.now) (module_held bench.old.desk) e) }
     ensures along { Along L.meaning bench.old bench.new }
+    ensures journal { OnOk result (Journaled L.meaning bench.old bench.new) }
 {
     led_benches_are_kept::<L>();
     bench.is_formed();

@@ -3,6 +3,7 @@ ghost use Rattle.std.specs.Prelude.{◌≡◌, true, Some};
 ghost use Rattle.ir_types.specs.Things.{IsName, IsAttr};
 ghost use Rattle.ir_tree.specs.Meaning.{IsSoundIn};
 ghost use Rattle.ir_tree_laws.specs.Reasons.{holds_none};
+ghost use Rattle.rewriter.specs.Benched.{Keeps};
 ghost use Rattle.rewriter.specs.Held.{module_held};
 ghost use Rattle.patterns_edits.specs.Contents.{edit_meaning};
 ghost use Rattle.patterns_edits.specs.Edits as edit;
@@ -23,6 +24,7 @@ fn make_one<L: Analysis>(bench: &mut Bench<L>, place: Place, op: &TreeOp) -> Res
     requires bare { holds_none (Some op.now) ≡ true }
     ensures tried { Tried (edit_meaning bench.old.desk.ctx (edit.Make place op.now)) result (module_held bench.old.desk) (module_held bench.new.desk) }
     ensures along { Along L.meaning bench.old bench.new }
+    ensures journal { Keeps L.meaning result bench.old bench.new }
 {
     match bench.make(place, op) {
         Ok(_) => Ok(()),
@@ -38,6 +40,7 @@ fn set_one<L: Analysis>(
 ) -> Result<(), Refusal>
     ensures tried { Tried (edit_meaning bench.old.desk.ctx (edit.SetOperand op operand value)) result (module_held bench.old.desk) (module_held bench.new.desk) }
     ensures along { Along L.meaning bench.old bench.new }
+    ensures journal { Keeps L.meaning result bench.old bench.new }
 {
     bench.set_operand(op, operand, value)
 }
@@ -45,6 +48,7 @@ fn set_one<L: Analysis>(
 fn replace_one<L: Analysis>(bench: &mut Bench<L>, old: Value, new: Value) -> Result<(), Refusal>
     ensures tried { Tried (edit_meaning bench.old.desk.ctx (edit.Replace old new)) result (module_held bench.old.desk) (module_held bench.new.desk) }
     ensures along { Along L.meaning bench.old bench.new }
+    ensures journal { Keeps L.meaning result bench.old bench.new }
 {
     bench.replace_all(old, new)
 }
@@ -52,6 +56,7 @@ fn replace_one<L: Analysis>(bench: &mut Bench<L>, old: Value, new: Value) -> Res
 fn move_one<L: Analysis>(bench: &mut Bench<L>, op: OpId, place: Place) -> Result<(), Refusal>
     ensures tried { Tried (edit_meaning bench.old.desk.ctx (edit.Move op place)) result (module_held bench.old.desk) (module_held bench.new.desk) }
     ensures along { Along L.meaning bench.old bench.new }
+    ensures journal { Keeps L.meaning result bench.old bench.new }
 {
     bench.move_op(op, place)
 }
@@ -59,6 +64,7 @@ fn move_one<L: Analysis>(bench: &mut Bench<L>, op: OpId, place: Place) -> Result
 fn erase_one<L: Analysis>(bench: &mut Bench<L>, op: OpId) -> Result<(), Refusal>
     ensures tried { Tried (edit_meaning bench.old.desk.ctx (edit.Erase op)) result (module_held bench.old.desk) (module_held bench.new.desk) }
     ensures along { Along L.meaning bench.old bench.new }
+    ensures journal { Keeps L.meaning result bench.old bench.new }
 {
     bench.erase(op)
 }
@@ -73,6 +79,7 @@ fn enter_one<L: Analysis>(
     requires attr { IsAttr bench.old.desk.ctx attr }
     ensures tried { Tried (edit_meaning bench.old.desk.ctx (edit.SetAttr op key attr)) result (module_held bench.old.desk) (module_held bench.new.desk) }
     ensures along { Along L.meaning bench.old bench.new }
+    ensures journal { Keeps L.meaning result bench.old bench.new }
 {
     bench.set_attr(op, key, attr)
 }
@@ -82,6 +89,7 @@ pub(crate) fn carry_one<L: Analysis>(bench: &mut Bench<L>, edit: &Edit) -> Resul
     requires fits { Fits bench.old.desk.ctx edit.now }
     ensures tried { Tried (edit_meaning bench.old.desk.ctx (numbered edit.now)) result (module_held bench.old.desk) (module_held bench.new.desk) }
     ensures along { Along L.meaning bench.old bench.new }
+    ensures journal { Keeps L.meaning result bench.old bench.new }
 {
     match edit {
         Edit::Make { place, op } => make_one(bench, *place, op),

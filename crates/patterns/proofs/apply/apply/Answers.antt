@@ -3,7 +3,7 @@ use Rattle.patterns_base.specs.Rewrites.{rewrite_of}
 use Rattle.patterns_runs.specs.Held.{module_held}
 use Rattle.patterns.specs.Planned.{planned_edits}
 use Rattle.patterns.proofs.Applying.{gave, not_there, rewrite_due, stopped, was_none}
-use Rattle.patterns.proofs.Carrying.{applied_none}
+use Rattle.patterns.proofs.Carrying.{applied_none, journaled_none}
 use Rattle.patterns.proofs.apply.apply.Goals as goal
 
 pub returns-then-not-in_tree-clause-refused : goal.returns-then-not-in_tree-clause-refused
@@ -36,3 +36,6 @@ pub returns-in-Err-clause-refused : goal.returns-in-Err-clause-refused
 returns-in-Err-clause-refused g c =
     stopped (rewrite_of c.args.rule (module_held c.args.bench.now.desk) c.args.op) (planned_edits c.args.bench.now.desk.ctx (module_held c.args.bench.now.desk).next c.args.op c.in-Some.planned) c.args.op (module_held c.args.bench.now.desk) c.carry_plan.new.bench.desk.ctx c.in-Err.refusal
     (rewrite_due c.world-world.result.now c.args.bench.now.desk c.world-world.ensures.ctx c.world-world.ensures.store c.args.op c.args.rule c.in-Ok.found c.in-Ok.ensures.edits c.in-Some.planned c.in-Some.is) c.in-Err.ensures.carried.1
+
+pub returns-in_default-found-clause-journal : goal.returns-in_default-found-clause-journal
+returns-in_default-found-clause-journal g c = journaled_none g.L.Analysis.meaning c.args.bench.now

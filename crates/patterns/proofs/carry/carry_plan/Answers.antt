@@ -3,7 +3,7 @@ use Rattle.patterns_runs.specs.Contents.{all_edited}
 use Rattle.patterns_runs.specs.Held.{module_held}
 use Rattle.patterns_runs.specs.Lists.{edits_meaning}
 use Rattle.patterns.specs.Planned.{planned_edits}
-use Rattle.patterns.proofs.Carrying.{applied_none, applied_added, applied_along, no_room, was_carried, was_limited}
+use Rattle.patterns.proofs.Carrying.{applied_none, applied_added, applied_along, journaled_along, no_room, was_carried, was_limited}
 use Rattle.patterns.proofs.carry.carry_plan.Goals as goal
 
 pub returns-in-Some-clause-carried : goal.returns-in-Some-clause-carried
@@ -34,3 +34,6 @@ returns-clause-stays g c = applied_along g.L.Analysis.meaning c.args.bench.now c
 
 pub returns-clause-carried : goal.returns-clause-carried
 returns-clause-carried g c = (c.in-Err-carry_whole.ensures.err ∙ c.in-Ok.ensures.added.grown.same, inl refl)
+
+pub returns-in-Ok-carry_whole-clause-journal : goal.returns-in-Ok-carry_whole-clause-journal
+returns-in-Ok-carry_whole-clause-journal g c = journaled_along g.L.Analysis.meaning c.args.bench.now c.edits_for.new.bench c.carry_whole.new.bench c.is_formed.ensures.context.holds c.in-Ok.ensures.added c.in-Ok-carry_whole.ensures.journal

@@ -4,8 +4,9 @@ use Rattle.ir_event.specs.Modules.{module_in}
 use Rattle.patterns_base.specs.Rules.{rules_for}
 use Rattle.patterns_plans.specs.Reads.{head_in}
 use Rattle.patterns.proofs.Firsts.{none_lowest}
-use Rattle.patterns.proofs.Lowering.{row_suffices, row_written}
+use Rattle.patterns.proofs.Lowering.{row_suffices, none_first_lowest, first_lowest}
 use Rattle.patterns.proofs.Planned.{none_there, none_front, none_clean}
+use Rattle.patterns.proofs.Written.{row_written}
 use Rattle.patterns.proofs.lowest.find_lowest.Goals as goal
 
 pub returns-in_default : goal.returns-in_default
@@ -24,5 +25,18 @@ first_plan-requires-clause-clean c = sym c.in_ok-is_clean.ensures ∙ c.if-not-b
 
 pub first_plan-requires-clause-written : goal.first_plan-requires-clause-written
 first_plan-requires-clause-written c =
-    row_written c.only_listed_rules_apply.ensures.lowest (module_in c.args.world.now) c.args.op (head_in c.args.world.now.ctx c.in-Some.node) c.in-Some.ensures.node c.rules_of-rules.result.now
-    (c.rules_of-rules.ensures c.args.world.now.ctx c.sound.ensures ∙ ap (λ n. rules_for (name_term c.args.world.now.ctx n)) c.name.ensures) c.requires.written
+    row_written c.rules_of-rules.result.now _ (c.rules_of-rules.ensures c.args.world.now.ctx c.sound.ensures)
+
+pub returns-in-None : goal.returns-in-None
+returns-in-None c =
+    none_first_lowest c.args.world.now c.args.op c.in-Some-front.front c.rules_of-rules.result.now
+    (row_suffices c.only_listed_rules_apply.ensures.lowest (module_in c.args.world.now) c.args.op (head_in c.args.world.now.ctx c.in-Some.node) c.in-Some.ensures.node c.rules_of-rules.result.now
+    (c.rules_of-rules.ensures c.args.world.now.ctx c.sound.ensures ∙ ap (λ n. rules_for (name_term c.args.world.now.ctx n)) c.name.ensures))
+    _ c.in_ok-rule.ensures c.in-None.is
+
+pub returns-in-Some-2 : goal.returns-in-Some-2
+returns-in-Some-2 c =
+    first_lowest c.args.world.now c.args.op c.in-Some-front.front c.rules_of-rules.result.now
+    (row_suffices c.only_listed_rules_apply.ensures.lowest (module_in c.args.world.now) c.args.op (head_in c.args.world.now.ctx c.in-Some.node) c.in-Some.ensures.node c.rules_of-rules.result.now
+    (c.rules_of-rules.ensures c.args.world.now.ctx c.sound.ensures ∙ ap (λ n. rules_for (name_term c.args.world.now.ctx n)) c.name.ensures))
+    _ c.in-Some-2.rule c.in-Some-2.plan c.in_ok-rule.ensures c.in-Some-2.is

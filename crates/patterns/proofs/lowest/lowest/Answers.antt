@@ -4,8 +4,8 @@ use Rattle.patterns_runs.specs.Held.{module_held}
 use Rattle.patterns.specs.Lowest.{IsLowest}
 use Rattle.patterns.specs.Planned.{planned_edits}
 use Rattle.patterns.proofs.Applying.{gave, not_there, stopped}
-use Rattle.patterns.proofs.Carrying.{applied_none}
-use Rattle.patterns.proofs.Lowering.{none_held, row_held, fits_held, rule_held, lowest_due}
+use Rattle.patterns.proofs.Carrying.{applied_none, journaled_none}
+use Rattle.patterns.proofs.Lowering.{none_held, fits_held, rule_held, lowest_due}
 use Rattle.patterns.proofs.lowest.lowest.Goals as goal
 
 pub returns-then-not-in_tree-clause-refused : goal.returns-then-not-in_tree-clause-refused
@@ -13,9 +13,6 @@ returns-then-not-in_tree-clause-refused g c = not_there c.world-world.result.now
 
 pub returns-then-not-in_tree-clause-stays : goal.returns-then-not-in_tree-clause-stays
 returns-then-not-in_tree-clause-stays g c = applied_none g.L.Analysis.meaning c.args.bench.now
-
-pub find_lowest-requires : goal.find_lowest-requires
-find_lowest-requires g c = record { written = row_held c.world-world.result.now c.args.bench.now.desk c.world-world.ensures.ctx c.world-world.ensures.store c.args.op c.requires.written }
 
 pub returns-in_default-clause-refused : goal.returns-in_default-clause-refused
 returns-in_default-clause-refused g c = inl refl
@@ -48,3 +45,6 @@ pub returns-in-Err-clause-refused : goal.returns-in-Err-clause-refused
 returns-in-Err-clause-refused g c =
     stopped (lowest (module_held c.args.bench.now.desk) c.args.op) (planned_edits c.args.bench.now.desk.ctx (module_held c.args.bench.now.desk).next c.args.op c.in-Some.found.planned) c.args.op (module_held c.args.bench.now.desk) c.carry_plan.new.bench.desk.ctx c.in-Err.refusal
     (lowest_due c.world-world.result.now c.args.bench.now.desk c.world-world.ensures.ctx c.world-world.ensures.store c.args.op c.in-Some.found (subst (IsLowest c.world-world.result.now c.args.op) c.in-Some.is c.in-Ok.ensures)) c.in-Err.ensures.carried.1
+
+pub returns-in_default-lowest-clause-journal : goal.returns-in_default-lowest-clause-journal
+returns-in_default-lowest-clause-journal g c = journaled_none g.L.Analysis.meaning c.args.bench.now

@@ -1,4 +1,4 @@
-use Rattle.std.proofs.Common.{Some, None, option_map, ap, sym, ◌∙◌}
+use Rattle.std.proofs.Common.{option_map, ap, sym, ◌∙◌}
 use Rattle.ir_event.specs.Modules.{module_in}
 use Rattle.patterns_plans.specs.Reads.{head_in}
 use Rattle.patterns_makes.specs.Plans.{plan_meaning}

@@ -18,7 +18,7 @@ use Rattle.patterns_base.specs.Rewrites.{none, edits_of, rewrite_by, rewrite_of}
 use Rattle.patterns_base.specs.Canonicalization.{or_else, first_rule, greedy_rules, lowest}
 
 -- it stands at no place
-unplaced : (t : Operation) → HasDistinctIds t → place_of (head t).id t ≡ None
+pub unplaced : (t : Operation) → HasDistinctIds t → place_of (head t).id t ≡ None
 unplaced t d = go (place_of (head t).id t) refl
   where
     go : (a : Option Place) → place_of (head t).id t ≡ a → place_of (head t).id t ≡ None

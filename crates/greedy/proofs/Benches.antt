@@ -1,0 +1,134 @@
+-- Laws of benches under the driver.
+use Rattle.std.proofs.Common.{◌≡◌, refl, ap, sym, ◌∙◌, subst, ℕ, ◌+◌, ◌<◌, ◌≤◌, Bool, true, false, true≢false, ◌||◌, ◌&&◌, cond, eqb, eq-eqb, eqb-true, List, [], ◌∷◌, ◌++◌, length, length-append, Some, None, inl, inr, ◌⊎◌, arith, le-leb}
+use Rattle.std.specs.Prelude.{All, drop, map, reverse, nat_le, ◌≢◌}
+use Rattle.std.specs.List.{IsDistinct, list_any}
+use Rattle.std.proofs.Math.Seq.{drop-length}
+use Rattle.std.proofs.lemmas.Bool.{leb-true}
+use Rattle.ir_types.specs.Things.{Things, Grows, IsFront}
+use Rattle.ir_types.specs.Sound.{Holds}
+use Rattle.ir_types.specs.Limits.{most_things}
+use Rattle.ir_types.specs.Terms.{name_term, type_term, attr_term}
+use Rattle.ir_types.proofs.Growth.{grows_refl, grows_trans}
+use Rattle.ir_tree.specs.Tree.{OpOf, op, head, regions, region_count, Op}
+use Rattle.ir_tree.specs.Ids.{ids, regions_ids, has_id, HasDistinctIds, find}
+use Rattle.ir_tree.specs.Limits.{head_fits, op_fits, items_fit, all_arguments_pass, most_regions}
+use Rattle.ir_tree.specs.Meaning.{meaning, isolated_in}
+use Rattle.ir_tree.specs.WellFormed.{ModuleOf, IsWellFormed, Module as Numbered}
+use Rattle.ir_tree.proofs.Mapped.{map_ids}
+use Rattle.ir_tree.proofs.Returns.{absent_first, bool_cases}
+use Rattle.ir_tree_laws.specs.Reads.{precedes, comes_after}
+use Rattle.ir_tree_laws.proofs.Listed.{both}
+use Rattle.ir_tree_laws.proofs.Members.{stand, itself, found_stands}
+use Rattle.ir_tree_laws.proofs.Formed.{from_formed, ids_below}
+use Rattle.ir_store_walks.specs.Following.{HasFewRegions}
+use Rattle.ir_store_walks.specs.Following as walks
+use Rattle.ir_event.specs.Listener.{Listener}
+use Rattle.ir_event.specs.Modules.{Module}
+use Rattle.patterns.specs.Benched.{Benched, Led, Journaled}
+use Rattle.patterns.specs.Held.{Held, module_held, module_at, open_marks, open_mark}
+use Rattle.patterns.specs.Interned.{IsFull}
+use Rattle.rewriter.specs.Journals.{before}
+use Rattle.rewriter.specs.Moves.{all_noted}
+use Rattle.rewriter.specs.Mark.{Mark}
+use Rattle.rewriter.proofs.Told.{heard_none, heard_more}
+use Rattle.patterns_orders.proofs.Order.{after_at, after_past, second_there}
+use Rattle.greedy.specs.Benches.{Formed, Onward}
+use Rattle.greedy.specs.Work.{first_id, comes_next, following}
+
+-- ---- the module of contents and the one of numbers
+pub held_ids : (h : Held) → ids (module_held h).tree ≡ ids h.store.module_of.tree
+held_ids h = map_ids (name_term h.ctx) (type_term h.ctx) (attr_term h.ctx) h.store.module_of.tree
+
+pub held_root : (h : Held) → (head (module_held h).tree).id ≡ (head h.store.module_of.tree).id
+held_root h = go h.store.module_of.tree
+  where
+    go : (t : Op) → (head (meaning h.ctx t)).id ≡ (head t).id
+    go (op x rs) = refl
+
+pub held_has : (h : Held) (x : ℕ) → has_id x (module_held h).tree ≡ has_id x h.store.module_of.tree
+held_has h x = ap (list_any (λ y. eqb y x)) (held_ids h)
+
+pub held_precedes : (h : Held) (a b : ℕ) → precedes a b (module_held h).tree ≡ precedes a b h.store.module_of.tree
+held_precedes h a b = ap (comes_after a b) (held_ids h)
+
+pub held_formed : (h : Held) → IsWellFormed (isolated_in h.ctx) h.store.module_of → Formed (module_held h)
+held_formed h w = record { distinct = subst (IsDistinct eqb) (sym (held_ids h)) w.distinct; below = subst (All (λ y. y < h.store.module_of.next)) (sym (held_ids h)) w.below }
+
+same_first : (xs : List ℕ) → walks.first_id xs ≡ first_id xs
+same_first [] = refl
+same_first (x ∷ xs) = refl
+
+same_next : (a : ℕ) (xs : List ℕ) → walks.comes_next a xs ≡ comes_next a xs
+same_next a [] = refl
+same_next a (x ∷ xs) = λ i. cond (eqb x a) (same_first xs i) (same_next a xs i)
+
+pub held_following : (h : Held) (x : ℕ) → walks.following x h.store.module_of.tree ≡ following x (module_held h).tree
+held_following h x = same_next x (ids h.store.module_of.tree) ∙ ap (comes_next x) (sym (held_ids h))
+
+-- ---- the outermost operation
+pub root_below : (n : ℕ) (t : Op) → All (λ y. y < n) (ids t) → (head t).id < n
+root_below n (op h rs) a = ids_below n (op h rs) a (stand (op h rs) []) (itself [] (op h rs))
+
+pub root_there : (t : Op) → has_id (head t).id t ≡ true
+root_there (op h rs) = ap (λ b. b || list_any (λ y. eqb y h.id) (regions_ids rs)) (eq-eqb h.id h.id refl)
+
+-- nothing comes before it
+pub root_first : (p : ℕ) (t : Op) → HasDistinctIds t → precedes p (head t).id t ≡ true → ⊥
+root_first p (op h rs) d e = true≢false (sym (by_first (bool_cases (eqb h.id p))) ∙ absent_first h.id (regions_ids rs) d)
+  where
+    by_first : (eqb h.id p ≡ true) ⊎ (eqb h.id p ≡ false) → list_any (λ y. eqb y h.id) (regions_ids rs) ≡ true
+    by_first (inl k) = sym (after_at p h.id h.id (regions_ids rs) k) ∙ e
+    by_first (inr k) = second_there p h.id (regions_ids rs) (sym (after_past p h.id h.id (regions_ids rs) k) ∙ e)
+
+pub outermost_there : (t : Op) (x : ℕ) → has_id x t ≡ false → false ≡ eqb (head t).id x
+outermost_there t x n = elim (bool_cases (eqb (head t).id x)) [
+  | inr k ↦ sym k
+  | inl k ↦ absurd (true≢false (sym (root_there t) ∙ ap (λ y. has_id y t) (eqb-true (head t).id x k) ∙ n))
+]
+
+pub outermost_behind : (t : Op) (x p : ℕ) → HasDistinctIds t → precedes p x t ≡ true → false ≡ eqb (head t).id x
+outermost_behind t x p d h = elim (bool_cases (eqb (head t).id x)) [
+  | inr k ↦ sym k
+  | inl k ↦ absurd (root_first p t d (ap (λ y. precedes p y t) (eqb-true (head t).id x k) ∙ h))
+]
+
+-- a number that isn't its id
+pub passed : (n r : ℕ) → n ≤ r → eqb r n ≡ false → n + 1 ≤ r
+passed n r l e = elim (bool_cases (nat_le (n + 1) r)) [
+  | inl k ↦ leb-true (n + 1) r k
+  | inr k ↦ absurd (
+      let over : (n + 1 ≤ r → ⊥) = λ m. true≢false (sym (le-leb (n + 1) r m) ∙ k) in
+      let same : r ≡ n = omega (arith, l, over) in
+      true≢false (sym (eq-eqb r n same) ∙ e))
+]
+
+-- ---- no operation has more regions than so many
+module _ {N T A : Type 0} where
+  fits : (o : OpOf N T A) → op_fits o ≡ true → region_count (regions o) ≤ 16
+  fits (op h rs) f = leb-true (region_count rs) most_regions (both (nat_le (region_count rs) most_regions) (all_arguments_pass items_fit rs) (both (head_fits h) (nat_le (region_count rs) most_regions && all_arguments_pass items_fit rs) f).1).0
+
+  pub few_regions : (isolated : N → Bool) (m : ModuleOf N T A) → IsWellFormed isolated m → HasFewRegions m.tree
+  few_regions isolated m w x o e =
+      let s = found_stands x m.tree o e in
+      fits o (ap op_fits (sym s.3) ∙ (from_formed isolated m.tree w.formed).fits s.0 s.1)
+
+module _ {B : Type 0} (meaning : B → Listener) where
+  pub led_onward : (a b : Benched B) → Holds b.desk.ctx → Led meaning a b → Onward meaning a b
+  led_onward a b h l = record { grows = l.1.grows; led = λ k. (h, l) }
+
+  -- a call whose events the journal has
+  pub noted_before : (a b : Benched B) → open_marks a.desk ≢ [] → Journaled meaning a b → (length a.desk.journal ≤ length b.desk.journal) × (module_at (length a.desk.journal) b.desk ≡ module_held a.desk)
+  noted_before a b marked j = go a.desk.marks refl
+    where
+      unmarked : a.desk.marks ≡ [] → open_marks a.desk ≡ []
+      unmarked e = ap (λ l. reverse (map (open_mark a.desk) l)) e
+
+      some : a.desk.marks ≢ []
+      some e = marked (unmarked e)
+
+      go : (ks : List Mark) → a.desk.marks ≡ ks → (length a.desk.journal ≤ length b.desk.journal) × (module_at (length a.desk.journal) b.desk ≡ module_held a.desk)
+      go [] e = absurd (some e)
+      go (k ∷ ks) e = (
+        (let n = ap length (j.2.journal ∙ ap (λ l. all_noted l a.desk.journal j.0) e) in let m = length-append a.desk.journal j.0 in omega (arith, n, m)),
+        j.2.behind some (length a.desk.journal) (omega arith) ∙ ap (λ l. before a.desk.ctx l a.desk.store) (drop-length a.desk.journal),
+      )

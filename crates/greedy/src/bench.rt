@@ -1,0 +1,179 @@
+//! Benches with the rules 1 to 24.
+ghost use Rattle.std.specs.Prelude.{◌≡◌, ◌<◌, All, eqb, IfErr};
+ghost use Rattle.ir_types.specs.Things.{Grows};
+ghost use Rattle.ir_tree.specs.Ids.{HasDistinctIds, ids};
+ghost use Rattle.ir_tree.specs.Tree.{head};
+ghost use Rattle.rewriter_machine.specs.Machine.{Change};
+ghost use Rattle.patterns.specs.Benched.{Does, Led};
+ghost use Rattle.patterns.specs.Held.{module_held};
+ghost use Rattle.patterns.specs.Interned.{IsFull};
+ghost use Rattle.greedy.specs.Changes.{canonical_reply, canonicalizing};
+ghost use Rattle.greedy.specs.Outcomes.{IsReason};
+
+use crate::outcome::Outcome;
+use crate::rewriting::Rewriting;
+use crate::run::run;
+use ir_event::analysis::Analysis;
+use ir_store::store::Store;
+use ir_store_walks::walk::{following, preceding};
+use ir_types::ids::OpId;
+use ir_types::refusal::Refusal;
+use patterns::lowest::lowest;
+use patterns_listing::journal::touched;
+use rewriter::Bench;
+use rewriter::finish::finish;
+use rewriter::laws::led_benches_are_kept;
+use std::alloc::Global;
+
+/// Whether an operation is the outermost one of a module: it is there, and none comes before it.
+fn is_outermost(store: &Store, op: OpId) -> bool
+    requires { HasDistinctIds store.now.module_of.tree }
+    ensures { result ≡ eqb (head store.now.module_of.tree).id op }
+{
+    if !store.in_tree(op) {
+        return false;
+    }
+    match preceding(store, op) {
+        Some(_) => false,
+        None => true,
+    }
+}
+
+/// The outermost operation of a module. It mostly has the lowest id.
+fn outermost(store: &Store) -> OpId
+    requires distinct { HasDistinctIds store.now.module_of.tree }
+    requires below { All (λ y. y < store.now.module_of.next) (ids store.now.module_of.tree) }
+    ensures { result ≡ (head store.now.module_of.tree).id }
+{
+    let mut number = 0;
+    'numbers: while number < store.next_id() {
+        let op = OpId::new(number);
+        if is_outermost(store, op) {
+            return op;
+        }
+        number += 1;
+    }
+    OpId::new(number)
+}
+
+impl<L: Analysis> Rewriting for Bench<L> {
+    ghost use Rattle.std.specs.Prelude.{length};
+    ghost use Rattle.patterns.specs.Held.{module_at, module_held, open_marks};
+    ghost use Rattle.patterns.specs.Interned.{IsFull};
+    ghost use Rattle.patterns_orders.proofs.Law.{lowest_orderly};
+    ghost use Rattle.patterns_orders.proofs.Rootless.{rootless};
+    ghost use Rattle.greedy.specs.Benches.{Formed, Onward};
+    ghost use Rattle.greedy.specs.Lawful.{full_stays, onward_stays, onward_through};
+
+    ghost held = { λ b. module_held b.desk };
+
+    ghost marks = { λ b. open_marks b.desk };
+
+    ghost events = { λ b. length b.desk.journal };
+
+    ghost before = { λ b k. module_at k b.desk };
+
+    ghost formed = { Formed };
+
+    ghost distinct = { λ m f. f.distinct };
+
+    ghost rootless = { λ m f. rootless m f.distinct };
+
+    ghost orderly = { λ m x n f e. lowest_orderly m f.distinct f.below x n e };
+
+    ghost onward = { Onward L.meaning };
+
+    ghost stays = { λ b. onward_stays L.meaning b };
+
+    ghost through = { λ a b d f g. onward_through L.meaning a b d f g };
+
+    ghost full = { λ b. IsFull b.desk.ctx };
+
+    ghost stays_full = { λ a b o f. full_stays a.desk.ctx b.desk.ctx o.grows f };
+
+    fn is_formed(&self) {
+        Bench::is_formed(self);
+    }
+
+    fn root(&self) -> OpId {
+        Bench::is_formed(self);
+        outermost(&self.world().store)
+    }
+
+    fn in_tree(&self, op: OpId) -> bool {
+        self.world().store.in_tree(op)
+    }
+
+    fn precedes(&self, op: OpId, other: OpId) -> bool {
+        self.world().store.precedes(op, other)
+    }
+
+    fn following(&self, op: OpId) -> Option<OpId> {
+        Bench::is_formed(self);
+        following(&self.world().store, op)
+    }
+
+    fn preceding(&self, op: OpId) -> Option<OpId> {
+        Bench::is_formed(self);
+        preceding(&self.world().store, op)
+    }
+
+    fn journal_len(&self) -> usize {
+        Bench::journal_len(self)
+    }
+
+    fn lowest(&mut self, alloc: Global, op: OpId) -> Result<bool, Refusal> {
+        let rule = lowest(alloc, self, op);
+        Bench::is_formed(self);
+        match rule {
+            Ok(rule) => Ok(rule.is_some()),
+            Err(refusal) => Err(refusal),
+        }
+    }
+
+    fn touched(&self, alloc: Global, from: usize) -> Result<Vec<OpId>, Refusal> {
+        match touched(alloc, self, from) {
+            Ok(ops) => Ok(ops),
+            Err(refusal) => Err(refusal),
+        }
+    }
+
+    fn step(&mut self) -> Result<(), Refusal> {
+        let made = Bench::step(self);
+        Bench::is_formed(self);
+        match made {
+            Ok(()) => Ok(()),
+            Err(refusal) => Err(refusal),
+        }
+    }
+
+    fn commit(&mut self) {
+        finish(self, true);
+        Bench::is_formed(self);
+    }
+
+    fn rollback(&mut self) {
+        finish(self, false);
+        Bench::is_formed(self);
+    }
+}
+
+/// Canonicalizes the module of a bench: the first operation in pre-order at which a rule of 1 to 24 applies, with the
+/// lowest such rule, again and again, up to a limit of rewrites. It is whole or not made at all.
+///
+/// Refusals: `BadLimit` where the limit isn't one of 1 to 1,000,000; `Full` and `IdsExhausted` where a rewrite is refused
+/// for them; `Full` where the context is full; and `Memory`.
+pub fn canonicalize<L: Analysis>(
+    alloc: Global,
+    bench: &mut Bench<L>,
+    limit: u32,
+) -> Result<Outcome, Refusal>
+    ensures does { Does L.meaning (Change (canonicalizing limit)) (canonical_reply result) bench.old bench.new }
+    ensures refused { IfErr result (λ e. IsReason limit (module_held bench.old.desk) (IsFull bench.new.desk.ctx) e) }
+    ensures led { Led L.meaning bench.old bench.new }
+    ensures grows { Grows bench.old.desk.ctx bench.new.desk.ctx }
+{
+    led_benches_are_kept::<L>();
+    bench.is_formed();
+    run(alloc, bench, limit)
+}

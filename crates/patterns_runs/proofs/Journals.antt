@@ -1,0 +1,111 @@
+-- Journals, while edits are made one after another.
+use Rattle.std.proofs.Common.{◌≡◌, ◌≢◌, ◌∙◌, refl, sym, ap, ℕ, ◌≤◌, List, [], ◌∷◌, ◌++◌, length, true, false, Result, Ok, Err, arith, append_assoc, append-nil, length-append}
+use Rattle.std.specs.Prelude.{map, OnOk, OnErr}
+use Rattle.std.proofs.lemmas.List.{length-map, length-reverse}
+use Rattle.ir_types.specs.declared.refusal.Refusal.{Refusal}
+use Rattle.ir_types.specs.Things.{Things}
+use Rattle.ir_store.specs.Stored.{Stored}
+use Rattle.ir_event.specs.declared.event.Event.{Event}
+use Rattle.rewriter.specs.Machine.{OpenMark}
+use Rattle.rewriter.specs.Mark.{Mark}
+use Rattle.rewriter.specs.Held.{Held, module_at, open_mark, open_marks}
+use Rattle.rewriter.specs.Moves.{Recorded, all_noted}
+use Rattle.rewriter.specs.Rolling.{Dropped}
+
+-- ---- marks, as many as before
+
+as_many : (g h : Held) → open_marks g ≡ open_marks h → length g.marks ≡ length h.marks
+as_many g h e = sym (count g) ∙ ap (λ (l : List OpenMark). length l) e ∙ count h
+  where
+    count : (k : Held) → length (open_marks k) ≡ length k.marks
+    count k = length-reverse (map (open_mark k) k.marks) ∙ length-map k.marks (open_mark k)
+
+marked_alike : (ks js : List Mark) → length ks ≡ length js → ks ≢ [] → js ≢ []
+marked_alike [] js e some = absurd (some refl)
+marked_alike (k ∷ ks) [] e some = absurd cc
+marked_alike (k ∷ ks) (j ∷ js) e some = λ n. (let f : j ∷ js ≡ [] = n in cc)
+
+noted_alike : (ks js : List Mark) (xs es : List Event) → length ks ≡ length js → all_noted ks xs es ≡ all_noted js xs es
+noted_alike [] [] xs es e = refl
+noted_alike [] (j ∷ js) xs es e = absurd cc
+noted_alike (k ∷ ks) [] xs es e = absurd cc
+noted_alike (k ∷ ks) (j ∷ js) xs es e = refl
+
+push_some : (ks : List Mark) (k : Mark) → ks ++ k ∷ [] ≢ []
+push_some [] k = λ n. (let f : k ∷ [] ≡ [] = n in cc)
+push_some (j ∷ ks) k = λ n. (let f : j ∷ (ks ++ k ∷ []) ≡ [] = n in cc)
+
+-- ---- events at the end of a journal
+
+none_noted : (ks : List Mark) (xs : List Event) → xs ≡ all_noted ks xs []
+none_noted [] xs = refl
+none_noted (k ∷ ks) xs = sym (append-nil xs)
+
+some_noted : (ks : List Mark) (xs es : List Event) → ks ≢ [] → all_noted ks xs es ≡ xs ++ es
+some_noted [] xs es some = absurd (some refl)
+some_noted (k ∷ ks) xs es some = refl
+
+more_noted : (ks : List Mark) (xs es fs : List Event) → all_noted ks (all_noted ks xs es) fs ≡ all_noted ks xs (es ++ fs)
+more_noted [] xs es fs = refl
+more_noted (k ∷ ks) xs es fs = append_assoc xs es fs
+
+longer_noted : (ks : List Mark) (xs es : List Event) → length xs ≤ length (all_noted ks xs es)
+longer_noted [] xs es = omega arith
+longer_noted (k ∷ ks) xs es = (let l = length-append xs es in omega (arith, l))
+
+-- ---- desks
+
+pub recorded_none : (h : Held) → Recorded [] h h
+recorded_none h = record { journal = none_noted h.marks h.journal; behind = λ some k le. refl }
+
+pub recorded_on : (es fs : List Event) (a b c : Held) → open_marks b ≡ open_marks a → Recorded es a b → Recorded fs b c → Recorded (es ++ fs) a c
+recorded_on es fs a b c opens h k =
+    let many = as_many b a opens in
+    let longer = longer_noted a.marks a.journal es in
+    let length_is = ap (λ (xs : List Event). length xs) h.journal in
+    record {
+      journal = k.journal ∙ noted_alike b.marks a.marks b.journal fs many ∙ ap (λ xs. all_noted a.marks xs fs) h.journal ∙ more_noted a.marks a.journal es fs;
+      behind = λ some n le. k.behind (marked_alike a.marks b.marks (sym many) some) n (omega (arith, le, longer, length_is)) ∙ h.behind some n le;
+    }
+
+-- what is left of a journal where the newest mark is dropped, and as many marks are left as there were before
+left_noted : (c : Held) (ctx : Things) (store : Stored) (left : List Event) (ks js : List Mark) (xs es : List Event)
+    → Dropped true c (record { ctx = ctx; store = store; journal = left; marks = ks }) → c.journal ≡ xs ++ es → length ks ≡ length js → (js ≡ [] → xs ≡ []) → left ≡ all_noted js xs es
+left_noted c ctx store left [] [] xs es x was e none = x.journal ∙ sym (none refl)
+left_noted c ctx store left [] (j ∷ js) xs es x was e none = absurd cc
+left_noted c ctx store left (k ∷ ks) [] xs es x was e none = absurd cc
+left_noted c ctx store left (k ∷ ks) (j ∷ js) xs es x was e none = x.journal ∙ was
+
+-- a module held, and a mark of it more
+abbrev pub marked_more : Held → Held
+marked_more h = record h { marks = h.marks ++ record { length = length h.journal; counted = false } ∷ [] }
+
+-- a mark that was made, events under it, and its drop, where they stay
+module _ (a b c d : Held) (begun : b ≡ marked_more a) (es : List Event) (h : Recorded es b c) (x : Dropped true c d) (opens : open_marks d ≡ open_marks a) (none : a.marks ≡ [] → a.journal ≡ []) where
+  under_mark : b.marks ≢ []
+  under_mark e = push_some a.marks (record { length = length a.journal; counted = false }) (sym (ap (λ (k : Held). k.marks) begun) ∙ e)
+
+  many : length d.marks ≡ length a.marks
+  many = as_many d a opens
+
+  journal_was : c.journal ≡ a.journal ++ es
+  journal_was = h.journal ∙ some_noted b.marks b.journal es under_mark ∙ ap (λ (k : Held). k.journal ++ es) begun
+
+  journal_is : d.journal ≡ all_noted a.marks a.journal es
+  journal_is = left_noted c d.ctx d.store d.journal d.marks a.marks a.journal es x journal_was many none
+
+  pub recorded_whole : Recorded es a d
+  recorded_whole =
+      let longer = longer_noted a.marks a.journal es in
+      let length_is = ap (λ (xs : List Event). length xs) journal_is in
+      let length_was = ap (λ (m : Held). length m.journal) begun in
+      record {
+        journal = journal_is;
+        behind = λ some k le.
+            x.behind (marked_alike a.marks d.marks (sym many) some) k (omega (arith, le, longer, length_is)) ∙ h.behind under_mark k (omega (arith, le, length_was)) ∙ ap (module_at k) begun;
+      }
+
+-- a call that is refused only where no mark is open
+pub surely : {A P : Type 0} (r : Result A Refusal) (ks : List Mark) → ks ≢ [] → OnErr r (ks ≡ []) → OnOk r P → P
+surely (Ok a) ks some none is = is
+surely (Err e) ks some none is = absurd (some none)
