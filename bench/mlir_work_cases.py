@@ -101,6 +101,25 @@ def insert_says(rest):
     return f"insert {spot} {told(text or other)}" if spot else "bad"
 
 
+NAMES, NUMBERS, NUMBER = rb"[^ \t,]+(?:,[^ \t,]+)*", rb"[0-9]+(?:,[0-9]+)*", rb"[0-9]+"
+CLAUSES = {b"legal": NAMES, b"illegal": NAMES, b"dynamic": NAMES, b"rules": NUMBERS, b"depth": NUMBER}
+
+
+def convert_says(words):
+    """The words behind `convert`: a mode, and then each clause that there is, at most once, with one word behind it."""
+    clauses = list(zip(words[1::2], words[2::2]))
+    if words[0] not in (b"partial", b"full") or len(words) % 2 == 0 or len(dict(clauses)) < len(clauses):
+        return "bad"
+    for name, word in clauses:
+        if name not in CLAUSES or not re.fullmatch(CLAUSES[name], word):
+            return "bad"
+        if CLAUSES[name] != NAMES and max(map(int, word.split(b","))) > 4294967295:
+            return "bad"
+    found = dict(clauses)
+    lists = [f" {name.decode()} {told(found[name])}" for name in CLAUSES if name in found and name != b"depth"]
+    return f"convert {words[0].decode()}{''.join(lists)} depth {int(found[b'depth']) if b'depth' in found else 'none'}"
+
+
 def line_says(line):
     try:
         line.decode()
@@ -112,6 +131,12 @@ def line_says(line):
     words = re.split(rb"[ \t]+", text)
     if words in ([b"print"], [b"begin"], [b"commit"], [b"rollback"], [b"sweep"]):
         return words[0].decode()
+    if words == [b"canon"]:
+        return "canon"
+    if len(words) == 3 and words[:2] == [b"canon", b"limit"] and number_of(words[2]) is not None:
+        return f"canon {number_of(words[2])}"
+    if len(words) >= 2 and words[0] == b"convert":
+        return convert_says(words[1:])
     if len(words) == 2 and words[0] == b"erase" and op_of(words[1]):
         return f"erase {op_of(words[1])[0]}"
     if len(words) == 3 and words[0] == b"replace" and value_of(words[1]) and value_of(words[2]):
@@ -161,13 +186,31 @@ ENTRIES = {"set-attr #3 k 1 : i32": "set-attr 3 [k][1 : i32]", "set-attr\t#03\t 
            'set-attr #3 "a b" 1': "set-attr 3 [a b][1]", 'drop-attr #3 ""': "drop-attr 3 []", 'drop-attr #3 "\\n\\t\\\\\\"\\4aZ"': 'drop-attr 3 [\\n\\t\\"JZ]',
            'set-attr #0 "" unit': "set-attr 0 [][unit]", "set-attr #3 _ // x": "set-attr 3 [_][// x]", "set-attr #3 k =": "set-attr 3 [k][=]",
            'set-attr #3 "k"\t"v"': 'set-attr 3 [k]["v"]', "set-attr #3 k a\rb": "set-attr 3 [k][a\\rb]"}
+CHANGES = {"canon": "canon", "\tcanon \r": "canon", "canon limit 1": "canon 1", "canon\tlimit  0010\r": "canon 10", "canon limit 0": "canon 0", "canon limit 1000001": "canon 1000001",
+           "canon limit 4294967295": "canon 4294967295", "convert partial": "convert partial depth none", " convert\tfull\r": "convert full depth none",
+           "convert partial illegal arith.maxsi,arith.select rules 25": "convert partial illegal [arith.maxsi,arith.select] rules [25] depth none",
+           "convert full legal builtin.module,func.func,func.return illegal arith.maxsi rules 25": "convert full legal [builtin.module,func.func,func.return] illegal [arith.maxsi] rules [25] depth none",
+           "convert partial dynamic arith.constant,scf.for rules 28,29": "convert partial dynamic [arith.constant,scf.for] rules [28,29] depth none",
+           "convert partial illegal arith.remsi,arith.subi rules 27,26 depth 1": "convert partial illegal [arith.remsi,arith.subi] rules [27,26] depth 1",
+           "convert full depth 016\t rules 2,0030,2  dynamic c illegal b legal a": "convert full legal [a] illegal [b] dynamic [c] rules [2,0030,2] depth 16",
+           "convert partial legal legal illegal depth": "convert partial legal [legal] illegal [depth] depth none", "convert full legal a.b,a.b": "convert full legal [a.b,a.b] depth none",
+           "convert partial rules 1": "convert partial rules [1] depth none", "convert partial depth 17": "convert partial depth 17", "convert partial depth 0": "convert partial depth 0",
+           "convert partial rules 4294967295,0 depth 4294967295": "convert partial rules [4294967295,0] depth 4294967295", "convert full legal \"a\",#1,//": 'convert full legal ["a",#1,//] depth none',
+           "convert full legal a\rb,\xe9": "convert full legal [a\\rb,\\xc3\\xa9] depth none"}
 BAD = """move|move #3|move #3 before|move 3 before #2|move #3 before 2|move #3 before #2 x|move #3 start #1|move #3 start #1 0 0|move #3 end #1 x|move #3 under #1
 move #3 Before #2|move #3 before# 2|move #3 start#1 0|move #4294967296 before #2|move #3 before #4294967296|move #3 end #1 4294967296|moves #3 before #2
 set-attr|set-attr #3|set-attr #3 k|set-attr #3 k \t|set-attr 3 k 1|set-attr #3 9k 1|set-attr #3 k-a 1|set-attr #3 "k 1|set-attr #3 "k"1|set-attr #3 "k"" 1
 set-attr #3 "\\q" 1|set-attr #3 "\\4" 1|set-attr #3 "k"\r 1|set-attr #3 \r"k" 1|set-attr #3 k\r 1|set-attr #3 \xe9 1|set-attr # k 1|set_attr #3 k 1
 set-attr #3 "a\rb" 1|set-attr #3 "a\x0bb" 1|set-attr #3 @k 1|set-attr #3 = 1|set-attr #3 // 1
 drop-attr|drop-attr #3|drop-attr #3 k x|drop-attr #3 "k" x|drop-attr #3 "k|drop-attr 3 k|drop-attr #3 9|drop-attr #3 k k|drop-attr #3 //
-detach|detach uses uses|detach Uses|detach kind1|detachuses|resync|resync uses x|resync use|resync kind256|canon
+detach|detach uses uses|detach Uses|detach kind1|detachuses|resync|resync uses x|resync use|resync kind256
+canon x|canon 1|canon limit|canon limit x|canon limit -1|canon limit +1|canon limit 1 x|canon limit 1 limit 1|canon limit limit|canon limits 1|canon Limit 1|canon limit 4294967296|canon limit 1,2|canon limit #1|canon //
+canonlimit 1|canonicalize|Canon|cano|canon\xa0|convert|convert x|convert Partial|convert partial x|convert partial,full|convert partial full|convert legal a|convert legal a partial|convert partially|converts partial|Convert full
+convert partial legal|convert partial legal ,|convert partial legal a,|convert partial legal ,a|convert partial legal a,,b|convert partial legal a, b|convert partial legal a b|convert partial legal a legal b
+convert partial legal a legal a|convert partial legal a illegal|convert partial illegal|convert partial illegal b,,|convert partial illegal a illegal b|convert partial dynamic|convert partial dynamic ,,|convert partial dynamic a dynamic b
+convert partial rules|convert partial rules x|convert partial rules ,|convert partial rules 1,|convert partial rules ,1|convert partial rules 1,,2|convert partial rules 1 2|convert partial rules 1,x|convert partial rules -1|convert partial rules +1
+convert partial rules 4294967296|convert partial rules 1,4294967296|convert partial rules 2 rules 2|convert partial rules #2|convert partial depth|convert partial depth x|convert partial depth 1,2|convert partial depth 1 depth 1
+convert partial depth 4294967296|convert partial depth -1|convert partial depth 1 x|convert partial Legal a|convert partial legals a|convert partial rule 2|convert partial limit 1|convert partial depth 1 legal
 erase|erase 1|erase #|erase #1 x|erase #1 #2|erase #4294967296|Erase #1|erase#1|replace|replace %v1.0|replace %v1.0 %v1|replace %v1.0 %v2.0 x|replace 1.0 %v2.0|replace %v1.0 #2
 replace %v4294967296.0 %v1.0|insert|insert end|insert end #0|insert end #0 0|insert end #0 0 \t|insert end #0 x y|insert end 0 0 x|insert before #1|insert before #1 \t|insert before 1 x|insert under #1 x
 insert end #0 4294967296 x|insert "test.a"() : () -> ()|begin x|begin //|Begin|commit 1|commits|rollback #1|rollback  x|roll back|undo
@@ -194,7 +237,7 @@ def lines():
         line(text, "set " + want)
     for text, want in MOVES.items():
         line(text, "move " + want)
-    for table in (KINDS_ALONE, ALONE, INSERTS, ENTRIES):
+    for table in (KINDS_ALONE, ALONE, INSERTS, ENTRIES, CHANGES):
         for text, want in table.items():
             line(text, want)
     for text in BAD:
@@ -206,7 +249,7 @@ def lines():
         line(f"report kind{number}")
     # Near misses: a byte that is left out, put in, or another.
     for text in ("report uses", "report kind10", "print", "// x", "set-operand #3 10 %v2.0", "set-operand #3 0 %a1.0.2", "move #3 after #2", "move #3 end #1 0", "set-attr #3 k.a 1",
-                 "set-attr #3 \"a\\n\" 1", "drop-attr #3 k", "detach uses", "resync kind10"):
+                 "set-attr #3 \"a\\n\" 1", "drop-attr #3 k", "detach uses", "resync kind10", "canon limit 10", "convert full depth 2 legal a,b rules 2,25"):
         text = text.encode()
         for place in range(len(text) + 1):
             line(text[:place] + text[place + 1:])
@@ -394,6 +437,11 @@ def runs():
     run("brief", over + returns, 0, b"1 ok\n" + USES + b"2 ok\n3 ok\n" + EDITED_USES)
     bad = b"print \xff\nreport \xc3\x28uses\nreport uses\n"
     run("brief", over + bad, 1, b"1 refused 60 BadCommand\n2 refused 60 BadCommand\n3 ok\n" + USES)
+    # These are read, and there is no transformation for them.
+    later = b"canon\ncanon limit 0\nconvert partial\nconvert full legal builtin.module rules 1 depth 17\nprint\n"
+    refusals = b"".join(b"%d refused 60 BadCommand\n" % n for n in range(1, 5))
+    run("brief", over + later, 1, refusals + b"5 ok\n" + PRINTED)
+    run("limited 2", over + later, 1, refusals + b"5 ok\n" + PRINTED)
     # The module and the listing follow each command but `report` and `print`, also a refused one.
     listed, edited = PRINTED + b"-- uses\n" + USES + b"-- diagnostics\n", EDITED + b"-- uses\n" + EDITED_USES + b"-- diagnostics\n"
     commands = b"jump\nreport uses\nset-operand #3 0 %v2.0\nset-operand #0 0 %v2.0\nprint\n"
@@ -559,7 +607,19 @@ def command_lines():
     """What the words of a command line ask for, or what is printed of them, and whether that is a fault."""
     help_text = pathlib.Path("bench/help.txt").read_bytes()
     usage, more = b"\n\nUsage: mlir_work [OPTIONS]\n", b"\nFor more information, try '--help'.\n"
-    case("words --brief", "brief true")
+    case("words --brief", "brief true limit 1000")
+    for words, limit in (("--limit 5", 5), ("--limit=5", 5), ("--limit 0010", 10), ("--limit 1", 1), ("--limit 1000000", 1000000), ("--limit +5", 5)):
+        case("words " + words, f"brief false limit {limit}")
+        case("words " + words + " --brief", f"brief true limit {limit}")
+    for word, why in (("0", "0 is not in 1..=1000000"), ("1000001", "1000001 is not in 1..=1000000"), ("4294967297", "4294967297 is not in 1..=1000000"), ("-1", "-1 is not in 1..=1000000"),
+                      ("x", "invalid digit found in string"), ("1.5", "invalid digit found in string"), ("1_0", "invalid digit found in string"), ("", "cannot parse integer from empty string"),
+                      ("99999999999999999999", "number too large to fit in target type")):
+        case("words --limit=" + word, "error " + told(f"error: invalid value '{word}' for '--limit <N>': {why}\n".encode() + more))
+    for words in ("--limit", "--limit --brief", "--brief --limit"):
+        case("words " + words, "error " + told(b"error: a value is required for '--limit <N>' but none was supplied\n" + more))
+    case("words --limit 5 --limit 5", "error " + told(b"error: the argument '--limit <N>' cannot be used multiple times" + usage + more))
+    for words, word in (("--limit 5 6", "6"), ("--limit -1", "-1"), ("-l 5", "-l")):
+        case("words " + words, "error " + told(b"error: unexpected argument '%s' found" % word.encode() + usage + more))
     for words in ("--help", "-h", "--brief --help"):
         case("words " + words, "output " + told(help_text))
     for words in ("--nonsense", "x", "-b", "--version", "-V"):

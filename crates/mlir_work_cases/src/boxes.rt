@@ -15,8 +15,8 @@ use mlir_work_run::run::{Options, run};
 use std::alloc::{AllocError, Global};
 use std::io::{Read, Write};
 
-/// What a run of the program is told, but for the module.
-fn options(brief: bool) -> Options {
+/// What the command line of a run says, but for a limit.
+pub fn options(brief: bool) -> Options {
     Options { brief, limit: 1000 }
 }
 
@@ -40,7 +40,7 @@ fn wanted(alloc: Global, text: &str) -> Result<Plan, AllocError> {
 pub fn status_of<R: Read, W: Write>(
     alloc: Global,
     names: &str,
-    brief: bool,
+    options: Options,
     reader: &mut R,
     writer: &mut W,
 ) -> Result<u8, AllocError> {
@@ -68,7 +68,7 @@ pub fn status_of<R: Read, W: Write>(
             _ => boxes.push(Box::new(alloc, AtMost::new(Uses::new(alloc), most))?)?,
         }
     }
-    Ok(run(alloc, options(brief), reader, writer, boxes))
+    Ok(run(alloc, options, reader, writer, boxes))
 }
 
 /// So many listeners of uses.

@@ -1,7 +1,8 @@
 //! What lines of a script and words say, and how texts are cut.
 use ir_tree::value::Value;
 use ir_types::ids::OpId;
-use mlir_work_cases_base::texts::{both_shown, bytes, number, shown};
+use mlir_work_cases_base::texts::{both_shown, bytes, number, put_all_shown, shown};
+use mlir_work_run::clauses::Clauses;
 use mlir_work_run::command::{Command, Line, read_line};
 use mlir_work_run::input::{script_is_too_long, split};
 use mlir_work_run::keys::{Key, bytes_of};
@@ -80,6 +81,43 @@ fn told_drop_attr(alloc: Global, op: OpId, key: &Key<'_>) -> Result<String, Allo
     format!(in alloc; "drop-attr {} {key}", op.number())
 }
 
+/// A line that canonicalizes.
+fn told_canon(alloc: Global, limit: Option<u32>) -> Result<String, AllocError> {
+    match limit {
+        Some(limit) => format!(in alloc; "canon {limit}"),
+        None => String::from_str(alloc, "canon"),
+    }
+}
+
+/// Puts a list of a conversion, if it has it.
+fn put_list(out: &mut String, name: &str, list: Option<&[u8]>) -> Result<(), AllocError> {
+    match list {
+        Some(list) => {
+            out.push_str(name)?;
+            put_all_shown(out, list)
+        }
+        None => Ok(()),
+    }
+}
+
+/// The lists of a conversion.
+fn told_lists(alloc: Global, clauses: &Clauses<'_>) -> Result<String, AllocError> {
+    let mut out = String::new(alloc);
+    put_list(&mut out, " legal ", clauses.legal)?;
+    put_list(&mut out, " illegal ", clauses.illegal)?;
+    put_list(&mut out, " dynamic ", clauses.dynamic)?;
+    put_list(&mut out, " rules ", clauses.rules)?;
+    Ok(out)
+}
+
+/// A line that converts.
+fn told_convert(alloc: Global, full: bool, clauses: &Clauses<'_>) -> Result<String, AllocError> {
+    let mode = if full { "full" } else { "partial" };
+    let lists = told_lists(alloc, clauses)?;
+    let depth = told_number(alloc, clauses.depth)?;
+    format!(in alloc; "convert {mode}{lists} depth {depth}")
+}
+
 /// A command that edits.
 fn told_edit(alloc: Global, command: &Command<'_>) -> Result<String, AllocError> {
     match command {
@@ -101,6 +139,8 @@ fn told_command(alloc: Global, command: &Command<'_>) -> Result<String, AllocErr
         Command::Print => String::from_str(alloc, "print"),
         Command::Detach(kind) => format!(in alloc; "detach {}", kind.number()),
         Command::Resync(kind) => format!(in alloc; "resync {}", kind.number()),
+        Command::Canon(limit) => told_canon(alloc, *limit),
+        Command::Convert { full, clauses } => told_convert(alloc, *full, clauses),
         Command::Sweep => String::from_str(alloc, "sweep"),
         Command::Begin => String::from_str(alloc, "begin"),
         Command::Commit => String::from_str(alloc, "commit"),

@@ -32,7 +32,7 @@ fn told(alloc: Global, error: &Error) -> Result<String, AllocError> {
 pub fn answer(alloc: Global, text: &str) -> Result<String, AllocError> {
     let words = words(alloc, text)?;
     match options_of(alloc, &words) {
-        Ok(options) => format!(in alloc; "brief {}", options.brief),
+        Ok(options) => { format!(in alloc; "brief {} limit {}", options.brief, options.limit) }
         Err(error) => told(alloc, &error),
     }
 }

@@ -1,8 +1,9 @@
 //! Whole runs, from bytes to bytes.
-use crate::boxes::{status_of, status_of_bare};
+use crate::boxes::{options, status_of, status_of_bare};
 use crate::readers::Slow;
 use crate::writers::Narrow;
-use mlir_work_cases_base::texts::{bytes, first, number, put_all_shown};
+use mlir_work_cases_base::texts::{bytes, first, number, put_all_shown, small};
+use mlir_work_run::run::Options;
 use std::alloc::{AllocError, Global};
 use std::fmt::Write;
 use std::io::Read;
@@ -19,11 +20,11 @@ pub fn told(alloc: Global, status: u8, written: &[u8]) -> Result<String, AllocEr
 fn over<R: Read>(
     alloc: Global,
     names: &str,
-    brief: bool,
+    options: Options,
     reader: &mut R,
 ) -> Result<String, AllocError> {
     let mut out: Vec<u8> = Vec::new(alloc);
-    let status = status_of(alloc, names, brief, reader, &mut out)?;
+    let status = status_of(alloc, names, options, reader, &mut out)?;
     told(alloc, status, &out)
 }
 
@@ -35,14 +36,23 @@ fn into(
     writer: &mut Narrow,
 ) -> Result<String, AllocError> {
     let mut reader = input;
-    let status = status_of(alloc, names, true, &mut reader, writer)?;
+    let status = status_of(alloc, names, options(true), &mut reader, writer)?;
     told(alloc, status, writer.taken())
 }
 
 fn run_whole(alloc: Global, names: &str, brief: bool, text: &str) -> Result<String, AllocError> {
     let input = bytes(alloc, text)?;
     let mut reader = input.as_slice();
-    over(alloc, names, brief, &mut reader)
+    over(alloc, names, options(brief), &mut reader)
+}
+
+/// `2 print`: the limit is 2.
+fn run_limited(alloc: Global, names: &str, text: &str) -> Result<String, AllocError> {
+    let (word, text) = first(text);
+    let input = bytes(alloc, text)?;
+    let mut reader = input.as_slice();
+    let limit = small(word);
+    over(alloc, names, Options { brief: true, limit }, &mut reader)
 }
 
 /// So many copies of a text, and another behind them.
@@ -63,7 +73,7 @@ fn run_copies(alloc: Global, names: &str, text: &str) -> Result<String, AllocErr
     let more = bytes(alloc, more)?;
     let input = copies(alloc, number(count), &text, &more)?;
     let mut reader = input.as_slice();
-    over(alloc, names, true, &mut reader)
+    over(alloc, names, options(true), &mut reader)
 }
 
 /// `other 3 print`: the third read fails.
@@ -72,7 +82,7 @@ fn run_slowly(alloc: Global, names: &str, text: &str) -> Result<String, AllocErr
     let (at, text) = first(rest);
     let input = bytes(alloc, text)?;
     let mut reader = Slow::new(&input, word, at);
-    over(alloc, names, true, &mut reader)
+    over(alloc, names, options(true), &mut reader)
 }
 
 /// `fails 3 print`: the third write fails.
@@ -100,6 +110,7 @@ pub fn answer(alloc: Global, text: &str) -> Result<String, AllocError> {
     let (how, rest) = first(rest);
     match how {
         "brief" => run_whole(alloc, names, true, rest),
+        "limited" => run_limited(alloc, names, rest),
         "copies" => run_copies(alloc, names, rest),
         "slow" => run_slowly(alloc, names, rest),
         "narrow" => run_narrowly(alloc, names, rest),
