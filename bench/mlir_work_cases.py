@@ -438,10 +438,8 @@ def runs():
     bad = b"print \xff\nreport \xc3\x28uses\nreport uses\n"
     run("brief", over + bad, 1, b"1 refused 60 BadCommand\n2 refused 60 BadCommand\n3 ok\n" + USES)
     # These are read, and there is no transformation for them.
-    later = b"canon\ncanon limit 0\nconvert partial\nconvert full legal builtin.module rules 1 depth 17\nprint\n"
-    refusals = b"".join(b"%d refused 60 BadCommand\n" % n for n in range(1, 5))
-    run("brief", over + later, 1, refusals + b"5 ok\n" + PRINTED)
-    run("limited 2", over + later, 1, refusals + b"5 ok\n" + PRINTED)
+    later = b"convert partial\nconvert full legal builtin.module rules 1 depth 17\nprint\n"
+    run("brief", over + later, 1, b"1 refused 60 BadCommand\n2 refused 60 BadCommand\n3 ok\n" + PRINTED)
     # The module and the listing follow each command but `report` and `print`, also a refused one.
     listed, edited = PRINTED + b"-- uses\n" + USES + b"-- diagnostics\n", EDITED + b"-- uses\n" + EDITED_USES + b"-- diagnostics\n"
     commands = b"jump\nreport uses\nset-operand #3 0 %v2.0\nset-operand #0 0 %v2.0\nprint\n"
@@ -657,11 +655,12 @@ def refused():
 
 
 def worked():
-    """Each row of bench/worked_rows.txt that holds where no later command but `sweep` is there, with all listeners."""
-    for row in worked_rows.holding(("sweep",)):
-        status, out = script.run(row.input, row.options == "--brief", script.BOXES, script.ALL)
+    """Each row of bench/worked_rows.txt that holds where no later command but `sweep` and `canon` is there, with all listeners."""
+    for row in worked_rows.holding(("sweep", "canon")):
+        limit = re.search("--limit ([0-9]+)", row.options)
+        status, out = script.run(row.input, "--brief" in row.options, script.BOXES, script.ALL, int(limit[1]) if limit else script.LIMIT)
         assert (status, worked_rows.is_output(row, out)) == (row.status, True), row.input
-        run("brief" if row.options == "--brief" else "full", row.input, status, out, script.BOXES)
+        run(f"limited {limit[1]}" if limit else "brief" if row.options == "--brief" else "full", row.input, status, out, script.BOXES)
     # The first text, cut behind each byte: a module, or none.
     for count in range(len(TEXT)):
         status, out = script.run(TEXT[:count], True, script.BOXES, script.ALL)

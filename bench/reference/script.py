@@ -13,8 +13,8 @@ BOXES = tuple(KINDS.values())
 MOST_MARKS = 16
 FIRST = {"report", "print", "set-operand", "move", "set-attr", "drop-attr", "resync", "detach"}
 EDITS = FIRST | {"erase", "insert", "replace"}
-ALL = EDITS | {"begin", "commit", "rollback", "sweep"}
-REWRITES = ALL | {"canon", "convert"}
+ALL = EDITS | {"begin", "commit", "rollback", "sweep", "canon"}
+REWRITES = ALL | {"convert"}
 MOST_LIMIT, LIMIT = 1000000, 1000
 
 

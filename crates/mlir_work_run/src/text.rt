@@ -40,6 +40,11 @@ To edit:
   drop-attr #N KEY           the entry KEY of operation #N is taken out
   sweep                      the private symbols that nothing reaches are taken
                              away, with what is inside them, or none of them
+  canon                      the first operation to which one of the rules 1 to
+                             24 applies (docs/CANONICALIZE.md) is rewritten by
+                             the lowest such rule, again and again, until none
+                             applies, or `--limit` times
+  canon limit N              the same, N times at most
 
 Marks, of which 16 may be open:
   begin                      a mark is made of the module
@@ -65,9 +70,11 @@ Operations are numbered in the order of the text, and the module around them is
 
 Each command is replied to by a line that begins with its number: `1 ok`, and
 behind an insert the number of the new operation, as `1 ok #4`; a sweep by how
-many symbols it took, as `1 swept 2`. What is refused, as `1 refused 23
-NotVisible`, changes nothing, and the next command is tried; `1 refused 2
-Unexpected at 4` says at which byte the ATTRIBUTE or the OPERATION is wrong.
+many symbols it took, as `1 swept 2`; a `canon` by how many rewrites it made, as
+`1 converged 3`, or `1 limit 3` where a rule still applies. What is refused, as
+`1 refused 23 NotVisible`, changes nothing, and the next command is tried;
+`1 refused 2 Unexpected at 4` says at which byte the ATTRIBUTE or the OPERATION
+is wrong.
 
 Kinds:
   uses         the uses of each value: the value, the operation that uses it,

@@ -21,9 +21,10 @@ use Rattle.rewriter.specs.Machine.{State, OpenMark, Call, Do, Reply, Done, Refus
 use Rattle.rewriter.specs.Panels.{Shown, is_kind, has_kind, shown}
 use Rattle.rewriter.specs.Spots.{Spot, spot_place}
 use Rattle.mlir_work_session.specs.Texts.{NotRead}
+use Rattle.greedy.specs.Changes.{canonicalizing}
 use Rattle.mlir_work_sweep.specs.Sweep.{sweeping}
 use Rattle.mlir_work_session.specs.declared.manner.Manner.{Manner}
-use Rattle.mlir_work_session.specs.Machine.{AsksIn, Obeys, canonicalizing, converting, limit_or, shows_text, unmade}
+use Rattle.mlir_work_session.specs.Machine.{AsksIn, Obeys, converting, limit_or, shows_text, unmade}
 use Rattle.mlir_work_session.specs.RowText.{rows_text}
 use Rattle.mlir_work_session.proofs.Panels.{all_stay, find_shown}
 

@@ -9,6 +9,7 @@ use Rattle.rewriter.specs.Commands.{Command, Target, Asked, Asks, Response, Repl
 use Rattle.rewriter.specs.Machine.{Transformation, Done, DoneAs, DoneWith, Refused, RefusedOn, Shows, Nothing, Rows, Tree}
 pub use Rattle.rewriter.specs.Machine.{State}
 use Rattle.mlir_work_script.specs.Outcomes.{outcome_of}
+use Rattle.greedy.specs.Changes.{canonicalizing}
 use Rattle.mlir_work_sweep.specs.Sweep.{sweeping}
 use Rattle.mlir_work_session.specs.RowText.{rows_text}
 use Rattle.mlir_work_session.specs.declared.manner.Manner.{Manner}
@@ -29,12 +30,9 @@ response_of (code.Refused refusal) = Replied (Refused refusal)
 response_of (code.RefusedOn refusal x) = Replied (RefusedOn refusal x)
 response_of (code.RefusedAt refusal offset) = TextRefusedAt refusal offset
 
--- the transformations of `canon` and `convert`, which no session makes: such a command is refused as none
+-- the transformation of `convert`, which no session makes: such a command is refused as none
 abbrev pub unmade : Transformation
 unmade = record { transformed = λ m. Err (record { refusal = BadCommand; op = None }); interns = false }
-
-abbrev pub canonicalizing : ℕ → Transformation
-canonicalizing limit = unmade
 
 abbrev pub converting : Target → Transformation
 converting target = unmade

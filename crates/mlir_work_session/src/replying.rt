@@ -2,10 +2,12 @@
 ghost use Rattle.std.specs.Prelude.{◌≡◌};
 ghost use Rattle.rewriter.specs.Commands.{Replied};
 ghost use Rattle.rewriter.specs.Benched.{id_reply_of, reply_of};
+ghost use Rattle.greedy.specs.Changes.{canonical_reply};
 ghost use Rattle.mlir_work_sweep.specs.Sweep.{sweep_reply};
 ghost use Rattle.mlir_work_session.specs.Machine.{response_of};
 
 use crate::reply::Reply;
+use greedy::outcome::Outcome as Ended;
 use ir_types::ids::OpId;
 use ir_types::refusal::Refusal;
 use mlir_work_script::outcome::Outcome;
@@ -16,6 +18,17 @@ pub(crate) fn reply_to(called: Result<(), Refusal>) -> Reply
 {
     match called {
         Ok(()) => Reply::Done,
+        Err(refusal) => Reply::Refused(refusal),
+    }
+}
+
+/// The reply to a canonicalization.
+pub(crate) fn reply_canonical(called: Result<Ended, Refusal>) -> Reply
+    ensures { response_of result ≡ Replied (canonical_reply called) }
+{
+    match called {
+        Ok(Ended::Converged(count)) => Reply::DoneWith(Outcome::Converged(count as usize)),
+        Ok(Ended::Limit(count)) => Reply::DoneWith(Outcome::Limited(count as usize)),
         Err(refusal) => Reply::Refused(refusal),
     }
 }

@@ -1,12 +1,14 @@
 //! Commands that transform the module of a bench.
-ghost use Rattle.std.specs.Prelude.{◌≡◌, ℕ, [], Option};
+ghost use Rattle.std.specs.Prelude.{◌≡◌, []};
 ghost use Rattle.rewriter.specs.Commands.{Canon, Convert, Sweep, Target};
 ghost use Rattle.rewriter.specs.Benched.{IsKept, state_of};
-ghost use Rattle.mlir_work_session.specs.Machine.{Obeys, response_of};
-ghost use Rattle.mlir_work_session.specs.Output.{Manner};
+ghost use Rattle.mlir_work_session.specs.Machine.{Obeys, limit_or, response_of};
+ghost use Rattle.mlir_work_session.specs.Output.{Manner as Way};
 
+use crate::manner::Manner;
 use crate::reply::Reply;
-use crate::replying::reply_swept;
+use crate::replying::{reply_canonical, reply_swept};
+use greedy::bench::canonicalize;
 use ir_event::analysis::Analysis;
 use ir_types::refusal::Refusal;
 use mlir_work_sweep::sweep;
@@ -14,10 +16,35 @@ use rewriter::Bench;
 use rewriter::laws::led_benches_are_kept;
 use std::alloc::Global;
 
+/// The limit of a canonicalization, where its command may say one.
+fn limit_of(manner: &Manner, limit: Option<u32>) -> u32
+    ensures { result ≡ limit_or manner.now.limit limit }
+{
+    match limit {
+        Some(limit) => limit,
+        None => manner.limit,
+    }
+}
+
+/// Rewrites by the rules 1 to 24 until none applies any more, or so many times.
+pub(crate) fn canon<L: Analysis>(
+    alloc: Global,
+    manner: &Manner,
+    bench: &mut Bench<L>,
+    limit: Option<u32>,
+) -> Reply
+    requires { IsKept L.meaning bench.old }
+    ensures obeys { Obeys manner.now (state_of L.meaning bench.old) (Canon limit) (response_of result) [] (state_of L.meaning bench.new) }
+    ensures kept { IsKept L.meaning bench.new }
+{
+    led_benches_are_kept::<L>();
+    reply_canonical(canonicalize(alloc, bench, limit_of(manner, limit)))
+}
+
 /// Takes the private symbols away that nothing reaches.
 pub(crate) fn sweep<L: Analysis>(alloc: Global, bench: &mut Bench<L>) -> Reply
     requires { IsKept L.meaning bench.old }
-    ensures obeys { (manner : Manner) → Obeys manner (state_of L.meaning bench.old) Sweep (response_of result) [] (state_of L.meaning bench.new) }
+    ensures obeys { (way : Way) → Obeys way (state_of L.meaning bench.old) Sweep (response_of result) [] (state_of L.meaning bench.new) }
     ensures kept { IsKept L.meaning bench.new }
 {
     led_benches_are_kept::<L>();
@@ -26,8 +53,7 @@ pub(crate) fn sweep<L: Analysis>(alloc: Global, bench: &mut Bench<L>) -> Reply
 
 /// The reply to a command for which there is no transformation: it is refused as none.
 pub(crate) fn unmade<L: Analysis>(_bench: &Bench<L>) -> Reply
-    ensures canon { (manner : Manner) (limit : Option ℕ) → Obeys manner (state_of L.meaning _bench.now) (Canon limit) (response_of result) [] (state_of L.meaning _bench.now) }
-    ensures convert { (manner : Manner) (target : Target) → Obeys manner (state_of L.meaning _bench.now) (Convert target) (response_of result) [] (state_of L.meaning _bench.now) }
+    ensures { (way : Way) (target : Target) → Obeys way (state_of L.meaning _bench.now) (Convert target) (response_of result) [] (state_of L.meaning _bench.now) }
 {
     Reply::Refused(Refusal::BadCommand)
 }

@@ -1,0 +1,13 @@
+use Rattle.std.proofs.Common.{ap}
+use Rattle.rewriter.specs.Commands as command
+use Rattle.rewriter.specs.Machine as call
+use Rattle.greedy.specs.Changes.{canonicalizing}
+use Rattle.mlir_work_session.proofs.Obeying.{obeys_plain}
+use Rattle.mlir_work_session.proofs.transforming.canon.Goals as goal
+
+pub returns-clause-obeys : goal.returns-clause-obeys
+returns-clause-obeys g c =
+    obeys_plain c.args.manner.now _ _ (command.Canon c.args.limit) (call.Change (canonicalizing c.limit_of.result)) _ _ c.reply_canonical.ensures (ap (λ n. command.Ask (call.Change (canonicalizing n))) c.limit_of.ensures) c.canonicalize.ensures.does
+
+pub returns-clause-kept : goal.returns-clause-kept
+returns-clause-kept g c = c.led_benches_are_kept.ensures.kept _ _ c.canonicalize.ensures.led c.requires
