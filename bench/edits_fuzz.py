@@ -1,11 +1,11 @@
 #!/usr/bin/env python3
-"""Runs random scripts of all edits, marks, commits and rollbacks in the program and by the rules (bench/reference), and compares
+"""Runs random scripts of all edits, canonicalizations, marks, commits and rollbacks in the program and by the rules (bench/reference), and compares
 the status and every byte that is written: replies, modules, and the rows of each listener after each command.
 
 usage: bench/edits_fuzz.py PROGRAM [COUNT [SEED [KINDS [rewrites]]]]
 
 COUNT is 2000 and SEED 19 where they aren't given; KINDS are the program's listeners in their order, with commas (all seven where
-they aren't given). With `rewrites` there are canonicalizations and conversions too. The seed is printed. A difference is printed
+they aren't given). With `rewrites` there are conversions too. The seed is printed. A difference is printed
 whole, and ends it with status 1."""
 import random
 import subprocess
@@ -33,9 +33,9 @@ TARGETS = ["illegal arith.remsi,arith.remui rules 27", "illegal arith.maxsi,arit
            "dynamic scf.for rules 29", "dynamic scf.if rules 30", "dynamic scf.for,scf.if,arith.constant rules 30,29,28", "legal test.a rules 2"]
 
 
-def rewriting(maker):
-    """A canonicalization or a conversion."""
-    if maker.random() < 0.5:
+def rewriting(maker, converts):
+    """A canonicalization, or a conversion where there are some."""
+    if maker.random() < 0.5 or not converts:
         return maker.choice(["canon", "canon", "canon limit 1", "canon limit 3", "canon limit 0", "canon limit"])
     if maker.random() < 0.7:
         return f"convert partial {maker.choice(TARGETS)}" + maker.choice(["", "", ",2", " depth 1", " depth 2"])
@@ -51,7 +51,7 @@ def rewriting(maker):
 def line_of(maker, run, scripter):
     part = maker.random()
     if "canon" in run.commands and maker.random() < 0.3:
-        return rewriting(maker)
+        return rewriting(maker, "convert" in run.commands)
     if part < 0.62:
         return scripter.edit()
     if part < 0.8:
