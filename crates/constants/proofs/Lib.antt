@@ -7,3 +7,4 @@ pub mod Finding
 pub mod Reporting
 pub mod Begins
 pub mod Entering
+pub mod Settled

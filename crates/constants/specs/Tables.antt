@@ -56,6 +56,11 @@ abbrev pub LooksWithin : Operation → ℕ → Facts → ℕ → ℕ → Type 0
 LooksWithin t x a before after =
     IsThere (look t) x → (was : ℕ → Option Header) → SameBut x was (look t) → AreLocal was a → AreOrdered [] (heads t) → after ≤ before + most_over (reached a (facts_of t) (heads t) x) (heads t)
 
+-- the same with one look to spare
+abbrev pub LooksRenewed : Operation → ℕ → Facts → ℕ → ℕ → Type 0
+LooksRenewed t x a before after =
+    IsThere (look t) x → (was : ℕ → Option Header) → SameBut x was (look t) → AreLocal was a → AreOrdered [] (heads t) → 1 + after ≤ before + most_over (reached a (facts_of t) (heads t) x) (heads t)
+
 -- those of following an event
 abbrev pub LooksFollowed : Operation → Event → Facts → ℕ → ℕ → Type 0
 LooksFollowed t (Put x place fresh) a before after = LooksWithin t x a before after

@@ -1,12 +1,16 @@
 //! The table follows an event.
-ghost use Rattle.std.specs.Prelude.{◌≡◌, true};
+ghost use Rattle.std.specs.Prelude.{◌≡◌, ◌≤◌, ◌+◌, true};
 ghost use Rattle.ir_event.specs.Modules.{module_in};
 ghost use Rattle.ir_event.specs.Listener.{is_take};
-ghost use Rattle.constants.specs.Tables.{known_in, look_in, Updated, FactsFollowed, LooksWithin, LooksFollowed};
+ghost use Rattle.constants_base.specs.Facts.{value};
+ghost use Rattle.constants_base.specs.Folds.{known_of};
+ghost use Rattle.constants_base.specs.Trails.{IsThere};
+ghost use Rattle.constants.specs.Tables.{known_in, look_in, Updated, FactsFollowed, LooksRenewed, LooksWithin, LooksFollowed};
 
 use crate::forget::forget_from;
 use crate::learn::learn_from;
-use crate::table::drop_fact;
+use crate::table::{drop_fact, fact};
+use crate::users::folded;
 use ir_event::event::Event;
 use ir_event::view::View;
 use ir_types::bits::Bits;
@@ -14,11 +18,34 @@ use ir_types::ids::OpId;
 use std::alloc::Global;
 use std::collections::BTreeMap;
 
-/// Follows a change of one operation: forgets what may have changed, then learns what can be known. It is false
-/// where memory was refused.
-fn update(alloc: Global, table: &mut BTreeMap<OpId, Bits>, view: &mut View<'_>, op: OpId) -> bool
+/// Whether two known values, where there are any, are the same.
+fn are_same(one: &Option<Bits>, other: &Option<Bits>) -> bool
+    ensures { result ≡ true → known_of one.now ≡ known_of other.now }
+{
+    match (one, other) {
+        (None, None) => true,
+        (Some(one), Some(other)) => one.kind == other.kind && one.value == other.value,
+        _ => false,
+    }
+}
+
+/// Whether an operation is seen to fold to what is known of its result.
+fn is_settled(alloc: Global, view: &mut View<'_>, table: &BTreeMap<OpId, Bits>, op: OpId) -> bool
+    ensures settled { result ≡ true → IsThere (look_in view.old.world.now) op → known_in table.now op ≡ value (look_in view.old.world.now) (known_in table.now) op }
+    ensures looks { view.new.looks ≤ view.old.looks + 1 }
+    ensures world { view.new.world.now ≡ view.old.world.now }
+{
+    let Ok(found) = folded(alloc, view, table, op) else {
+        return false;
+    };
+    are_same(&fact(table, op), &found)
+}
+
+/// Forgets what may have changed with an operation, then learns what can be known. It is false where memory was
+/// refused.
+fn renew(alloc: Global, table: &mut BTreeMap<OpId, Bits>, view: &mut View<'_>, op: OpId) -> bool
     ensures updated { Updated (result ≡ true) (look_in view.old.world.now) op (known_in table.old) (known_in table.new) }
-    ensures looks { LooksWithin (module_in view.old.world.now).tree op (known_in table.old) view.old.looks view.new.looks }
+    ensures looks { LooksRenewed (module_in view.old.world.now).tree op (known_in table.old) view.old.looks view.new.looks }
     ensures world { view.new.world.now ≡ view.old.world.now }
 {
     let mut forgotten = Vec::new(alloc);
@@ -26,6 +53,19 @@ fn update(alloc: Global, table: &mut BTreeMap<OpId, Bits>, view: &mut View<'_>, 
         return false;
     }
     learn_from(alloc, view, table, op, &forgotten)
+}
+
+/// Follows a change of one operation. Where it folds to what is known of its result all stays as it is. It is false where
+/// memory was refused.
+fn update(alloc: Global, table: &mut BTreeMap<OpId, Bits>, view: &mut View<'_>, op: OpId) -> bool
+    ensures updated { Updated (result ≡ true) (look_in view.old.world.now) op (known_in table.old) (known_in table.new) }
+    ensures looks { LooksWithin (module_in view.old.world.now).tree op (known_in table.old) view.old.looks view.new.looks }
+    ensures world { view.new.world.now ≡ view.old.world.now }
+{
+    if is_settled(alloc, view, table, op) {
+        return true;
+    }
+    renew(alloc, table, view, op)
 }
 
 /// Follows an event. It is false where memory was refused.

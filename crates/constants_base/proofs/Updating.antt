@@ -34,7 +34,7 @@ module _ (t : Operation) (x : ℕ) (a mid b : Facts) (forgotten : List ℕ) (non
   among = λ i y. look_heads y t i
 
   -- where the first phase broke off
-  pub broken_looks : IsTrail (look t) (λ y. y ≡ x) a forgotten → one ≤ none + total (λ d. 1 + uses_among (heads t) d) forgotten → IsThere (look t) x → AreOrdered [] (heads t) → one ≤ none + most_over (reached a (facts_of t) (heads t) x) (heads t)
+  pub broken_looks : IsTrail (look t) (λ y. y ≡ x) a forgotten → one ≤ none + total (λ d. 1 + uses_among (heads t) d) forgotten → IsThere (look t) x → AreOrdered [] (heads t) → 1 + one ≤ none + most_over (reached a (facts_of t) (heads t) x) (heads t)
   broken_looks path few here ordered =
       let ops : ℕ → Option Header = look_among (heads t) in
       let bound = looks_bound a (facts_of t) (heads t) x ordered nothing forgotten [] (subst (λ (o : ℕ → Option Header). IsThere o x) (sym among) here) (λ y v e. absurd (let bad : None ≡ Some v = e in cc))
@@ -44,7 +44,7 @@ module _ (t : Operation) (x : ℕ) (a mid b : Facts) (forgotten : List ℕ) (non
 
   -- where it went through
   pub whole_looks : {D : Type 0} → IsTrail (look t) (λ y. y ≡ x) a forgotten → one ≤ none + total (λ d. 1 + uses_among (heads t) d) forgotten → LearntFrom D (look t) (uses_among (heads t)) x forgotten mid b one two → Forgetting (look t) x mid forgotten []
-      → IsThere (look t) x → AreOrdered [] (heads t) → two ≤ none + most_over (reached a (facts_of t) (heads t) x) (heads t)
+      → IsThere (look t) x → AreOrdered [] (heads t) → 1 + two ≤ none + most_over (reached a (facts_of t) (heads t) x) (heads t)
   whole_looks path few learnt forgetting here ordered =
       let follows : Follows (look t) b = learnt.sound (λ y v k. forgetting.known y v k (λ d h u. h)) in
       let later : (y : ℕ) (v : Known) → b y ≡ Some v → facts_of t y ≡ Some v = follows_walk (heads t) b ordered (subst (λ (o : ℕ → Option Header). Follows o b) (sym among) follows) in
