@@ -1,8 +1,10 @@
 -- Operations in turn, and the parts of a conversion.
 use Rattle.std.proofs.Common.{◌≡◌, refl, ap, sym, ◌∙◌, subst, inl, inr, ◌⊎◌, ℕ, suc, ◌+◌, ◌-◌, ◌<◌, ◌≤◌, Bool, true, false, true≢false, List, [], ◌∷◌, length, take, drop, get_or, if◌then◌else◌, Result, Ok, Err, Some, None, arith}
-use Rattle.std.specs.Prelude.{is_ok}
+use Rattle.std.specs.Prelude.{OnOk, is_ok}
 use Rattle.ir_types.specs.Things.{Things}
 use Rattle.ir_types.specs.declared.refusal.Refusal.{Refusal}
+use Rattle.ir_types.specs.Words.{is_isolated}
+use Rattle.ir_tree.specs.WellFormed.{IsWellFormed}
 use Rattle.ir_event.specs.Modules.{Module}
 use Rattle.conversion.specs.declared.fault.Fault.{Fault}
 use Rattle.conversion.specs.declared.tried.Tried.{Tried}
@@ -10,8 +12,9 @@ use Rattle.conversion_base.specs.Rewrites.{Rewrite, none, refused, becomes}
 use Rattle.conversion_base.specs.Targets.{Aim}
 use Rattle.conversion_base.specs.Legalization.{Outcome, legalised, failed, stopped}
 use Rattle.conversion_base.specs.Reconciling.{rewrite_or, first_rewrite, go_on, next_collapse, collapsed, all_collapsed}
-use Rattle.conversion_base.specs.Conversion.{Ended, converted, given_up, counted, next_part, in_turn, ended, ended_at, failing, cast_ended, casts_left, checked, later_parts}
+use Rattle.conversion_base.specs.Conversion.{Ended, converted, given_up, counted, next_part, in_turn, ended, ended_at, failing, cast_ended, casts_left, checked, has_no_cast, later_parts}
 use Rattle.conversion.specs.States.{State, Applied, Refuses, Answers, IsWant, Comes, Wants, Faults, EndsWith, Ends, none_of, Converts, Closed, marked}
+use Rattle.conversion_base.proofs.Gone.{no_cast_is_left}
 use Rattle.conversion.proofs.Trying.{rest_at, noted}
 
 -- ---- the first answer at some operations
@@ -274,3 +277,21 @@ check_ends g m n p (Ok u) t h k c =
 check_ends g m n p (Err f) t h k c =
     let first = part_none (λ n. ended (all_collapsed n) n) (converted m 0) 0 m n (refl, refl) h in
     part_faults (checked g) _ 0 p f t.things (part_none casts_left _ 0 n p first k) c
+
+-- ---- casts that are left
+
+is_end : (e : Ended) (k : ℕ) (n : Module) → EndsWith e k n → e ≡ converted n k
+is_end (converted m j) k n h = λ i. converted (sym h.1 i) (sym h.0 i)
+is_end (given_up r x) k n h = absurd h
+
+pub none_left : {A : Type 0} (m : Module) (r : Result A Fault) (s : State) → IsWellFormed is_isolated m → Ends (casts_left m) (none_of r) s → OnOk r (has_no_cast s.held.tree ≡ true)
+none_left m (Ok u) s w e = no_cast_is_left m s.held 0 w (is_end (casts_left m) 0 s.held e)
+none_left m (Err f) s w e = tt
+
+-- what is true of the module that is held stays where the mark is dropped
+pub kept_whole : (P : Module → Type 0) (r : Result ℕ Fault) (start stepped here end : State) → stepped ≡ marked start → here.marks ≡ stepped.marks → OnOk r (P here.held) → (well : Bool) → well ≡ is_ok r → Closed well here end → OnOk r (P end.held)
+kept_whole P (Err f) start stepped here end e m h well w c = tt
+kept_whole P (Ok n) start stepped here end e m h well w c =
+    let closed : Closed true here end = subst (λ b. Closed b here end) w c in
+    let is = closed (record { marked = start.held; counted = false }) start.marks (noted start stepped here e m) in
+    subst P (sym (ap (λ (s : State). s.held) is)) h

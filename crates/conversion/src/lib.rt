@@ -1,6 +1,7 @@
 //! Dialect conversion: the operations of a module are legalised for a target by rules, and casts between types are reconciled.
 #![tactic(auto)]
 
+mod bench;
 pub mod fault;
 mod legalise;
 mod parts;
