@@ -3,6 +3,7 @@ pub mod Collapsing
 pub mod Enough
 pub mod Falls
 pub mod Gone
+pub mod Listed
 pub mod Makes
 pub mod Named
 pub mod Readings

@@ -1,6 +1,7 @@
 pub mod Targets
 pub mod Legalization
 pub mod Reconciling
+pub mod Listing
 pub mod Conversion
 pub mod Numbers
 pub use Rattle.patterns_base.specs.Looks
