@@ -1,6 +1,5 @@
 -- A conversion is the machine's transformation.
-use Rattle.std.proofs.Common.{◌≡◌, refl, ap, sym, ◌∙◌, inl, inr, ℕ, None, Result, Ok, Err}
-use Rattle.ir_types.specs.Things.{Things}
+use Rattle.std.proofs.Common.{◌≡◌, refl, ap, sym, ◌∙◌, inl, inr, ℕ, Result, Ok, Err}
 use Rattle.ir_event.specs.Listener.{Listener}
 use Rattle.rewriter.proofs.Together.{Ages}
 use Rattle.rewriter.specs.Machine.{Answer, Change, Converted, DoneWith, Goes, IsAnswer, IsUnmade, Nothing, State, due_change, fault_reply}

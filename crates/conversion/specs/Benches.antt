@@ -1,5 +1,5 @@
 -- A bench as conversions see it.
-use Rattle.std.specs.Prelude.{List, [], ◌++◌}
+use Rattle.std.specs.Prelude.{[], ◌++◌}
 use Rattle.ir_types.specs.Sound.{Holds}
 use Rattle.ir_event.specs.Listener.{Listener}
 use Rattle.rewriter.proofs.Told.{heard_none, heard_more}

@@ -1,4 +1,3 @@
-use Rattle.std.proofs.Common.{refl}
 use Rattle.conversion.proofs.Turns.{among_done, among_more}
 use Rattle.conversion.proofs.parts.casts_of.Goals as goal
 

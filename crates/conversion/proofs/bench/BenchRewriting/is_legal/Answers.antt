@@ -1,4 +1,4 @@
-use Rattle.std.proofs.Common.{ap, sym, subst, ◌∙◌}
+use Rattle.std.proofs.Common.{sym, subst, ◌∙◌}
 use Rattle.ir_types.specs.Things.{Things}
 use Rattle.conversion_base.specs.Targets.{IsNamedIn, aim_of, is_legal}
 use Rattle.conversion.proofs.Seen.{same_module}
