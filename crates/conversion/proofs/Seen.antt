@@ -104,7 +104,7 @@ full c (inr h) = inr (inr h)
 refuses : (w : Rewrite) (x : ℕ) (m : Module) (c : Things) (e : Refusal) → has_id x m.tree ≡ true → IsReason w x m c e → Refuses w c e
 refuses w x m c e here (inl memory) = wanted w c e (inl memory)
 refuses w x m c e here (inr (inl gone)) = absurd (true≢false (sym here ∙ gone.1))
-refuses w x m c e here (inr (inr (inr h))) = wanted w c e (inr (h.0, full c h.1))
+refuses w x m c e here (inr (inr (inr h))) = wanted w c e (inr (h.0, full c h.1.1))
 refuses none x m c e here (inr (inr (inl h))) = absurd h
 refuses (becomes n) x m c e here (inr (inr (inl h))) = absurd h
 refuses (refused f) x m c e here (inr (inr (inl h))) = inl (sym h)

@@ -2,10 +2,12 @@
 #![tactic(auto)]
 
 mod bench;
+pub mod convert;
 pub mod fault;
 mod legalise;
 mod parts;
 mod rewriting;
+mod rules;
 mod tried;
 
 pub use conversion_base::{laws, target};
