@@ -3,7 +3,7 @@ use Rattle.std.proofs.Common.{◌≡◌, ap, sym, ◌∙◌, subst, ℕ, ◌+◌
 use Rattle.ir_types.specs.declared.refusal.Refusal.{Refusal}
 use Rattle.ir_tree.specs.Limits.{most_next}
 use Rattle.ir_event.specs.Listener.{Listener}
-use Rattle.ir_event.specs.Modules.{Module, module_in, module_meaning}
+use Rattle.ir_event.specs.Modules.{module_in, module_meaning}
 use Rattle.ir_event.specs.declared.world.World.{World}
 use Rattle.patterns_runs.specs.Contents.{Edit, all_edited}
 use Rattle.patterns.specs.Benched.{Benched}

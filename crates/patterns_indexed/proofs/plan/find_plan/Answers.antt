@@ -23,9 +23,9 @@ returns-then-not-branch-clause-edits c =
 pub returns-in-Some-2-clause-edits : goal.returns-in-Some-2-clause-edits
 returns-in-Some-2-clause-edits c =
     ap (option_map (lowering_meaning c.args.world.now.ctx (module_in c.args.world.now).next c.in-Some-front.front)) (sym c.in-Some-2.is)
-    ∙ lowered_by c.args.rule c.args.world.now c.args.op (head_in c.args.world.now.ctx c.in-Some.node) c.in-Some-front.front _ c.in-Some.ensures.node c.in-Some-front.ensures (sym c.in_ok-is_clean.ensures ∙ c.if-not-branch.false) c.in_ok-plan_lowered.ensures.edits
+    ∙ lowered_by c.args.rule c.args.world.now c.args.op (head_in c.args.world.now.ctx c.in-Some.node) c.in-Some-front.front _ c.in-Some.ensures.node c.in-Some-front.ensures (sym c.in_ok-is_clean.ensures ∙ c.if-not-branch.false) c.in_ok-plan.ensures.edits
 
 pub returns-in-None-clause-edits : goal.returns-in-None-clause-edits
 returns-in-None-clause-edits c =
     ap (option_map (lowering_meaning c.args.world.now.ctx (module_in c.args.world.now).next c.in-Some-front.front)) (sym c.in-None.is)
-    ∙ lowered_by c.args.rule c.args.world.now c.args.op (head_in c.args.world.now.ctx c.in-Some.node) c.in-Some-front.front _ c.in-Some.ensures.node c.in-Some-front.ensures (sym c.in_ok-is_clean.ensures ∙ c.if-not-branch.false) c.in_ok-plan_lowered.ensures.edits
+    ∙ lowered_by c.args.rule c.args.world.now c.args.op (head_in c.args.world.now.ctx c.in-Some.node) c.in-Some-front.front _ c.in-Some.ensures.node c.in-Some-front.ensures (sym c.in_ok-is_clean.ensures ∙ c.if-not-branch.false) c.in_ok-plan.ensures.edits
