@@ -5,3 +5,4 @@ pub mod Meanings
 pub mod Interned
 pub mod Lowered
 pub mod Numbers
+pub mod Counts

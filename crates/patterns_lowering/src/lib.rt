@@ -10,6 +10,7 @@ mod give;
 mod holders;
 mod index;
 mod intern;
+pub mod laws;
 mod lists;
 mod loops;
 mod lower;
