@@ -1,17 +1,24 @@
 -- Operations in turn, and the parts of a conversion.
-use Rattle.std.proofs.Common.{◌≡◌, refl, ap, sym, ◌∙◌, subst, inl, inr, ◌⊎◌, ℕ, suc, ◌+◌, ◌-◌, ◌<◌, ◌≤◌, Bool, true, false, true≢false, List, [], ◌∷◌, length, take, drop, get_or, if◌then◌else◌, Result, Ok, Err, Some, None, arith}
-use Rattle.std.specs.Prelude.{is_ok}
+use Rattle.std.proofs.Common.{◌≡◌, refl, ap, sym, ◌∙◌, subst, inl, inr, ◌⊎◌, ℕ, suc, ◌+◌, ◌-◌, ◌<◌, ◌≤◌, Bool, true, false, true≢false, List, [], ◌∷◌, ◌++◌, append-nil, append_assoc, length, take, drop, get_or, if◌then◌else◌, Result, Ok, Err, Some, None, arith}
+use Rattle.std.specs.Prelude.{OnOk, is_ok}
 use Rattle.ir_types.specs.Things.{Things}
 use Rattle.ir_types.specs.declared.refusal.Refusal.{Refusal}
+use Rattle.ir_types.specs.Words.{is_isolated}
+use Rattle.ir_tree.specs.Ids.{ids}
+use Rattle.ir_tree.specs.Meaning.{Operation}
+use Rattle.ir_tree.specs.WellFormed.{IsWellFormed}
 use Rattle.ir_event.specs.Modules.{Module}
 use Rattle.conversion.specs.declared.fault.Fault.{Fault}
 use Rattle.conversion.specs.declared.tried.Tried.{Tried}
 use Rattle.conversion_base.specs.Rewrites.{Rewrite, none, refused, becomes}
 use Rattle.conversion_base.specs.Targets.{Aim}
 use Rattle.conversion_base.specs.Legalization.{Outcome, legalised, failed, stopped}
-use Rattle.conversion_base.specs.Reconciling.{rewrite_or, first_rewrite, go_on, next_collapse, collapsed, all_collapsed}
-use Rattle.conversion_base.specs.Conversion.{Ended, converted, given_up, counted, next_part, in_turn, ended, ended_at, failing, cast_ended, casts_left, checked, later_parts}
+use Rattle.conversion_base.specs.Listing.{HaveCasts, casts_among}
+use Rattle.conversion_base.specs.Reconciling.{collapse, is_cast, rewrite_or, first_rewrite, go_on, next_collapse, collapsed, all_collapsed}
+use Rattle.conversion_base.specs.Conversion.{Ended, converted, given_up, counted, next_part, in_turn, ended, ended_at, failing, cast_ended, casts_left, checked, has_no_cast, later_parts}
 use Rattle.conversion.specs.States.{State, Applied, Refuses, Answers, IsWant, Comes, Wants, Faults, EndsWith, Ends, none_of, Converts, Closed, marked}
+use Rattle.conversion_base.proofs.Gone.{no_cast_is_left}
+use Rattle.conversion_base.proofs.Listed.{casts_stay, next_listed}
 use Rattle.conversion.proofs.Trying.{rest_at, noted}
 
 -- ---- the first answer at some operations
@@ -274,3 +281,69 @@ check_ends g m n p (Ok u) t h k c =
 check_ends g m n p (Err f) t h k c =
     let first = part_none (λ n. ended (all_collapsed n) n) (converted m 0) 0 m n (refl, refl) h in
     part_faults (checked g) _ 0 p f t.things (part_none casts_left _ 0 n p first k) c
+
+-- ---- casts that are listed
+
+applied_becomes : (w : Rewrite) (m n : Module) → Applied w true m n → w ≡ becomes n
+applied_becomes none m n c = absurd (true≢false c.0)
+applied_becomes (becomes p) m n c = ap becomes (sym c.1)
+applied_becomes (refused e) m n c = absurd c
+
+applied_same : (w : Rewrite) (m n : Module) → Applied w false m n → n ≡ m
+applied_same none m n c = c.1
+applied_same (becomes p) m n c = absurd (true≢false (sym c.0))
+applied_same (refused e) m n c = absurd c
+
+pub listed_after : (xs : List ℕ) (r : Result Bool Refusal) (s t : State) → IsWellFormed is_isolated s.held → HaveCasts xs s.held.tree → Answers (first_rewrite (collapse s.held) xs) r s t → HaveCasts xs t.held.tree
+listed_after xs (Ok true) s t w h c = casts_stay s.held t.held xs w.distinct h (applied_becomes (first_rewrite (collapse s.held) xs) s.held t.held c)
+listed_after xs (Ok false) s t w h c = subst (λ (m : Module). HaveCasts xs m.tree) (sym (applied_same (first_rewrite (collapse s.held) xs) s.held t.held c)) h
+listed_after xs (Err e) s t w h c = subst (λ (m : Module). HaveCasts xs m.tree) (sym c.1) h
+
+pub next_after : (xs : List ℕ) (r : Result Bool Refusal) (s t : State) → HaveCasts xs s.held.tree → Answers (first_rewrite (collapse s.held) xs) r s t → Answers (next_collapse s.held) r s t
+next_after xs r s t h c = subst (λ (w : Rewrite). Answers w r s t) (next_listed s.held xs h) c
+
+-- those of a list that are casts, one after another
+pub add_none : (x : ℕ) (t : Operation) (out : List ℕ) (b : Bool) → b ≡ is_cast x t → b ≡ false → out ≡ out ++ casts_among (x ∷ []) t
+add_none x t out b e f = sym (append-nil out) ∙ ap (λ c. out ++ (if c then x ∷ [] else [])) (sym f ∙ e)
+
+pub add_one : (x : ℕ) (t : Operation) (out : List ℕ) (b : Bool) → b ≡ is_cast x t → b ≡ true → out ++ x ∷ [] ≡ out ++ casts_among (x ∷ []) t
+add_one x t out b e f = ap (λ c. out ++ (if c then x ∷ [] else [])) (sym f ∙ e)
+
+among_cons : (x : ℕ) (xs : List ℕ) (t : Operation) → casts_among (x ∷ []) t ++ casts_among xs t ≡ casts_among (x ∷ xs) t
+among_cons x xs t = go (is_cast x t)
+  where
+    go : (b : Bool) → (if b then x ∷ [] else []) ++ casts_among xs t ≡ (if b then x ∷ casts_among xs t else casts_among xs t)
+    go true = refl
+    go false = refl
+
+pub among_more : (t : Operation) (all xs out more : List ℕ) (x : ℕ) → 1 ≤ length xs → x ≡ get_or xs 0 x → out ++ casts_among xs t ≡ casts_among all t → more ≡ out ++ casts_among (x ∷ []) t
+    → more ++ casts_among (take (length xs - 1) (drop 1 xs)) t ≡ casts_among all t
+among_more t all xs out more x l z h e =
+    let rest = take (length xs - 1) (drop 1 xs) in
+    ap (λ l. l ++ casts_among rest t) e ∙ append_assoc out (casts_among (x ∷ []) t) (casts_among rest t)
+    ∙ ap (λ l. out ++ l) (among_cons x rest t ∙ sym (ap (λ ys. casts_among ys t) (rest_at xs x l z))) ∙ h
+
+pub among_done : (t : Operation) (all xs out : List ℕ) → length xs < 1 → out ++ casts_among xs t ≡ casts_among all t → out ≡ casts_among all t
+among_done t all [] out l h = sym (append-nil out) ∙ h
+among_done t all (x ∷ xs) out l h = absurd (omega (arith, l))
+
+pub up_to_all : {A : Type 0} (m : Module) (most : ℕ) (xs : List ℕ) (r : Result A Fault) (s : State) → most ≡ length xs → xs ≡ ids m.tree → Ends (ended (collapsed most m) m) (none_of r) s → Ends (ended (all_collapsed m) m) (none_of r) s
+up_to_all m most xs r s e is c = subst (λ k. Ends (ended (collapsed k m) m) (none_of r) s) (e ∙ ap length is) c
+
+-- ---- casts that are left
+
+is_end : (e : Ended) (k : ℕ) (n : Module) → EndsWith e k n → e ≡ converted n k
+is_end (converted m j) k n h = λ i. converted (sym h.1 i) (sym h.0 i)
+is_end (given_up r x) k n h = absurd h
+
+pub none_left : {A : Type 0} (m : Module) (r : Result A Fault) (s : State) → IsWellFormed is_isolated m → Ends (casts_left m) (none_of r) s → OnOk r (has_no_cast s.held.tree ≡ true)
+none_left m (Ok u) s w e = no_cast_is_left m s.held 0 w (is_end (casts_left m) 0 s.held e)
+none_left m (Err f) s w e = tt
+
+-- what is true of the module that is held stays where the mark is dropped
+pub kept_whole : (P : Module → Type 0) (r : Result ℕ Fault) (start stepped here end : State) → stepped ≡ marked start → here.marks ≡ stepped.marks → OnOk r (P here.held) → (well : Bool) → well ≡ is_ok r → Closed well here end → OnOk r (P end.held)
+kept_whole P (Err f) start stepped here end e m h well w c = tt
+kept_whole P (Ok n) start stepped here end e m h well w c =
+    let closed : Closed true here end = subst (λ b. Closed b here end) w c in
+    let is = closed (record { marked = start.held; counted = false }) start.marks (noted start stepped here e m) in
+    subst P (sym (ap (λ (s : State). s.held) is)) h

@@ -1,4 +1,6 @@
 pub mod States
+pub mod Benches
+pub mod Converting
 pub use Rattle.conversion_base.specs.Targets
 pub use Rattle.conversion_base.specs.Legalization
 pub use Rattle.conversion_base.specs.Reconciling

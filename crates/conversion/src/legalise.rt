@@ -5,7 +5,7 @@ ghost use Rattle.conversion_base.specs.Legalization.{after_rule as rule_outcome,
 ghost use Rattle.conversion.specs.States.{Closed, Comes, ComesBehind, Leads, went_well};
 ghost use Rattle.conversion_base.specs.Targets.{IsAimIn, aim_of, is_for_conversion};
 
-use crate::rewriting::Rewriting;
+use crate::rewriting::{Rewriting, Rules};
 use crate::tried::Tried;
 use conversion_base::target::Target;
 use ir_types::ids::OpId;
@@ -41,7 +41,7 @@ fn joined(met: bool, tried: Tried) -> Tried
 /// Legalises an operation, if it still stands, where what rules make may be so many levels below it. Where it fails, or is refused, the module
 /// is as it was.
 #[cycle(legalise)]
-pub(crate) fn legalise<B: Rewriting>(
+pub(crate) fn legalise<B: Rules>(
     alloc: Global,
     bench: &mut B,
     target: &Target,
@@ -66,7 +66,7 @@ pub(crate) fn legalise<B: Rewriting>(
 
 /// Tries the rules of a target, up to the first after which all goes well.
 #[cycle(legalise)]
-fn first_rule<B: Rewriting>(
+fn first_rule<B: Rules>(
     alloc: Global,
     bench: &mut B,
     target: &Target,
@@ -97,7 +97,7 @@ fn first_rule<B: Rewriting>(
 
 /// Tries a rule behind a mark: where it fails, or is refused, the module is as it was.
 #[cycle(legalise)]
-fn try_rule<B: Rewriting>(
+fn try_rule<B: Rules>(
     alloc: Global,
     bench: &mut B,
     target: &Target,
@@ -142,7 +142,7 @@ pub(crate) fn close<B: Rewriting>(bench: &mut B, stays: bool)
 
 /// Applies a rule and legalises what it made.
 #[cycle(legalise)]
-fn after_rule<B: Rewriting>(
+fn after_rule<B: Rules>(
     alloc: Global,
     bench: &mut B,
     target: &Target,
@@ -166,7 +166,7 @@ fn after_rule<B: Rewriting>(
 /// Legalises the operations that were made from an id on, by rising id. The rule that made them is
 /// counted too.
 #[cycle(legalise)]
-fn each_made<B: Rewriting>(
+fn each_made<B: Rules>(
     alloc: Global,
     bench: &mut B,
     target: &Target,

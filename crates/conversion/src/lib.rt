@@ -1,10 +1,13 @@
 //! Dialect conversion: the operations of a module are legalised for a target by rules, and casts between types are reconciled.
 #![tactic(auto)]
 
+mod bench;
+pub mod convert;
 pub mod fault;
 mod legalise;
 mod parts;
 mod rewriting;
+mod rules;
 mod tried;
 
 pub use conversion_base::{laws, target};

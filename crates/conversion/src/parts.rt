@@ -1,14 +1,15 @@
 //! Dialect conversion: the operations of a module are legalised in turn, then casts are reconciled.
-ghost use Rattle.std.specs.Prelude.{◌≡◌, ◌+◌, ◌≤◌, IfOk, is_ok};
+ghost use Rattle.std.specs.Prelude.{◌≡◌, ◌+◌, ◌++◌, ◌∷◌, [], ◌≤◌, true, IfOk, OnOk, is_ok};
 ghost use Rattle.ir_tree.specs.Ids.{ids};
-ghost use Rattle.conversion_base.specs.Conversion.{all_parts, cast_at as cast_end, casts_left, checked, converted, conversion_of, ended, failing as failing_of, first_illegal, in_turn, later_parts, legalised_at as legalised_end};
+ghost use Rattle.conversion_base.specs.Conversion.{all_parts, cast_at as cast_end, casts_left, checked, converted, conversion_of, ended, failing as failing_of, first_illegal, has_no_cast, in_turn, later_parts, legalised_at as legalised_end};
+ghost use Rattle.conversion_base.specs.Listing.{HaveCasts, casts_among};
 ghost use Rattle.conversion_base.specs.Reconciling.{all_collapsed, collapse, collapsed, first_rewrite, next_collapse};
 ghost use Rattle.conversion.specs.States.{Answers, Converts, Ends, Leads, none_of};
 ghost use Rattle.conversion_base.specs.Targets.{IsAimIn, IsNamedIn, aim_of};
 
 use crate::fault::Fault;
 use crate::legalise::{close, legalise};
-use crate::rewriting::Rewriting;
+use crate::rewriting::{Rewriting, Rules};
 use conversion_base::target::Target;
 use ir_types::ids::OpId;
 use ir_types::refusal::Refusal;
@@ -25,7 +26,7 @@ fn failing(met: bool) -> Refusal
 }
 
 /// Legalises an operation of the start, if it still stands. The answer is how many rules stand.
-fn legalise_at<B: Rewriting>(
+fn legalise_at<B: Rules>(
     alloc: Global,
     bench: &mut B,
     target: &Target,
@@ -48,7 +49,7 @@ fn legalise_at<B: Rewriting>(
 }
 
 /// Legalises operations in turn. The answer is how many rules stand.
-fn legalise_each<B: Rewriting>(
+fn legalise_each<B: Rules>(
     alloc: Global,
     bench: &mut B,
     target: &Target,
@@ -90,25 +91,31 @@ fn collapse_first<B: Rewriting>(alloc: Global, bench: &mut B, ops: &[OpId]) -> R
     Ok(false)
 }
 
-/// The same of all operations, in pre-order.
-fn collapse_next<B: Rewriting>(alloc: Global, bench: &mut B) -> Result<bool, Refusal>
+/// The same of all operations of the module, of which a list has the casts among it, in pre-order. The list still has them.
+fn collapse_next<B: Rewriting>(alloc: Global, bench: &mut B, ops: &[OpId]) -> Result<bool, Refusal>
+    requires listed { HaveCasts ops.now (B.state bench.old).held.tree }
     ensures answers { Answers (next_collapse (B.state bench.old).held) result (B.state bench.old) (B.state bench.new) }
+    ensures listed { HaveCasts ops.now (B.state bench.new).held.tree }
     ensures leads { Leads B.state B.led bench.old bench.new }
 {
-    match bench.operations() {
-        Ok(ops) => collapse_first(alloc, bench, &ops),
-        Err(_) => Err(Refusal::Memory),
-    }
+    bench.is_whole();
+    collapse_first(alloc, bench, ops)
 }
 
-/// Takes casts away, as long as one isn't used or collapses, and at most so many.
-fn collapse_up_to<B: Rewriting>(alloc: Global, bench: &mut B, most: usize) -> Result<(), Fault>
+/// Takes casts of a list away, as long as one isn't used or collapses, and at most so many.
+fn collapse_up_to<B: Rewriting>(
+    alloc: Global,
+    bench: &mut B,
+    ops: &[OpId],
+    most: usize,
+) -> Result<(), Fault>
+    requires listed { HaveCasts ops.now (B.state bench.old).held.tree }
     ensures ends { Ends (ended (collapsed most (B.state bench.old).held) (B.state bench.old).held) (none_of result) (B.state bench.new) }
     ensures leads { Leads B.state B.led bench.old bench.new }
 {
     let mut left = most;
     'casts: while left > 0 {
-        match collapse_next(alloc, bench) {
+        match collapse_next(alloc, bench, ops) {
             Ok(true) => {}
             Ok(false) => return Ok(()),
             Err(refusal) => return Err(Fault::of(refusal)),
@@ -118,13 +125,54 @@ fn collapse_up_to<B: Rewriting>(alloc: Global, bench: &mut B, most: usize) -> Re
     Ok(())
 }
 
+/// Adds an operation to a list, if it is a cast.
+fn add_cast<B: Rewriting>(bench: &B, casts: &mut Vec<OpId>, op: OpId) -> Result<(), Refusal>
+    ensures { OnOk result (casts.new.items ≡ casts.old.items ++ casts_among (op ∷ []) (B.state bench.now).held.tree) }
+{
+    if !bench.is_cast(op) {
+        return Ok(());
+    }
+    match casts.push(op) {
+        Ok(()) => Ok(()),
+        Err(_) => Err(Refusal::Memory),
+    }
+}
+
+/// Those of some operations that are casts.
+fn casts_of<B: Rewriting>(alloc: Global, bench: &B, ops: &[OpId]) -> Result<Vec<OpId>, Refusal>
+    ensures { IfOk result (λ v. v.items ≡ casts_among ops.now (B.state bench.now).held.tree) }
+{
+    let mut casts = Vec::new(alloc);
+    let mut rest = ops;
+    'ops: while let [op, tail @ ..] = rest {
+        match add_cast(bench, &mut casts, *op) {
+            Ok(()) => {}
+            Err(refusal) => return Err(refusal),
+        }
+        rest = tail;
+    }
+    Ok(casts)
+}
+
+/// Takes casts away, as long as one isn't used or collapses, where these are all operations in pre-order.
+fn collapse_listed<B: Rewriting>(alloc: Global, bench: &mut B, ops: &[OpId]) -> Result<(), Fault>
+    requires ops { ops.now ≡ ids (B.state bench.old).held.tree }
+    ensures ends { Ends (ended (all_collapsed (B.state bench.old).held) (B.state bench.old).held) (none_of result) (B.state bench.new) }
+    ensures leads { Leads B.state B.led bench.old bench.new }
+{
+    match casts_of(alloc, bench, ops) {
+        Ok(casts) => collapse_up_to(alloc, bench, &casts, ops.len()),
+        Err(_) => Err(Fault::of(Refusal::Memory)),
+    }
+}
+
 /// Takes casts away, as long as one isn't used or collapses.
 fn collapse_all<B: Rewriting>(alloc: Global, bench: &mut B) -> Result<(), Fault>
     ensures ends { Ends (ended (all_collapsed (B.state bench.old).held) (B.state bench.old).held) (none_of result) (B.state bench.new) }
     ensures leads { Leads B.state B.led bench.old bench.new }
 {
     match bench.operations() {
-        Ok(ops) => collapse_up_to(alloc, bench, ops.len()),
+        Ok(ops) => collapse_listed(alloc, bench, &ops),
         Err(_) => Err(Fault::of(Refusal::Memory)),
     }
 }
@@ -163,8 +211,10 @@ fn cast_each<B: Rewriting>(alloc: Global, bench: &mut B, ops: &[OpId]) -> Result
 /// Puts an `arith.index_cast` in the place of each cast.
 fn cast_all<B: Rewriting>(alloc: Global, bench: &mut B) -> Result<(), Fault>
     ensures ends { Ends (casts_left (B.state bench.old).held) (none_of result) (B.state bench.new) }
+    ensures none { OnOk result (has_no_cast (B.state bench.new).held.tree ≡ true) }
     ensures leads { Leads B.state B.led bench.old bench.new }
 {
+    bench.is_whole();
     match bench.operations() {
         Ok(ops) => cast_each(alloc, bench, &ops),
         Err(_) => Err(Fault::of(Refusal::Memory)),
@@ -204,9 +254,10 @@ fn check<B: Rewriting>(bench: &B, target: &Target) -> Result<(), Fault>
 }
 
 /// Converts a module behind a mark: where it is refused, the module may be any.
-fn convert_parts<B: Rewriting>(alloc: Global, bench: &mut B, target: &Target) -> Result<u32, Fault>
+fn convert_parts<B: Rules>(alloc: Global, bench: &mut B, target: &Target) -> Result<u32, Fault>
     requires aim { IsAimIn (B.state bench.old).things target.now }
     ensures ends { Ends (all_parts (aim_of (B.state bench.old).things target.now) (B.state bench.old).held) result (B.state bench.new) }
+    ensures none { OnOk result (has_no_cast (B.state bench.new).held.tree ≡ true) }
     ensures leads { Leads B.state B.led bench.old bench.new }
 {
     let count = match legalise_all(alloc, bench, target) {
@@ -220,7 +271,7 @@ fn convert_parts<B: Rewriting>(alloc: Global, bench: &mut B, target: &Target) ->
 }
 
 /// Legalises the operations of the module, as they are at the start, in pre-order. The answer is how many rules stand.
-fn legalise_all<B: Rewriting>(alloc: Global, bench: &mut B, target: &Target) -> Result<u32, Fault>
+fn legalise_all<B: Rules>(alloc: Global, bench: &mut B, target: &Target) -> Result<u32, Fault>
     requires aim { IsAimIn (B.state bench.old).things target.now }
     ensures ends { Ends (in_turn (legalised_end (aim_of (B.state bench.old).things target.now)) (ids (B.state bench.old).held.tree) (B.state bench.old).held) result (B.state bench.new) }
     ensures leads { Leads B.state B.led bench.old bench.new }
@@ -235,6 +286,7 @@ fn legalise_all<B: Rewriting>(alloc: Global, bench: &mut B, target: &Target) -> 
 fn reconcile<B: Rewriting>(alloc: Global, bench: &mut B, target: &Target) -> Result<(), Fault>
     requires aim { IsAimIn (B.state bench.old).things target.now }
     ensures ends { Ends (later_parts (aim_of (B.state bench.old).things target.now) (converted (B.state bench.old).held 0)) (none_of result) (B.state bench.new) }
+    ensures none { OnOk result (has_no_cast (B.state bench.new).held.tree ≡ true) }
     ensures leads { Leads B.state B.led bench.old bench.new }
 {
     if let Err(fault) = collapse_all(alloc, bench) {
@@ -259,13 +311,14 @@ fn is_converted(made: &Result<u32, Fault>) -> bool
 ///
 /// Refusals: `BadTarget`; `NotLegalised` or `ChainTooDeep` for an operation of the start, and `Unreconciled` for a cast, and
 /// `NotLegalised` in full mode, each with its id; `Full` and `IdsExhausted`, where a rule has no room; and `Memory`.
-pub(crate) fn convert_with<B: Rewriting>(
+pub(crate) fn convert_with<B: Rules>(
     alloc: Global,
     bench: &mut B,
     target: &Target,
 ) -> Result<u32, Fault>
     requires names { IsNamedIn (B.state bench.old).things target.now }
     ensures converts { Converts (conversion_of (aim_of (B.state bench.old).things target.now) (B.state bench.old).held) result (B.state bench.old) (B.state bench.new) }
+    ensures none { OnOk result (has_no_cast (B.state bench.new).held.tree ≡ true) }
     ensures leads { Leads B.state B.led bench.old bench.new }
 {
     if !bench.is_accepted(target) {

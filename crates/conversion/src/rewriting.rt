@@ -1,7 +1,9 @@
 //! What conversions need of a bench and of the rules.
 ghost use Rattle.std.specs.Prelude.{◌≡◌, true, OnOk, OnErr, IfErr, IfOk};
+ghost use Rattle.ir_types.specs.Words.{is_isolated};
 ghost use Rattle.ir_types.specs.declared.refusal.Refusal.TheVariants.{Memory as NoMemory};
 ghost use Rattle.ir_tree.specs.Ids.{has_id, ids};
+ghost use Rattle.ir_tree.specs.WellFormed.{IsWellFormed};
 ghost use Rattle.conversion_base.specs.Rewrites.{rewrite_of};
 ghost use Rattle.conversion_base.specs.Targets.{IsAimIn, IsNamedIn, aim_of, is_accepted, is_for_conversion, is_legal};
 ghost use Rattle.conversion_base.specs.Reconciling.{collapse, index_rewrite, is_cast};
@@ -10,9 +12,9 @@ ghost use Rattle.conversion.specs.States.{State, Answers, Committed, Leads, Roll
 use conversion_base::target::Target;
 use ir_types::ids::OpId;
 use ir_types::refusal::Refusal;
-use std::alloc::{AllocError, Global};
+use std::alloc::Global;
 
-/// A bench with rules. Each call that is refused leaves the module and the marks as they were.
+/// A bench. Each call that is refused leaves the module and the marks as they were.
 pub(crate) trait Rewriting {
     ghost state: { Self → State };
 
@@ -22,6 +24,10 @@ pub(crate) trait Rewriting {
     ghost led_none: { (a : Self) → led a a };
 
     ghost led_more: { (a b c : Self) → led a b → led b c → led a c };
+
+    /// What is true of each module that is held.
+    fn is_whole(&self)
+        ensures { IsWellFormed is_isolated (state self.now).held };
 
     /// The next free id.
     fn next_id(&self) -> u32
@@ -41,14 +47,8 @@ pub(crate) trait Rewriting {
         requires { IsAimIn (state self.now).things target.now }
         ensures { result ≡ is_legal (aim_of (state self.now).things target.now) op (state self.now).held.tree };
 
-    /// Applies a rule at an operation. The answer is whether it applied.
-    fn apply(&mut self, alloc: Global, rule: u32, op: OpId) -> Result<bool, Refusal>
-        requires { is_for_conversion rule ≡ true }
-        ensures answers { Answers (rewrite_of rule (state self.old).held op) result (state self.old) (state self.new) }
-        ensures leads { Leads state led self.old self.new };
-
     /// The operations in pre-order.
-    fn operations(&self) -> Result<Vec<OpId>, AllocError>
+    fn operations(&self) -> Result<Vec<OpId>, Refusal>
         ensures { IfOk result (λ v. v.items ≡ ids (state self.now).held.tree) };
 
     /// Whether an operation is a cast between types that was left for the time being.
@@ -81,4 +81,13 @@ pub(crate) trait Rewriting {
     fn rollback(&mut self)
         ensures rolled { RolledBack (state self.old) (state self.new) }
         ensures led { led self.old self.new };
+}
+
+/// A bench with the rules that conversion may try.
+pub(crate) trait Rules: Rewriting {
+    /// Applies a rule at an operation. The answer is whether it applied.
+    fn apply(&mut self, alloc: Global, rule: u32, op: OpId) -> Result<bool, Refusal>
+        requires { is_for_conversion rule ≡ true }
+        ensures answers { Answers (rewrite_of rule (Self.state self.old).held op) result (Self.state self.old) (Self.state self.new) }
+        ensures leads { Leads Self.state Self.led self.old self.new };
 }

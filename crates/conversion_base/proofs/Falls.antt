@@ -101,7 +101,7 @@ one_name name (a ∷ []) (ty ∷ u ∷ ts) p e = absurd cc
 one_name name (a ∷ b ∷ vs) ts p e = absurd cc
 
 -- rule 21 at a cast gives a value for its result
-given_at : (t : Operation) (n : ℕ) (front : Place) (o : Operation) (es : List Edit) → named cast_name (head o).name ≡ true → rule 21 t n front o ≡ Some es → (v : Value) × (es ≡ give (head o).id v)
+pub given_at : (t : Operation) (n : ℕ) (front : Place) (o : Operation) (es : List Edit) → named cast_name (head o).name ≡ true → rule 21 t n front o ≡ Some es → (v : Value) × (es ≡ give (head o).id v)
 given_at t n front o es c e =
     let p = given_some (one (head o)) _ es (sym (rule_is t n front o) ∙ e) in
     by_test p.0 (named cast_name p.0.name) _ (ap (named cast_name) (one_name (head o).name (head o).operands (head o).results p.0 p.1) ∙ c) p.2
@@ -120,7 +120,7 @@ given_at t n front o es c e =
     by_test p true r c e = from_unrealized p (is_of_type t p.ty p.first) e
     by_test p false r c e = absurd (true≢false (sym c))
 
-becomes_is : (m n : Module) → becomes m ≡ becomes n → m ≡ n
+pub becomes_is : (m n : Module) → becomes m ≡ becomes n → m ≡ n
 becomes_is m n e = cc
 
 -- what is a cast is there

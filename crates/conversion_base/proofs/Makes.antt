@@ -91,6 +91,10 @@ each_at P r (s ∷ rs) h e = elim (either (eqb r s) (list_any (eqb r) rs) e) [
 makes_some : (r : ℕ) → is_for_conversion r ≡ true → (t : Operation) (n : ℕ) (front : Place) (o : Operation) (es : List Edit) → rule r t n front o ≡ Some es → 1 ≤ made_by es
 makes_some r e = each_at (λ r. (t : Operation) (n : ℕ) (front : Place) (o : Operation) (es : List Edit) → rule r t n front o ≡ Some es → 1 ≤ made_by es) r converting_rules converting_rules_make e
 
+-- such a rule's number
+pub converting_within : (r : ℕ) → is_for_conversion r ≡ true → (1 ≤ r) × (r ≤ 30)
+converting_within r e = each_at (λ n. (1 ≤ n) × (n ≤ 30)) r converting_rules ((omega arith, omega arith), ((omega arith, omega arith), ((omega arith, omega arith), ((omega arith, omega arith), ((omega arith, omega arith), ((omega arith, omega arith), ((omega arith, omega arith), tt))))))) e
+
 pub rules_make : (r x : ℕ) (m n : Module) → is_for_conversion r ≡ true → rewrite_of r m x ≡ becomes n → m.next < n.next
 rules_make r x m n e f =
     let w = rewritten r m n x f in

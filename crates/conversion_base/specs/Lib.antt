@@ -1,9 +1,11 @@
 pub mod Targets
 pub mod Legalization
 pub mod Reconciling
+pub mod Listing
 pub mod Conversion
 pub mod Numbers
 pub use Rattle.patterns_base.specs.Looks
+pub use Rattle.patterns_base.specs.Makes
 pub use Rattle.patterns_base.specs.Rewrites
 pub use Rattle.patterns_base.specs.Words
 pub use Rattle.patterns_edits.specs.Contents

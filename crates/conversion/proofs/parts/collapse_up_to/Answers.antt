@@ -1,6 +1,6 @@
-use Rattle.std.proofs.Common.{arith}
-use Rattle.conversion.proofs.Leading.{leads_more}
-use Rattle.conversion.proofs.Turns.{collapsing_ends, collapsing_more, collapsing_stops}
+use Rattle.std.proofs.Common.{arith, refl}
+use Rattle.conversion.proofs.Leading.{leads_more, leads_none}
+use Rattle.conversion.proofs.Turns.{collapsing_done, collapsing_ends, collapsing_more, collapsing_stops}
 use Rattle.conversion.proofs.parts.collapse_up_to.Goals as goal
 
 pub returns-in-Ok-false-clause-ends : goal.returns-in-Ok-false-clause-ends
@@ -24,4 +24,17 @@ casts-preserved g c =
     let state = g.B.Rewriting.state in (
       collapsing_more c.args.most (state c.args.bench.now) c.casts.left (state c.casts.bench) (state c.collapse_next.new.bench) c.in-Ok-true.field-0 (omega (arith, c.casts-test.true)) c.casts.invariant.0 c.in-Ok-true.ensures.answers c.in-Ok-true.field-0-test,
       leads_more state g.B.Rewriting.led g.B.Rewriting.led_more c.args.bench.now c.casts.bench c.collapse_next.new.bench c.casts.invariant.1 c.in-Ok-true.ensures.leads,
+      c.in-Ok-true.ensures.listed,
     )
+
+pub casts-init : goal.casts-init
+casts-init g c = (refl, leads_none g.B.Rewriting.state g.B.Rewriting.led g.B.Rewriting.led_none c.args.bench.now, c.requires.listed)
+
+pub collapse_next-requires : goal.collapse_next-requires
+collapse_next-requires g c = record { listed = c.casts.invariant.2 }
+
+pub returns-clause-ends : goal.returns-clause-ends
+returns-clause-ends g c = collapsing_done c.args.most (g.B.Rewriting.state c.args.bench.now) c.casts.left (g.B.Rewriting.state c.casts.bench) (omega (arith, c.casts-test.false)) c.casts.invariant.0
+
+pub returns-clause-leads : goal.returns-clause-leads
+returns-clause-leads g c = c.casts.invariant.1

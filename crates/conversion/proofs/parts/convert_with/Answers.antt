@@ -1,10 +1,11 @@
-use Rattle.std.proofs.Common.{◌∙◌, ap, sym, subst, if◌then◌else◌, None}
+use Rattle.std.proofs.Common.{◌≡◌, true, ◌∙◌, ap, sym, subst, if◌then◌else◌, None}
 use Rattle.ir_types.specs.declared.refusal.Refusal.TheVariants.{BadTarget}
-use Rattle.conversion_base.specs.Conversion.{Ended, all_parts, given_up}
+use Rattle.ir_event.specs.Modules.{Module}
+use Rattle.conversion_base.specs.Conversion.{Ended, all_parts, given_up, has_no_cast}
 use Rattle.conversion.specs.States.{Converts}
 use Rattle.conversion_base.specs.Targets.{aim_of}
 use Rattle.conversion.proofs.Trying.{leads_whole}
-use Rattle.conversion.proofs.Turns.{converted_whole}
+use Rattle.conversion.proofs.Turns.{converted_whole, kept_whole}
 use Rattle.conversion.proofs.parts.convert_with.Goals as goal
 
 pub returns-clause-converts : goal.returns-clause-converts
@@ -23,3 +24,9 @@ returns-clause-leads g c =
     let state = g.B.Rewriting.state in
     leads_whole state g.B.Rewriting.led g.B.Rewriting.led_more c.args.bench.now c.step.new.self c.convert_parts-made.new.bench c.close.new.bench c.in_default.ensures.ok c.step.ensures.led c.convert_parts-made.ensures.leads c.close.ensures.led
     c.is_converted.result c.close.ensures.closed
+
+pub returns-clause-none : goal.returns-clause-none
+returns-clause-none g c =
+    let state = g.B.Rewriting.state in
+    kept_whole (λ (m : Module). has_no_cast m.tree ≡ true) c.convert_parts-made.result (state c.args.bench.now) (state c.step.new.self) (state c.convert_parts-made.new.bench) (state c.close.new.bench)
+    c.in_default.ensures.ok c.convert_parts-made.ensures.leads.marks c.convert_parts-made.ensures.none c.is_converted.result c.is_converted.ensures c.close.ensures.closed

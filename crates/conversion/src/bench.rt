@@ -1,0 +1,170 @@
+//! A bench, for conversions.
+ghost use Rattle.std.specs.Prelude.{◌≡◌, ◌≤◌};
+ghost use Rattle.ir_event.specs.Modules.{module_in};
+ghost use Rattle.patterns_indexed.specs.Held.{module_held};
+ghost use Rattle.patterns_indexed.specs.Applied.{limit_reason};
+ghost use Rattle.conversion_base.specs.Makes.{made_by};
+ghost use Rattle.conversion_base.specs.Contents.{edited};
+ghost use Rattle.conversion_base.specs.Edits.{Erase};
+ghost use Rattle.conversion_base.specs.Lists.{AllFit, edits_meaning};
+ghost use Rattle.conversion_base.specs.Rewrites.{becomes, carried_out, rewrite_of};
+ghost use Rattle.conversion.specs.Benches.{LedOn, seen};
+ghost use Rattle.conversion.specs.States.{Answers, Leads};
+
+use crate::rewriting::Rewriting;
+use conversion_base::casts::{index_edits, is_cast, is_inner_cast, is_unused};
+use conversion_base::target::Target;
+use conversion_base::{accepted, legal};
+use ir_event::analysis::Analysis;
+use ir_event::world::World;
+use ir_tree::limits::MOST_OPS;
+use ir_types::ids::OpId;
+use ir_types::refusal::Refusal;
+use patterns_indexed::apply::apply;
+use patterns_runs::Bench;
+use patterns_runs::carry::carry_whole;
+use patterns_runs::edit::Edit;
+use rewriter::finish::finish;
+use std::alloc::Global;
+
+/// Why a module can't have an operation more, if it can't: it would be too full, or no id is left.
+fn limit_reason(world: &World) -> Option<Refusal>
+    ensures { result ≡ limit_reason 1 (module_in world.now) }
+{
+    if world.store.op_count().saturating_add(1) > MOST_OPS {
+        return Some(Refusal::Full);
+    }
+    if u64::from(world.store.next_id()).saturating_add(1) > 4_294_967_295 {
+        return Some(Refusal::IdsExhausted);
+    }
+    None
+}
+
+/// Applies a rule at an operation, if it is there. The answer is whether it applied.
+pub(crate) fn apply_rule<L: Analysis>(
+    alloc: Global,
+    bench: &mut Bench<L>,
+    rule: u8,
+    op: OpId,
+) -> Result<bool, Refusal>
+    requires low { 1 ≤ rule }
+    requires high { rule ≤ 30 }
+    ensures answers { Answers (rewrite_of rule (module_held bench.old.desk) op) result (seen bench.old) (seen bench.new) }
+    ensures leads { Leads seen (LedOn L.meaning) bench.old bench.new }
+{
+    if !bench.world().store.in_tree(op) {
+        return Ok(false);
+    }
+    let applied = apply(alloc, bench, rule, op);
+    bench.is_formed();
+    applied
+}
+
+/// Erases an operation.
+fn erase<L: Analysis>(bench: &mut Bench<L>, op: OpId) -> Result<bool, Refusal>
+    ensures answers { Answers (becomes (edited (Erase op) (module_held bench.old.desk))) result (seen bench.old) (seen bench.new) }
+    ensures leads { Leads seen (LedOn L.meaning) bench.old bench.new }
+{
+    let erased = bench.erase(op);
+    bench.is_formed();
+    match erased {
+        Ok(()) => Ok(true),
+        Err(_) => Err(Refusal::Memory),
+    }
+}
+
+/// Makes edits that make one operation, all of them or none.
+fn carry<L: Analysis>(bench: &mut Bench<L>, edits: &[Edit]) -> Result<bool, Refusal>
+    requires fit { AllFit bench.old.desk.ctx edits.now }
+    requires one { made_by (edits_meaning bench.old.desk.ctx edits.now) ≡ 1 }
+    ensures answers { Answers (carried_out (edits_meaning bench.old.desk.ctx edits.now) (module_held bench.old.desk)) result (seen bench.old) (seen bench.new) }
+    ensures leads { Leads seen (LedOn L.meaning) bench.old bench.new }
+{
+    if let Some(refusal) = limit_reason(bench.world()) {
+        return Err(refusal);
+    }
+    let carried = carry_whole(bench, edits);
+    bench.is_formed();
+    match carried {
+        Ok(()) => Ok(true),
+        Err(_) => Err(Refusal::Memory),
+    }
+}
+
+impl<L: Analysis> Rewriting for Bench<L> {
+    ghost use Rattle.conversion.specs.Benches.{LedOn, led_more, led_none, seen};
+
+    ghost state = { seen };
+
+    ghost led = { LedOn L.meaning };
+
+    ghost led_none = { led_none L.meaning };
+
+    ghost led_more = { led_more L.meaning };
+
+    fn is_whole(&self) {
+        self.is_formed();
+    }
+
+    fn next_id(&self) -> u32 {
+        self.world().store.next_id()
+    }
+
+    fn in_tree(&self, op: OpId) -> bool {
+        self.world().store.in_tree(op)
+    }
+
+    fn is_accepted(&self, target: &Target) -> bool {
+        accepted::is_accepted(&self.world().ctx, target)
+    }
+
+    fn is_legal(&self, target: &Target, op: OpId) -> bool {
+        legal::is_legal(self.world(), target, op)
+    }
+
+    fn operations(&self) -> Result<Vec<OpId>, Refusal> {
+        self.world().store.operations()
+    }
+
+    fn is_cast(&self, op: OpId) -> bool {
+        is_cast(self.world(), op)
+    }
+
+    fn collapse(&mut self, alloc: Global, op: OpId) -> Result<bool, Refusal> {
+        let world = self.world();
+        if !is_inner_cast(world, op) {
+            return Ok(false);
+        }
+        if is_unused(world, op) {
+            return erase(self, op);
+        }
+        apply_rule(alloc, self, 21, op)
+    }
+
+    fn cast_index(&mut self, alloc: Global, op: OpId) -> Result<bool, Refusal> {
+        let world = self.world();
+        let Ok(found) = index_edits(alloc, world, op) else {
+            return Err(Refusal::Memory);
+        };
+        let Some(edits) = found else {
+            return Ok(false);
+        };
+        carry(self, &edits)
+    }
+
+    fn step(&mut self) -> Result<(), Refusal> {
+        let stepped = Bench::step(self);
+        self.is_formed();
+        stepped
+    }
+
+    fn commit(&mut self) {
+        finish(self, true);
+        self.is_formed();
+    }
+
+    fn rollback(&mut self) {
+        finish(self, false);
+        self.is_formed();
+    }
+}

@@ -1,0 +1,43 @@
+//! Dialect conversion of the module of a bench.
+ghost use Rattle.std.specs.Prelude.{◌≡◌, true, OnOk};
+ghost use Rattle.ir_types.specs.Things.{Grows};
+ghost use Rattle.rewriter.specs.Machine.{Change};
+ghost use Rattle.rewriter.specs.Benched.{Does, Led};
+ghost use Rattle.patterns_indexed.specs.Held.{module_held};
+ghost use Rattle.conversion_base.specs.Conversion.{conversion_of, has_no_cast};
+ghost use Rattle.conversion_base.specs.Targets.{IsNamedIn, aim_of};
+ghost use Rattle.conversion.specs.Benches.{seen};
+ghost use Rattle.conversion.specs.Converting.{conversion_reply, converting};
+ghost use Rattle.conversion.specs.States.{Converts};
+
+use crate::fault::Fault;
+use crate::parts::convert_with;
+use conversion_base::target::Target;
+use ir_event::analysis::Analysis;
+use patterns_runs::Bench;
+use patterns_runs::laws::led_benches_are_kept;
+use std::alloc::Global;
+
+/// Converts the module of a bench (Dialect Conversion, "Modes of Conversion"): each of its operations that isn't legal for a
+/// target is legalised by rules, then casts between types are reconciled, so that none is left, and in full mode every operation
+/// has to be legal then. The answer is how many rules stand. It is whole or not made at all.
+///
+/// Refusals: `BadTarget`; `NotLegalised` or `ChainTooDeep` for an operation of the start, `Unreconciled` for a cast, and
+/// `NotLegalised` in full mode, each with its id; `Full` and `IdsExhausted`, where a rule has no room; `Full` where the context is
+/// full; and `Memory`.
+pub fn convert<L: Analysis>(
+    alloc: Global,
+    bench: &mut Bench<L>,
+    target: &Target,
+) -> Result<u32, Fault>
+    requires names { IsNamedIn bench.old.desk.ctx target.now }
+    ensures does { Does L.meaning (Change (converting (aim_of bench.old.desk.ctx target.now))) (conversion_reply result) bench.old bench.new }
+    ensures converts { Converts (conversion_of (aim_of bench.old.desk.ctx target.now) (module_held bench.old.desk)) result (seen bench.old) (seen bench.new) }
+    ensures none { OnOk result (has_no_cast (module_held bench.new.desk).tree ≡ true) }
+    ensures grows { Grows bench.old.desk.ctx bench.new.desk.ctx }
+    ensures led { Led L.meaning bench.old bench.new }
+{
+    led_benches_are_kept::<L>();
+    bench.is_formed();
+    convert_with(alloc, bench, target)
+}

@@ -1,0 +1,21 @@
+//! The limits of a module under a rule.
+ghost use Rattle.std.specs.Prelude.{◌≡◌};
+ghost use Rattle.ir_event.specs.Modules.{module_in};
+ghost use Rattle.patterns.specs.Applied.{limit_reason};
+
+use ir_event::world::World;
+use ir_tree::limits::MOST_OPS;
+use ir_types::refusal::Refusal;
+
+/// Why a module can't have so many operations more: it would be too full, or ids wouldn't be enough.
+pub(crate) fn limit_reason(world: &World, more: u64) -> Option<Refusal>
+    ensures { result ≡ limit_reason more (module_in world.now) }
+{
+    if world.store.op_count().saturating_add(more) > MOST_OPS {
+        return Some(Refusal::Full);
+    }
+    if u64::from(world.store.next_id()).saturating_add(more) > 4_294_967_295 {
+        return Some(Refusal::IdsExhausted);
+    }
+    None
+}
