@@ -109,7 +109,8 @@ class Machine:
         if word.startswith("arith."):
             return [self.arith(op, word[6:], numbers)]
         if word == "builtin.unrealized_conversion_cast" and len(numbers) == len(op.results) == 1:
-            return numbers
+            # (between other types than index and i64 it has no meaning of its own)
+            return numbers if self.width(op.operands[0]) == bits(op.results[0]) else [None]
         if word.startswith("scf."):
             return getattr(self, "run_" + word[4:])(op, numbers)
         return self.opaque(op, numbers)
