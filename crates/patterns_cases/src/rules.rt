@@ -30,11 +30,7 @@ fn put_applied(
 }
 
 /// Tells the module of a bench.
-fn put_module(
-    alloc: Global,
-    out: &mut String,
-    bench: &Bench<Witness>,
-) -> Result<(), AllocError> {
+fn put_module(alloc: Global, out: &mut String, bench: &Bench<Witness>) -> Result<(), AllocError> {
     let Ok(text) = text_of(alloc, bench.world()) else {
         return Err(AllocError);
     };
