@@ -40,6 +40,7 @@ spoken false b e f = absurd cc
 pub record Unbroken (row : Row) (s : Surroundings) : Type 0 where
   pub shaped : is_well_shaped row s.node ≡ true
   pub operands : breaks_2 row s ≡ false
+  pub results : breaks_4 row s ≡ false
   pub ends : breaks_9 s ≡ false
   pub yields : breaks_16 s ≡ false
 
@@ -63,7 +64,7 @@ unbroken row s e =
     let p = peel 15 (w && breaks_15 s) _ o.1 in
     let q = peel 16 (w && breaks_16 s) _ p.1 in
     let shaped = shaped_of (breaks_1 row s.node) (breaks_3 row s.node) (breaks_5 row s.node) (breaks_12 row s.node) (breaks_13 row s.node) a.0 c.0 f.0 m.0 n.0 in
-    record { shaped = shaped; operands = spoken w (breaks_2 row s) shaped b.0; ends = spoken w (breaks_9 s) shaped j.0; yields = spoken w (breaks_16 s) shaped q.0 }
+    record { shaped = shaped; operands = spoken w (breaks_2 row s) shaped b.0; results = spoken w (breaks_4 row s) shaped d.0; ends = spoken w (breaks_9 s) shaped j.0; yields = spoken w (breaks_16 s) shaped q.0 }
 
 -- a node has its operation's head
 pub node_head : {N T A : Type 0} (o : OpOf N T A) → (node_of o).head ≡ head o
