@@ -1,5 +1,5 @@
 -- The rules on values, by their numbers.
-use Rattle.std.proofs.Common.{◌≡◌, refl, ap, sym, ◌∙◌, subst, ℕ, ◌+◌, ◌≤◌, Bool, true, false, ◌||◌, List, [], ◌∷◌, Option, Some, None, eqb, eqb-true, leb-true, if◌then◌else◌}
+use Rattle.std.proofs.Common.{◌≡◌, refl, ap, sym, ◌∙◌, subst, ℕ, ◌+◌, ◌≤◌, Bool, true, false, ◌||◌, List, [], ◌∷◌, map, Option, Some, None, eqb, eqb-true, leb-true, if◌then◌else◌}
 use Rattle.std.specs.Prelude.{nat_le}
 use Rattle.std.specs.List.{list_any}
 use Rattle.ir_types.specs.Words.{is_isolated}
@@ -15,7 +15,7 @@ use Rattle.ir_event.specs.Modules.{Module}
 use Rattle.ir_event.specs.Step.{IsSorted}
 use Rattle.rewriter_machine.specs.Contents.{Edit, all_edited}
 use Rattle.patterns_edits.specs.Lists.{Free}
-use Rattle.patterns_base.specs.Keeps.{Each, given}
+use Rattle.patterns_base.specs.Keeps.{given}
 use Rattle.patterns_base.specs.Looks.{front_of, is_clean, when}
 use Rattle.patterns_base.specs.Makes.{made_by}
 use Rattle.patterns_base.specs.Rules.{rule}
@@ -31,43 +31,47 @@ use Rattle.patterns_free.proofs.InPlace.{free_1, free_3, free_13, free_18}
 abbrev IsFree : ℕ → Type 0
 IsFree r = (m : Module) (o : Operation) (front : Place) → Spot m o front → (es : List Edit) → rule r m.tree m.next front o ≡ Some es → HasRoom m es → Free es m
 
-each_rule : Each IsFree rules_on_values
+-- each with its number
+each_rule : List ((r : ℕ) × IsFree r)
 unfolding rule
-each_rule = (
-  (λ m o front s es e room. free_1 m o front s m.next es e),
-  (λ m o front s es e. free_2 m o front s es e),
-  (λ m o front s es e room. free_3 m o front s m.next es e),
-  (λ m o front s es e. free_4 m o front s m.next es e),
-  (λ m o front s es e. free_5 m o front s m.next es e),
-  (λ m o front s es e. free_6 m o front s m.next es e),
-  (λ m o front s es e. free_7 m o front s es e),
-  (λ m o front s es e. free_8 m o front s m.next es e),
-  (λ m o front s es e. free_9 m o front s es e),
-  (λ m o front s es e. free_10 m o front s es e),
-  (λ m o front s es e. free_11 m o front s es e),
-  (λ m o front s es e. free_12 m o front s es e),
-  (λ m o front s es e room. free_13 m o front s m.next es e),
-  (λ m o front s es e. free_14 m o front s es e),
-  (λ m o front s es e. free_15 m o front s m.next es e),
-  (λ m o front s es e. free_16 m o front s m.next es e),
-  (λ m o front s es e. free_17 m o front s m.next es e),
-  (λ m o front s es e room. free_18 m o front s m.next es e),
-  (λ m o front s es e. free_19 m o front s es e),
-  (λ m o front s es e. free_20 m o front s es e),
-  (λ m o front s es e. free_21 m o front s m.next es e),
-  (λ m o front s es e. free_25 m o front s es e),
-  (λ m o front s es e. free_26 m o front s es e),
-  (λ m o front s es e. free_27 m o front s es e),
-  tt,
-)
+each_rule =
+    (1, λ m o front s es e room. free_1 m o front s m.next es e)
+    ∷ (2, λ m o front s es e. free_2 m o front s es e)
+    ∷ (3, λ m o front s es e room. free_3 m o front s m.next es e)
+    ∷ (4, λ m o front s es e. free_4 m o front s m.next es e)
+    ∷ (5, λ m o front s es e. free_5 m o front s m.next es e)
+    ∷ (6, λ m o front s es e. free_6 m o front s m.next es e)
+    ∷ (7, λ m o front s es e. free_7 m o front s es e)
+    ∷ (8, λ m o front s es e. free_8 m o front s m.next es e)
+    ∷ (9, λ m o front s es e. free_9 m o front s es e)
+    ∷ (10, λ m o front s es e. free_10 m o front s es e)
+    ∷ (11, λ m o front s es e. free_11 m o front s es e)
+    ∷ (12, λ m o front s es e. free_12 m o front s es e)
+    ∷ (13, λ m o front s es e room. free_13 m o front s m.next es e)
+    ∷ (14, λ m o front s es e. free_14 m o front s es e)
+    ∷ (15, λ m o front s es e. free_15 m o front s m.next es e)
+    ∷ (16, λ m o front s es e. free_16 m o front s m.next es e)
+    ∷ (17, λ m o front s es e. free_17 m o front s m.next es e)
+    ∷ (18, λ m o front s es e room. free_18 m o front s m.next es e)
+    ∷ (19, λ m o front s es e. free_19 m o front s es e)
+    ∷ (20, λ m o front s es e. free_20 m o front s es e)
+    ∷ (21, λ m o front s es e. free_21 m o front s m.next es e)
+    ∷ (25, λ m o front s es e. free_25 m o front s es e)
+    ∷ (26, λ m o front s es e. free_26 m o front s es e)
+    ∷ (27, λ m o front s es e. free_27 m o front s es e)
+    ∷ []
 
-one_of : (P : ℕ → Type 0) (r : ℕ) (rs : List ℕ) → Each P rs → list_any (eqb r) rs ≡ true → P r
-one_of P r [] all e = absurd cc
-one_of P r (k ∷ rs) all e = go (eqb r k) refl e
+all_rules : map (λ (p : (r : ℕ) × IsFree r). p.0) each_rule ≡ rules_on_values
+unfolding each_rule
+all_rules = refl
+
+one_of : (r : ℕ) (ps : List ((r : ℕ) × IsFree r)) → list_any (eqb r) (map (λ (p : (r : ℕ) × IsFree r). p.0) ps) ≡ true → IsFree r
+one_of r [] e = absurd cc
+one_of r (p ∷ ps) e = go (eqb r p.0) refl e (one_of r ps)
   where
-    go : (b : Bool) → eqb r k ≡ b → (b || list_any (eqb r) rs) ≡ true → P r
-    go true f e = subst P (sym (eqb-true r k f)) all.0
-    go false f e = one_of P r rs all.1 e
+    go : (b : Bool) → eqb r p.0 ≡ b → (b || list_any (eqb r) (map (λ (p : (r : ℕ) × IsFree r). p.0) ps)) ≡ true → (list_any (eqb r) (map (λ (p : (r : ℕ) × IsFree r). p.0) ps) ≡ true → IsFree r) → IsFree r
+    go true f e later = subst IsFree (sym (eqb-true r p.0 f)) p.1
+    go false f e later = later e
 
 -- what edits make is within the limits where they are carried out
 has_room : (es : List Edit) (m n : Module) → carried_out es m ≡ becomes n → HasRoom m es
@@ -89,4 +93,4 @@ are_accepted r m x known formed sorted es n e carried =
     let w = when_is (is_clean m.tree (head o.0)) _ es front.2 in
     let id : (head o.0).id ≡ x = (let s = found_stands x m.tree o.0 o.1 in ap (λ (z : Operation). (head z).id) (sym s.3) ∙ s.2) in
     let spot : Spot m o.0 front.0 = record { formed = formed; sorted = sorted; found = ap (λ z. find z m.tree) id ∙ o.1; place = ap (λ z. front_of z m.tree) id ∙ front.1; clean = w.0 } in
-    one_of IsFree r rules_on_values each_rule known m o.0 front.0 spot es w.1 (has_room es m n carried)
+    one_of r each_rule (ap (list_any (eqb r)) all_rules ∙ known) m o.0 front.0 spot es w.1 (has_room es m n carried)

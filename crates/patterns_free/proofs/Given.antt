@@ -140,7 +140,7 @@ module _ (m : Module) (o : Operation) (front : Place) (s : Spot m o front) where
       (subst (λ z. same_type p.ty z ≡ true) (sym c.truth) (both (same_type p.ty i1) _ u.0).0)
 
   -- what an operand's giver was given, where that has the type of the result
-  gives_behind : (es : List Edit) (a : Value) (ty : TypeTerm) (h : Header) (v : Value) → (head o).operands ≡ a ∷ [] → (head o).results ≡ ty ∷ [] → Giver m.tree a h → h.operands ≡ v ∷ []
+  pub gives_behind : (es : List Edit) (a : Value) (ty : TypeTerm) (h : Header) (v : Value) → (head o).operands ≡ a ∷ [] → (head o).results ≡ ty ∷ [] → Giver m.tree a h → h.operands ≡ v ∷ []
       → when (is_of_type m.tree ty v) (Some (give (head o).id v)) ≡ Some es → HasRoom m es → Free es m
   gives_behind es a ty h v operands results g inner e =
       let w = when_is (is_of_type t ty v) (Some (give x v)) es e in

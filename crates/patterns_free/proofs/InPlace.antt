@@ -127,7 +127,7 @@ part_operands Attrs f h = refl
 -- an entry by its key's bytes is one in the order of keys
 entry_there : (k : List ℕ) (es : Entries) (a : AttrTerm) → beside k es ≡ Some a → is_some (entry_at key_before k es) ≡ true
 entry_there k [] a e = absurd cc
-entry_there k (f ∷ es) a e = go (bytes_eq k f.0) refl e
+entry_there k (f ∷ es) a e = go (bytes_eq k f.0) refl e (entry_there k es a)
   where
     found : k ≡ f.0 → is_some (entry_at key_before k (f ∷ es)) ≡ true
     found one = ap (λ z. is_some (cond (not (key_before k z) && not (key_before z k)) (Some f.1) (entry_at key_before k es))) (sym one) ∙ ap (λ b. is_some (cond (not b && not b) (Some f.1) (entry_at key_before k es))) (keys_ordered.irr k)
@@ -136,20 +136,20 @@ entry_there k (f ∷ es) a e = go (bytes_eq k f.0) refl e
     first true h = refl
     first false h = h
 
-    go : (b : Bool) → bytes_eq k f.0 ≡ b → (if b then Some f.1 else beside k es) ≡ Some a → is_some (entry_at key_before k (f ∷ es)) ≡ true
-    go true i e = found ((bytes_eq-Decides k f.0).0 i)
-    go false i e = first (not (key_before k f.0) && not (key_before f.0 k)) (entry_there k es a e)
+    go : (b : Bool) → bytes_eq k f.0 ≡ b → (if b then Some f.1 else beside k es) ≡ Some a → (beside k es ≡ Some a → is_some (entry_at key_before k es) ≡ true) → is_some (entry_at key_before k (f ∷ es)) ≡ true
+    go true i e later = found ((bytes_eq-Decides k f.0).0 i)
+    go false i e later = first (not (key_before k f.0) && not (key_before f.0 k)) (later e)
 
 past : (k : List ℕ) (f : List ℕ × AttrTerm) (es : Entries) → bytes_eq k f.0 ≡ false → property_of k (f ∷ es) ≡ property_of k es
 past k f es i = rw i refl
 
 property_there : (k : List ℕ) (es : Entries) (i : TypeTerm × ℕ) → property_of k es ≡ Some i → (a : AttrTerm) × (beside k es ≡ Some a)
 property_there k [] i e = absurd cc
-property_there k (f ∷ es) i e = go (bytes_eq k f.0) refl
+property_there k (f ∷ es) i e = go (bytes_eq k f.0) refl (property_there k es i)
   where
-    go : (b : Bool) → bytes_eq k f.0 ≡ b → (a : AttrTerm) × ((if bytes_eq k f.0 then Some f.1 else beside k es) ≡ Some a)
-    go true g = (f.1, ap (λ b. if b then Some f.1 else beside k es) g)
-    go false g = (let w = property_there k es i (sym (past k f es g) ∙ e) in (w.0, ap (λ b. if b then Some f.1 else beside k es) g ∙ w.1))
+    go : (b : Bool) → bytes_eq k f.0 ≡ b → (property_of k es ≡ Some i → (a : AttrTerm) × (beside k es ≡ Some a)) → (a : AttrTerm) × ((if bytes_eq k f.0 then Some f.1 else beside k es) ≡ Some a)
+    go true g later = (f.1, ap (λ b. if b then Some f.1 else beside k es) g)
+    go false g later = (let w = later (sym (past k f es g) ∙ e) in (w.0, ap (λ b. if b then Some f.1 else beside k es) g ∙ w.1))
 
 predicate_there : (h : Header) (n : ℕ) → predicate h ≡ Some n → is_some (entry_at key_before (codes "predicate") h.properties) ≡ true
 predicate_there h n e = go (property_of (codes "predicate") h.properties) refl e
@@ -224,6 +224,7 @@ module _ (m : Module) (o : Operation) (front : Place) (s : Spot m o front) where
         (entry_keeps is_isolated key_before keys_ordered.trans x part k (Some a) m s.formed s.sorted no_reason)
 
     entry_holds : (vs : List Value) → (head o).operands ≡ vs → Holds (head o).id front (length vs) (edited (SetAttr (head o).id k a) m)
+    unfolding holds entry_stands
     entry_holds vs e = record {
       stood = entry_stands;
       long = as_long x front (length vs) change (part_operands part (change_entry key_before k (Some a))) (stands_there m o front s).at.here ∙ (holds vs e).long;

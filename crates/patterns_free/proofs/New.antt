@@ -103,11 +103,15 @@ module _ (x : ℕ) (front : Place) (ty : TypeTerm) where
       ∷ give_new front (m.next + 4) x (binary (codes "arith.addi") ty a (Result (m.next + 3) 0)))
       m
   by_complement m f bits a b p q =
-      constant_then 4 m f bits _ (λ m1 f1 still1 new1 e1.
-      binary_then 3 m1 f1 (codes "arith.xori") b (Result m.next 0) (still1 b q) (new1 m.next refl) _ (λ m2 f2 still2 new2 e2.
-      constant_then 2 m2 f2 1 _ (λ m3 f3 still3 new3 e3.
-      binary_then 1 m3 f3 (codes "arith.addi") (Result (m.next + 1) 0) (Result (m.next + 2) 0) (still3 (Result (m.next + 1) 0) (new2 (m.next + 1) (omega (arith, e1)))) (new3 (m.next + 2) (omega (arith, e1, e2))) _ (λ m4 f4 still4 new4 e4.
-      by_binary m4 f4 (m.next + 4) (omega (arith, e1, e2, e3, e4)) (codes "arith.addi") a (Result (m.next + 3) 0) (still4 a (still3 a (still2 a (still1 a p)))) (new4 (m.next + 3) (omega (arith, e1, e2, e3)))))))
+      let n = m.next in
+      let last = give_new front (n + 4) x (binary (codes "arith.addi") ty a (Result (n + 3) 0)) in
+      let sum = Make front (binary (codes "arith.addi") ty (Result (n + 1) 0) (Result (n + 2) 0)) ∷ last in
+      let one = Make front (constant ty 1) ∷ sum in
+      constant_then 4 m f bits (Make front (binary (codes "arith.xori") ty b (Result n 0)) ∷ one) (λ m1 f1 still1 new1 e1.
+      binary_then 3 m1 f1 (codes "arith.xori") b (Result n 0) (still1 b q) (new1 n refl) one (λ m2 f2 still2 new2 e2.
+      constant_then 2 m2 f2 1 sum (λ m3 f3 still3 new3 e3.
+      binary_then 1 m3 f3 (codes "arith.addi") (Result (n + 1) 0) (Result (n + 2) 0) (still3 (Result (n + 1) 0) (new2 (n + 1) (omega (arith, e1)))) (new3 (n + 2) (omega (arith, e1, e2))) last (λ m4 f4 still4 new4 e4.
+      by_binary m4 f4 (n + 4) (omega (arith, e1, e2, e3, e4)) (codes "arith.addi") a (Result (n + 3) 0) (still4 a (still3 a (still2 a (still1 a p)))) (new4 (n + 3) (omega (arith, e1, e2, e3)))))))
 
   -- by what is left of a value
   pub by_remainder : (m : Module) → Fit x front ty 3 m → (division : List ℕ) (a b : Value) → sees x a m ≡ true → sees x b m ≡ true
@@ -115,9 +119,11 @@ module _ (x : ℕ) (front : Place) (ty : TypeTerm) where
       (Make front (binary division ty a b) ∷ Make front (binary (codes "arith.muli") ty (Result m.next 0) b) ∷ give_new front (m.next + 2) x (binary (codes "arith.subi") ty a (Result (m.next + 1) 0)))
       m
   by_remainder m f division a b p q =
-      binary_then 2 m f division a b p q _ (λ m1 f1 still1 new1 e1.
-      binary_then 1 m1 f1 (codes "arith.muli") (Result m.next 0) b (new1 m.next refl) (still1 b q) _ (λ m2 f2 still2 new2 e2.
-      by_binary m2 f2 (m.next + 2) (omega (arith, e1, e2)) (codes "arith.subi") a (Result (m.next + 1) 0) (still2 a (still1 a p)) (new2 (m.next + 1) (sym e1))))
+      let n = m.next in
+      let last = give_new front (n + 2) x (binary (codes "arith.subi") ty a (Result (n + 1) 0)) in
+      binary_then 2 m f division a b p q (Make front (binary (codes "arith.muli") ty (Result n 0) b) ∷ last) (λ m1 f1 still1 new1 e1.
+      binary_then 1 m1 f1 (codes "arith.muli") (Result n 0) b (new1 n refl) (still1 b q) last (λ m2 f2 still2 new2 e2.
+      by_binary m2 f2 (n + 2) (omega (arith, e1, e2)) (codes "arith.subi") a (Result (n + 1) 0) (still2 a (still1 a p)) (new2 (n + 1) (sym e1))))
 
 module _ (m : Module) (o : Operation) (front : Place) (s : Spot m o front) where
   abbrev x : ℕ

@@ -37,18 +37,25 @@ passed false e = absurd cc
 abbrev Stand : Type 0
 Stand = StandOf (List ℕ) TypeTerm AttrTerm
 
+-- what a row asks of operands and results
+abbrev pub pair : TypesRow → TypesRow → TypesRow × TypesRow
+pair ins outs = (ins, outs)
+
+abbrev pub pair_of : Row → TypesRow × TypesRow
+pair_of row = (row.operands, row.results)
+
 -- what the row of a name asks of operands and results
 abbrev pub types_at : List ℕ → Option (TypesRow × TypesRow)
-types_at name = option_map (λ (row : Row). (row.operands, row.results)) (row_of name)
+types_at name = option_map pair_of (row_of name)
 
 -- what is so of each word is so of a name among them
 pub among_each : (P : List ℕ → Type 0) (words : List (List ℕ)) (name : List ℕ) → Each P words → among words name ≡ true → P name
 among_each P [] name all e = absurd cc
-among_each P (word ∷ words) name all e = go (bytes_eq name word) refl e
+among_each P (word ∷ words) name all e = go (bytes_eq name word) refl e (among_each P words name all.1)
   where
-    go : (b : Bool) → bytes_eq name word ≡ b → (b || among words name) ≡ true → P name
-    go true f e = subst P (sym ((bytes_eq-Decides name word).0 f)) all.0
-    go false f e = among_each P words name all.1 e
+    go : (b : Bool) → bytes_eq name word ≡ b → (b || among words name) ≡ true → (among words name ≡ true → P name) → P name
+    go true f e later = subst P (sym ((bytes_eq-Decides name word).0 f)) all.0
+    go false f e later = later e
 
 pub named_is : (P : List ℕ → Type 0) (word name : List ℕ) → P word → named word name ≡ true → P name
 named_is P word name p e = subst P (sym ((bytes_eq-Decides name word).0 e)) p
@@ -69,17 +76,17 @@ pub record Typed (t o : Operation) (ins outs : TypesRow) : Type 0 where
   pub asked : types_fit known ins (map (λ v. type_of_value v t) (head o).operands) ≡ true
   pub given : types_fit known outs (there (head o).results) ≡ true
 
-row_at : (name : List ℕ) (p : TypesRow × TypesRow) → types_at name ≡ Some p → (row : Row) × (row_of name ≡ Some row) × ((row.operands, row.results) ≡ p)
+row_at : (name : List ℕ) (p : TypesRow × TypesRow) → types_at name ≡ Some p → (row : Row) × (row_of name ≡ Some row) × (pair_of row ≡ p)
 row_at name p e = go (row_of name) refl e
   where
-    go : (o : Option Row) → row_of name ≡ o → option_map (λ (row : Row). (row.operands, row.results)) o ≡ Some p → (row : Row) × (row_of name ≡ Some row) × ((row.operands, row.results) ≡ p)
+    go : (o : Option Row) → row_of name ≡ o → option_map pair_of o ≡ Some p → (row : Row) × (row_of name ≡ Some row) × (pair_of row ≡ p)
     go None f e = absurd cc
     go (Some row) f e = (row, f, cc)
 
-pub typed : (t o : Operation) (ins outs : TypesRow) → HasDistinctIds t → find (head o).id t ≡ Some o → is_clean t (head o) ≡ true → types_at (head o).name ≡ Some (ins, outs) → Typed t o ins outs
-typed t o ins outs d found clean listed = go (found_stands (head o).id t o found) (row_at (head o).name (ins, outs) listed)
+pub typed : (t o : Operation) (ins outs : TypesRow) → HasDistinctIds t → find (head o).id t ≡ Some o → is_clean t (head o) ≡ true → types_at (head o).name ≡ Some (pair ins outs) → Typed t o ins outs
+typed t o ins outs d found clean listed = go (found_stands (head o).id t o found) (row_at (head o).name (pair ins outs) listed)
   where
-    go : (s : Stand) × In s (stands [] t) × ((head s.here).id ≡ (head o).id) × (s.here ≡ o) → (row : Row) × (row_of (head o).name ≡ Some row) × ((row.operands, row.results) ≡ (ins, outs)) → Typed t o ins outs
+    go : (s : Stand) × In s (stands [] t) × ((head s.here).id ≡ (head o).id) × (s.here ≡ o) → (row : Row) × (row_of (head o).name ≡ Some row) × (pair_of row ≡ pair ins outs) → Typed t o ins outs
     go w q =
         let here : In (stand o w.0.path) (stands [] t) = subst (λ (z : Operation). In (stand z w.0.path) (stands [] t)) w.3 w.1 in
         let s = surround t (stand o w.0.path) in
@@ -169,11 +176,11 @@ choices_are = refl
 
 pub ignoring_zero_are : Each (λ name. types_at name ≡ Some two_numbers) ignoring_zero
 unfolding row_of rows ignoring_zero
-ignoring_zero_are = (refl, refl, refl, refl, refl, refl, refl, tt)
+ignoring_zero_are = (refl, (refl, (refl, (refl, (refl, (refl, (refl, tt)))))))
 
 pub ignoring_one_are : Each (λ name. types_at name ≡ Some two_numbers) ignoring_one
 unfolding row_of rows ignoring_one
-ignoring_one_are = (refl, refl, refl, tt)
+ignoring_one_are = (refl, (refl, (refl, tt)))
 
 pub conjunction_is : types_at (codes "arith.andi") ≡ Some two_numbers
 unfolding row_of rows
@@ -181,4 +188,4 @@ conjunction_is = refl
 
 pub keeping_are : Each (λ name. types_at name ≡ Some two_numbers) keeping
 unfolding row_of rows keeping
-keeping_are = (refl, refl, refl, refl, refl, refl, tt)
+keeping_are = (refl, (refl, (refl, (refl, (refl, (refl, tt))))))
