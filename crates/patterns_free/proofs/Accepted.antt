@@ -1,4 +1,4 @@
--- The rules on values, by their numbers.
+-- The rules, by their numbers.
 use Rattle.std.proofs.Common.{◌≡◌, refl, ap, sym, ◌∙◌, subst, ℕ, ◌+◌, ◌≤◌, Bool, true, false, ◌||◌, List, [], ◌∷◌, map, Option, Some, None, eqb, eqb-true, leb-true, if◌then◌else◌}
 use Rattle.std.specs.Prelude.{nat_le}
 use Rattle.std.specs.List.{list_any}
@@ -20,11 +20,12 @@ use Rattle.patterns_base.specs.Looks.{front_of, is_clean, when}
 use Rattle.patterns_base.specs.Makes.{made_by}
 use Rattle.patterns_base.specs.Rules.{rule}
 use Rattle.patterns_base.specs.Rewrites.{Rewrite, becomes, carried_out, edits_of, refused}
-use Rattle.patterns_free.specs.Accepted.{AreAccepted, IsAcceptedAt, rules_on_values}
+use Rattle.patterns_free.specs.Accepted.{AreAccepted, IsAcceptedAt, accepted_rules}
 use Rattle.patterns_free.proofs.Spots.{Spot}
 use Rattle.patterns_free.proofs.Shapes.{given_is, when_is}
 use Rattle.patterns_free.proofs.Given.{HasRoom, free_4, free_5, free_6, free_8, free_15, free_16, free_17, free_21}
 use Rattle.patterns_free.proofs.New.{free_2, free_7, free_9, free_10, free_11, free_12, free_14, free_19, free_20, free_25, free_26, free_27}
+use Rattle.patterns_free.proofs.Opened.{free_22}
 use Rattle.patterns_free.proofs.InPlace.{free_1, free_3, free_13, free_18}
 
 -- a rule's edits at a clean operation are accepted
@@ -56,12 +57,13 @@ each_rule =
     ∷ (19, λ m o front s es e. free_19 m o front s es e)
     ∷ (20, λ m o front s es e. free_20 m o front s es e)
     ∷ (21, λ m o front s es e. free_21 m o front s m.next es e)
+    ∷ (22, λ m o front s es e room. free_22 m o front s es e)
     ∷ (25, λ m o front s es e. free_25 m o front s es e)
     ∷ (26, λ m o front s es e. free_26 m o front s es e)
     ∷ (27, λ m o front s es e. free_27 m o front s es e)
     ∷ []
 
-all_rules : map (λ (p : (r : ℕ) × IsFree r). p.0) each_rule ≡ rules_on_values
+all_rules : map (λ (p : (r : ℕ) × IsFree r). p.0) each_rule ≡ accepted_rules
 unfolding each_rule
 all_rules = refl
 

@@ -68,7 +68,7 @@ no_use x k y n (v ∷ vs) e =
     let b = both (not (is_result_of x v)) (list_all (λ v. not (is_result_of x v)) vs) e in
     ap (λ c. cond c ((y, n) ∷ operand_uses (Result x k) y (n + 1) vs) (operand_uses (Result x k) y (n + 1) vs)) (no_result x k v (not_false (is_result_of x v) b.0)) ∙ no_use x k y (n + 1) vs b.1
 
-gathers_none : {X Y : Type 0} (f : X → List Y) (xs : List X) → ((x : X) → In x xs → f x ≡ []) → gather f xs ≡ []
+pub gathers_none : {X Y : Type 0} (f : X → List Y) (xs : List X) → ((x : X) → In x xs → f x ≡ []) → gather f xs ≡ []
 gathers_none f [] h = refl
 gathers_none f (x ∷ xs) h = ap (λ l. l ++ gather f xs) (h x (inl refl)) ∙ gathers_none f xs (λ y i. h y (inr i))
 

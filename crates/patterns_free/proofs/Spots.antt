@@ -53,7 +53,7 @@ giver_is t (Result x k) h e = go (find x t) refl e
     go (Some o) f e = record { id = x; number = k; is = refl; there = o; found = f; header = cc }
 
 -- operands of operations that stand in a tree
-own_operand : (t : Operation) → HasDistinctIds t → operands_visible is_isolated t ≡ true → (s : StandOf (List ℕ) TypeTerm AttrTerm) → In s (stands [] t) → (v : Value) → In v (head s.here).operands → sees_from is_isolated s.path v ≡ true
+pub own_operand : (t : Operation) → HasDistinctIds t → operands_visible is_isolated t ≡ true → (s : StandOf (List ℕ) TypeTerm AttrTerm) → In s (stands [] t) → (v : Value) → In v (head s.here).operands → sees_from is_isolated s.path v ≡ true
 own_operand t d formed s h v i =
     all_each (sees_from is_isolated s.path) (head s.here).operands
     (all_each (λ (z : StandOf (List ℕ) TypeTerm AttrTerm). list_all (sees_from is_isolated z.path) (head z.here).operands) (stands [] t) (sym (stands_operands is_isolated t) ∙ formed) s h) v i

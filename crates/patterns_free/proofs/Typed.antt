@@ -30,7 +30,7 @@ use Rattle.patterns_base.specs.Made.{i1}
 use Rattle.patterns_base.specs.Looks.{is_clean}
 use Rattle.patterns_yields.proofs.Unbroken.{Unbroken, clean_unbroken, node_head}
 
-passed : (b : Bool) → not b ≡ false → b ≡ true
+pub passed : (b : Bool) → not b ≡ false → b ≡ true
 passed true e = refl
 passed false e = absurd cc
 

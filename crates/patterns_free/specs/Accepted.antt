@@ -9,18 +9,19 @@ use Rattle.rewriter_machine.specs.Contents.{Edit}
 use Rattle.patterns_edits.specs.Lists.{Free}
 use Rattle.patterns_base.specs.Rewrites.{becomes, carried_out, edits_of}
 
--- the rules on values
-abbrev pub rules_on_values : List ℕ
-rules_on_values = range_with_len 1 21 ++ 25 ∷ 26 ∷ 27 ∷ []
+-- the rules whose edits are known to be accepted: those on values, and a branch by a known condition
+abbrev pub accepted_rules : List ℕ
+accepted_rules = range_with_len 1 22 ++ 25 ∷ 26 ∷ 27 ∷ []
 
 -- the edits of rule r at operation x of a module, where there are some and what they make is within the limits, can be
 -- made one after another: no reason stands against any where it is made
 abbrev pub IsAcceptedAt : ℕ → Module → ℕ → Type 0
 IsAcceptedAt r m x = (es : List Edit) (n : Module) → edits_of r m x ≡ Some es → carried_out es m ≡ becomes n → Free es m
 
-abbrev pub IsOnValues : ℕ → Type 0
-IsOnValues r = list_any (eqb r) rules_on_values ≡ true
+-- a rule is one of them
+abbrev pub IsAcceptedRule : ℕ → Type 0
+IsAcceptedRule r = list_any (eqb r) accepted_rules ≡ true
 
--- so it is for each rule on values, at each operation of a well-formed module with sorted dictionaries
+-- so it is for each of them, at each operation of a well-formed module with sorted dictionaries
 abbrev pub AreAccepted : Type 0
-AreAccepted = (r : ℕ) (m : Module) (x : ℕ) → IsOnValues r → IsWellFormed is_isolated m → IsSorted m → IsAcceptedAt r m x
+AreAccepted = (r : ℕ) (m : Module) (x : ℕ) → IsAcceptedRule r → IsWellFormed is_isolated m → IsSorted m → IsAcceptedAt r m x

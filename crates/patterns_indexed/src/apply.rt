@@ -4,7 +4,7 @@ ghost use Rattle.patterns.specs.Benched.{Keeps};
 ghost use Rattle.patterns.specs.Held.{module_held};
 ghost use Rattle.patterns.specs.Rewrites.{rewrite_of};
 ghost use Rattle.patterns.specs.Applied.{Applied, Gave, IsReason};
-ghost use Rattle.patterns_free.specs.Accepted.{IsAcceptedAt, IsOnValues};
+ghost use Rattle.patterns_free.specs.Accepted.{IsAcceptedAt, IsAcceptedRule};
 
 use crate::found::{carry, find};
 use ir_event::analysis::Analysis;
@@ -18,7 +18,8 @@ use std::alloc::Global;
 /// applied.
 ///
 /// Refusals, in order: `NoSuchOp` where the operation isn't in the module; `Full`; `IdsExhausted`; `Full` where the context
-/// is full; and `Memory`. Of a rule on values no edit is refused for a reason.
+/// is full; and `Memory`. Of a rule of 1 to 22, or of 25 to 27, no edit is refused for a
+/// reason.
 pub fn apply<L: Analysis>(
     alloc: Global,
     bench: &mut Bench<L>,
@@ -32,7 +33,7 @@ pub fn apply<L: Analysis>(
     ensures refused { IfErr result (λ e. IsReason (rewrite_of rule (module_held bench.old.desk) op) op (module_held bench.old.desk) bench.new.desk.ctx e) }
     ensures stays { Applied L.meaning bench.old bench.new }
     ensures journal { Keeps L.meaning result bench.old bench.new }
-    ensures accepted { IsOnValues rule → IsAcceptedAt rule (module_held bench.old.desk) op }
+    ensures accepted { IsAcceptedRule rule → IsAcceptedAt rule (module_held bench.old.desk) op }
 {
     no_edit_is_refused();
     bench.is_formed();
