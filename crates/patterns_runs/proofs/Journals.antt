@@ -98,8 +98,8 @@ module _ (a b c d : Held) (begun : b ≡ marked_more a) (es : List Event) (h : R
 
   marks_are : d.marks ≡ a.marks
   marks_are =
-      let own = record { length = length a.journal; counted = false } in
-      let last = record { length = x.newest; counted = x.mark.counted } in
+      let own : Mark = record { length = length a.journal; counted = false } in
+      let last : Mark = record { length = x.newest; counted = x.mark.counted } in
       x.marks ∙ front_same x.mark.rest a.marks last own (sym x.mark.marks ∙ h.marks ∙ ap (λ (k : Held). k.marks) begun)
 
   pub recorded_whole : Recorded es a d
