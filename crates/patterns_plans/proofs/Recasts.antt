@@ -9,7 +9,7 @@ use Rattle.patterns_reads.specs.Contents.{Edit}
 use Rattle.patterns_reads.specs.Keeps.{given}
 use Rattle.patterns_reads.specs.Makes.{give}
 use Rattle.patterns_reads.specs.Looks.{Header, One, is_of_type, one, source, when}
-use Rattle.patterns_reads.specs.Words.{named, index_casts}
+use Rattle.patterns_reads.specs.Words.{among, named, index_casts}
 
 module _ (t : Operation) (n : ℕ) (front : Place) (o : Operation) (p : One) where
   -- where what gives the operand has not one operand and one result
