@@ -15,8 +15,7 @@ use Rattle.patterns_runs.specs.Held.{Held, module_held}
 use Rattle.patterns_base.specs.Makes.{made_by}
 use Rattle.patterns_base.specs.Rewrites.{Rewrite, none, refused, becomes, edits_of, rewrite_of, rewrite_by, carried_out}
 use Rattle.patterns.specs.Applied.{Gave, IsReason, IsRefusedSo}
-use Rattle.patterns.specs.Planned.{IsStopped, planned_edits}
-use Rattle.patterns.specs.declared.plan.Planned.{Planned}
+use Rattle.patterns.specs.Planned.{IsStopped}
 
 rewrite_is : (r : ℕ) (m : Module) (x : ℕ) → rewrite_of r m x ≡ rewrite_by (edits_of r m x) m
 unfolding rewrite_of
@@ -49,15 +48,18 @@ module _ (w : World) (h : Held) (ctx : w.ctx ≡ h.ctx) (store : w.store ≡ h.s
   pub not_there : (rewrite : Rewrite) (c : Things) (b : Bool) → b ≡ has_id x w.store.module_of.tree → b ≡ false → IsReason rewrite x (module_held h) c NoSuchOp
   not_there rewrite c b e n = inr (inl (refl, ap (λ (m : Module). has_id x m.tree) (sym same_module) ∙ map_has_id (name_term w.ctx) (type_term w.ctx) (attr_term w.ctx) x w.store.module_of.tree ∙ sym e ∙ n))
 
-  module _ (r : ℕ) (p : Option Planned) (is : option_map (planned_edits w.ctx (module_in w).next x) p ≡ edits_of r (module_in w) x) where
+  -- what was found of a rule, where this says which edits that stands for
+  module _ {P : Type 0} (edits : Things → ℕ → P → List Edit) (r : ℕ) (p : Option P) (is : option_map (edits w.ctx (module_in w).next) p ≡ edits_of r (module_in w) x) where
+    rewritten : rewrite_of r (module_held h) x ≡ rewrite_by (option_map (edits w.ctx (module_in w).next) p) (module_held h)
+    rewritten = rewrite_is r (module_held h) x ∙ ap (λ m. rewrite_by (edits_of r m x) (module_held h)) (sym same_module) ∙ ap (λ q. rewrite_by q (module_held h)) (sym is)
+
     pub was_none : p ≡ None → Gave (rewrite_of r (module_held h) x) false (module_held h) (module_held h)
     was_none n =
         subst (λ a. Gave a false (module_held h) (module_held h))
-        (sym (rewrite_is r (module_held h) x ∙ ap (λ m. rewrite_by (edits_of r m x) (module_held h)) (sym same_module) ∙ ap (λ q. rewrite_by q (module_held h)) (sym is ∙ ap (option_map (planned_edits w.ctx (module_in w).next x)) n)))
+        (sym (rewritten ∙ ap (λ q. rewrite_by (option_map (edits w.ctx (module_in w).next) q) (module_held h)) n))
         (refl, refl)
 
-    pub rewrite_due : (q : Planned) → p ≡ Some q → rewrite_of r (module_held h) x ≡ carried_out (planned_edits h.ctx (module_held h).next x q) (module_held h)
+    pub rewrite_due : (q : P) → p ≡ Some q → rewrite_of r (module_held h) x ≡ carried_out (edits h.ctx (module_held h).next q) (module_held h)
     rewrite_due q found =
-        rewrite_is r (module_held h) x ∙ ap (λ m. rewrite_by (edits_of r m x) (module_held h)) (sym same_module)
-        ∙ ap (λ q. rewrite_by q (module_held h)) (sym is ∙ ap (option_map (planned_edits w.ctx (module_in w).next x)) found)
-        ∙ λ i. carried_out (planned_edits (ctx i) (same_module i).next x q) (module_held h)
+        rewritten ∙ ap (λ q. rewrite_by (option_map (edits w.ctx (module_in w).next) q) (module_held h)) found
+        ∙ λ i. carried_out (edits (ctx i) (same_module i).next q) (module_held h)

@@ -89,6 +89,13 @@ module _ {B : Type 0} (meaning : B → Listener) where
   pub journaled_along : (a b c : Benched B) → Holds b.desk.ctx → Added meaning a b → Journaled meaning b c → Journaled meaning a c
   journaled_along a b c holds p q = (q.0, heard_more meaning [] q.0 a b c holds p.untold q.1, recorded_grown q.0 a.desk b.desk c.desk p.grown q.2)
 
+  -- nothing was noted where the context alone grew, and where edits were refused behind that
+  pub kept_added : (a b : Benched B) → Added meaning a b → Recorded [] a.desk b.desk
+  kept_added a b p = recorded_grown [] a.desk b.desk b.desk p.grown (recorded_none b.desk)
+
+  pub kept_along : (a b c : Benched B) → Added meaning a b → Recorded [] b.desk c.desk → Recorded [] a.desk c.desk
+  kept_along a b c p r = recorded_grown [] a.desk b.desk c.desk p.grown r
+
 -- ---- a plan at operation x, where a world shows what a bench holds
 
 module _ (w : World) (h : Held) (ctx : w.ctx ≡ h.ctx) (store : w.store ≡ h.store) (x : ℕ) (p : Planned) where

@@ -60,7 +60,7 @@ module _ (w : World) (b : Held) (ctx : w.ctx ≡ b.ctx) (store : w.store ≡ b.s
     rule_held = subst (λ m. lowest m x ≡ rewrite_of f.rule m x) (same_module w b ctx store x) is.1
 
     pub lowest_due : lowest (module_held b) x ≡ carried_out (planned_edits b.ctx (module_held b).next x f.planned) (module_held b)
-    lowest_due = rule_held ∙ rewrite_due w b ctx store x f.rule (Some f.planned) is.0.edits f.planned refl
+    lowest_due = rule_held ∙ rewrite_due w b ctx store x (λ c n q. planned_edits c n x q) f.rule (Some f.planned) is.0.edits f.planned refl
 
 -- rules that may be left out
 pub never : (w : World) (x r : ℕ) → r ≤ 24 → IsPlanAt r w x None → IsLeftOut r w x

@@ -1,7 +1,6 @@
 //! A plan, carried out.
-ghost use Rattle.std.specs.Prelude.{OnOk};
 ghost use Rattle.ir_event.specs.Modules.{module_meaning};
-ghost use Rattle.patterns_runs.specs.Benched.{Journaled};
+ghost use Rattle.patterns_runs.specs.Benched.{Keeps};
 ghost use Rattle.patterns_runs.specs.Held.{module_held};
 ghost use Rattle.patterns_makes.specs.Plans.{PlanIsOf};
 ghost use Rattle.patterns.specs.Applied.{Applied};
@@ -19,10 +18,10 @@ use patterns_makes::make::edits_for;
 use patterns_makes::site::Site;
 use std::alloc::Global;
 
-/// Carries out a plan at an operation, or leaves the module and its marks as they were.
+/// Carries out a plan at an operation, or leaves the module, its marks and the journal as they were.
 ///
 /// Refusals, in order: `Full`; `IdsExhausted`; `Full` where the context is full; and `Memory`.
-pub(crate) fn carry_plan<L: Analysis>(
+pub fn carry_plan<L: Analysis>(
     alloc: Global,
     bench: &mut Bench<L>,
     op: OpId,
@@ -31,7 +30,7 @@ pub(crate) fn carry_plan<L: Analysis>(
     requires { PlanIsOf bench.old.desk.ctx planned.plan }
     ensures carried { WereCarried (planned_edits bench.old.desk.ctx (module_held bench.old.desk).next op planned) result (module_held bench.old.desk) (module_held bench.new.desk) bench.new.desk.ctx }
     ensures stays { Applied L.meaning bench.old bench.new }
-    ensures journal { OnOk result (Journaled L.meaning bench.old bench.new) }
+    ensures journal { Keeps L.meaning result bench.old bench.new }
 {
     let world = bench.world();
     if let Some(refusal) = limit_reason(world, plan_makes(&planned.plan)) {

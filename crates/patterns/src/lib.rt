@@ -1,10 +1,9 @@
-//! The rules, at an operation of a bench's module: one of them, or the lowest that applies.
+//! The rules, at an operation of a bench's module: the plan of one of them, carried out, or the lowest that applies.
 #![tactic(auto)]
 
-pub mod apply;
-mod carry;
+pub mod carry;
 pub mod laws;
 mod likely;
-mod limits;
+pub mod limits;
 pub mod lowest;
-mod plan;
+pub mod plan;

@@ -8,7 +8,7 @@ use ir_tree::limits::MOST_OPS;
 use ir_types::refusal::Refusal;
 
 /// Why a module can't have so many operations more: it would be too full, or ids wouldn't be enough.
-pub(crate) fn limit_reason(world: &World, more: u64) -> Option<Refusal>
+pub fn limit_reason(world: &World, more: u64) -> Option<Refusal>
     ensures { result ≡ limit_reason more (module_in world.now) }
 {
     if world.store.op_count().saturating_add(more) > MOST_OPS {

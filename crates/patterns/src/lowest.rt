@@ -1,11 +1,11 @@
 //! The lowest rule that applies at an operation.
-ghost use Rattle.std.specs.Prelude.{◌≡◌, ◌≤◌, true, is_some, IfOk, IfErr, IfSome, OnErr, OnOk, Some};
+ghost use Rattle.std.specs.Prelude.{◌≡◌, ◌≤◌, true, is_some, IfOk, IfErr, IfSome, OnErr, Some};
 ghost use Rattle.ir_event.specs.Modules.{NodeIsOf, module_in};
 ghost use Rattle.patterns_base.specs.Canonicalization.{lowest as lowest_of};
 ghost use Rattle.patterns_base.specs.Looks.{front_of, is_clean as clean_at};
 ghost use Rattle.patterns_base.specs.Rewrites.{rewrite_of};
 ghost use Rattle.patterns_plans.specs.Reads.{head_at, head_in};
-ghost use Rattle.patterns_runs.specs.Benched.{Journaled};
+ghost use Rattle.patterns_runs.specs.Benched.{Keeps};
 ghost use Rattle.patterns_runs.specs.Held.{module_held};
 ghost use Rattle.patterns.specs.Applied.{Applied, Gave, IsReason, IsWritten};
 ghost use Rattle.patterns.specs.Lowest.{AreWritten, IsFirst, IsLowest, TriedFirst};
@@ -110,8 +110,8 @@ fn find_lowest(alloc: Global, world: &World, op: OpId) -> Result<Option<Found>, 
     }
 }
 
-/// Applies the lowest of the rules 1 to 24 that applies at an operation, or leaves the module and its marks as they were.
-/// The answer is that rule.
+/// Applies the lowest of the rules 1 to 24 that applies at an operation, or leaves the module, its marks and the journal
+/// as they were. The answer is that rule.
 ///
 /// Refusals, in order: `NoSuchOp` where the operation isn't in the module; `Full`; `IdsExhausted`; `Full` where the context
 /// is full; and `Memory`.
@@ -125,7 +125,7 @@ pub fn lowest<L: Analysis>(
     ensures err { OnErr result (module_held bench.new.desk ≡ module_held bench.old.desk) }
     ensures refused { IfErr result (λ e. IsReason (lowest_of (module_held bench.old.desk) op) op (module_held bench.old.desk) bench.new.desk.ctx e) }
     ensures stays { Applied L.meaning bench.old bench.new }
-    ensures journal { OnOk result (Journaled L.meaning bench.old bench.new) }
+    ensures journal { Keeps L.meaning result bench.old bench.new }
 {
     let world = bench.world();
     if !world.store.in_tree(op) {

@@ -91,7 +91,7 @@ pub(crate) fn plan_at(
 }
 
 /// The plan of a rule at an operation, if it applies.
-pub(crate) fn find_plan(
+pub fn find_plan(
     alloc: Global,
     world: &World,
     rule: u8,

@@ -2,7 +2,7 @@
 use ir_types::ids::OpId;
 use mlir_work_cases_base::texts::{bytes, first, put_all_shown, small};
 use mlir_work_cases_base::witness::Witness;
-use patterns::apply::apply;
+use patterns_indexed::apply::apply;
 use rewriter_cases_base::Bench;
 use rewriter_cases_base::worlds::{bench_from, text_of};
 use std::alloc::{AllocError, Global};
@@ -19,7 +19,7 @@ fn put_applied(
     let Ok(rule) = u8::try_from(rule) else {
         return out.push_str("no rule");
     };
-    if rule < 1 || rule > 27 {
+    if rule < 1 || rule > 30 {
         return out.push_str("no rule");
     }
     match apply(alloc, bench, rule, op) {

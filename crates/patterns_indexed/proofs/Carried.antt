@@ -17,15 +17,15 @@ use Rattle.patterns_lowering.specs.Interned.{Interned}
 use Rattle.patterns_lowering.specs.Plans.{LoweringIsOf, lowering_makes}
 use Rattle.patterns_lowering.proofs.Counted.{lowering_made}
 use Rattle.patterns_indexed.specs.Planned.{planned_edits}
-use Rattle.patterns_indexed.specs.declared.plan.Planned.{Planned}
+use Rattle.patterns_indexed.specs.declared.plan.PlannedLowering.{PlannedLowering}
 
 -- what interning for lowerings makes of a bench is what interning for any rule does
 pub added_for : {B : Type 0} (meaning : B → Listener) (a b : Benched B) → Interned meaning a b → Added meaning a b
 added_for meaning a b p = record { grown = p.grown; untold = p.untold }
 
--- ---- a plan, where a world shows what a bench holds
+-- ---- a lowering, where a world shows what a bench holds
 
-module _ (w : World) (h : Held) (ctx : w.ctx ≡ h.ctx) (store : w.store ≡ h.store) (p : Planned) (of : LoweringIsOf h.ctx p.plan) where
+module _ (w : World) (h : Held) (ctx : w.ctx ≡ h.ctx) (store : w.store ≡ h.store) (p : PlannedLowering) (of : LoweringIsOf h.ctx p.plan) where
   same_module : module_in w ≡ module_held h
   same_module i = module_meaning (ctx i) (store i).module_of
 

@@ -1,34 +1,33 @@
-//! A plan, carried out.
-ghost use Rattle.std.specs.Prelude.{OnOk};
-ghost use Rattle.patterns.specs.Benched.{Journaled};
+//! A lowering, carried out.
+ghost use Rattle.patterns.specs.Benched.{Keeps};
 ghost use Rattle.patterns.specs.Held.{module_held};
 ghost use Rattle.patterns.specs.Applied.{Applied};
 ghost use Rattle.patterns.specs.Planned.{WereCarried};
 ghost use Rattle.patterns_lowering.specs.Plans.{LoweringIsOf};
 ghost use Rattle.patterns_indexed.specs.Planned.{planned_edits};
 
-use crate::limits::limit_reason;
-use crate::plan::Planned;
+use crate::plan::PlannedLowering;
 use ir_event::analysis::Analysis;
 use ir_types::refusal::Refusal;
+use patterns::limits::limit_reason;
 use patterns_lowering::count::lowering_makes;
 use patterns_lowering::edits::lowering_edits;
 use patterns_runs::Bench;
 use patterns_runs::carry::carry_whole;
 use std::alloc::Global;
 
-/// Carries out a plan, or leaves the module and its marks as they were.
+/// Carries out a lowering, or leaves the module, its marks and the journal as they were.
 ///
 /// Refusals, in order: `Full`; `IdsExhausted`; `Full` where the context is full; and `Memory`.
-pub(crate) fn carry_plan<L: Analysis>(
+pub(crate) fn carry_lowering<L: Analysis>(
     alloc: Global,
     bench: &mut Bench<L>,
-    planned: Planned,
+    planned: PlannedLowering,
 ) -> Result<(), Refusal>
     requires { LoweringIsOf bench.old.desk.ctx planned.plan }
     ensures carried { WereCarried (planned_edits bench.old.desk.ctx (module_held bench.old.desk).next planned) result (module_held bench.old.desk) (module_held bench.new.desk) bench.new.desk.ctx }
     ensures stays { Applied L.meaning bench.old bench.new }
-    ensures journal { OnOk result (Journaled L.meaning bench.old bench.new) }
+    ensures journal { Keeps L.meaning result bench.old bench.new }
 {
     let world = bench.world();
     if let Some(refusal) = limit_reason(world, lowering_makes(&planned.plan)) {

@@ -1,4 +1,4 @@
-//! The plan of a rule at an operation.
+//! How one of rules 28 to 30 lowers an operation.
 ghost use Rattle.std.specs.Prelude.{◌≡◌, ◌≤◌, IfOk, IfSome, option_map};
 ghost use Rattle.ir_event.specs.Modules.{module_in};
 ghost use Rattle.patterns.specs.Rewrites.{edits_of};
@@ -14,20 +14,20 @@ use patterns_reads::clean::is_clean;
 use patterns_reads::look::{front, shown};
 use std::alloc::{AllocError, Global};
 
-/// What a rule makes of an operation, and the place in front of that.
+/// How a rule lowers an operation, and the place in front of that.
 #[derive(Drop)]
-pub struct Planned {
+pub struct PlannedLowering {
     pub front: Place,
     pub plan: Lowering,
 }
 
-/// The plan of a rule at an operation, if it applies.
-pub(crate) fn find_plan(
+/// How one of rules 28 to 30 lowers an operation, if it applies.
+pub(crate) fn find_lowering(
     alloc: Global,
     world: &World,
     rule: u8,
     op: OpId,
-) -> Result<Option<Planned>, AllocError>
+) -> Result<Option<PlannedLowering>, AllocError>
     requires low { 28 ≤ rule }
     requires high { rule ≤ 30 }
     ensures edits { IfOk result (λ p. option_map (planned_edits world.now.ctx (module_in world.now).next) p ≡ edits_of rule (module_in world.now) op) }
@@ -43,7 +43,7 @@ pub(crate) fn find_plan(
         return Ok(None);
     }
     match plan_lowered(alloc, world, rule, op)? {
-        Some(plan) => Ok(Some(Planned { front, plan })),
+        Some(plan) => Ok(Some(PlannedLowering { front, plan })),
         None => Ok(None),
     }
 }

@@ -1,7 +1,4 @@
-pub mod Bits
-pub mod Booleans
 pub mod Folded
-pub mod Names
 pub mod Numbered
 pub mod Recasts
 pub mod Never

@@ -1,39 +1,15 @@
 -- Casts of casts.
-use Rattle.std.proofs.Common.{◌≡◌, refl, ap, sym, ◌∙◌, ℕ, List, Bool, true, false, ◌||◌, Option, Some, None, if◌then◌else◌}
-use Rattle.std.specs.Prelude.{codes, option_map}
-use Rattle.std.specs.Option.{option_eq}
-use Rattle.ir_types.specs.Things.{Things}
-use Rattle.ir_types.specs.Terms.{TypeTerm, name_term, type_term, attr_term}
-use Rattle.ir_types.specs.SameTypes.{same_type}
+use Rattle.std.proofs.Common.{◌≡◌, refl, ap, sym, ◌∙◌, ℕ, List, Bool, true, false, Option, Some, None, if◌then◌else◌}
+use Rattle.std.specs.Prelude.{codes}
 use Rattle.ir_tree.specs.declared.place.Place.{Place}
-use Rattle.ir_tree.specs.declared.value.Value.{Value}
-use Rattle.ir_tree.specs.Tree.{Op, head}
-use Rattle.ir_tree.specs.Meaning.{Operation, meaning}
-use Rattle.ir_tree_laws.specs.Values.{type_of_value}
-use Rattle.ir_tree_laws.proofs.Contents.{map_type_of_value}
-use Rattle.patterns_reads.specs.Casting.{resizing, rule_21, unrealized, through_index, back_from}
+use Rattle.ir_tree.specs.Tree.{head}
+use Rattle.ir_tree.specs.Meaning.{Operation}
+use Rattle.patterns_reads.specs.Casting.{rule_21, unrealized, through_index, back_from}
 use Rattle.patterns_reads.specs.Contents.{Edit}
 use Rattle.patterns_reads.specs.Keeps.{given}
 use Rattle.patterns_reads.specs.Makes.{give}
 use Rattle.patterns_reads.specs.Looks.{Header, One, is_of_type, one, source, when}
-use Rattle.patterns_reads.specs.Words.{named, among, extensions, index_casts}
-
--- the type of a value
-pub typed : (c : Things) (t : Op) (v : Value) (ty : TypeTerm) (b : Bool) (o : Option ℕ) → o ≡ type_of_value v t → b ≡ option_eq same_type (option_map (type_term c) o) (Some ty) → b ≡ is_of_type (meaning c t) ty v
-typed c t v ty b o e f = f ∙ ap (λ p. option_eq same_type (option_map (type_term c) p) (Some ty)) e ∙ ap (λ p. option_eq same_type p (Some ty)) (sym (map_type_of_value (name_term c) (type_term c) (attr_term c) v t))
-
--- one of two
-pub or_true : (r a b : Bool) → r ≡ a → r ≡ true → r ≡ (a || b)
-or_true true a b e h = ap (λ z. z || b) e
-or_true false a b e h = absurd cc
-
-pub or_false : (r s a b : Bool) → r ≡ a → r ≡ false → s ≡ b → s ≡ (a || b)
-or_false true s a b e h k = absurd cc
-or_false false s a b e h k = k ∙ ap (λ z. z || b) e
-
-pub resizing_is : (name : List ℕ) → among resizing name ≡ (named (codes "arith.trunci") name || among extensions name)
-unfolding resizing
-resizing_is name = refl
+use Rattle.patterns_reads.specs.Words.{among, named, index_casts}
 
 module _ (t : Operation) (n : ℕ) (front : Place) (o : Operation) (p : One) where
   -- where what gives the operand has not one operand and one result

@@ -7,13 +7,13 @@ ghost use Rattle.patterns_plans.specs.Planned.{FitsIn, IsPlanned};
 ghost use Rattle.patterns_plans.specs.Casts.{IsPlannedOne};
 
 use crate::given::give;
-use crate::sources::{source_like, source_of_extension, source_of_resizing};
-use crate::types::{is_of_type, type_width};
-use crate::words::{is_extension, is_index_cast, is_same_name};
 use ir_event::world::World;
 use ir_store::node::Node;
 use ir_types::ids::OpId;
 use ir_types::word::Word;
+use patterns_plans_base::sources::{source_like, source_of_extension, source_of_resizing};
+use patterns_plans_base::types::{is_of_type, type_width};
+use patterns_plans_base::words::{is_extension, is_index_cast, is_same_name};
 use patterns_reads::plan::Plan;
 use patterns_reads::shapes::{Single, one_of};
 use std::alloc::{AllocError, Global};

@@ -4,13 +4,13 @@ ghost use Rattle.ir_event.specs.Modules.{NodeIsOf};
 ghost use Rattle.patterns_reads.specs.Folding.{rule_10, rule_11};
 ghost use Rattle.patterns_plans.specs.Planned.{FitsIn, IsPlanned};
 
-use crate::sources::source_like;
-use crate::types::{negated, type_width};
-use crate::words::{is_regrouping, word_name};
 use dialects_int::fold::fold;
 use ir_event::world::World;
 use ir_store::node::Node;
 use ir_types::word::Word;
+use patterns_plans_base::sources::source_like;
+use patterns_plans_base::types::{negated, type_width};
+use patterns_plans_base::words::{is_regrouping, word_name};
 use patterns_reads::known::known;
 use patterns_reads::plan::Plan;
 use patterns_reads::shapes::two_of;

@@ -6,8 +6,6 @@ ghost use Rattle.patterns_reads.specs.Folding.{rule_2, rule_7, rule_9, rule_12, 
 ghost use Rattle.patterns_plans.specs.Numbers.{known_each, readable};
 ghost use Rattle.patterns_plans.specs.Planned.{FitsIn, IsPlanned};
 
-use crate::predicates::{holds_of_itself, predicate};
-use crate::words::{is_cancelling, is_remainder};
 use dialects_int::fold::fold;
 use ir_event::world::World;
 use ir_store::node::Node;
@@ -15,6 +13,8 @@ use ir_tree::uses::is_same;
 use ir_tree::value::Value;
 use ir_types::bits::Bits;
 use ir_types::word::Word;
+use patterns_plans_base::predicates::{holds_of_itself, predicate};
+use patterns_plans_base::words::{is_cancelling, is_remainder};
 use patterns_reads::known::{is_number, known};
 use patterns_reads::look::is_constant;
 use patterns_reads::plan::Plan;

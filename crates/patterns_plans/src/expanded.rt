@@ -4,11 +4,11 @@ ghost use Rattle.ir_event.specs.Modules.{NodeIsOf};
 ghost use Rattle.patterns_reads.specs.Folding.{rule_25, rule_26, rule_27};
 ghost use Rattle.patterns_plans.specs.Planned.{FitsIn, IsPlanned};
 
-use crate::types::all_ones;
-use crate::words::{asking, division};
 use ir_event::world::World;
 use ir_store::node::Node;
 use ir_types::word::Word;
+use patterns_plans_base::types::all_ones;
+use patterns_plans_base::words::{asking, division};
 use patterns_reads::plan::Plan;
 use patterns_reads::shapes::two_of;
 

@@ -8,8 +8,6 @@ ghost use Rattle.patterns_reads.specs.Folding.{rule_4, rule_5, rule_6, rule_8, r
 ghost use Rattle.patterns_reads.specs.Plans.{PlanIsOf, plan_meaning};
 ghost use Rattle.patterns_plans.specs.Planned.{FitsIn, IsPlanned};
 
-use crate::types::{all_ones, is_boolean};
-use crate::words::{ignores_one, ignores_zero, is_keeping};
 use ir_event::world::World;
 use ir_store::node::Node;
 use ir_tree::uses::is_same;
@@ -17,6 +15,8 @@ use ir_tree::value::Value;
 use ir_types::ids::OpId;
 use ir_types::word::Word;
 use patterns_edits::edit::Edit;
+use patterns_plans_base::types::{all_ones, is_boolean};
+use patterns_plans_base::words::{ignores_one, ignores_zero, is_keeping};
 use patterns_reads::known::{is_number, known};
 use patterns_reads::plan::Plan;
 use patterns_reads::shapes::{three_of, two_of};

@@ -4,13 +4,13 @@ ghost use Rattle.ir_event.specs.Modules.{NodeIsOf};
 ghost use Rattle.patterns_reads.specs.Folding.{rule_3, rule_13, rule_18};
 ghost use Rattle.patterns_plans.specs.Planned.{FitsIn, IsPlanned};
 
-use crate::predicates::{mirrored, predicate};
-use crate::words::is_swapping;
 use ir_event::world::World;
 use ir_store::node::Node;
 use ir_types::ids::OpId;
 use ir_types::word::Word;
 use patterns_edits::edit::Edit;
+use patterns_plans_base::predicates::{mirrored, predicate};
+use patterns_plans_base::words::is_swapping;
 use patterns_reads::known::{is_known, is_number, source};
 use patterns_reads::look::is_constant;
 use patterns_reads::plan::Plan;

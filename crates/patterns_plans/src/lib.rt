@@ -10,9 +10,5 @@ mod expanded;
 mod given;
 mod in_place;
 pub mod may;
-mod predicates;
-mod sources;
-mod types;
-mod words;
 
 pub use patterns_reads::{clean, look, plan};

@@ -8,7 +8,6 @@ ghost use Rattle.patterns_reads.specs.Reads.{head_at, head_in};
 ghost use Rattle.patterns_plans.specs.May.{chooses_by_constant, chooses_by_opposite, chooses_constant, chooses_twins, cuts_cast, extends_extension, first_is_constant, has_twins, is_called, reads_constant, second_is_constant};
 ghost use Rattle.patterns_plans.specs.Planned.{IsPlanAt};
 
-use crate::words::{is_extension, is_resizing};
 use effects::dead_op::dead_op;
 use ir_event::world::World;
 use ir_store::node::Node;
@@ -16,6 +15,7 @@ use ir_tree::uses::is_same;
 use ir_tree::value::Value;
 use ir_types::ids::OpId;
 use ir_types::word::Word;
+use patterns_plans_base::words::{is_extension, is_resizing};
 use patterns_reads::look::{giver_node, is_constant};
 use patterns_reads::shapes::{one_of, three_of, two_of};
 

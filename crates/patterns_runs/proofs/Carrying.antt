@@ -14,14 +14,16 @@ use Rattle.patterns_edits.specs.Edits as edit
 use Rattle.patterns_edits.specs.Machine.{State, Do, Step, Commit, Rollback, Reply, Done, DoneAs, Refused, Nothing, Answer, Goes, due_edit, accepted}
 use Rattle.patterns_edits.proofs.Answers.{accepted_gives, refused_leaves}
 use Rattle.rewriter.specs.Benched.{Benched, Heard, Journaled, Led, reply_of, state_of}
-use Rattle.rewriter.specs.Held.{module_held, open_marks}
+use Rattle.rewriter.specs.Held.{Held, module_held, open_marks}
+use Rattle.rewriter.specs.Moves.{Recorded}
 use Rattle.rewriter.specs.Rolling.{Dropped}
 use Rattle.rewriter.proofs.Calls.{stepped, committed, rolled_back}
+use Rattle.rewriter.proofs.Noted.{recorded_undone}
 use Rattle.rewriter.proofs.OpenMarks.{open_none}
 use Rattle.patterns_edits.specs.declared.edit.Edit.{Edit as Coded}
 use Rattle.patterns_edits.specs.Lists.{AllFit, Fits, IsWhy, Tried, edits_meaning, numbered}
-use Rattle.patterns_runs.specs.Runs.{Along}
-use Rattle.patterns_runs.proofs.Journals.{marked_more, recorded_none, recorded_on, recorded_whole, surely}
+use Rattle.patterns_runs.specs.Runs.{Along, Noted}
+use Rattle.patterns_runs.proofs.Journals.{marked_more, push_some, recorded_none, recorded_on, recorded_whole, surely}
 
 -- ---- one edit
 
@@ -178,6 +180,18 @@ module _ {B : Type 0} (meaning : B → Listener) where
 
   pub begun_fit : (a b : Benched B) (begun : Begun a b) (es : List Coded) → AllFit a.desk.ctx es → AllFit b.desk.ctx es
   begun_fit a b begun es f = subst (λ c. AllFit c es) (sym begun.ctx) f
+
+-- ---- what is noted of edits that are refused
+
+module _ {B : Type 0} (meaning : B → Listener) where
+  pub noted_refused : (a b d : Benched B) → Along meaning a b → Journaled meaning a b → Recorded [] b.desk d.desk → Noted a.desk d.desk
+  noted_refused a b d along noted k = (noted.0 ++ [], recorded_on noted.0 [] a.desk b.desk d.desk along.opens noted.2 k)
+
+-- edits under a step that is undone
+pub recorded_back : {A : Type 0} (r : Result A Refusal) (a b c d : Held) → b ≡ marked_more a → Noted b c → OnOk r (Dropped false c d) → OnErr r (c.marks ≡ []) → (a.marks ≡ [] → a.journal ≡ []) → Recorded [] a d
+recorded_back r a b c d begun noted dropped none unmarked =
+    let some : c.marks ≢ [] = λ e. push_some a.marks (record { length = length a.journal; counted = false }) (sym (ap (λ (k : Held). k.marks) begun) ∙ sym noted.1.marks ∙ e) in
+    recorded_undone false a b c d begun noted.1.marks noted.0 noted.1 (surely r c.marks some none dropped) unmarked refl
 
 -- a list that isn't empty
 pub uncons : {X : Type 0} (rest : List X) (e d : X) → 0 < length rest → e ≡ get_or rest 0 d → rest ≡ e ∷ take (length rest - 1) (drop 1 rest)

@@ -32,7 +32,7 @@ noted_alike [] (j ∷ js) xs es e = absurd cc
 noted_alike (k ∷ ks) [] xs es e = absurd cc
 noted_alike (k ∷ ks) (j ∷ js) xs es e = refl
 
-push_some : (ks : List Mark) (k : Mark) → ks ++ k ∷ [] ≢ []
+pub push_some : (ks : List Mark) (k : Mark) → ks ++ k ∷ [] ≢ []
 push_some [] k = λ n. (let f : k ∷ [] ≡ [] = n in cc)
 push_some (j ∷ ks) k = λ n. (let f : j ∷ (ks ++ k ∷ []) ≡ [] = n in cc)
 

@@ -1,10 +1,10 @@
 //! Edits, carried out one after another.
 ghost use Rattle.std.specs.Prelude.{◌≡◌, OnOk, OnErr, IfErr};
 ghost use Rattle.patterns_edits.specs.Contents.{all_edited};
-ghost use Rattle.rewriter.specs.Benched.{Journaled};
+ghost use Rattle.rewriter.specs.Benched.{Journaled, Keeps};
 ghost use Rattle.rewriter.specs.Held.{module_held};
 ghost use Rattle.patterns_edits.specs.Lists.{AllFit, IsWhy, edits_meaning};
-ghost use Rattle.patterns_runs.specs.Runs.{Along};
+ghost use Rattle.patterns_runs.specs.Runs.{Along, Noted};
 
 use crate::single::carry_one;
 use ir_event::analysis::Analysis;
@@ -20,6 +20,7 @@ fn carry<L: Analysis>(bench: &mut Bench<L>, edits: &[Edit]) -> Result<(), Refusa
     ensures refused { IfErr result (λ e. IsWhy (edits_meaning bench.old.desk.ctx edits.now) (module_held bench.old.desk) e) }
     ensures along { Along L.meaning bench.old bench.new }
     ensures journal { OnOk result (Journaled L.meaning bench.old bench.new) }
+    ensures noted { OnErr result (Noted bench.old.desk bench.new.desk) }
 {
     led_benches_are_kept::<L>();
     bench.is_formed();
@@ -42,7 +43,7 @@ pub fn carry_whole<L: Analysis>(bench: &mut Bench<L>, edits: &[Edit]) -> Result<
     ensures err { OnErr result (module_held bench.new.desk ≡ module_held bench.old.desk) }
     ensures refused { IfErr result (λ e. IsWhy (edits_meaning bench.old.desk.ctx edits.now) (module_held bench.old.desk) e) }
     ensures along { Along L.meaning bench.old bench.new }
-    ensures journal { OnOk result (Journaled L.meaning bench.old bench.new) }
+    ensures journal { Keeps L.meaning result bench.old bench.new }
 {
     led_benches_are_kept::<L>();
     bench.is_formed();

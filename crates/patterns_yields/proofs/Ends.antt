@@ -1,5 +1,5 @@
 -- The ends of blocks.
-use Rattle.std.proofs.Common.{◌≡◌, refl, ap, sym, ◌∙◌, ℕ, zero, suc, List, [], ◌∷◌, Bool, true, false, Option, Some, None}
+use Rattle.std.proofs.Common.{◌≡◌, refl, ap, sym, ◌∙◌, ℕ, zero, suc, List, [], ◌∷◌, map, Bool, true, false, Option, Some, None}
 use Rattle.std.specs.Prelude.{option_map, option_and_then, slice_get}
 use Rattle.ir_types.specs.Terms.{TypeTerm, AttrTerm}
 use Rattle.ir_tree.specs.Tree.{OpOf, RegionsOf, no_regions, region, RegionOf, empty, block, OpsOf, no_ops, next, head, regions}
@@ -36,6 +36,7 @@ pub record Ending (t o : Operation) (r : ℕ) (e : Ended) : Type 0 where
   pub front : List Operation
   pub last : Operation
   pub block : region_at r (regions o) ≡ Some (block args (joined_ops front (next last no_ops)))
+  pub before : e.before ≡ map (λ (o : Operation). (head o).id) front
   pub is : e.last ≡ head last
   pub clean : is_clean t (head last) ≡ true
 
@@ -44,11 +45,12 @@ record Split (p : Operation) (os : OpsOf (List ℕ) TypeTerm AttrTerm) : Type 0 
   before : List Operation
   end : Operation
   parts : next p os ≡ joined_ops before (next end no_ops)
+  ids_are : (ended_by p os).before ≡ map (λ (o : Operation). (head o).id) before
   head_is : (ended_by p os).last ≡ head end
 
 split : (p : Operation) (os : OpsOf (List ℕ) TypeTerm AttrTerm) → Split p os
-split p no_ops = record { before = []; end = p; parts = refl; head_is = refl }
-split p (next q os) = let s = split q os in record { before = p ∷ s.before; end = s.end; parts = ap (next p) s.parts; head_is = s.head_is }
+split p no_ops = record { before = []; end = p; parts = refl; ids_are = refl; head_is = refl }
+split p (next q os) = let s = split q os in record { before = p ∷ s.before; end = s.end; parts = ap (next p) s.parts; ids_are = ap (λ l. (head p).id ∷ l) s.ids_are; head_is = s.head_is }
 
 pub ending : (t o : Operation) (r : ℕ) (e : Ended) → body t o r ≡ Some e → Ending t o r e
 ending t o r e k = go (region_at r (regions o)) refl k
@@ -57,7 +59,15 @@ ending t o r e k = go (region_at r (regions o)) refl k
     tested p os args f true c k =
         let s = split p os in
         let one : ended_by p os ≡ e = cc in
-        record { args = args; front = s.before; last = s.end; block = f ∙ ap (λ l. Some (block args l)) s.parts; is = sym (ap (λ (z : Ended). z.last) one) ∙ s.head_is; clean = ap (is_clean t) (sym s.head_is) ∙ c }
+        record {
+          args = args;
+          front = s.before;
+          last = s.end;
+          block = f ∙ ap (λ l. Some (block args l)) s.parts;
+          before = sym (ap (λ (z : Ended). z.before) one) ∙ s.ids_are;
+          is = sym (ap (λ (z : Ended). z.last) one) ∙ s.head_is;
+          clean = ap (is_clean t) (sym s.head_is) ∙ c;
+        }
     tested p os args f false c k = absurd cc
 
     go : (g : Option (RegionOf (List ℕ) TypeTerm AttrTerm)) → region_at r (regions o) ≡ g → given (given g ended) (λ e. when (is_clean t e.last) (Some e)) ≡ Some e → Ending t o r e

@@ -14,9 +14,9 @@ use Rattle.op_registry.specs.Registry.{row_of}
 use Rattle.listeners_surroundings.specs.Surroundings.{surround}
 use Rattle.ir_verify_base.specs.Fits.{Surroundings}
 use Rattle.ir_verify_base.specs.Shapes.{breaks_1, breaks_3, breaks_5, breaks_12, breaks_13, is_well_shaped}
-use Rattle.ir_verify_base.specs.TypeRules.{breaks_2, breaks_4, breaks_7, breaks_14}
-use Rattle.ir_verify.specs.BlockRules.{breaks_6, breaks_8, breaks_9}
-use Rattle.ir_verify.specs.PlaceRules.{breaks_10, breaks_11, breaks_15, breaks_16}
+use Rattle.ir_verify_base.specs.TypeRules.{breaks_2, breaks_4, breaks_7, breaks_14, breaks_18, breaks_19, breaks_20}
+use Rattle.ir_verify.specs.BlockRules.{breaks_6, breaks_8, breaks_9, breaks_21}
+use Rattle.ir_verify.specs.PlaceRules.{breaks_10, breaks_11, breaks_15, breaks_16, breaks_17}
 use Rattle.ir_verify.specs.Breaks.{told_of, told_in, numbers_from, broken}
 use Rattle.patterns_base.specs.Diagnostics.{broken_at}
 use Rattle.patterns_base.specs.Looks.{Header, breaks_none, is_clean}
@@ -40,8 +40,13 @@ spoken false b e f = absurd cc
 pub record Unbroken (row : Row) (s : Surroundings) : Type 0 where
   pub shaped : is_well_shaped row s.node ≡ true
   pub operands : breaks_2 row s ≡ false
+  pub results : breaks_4 row s ≡ false
+  pub blocks : breaks_6 row s ≡ false
+  pub arguments : breaks_7 row s ≡ false
   pub ends : breaks_9 s ≡ false
   pub yields : breaks_16 s ≡ false
+  pub passes : breaks_17 s ≡ false
+  pub chooses : breaks_21 s ≡ false
 
 unbroken : (row : Row) (s : Surroundings) → numbers_from 1 (told_of row s) ≡ [] → Unbroken row s
 unbroken row s e =
@@ -62,8 +67,23 @@ unbroken row s e =
     let o = peel 14 (w && breaks_14 s) _ n.1 in
     let p = peel 15 (w && breaks_15 s) _ o.1 in
     let q = peel 16 (w && breaks_16 s) _ p.1 in
+    let r = peel 17 (w && breaks_17 s) _ q.1 in
+    let t = peel 18 (w && breaks_18 s) _ r.1 in
+    let u = peel 19 (w && breaks_19 s) _ t.1 in
+    let v = peel 20 (w && breaks_20 s) _ u.1 in
+    let x = peel 21 (w && breaks_21 s) _ v.1 in
     let shaped = shaped_of (breaks_1 row s.node) (breaks_3 row s.node) (breaks_5 row s.node) (breaks_12 row s.node) (breaks_13 row s.node) a.0 c.0 f.0 m.0 n.0 in
-    record { shaped = shaped; operands = spoken w (breaks_2 row s) shaped b.0; ends = spoken w (breaks_9 s) shaped j.0; yields = spoken w (breaks_16 s) shaped q.0 }
+    record {
+      shaped = shaped;
+      operands = spoken w (breaks_2 row s) shaped b.0;
+      results = spoken w (breaks_4 row s) shaped d.0;
+      blocks = spoken w (breaks_6 row s) shaped g.0;
+      arguments = spoken w (breaks_7 row s) shaped h.0;
+      ends = spoken w (breaks_9 s) shaped j.0;
+      yields = spoken w (breaks_16 s) shaped q.0;
+      passes = spoken w (breaks_17 s) shaped r.0;
+      chooses = spoken w (breaks_21 s) shaped x.0;
+    }
 
 -- a node has its operation's head
 pub node_head : {N T A : Type 0} (o : OpOf N T A) → (node_of o).head ≡ head o

@@ -32,8 +32,8 @@ use Rattle.ir_verify_base.specs.Fits.{Node, Surroundings, Known, block_at, first
 use Rattle.ir_verify_base.specs.TypeRules.{is_no_number}
 use Rattle.ir_verify.specs.BlockRules.{breaks_9, ends_otherwise, isnt_wanted, last_at}
 use Rattle.ir_verify.specs.PlaceRules.{differ, ended_of, if_well_shaped, yielded}
-use Rattle.patterns_base.specs.Looks.{Ended, is_clean, is_index_value}
-use Rattle.patterns_yields.specs.Yields.{LoopsHandOnAll, ChoicesHandOnAll, ChoicesAskTruth}
+use Rattle.patterns_base.specs.Looks.{Ended, body, is_clean, is_index_value}
+use Rattle.patterns_yields.specs.Yields.{IsCleanOf, LoopsHandOnAll, ChoicesHandOnAll, ChoicesAskTruth}
 use Rattle.patterns_yields.proofs.Unbroken.{Stand, Unbroken, clean_unbroken, node_head}
 use Rattle.patterns_yields.proofs.Ends.{Ending, ending, arguments_read, last_joined, names_at}
 
@@ -157,44 +157,29 @@ module _ (t o : Operation) (d : HasDistinctIds t) (path : List (StepOf (List ℕ
         block_is : block_at r (node_of o) ≡ Some n.args
         block_is = ap (option_and_then (λ args. args)) (ap (λ l. slice_get l r) (node_arguments o) ∙ arguments_read (regions o) r ∙ ap (option_map (λ g. arguments_of g)) n.block)
 
-    -- what it hands on is what the operation wants
-    handed : (row : Row) → row_of (head o).name ≡ Some row → Unbroken row (surround t (stand o path)) → (head n.last).name ≡ codes "scf.yield" → yielded (node_of o) ≡ Some (there (node_of o).head.results)
-        → length (head n.last).operands ≡ length (head o).results
-    handed row f u y w =
+    -- what it hands on is of the types that the operation wants
+    handed_types : (row : Row) → row_of (head o).name ≡ Some row → Unbroken row (surround t (stand o path)) → (head n.last).name ≡ codes "scf.yield" → yielded (node_of o) ≡ Some (there (node_of o).head.results)
+        → same_types (there (head o).results) (map (λ v. type_of_value v t) (head n.last).operands) ≡ true
+    handed_types row f u y w =
         let found = row_there (row_of (codes "scf.yield")) yield_listed in
         let s = surround t inner in
         let v = clean_unbroken t inner found.0 n.clean inner_stood (ap row_of y ∙ found.1) in
         let named_so : is_named s.node (codes "scf.yield") ≡ true = ap (λ h. bytes_eq h.name (codes "scf.yield")) (node_head n.last) ∙ ap (λ m. bytes_eq m (codes "scf.yield")) y in
         let outside : ended_of s ≡ Some (node_of o) = ap (if_well_shaped (node_of o)) (ap (λ h. row_of h.name) (node_head o) ∙ f) ∙ ap (λ b. if◌then◌else◌ b (Some (node_of o)) None) u.shaped in
         let told = and_no (is_named s.node (codes "scf.yield")) (differ (option_and_then yielded (ended_of s)) s.types) named_so v.yields in
-        let same = not_no (same_types (there (node_of o).head.results) s.types) (sym (ap (λ p. differ (option_and_then yielded p) s.types) outside ∙ ap (λ p. differ p s.types) w) ∙ told) in
-        let long = as_long (option_eq same_type) (there (node_of o).head.results) s.types same in
-        sym (length-map (head n.last).operands (λ v. type_of_value v t)) ∙ sym long ∙ length-map (node_of o).head.results Some ∙ ap (λ h. length h.results) (node_head o)
+        ap (λ h. same_types (there h.results) s.types) (sym (node_head o))
+        ∙ not_no (same_types (there (node_of o).head.results) s.types) (sym (ap (λ p. differ (option_and_then yielded p) s.types) outside ∙ ap (λ p. differ p s.types) w) ∙ told)
 
-pub loops_hand_on_all : LoopsHandOnAll
-loops_hand_on_all t o x e h k = go (found_stands x t o h.found)
-  where
-    go : (s : Stand) × In s (stands [] t) × ((head s.here).id ≡ x) × (s.here ≡ o) → length e.last.operands ≡ length (head o).results
-    go w =
-        let here : In (stand o w.0.path) (stands [] t) = subst (λ (z : Operation). In (stand z w.0.path) (stands [] t)) w.3 w.1 in
-        let n = ending t o 0 e k in
-        let name = name_is (codes "scf.for") (head o).name h.name in
-        let row = row_there (row_of (codes "scf.for")) for_listed in
-        let listed = ap row_of name ∙ row.1 in
-        let u = clean_unbroken t (stand o w.0.path) row.0 h.clean (stood t o h.distinct w.0.path here h.clean) listed in
-        let node_name = ap (λ h. h.name) (node_head o) ∙ name in
-        let y = yields t o h.distinct w.0.path here h.clean 0 e n (for_ends (surround t (stand o w.0.path)) node_name u.ends) in
-        ap (λ h. length h.operands) n.is ∙ handed t o h.distinct w.0.path here h.clean 0 e n row.0 listed u y (for_wants (node_of o) node_name)
-
-pub choices_hand_on_all : ChoicesHandOnAll
-choices_hand_on_all t o x r e small h k = go (found_stands x t o h.found)
+-- the types of what a choice's block hands on
+pub choice_types : (t o : Operation) (x r : ℕ) (e : Ended) → r ≤ 1 → IsCleanOf t o x (codes "scf.if") → body t o r ≡ Some e → same_types (there (head o).results) (map (λ v. type_of_value v t) e.last.operands) ≡ true
+choice_types t o x r e small h k = go (found_stands x t o h.found)
   where
     which : (r : ℕ) → r ≤ 1 → (s : Surroundings) → (ends_otherwise 0 (codes "scf.yield") s ≡ false) × (ends_otherwise 1 (codes "scf.yield") s ≡ false) → ends_otherwise r (codes "scf.yield") s ≡ false
     which zero l s p = p.0
     which (suc zero) l s p = p.1
     which (suc (suc r)) l s p = absurd (omega (arith, l))
 
-    go : (s : Stand) × In s (stands [] t) × ((head s.here).id ≡ x) × (s.here ≡ o) → length e.last.operands ≡ length (head o).results
+    go : (s : Stand) × In s (stands [] t) × ((head s.here).id ≡ x) × (s.here ≡ o) → same_types (there (head o).results) (map (λ v. type_of_value v t) e.last.operands) ≡ true
     go w =
         let here : In (stand o w.0.path) (stands [] t) = subst (λ (z : Operation). In (stand z w.0.path) (stands [] t)) w.3 w.1 in
         let n = ending t o r e k in
@@ -204,7 +189,33 @@ choices_hand_on_all t o x r e small h k = go (found_stands x t o h.found)
         let u = clean_unbroken t (stand o w.0.path) row.0 h.clean (stood t o h.distinct w.0.path here h.clean) listed in
         let node_name = ap (λ h. h.name) (node_head o) ∙ name in
         let y = yields t o h.distinct w.0.path here h.clean r e n (which r small (surround t (stand o w.0.path)) (if_ends (surround t (stand o w.0.path)) node_name u.ends)) in
-        ap (λ h. length h.operands) n.is ∙ handed t o h.distinct w.0.path here h.clean r e n row.0 listed u y (if_wants (node_of o) node_name)
+        ap (λ h. same_types (there (head o).results) (map (λ v. type_of_value v t) h.operands)) n.is ∙ handed_types t o h.distinct w.0.path here h.clean r e n row.0 listed u y (if_wants (node_of o) node_name)
+
+-- and of what a loop's does
+pub loop_types : (t o : Operation) (x : ℕ) (e : Ended) → IsCleanOf t o x (codes "scf.for") → body t o 0 ≡ Some e → same_types (there (head o).results) (map (λ v. type_of_value v t) e.last.operands) ≡ true
+loop_types t o x e h k = go (found_stands x t o h.found)
+  where
+    go : (s : Stand) × In s (stands [] t) × ((head s.here).id ≡ x) × (s.here ≡ o) → same_types (there (head o).results) (map (λ v. type_of_value v t) e.last.operands) ≡ true
+    go w =
+        let here : In (stand o w.0.path) (stands [] t) = subst (λ (z : Operation). In (stand z w.0.path) (stands [] t)) w.3 w.1 in
+        let n = ending t o 0 e k in
+        let name = name_is (codes "scf.for") (head o).name h.name in
+        let row = row_there (row_of (codes "scf.for")) for_listed in
+        let listed = ap row_of name ∙ row.1 in
+        let u = clean_unbroken t (stand o w.0.path) row.0 h.clean (stood t o h.distinct w.0.path here h.clean) listed in
+        let node_name = ap (λ h. h.name) (node_head o) ∙ name in
+        let y = yields t o h.distinct w.0.path here h.clean 0 e n (for_ends (surround t (stand o w.0.path)) node_name u.ends) in
+        ap (λ h. same_types (there (head o).results) (map (λ v. type_of_value v t) h.operands)) n.is ∙ handed_types t o h.distinct w.0.path here h.clean 0 e n row.0 listed u y (for_wants (node_of o) node_name)
+
+-- and so as much
+handed_all : (t : Operation) (vs : List Value) (tys : List TypeTerm) → same_types (there tys) (map (λ v. type_of_value v t) vs) ≡ true → length vs ≡ length tys
+handed_all t vs tys same = (let long = as_long (option_eq same_type) (there tys) (map (λ v. type_of_value v t) vs) same in sym (length-map vs (λ v. type_of_value v t)) ∙ sym long ∙ length-map tys Some)
+
+pub loops_hand_on_all : LoopsHandOnAll
+loops_hand_on_all t o x e h k = handed_all t e.last.operands (head o).results (loop_types t o x e h k)
+
+pub choices_hand_on_all : ChoicesHandOnAll
+choices_hand_on_all t o x r e small h k = handed_all t e.last.operands (head o).results (choice_types t o x r e small h k)
 
 -- a truth value isn't an index
 truth : (ty : TypeTerm) → is_boolean ty ≡ true → same_type ty Index ≡ false

@@ -3,7 +3,8 @@ use Rattle.patterns_runs.specs.Contents.{all_edited}
 use Rattle.patterns_runs.specs.Held.{module_held}
 use Rattle.patterns_runs.specs.Lists.{edits_meaning}
 use Rattle.patterns.specs.Planned.{planned_edits}
-use Rattle.patterns.proofs.Carrying.{applied_none, applied_added, applied_along, journaled_along, no_room, was_carried, was_limited}
+use Rattle.patterns.proofs.Carrying.{applied_none, applied_added, applied_along, journaled_along, kept_added, kept_along, no_room, was_carried, was_limited}
+use Rattle.patterns_runs.proofs.Journals.{recorded_none}
 use Rattle.patterns.proofs.carry.carry_plan.Goals as goal
 
 pub returns-in-Some-clause-carried : goal.returns-in-Some-clause-carried
@@ -37,3 +38,12 @@ returns-clause-carried g c = (c.in-Err-carry_whole.ensures.err ∙ c.in-Ok.ensur
 
 pub returns-in-Ok-carry_whole-clause-journal : goal.returns-in-Ok-carry_whole-clause-journal
 returns-in-Ok-carry_whole-clause-journal g c = journaled_along g.L.Analysis.meaning c.args.bench.now c.edits_for.new.bench c.carry_whole.new.bench c.is_formed.ensures.context.holds c.in-Ok.ensures.added c.in-Ok-carry_whole.ensures.journal
+
+pub returns-in-Some-clause-journal : goal.returns-in-Some-clause-journal
+returns-in-Some-clause-journal g c = recorded_none c.args.bench.now.desk
+
+pub returns-in-Err-clause-journal : goal.returns-in-Err-clause-journal
+returns-in-Err-clause-journal g c = kept_added g.L.Analysis.meaning c.args.bench.now c.edits_for.new.bench c.in-Err.ensures.added
+
+pub returns-clause-journal : goal.returns-clause-journal
+returns-clause-journal g c = kept_along g.L.Analysis.meaning c.args.bench.now c.edits_for.new.bench c.carry_whole.new.bench c.in-Ok.ensures.added c.in-Err-carry_whole.ensures.journal

@@ -3,6 +3,7 @@ use Rattle.patterns_base.specs.Canonicalization.{lowest}
 use Rattle.patterns_runs.specs.Held.{module_held}
 use Rattle.patterns.specs.Lowest.{IsLowest}
 use Rattle.patterns.specs.Planned.{planned_edits}
+use Rattle.patterns_runs.proofs.Journals.{recorded_none}
 use Rattle.patterns.proofs.Applying.{gave, not_there, stopped}
 use Rattle.patterns.proofs.Carrying.{applied_none, journaled_none}
 use Rattle.patterns.proofs.Lowering.{none_held, fits_held, rule_held, lowest_due}
@@ -48,3 +49,9 @@ returns-in-Err-clause-refused g c =
 
 pub returns-in_default-lowest-clause-journal : goal.returns-in_default-lowest-clause-journal
 returns-in_default-lowest-clause-journal g c = journaled_none g.L.Analysis.meaning c.args.bench.now
+
+pub returns-then-not-in_tree-clause-journal : goal.returns-then-not-in_tree-clause-journal
+returns-then-not-in_tree-clause-journal g c = recorded_none c.args.bench.now.desk
+
+pub returns-in_default-clause-journal : goal.returns-in_default-clause-journal
+returns-in_default-clause-journal g c = recorded_none c.args.bench.now.desk

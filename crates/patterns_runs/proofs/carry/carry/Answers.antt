@@ -1,6 +1,6 @@
 use Rattle.std.proofs.Common.{subst, List}
 use Rattle.patterns_edits.specs.declared.edit.Edit.{Edit as Coded}
-use Rattle.patterns_runs.proofs.Carrying.{Carrying, along_on, carrying_none, carrying_more, carrying_done, uncons, none_left}
+use Rattle.patterns_runs.proofs.Carrying.{Carrying, along_on, carrying_none, carrying_more, carrying_done, noted_refused, uncons, none_left}
 use Rattle.patterns_runs.proofs.carry.carry.Goals as goal
 
 pub edits-init : goal.edits-init
@@ -18,3 +18,6 @@ edits-preserved g c =
 
 pub returns-clause-ok : goal.returns-clause-ok
 returns-clause-ok g c = carrying_done g.L.Analysis.meaning c.args.edits.now c.args.bench.now c.edits.bench (subst (λ (z : List Coded). Carrying g.L.Analysis.meaning c.args.edits.now z c.args.bench.now c.edits.bench) (none_left c.edits.rest.now c.in_default.len_below) c.edits.invariant)
+
+pub returns-in-Err-clause-noted : goal.returns-in-Err-clause-noted
+returns-in-Err-clause-noted g c = noted_refused g.L.Analysis.meaning c.args.bench.now c.edits.bench c.carry_one.new.bench c.edits.invariant.along c.edits.invariant.noted c.in-Err.ensures.journal

@@ -1,4 +1,5 @@
-use Rattle.patterns_runs.proofs.Carrying.{Begun, Closed, kept_along, noted_whole, undone_along}
+use Rattle.rewriter.proofs.Noted.{keeps_left}
+use Rattle.patterns_runs.proofs.Carrying.{Begun, Closed, kept_along, noted_whole, recorded_back, undone_along}
 use Rattle.patterns_runs.proofs.carry.carry_whole.Goals as goal
 
 pub returns-in-Ok-clause-along : goal.returns-in-Ok-clause-along
@@ -19,3 +20,10 @@ pub returns-in-Err-carry-clause-along : goal.returns-in-Err-carry-clause-along
 returns-in-Err-carry-clause-along g c =
     undone_along g.L.Analysis.meaning c.led_benches_are_kept.ensures.more c.args.bench.now c.step.new.self c.carry.new.bench c.rollback.new.self c.is_formed.ensures.context.holds
     (record { ctx = c.step.ensures.ctx; goes = c.in_default.ensures.does; led = c.step.ensures.led }) c.in-Err-carry.ensures.along (record { ctx = c.rollback.ensures.ctx; led = c.rollback.ensures.led }) _ c.rollback.ensures.does
+
+pub returns-in-Err-clause-journal : goal.returns-in-Err-clause-journal
+returns-in-Err-clause-journal g c = keeps_left g.L.Analysis.meaning c.args.bench.now c.step.new.self c.in-Err.ensures.err
+
+pub returns-in-Err-carry-clause-journal : goal.returns-in-Err-carry-clause-journal
+returns-in-Err-carry-clause-journal g c =
+    recorded_back c.rollback.result c.args.bench.now.desk c.step.new.self.desk c.carry.new.bench.desk c.rollback.new.self.desk c.in_default.ensures.ok c.in-Err-carry.ensures.noted c.rollback.ensures.ok c.rollback.ensures.none c.is_formed.ensures.none

@@ -1,0 +1,13 @@
+pub mod Typed
+pub mod Spots
+pub mod Fit
+pub mod Shapes
+pub mod Shifts
+pub mod Results
+pub mod Emptied
+pub mod Blocks
+pub mod Opened
+pub mod Given
+pub mod New
+pub mod InPlace
+pub mod Accepted

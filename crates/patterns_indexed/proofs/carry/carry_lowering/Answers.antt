@@ -1,0 +1,60 @@
+use Rattle.std.proofs.Common.{refl, ap, ◌∙◌, inl}
+use Rattle.patterns_runs.specs.Contents.{all_edited}
+use Rattle.patterns_runs.specs.Lists.{edits_meaning}
+use Rattle.patterns.specs.Held.{module_held}
+use Rattle.patterns.proofs.Carrying.{applied_none, applied_added, applied_along, journaled_along, kept_added, kept_along, no_room}
+use Rattle.patterns_indexed.specs.Planned.{planned_edits}
+use Rattle.patterns_indexed.proofs.Carried.{added_for, has_ids, was_carried, was_limited}
+use Rattle.patterns_runs.proofs.Journals.{recorded_none}
+use Rattle.patterns_indexed.proofs.carry.carry_lowering.Goals as goal
+
+pub lowering_makes-requires : goal.lowering_makes-requires
+lowering_makes-requires g c = (c.args.bench.now.desk.ctx, c.requires)
+
+pub lowering_edits-requires-clause-room : goal.lowering_edits-requires-clause-room
+lowering_edits-requires-clause-room g c =
+    has_ids c.world-world.result.now c.args.bench.now.desk c.world-world.ensures.ctx c.world-world.ensures.store c.args.planned c.requires c.lowering_makes.result c.limit_reason.result c.lowering_makes.ensures c.limit_reason.ensures c.in_default.is
+
+pub returns-in-Some-clause-carried : goal.returns-in-Some-clause-carried
+returns-in-Some-clause-carried g c =
+    (refl, was_limited c.world-world.result.now c.args.bench.now.desk c.world-world.ensures.ctx c.world-world.ensures.store c.args.planned c.requires c.lowering_makes.result c.in-Some.refusal c.limit_reason.result c.lowering_makes.ensures c.limit_reason.ensures c.in-Some.is)
+
+pub returns-in-Some-clause-stays : goal.returns-in-Some-clause-stays
+returns-in-Some-clause-stays g c = applied_none g.L.Analysis.meaning c.args.bench.now
+
+pub returns-in-Err-clause-carried : goal.returns-in-Err-clause-carried
+returns-in-Err-clause-carried g c = (c.in-Err.ensures.interned.grown.same, no_room (planned_edits c.args.bench.now.desk.ctx (module_held c.args.bench.now.desk).next c.args.planned) (module_held c.args.bench.now.desk) c.lowering_edits.new.bench.desk.ctx c.in-Err.refusal c.in-Err.ensures.refused)
+
+pub returns-in-Err-clause-stays : goal.returns-in-Err-clause-stays
+returns-in-Err-clause-stays g c = applied_added g.L.Analysis.meaning c.args.bench.now c.lowering_edits.new.bench (added_for g.L.Analysis.meaning c.args.bench.now c.lowering_edits.new.bench c.in-Err.ensures.interned)
+
+pub returns-in-Ok-carry_whole-clause-carried : goal.returns-in-Ok-carry_whole-clause-carried
+returns-in-Ok-carry_whole-clause-carried g c =
+    was_carried c.world-world.result.now c.args.bench.now.desk c.world-world.ensures.ctx c.world-world.ensures.store c.args.planned c.requires c.lowering_makes.result c.limit_reason.result c.lowering_makes.ensures c.limit_reason.ensures c.in_default.is
+    c.lowering_edits.new.bench.desk c.carry_whole.new.bench.desk (edits_meaning c.lowering_edits.new.bench.desk.ctx c.in-Ok.edits.items)
+    c.in-Ok.ensures.interned.grown.same c.in-Ok.ensures.edits
+    (c.in-Ok-carry_whole.ensures.ok ∙ ap (λ z. all_edited (edits_meaning c.lowering_edits.new.bench.desk.ctx z) (module_held c.lowering_edits.new.bench.desk)) c.deref.ensures.value)
+
+pub returns-in-Ok-carry_whole-clause-stays : goal.returns-in-Ok-carry_whole-clause-stays
+returns-in-Ok-carry_whole-clause-stays g c =
+    applied_along g.L.Analysis.meaning c.args.bench.now c.lowering_edits.new.bench c.carry_whole.new.bench c.is_formed.ensures.context.holds (added_for g.L.Analysis.meaning c.args.bench.now c.lowering_edits.new.bench c.in-Ok.ensures.interned) c.in-Ok-carry_whole.ensures.along
+
+pub returns-in-Ok-carry_whole-clause-journal : goal.returns-in-Ok-carry_whole-clause-journal
+returns-in-Ok-carry_whole-clause-journal g c =
+    journaled_along g.L.Analysis.meaning c.args.bench.now c.lowering_edits.new.bench c.carry_whole.new.bench c.is_formed.ensures.context.holds (added_for g.L.Analysis.meaning c.args.bench.now c.lowering_edits.new.bench c.in-Ok.ensures.interned) c.in-Ok-carry_whole.ensures.journal
+
+pub returns-clause-carried : goal.returns-clause-carried
+returns-clause-carried g c = (c.in-Err-carry_whole.ensures.err ∙ c.in-Ok.ensures.interned.grown.same, inl refl)
+
+pub returns-clause-stays : goal.returns-clause-stays
+returns-clause-stays g c =
+    applied_along g.L.Analysis.meaning c.args.bench.now c.lowering_edits.new.bench c.carry_whole.new.bench c.is_formed.ensures.context.holds (added_for g.L.Analysis.meaning c.args.bench.now c.lowering_edits.new.bench c.in-Ok.ensures.interned) c.in-Err-carry_whole.ensures.along
+
+pub returns-in-Some-clause-journal : goal.returns-in-Some-clause-journal
+returns-in-Some-clause-journal g c = recorded_none c.args.bench.now.desk
+
+pub returns-in-Err-clause-journal : goal.returns-in-Err-clause-journal
+returns-in-Err-clause-journal g c = kept_added g.L.Analysis.meaning c.args.bench.now c.lowering_edits.new.bench (added_for g.L.Analysis.meaning c.args.bench.now c.lowering_edits.new.bench c.in-Err.ensures.interned)
+
+pub returns-clause-journal : goal.returns-clause-journal
+returns-clause-journal g c = kept_along g.L.Analysis.meaning c.args.bench.now c.lowering_edits.new.bench c.carry_whole.new.bench (added_for g.L.Analysis.meaning c.args.bench.now c.lowering_edits.new.bench c.in-Ok.ensures.interned) c.in-Err-carry_whole.ensures.journal

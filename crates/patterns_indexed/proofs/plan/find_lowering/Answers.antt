@@ -1,0 +1,31 @@
+use Rattle.std.proofs.Common.{option_map, ap, sym, ◌∙◌}
+use Rattle.ir_event.specs.Modules.{module_in}
+use Rattle.patterns.proofs.Planned.{none_there, none_front, none_clean}
+use Rattle.patterns_reads.specs.Reads.{head_in}
+use Rattle.patterns_lowering.proofs.Asked.{clean_shown}
+use Rattle.patterns_lowering.specs.Meanings.{lowering_meaning}
+use Rattle.patterns_indexed.proofs.Lowered.{lowered_by}
+use Rattle.patterns_indexed.proofs.plan.find_lowering.Goals as goal
+
+pub plan_lowered-requires-clause-clean : goal.plan_lowered-requires-clause-clean
+plan_lowered-requires-clause-clean c = clean_shown c.args.world.now c.args.op (head_in c.args.world.now.ctx c.in-Some.node) c.in-Some.ensures.node (sym c.in_ok-is_clean.ensures ∙ c.if-not-branch.false)
+
+pub returns-in_default-clause-edits : goal.returns-in_default-clause-edits
+returns-in_default-clause-edits c = none_there c.args.rule (module_in c.args.world.now) c.args.op c.in_default.ensures.node
+
+pub returns-in_default-front-clause-edits : goal.returns-in_default-front-clause-edits
+returns-in_default-front-clause-edits c = none_front c.args.rule (module_in c.args.world.now) c.args.op c.in_default-front.ensures
+
+pub returns-then-not-branch-clause-edits : goal.returns-then-not-branch-clause-edits
+returns-then-not-branch-clause-edits c =
+    none_clean c.args.rule (module_in c.args.world.now) c.args.op (head_in c.args.world.now.ctx c.in-Some.node) _ c.in-Some.ensures.node c.in_ok-is_clean.ensures c.if-not-branch.true
+
+pub returns-in-Some-2-clause-edits : goal.returns-in-Some-2-clause-edits
+returns-in-Some-2-clause-edits c =
+    ap (option_map (lowering_meaning c.args.world.now.ctx (module_in c.args.world.now).next c.in-Some-front.front)) (sym c.in-Some-2.is)
+    ∙ lowered_by c.args.rule c.args.world.now c.args.op (head_in c.args.world.now.ctx c.in-Some.node) c.in-Some-front.front _ c.in-Some.ensures.node c.in-Some-front.ensures (sym c.in_ok-is_clean.ensures ∙ c.if-not-branch.false) c.in_ok-plan.ensures.edits
+
+pub returns-in-None-clause-edits : goal.returns-in-None-clause-edits
+returns-in-None-clause-edits c =
+    ap (option_map (lowering_meaning c.args.world.now.ctx (module_in c.args.world.now).next c.in-Some-front.front)) (sym c.in-None.is)
+    ∙ lowered_by c.args.rule c.args.world.now c.args.op (head_in c.args.world.now.ctx c.in-Some.node) c.in-Some-front.front _ c.in-Some.ensures.node c.in-Some-front.ensures (sym c.in_ok-is_clean.ensures ∙ c.if-not-branch.false) c.in_ok-plan.ensures.edits

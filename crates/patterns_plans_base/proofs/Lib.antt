@@ -1,0 +1,4 @@
+pub mod Bits
+pub mod Booleans
+pub mod Names
+pub mod Resizing
