@@ -1,0 +1,4 @@
+//! Casts taken away one after another, in one walk over them.
+#![tactic(auto)]
+
+pub mod laws;
