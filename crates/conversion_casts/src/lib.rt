@@ -1,4 +1,5 @@
 //! Casts taken away one after another, in one walk over them.
 #![tactic(auto)]
 
-pub mod laws;
+pub mod places;
+pub mod walk;
