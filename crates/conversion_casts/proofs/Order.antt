@@ -1,45 +1,25 @@
 -- An operation comes behind those whose results it sees.
-use Rattle.std.proofs.Common.{◌≡◌, refl, ap, sym, ◌∙◌, subst, ℕ, ◌+◌, Bool, true, false, true≢false, cond, not, ◌&&◌, ◌||◌, eqb, eqb-true, eq-eqb, List, [], ◌∷◌, ◌++◌, length, Some, inl, inr}
+use Rattle.std.proofs.Common.{◌≡◌, refl, ap, sym, ◌∙◌, subst, ℕ, zero, suc, ◌+◌, Bool, true, false, true≢false, cond, not, ◌&&◌, ◌||◌, eqb, eqb-true, eq-eqb, List, [], ◌∷◌, ◌++◌, length, Some, inl, inr}
 use Rattle.std.specs.Prelude.{nat_lt}
 use Rattle.std.specs.List.{list_any, IsDistinct}
 use Rattle.std.proofs.lemmas.Map.Keys.{IsDistinct-tail}
 use Rattle.ir_tree.specs.declared.value.Value.TheVariants.{Result}
-use Rattle.ir_tree.specs.Tree.{OpOf, op, OpsOf, next, block, head, regions}
-use Rattle.ir_tree.specs.Ids.{ids, ops_ids, regions_ids, HasDistinctIds}
+use Rattle.ir_tree.specs.Tree.{OpOf, op, RegionsOf, no_regions, region, RegionOf, OpsOf, next, block, head, regions}
+use Rattle.ir_tree.specs.Ids.{ids, ops_ids, region_ids, regions_ids, HasDistinctIds}
 use Rattle.ir_tree.specs.Sites.{shows, results_of}
-use Rattle.ir_tree.proofs.Returns.{absent_first}
 use Rattle.ir_tree_laws.specs.Reads.{comes_after, precedes}
 use Rattle.ir_tree_laws.specs.Stands.{StepOf, StandOf, stand_id, stands, sees}
 use Rattle.ir_tree_laws.specs.Members.{In}
+use Rattle.ir_tree_laws.specs.Values.{region_at}
 use Rattle.ir_tree_laws.proofs.Listed.{bool_cases, both, either, one_any}
 use Rattle.ir_tree_laws.proofs.Readings.{step}
 use Rattle.ir_tree_laws.proofs.Members.{stand, joined_ops, within, ops_child}
 use Rattle.ir_tree_laws.proofs.Put.{child}
-use Rattle.ir_tree_laws.proofs.Neighbours.{parent_there}
 use Rattle.ir_tree_laws.proofs.Around.{around_there}
 use Rattle.ir_tree_laws.proofs.Values.{shape}
-use Rattle.ir_store_walks.specs.Following.{behind, regions_from}
-use Rattle.ir_store_walks.proofs.Following.{comes_later, parent_precedes}
+use Rattle.conversion_casts.proofs.Behind.{behind, comes_later, first_once, or_true, regions_from, there, there_left, there_right}
 
 -- ---- lists
-
-abbrev there : ℕ → List ℕ → Bool
-there x xs = list_any (λ y. eqb y x) xs
-
-or_true : (a b : Bool) → b ≡ true → (a || b) ≡ true
-or_true true b e = refl
-or_true false b e = e
-
-there_left : (x : ℕ) (xs ys : List ℕ) → there x xs ≡ true → there x (xs ++ ys) ≡ true
-there_left x [] ys h = absurd (true≢false (sym h))
-there_left x (y ∷ xs) ys h = elim (either (eqb y x) (there x xs) h) [
-  | inl e ↦ ap (λ b. b || there x (xs ++ ys)) e
-  | inr e ↦ or_true (eqb y x) (there x (xs ++ ys)) (there_left x xs ys e)
-]
-
-there_right : (x : ℕ) (xs ys : List ℕ) → there x ys ≡ true → there x (xs ++ ys) ≡ true
-there_right x [] ys h = h
-there_right x (y ∷ xs) ys h = or_true (eqb y x) (there x (xs ++ ys)) (there_right x xs ys h)
 
 -- which of a list comes behind which
 behind_there : (a b : ℕ) (xs : List ℕ) → comes_after a b xs ≡ true → there b xs ≡ true
@@ -49,9 +29,6 @@ behind_there a b (x ∷ xs) h = or_true (eqb x b) (there b xs) (go (eqb x a) h (
     go : (c : Bool) → cond c (there b xs) (comes_after a b xs) ≡ true → (comes_after a b xs ≡ true → there b xs ≡ true) → there b xs ≡ true
     go true k f = k
     go false k f = f k
-
-first_once : (x b : ℕ) (xs : List ℕ) → IsDistinct eqb (x ∷ xs) → there b xs ≡ true → eqb x b ≡ true → ⊥
-first_once x b xs d h e = true≢false (sym h ∙ subst (λ z. there z xs ≡ false) (eqb-true x b e) (absent_first x xs d))
 
 after_through : (a b c : ℕ) (xs : List ℕ) → IsDistinct eqb xs → comes_after a b xs ≡ true → comes_after b c xs ≡ true → comes_after a c xs ≡ true
 after_through a b c [] d h k = absurd (true≢false (sym h))
@@ -118,6 +95,17 @@ module _ {N T A : Type 0} where
         comes_later t d u (head o).id there_it
         (there_right (head o).id (regions_ids (regions f)) (behind u.path) (there_left (head o).id (ops_ids rest) (regions_ids (regions_from (a.region + 1) (regions a.parent)) ++ behind q) (joined_there o s.1 a.rest)))
 
+    -- the one around it
+    inside_regions : (x r : ℕ) (rs : RegionsOf N T A) (g : RegionOf N T A) → region_at r rs ≡ Some g → there x (region_ids g) ≡ true → there x (regions_ids rs) ≡ true
+    inside_regions x r no_regions g e h = absurd cc
+    inside_regions x zero (region g rs) k e h = (let same : g ≡ k = cc in there_left x (region_ids g) (regions_ids rs) (subst (λ v. there x (region_ids v) ≡ true) (sym same) h))
+    inside_regions x (suc r) (region g rs) k e h = there_right x (region_ids g) (regions_ids rs) (inside_regions x r rs k e h)
+
+    around_precedes : (o : OpOf N T A) (a : StepOf N T A) (q : List (StepOf N T A)) → In (stand o (a ∷ q)) (stands [] t) → precedes (head a.parent).id (head o).id t ≡ true
+    around_precedes o a q h =
+        let inside = inside_regions (head o).id a.region (regions a.parent) (block a.args (joined_ops a.front (next o a.rest))) (shape t o a q h) (joined_there o a.front a.rest) in
+        comes_later t d (stand a.parent q) (head o).id (around_there t o a q h).1 (there_left (head o).id (regions_ids (regions a.parent)) (behind q) inside)
+
     -- those whose results it sees
     pub seen_precedes : (isolated : N → Bool) (path : List (StepOf N T A)) (o : OpOf N T A) → In (stand o path) (stands [] t) → (y k : ℕ) → sees isolated path (Result y k) ≡ true → precedes y (head o).id t ≡ true
     seen_precedes isolated [] o h y k e = absurd (true≢false (sym e))
@@ -128,5 +116,5 @@ module _ {N T A : Type 0} where
           subst (λ z. precedes z (head o).id t ≡ true) (sym (eqb-true y (head w.0).id b.0)) (front_precedes o a q h w.0 w.1)
       | inr l ↦
           let b = both (not (isolated (head a.parent).name)) (sees isolated q (Result y k)) l in
-          precedes_through y (head a.parent).id (head o).id (seen_precedes isolated q a.parent (around_there t o a q h).1 y k b.1) (parent_precedes t d (head o).id (head a.parent).id (parent_there t d o a q h))
+          precedes_through y (head a.parent).id (head o).id (seen_precedes isolated q a.parent (around_there t o a q h).1 y k b.1) (around_precedes o a q h)
     ]

@@ -237,8 +237,8 @@ module _ (m n : Module) (x : ℕ) (w : IsWellFormed is_isolated m) (e : collapse
 
   -- what wasn't taken away isn't now, if it gives no operand
   pub still_none : (o : Operation) → find x m.tree ≡ Some o → regions o ≡ no_regions → (z : ℕ) → (In z (givers_of (head o).operands) → ⊥) → NoRule z n → collapse m z ≡ none → collapse n z ≡ none
-  still_none o f bare z apart r none = none_of_parts n z (λ i.
-      let p = none_parts m z none (was_inner z i) in (
+  still_none o f bare z apart r c = none_of_parts n z (λ i.
+      let p = none_parts m z c (was_inner z i) in (
         elim (bool_cases (is_unused z n.tree)) [
           | inr u ↦ u
           | inl u ↦ absurd (apart (freed m w n x root (step_of m n x e).1 o f bare z (other i) p.0 u))

@@ -22,7 +22,7 @@ use Rattle.conversion_base.proofs.Listed.{next_listed}
 use Rattle.conversion_casts.specs.Givers.{givers_of}
 use Rattle.conversion_casts.specs.Waiting.{ArePlaces, Freed, Took, of_again, of_next}
 use Rattle.conversion_casts.specs.Walks.{Gives, NoRule, Walked, collapse_at, is_inner}
-use Rattle.conversion_casts.proofs.Steps.{none_of_parts, none_parts, only_erased, step_gone, still_none, still_stuck, was_inner}
+use Rattle.conversion_casts.proofs.Steps.{none_of_parts, none_parts, only_erased, step_gone, step_of, still_none, still_stuck, was_inner}
 
 -- ---- lists
 
@@ -127,7 +127,7 @@ module _ (xs : List ℕ) (passed : ℕ) (again : List ℕ) (passed2 : ℕ) (agai
     | inr k ↦ k
     | inl k ↦ elim (subst (In q) is k) [ inl i ↦ absurd (omega (arith, l, i)) | inr i ↦ absurd (omega (arith, l, behind q i)) ]
   ]
-  before_none (of_next is none at more) q y l e = elim (w.settled q y (omega (arith, l, at)) e) [ inr k ↦ k | inl k ↦ absurd (subst (In q) is k) ]
+  before_none (of_next is empty at more) q y l e = elim (w.settled q y (omega (arith, l, at)) e) [ inr k ↦ k | inl k ↦ absurd (subst (In q) is k) ]
 
   same_at : (q : ℕ) (x y : ℕ) → q ≡ p → slice_get xs q ≡ Some y → slice_get xs p ≡ Some x → y ≡ x
   same_at q x y e f g = (let two : Some y ≡ Some x = sym f ∙ ap (slice_get xs) e ∙ g in cc)
@@ -152,8 +152,8 @@ module _ (xs : List ℕ) (passed : ℕ) (again : List ℕ) (passed2 : ℕ) (agai
       ]
     ];
   }
-  walked_on (of_next is none at more) c = record {
-    within = λ q h. absurd (subst (In q) none h);
+  walked_on (of_next is empty at more) c = record {
+    within = λ q h. absurd (subst (In q) empty h);
     stuck = λ q y l e. elim (cases_order q passed) [
       | inl i ↦ stuck_none y (rule_of (slice_get xs p) refl c y (ap (slice_get xs) (at ∙ sym i) ∙ e))
       | inr (inl i) ↦ w.stuck q y i e
@@ -172,16 +172,13 @@ module _ (xs : List ℕ) (passed : ℕ) (again : List ℕ) (passed2 : ℕ) (agai
 
   module _ (n : Module) (x : ℕ) (at_p : slice_get xs p ≡ Some x) (formed : IsWellFormed is_isolated m) (listed : HaveCasts xs m.tree) (e : collapse m x ≡ becomes n) where
     inner_x : is_inner x m ≡ true
-    inner_x = elim (bool_cases (is_inner x m)) [ inl i ↦ i | inr i ↦ absurd (no_becomes (sym (ap (λ b. cond b _ none) i) ∙ e)) ]
-      where
-        no_becomes : none ≡ becomes n → ⊥
-        no_becomes k = absurd cc
+    inner_x = (step_of m n x e).0
 
     -- those that were passed stay as they are
     passed_stuck : Took passed again passed2 again2 p → (q y : ℕ) → q < passed2 → slice_get xs q ≡ Some y → NoRule y n
     passed_stuck (of_again is same behind) q y l f =
         still_stuck m n x formed e y (inl (only_erased m n x (w.stuck p x (w.within p (subst (In p) (sym is) (inl refl))) at_p) e)) (w.stuck q y (omega (arith, l, same)) f)
-    passed_stuck (of_next is none at more) q y l f = elim (cases_order q passed) [
+    passed_stuck (of_next is empty at more) q y l f = elim (cases_order q passed) [
       | inl i ↦ (λ j. absurd (step_gone m n x formed e (subst (λ z. is_inner z n ≡ true) (same_at q x y (i ∙ sym at) f at_p) j)))
       | inr (inl i) ↦ (λ j.
           let inner = was_inner m n x formed e y j in
@@ -196,7 +193,7 @@ module _ (xs : List ℕ) (passed : ℕ) (again : List ℕ) (passed2 : ℕ) (agai
 
     taken_within : Took passed again passed2 again2 p → (q : ℕ) → In q again2 → q < passed2
     taken_within (of_again is same behind) q h = subst (λ k. q < k) (sym same) (w.within q (subst (In q) (sym is) (inr h)))
-    taken_within (of_next is none at more) q h = absurd (subst (In q) none h)
+    taken_within (of_next is empty at more) q h = absurd (subst (In q) empty h)
 
     module _ (gs : List ℕ) (gives : Gives gs x m.tree) where
       -- one that gives no operand isn't taken away where it wasn't
@@ -217,9 +214,9 @@ module _ (xs : List ℕ) (passed : ℕ) (again : List ℕ) (passed2 : ℕ) (agai
             | inr c ↦ inr (other_none q y l (of_again is same behind) f apart c)
             | inl h ↦ elim (subst (In q) is h) [ inl i ↦ absurd (ne i) | inr i ↦ inl i ]
           ]
-          other (of_next is none at more) ne = elim (cases_order q passed) [
+          other (of_next is empty at more) ne = elim (cases_order q passed) [
             | inl i ↦ absurd (ne (i ∙ sym at))
-            | inr (inl i) ↦ elim (w.settled q y i f) [ inr c ↦ inr (other_none q y l (of_next is none at more) f apart c) | inl h ↦ absurd (subst (In q) is h) ]
+            | inr (inl i) ↦ elim (w.settled q y i f) [ inr c ↦ inr (other_none q y l (of_next is empty at more) f apart c) | inl h ↦ absurd (subst (In q) is h) ]
             | inr (inr i) ↦ absurd (omega (arith, l, more, i))
           ]
 
