@@ -99,6 +99,9 @@ rule_at t n front o p e c = rule_is t n front o ∙ ap (λ a. given a of) e ∙ 
     of : One → Option (List Edit)
     of q = cond (named cast_name q.name) (unrealized t n front o q) (when (among index_casts q.name) (through_index t n front o q))
 
+way_at : (t : Operation) (n : ℕ) (front : Place) (o : Operation) (p : One) → one (head o) ≡ Some p → named cast_name p.name ≡ true → (es : List Edit) → rule 21 t n front o ≡ Some es → Way t p
+way_at t n front o p e c es r = way_from t n front o p es (sym (rule_at t n front o p e c) ∙ r)
+
 one_name : (name : List ℕ) (vs : List Value) (ts : List TypeTerm) (p : One) → one_from name vs ts ≡ Some p → (p.name ≡ name) × (vs ≡ p.first ∷ [])
 one_name name [] ts p e = absurd cc
 one_name name (a ∷ []) [] p e = absurd cc
@@ -137,7 +140,7 @@ collapses_from m x es c e =
       clean = w.0;
       ends = p.0;
       one_is = p.1;
-      way = way_from m.tree m.next f.0 o.0 p.0 es (sym (rule_at m.tree m.next f.0 o.0 p.0 p.1 cast) ∙ w.1);
+      way = way_at m.tree m.next f.0 o.0 p.0 p.1 cast es w.1;
     }
 
 collapses_to : (m : Module) (x : ℕ) → is_cast x m.tree ≡ true → Collapses m x → edits_of 21 m x ≡ None → ⊥

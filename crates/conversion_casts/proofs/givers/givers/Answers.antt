@@ -5,7 +5,7 @@ use Rattle.conversion_casts.proofs.Given.{gives_none, gives_shown}
 use Rattle.conversion_casts.proofs.givers.givers.Goals as goal
 
 pub returns-in_default : goal.returns-in_default
-returns-in_default c = gives_none c.args.world.now.ctx c.args.world.now.store.module_of.tree c.args.op c.new.result.items (sym c.in_default.is ∙ c.in_default.ensures.node)
+returns-in_default c = gives_none c.args.world.now.ctx c.args.world.now.store.module_of.tree c.args.op c.new.result.items c.in_default.ensures.node
 
 pub returns : goal.returns
 returns c =
