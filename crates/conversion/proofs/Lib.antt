@@ -5,4 +5,4 @@ pub mod Rising
 pub mod Seen
 pub mod Trying
 pub mod Turns
-pub mod TwoPasses
+pub mod Walking

@@ -13,64 +13,12 @@ use Rattle.conversion.specs.declared.tried.Tried.{Tried}
 use Rattle.conversion_base.specs.Rewrites.{Rewrite, none, refused, becomes}
 use Rattle.conversion_base.specs.Targets.{Aim}
 use Rattle.conversion_base.specs.Legalization.{Outcome, legalised, failed, stopped}
-use Rattle.conversion_base.specs.Listing.{HaveCasts, casts_among}
-use Rattle.conversion_base.specs.Reconciling.{collapse, is_cast, rewrite_or, first_rewrite, go_on, next_collapse, collapsed, all_collapsed}
+use Rattle.conversion_base.specs.Listing.{casts_among}
+use Rattle.conversion_base.specs.Reconciling.{is_cast, go_on, next_collapse, collapsed, all_collapsed}
 use Rattle.conversion_base.specs.Conversion.{Ended, converted, given_up, counted, next_part, in_turn, ended, ended_at, failing, cast_ended, casts_left, checked, has_no_cast, later_parts}
-use Rattle.conversion.specs.States.{State, Applied, Refuses, Answers, IsWant, Comes, Wants, Faults, EndsWith, Ends, none_of, Converts, Closed, marked}
+use Rattle.conversion.specs.States.{State, Applied, Refuses, AnswersBehind, IsWant, Comes, Wants, Faults, EndsWith, Ends, none_of, Converts, Closed, marked}
 use Rattle.conversion_base.proofs.Gone.{no_cast_is_left}
-use Rattle.conversion_base.proofs.Listed.{casts_stay, next_listed}
 use Rattle.conversion.proofs.Trying.{rest_at, noted}
-
--- ---- the first answer at some operations
-
-module _ (f : Module → ℕ → Rewrite) (all : List ℕ) (start : State) where
-  -- what is left of the operations gives what all of them give, and the module is as it was
-  pub record Scanning (rest : List ℕ) (here : State) : Type 0 where
-    pub same : first_rewrite (f start.held) rest ≡ first_rewrite (f start.held) all
-    pub held : here.held ≡ start.held
-
-  took : (a b all : Rewrite) (m n p : Module) → rewrite_or a b ≡ all → p ≡ m → Applied a true p n → Applied all true m n
-  took none b all m n p e h c = absurd (true≢false c.0)
-  took (refused r) b all m n p e h c = absurd c
-  took (becomes q) b all m n p e h c = subst (λ (a : Rewrite). Applied a true m n) e c
-
-  left : (a b : Rewrite) (m n p : Module) → p ≡ m → Applied a false p n → (b ≡ rewrite_or a b) × (n ≡ m)
-  left none b m n p h c = (refl, c.1 ∙ h)
-  left (refused r) b m n p h c = absurd c
-  left (becomes q) b m n p h c = absurd (true≢false (sym c.0))
-
-  stops : (a b : Rewrite) (c : Things) (e : Refusal) → Refuses a c e → Refuses (rewrite_or a b) c e
-  stops none none c e r = r
-  stops none (refused f) c e r = inr r
-  stops none (becomes p) c e r = r
-  stops (refused f) b c e r = r
-  stops (becomes p) b c e r = r
-
-  here_is : (xs : List ℕ) (x : ℕ) (here : State) → 1 ≤ length xs → x ≡ get_or xs 0 x → Scanning xs here
-      → rewrite_or (f here.held x) (first_rewrite (f start.held) (take (length xs - 1) (drop 1 xs))) ≡ first_rewrite (f start.held) all
-  here_is xs x here l z h =
-      ap (λ m. rewrite_or (f m x) (first_rewrite (f start.held) (take (length xs - 1) (drop 1 xs)))) h.held ∙ sym (ap (first_rewrite (f start.held)) (rest_at xs x l z)) ∙ h.same
-
-  pub scanning_found : (xs : List ℕ) (x : ℕ) (here next : State) (b : Bool) → 1 ≤ length xs → x ≡ get_or xs 0 x → Scanning xs here → Answers (f here.held x) (Ok b) here next → b ≡ true → Answers (first_rewrite (f start.held) all) (Ok true) start next
-  scanning_found xs x here next b l z h a t =
-      took (f here.held x) _ _ start.held next.held here.held (here_is xs x here l z h) h.held (subst (λ c. Applied (f here.held x) c here.held next.held) t a)
-
-  pub scanning_refused : (xs : List ℕ) (x : ℕ) (here next : State) (e : Refusal) → 1 ≤ length xs → x ≡ get_or xs 0 x → Scanning xs here → Answers (f here.held x) (Err e) here next → Answers (first_rewrite (f start.held) all) (Err e) start next
-  scanning_refused xs x here next e l z h a =
-      (subst (λ (a : Rewrite). Refuses a next.things e) (here_is xs x here l z h) (stops (f here.held x) _ next.things e a.0), a.1 ∙ h.held)
-
-  pub scanning_more : (xs : List ℕ) (x : ℕ) (here next : State) (b : Bool) → 1 ≤ length xs → x ≡ get_or xs 0 x → Scanning xs here → Answers (f here.held x) (Ok b) here next → b ≡ false → Scanning (take (length xs - 1) (drop 1 xs)) next
-  scanning_more xs x here next b l z h a t =
-      let p = left (f here.held x) (first_rewrite (f start.held) (take (length xs - 1) (drop 1 xs))) start.held next.held here.held h.held
-      (subst (λ c. Applied (f here.held x) c here.held next.held) t a) in
-      record { same = p.0 ∙ here_is xs x here l z h; held = p.1 }
-
-  pub scanning_done : (xs : List ℕ) (here : State) → length xs < 1 → Scanning xs here → Answers (first_rewrite (f start.held) all) (Ok false) start here
-  scanning_done [] here l h = subst (λ (a : Rewrite). Applied a false start.held here.held) h.same (refl, h.held)
-  scanning_done (x ∷ xs) here l h = absurd (omega (arith, l))
-
-pub scanning_none : (f : Module → ℕ → Rewrite) (all : List ℕ) (start : State) → Scanning f all start all start
-scanning_none f all start = record { same = refl; held = refl }
 
 -- ---- ends one behind another
 
@@ -146,7 +94,7 @@ module _ (most : ℕ) (start : State) where
   goes (refused e) b m f n c = absurd c
   goes (becomes p) b m f n c = ap f c.1
 
-  pub collapsing_more : (times : ℕ) (here next : State) (b : Bool) → 0 < times → Collapsing most start times here → Answers (next_collapse here.held) (Ok b) here next → b ≡ true → Collapsing most start (times - 1) next
+  pub collapsing_more : (times : ℕ) (here next : State) (b : Bool) → 0 < times → Collapsing most start times here → AnswersBehind (next_collapse here.held) (Ok b) here next → b ≡ true → Collapsing most start (times - 1) next
   collapsing_more times here next b l h a t =
       goes (next_collapse here.held) none here.held (collapsed (times - 1)) next.held (subst (λ c. Applied (next_collapse here.held) c here.held next.held) t a)
       ∙ sym (ap (λ k. collapsed k here.held) (times_more times l)) ∙ h
@@ -156,7 +104,7 @@ module _ (most : ℕ) (start : State) where
   ends (refused e) m n p f c = absurd c
   ends (becomes q) m n p f c = absurd (true≢false (sym c.0))
 
-  pub collapsing_ends : (times : ℕ) (here next : State) (b : Bool) → 0 < times → Collapsing most start times here → Answers (next_collapse here.held) (Ok b) here next → b ≡ false → Ends (ended (collapsed most start.held) start.held) (Ok 0) next
+  pub collapsing_ends : (times : ℕ) (here next : State) (b : Bool) → 0 < times → Collapsing most start times here → AnswersBehind (next_collapse here.held) (Ok b) here next → b ≡ false → Ends (ended (collapsed most start.held) start.held) (Ok 0) next
   collapsing_ends times here next b l h a t =
       subst (λ (d : Rewrite). EndsWith (ended d start.held) 0 next.held) (sym (ap (λ k. collapsed k here.held) (times_more times l)) ∙ h)
       (ends (next_collapse here.held) here.held next.held start.held (collapsed (times - 1)) (subst (λ c. Applied (next_collapse here.held) c here.held next.held) t a))
@@ -167,11 +115,11 @@ module _ (most : ℕ) (start : State) where
   given (refused d) m p f g c e (inl is) i n = inl (i ∙ is, n)
   given (refused d) m p f g c e (inr w) i n = inr (n, subst (IsWant c) (sym i) w)
 
-  pub collapsing_stops : (times : ℕ) (here next : State) (e : Refusal) (f : Fault) → 0 < times → Collapsing most start times here → Answers (next_collapse here.held) (Err e) here next → f.refusal ≡ e → f.id ≡ None
+  pub collapsing_stops : (times : ℕ) (here next : State) (e : Refusal) (f : Fault) → 0 < times → Collapsing most start times here → AnswersBehind (next_collapse here.held) (Err e) here next → f.refusal ≡ e → f.id ≡ None
       → Ends (ended (collapsed most start.held) start.held) (Err f) next
   collapsing_stops times here next e f l h a i n =
       subst (λ (d : Rewrite). Faults (ended d start.held) f next.things) (sym (ap (λ k. collapsed k here.held) (times_more times l)) ∙ h)
-      (given (next_collapse here.held) here.held start.held (collapsed (times - 1)) f next.things e a.0 i n)
+      (given (next_collapse here.held) here.held start.held (collapsed (times - 1)) f next.things e a i n)
 
   pub collapsing_done : (times : ℕ) (here : State) → times ≤ 0 → Collapsing most start times here → Ends (ended (collapsed most start.held) start.held) (Ok 0) here
   collapsing_done times here l h =
@@ -283,24 +231,6 @@ check_ends g m n p (Err f) t h k c =
     part_faults (checked g) _ 0 p f t.things (part_none casts_left _ 0 n p first k) c
 
 -- ---- casts that are listed
-
-applied_becomes : (w : Rewrite) (m n : Module) → Applied w true m n → w ≡ becomes n
-applied_becomes none m n c = absurd (true≢false c.0)
-applied_becomes (becomes p) m n c = ap becomes (sym c.1)
-applied_becomes (refused e) m n c = absurd c
-
-applied_same : (w : Rewrite) (m n : Module) → Applied w false m n → n ≡ m
-applied_same none m n c = c.1
-applied_same (becomes p) m n c = absurd (true≢false (sym c.0))
-applied_same (refused e) m n c = absurd c
-
-pub listed_after : (xs : List ℕ) (r : Result Bool Refusal) (s t : State) → IsWellFormed is_isolated s.held → HaveCasts xs s.held.tree → Answers (first_rewrite (collapse s.held) xs) r s t → HaveCasts xs t.held.tree
-listed_after xs (Ok true) s t w h c = casts_stay s.held t.held xs w.distinct h (applied_becomes (first_rewrite (collapse s.held) xs) s.held t.held c)
-listed_after xs (Ok false) s t w h c = subst (λ (m : Module). HaveCasts xs m.tree) (sym (applied_same (first_rewrite (collapse s.held) xs) s.held t.held c)) h
-listed_after xs (Err e) s t w h c = subst (λ (m : Module). HaveCasts xs m.tree) (sym c.1) h
-
-pub next_after : (xs : List ℕ) (r : Result Bool Refusal) (s t : State) → HaveCasts xs s.held.tree → Answers (first_rewrite (collapse s.held) xs) r s t → Answers (next_collapse s.held) r s t
-next_after xs r s t h c = subst (λ (w : Rewrite). Answers w r s t) (next_listed s.held xs h) c
 
 -- those of a list that are casts, one after another
 pub add_none : (x : ℕ) (t : Operation) (out : List ℕ) (b : Bool) → b ≡ is_cast x t → b ≡ false → out ≡ out ++ casts_among (x ∷ []) t

@@ -1,5 +1,5 @@
 -- What a bench holds, as conversions see it, and what their parts make of it.
-use Rattle.std.specs.Prelude.{◌≡◌, ℕ, ◌≤◌, List, ◌∷◌, Bool, true, false, ◌⊎◌, length, if◌then◌else◌, Result, Ok, Err, None}
+use Rattle.std.specs.Prelude.{◌≡◌, ℕ, ◌≤◌, List, ◌∷◌, Bool, true, false, ◌⊎◌, length, if◌then◌else◌, Option, Result, Ok, Err, None}
 use Rattle.ir_types.specs.Things.{Things, Grows}
 use Rattle.ir_types.specs.declared.refusal.Refusal.{Refusal}
 use Rattle.ir_types.specs.declared.refusal.Refusal.TheVariants.{Memory, Full}
@@ -10,6 +10,7 @@ use Rattle.conversion.specs.declared.tried.Tried.{Tried}
 use Rattle.conversion.specs.declared.fault.Fault.{Fault}
 use Rattle.conversion_base.specs.Conversion.{Ended, converted, given_up}
 use Rattle.conversion_base.specs.Legalization.{Outcome, legalised, failed, stopped}
+use Rattle.conversion_casts.specs.Waiting.{Freed}
 
 -- the context, the module in contents, and the open marks, the newest first
 pub record State : Type 0 where
@@ -60,6 +61,22 @@ Refuses (refused f) c e = (e ≡ f) ⊎ IsWant c e
 abbrev pub Answers : Rewrite → Result Bool Refusal → State → State → Type 0
 Answers a (Ok done) s t = Applied a done s.held t.held
 Answers a (Err e) s t = Refuses a t.things e × (t.held ≡ s.held)
+
+-- the same where a refusal may leave the module any
+abbrev pub AnswersBehind : Rewrite → Result Bool Refusal → State → State → Type 0
+AnswersBehind a (Ok done) s t = Applied a done s.held t.held
+AnswersBehind a (Err e) s t = Refuses a t.things e
+
+-- or where it isn't told whether there is an answer, if the call did nothing
+abbrev pub Looked : Rewrite → Result Bool Refusal → State → State → Type 0
+Looked a (Ok true) s t = Applied a true s.held t.held
+Looked a (Ok false) s t = t.held ≡ s.held
+Looked a (Err e) s t = Refuses a t.things e
+
+-- where an operation was taken away, what gave its operands is looked at again; else nothing changes
+abbrev pub FreedIf : Bool → Option (List ℕ) → (ℕ → Option ℕ) → ℕ → List ℕ → ℕ → List ℕ → Type 0
+FreedIf true gs f passed again passed2 again2 = Freed gs f passed again passed2 again2
+FreedIf false gs f passed again passed2 again2 = (passed2 ≡ passed) × (again2 ≡ again)
 
 -- ---- legalising
 

@@ -15,6 +15,7 @@ use crate::rewriting::Rewriting;
 use conversion_base::casts::{index_edits, is_cast, is_inner_cast, is_unused};
 use conversion_base::target::Target;
 use conversion_base::{accepted, legal};
+use conversion_casts::givers::givers;
 use ir_event::analysis::Analysis;
 use ir_event::world::World;
 use ir_tree::limits::MOST_OPS;
@@ -128,6 +129,13 @@ impl<L: Analysis> Rewriting for Bench<L> {
 
     fn is_cast(&self, op: OpId) -> bool {
         is_cast(self.world(), op)
+    }
+
+    fn givers(&self, alloc: Global, op: OpId) -> Result<Option<Vec<OpId>>, Refusal> {
+        match givers(alloc, self.world(), op) {
+            Ok(found) => Ok(found),
+            Err(_) => Err(Refusal::Memory),
+        }
     }
 
     fn collapse(&mut self, alloc: Global, op: OpId) -> Result<bool, Refusal> {

@@ -2,6 +2,7 @@
 #![tactic(auto)]
 
 mod bench;
+mod collapsing;
 pub mod convert;
 pub mod fault;
 mod legalise;

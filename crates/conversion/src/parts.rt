@@ -1,12 +1,11 @@
 //! Dialect conversion: the operations of a module are legalised in turn, then casts are reconciled.
-ghost use Rattle.std.specs.Prelude.{◌≡◌, ◌+◌, ◌++◌, ◌∷◌, [], ◌≤◌, true, IfOk, OnOk, is_ok};
+ghost use Rattle.std.specs.Prelude.{◌≡◌, ◌+◌, ◌≤◌, true, IfOk, OnOk, is_ok};
 ghost use Rattle.ir_tree.specs.Ids.{ids};
-ghost use Rattle.conversion_base.specs.Conversion.{all_parts, cast_at as cast_end, casts_left, checked, converted, conversion_of, ended, failing as failing_of, first_illegal, has_no_cast, in_turn, later_parts, legalised_at as legalised_end};
-ghost use Rattle.conversion_base.specs.Listing.{HaveCasts, casts_among};
-ghost use Rattle.conversion_base.specs.Reconciling.{all_collapsed, collapse, collapsed, first_rewrite, next_collapse};
-ghost use Rattle.conversion.specs.States.{Answers, Converts, Ends, Leads, none_of};
+ghost use Rattle.conversion_base.specs.Conversion.{all_parts, cast_at as cast_end, casts_left, checked, converted, conversion_of, failing as failing_of, first_illegal, has_no_cast, in_turn, later_parts, legalised_at as legalised_end};
+ghost use Rattle.conversion.specs.States.{Converts, Ends, Leads, none_of};
 ghost use Rattle.conversion_base.specs.Targets.{IsAimIn, IsNamedIn, aim_of};
 
+use crate::collapsing::collapse_all;
 use crate::fault::Fault;
 use crate::legalise::{close, legalise};
 use crate::rewriting::{Rewriting, Rules};
@@ -72,109 +71,6 @@ fn legalise_each<B: Rules>(
         rest = tail;
     }
     Ok(count)
-}
-
-/// Takes the first of some operations away that is a cast and isn't used or collapses. The answer is whether there is one.
-fn collapse_first<B: Rewriting>(alloc: Global, bench: &mut B, ops: &[OpId]) -> Result<bool, Refusal>
-    ensures answers { Answers (first_rewrite (collapse (B.state bench.old).held) ops.now) result (B.state bench.old) (B.state bench.new) }
-    ensures leads { Leads B.state B.led bench.old bench.new }
-{
-    let mut rest = ops;
-    'ops: while let [op, tail @ ..] = rest {
-        match bench.collapse(alloc, *op) {
-            Ok(true) => return Ok(true),
-            Ok(false) => {}
-            Err(refusal) => return Err(refusal),
-        }
-        rest = tail;
-    }
-    Ok(false)
-}
-
-/// The same of all operations of the module, of which a list has the casts among it, in pre-order. The list still has them.
-fn collapse_next<B: Rewriting>(alloc: Global, bench: &mut B, ops: &[OpId]) -> Result<bool, Refusal>
-    requires listed { HaveCasts ops.now (B.state bench.old).held.tree }
-    ensures answers { Answers (next_collapse (B.state bench.old).held) result (B.state bench.old) (B.state bench.new) }
-    ensures listed { HaveCasts ops.now (B.state bench.new).held.tree }
-    ensures leads { Leads B.state B.led bench.old bench.new }
-{
-    bench.is_whole();
-    collapse_first(alloc, bench, ops)
-}
-
-/// Takes casts of a list away, as long as one isn't used or collapses, and at most so many.
-fn collapse_up_to<B: Rewriting>(
-    alloc: Global,
-    bench: &mut B,
-    ops: &[OpId],
-    most: usize,
-) -> Result<(), Fault>
-    requires listed { HaveCasts ops.now (B.state bench.old).held.tree }
-    ensures ends { Ends (ended (collapsed most (B.state bench.old).held) (B.state bench.old).held) (none_of result) (B.state bench.new) }
-    ensures leads { Leads B.state B.led bench.old bench.new }
-{
-    let mut left = most;
-    'casts: while left > 0 {
-        match collapse_next(alloc, bench, ops) {
-            Ok(true) => {}
-            Ok(false) => return Ok(()),
-            Err(refusal) => return Err(Fault::of(refusal)),
-        }
-        left -= 1;
-    }
-    Ok(())
-}
-
-/// Adds an operation to a list, if it is a cast.
-fn add_cast<B: Rewriting>(bench: &B, casts: &mut Vec<OpId>, op: OpId) -> Result<(), Refusal>
-    ensures { OnOk result (casts.new.items ≡ casts.old.items ++ casts_among (op ∷ []) (B.state bench.now).held.tree) }
-{
-    if !bench.is_cast(op) {
-        return Ok(());
-    }
-    match casts.push(op) {
-        Ok(()) => Ok(()),
-        Err(_) => Err(Refusal::Memory),
-    }
-}
-
-/// Those of some operations that are casts.
-fn casts_of<B: Rewriting>(alloc: Global, bench: &B, ops: &[OpId]) -> Result<Vec<OpId>, Refusal>
-    ensures { IfOk result (λ v. v.items ≡ casts_among ops.now (B.state bench.now).held.tree) }
-{
-    let mut casts = Vec::new(alloc);
-    let mut rest = ops;
-    'ops: while let [op, tail @ ..] = rest {
-        match add_cast(bench, &mut casts, *op) {
-            Ok(()) => {}
-            Err(refusal) => return Err(refusal),
-        }
-        rest = tail;
-    }
-    Ok(casts)
-}
-
-/// Takes casts away, as long as one isn't used or collapses, where these are all operations in pre-order.
-fn collapse_listed<B: Rewriting>(alloc: Global, bench: &mut B, ops: &[OpId]) -> Result<(), Fault>
-    requires ops { ops.now ≡ ids (B.state bench.old).held.tree }
-    ensures ends { Ends (ended (all_collapsed (B.state bench.old).held) (B.state bench.old).held) (none_of result) (B.state bench.new) }
-    ensures leads { Leads B.state B.led bench.old bench.new }
-{
-    match casts_of(alloc, bench, ops) {
-        Ok(casts) => collapse_up_to(alloc, bench, &casts, ops.len()),
-        Err(_) => Err(Fault::of(Refusal::Memory)),
-    }
-}
-
-/// Takes casts away, as long as one isn't used or collapses.
-fn collapse_all<B: Rewriting>(alloc: Global, bench: &mut B) -> Result<(), Fault>
-    ensures ends { Ends (ended (all_collapsed (B.state bench.old).held) (B.state bench.old).held) (none_of result) (B.state bench.new) }
-    ensures leads { Leads B.state B.led bench.old bench.new }
-{
-    match bench.operations() {
-        Ok(ops) => collapse_listed(alloc, bench, &ops),
-        Err(_) => Err(Fault::of(Refusal::Memory)),
-    }
 }
 
 /// Puts an `arith.index_cast` in the place of an operation, if it still stands and is a cast.

@@ -1,5 +1,5 @@
 //! What conversions need of a bench and of the rules.
-ghost use Rattle.std.specs.Prelude.{◌≡◌, true, OnOk, OnErr, IfErr, IfOk};
+ghost use Rattle.std.specs.Prelude.{◌≡◌, true, OnOk, OnErr, IfErr, IfOk, IfSome};
 ghost use Rattle.ir_types.specs.Words.{is_isolated};
 ghost use Rattle.ir_types.specs.declared.refusal.Refusal.TheVariants.{Memory as NoMemory};
 ghost use Rattle.ir_tree.specs.Ids.{has_id, ids};
@@ -7,6 +7,7 @@ ghost use Rattle.ir_tree.specs.WellFormed.{IsWellFormed};
 ghost use Rattle.conversion_base.specs.Rewrites.{rewrite_of};
 ghost use Rattle.conversion_base.specs.Targets.{IsAimIn, IsNamedIn, aim_of, is_accepted, is_for_conversion, is_legal};
 ghost use Rattle.conversion_base.specs.Reconciling.{collapse, index_rewrite, is_cast};
+ghost use Rattle.conversion_casts.specs.Walks.{Gives};
 ghost use Rattle.conversion.specs.States.{State, Answers, Committed, Leads, RolledBack, marked};
 
 use conversion_base::target::Target;
@@ -54,6 +55,10 @@ pub(crate) trait Rewriting {
     /// Whether an operation is a cast between types that was left for the time being.
     fn is_cast(&self, op: OpId) -> bool
         ensures { result ≡ is_cast op (state self.now).held.tree };
+
+    /// The operations that give operands of an operation, if no operation stands in it.
+    fn givers(&self, alloc: Global, op: OpId) -> Result<Option<Vec<OpId>>, Refusal>
+        ensures { IfOk result (λ g. IfSome g (λ v. Gives v.items op (state self.now).held.tree)) };
 
     /// Takes a cast away that isn't used, or that rule 21 collapses. The answer is whether it did.
     fn collapse(&mut self, alloc: Global, op: OpId) -> Result<bool, Refusal>

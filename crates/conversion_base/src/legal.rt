@@ -134,7 +134,7 @@ fn is_legal_node(world: &World, target: &Target, node: &Node<'_>) -> bool
 }
 
 /// What an operation of the module has.
-pub(crate) fn shown<'a>(world: &'a World, op: OpId) -> Option<Node<'a>>
+pub fn shown<'a>(world: &'a World, op: OpId) -> Option<Node<'a>>
     ensures of { IfSome result (NodeIsOf world.now.ctx) }
     ensures node { result ≡ option_map node_of (find op world.now.store.module_of.tree) }
     ensures few { IfSome result (λ n. (length n.arguments ≤ 16) × (length n.head.results ≤ 256)) }

@@ -1,6 +1,6 @@
 use Rattle.std.proofs.Common.{◌≡◌, ◌++◌, length}
 use Rattle.conversion_base.specs.Listing.{casts_among}
-use Rattle.conversion.proofs.parts.casts_of.Given as goal
+use Rattle.conversion.proofs.collapsing.casts_of.Given as goal
 
 abbrev pub invariant-ops : goal.invariant-ops
 invariant-ops g l = l.casts.items ++ casts_among l.rest (g.B.Rewriting.state l.bench).held.tree ≡ casts_among l.ops (g.B.Rewriting.state l.bench).held.tree

@@ -1,7 +1,7 @@
 use Rattle.std.proofs.Common.{arith, refl}
 use Rattle.conversion.proofs.Leading.{leads_more, leads_none}
 use Rattle.conversion.proofs.Turns.{collapsing_done, collapsing_ends, collapsing_more, collapsing_stops}
-use Rattle.conversion.proofs.parts.collapse_up_to.Goals as goal
+use Rattle.conversion.proofs.collapsing.collapse_up_to.Goals as goal
 
 pub returns-in-Ok-false-clause-ends : goal.returns-in-Ok-false-clause-ends
 returns-in-Ok-false-clause-ends g c =
@@ -25,13 +25,14 @@ casts-preserved g c =
       collapsing_more c.args.most (state c.args.bench.now) c.casts.left (state c.casts.bench) (state c.collapse_next.new.bench) c.in-Ok-true.field-0 (omega (arith, c.casts-test.true)) c.casts.invariant.0 c.in-Ok-true.ensures.answers c.in-Ok-true.field-0-test,
       leads_more state g.B.Rewriting.led g.B.Rewriting.led_more c.args.bench.now c.casts.bench c.collapse_next.new.bench c.casts.invariant.1 c.in-Ok-true.ensures.leads,
       c.in-Ok-true.ensures.listed,
+      c.in-Ok-true.ensures.walked,
     )
 
 pub casts-init : goal.casts-init
-casts-init g c = (refl, leads_none g.B.Rewriting.state g.B.Rewriting.led g.B.Rewriting.led_none c.args.bench.now, c.requires.listed)
+casts-init g c = (refl, leads_none g.B.Rewriting.state g.B.Rewriting.led g.B.Rewriting.led_none c.args.bench.now, c.requires.listed, c.requires.walked)
 
 pub collapse_next-requires : goal.collapse_next-requires
-collapse_next-requires g c = record { listed = c.casts.invariant.2 }
+collapse_next-requires g c = record { places = c.requires.places; listed = c.casts.invariant.2; walked = c.casts.invariant.3 }
 
 pub returns-clause-ends : goal.returns-clause-ends
 returns-clause-ends g c = collapsing_done c.args.most (g.B.Rewriting.state c.args.bench.now) c.casts.left (g.B.Rewriting.state c.casts.bench) (omega (arith, c.casts-test.false)) c.casts.invariant.0

@@ -1,6 +1,6 @@
 use Rattle.std.proofs.Common.{◌∙◌}
 use Rattle.conversion.proofs.Turns.{add_none, add_one}
-use Rattle.conversion.proofs.parts.add_cast.Goals as goal
+use Rattle.conversion.proofs.collapsing.add_cast.Goals as goal
 
 pub returns-then-not-is_cast : goal.returns-then-not-is_cast
 returns-then-not-is_cast g c = add_none c.args.op (g.B.Rewriting.state c.args.bench.now).held.tree c.args.casts.now.items c.is_cast.result c.is_cast.ensures c.if-not-is_cast.true

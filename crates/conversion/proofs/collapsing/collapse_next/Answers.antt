@@ -1,0 +1,16 @@
+use Rattle.std.proofs.Common.{Ok, refl}
+use Rattle.conversion.proofs.Walking.{next_found, next_none, still_listed}
+use Rattle.conversion.proofs.collapsing.collapse_next.Goals as goal
+
+pub returns-in-Ok-true-clause-listed : goal.returns-in-Ok-true-clause-listed
+returns-in-Ok-true-clause-listed g c =
+    let state = g.B.Rewriting.state in
+    let start = state c.args.bench.now in
+    let next = state c.collapse_at.new.bench in
+    still_listed start c.args.ops.now c.is_whole.ensures c.requires.listed next
+    (next_found start c.args.ops.now (state c.places.bench) next (Ok c.in-Ok-true.field-0) c.in-Ok-true.field-0 c.places.invariant.0.held refl c.in-Ok-true.field-0-test c.in-Ok-true.ensures.looked)
+
+pub returns-clause-answers : goal.returns-clause-answers
+returns-clause-answers g c =
+    let state = g.B.Rewriting.state in
+    next_none (state c.args.bench.now) c.args.ops.now c.requires.listed c.places.walk.passed c.places.walk.again.keys (state c.places.bench) c.places.invariant.0 c.in_default.ensures.taken.0 c.in_default.ensures.taken.1

@@ -1,0 +1,10 @@
+use Rattle.std.proofs.Common.{length, ◌+◌, ◌-◌}
+use Rattle.conversion.specs.States.{Leads}
+use Rattle.conversion.proofs.Walking.{Walking}
+use Rattle.conversion.proofs.collapsing.collapse_next.Given as goal
+
+abbrev pub invariant-places : goal.invariant-places
+invariant-places g l = Walking (g.B.Rewriting.state l.initial.bench) l.ops l.walk.passed l.walk.again.keys (g.B.Rewriting.state l.bench) × Leads g.B.Rewriting.state g.B.Rewriting.led l.initial.bench l.bench
+
+abbrev pub decreases-places : goal.decreases-places
+decreases-places g l = length l.walk.again.keys + (length l.ops - l.walk.passed)

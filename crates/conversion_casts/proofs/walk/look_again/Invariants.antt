@@ -1,0 +1,12 @@
+use Rattle.std.proofs.Common.{nat_eq, ◌⊎◌, ◌≡◌, ◌<◌, ℕ, Some, length, List}
+use Rattle.std.specs.HashMap.{get}
+use Rattle.ir_tree_laws.specs.Members.{In}
+use Rattle.conversion_casts.specs.Waiting.{Again}
+use Rattle.conversion_casts.proofs.Waiting.{Adding}
+use Rattle.conversion_casts.proofs.walk.look_again.Given as goal
+
+abbrev pub invariant-ops : goal.invariant-ops
+invariant-ops l = Adding l.ops l.rest (get nat_eq l.places) l.initial.walk.passed l.initial.walk.again.keys l.walk.passed l.walk.again.keys
+
+abbrev pub decreases-ops : goal.decreases-ops
+decreases-ops l = length l.rest

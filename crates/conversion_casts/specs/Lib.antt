@@ -1,0 +1,3 @@
+pub mod Givers
+pub mod Waiting
+pub mod Walks
