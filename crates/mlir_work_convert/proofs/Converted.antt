@@ -1,9 +1,11 @@
 -- A conversion behind names that were interned is one of the bench before them.
-use Rattle.std.proofs.Common.{◌≡◌, refl, ap, sym, ◌∙◌, subst, inl, inr, ℕ, Result, Ok, Err, None}
+use Rattle.std.proofs.Common.{◌≡◌, refl, ap, sym, ◌∙◌, subst, inl, inr, ℕ, ◌++◌, Result, Ok, Err, None}
+use Rattle.ir_types.specs.Sound.{Holds}
 use Rattle.ir_types.specs.declared.refusal.Refusal.{Refusal}
 use Rattle.ir_event.specs.Listener.{Listener}
 use Rattle.ir_event.specs.Modules.{Module}
 use Rattle.rewriter.proofs.Together.{Ages}
+use Rattle.rewriter.proofs.Told.{heard_more}
 use Rattle.rewriter.specs.Benched.{Benched, Does, Led, state_of}
 use Rattle.rewriter.specs.Held.{module_held}
 use Rattle.rewriter.specs.Machine.{Change, Goes, Nothing, State as Machine}
@@ -35,6 +37,9 @@ module _ {B : Type 0} (meaning : B → Listener) (g : Aim) (a m : Benched B) (in
 
   pub refused_does : (refusal : Refusal) → Ages meaning → IsWant m.desk.ctx refusal → Led meaning a m → Does meaning (Change (converting g)) (conversion_reply (Err (record { refusal = refusal; id = None }))) a m
   refused_does refusal ages w led = converts_goes meaning g a m (ap (λ (s : Machine). s.marks) interned.same) ages (Err (record { refusal = refusal; id = None })) (refused_converts refusal w) led
+
+  pub then_led : (b : Benched B) → Holds a.desk.ctx → Led meaning m b → Led meaning a b
+  then_led b holds led = let one = interned.led holds in (one.1.0 ++ led.0, heard_more meaning one.1.0 led.0 a m b one.0 one.1.1 led.1)
 
   -- they had, and the bench was converted
   module _ (b : Benched B) (aim : Aim) (same : aim ≡ g) (r : Result ℕ Fault) where
