@@ -1,8 +1,10 @@
 -- What pages say of slots stays so where a slot is written.
 use Rattle.std.proofs.Common.{◌≡◌, ℕ, ◌+◌, ◌≤◌, ◌<◌, ◌%◌, List, [], length, sym, ap, subst, ◌∙◌, eqb, ⊎_elim, arith, Option, Some, None, Result, Ok, Err, MatchResult}
 use Rattle.std.specs.declared.alloc.AllocError.{AllocError}
-use Rattle.std.proofs.lemmas.Bool.{eq-eqb, ne_eqb, cond-true, cond-false}
-use Rattle.ir_store_ids.specs.Slots.{no_slot, slot_in}
+use Rattle.std.proofs.lemmas.Bool.{cases_eq, eq-eqb, ne_eqb, cond-true, cond-false}
+use Rattle.std.specs.Ordering.{nat_cmp}
+use Rattle.std.specs.FinMap as finmap
+use Rattle.ir_store_ids.specs.Slots.{no_slot, slot_in, EndsBy}
 use Rattle.ir_store_ids.specs.declared.pages.Page.{Page}
 use Rattle.ir_store_ids.specs.Pages.{no_page, behind, slot_by, Forgotten, Learnt, AreSlots}
 use Rattle.ir_store_ids.proofs.Tables.{changed, not_less, near_grown, far_changed, some_slot, far_same, Put, Add}
@@ -38,3 +40,32 @@ module _ (near : List ℕ) (far far' : ℕ → Option ℕ) (k n : ℕ) (l : leng
   pub far_paged : (r : Result (Unit {0}) AllocError) → Put far far' k n r → AreSlots after (slot_in near far')
   far_paged (Ok u) w = others_paged before after (slot_in near far) (slot_in near far') k old but (Some n) (far_changed near far far' k (Some n) l w)
   far_paged (Err u) w = same_paged before after (slot_in near far) (slot_in near far') k old but (far_same near far far' w)
+
+-- no id from a number on has a slot, where one is written
+module _ (end more : ℕ) (f g : ℕ → Option ℕ) (k : ℕ) (old : EndsBy end f) where
+  pub raised_ends : ((x : ℕ) → more ≤ x → (end ≤ x) × (k < x)) → (o : Option ℕ) → ((x : ℕ) → g x ≡ changed k o f x) → EndsBy more g
+  raised_ends up o w x l = w x ∙ cond-false (eqb x k) o (f x) (ne_eqb x k (λ e. let a = (up x l).1 in omega (arith, a, e))) ∙ old x (up x l).0
+
+  pub same_ends : ((x : ℕ) → more ≤ x → (end ≤ x) × (k < x)) → ((x : ℕ) → g x ≡ f x) → EndsBy more g
+  same_ends up w x l = w x ∙ old x (up x l).0
+
+  pub lowered_ends : ((x : ℕ) → more ≤ x → (x ≡ k → ⊥) → end ≤ x) → ((x : ℕ) → g x ≡ changed k None f x) → EndsBy more g
+  lowered_ends down w x l = ⊎_elim
+      (λ e. w x ∙ cond-true (eqb x k) None (f x) (eq-eqb x k e))
+      (λ ne. w x ∙ cond-false (eqb x k) None (f x) (ne_eqb x k ne) ∙ old x (down x l ne))
+      (cases_eq x k)
+
+module _ (near near' : List ℕ) (far : ℕ → Option ℕ) (k n : ℕ) (l : k ≡ length near) (slot : n < no_slot) (end more : ℕ) (old : EndsBy end (slot_in near far)) (up : (x : ℕ) → more ≤ x → (end ≤ x) × (k < x)) where
+  pub add_ends : (r : Result (Unit {0}) AllocError) → Add near near' n r → EndsBy more (slot_in near' far)
+  add_ends (Ok u) w = raised_ends end more (slot_in near far) (slot_in near' far) k old up (Some n)
+      (λ x. ap (λ z. slot_in z far x) w ∙ near_grown near far k n l x ∙ ap (λ o. changed k o (slot_in near far) x) (some_slot n slot))
+  add_ends (Err u) w = same_ends end more (slot_in near far) (slot_in near' far) k old up (λ x. ap (λ z. slot_in z far x) w)
+
+module _ (near : List ℕ) (far far' : ℕ → Option ℕ) (k n : ℕ) (l : length near ≤ k) (end more : ℕ) (old : EndsBy end (slot_in near far)) (up : (x : ℕ) → more ≤ x → (end ≤ x) × (k < x)) where
+  pub far_ends : (r : Result (Unit {0}) AllocError) → Put far far' k n r → EndsBy more (slot_in near far')
+  far_ends (Ok u) w = raised_ends end more (slot_in near far) (slot_in near far') k old up (Some n) (far_changed near far far' k (Some n) l w)
+  far_ends (Err u) w = same_ends end more (slot_in near far) (slot_in near far') k old up (far_same near far far' w)
+
+-- where there are no ids
+pub none_ends : (f : ℕ → Option ℕ) (m : finmap.FinMap nat_cmp ℕ) → m ≡ finmap.empty → ((x : ℕ) → finmap.get m x ≡ f x) → EndsBy 0 f
+none_ends f m e w x l = sym (w x) ∙ ap (λ z. finmap.get z x) e ∙ finmap.get-empty {X = ℕ} nat_cmp x

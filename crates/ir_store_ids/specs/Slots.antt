@@ -1,5 +1,5 @@
 -- The slots of ids.
-use Rattle.std.specs.Prelude.{◌≡◌, ℕ, List, length, get_or, eqb, nat_lt, if◌then◌else◌, Option, Some, None}
+use Rattle.std.specs.Prelude.{◌≡◌, ◌≤◌, ℕ, List, length, get_or, eqb, nat_lt, if◌then◌else◌, Option, Some, None}
 use Rattle.std.specs.Ordering.{nat_cmp}
 use Rattle.std.specs.Cmp.{nat_cmp_total}
 use Rattle.std.specs.Coded.{Coded-set, coded_option, coded_ℕ, Π_prop}
@@ -29,3 +29,10 @@ map_is f a m h = map.same_map nat_cmp_total map.nat_cmp-IsAntisymmetric a.0 m (�
 pub MapOf-prop : (f : ℕ → Option ℕ) → IsProp (MapOf f)
 MapOf-prop f a b =
     Σ_prop_path {B = λ m. (x : ℕ) → map.get m x ≡ f x} (λ m. Π_prop (λ x. Coded-set (coded_option coded_ℕ) (map.get m x) (f x))) {u = a} {v = b} (map_is f a b.0 b.1)
+
+-- no id from a number on has a slot
+abbrev pub EndsBy : ℕ → (ℕ → Option ℕ) → Type 0
+EndsBy end f = (x : ℕ) → end ≤ x → f x ≡ None
+
+pub EndsBy-prop : (end : ℕ) (f : ℕ → Option ℕ) → IsProp (EndsBy end f)
+EndsBy-prop end f = Π_prop (λ x. Π_prop (λ h. Coded-set (coded_option coded_ℕ) (f x) None))

@@ -1,9 +1,9 @@
-ghost use Rattle.std.specs.Prelude.{◌≡◌, ℕ, ◌<◌, ◌++◌, ◌∷◌, [], eqb, if◌then◌else◌, Some, None, IfOk, OnOk, OnErr, MatchResult};
+ghost use Rattle.std.specs.Prelude.{◌≡◌, ℕ, ◌<◌, ◌≤◌, ◌++◌, ◌∷◌, [], eqb, if◌then◌else◌, Some, None, IfOk, OnOk, OnErr, MatchResult};
 ghost use Rattle.std.specs.FinMap as map;
 ghost use Rattle.std.specs.BTreeMap as sorted;
 ghost use Rattle.std.specs.Ordering.{nat_cmp};
 ghost use Rattle.ir_store_ids.specs.Pages.{AreSlots, AreSlots-prop, Learnt};
-ghost use Rattle.ir_store_ids.specs.Slots.{no_slot, slot_in, MapOf, MapOf-prop};
+ghost use Rattle.ir_store_ids.specs.Slots.{no_slot, slot_in, EndsBy, EndsBy-prop, MapOf, MapOf-prop};
 
 use crate::pages::{Page, forget, learn, slot_by};
 use std::alloc::{AllocError, Global};
@@ -18,8 +18,12 @@ pub struct IdTable {
     near: Vec<u32>,
     far: BTreeMap<u32, u32>,
     pages: Vec<Page>,
+    /// A number above each id that has a slot.
+    end: usize,
     ghost known: { MapOf (slot_in near.items (sorted.get nat_cmp far)) } by { MapOf-prop (slot_in near.items (sorted.get nat_cmp far)) },
     ghost paged: { AreSlots pages.items (slot_in near.items (sorted.get nat_cmp far)) } by { AreSlots-prop pages.items (slot_in near.items (sorted.get nat_cmp far)) },
+    ghost ended: { EndsBy end (slot_in near.items (sorted.get nat_cmp far)) } by { EndsBy-prop end (slot_in near.items (sorted.get nat_cmp far)) },
+    ghost few: { end ≤ 4294967296 },
 }
 
 impl Model for IdTable {
@@ -46,6 +50,7 @@ impl IdTable {
             near,
             far: BTreeMap::new(alloc),
             pages: Vec::new(alloc),
+            end: 0,
         })
     }
 
@@ -58,6 +63,7 @@ impl IdTable {
             near,
             far: BTreeMap::new(alloc),
             pages: Vec::new(alloc),
+            end: 0,
         })
     }
 
@@ -83,6 +89,15 @@ impl IdTable {
         }
     }
 
+    /// A number above each id that has a slot. It is the least one, where the slots of ids are taken from them in the
+    /// order of the ids, the greatest first.
+    pub fn end(&self) -> usize
+        ensures above { (x : ℕ) → result ≤ x → map.get self.now x ≡ None }
+        ensures few { result ≤ 4294967296 }
+    {
+        self.end
+    }
+
     /// Gives an id a slot, in place of the one that it had, if any.
     pub fn insert(&mut self, id: u32, slot: usize) -> Result<(), AllocError>
         requires { slot < no_slot }
@@ -91,6 +106,7 @@ impl IdTable {
     {
         let place = id as usize;
         forget(&mut self.pages, id);
+        self.end = raised(self.end, id);
         if place < self.near.len() {
             self.near[place] = slot as u32;
             learn(&mut self.pages, id, slot as u32);
@@ -108,12 +124,31 @@ impl IdTable {
     {
         let place = id as usize;
         forget(&mut self.pages, id);
+        self.end = lowered(self.end, id);
         if place < self.near.len() {
             self.near[place] = NO_SLOT;
         } else {
             drop_id(&mut self.far, id);
         }
     }
+}
+
+/// A number above all ids below `end`, and above this one.
+fn raised(end: usize, id: u32) -> usize
+    ensures above { (x : ℕ) → result ≤ x → (end ≤ x) × (id < x) }
+    ensures few { end ≤ 4294967296 → result ≤ 4294967296 }
+{
+    let place = id as usize;
+    if place < end { end } else { place + 1 }
+}
+
+/// A number above all ids below `end` but this one.
+fn lowered(end: usize, id: u32) -> usize
+    ensures above { (x : ℕ) → result ≤ x → (x ≡ id → ⊥) → end ≤ x }
+    ensures few { result ≤ end }
+{
+    let place = id as usize;
+    if place + 1 == end { place } else { end }
 }
 
 /// Gives an id, which is the next one of a list, a slot.

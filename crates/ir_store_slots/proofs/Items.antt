@@ -1,5 +1,5 @@
 -- Rows, as a function's calls tell them, and what else is plain.
-use Rattle.std.proofs.Common.{◌≡◌, ℕ, ◌<◌, List, set, get_or, sym, ap, ◌∙◌, length, eqb, Some, arith}
+use Rattle.std.proofs.Common.{◌≡◌, ℕ, ◌<◌, List, set, length, eqb, Some, arith}
 use Rattle.std.specs.Prelude.{Result, Ok, Err, OnOk}
 use Rattle.std.specs.Ordering.{nat_cmp, eq_by_cmp}
 use Rattle.std.proofs.lemmas.Bool.Decides.{nat_tests}

@@ -1,16 +1,16 @@
 -- Slots are looked at in the order of their lists.
-use Rattle.std.proofs.Common.{◌≡◌, ℕ, zero, suc, ◌-◌, ◌<◌, ◌≤◌, List, [], ◌∷◌, ◌++◌, map, set, get_or, refl, sym, ap, ◌∙◌, subst, length, Bool, true, false, not, ◌&&◌, ◌||◌, eqb, cond, arith, Option, Some, None, ⊎_elim, slice_get}
+use Rattle.std.proofs.Common.{◌≡◌, ℕ, zero, suc, ◌-◌, ◌<◌, ◌≤◌, List, [], ◌∷◌, ◌++◌, map, set, refl, sym, ap, ◌∙◌, subst, length, Bool, true, false, not, ◌&&◌, ◌||◌, eqb, cond, arith, Option, Some, None, ⊎_elim, slice_get}
 use Rattle.std.specs.Prelude.{if◌then◌else◌, nat_lt}
 use Rattle.std.specs.Ordering.{nat_cmp}
 use Rattle.std.specs.FinMap as finmap
 use Rattle.std.proofs.lemmas.Bool.{cases_eq, cases_lt, eq-eqb, ne_eqb, cond-true, cond-false, false≢true}
 use Rattle.std.proofs.lemmas.Bool.Decides.{nat_tests}
-use Rattle.std.proofs.lemmas.List.{length-set, get_or_past, length-map}
+use Rattle.std.proofs.lemmas.List.{length-set, get_or_past}
 use Rattle.std.proofs.lemmas.Bool.{or_left, or_right}
-use Rattle.ir_store_lists.specs.Lists.{Lists, Laws, IsHead, IsItem, home_at, list_at, has, without, Once, after, free}
+use Rattle.ir_store_lists.specs.Lists.{Laws, IsItem, home_at, list_at, has, without, Once, after, free}
 use Rattle.ir_store_slots.specs.Stored.{Gone, none_gone}
-use Rattle.ir_store_slots.specs.Releases.{is_given, given_up, forgetting, released, key_left, key_so_far, IsKeyed, ReleasesSlot, ReleasesSome, GivenUp, Forgets, Released}
-use Rattle.ir_store_slots.specs.Rows.{Row, row_at, no_row}
+use Rattle.ir_store_slots.specs.Releases.{is_given, forgetting, IsKeyed, ReleasesSlot, ReleasesSome, GivenUp, Forgets, Released}
+use Rattle.ir_store_slots.specs.Rows.{Row, row_at}
 use Rattle.ir_store_rows.specs.Rows.{vacated}
 use Rattle.ir_store_slots.specs.Marks.{has_gone, mark, home_of, node_of_slot, Marked}
 use Rattle.ir_store_slots.specs.Walks.{from_slot}
@@ -133,6 +133,14 @@ module _ (rows : List Row) (lists : List (List ℕ)) (homes : List ℕ) (laws : 
       go true false b f g =
           let home : home_at homes (node_of_slot q) ≡ 0 = m.home q ∙ ap (λ z. home_of (if z then (if has_gone (row_at rows q).gone then Some 1 else None) else (if (row_at rows q).used then Some 0 else None))) g ∙ ap (λ z. home_of (if z then Some 0 else None)) f in
           absurd (false≢true (sym e ∙ listed q 0 (omega arith) home))
+
+  -- who is given up stands among those that are held
+  pub given_listed : (from q : ℕ) → is_given from (row_at rows q) ≡ true → has (node_of_slot q) (list_at lists 0) ≡ true
+  given_listed from q g = go (has (node_of_slot q) (list_at lists 0)) refl
+    where
+      go : (b : Bool) → has (node_of_slot q) (list_at lists 0) ≡ b → has (node_of_slot q) (list_at lists 0) ≡ true
+      go true e = e
+      go false e = absurd (false≢true (sym (not_given from q e) ∙ g))
 
   pub not_lacking : (q : ℕ) → has (node_of_slot q) (list_at lists 1) ≡ false → forgetting (row_at rows q) ≡ row_at rows q
   not_lacking q e = go (row_at rows q).live (has_gone (row_at rows q).gone) refl refl

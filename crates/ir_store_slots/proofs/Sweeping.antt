@@ -1,12 +1,12 @@
 -- Slots are given up one by one.
-use Rattle.std.proofs.Common.{◌≡◌, ℕ, ◌<◌, List, refl, sym, ap, ◌∙◌, length, Bool, true, false, ◌&&◌, eqb, cond, Option, Some, None, ⊎_elim, set, get_or}
-use Rattle.std.specs.Prelude.{if◌then◌else◌}
+use Rattle.std.proofs.Common.{◌≡◌, ℕ, ◌<◌, ◌≤◌, List, refl, sym, ap, ◌∙◌, length, Bool, true, false, not, ◌&&◌, arith, eqb, cond, Option, Some, None, ⊎_elim, set}
+use Rattle.std.specs.Prelude.{if◌then◌else◌, nat_lt}
 use Rattle.std.specs.Ordering.{nat_cmp}
 use Rattle.std.specs.Cmp.{nat_cmp_total}
 use Rattle.std.specs.FinMap as finmap
-use Rattle.std.proofs.lemmas.Bool.{cases_eq, cases_Bool, eq-eqb, ne_eqb, cond-true, cond-false, false≢true}
+use Rattle.std.proofs.lemmas.Bool.{cases_eq, eq-eqb, ne_eqb, cond-true, cond-false, false≢true}
 use Rattle.std.proofs.lemmas.Bool.Decides.{nat_tests}
-use Rattle.std.proofs.lemmas.List.{length-set, length-map, get_or_past}
+use Rattle.std.proofs.lemmas.List.{length-set}
 use Rattle.ir_store_slots.specs.Releases.{is_given, given_up, key_left, key_so_far, IsKeyed, ReleasesSlot, ReleasesSome, GivenUp}
 use Rattle.ir_store_slots.specs.Rows.{Row, row_at}
 use Rattle.ir_store_rows.specs.Rows.{vacated}
@@ -37,6 +37,20 @@ used_given : (u b : Bool) → (u && b) ≡ true → u ≡ true
 used_given true b e = refl
 used_given false b e = absurd (false≢true e)
 
+given_at : (u l b : Bool) → (u && (not l && b)) ≡ true → b ≡ true
+given_at true false b e = e
+given_at true true b e = absurd (false≢true e)
+given_at false l b e = absurd (false≢true e)
+
+-- who is given up holds an operation, with an id from there on
+pub given_used : (from : ℕ) (rows : List Row) (q : ℕ) → is_given from (row_at rows q) ≡ true → Used rows q
+given_used from rows q g = record { used = used_given (row_at rows q).used _ g }
+
+pub given_from : (from : ℕ) (rows : List Row) (q : ℕ) → is_given from (row_at rows q) ≡ true → from ≤ (row_at rows q).head.id
+given_from from rows q g =
+    let e = given_at (row_at rows q).used (row_at rows q).live (not (nat_lt (row_at rows q).head.id from)) g in
+    grind (arith, nat_tests, e)
+
 module _ (from : ℕ) (rows : List Row) (keys : ℕ → Option ℕ) (kd : IsKeyed rows keys) where
   pub sweep_start : (seen : ℕ → Bool) → ((q : ℕ) → seen q ≡ true → is_given from (row_at rows q) ≡ false) → ReleasesSome from seen rows rows keys keys
   sweep_start seen spared = record {
@@ -65,6 +79,43 @@ module _ (from : ℕ) (rows : List Row) (keys : ℕ → Option ℕ) (kd : IsKeye
       go : (o : Option ℕ) → key_so_far from seen rows o ≡ key_left from rows o
       go None = refl
       go (Some k) = ap {A = Bool} {B = Option ℕ} (λ b. if b && is_given from (row_at rows k) then None else Some k) (all k)
+
+  -- the test may change of slots that aren't given up
+  pub sweep_wider : (seen more : ℕ → Bool) (new : List Row) (left : ℕ → Option ℕ) → ((q : ℕ) → is_given from (row_at rows q) ≡ true → more q ≡ seen q) → ReleasesSome from seen rows new keys left → ReleasesSome from more rows new keys left
+  sweep_wider seen more new left alike s = record {
+    long = s.long;
+    past = λ q e. by_test q (λ b. row_at new q ≡ given_up from (row_at rows q)) (λ g. s.past q (sym (alike q g) ∙ e)) (λ g. same q g ∙ sym (stays q g));
+    ahead = λ q e. by_test q (λ b. row_at new q ≡ row_at rows q) (λ g. s.ahead q (sym (alike q g) ∙ e)) (λ g. same q g);
+    key = λ y. s.key y ∙ go (keys y);
+  }
+    where
+      by_test : (q : ℕ) (P : Bool → Type 0) → (is_given from (row_at rows q) ≡ true → P true) → (is_given from (row_at rows q) ≡ false → P true) → P true
+      by_test q P yes' no' = pick (is_given from (row_at rows q)) yes' no'
+        where
+          pick : (b : Bool) → (b ≡ true → P true) → (b ≡ false → P true) → P true
+          pick true f g = f refl
+          pick false f g = g refl
+
+      stays : (q : ℕ) → is_given from (row_at rows q) ≡ false → given_up from (row_at rows q) ≡ row_at rows q
+      stays q g = ap {A = Bool} {B = Row} (λ b. if b then vacated (row_at rows q) else row_at rows q) g
+
+      same : (q : ℕ) → is_given from (row_at rows q) ≡ false → row_at new q ≡ row_at rows q
+      same q g = seen_or (seen q) (λ e. s.past q e ∙ stays q g) (s.ahead q)
+        where
+          seen_or : (b : Bool) → (b ≡ true → row_at new q ≡ row_at rows q) → (b ≡ false → row_at new q ≡ row_at rows q) → row_at new q ≡ row_at rows q
+          seen_or true f g = f refl
+          seen_or false f g = g refl
+
+      tests : (k : ℕ) (a b c : Bool) → (c ≡ true → b ≡ a) → ◌≡◌ {A = Option ℕ} (if a && c then None else Some k) (if b && c then None else Some k)
+      tests k a b true f = ap {A = Bool} {B = Option ℕ} (λ z. if z && true then None else Some k) (sym (f refl))
+      tests k true true false f = refl
+      tests k true false false f = refl
+      tests k false true false f = refl
+      tests k false false false f = refl
+
+      go : (o : Option ℕ) → key_so_far from seen rows o ≡ key_so_far from more rows o
+      go None = refl
+      go (Some k) = tests k (seen k) (more k) (is_given from (row_at rows k)) (alike k)
 
   module _ (seen : ℕ → Bool) (new : List Row) (left : finmap.FinMap nat_cmp ℕ) (s : ReleasesSome from seen rows new keys (finmap.get left))
       (k : ℕ) (unseen : seen k ≡ false) (new2 : List Row) (left2 : finmap.FinMap nat_cmp ℕ) (r : ReleasesSlot from k new new2 left left2)

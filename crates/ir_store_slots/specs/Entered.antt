@@ -3,10 +3,8 @@ use Rattle.std.specs.Prelude.{ℕ, List, Bool, Option, Some, None, Result, Ok, E
 use Rattle.ir_types.specs.declared.refusal.Refusal.{Refusal}
 use Rattle.ir_types.specs.declared.refusal.Refusal.TheVariants.{NoSuchOp}
 use Rattle.ir_tree.specs.declared.place.Part.{Part}
-use Rattle.ir_tree.specs.Edits.{part_of, change_part, change_entry}
+use Rattle.ir_tree.specs.Edits.{part_of}
 use Rattle.ir_tree_laws.specs.Reasons.{entry_reason}
-use Rattle.ir_store_rows.specs.Slots.{Slots, gone_after}
-use Rattle.ir_store_slots.specs.Stored.{gone_in, change_gone}
 use Rattle.ir_store_slots.specs.Rows.{Row, row_at}
 pub use Rattle.ir_store_rows.specs.Rows.{slots_in, row_with_entry}
 

@@ -45,6 +45,11 @@ pub record ReleasesSlot (from k : ℕ) (rows new : List Row) (keys left : map.Fi
   pub others : (q : ℕ) → (q ≡ k → ⊥) → row_at new q ≡ row_at rows q
   pub key : left ≡ (if is_given from (row_at rows k) then map.remove keys (row_at rows k).head.id else keys)
 
+-- what the slot of an id holds, if it has one
+abbrev pub ReleasesId : (from : ℕ) → Option ℕ → (rows new : List Row) (keys left : map.FinMap nat_cmp ℕ) → Type 0
+ReleasesId from None rows new keys left = (new ≡ rows) × (left ≡ keys)
+ReleasesId from (Some k) rows new keys left = ReleasesSlot from k rows new keys left
+
 -- what the slots hold that pass a test
 pub record ReleasesSome (from : ℕ) (seen : ℕ → Bool) (rows new : List Row) (keys left : ℕ → Option ℕ) : Type 0 where
   pub long : length new ≡ length rows

@@ -1,7 +1,7 @@
 -- What the slots hold, as plain data.
-use Rattle.std.specs.Prelude.{ℕ, List, [], ◌∷◌, map, Bool, false, get_or, not, ◌&&◌, if◌then◌else◌, option_map, Option, Some, None}
-use Rattle.ir_tree.specs.Tree.{Head, Op, op, Regions, no_regions, region, empty, block, no_ops}
-use Rattle.ir_store_slots.specs.Stored.{Gone, none_gone}
+use Rattle.std.specs.Prelude.{ℕ, List, [], ◌∷◌, map, not, ◌&&◌, if◌then◌else◌, option_map, Option, Some, None}
+use Rattle.ir_tree.specs.Tree.{Op, op, Regions, no_regions, region, empty, block, no_ops}
+use Rattle.ir_store_slots.specs.Stored.{Gone}
 use Rattle.ir_store_slots.specs.Nodes.{Node}
 pub use Rattle.ir_store_rows.specs.Shapes.{Shape, shape_of}
 pub use Rattle.ir_store_rows.specs.Rows.{Row, no_head, no_row, kept_head, row_at, row_with_operand, vacated}

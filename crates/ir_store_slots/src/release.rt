@@ -2,7 +2,7 @@
 ghost use Rattle.std.specs.Prelude.{◌≡◌, ◌<◌, true, length, if◌then◌else◌, ◌-◌};
 ghost use Rattle.std.specs.FinMap as finmap;
 ghost use Rattle.ir_store_lists.specs.Lists.{free, has, list_at, without};
-ghost use Rattle.ir_store_slots.specs.Releases.{is_given, given_up, forgetting, IsKeyed, GivenUp, Forgets, Released, ReleasesSlot};
+ghost use Rattle.ir_store_slots.specs.Releases.{is_given, given_up, forgetting, IsKeyed, GivenUp, Forgets, Released, ReleasesId, ReleasesSlot};
 ghost use Rattle.ir_store_slots.specs.Marks.{Marked};
 ghost use Rattle.ir_store_slots.specs.Rows.{row_at};
 
@@ -56,6 +56,41 @@ fn release_node(
     }
 }
 
+/// The same of the slot of an id, if it has one.
+fn release_id(
+    rows: &mut Rows,
+    keys: &mut Keys,
+    marks: &mut Chains,
+    spare: &mut u32,
+    id: u32,
+    from: u32,
+)
+    requires marked { Marked rows.old marks.old.homes }
+    ensures slot { ReleasesId from (finmap.get keys.old id) rows.old rows.new keys.old keys.new }
+    ensures marked { Marked rows.new marks.new.homes }
+{
+    let Some(key) = keys.get(id) else { return };
+    if !is_given(rows, key, from) {
+        return;
+    }
+    marks.laws();
+    release_node(rows, keys, marks, spare, key + 2, from);
+}
+
+/// The same of the slots of all ids from `from` on, the greatest first.
+fn release_ids(rows: &mut Rows, keys: &mut Keys, marks: &mut Chains, spare: &mut u32, from: u32)
+    requires keyed { IsKeyed rows.old (finmap.get keys.old) }
+    requires marked { Marked rows.old marks.old.homes }
+    ensures given { GivenUp from rows.old rows.new (finmap.get keys.old) (finmap.get keys.new) }
+    ensures marked { Marked rows.new marks.new.homes }
+{
+    let mut end = keys.end();
+    'ids: while end > from as usize {
+        end -= 1;
+        release_id(rows, keys, marks, spare, end as u32, from);
+    }
+}
+
 /// The same of all slots.
 fn release_held(rows: &mut Rows, keys: &mut Keys, marks: &mut Chains, spare: &mut u32, from: u32)
     requires keyed { IsKeyed rows.old (finmap.get keys.old) }
@@ -69,6 +104,21 @@ fn release_held(rows: &mut Rows, keys: &mut Keys, marks: &mut Chains, spare: &mu
         marks.laws();
         at = marks.next(node);
         release_node(rows, keys, marks, spare, node, from);
+    }
+}
+
+/// The same of all slots, along the ids where those from `from` on are no more than the slots: a few that came last are
+/// given up in as many steps, whatever else is held.
+fn release_from(rows: &mut Rows, keys: &mut Keys, marks: &mut Chains, spare: &mut u32, from: u32)
+    requires keyed { IsKeyed rows.old (finmap.get keys.old) }
+    requires marked { Marked rows.old marks.old.homes }
+    ensures given { GivenUp from rows.old rows.new (finmap.get keys.old) (finmap.get keys.new) }
+    ensures marked { Marked rows.new marks.new.homes }
+{
+    if from > 0 && keys.end().saturating_sub(from as usize) <= rows.len() {
+        release_ids(rows, keys, marks, spare, from);
+    } else {
+        release_held(rows, keys, marks, spare, from);
     }
 }
 
@@ -101,7 +151,7 @@ pub fn release_slots(
     ensures released { Released from rows.old rows.new (finmap.get keys.old) (finmap.get keys.new) }
     ensures marked { Marked rows.new marks.new.homes }
 {
-    release_held(rows, keys, marks, spare, from);
+    release_from(rows, keys, marks, spare, from);
     if from == 0 {
         forget_keys(rows, marks);
     }

@@ -78,6 +78,7 @@ module _ {B : Type 0} (meaning : B → Listener) where
       let marks : h.marks ≡ g.marks = ap (λ (k : Held). k.marks) grown.held in
       let was : h.journal ≡ g.journal = ap (λ (k : Held). k.journal) grown.held in
       record {
+        marks = r.marks ∙ marks;
         journal = r.journal ∙ λ i. all_noted (marks i) (was i) es;
         behind = λ some n le. r.behind (λ z. some (sym marks ∙ z)) n (subst (λ (xs : List Event). n ≤ length xs) (sym was) le) ∙ grown.behind n;
       }

@@ -11,6 +11,7 @@ use Rattle.rewriter.specs.Mark.{Mark}
 use Rattle.rewriter.specs.Held.{Held, module_at, open_mark, open_marks}
 use Rattle.rewriter.specs.Moves.{Recorded, all_noted}
 use Rattle.rewriter.specs.Rolling.{Dropped}
+use Rattle.rewriter.proofs.OpenMarks.{front_same}
 
 -- ---- marks, as many as before
 
@@ -56,7 +57,7 @@ longer_noted (k ∷ ks) xs es = (let l = length-append xs es in omega (arith, l)
 -- ---- desks
 
 pub recorded_none : (h : Held) → Recorded [] h h
-recorded_none h = record { journal = none_noted h.marks h.journal; behind = λ some k le. refl }
+recorded_none h = record { marks = refl; journal = none_noted h.marks h.journal; behind = λ some k le. refl }
 
 pub recorded_on : (es fs : List Event) (a b c : Held) → open_marks b ≡ open_marks a → Recorded es a b → Recorded fs b c → Recorded (es ++ fs) a c
 recorded_on es fs a b c opens h k =
@@ -64,6 +65,7 @@ recorded_on es fs a b c opens h k =
     let longer = longer_noted a.marks a.journal es in
     let length_is = ap (λ (xs : List Event). length xs) h.journal in
     record {
+      marks = k.marks ∙ h.marks;
       journal = k.journal ∙ noted_alike b.marks a.marks b.journal fs many ∙ ap (λ xs. all_noted a.marks xs fs) h.journal ∙ more_noted a.marks a.journal es fs;
       behind = λ some n le. k.behind (marked_alike a.marks b.marks (sym many) some) n (omega (arith, le, longer, length_is)) ∙ h.behind some n le;
     }
@@ -94,12 +96,19 @@ module _ (a b c d : Held) (begun : b ≡ marked_more a) (es : List Event) (h : R
   journal_is : d.journal ≡ all_noted a.marks a.journal es
   journal_is = left_noted c d.ctx d.store d.journal d.marks a.marks a.journal es x journal_was many none
 
+  marks_are : d.marks ≡ a.marks
+  marks_are =
+      let own : Mark = record { length = length a.journal; counted = false } in
+      let last : Mark = record { length = x.newest; counted = x.mark.counted } in
+      x.marks ∙ front_same x.mark.rest a.marks last own (sym x.mark.marks ∙ h.marks ∙ ap (λ (k : Held). k.marks) begun)
+
   pub recorded_whole : Recorded es a d
   recorded_whole =
       let longer = longer_noted a.marks a.journal es in
       let length_is = ap (λ (xs : List Event). length xs) journal_is in
       let length_was = ap (λ (m : Held). length m.journal) begun in
       record {
+        marks = marks_are;
         journal = journal_is;
         behind = λ some k le.
             x.behind (marked_alike a.marks d.marks (sym many) some) k (omega (arith, le, longer, length_is)) ∙ h.behind under_mark k (omega (arith, le, length_was)) ∙ ap (module_at k) begun;

@@ -51,7 +51,7 @@ front_taken js es = take-append-le (length js) js es (omega arith) ∙ take_all 
 -- ---- desks
 
 pub recorded_none : (h : Held) → Recorded [] h h
-recorded_none h = record { journal = none_noted h.marks h.journal; behind = λ some k le. refl }
+recorded_none h = record { marks = refl; journal = none_noted h.marks h.journal; behind = λ some k le. refl }
 
 pub recorded_left : (g h : Held) → h ≡ g → Recorded [] g h
 recorded_left g h same = subst (λ (k : Held). Recorded [] g k) (sym same) (recorded_none g)
@@ -61,6 +61,7 @@ recorded_more es fs a b c marks h k =
     let longer = longer_noted a.marks a.journal es in
     let length_is = ap (λ (js : List Event). length js) h.journal in
     record {
+      marks = k.marks ∙ h.marks;
       journal = k.journal ∙ (λ i. all_noted (marks i) (h.journal i) fs) ∙ more_noted a.marks a.journal es fs;
       behind = λ some n le. k.behind (λ z. some (sym marks ∙ z)) n (omega (arith, le, longer, length_is)) ∙ h.behind some n le;
     }
@@ -99,7 +100,7 @@ module _ (stays : Bool) (a b c d : Held) (begun : b ≡ with_mark false a) (mark
       let journal : d.journal ≡ all_noted a.marks a.journal es = x.journal ∙ (λ i. kept (left_are i) (cond (is i) (journal_is i) (take x.newest c.journal))) ∙ kept_noted a.marks a.journal es none in
       let length_is = ap (λ (js : List Event). length js) journal in
       let longer = longer_noted a.marks a.journal es in
-      record { journal = journal; behind = λ some k le. behind_all some k le (omega (arith, le, length_is, longer)) }
+      record { marks = left_are; journal = journal; behind = λ some k le. behind_all some k le (omega (arith, le, length_is, longer)) }
 
   -- they were undone
   pub recorded_undone : stays ≡ false → Recorded [] a d
@@ -108,7 +109,7 @@ module _ (stays : Bool) (a b c d : Held) (begun : b ≡ with_mark false a) (mark
       let journal : d.journal ≡ all_noted a.marks a.journal [] = x.journal ∙ (λ i. kept (left_are i) (cond (is i) c.journal (taken i))) ∙ kept_none a.marks a.journal none in
       let length_is = ap (λ (js : List Event). length js) journal in
       let longer = longer_noted a.marks a.journal [] in
-      record { journal = journal; behind = λ some k le. behind_all some k le (omega (arith, le, length_is, longer)) }
+      record { marks = left_are; journal = journal; behind = λ some k le. behind_all some k le (omega (arith, le, length_is, longer)) }
 
 -- ---- benches
 
@@ -129,6 +130,7 @@ module _ {B : Type 0} (meaning : B → Listener) where
     made_recorded : Recorded (m.event ∷ []) a.desk b.desk
     made_recorded =
         record {
+          marks = made_marks;
           journal = m.settled.journal ∙ ap (λ (h : Held). h.journal) m.edited.held ∙ one_noted a.desk.marks a.desk.journal m.event;
           behind = λ some k le. m.settled.behind k ∙ m.edited.behind some k le;
         }

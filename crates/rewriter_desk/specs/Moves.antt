@@ -38,8 +38,9 @@ abbrev pub all_noted : List Mark → List Event → List Event → List Event
 all_noted [] js es = js
 all_noted (k ∷ ks) js es = js ++ es
 
--- these events were noted where a mark is open, and the modules before the older ones stay
+-- these events were noted where a mark is open; the marks stay, and so do the modules before the older events
 pub record Recorded (es : List Event) (old new : Held) : Type 0 where
+  pub marks : new.marks ≡ old.marks
   pub journal : new.journal ≡ all_noted old.marks old.journal es
   pub behind : old.marks ≢ [] → (k : ℕ) → k ≤ length old.journal → module_at k new ≡ module_at k old
 

@@ -1,4 +1,4 @@
-use Rattle.std.proofs.Common.{◌∙◌, ◌<◌, sym, ap, subst, length, arith}
+use Rattle.std.proofs.Common.{◌∙◌, ◌<◌, sym, ap, subst, length}
 use Rattle.ir_store_lists.specs.Lists.{list_at}
 use Rattle.ir_store_slots.proofs.Listed.{forget_inside, forget_two, forget_item, forget_less, forget_on, forgot_end, listed_without}
 use Rattle.ir_store_slots.proofs.release.forget_keys.Goals as goal

@@ -1,9 +1,9 @@
-use Rattle.std.proofs.Common.{◌<◌, ap, ◌∙◌, set, length, arith}
+use Rattle.std.proofs.Common.{◌<◌, ap, Some, ◌∙◌, set, length, arith}
 use Rattle.std.specs.Ordering.{nat_cmp}
 use Rattle.std.specs.BTreeMap as sorted
 use Rattle.std.specs.FinMap as map
 use Rattle.ir_store_ids.specs.Slots.{slot_in, map_is}
-use Rattle.ir_store_ids.proofs.Paged.{put_paged, add_paged, far_paged}
+use Rattle.ir_store_ids.proofs.Paged.{put_paged, add_paged, far_paged, raised_ends, add_ends, far_ends}
 use Rattle.ir_store_ids.proofs.Tables.{add_known, add_inserted, add_refused, near_changed, some_slot, changed, inserted, put_known, put_inserted, put_refused}
 use Rattle.ir_store_ids.proofs.table.IdTable.insert.Goals as goal
 
@@ -20,7 +20,11 @@ invariant_of-self-inside c =
       (
         put_paged c.self.inside.pages.items c.forget.new.pages.items (slot_in near far) (slot_in (set near c.args.id c.args.slot) far) c.args.id c.self.inside.paged c.forget.ensures c.learn.new.pages.items c.args.slot c.learn.ensures
             (λ x. near_changed near far c.args.id c.args.slot l x ∙ ap (λ o. changed c.args.id o (slot_in near far) x) (some_slot c.args.slot c.requires)),
-        tt,
+        (
+          raised_ends c.self.inside.end c.raised-self-inside.result (slot_in near far) (slot_in (set near c.args.id c.args.slot) far) c.args.id c.self.inside.ended c.raised-self-inside.ensures.above (Some c.args.slot)
+              (λ x. near_changed near far c.args.id c.args.slot l x ∙ ap (λ o. changed c.args.id o (slot_in near far) x) (some_slot c.args.slot c.requires)),
+          (c.raised-self-inside.ensures.few c.self.inside.few, tt),
+        ),
       ),
     )
 
@@ -41,7 +45,11 @@ invariant_of-self-inside-then-place-len-2 c = (
   (
     add_paged c.self.inside.near.items c.add.new.near.items (sorted.get nat_cmp c.self.inside.far) c.args.id c.args.slot
         (omega (arith, c.if-place-len-2.true, c.len-2.ensures, c.self.inside.near.ok.0)) c.requires c.self.inside.pages.items c.forget.new.pages.items c.add.new.pages.items c.self.inside.paged c.forget.ensures c.add.result c.add.ensures.near c.add.ensures.pages,
-    tt,
+    (
+      add_ends c.self.inside.near.items c.add.new.near.items (sorted.get nat_cmp c.self.inside.far) c.args.id c.args.slot
+          (omega (arith, c.if-place-len-2.true, c.len-2.ensures, c.self.inside.near.ok.0)) c.requires c.self.inside.end c.raised-self-inside.result c.self.inside.ended c.raised-self-inside.ensures.above c.add.result c.add.ensures.near,
+      (c.raised-self-inside.ensures.few c.self.inside.few, tt),
+    ),
   ),
 )
 
@@ -62,7 +70,11 @@ invariant_of-self-inside-2 c = (
   (
     far_paged c.self.inside.near.items (sorted.get nat_cmp c.self.inside.far) (sorted.get nat_cmp c.put.new.far) c.args.id c.args.slot
         (omega (arith, c.if-place-len.false, c.len.ensures, c.self.inside.near.ok.0)) c.self.inside.pages.items c.forget.new.pages.items c.self.inside.paged c.forget.ensures c.put.result c.put.ensures,
-    tt,
+    (
+      far_ends c.self.inside.near.items (sorted.get nat_cmp c.self.inside.far) (sorted.get nat_cmp c.put.new.far) c.args.id c.args.slot
+          (omega (arith, c.if-place-len.false, c.len.ensures, c.self.inside.near.ok.0)) c.self.inside.end c.raised-self-inside.result c.self.inside.ended c.raised-self-inside.ensures.above c.put.result c.put.ensures,
+      (c.raised-self-inside.ensures.few c.self.inside.few, tt),
+    ),
   ),
 )
 

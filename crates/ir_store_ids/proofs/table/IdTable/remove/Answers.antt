@@ -3,7 +3,7 @@ use Rattle.std.specs.Ordering.{nat_cmp}
 use Rattle.std.specs.BTreeMap as sorted
 use Rattle.std.specs.FinMap as map
 use Rattle.ir_store_ids.specs.Slots.{no_slot, slot_in, map_is}
-use Rattle.ir_store_ids.proofs.Paged.{others_paged}
+use Rattle.ir_store_ids.proofs.Paged.{others_paged, lowered_ends}
 use Rattle.ir_store_ids.proofs.Tables.{near_changed, far_changed, removed}
 use Rattle.ir_store_ids.proofs.table.IdTable.remove.Goals as goal
 
@@ -16,7 +16,7 @@ invariant_of-self-inside c =
         map.remove c.self.inside.known.0 c.args.id,
         removed (slot_in near far) (slot_in (set near c.args.id no_slot) far) c.args.id c.self.inside.known (near_changed near far c.args.id no_slot l),
       ),
-      (others_paged c.self.inside.pages.items c.forget.new.pages.items (slot_in near far) (slot_in (set near c.args.id no_slot) far) c.args.id c.self.inside.paged c.forget.ensures None (near_changed near far c.args.id no_slot l), tt),
+      (others_paged c.self.inside.pages.items c.forget.new.pages.items (slot_in near far) (slot_in (set near c.args.id no_slot) far) c.args.id c.self.inside.paged c.forget.ensures None (near_changed near far c.args.id no_slot l), (lowered_ends c.self.inside.end c.lowered-self-inside.result (slot_in near far) (slot_in (set near c.args.id no_slot) far) c.args.id c.self.inside.ended c.lowered-self-inside.ensures.above (near_changed near far c.args.id no_slot l), (omega (arith, c.lowered-self-inside.ensures.few, c.self.inside.few), tt))),
     )
 
 pub invariant_of-self-inside-else-place-len : goal.invariant_of-self-inside-else-place-len
@@ -29,7 +29,7 @@ invariant_of-self-inside-else-place-len c =
         map.remove c.self.inside.known.0 c.args.id,
         removed (slot_in near far) (slot_in near far') c.args.id c.self.inside.known (far_changed near far far' c.args.id None l c.drop_id.ensures),
       ),
-      (others_paged c.self.inside.pages.items c.forget.new.pages.items (slot_in near far) (slot_in near far') c.args.id c.self.inside.paged c.forget.ensures None (far_changed near far far' c.args.id None l c.drop_id.ensures), tt),
+      (others_paged c.self.inside.pages.items c.forget.new.pages.items (slot_in near far) (slot_in near far') c.args.id c.self.inside.paged c.forget.ensures None (far_changed near far far' c.args.id None l c.drop_id.ensures), (lowered_ends c.self.inside.end c.lowered-self-inside.result (slot_in near far) (slot_in near far') c.args.id c.self.inside.ended c.lowered-self-inside.ensures.above (far_changed near far far' c.args.id None l c.drop_id.ensures), (omega (arith, c.lowered-self-inside.ensures.few, c.self.inside.few), tt))),
     )
 
 pub returns-then-place-len : goal.returns-then-place-len
