@@ -1,5 +1,5 @@
 -- A conversion behind names that were interned is one of the bench before them.
-use Rattle.std.proofs.Common.{◌≡◌, refl, ap, sym, ◌∙◌, subst, inl, inr, ℕ, ◌++◌, Result, Ok, Err, None}
+use Rattle.std.proofs.Common.{◌≡◌, refl, ap, ◌∙◌, subst, inr, ℕ, ◌++◌, Result, Ok, Err, None}
 use Rattle.ir_types.specs.Sound.{Holds}
 use Rattle.ir_types.specs.declared.refusal.Refusal.{Refusal}
 use Rattle.ir_event.specs.Listener.{Listener}

@@ -1,4 +1,4 @@
-use Rattle.mlir_work_convert.proofs.Named.{interned_so, named_so}
+use Rattle.mlir_work_convert.proofs.Named.{named_so}
 use Rattle.mlir_work_convert.proofs.names.intern.Goals as goal
 
 pub returns-in-Ok-clause-named : goal.returns-in-Ok-clause-named
