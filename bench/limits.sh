@@ -14,9 +14,9 @@ operations() {
     yes '"t"():()->()' | head -n "$1" | tr -d '\n'
 }
 
-# Runs the program over the module, and compares what it prints with the text.
+# Runs the program over the module, with a script or without one, and compares what it prints with the text.
 answers() {
-    printf '\n// -----\n' >>"$work/in"
+    printf '\n// -----\n%s' "${3-}" >>"$work/in"
     "$program" --brief <"$work/in" >"$work/out" || true
     if [ "$(cat "$work/out")" = "$2" ]; then
         echo "$1: as it must be"
@@ -40,5 +40,12 @@ answers 'a module of operations, 1,048,576 in all' ''
 
 { printf '"builtin.module"()({' && operations 1048576 && printf '}):()->()'; } >"$work/in"
 answers 'one more, at its name' 'module refused 11 TooMany at 12582920'
+
+maximum='%a="t"():()->i8 %b="arith.maxsi"(%a,%a):(i8,i8)->i8'
+{ operations 1048571 && printf '%s' "$maximum"; } >"$work/in"
+answers 'a conversion that makes two of 1,048,576' '1 converted 1' 'convert partial illegal arith.maxsi rules 25'
+
+{ operations 1048572 && printf '%s' "$maximum"; } >"$work/in"
+answers 'one more, and there is no room for both' '1 refused 31 Full' 'convert partial illegal arith.maxsi rules 25'
 
 [ "$failed" = 0 ]
