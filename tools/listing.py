@@ -14,6 +14,16 @@ RESULTS = re.compile(r"(%\w+)(?::(\d+))? = ")
 ARGUMENT = re.compile(r"(%\w+):")
 NAMED = re.compile(r'("(?:[^"\\]|\\.)*"|%\w+(?:[#:]\d+)?)')
 MARGIN = 6
+# Stands in place of an operation that a refusal names and that isn't in the module.
+MADE = "        (made on the way, and gone again)"
+# Its reply says the next free number. It is asked behind a script, and never kept.
+PROBE = 'insert end #0 0 "workbench.probe"() : () -> ()'
+
+
+def free_number(lines):
+    """The next free number, by what was written of a script with the probe behind it; None where that is refused."""
+    free = re.fullmatch(r"\d+ ok #(\d+)", lines[-1])
+    return int(free.group(1)) if free else None
 
 
 def unused_key(module, script):

@@ -14,7 +14,7 @@ import program  # noqa: E402
 def referred(text):
     """The status of a run by bench/reference, and the lines that it writes."""
     from reference import script
-    status, out = script.run(text, True)
+    status, out = script.run(text, True, script.BOXES, getattr(script, "REWRITES", script.ALL))
     return status, out.decode().splitlines()
 
 
@@ -25,6 +25,8 @@ if "MLIR_WORK" not in os.environ and not program.BUILT.exists():
 
 import check_examples  # noqa: E402, F401
 import explain  # noqa: E402, F401
+import forms  # noqa: E402, F401
 import listing  # noqa: E402, F401
 import mistakes  # noqa: E402, F401
 import session  # noqa: E402, F401
+import targets  # noqa: E402, F401
