@@ -7,8 +7,8 @@ Besides the commands of a script there are these, each on a line of its own:
 
   ids          the module with the number of each operation in the margin, and values as a script names them
   at #N [K]    the same, but only the K lines (3) before and behind operation #N
-  diff         what changed in it since the last `diff`, or since the beginning; behind a `canon`, a `convert` and a
-               `sweep` that stands by itself, as far as it is short
+  diff         what changed in it since the last `diff`, or since the beginning; what a `canon`, a `convert` or a `sweep`
+               changed stands behind it by itself
   KIND [WORD]  `report KIND`; with a WORD, as #3 or %v2.0, only the rows in which it stands
   undo         the last edit was never typed
   save FILE    what was typed and accepted is written as a script
@@ -32,10 +32,17 @@ PROMPT = "> "
 WIDTH = 100
 # Commands that change nothing, and so aren't run again.
 LOOKS = {"print", "report"}
-# Commands that edit what they don't name: behind them stands what `diff` says, where that isn't longer.
+# Commands that edit what they don't name: behind them stands what they changed, up to so many lines.
 WITH_DIFF, MOST_DIFF = {"canon", "convert", "sweep"}, 60
 # A script that is too long has one reply in place of one for each line.
 REFUSED = ("refused", [])
+
+
+def cut_off(lines):
+    """The first lines of a difference, where it is long."""
+    if len(lines) > MOST_DIFF:
+        return [*lines[:MOST_DIFF], f".. {len(lines) - MOST_DIFF} more lines: `diff` has them"]
+    return lines or ["nothing changed"]
 
 
 class Entry:
@@ -101,12 +108,13 @@ class Session:
 
     def command(self, line):
         """Runs a command of a script, and keeps it where it is accepted."""
+        word = line.split()[0]
+        before = self.listing() if word in WITH_DIFF else None
         reply, below = self.run(line)
-        if not reply.startswith("refused"):
-            word = line.split()[0]
-            self.entries.append(Entry(line, word not in LOOKS))
-            return [reply, *below, *(self.short_diff() if word in WITH_DIFF else [])]
-        return self.refused(reply, line.encode("utf-8", "surrogateescape"))
+        if reply.startswith("refused"):
+            return self.refused(reply, line.encode("utf-8", "surrogateescape"))
+        self.entries.append(Entry(line, word not in LOOKS))
+        return [reply, *below, *(cut_off(changes(before, self.listing())) if before else [])]
 
     def refused(self, reply, line):
         """What is said of a line that is refused, and the operation that its reply names."""
@@ -138,14 +146,6 @@ class Session:
         """What changed since the last time."""
         old, self.seen = self.seen, self.listing()
         return changes(old, self.seen) or ["nothing changed"]
-
-    def short_diff(self):
-        """What changed since the last time, or its first lines; then `diff` says it all."""
-        seen, lines = self.seen, self.diff("")
-        if len(lines) <= MOST_DIFF:
-            return lines
-        self.seen = seen
-        return [*lines[:MOST_DIFF], f".. {len(lines) - MOST_DIFF} more lines: `diff` has them"]
 
     def undo(self, _):
         """Takes the last edit back, and what was looked at behind it."""

@@ -110,6 +110,14 @@ class Answered(unittest.TestCase):
         self.assertEqual((said[0], len(said), said[-1]), ("swept 3", 4, ".. 2 more lines: `diff` has them"))
         self.assertEqual(len(here.answer("diff")), 4)
 
+    def test_what_it_changed_itself(self):
+        here = begun(REMAINDER)
+        here.answer("set-attr #3 k unit")
+        said = here.answer("convert partial illegal arith.remsi rules 27")
+        here.answer("undo")
+        self.assertEqual(here.answer("convert partial illegal arith.remsi rules 27"), said)
+        self.assertEqual(sum("{k}" in line for line in said), 2)
+
     def test_the_operation_that_is_named(self):
         here = begun(REMAINDER)
         self.assertEqual(here.answer("convert partial illegal arith.remsi")[-1],
