@@ -6,7 +6,7 @@ import shutil
 import subprocess
 import unittest
 
-from support import ROOT, program, session
+from support import ROOT, program, refusals, session
 
 BLOCK = re.compile(r"(?:^    .*\n)+", re.M)
 MODULE = re.compile(r"```mlir\n(.*?)```", re.S)
@@ -111,6 +111,21 @@ class Convert(unittest.TestCase):
                 self.assertEqual([[reply, *below] for reply, below in said], [wanted for _, wanted in runs])
                 if after is not None:
                     self.assertEqual(printed, program.asked(after, ["print"])[1][1:])
+
+
+class Refused(unittest.TestCase):
+    def test_refusals(self):
+        for text, answer, _ in refusals.rows(ROOT / "docs/REFUSALS.md"):
+            with self.subTest(text):
+                self.assertEqual(program.ran(text)[1], [answer])
+
+    def test_verifier(self):
+        found = list(refusals.broken(ROOT / "docs/VERIFIER.md"))
+        self.assertEqual(len(found), 24)
+        for number, (text, row, _) in enumerate(found, 1):
+            with self.subTest(number):
+                self.assertTrue(row.endswith(f" V{number}"))
+                self.assertEqual(program.asked(text, ["report diagnostics"])[1], ["1 ok", row])
 
 
 class Reports(unittest.TestCase):
