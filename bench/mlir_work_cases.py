@@ -12,6 +12,7 @@ import sys
 sys.dont_write_bytecode = True
 
 import analyses_cases  # noqa: E402
+import conversion_cases  # noqa: E402
 import heard_cases  # noqa: E402
 import refusals  # noqa: E402
 import verifier_cases  # noqa: E402
@@ -437,9 +438,6 @@ def runs():
     run("brief", over + returns, 0, b"1 ok\n" + USES + b"2 ok\n3 ok\n" + EDITED_USES)
     bad = b"print \xff\nreport \xc3\x28uses\nreport uses\n"
     run("brief", over + bad, 1, b"1 refused 60 BadCommand\n2 refused 60 BadCommand\n3 ok\n" + USES)
-    # These are read, and there is no transformation for them.
-    later = b"convert partial\nconvert full legal builtin.module rules 1 depth 17\nprint\n"
-    run("brief", over + later, 1, b"1 refused 60 BadCommand\n2 refused 60 BadCommand\n3 ok\n" + PRINTED)
     # The module and the listing follow each command but `report` and `print`, also a refused one.
     listed, edited = PRINTED + b"-- uses\n" + USES + b"-- diagnostics\n", EDITED + b"-- uses\n" + EDITED_USES + b"-- diagnostics\n"
     commands = b"jump\nreport uses\nset-operand #3 0 %v2.0\nset-operand #0 0 %v2.0\nprint\n"
@@ -657,8 +655,8 @@ def refused():
 
 
 def worked():
-    """Each row of bench/worked_rows.txt that holds where no later command but `sweep` and `canon` is there, with all listeners."""
-    for row in worked_rows.holding(("sweep", "canon")):
+    """Each row of bench/worked_rows.txt that holds where all commands are there, with all listeners."""
+    for row in worked_rows.holding(worked_rows.LATER):
         limit = re.search("--limit ([0-9]+)", row.options)
         status, out = script.run(row.input, "--brief" in row.options, script.BOXES, script.ALL, int(limit[1]) if limit else script.LIMIT)
         assert (status, worked_rows.is_output(row, out)) == (row.status, True), row.input
@@ -677,9 +675,10 @@ def analyses(kinds, text, brief=True):
     return out
 
 
-print("seeds", analyses_cases.SEED, verifier_cases.SEED, heard_cases.SEED)
+print("seeds", analyses_cases.SEED, verifier_cases.SEED, heard_cases.SEED, conversion_cases.SEED)
 for part in (lines, words, cuts, writes, reads, runs, moves, entries, wholes, panels, sweeps, command_lines, examples, over_limits, refused, worked):
     part()
 analyses_cases.all_cases(analyses)
+conversion_cases.all_cases(analyses)
 heard_cases.all_cases(case)
 TABLE.write("mlir_work_cases")

@@ -21,6 +21,7 @@ PARTS = {
     "#N": (f"#{NUMBER}", "an operation is written as #3"),
     "K": (NUMBER, "operands are counted from 0"),
     "N": (NUMBER, "it is a whole number"),
+    "MODE": ("partial|full", "a mode is `partial` or `full`"),
     "VALUE": (VALUE, "a value is %vN.K, result K of #N, or %aN.R.K, argument K of the block of its region R"),
     "PLACE": (PLACE, "a place is `before #N`, `after #N`, `start #N R` or `end #N R`"),
     "KEY": (KEY, 'a key is a bare identifier, or a string as "a b"'),

@@ -4,7 +4,7 @@ python3 -m reference [--brief] [--limit N] < INPUT"""
 import re
 import sys
 
-from .script import BOXES, LIMIT, MOST_LIMIT, REWRITES, run
+from .script import ALL, BOXES, LIMIT, MOST_LIMIT, run
 
 
 def options(words):
@@ -27,6 +27,6 @@ asked = options(sys.argv[1:])
 if asked is None:
     print(__doc__, file=sys.stderr)
     sys.exit(2)
-status, out = run(sys.stdin.buffer.read(), asked[0], BOXES, REWRITES, asked[1])
+status, out = run(sys.stdin.buffer.read(), asked[0], BOXES, ALL, asked[1])
 sys.stdout.buffer.write(out)
 sys.exit(status)

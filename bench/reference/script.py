@@ -13,8 +13,7 @@ BOXES = tuple(KINDS.values())
 MOST_MARKS = 16
 FIRST = {"report", "print", "set-operand", "move", "set-attr", "drop-attr", "resync", "detach"}
 EDITS = FIRST | {"erase", "insert", "replace"}
-ALL = EDITS | {"begin", "commit", "rollback", "sweep", "canon"}
-REWRITES = ALL | {"convert"}
+ALL = EDITS | {"begin", "commit", "rollback", "sweep", "canon", "convert"}
 MOST_LIMIT, LIMIT = 1000000, 1000
 
 

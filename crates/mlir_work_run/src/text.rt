@@ -45,6 +45,11 @@ To edit:
                              the lowest such rule, again and again, until none
                              applies, or `--limit` times
   canon limit N              the same, N times at most
+  convert MODE CLAUSES       operations that aren't legal for a target are
+                             replaced by rules, one after another, and casts
+                             between types reconciled, or all stays as it was
+                             (docs/CONVERT.md); MODE is `partial`, or `full`,
+                             where each operation has to be legal in the end
 
 Marks, of which 16 may be open:
   begin                      a mark is made of the module
@@ -67,14 +72,20 @@ Operations are numbered in the order of the text, and the module around them is
              where it is inherent to the operation or they have it, else one of
              the attributes
   ATTRIBUTE  as in a text: a string has quotes, and `5` is `5 : i64`
+  CLAUSES    any of these, each once: `legal NAMES`, `illegal NAMES`, and
+             `dynamic NAMES`, legal where nothing of theirs is an index;
+             `rules NUMBERS`, of 2 and 25 to 30, tried in this order; and
+             `depth N`, how deep rules follow one another, 16 at most; NAMES
+             and NUMBERS have commas and no blanks, as `rules 27,26`
 
 Each command is replied to by a line that begins with its number: `1 ok`, and
 behind an insert the number of the new operation, as `1 ok #4`; a sweep by how
 many symbols it took, as `1 swept 2`; a `canon` by how many rewrites it made, as
-`1 converged 3`, or `1 limit 3` where a rule still applies. What is refused, as
+`1 converged 3`, or `1 limit 3` where a rule still applies; a `convert` by how
+many rules stand, as `1 converted 2`. What is refused, as
 `1 refused 23 NotVisible`, changes nothing, and the next command is tried;
 `1 refused 2 Unexpected at 4` says at which byte the ATTRIBUTE or the OPERATION
-is wrong.
+is wrong, and `1 refused 51 NotLegalised #3` for which operation a `convert` is.
 
 Kinds:
   uses         the uses of each value: the value, the operation that uses it,

@@ -3,7 +3,7 @@ use Rattle.std.proofs.Common.{◌≡◌, ◌∙◌, sym, ap, subst, refl, ◌⊎
 use Rattle.std.specs.Prelude.{position, remove, is_some, option_map, false, true}
 use Rattle.std.specs.List.{find}
 use Rattle.ir_types.specs.declared.refusal.Refusal.{Refusal}
-use Rattle.ir_types.specs.declared.refusal.Refusal.TheVariants.{BadCommand, Memory, NoSuchKind, Stale}
+use Rattle.ir_types.specs.declared.refusal.Refusal.TheVariants.{Memory, NoSuchKind, Stale}
 use Rattle.ir_tree.specs.declared.place.Place.{Place}
 use Rattle.ir_tree.specs.Meaning.{Operation}
 use Rattle.ir_event.specs.Listener.{Listener}
@@ -22,9 +22,10 @@ use Rattle.rewriter.specs.Panels.{Shown, is_kind, has_kind, shown}
 use Rattle.rewriter.specs.Spots.{Spot, spot_place}
 use Rattle.mlir_work_session.specs.Texts.{NotRead}
 use Rattle.greedy.specs.Changes.{canonicalizing}
+use Rattle.mlir_work_convert.specs.Converting.{conversion}
 use Rattle.mlir_work_sweep.specs.Sweep.{sweeping}
 use Rattle.mlir_work_session.specs.declared.manner.Manner.{Manner}
-use Rattle.mlir_work_session.specs.Machine.{AsksIn, Obeys, converting, limit_or, shows_text, unmade}
+use Rattle.mlir_work_session.specs.Machine.{AsksIn, Obeys, limit_or, shows_text}
 use Rattle.mlir_work_session.specs.RowText.{rows_text}
 use Rattle.mlir_work_session.proofs.Panels.{all_stay, find_shown}
 
@@ -36,10 +37,6 @@ module _ (manner : Manner) where
   -- one below which nothing is shown, with the response that its reply is
   pub obeys_plain : (s t : State) (c : Command) (call : Call) (reply : Reply) (response : Response) → response ≡ Replied reply → AsksIn manner c s.held (Ask call) → Goes s call reply Nothing t → Obeys manner s c response [] t
   obeys_plain s t c call reply response is asks goes = rw is (obeys_call s t c call reply Nothing asks goes)
-
-  -- one for which there is no transformation
-  pub obeys_unmade : (s : State) (c : Command) → AsksIn manner c s.held (Ask (call.Change unmade)) → Obeys manner s c (Replied (Refused BadCommand)) [] s
-  obeys_unmade s c asks = obeys_call s s c (call.Change unmade) (Refused BadCommand) Nothing asks (record { answer = inl refl; panel = all_stay s.panel })
 
   -- a place that is refused, and a text
   pub obeys_misplaced : (x : ℕ) (spot : Spot) (s : State) (refusal : Refusal) → spot_place (Some x) spot s.held.tree ≡ Err refusal → Obeys manner s (command.Move x spot) (Replied (Refused refusal)) [] s
@@ -151,7 +148,7 @@ module _ (manner : Manner) where
   memory_too s t (command.Replace old new) (Unread refusal at_byte) shows why offset asks follows = absurd (let e : Unread refusal at_byte ≡ Ask (Do (edit.Replace old new)) = asks in cc)
   memory_too s t (command.DropAttr x key) (Unread refusal at_byte) shows why offset asks follows = absurd (let e : Unread refusal at_byte ≡ Ask (Do (edit.DropAttr x key)) = asks in cc)
   memory_too s t (command.Canon limit) (Unread refusal at_byte) shows why offset asks follows = absurd (let e : Unread refusal at_byte ≡ Ask (call.Change (canonicalizing (limit_or manner.limit limit))) = asks in cc)
-  memory_too s t (command.Convert target) (Unread refusal at_byte) shows why offset asks follows = absurd (let e : Unread refusal at_byte ≡ Ask (call.Change (converting target)) = asks in cc)
+  memory_too s t (command.Convert target) (Unread refusal at_byte) shows why offset asks follows = absurd (let e : Unread refusal at_byte ≡ Ask (call.Change (conversion target)) = asks in cc)
   memory_too s t command.Sweep (Unread refusal at_byte) shows why offset asks follows = absurd (let e : Unread refusal at_byte ≡ Ask (call.Change sweeping) = asks in cc)
   memory_too s t command.Begin (Unread refusal at_byte) shows why offset asks follows = absurd (let e : Unread refusal at_byte ≡ Ask call.Mark = asks in cc)
   memory_too s t command.Commit (Unread refusal at_byte) shows why offset asks follows = absurd (let e : Unread refusal at_byte ≡ Ask call.Commit = asks in cc)
@@ -176,7 +173,7 @@ module _ (manner : Manner) where
   some_answer s (command.SetAttr x key text) = (Replied (Refused Memory), [], s, record { asked = Unread Memory None; shows = Nothing; asks = no_memory (SpellsAttr text); follows = (refl, refl, refl); text = refl }, λ why offset e. cc)
   some_answer s (command.DropAttr x key) = by_call s (command.DropAttr x key) (Do (edit.DropAttr x key)) refl
   some_answer s (command.Canon limit) = by_call s (command.Canon limit) (call.Change (canonicalizing (limit_or manner.limit limit))) refl
-  some_answer s (command.Convert target) = by_call s (command.Convert target) (call.Change (converting target)) refl
+  some_answer s (command.Convert target) = by_call s (command.Convert target) (call.Change (conversion target)) refl
   some_answer s command.Sweep = by_call s command.Sweep (call.Change sweeping) refl
   some_answer s command.Begin = by_call s command.Begin call.Mark refl
   some_answer s command.Commit = by_call s command.Commit call.Commit refl

@@ -1,15 +1,15 @@
 -- What a command makes of a bench: as the machine has it, and the bytes that are shown.
-use Rattle.std.specs.Prelude.{◌≡◌, ℕ, List, [], false, Option, Some, None, Err}
-use Rattle.ir_types.specs.declared.refusal.Refusal.TheVariants.{BadCommand}
+use Rattle.std.specs.Prelude.{◌≡◌, ℕ, List, [], Option, Some, None}
 use Rattle.ir_event.specs.Modules.{Module}
 use Rattle.ir_text.specs.Printing.{text_of}
 use Rattle.ir_text.specs.Public.{SpellsAttr}
 use Rattle.rewriter.specs.Texts.{SpellsBeside}
-use Rattle.rewriter.specs.Commands.{Command, Target, Asked, Asks, Response, Replied, TextRefusedAt, Follows}
-use Rattle.rewriter.specs.Machine.{Transformation, Done, DoneAs, DoneWith, Refused, RefusedOn, Shows, Nothing, Rows, Tree}
+use Rattle.rewriter.specs.Commands.{Command, Asked, Asks, Response, Replied, TextRefusedAt, Follows}
+use Rattle.rewriter.specs.Machine.{Done, DoneAs, DoneWith, Refused, RefusedOn, Shows, Nothing, Rows, Tree}
 pub use Rattle.rewriter.specs.Machine.{State}
 use Rattle.mlir_work_script.specs.Outcomes.{outcome_of}
 use Rattle.greedy.specs.Changes.{canonicalizing}
+use Rattle.mlir_work_convert.specs.Converting.{conversion}
 use Rattle.mlir_work_sweep.specs.Sweep.{sweeping}
 use Rattle.mlir_work_session.specs.RowText.{rows_text}
 use Rattle.mlir_work_session.specs.declared.manner.Manner.{Manner}
@@ -30,13 +30,6 @@ response_of (code.Refused refusal) = Replied (Refused refusal)
 response_of (code.RefusedOn refusal x) = Replied (RefusedOn refusal x)
 response_of (code.RefusedAt refusal offset) = TextRefusedAt refusal offset
 
--- the transformation of `convert`, which no session makes: such a command is refused as none
-abbrev pub unmade : Transformation
-unmade = record { transformed = λ m. Err (record { refusal = BadCommand; op = None }); interns = false }
-
-abbrev pub converting : Target → Transformation
-converting target = unmade
-
 -- the limit of a command that may say one
 abbrev pub limit_or : ℕ → Option ℕ → ℕ
 limit_or default None = default
@@ -44,7 +37,7 @@ limit_or default (Some limit) = limit
 
 -- what a command comes to in a module, in a script that is run so
 abbrev pub AsksIn : Manner → Command → Module → Asked → Type 0
-AsksIn manner = Asks manner.bytes SpellsBeside SpellsAttr (λ limit. canonicalizing (limit_or manner.limit limit)) converting sweeping
+AsksIn manner = Asks manner.bytes SpellsBeside SpellsAttr (λ limit. canonicalizing (limit_or manner.limit limit)) conversion sweeping
 
 -- from s a command may be answered so, with these bytes below the reply, and lead to t
 pub record Obeys (manner : Manner) (s : State) (command : Command) (response : Response) (bytes : List ℕ) (t : State) : Type 0 where

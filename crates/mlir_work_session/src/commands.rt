@@ -43,7 +43,9 @@ pub fn obey<L: Analysis>(
         }
         Command::DropAttr { op, key } => plain(alloc, edits::drop_attr(alloc, bench, *op, key)),
         Command::Canon(limit) => { plain(alloc, transforming::canon(alloc, manner, bench, *limit)) }
-        Command::Convert { .. } => plain(alloc, transforming::unmade(bench)),
+        Command::Convert { full, clauses } => {
+            plain(alloc, transforming::convert(alloc, bench, *full, clauses))
+        }
         Command::Sweep => plain(alloc, transforming::sweep(alloc, bench)),
         Command::Begin => plain(alloc, marks::begin(bench)),
         Command::Commit => plain(alloc, marks::commit(bench)),

@@ -1,8 +1,10 @@
 //! How a call of the bench is replied to.
 ghost use Rattle.std.specs.Prelude.{◌≡◌};
 ghost use Rattle.rewriter.specs.Commands.{Replied};
+ghost use Rattle.rewriter.specs.Machine.{fault_reply};
 ghost use Rattle.rewriter.specs.Benched.{id_reply_of, reply_of};
 ghost use Rattle.greedy.specs.Changes.{canonical_reply};
+ghost use Rattle.mlir_work_convert.specs.Converting.{conversion_reply};
 ghost use Rattle.mlir_work_sweep.specs.Sweep.{sweep_reply};
 ghost use Rattle.mlir_work_session.specs.Machine.{response_of};
 
@@ -10,6 +12,7 @@ use crate::reply::Reply;
 use greedy::outcome::Outcome as Ended;
 use ir_types::ids::OpId;
 use ir_types::refusal::Refusal;
+use mlir_work_convert::fault::Fault;
 use mlir_work_script::outcome::Outcome;
 
 /// The reply to a call that changes.
@@ -30,6 +33,26 @@ pub(crate) fn reply_canonical(called: Result<Ended, Refusal>) -> Reply
         Ok(Ended::Converged(count)) => Reply::DoneWith(Outcome::Converged(count as usize)),
         Ok(Ended::Limit(count)) => Reply::DoneWith(Outcome::Limited(count as usize)),
         Err(refusal) => Reply::Refused(refusal),
+    }
+}
+
+/// The reply to a conversion.
+pub(crate) fn reply_converted(called: Result<u32, Fault>) -> Reply
+    ensures { response_of result ≡ Replied (conversion_reply called) }
+{
+    match called {
+        Ok(count) => Reply::DoneWith(Outcome::Converted(count as usize)),
+        Err(fault) => reply_fault(&fault),
+    }
+}
+
+/// The reply to a conversion that isn't made.
+fn reply_fault(fault: &Fault) -> Reply
+    ensures { response_of result ≡ Replied (fault_reply fault.now.refusal fault.now.id) }
+{
+    match fault.id {
+        Some(op) => Reply::RefusedOn(fault.refusal, op),
+        None => Reply::Refused(fault.refusal),
     }
 }
 

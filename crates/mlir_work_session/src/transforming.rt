@@ -1,16 +1,18 @@
 //! Commands that transform the module of a bench.
 ghost use Rattle.std.specs.Prelude.{◌≡◌, []};
-ghost use Rattle.rewriter.specs.Commands.{Canon, Convert, Sweep, Target};
+ghost use Rattle.rewriter.specs.Commands.{Canon, Convert, Sweep};
 ghost use Rattle.rewriter.specs.Benched.{IsKept, state_of};
+ghost use Rattle.mlir_work_script.specs.Clauses.{clauses_of, target_of};
 ghost use Rattle.mlir_work_session.specs.Machine.{Obeys, limit_or, response_of};
 ghost use Rattle.mlir_work_session.specs.Output.{Manner as Way};
 
 use crate::manner::Manner;
 use crate::reply::Reply;
-use crate::replying::{reply_canonical, reply_swept};
+use crate::replying::{reply_canonical, reply_converted, reply_swept};
 use greedy::bench::canonicalize;
 use ir_event::analysis::Analysis;
-use ir_types::refusal::Refusal;
+use mlir_work_convert::convert;
+use mlir_work_script::clauses::Clauses;
 use mlir_work_sweep::sweep;
 use rewriter::Bench;
 use rewriter::laws::led_benches_are_kept;
@@ -51,9 +53,17 @@ pub(crate) fn sweep<L: Analysis>(alloc: Global, bench: &mut Bench<L>) -> Reply
     reply_swept(sweep::sweep(alloc, bench))
 }
 
-/// The reply to a command for which there is no transformation: it is refused as none.
-pub(crate) fn unmade<L: Analysis>(_bench: &Bench<L>) -> Reply
-    ensures { (way : Way) (target : Target) → Obeys way (state_of L.meaning _bench.now) (Convert target) (response_of result) [] (state_of L.meaning _bench.now) }
+/// Legalises operations for the target that clauses say, and reconciles casts between types.
+pub(crate) fn convert<L: Analysis>(
+    alloc: Global,
+    bench: &mut Bench<L>,
+    full: bool,
+    clauses: &Clauses<'_>,
+) -> Reply
+    requires { IsKept L.meaning bench.old }
+    ensures obeys { (way : Way) → Obeys way (state_of L.meaning bench.old) (Convert (target_of full (clauses_of clauses.now))) (response_of result) [] (state_of L.meaning bench.new) }
+    ensures kept { IsKept L.meaning bench.new }
 {
-    Reply::Refused(Refusal::BadCommand)
+    led_benches_are_kept::<L>();
+    reply_converted(convert::convert(alloc, bench, full, clauses))
 }

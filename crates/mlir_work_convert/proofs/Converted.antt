@@ -1,0 +1,49 @@
+-- A conversion behind names that were interned is one of the bench before them.
+use Rattle.std.proofs.Common.{◌≡◌, refl, ap, sym, ◌∙◌, subst, inl, inr, ℕ, Result, Ok, Err, None}
+use Rattle.ir_types.specs.declared.refusal.Refusal.{Refusal}
+use Rattle.ir_event.specs.Listener.{Listener}
+use Rattle.ir_event.specs.Modules.{Module}
+use Rattle.rewriter.proofs.Together.{Ages}
+use Rattle.rewriter.specs.Benched.{Benched, Does, Led, state_of}
+use Rattle.rewriter.specs.Held.{module_held}
+use Rattle.rewriter.specs.Machine.{Change, Goes, Nothing, State as Machine}
+use Rattle.conversion.proofs.Replied.{converts_goes}
+use Rattle.conversion.specs.Benches.{seen}
+use Rattle.conversion.specs.Conversion.{Ended, converted, given_up, conversion_of}
+use Rattle.conversion.specs.Converting.{conversion_reply, converting}
+use Rattle.conversion.specs.States.{State, Converts, Faults, IsWant}
+use Rattle.conversion.specs.Targets.{Aim}
+use Rattle.conversion.specs.declared.fault.Fault.{Fault}
+use Rattle.mlir_work_convert.specs.Interned.{Interned}
+
+-- a want is a fault of any end
+wants : (e : Ended) (refusal : Refusal) (s : State) → IsWant s.things refusal → Faults e (record { refusal = refusal; id = None }) s.things
+wants (converted m k) refusal s w = (refl, w)
+wants (given_up f x) refusal s w = inr (refl, w)
+
+converts_from : (e : Ended) (r : Result ℕ Fault) (a m b : State) → m.held ≡ a.held → Converts e r m b → Converts e r a b
+converts_from e (Ok n) a m b same c = c
+converts_from e (Err f) a m b same c = (c.0, c.1 ∙ same)
+
+module _ {B : Type 0} (meaning : B → Listener) (g : Aim) (a m : Benched B) (interned : Interned meaning a m) where
+  held_same : module_held m.desk ≡ module_held a.desk
+  held_same = ap (λ (s : Machine). s.held) interned.same
+
+  -- the names had no room
+  pub refused_converts : (refusal : Refusal) → IsWant m.desk.ctx refusal → Converts (conversion_of g (module_held a.desk)) (Err (record { refusal = refusal; id = None })) (seen a) (seen m)
+  refused_converts refusal w = (wants (conversion_of g (module_held a.desk)) refusal (seen m) w, held_same)
+
+  pub refused_does : (refusal : Refusal) → Ages meaning → IsWant m.desk.ctx refusal → Led meaning a m → Does meaning (Change (converting g)) (conversion_reply (Err (record { refusal = refusal; id = None }))) a m
+  refused_does refusal ages w led = converts_goes meaning g a m (ap (λ (s : Machine). s.marks) interned.same) ages (Err (record { refusal = refusal; id = None })) (refused_converts refusal w) led
+
+  -- they had, and the bench was converted
+  module _ (b : Benched B) (aim : Aim) (same : aim ≡ g) (r : Result ℕ Fault) where
+    pub then_converts : Converts (conversion_of aim (module_held m.desk)) r (seen m) (seen b) → Converts (conversion_of g (module_held a.desk)) r (seen a) (seen b)
+    then_converts c =
+        converts_from (conversion_of g (module_held a.desk)) r (seen a) (seen m) (seen b) held_same
+        (subst (λ (n : Module). Converts (conversion_of g n) r (seen m) (seen b)) held_same (subst (λ (h : Aim). Converts (conversion_of h (module_held m.desk)) r (seen m) (seen b)) same c))
+
+    pub then_does : Does meaning (Change (converting aim)) (conversion_reply r) m b → Does meaning (Change (converting g)) (conversion_reply r) a b
+    then_does d =
+        subst (λ (s : Machine). Goes s (Change (converting g)) (conversion_reply r) Nothing (state_of meaning b)) interned.same
+        (subst (λ (h : Aim). Goes (state_of meaning m) (Change (converting h)) (conversion_reply r) Nothing (state_of meaning b)) same d)

@@ -1,0 +1,25 @@
+-- Lists of a command, and names that are interned.
+use Rattle.std.specs.Prelude.{◌≡◌, ℕ, List, [], Option, Some, None, map}
+use Rattle.std.specs.List.{All}
+use Rattle.ir_types.specs.Things.{Things, Grows, IsName}
+use Rattle.ir_types.specs.Terms.{name_term}
+use Rattle.ir_event.specs.Listener.{Listener}
+use Rattle.rewriter.specs.Benched.{Benched, state_of}
+use Rattle.mlir_work_script.specs.Items.{numbers_of}
+use Rattle.conversion.specs.Benches.{LedOn}
+
+-- the numbers of the list that is there, if one is
+abbrev pub numbers_behind : Option (List ℕ) → List ℕ
+numbers_behind None = []
+numbers_behind (Some text) = numbers_of text
+
+-- numbers are those of these names in a context
+pub record AreNumbers (c : Things) (numbers : List ℕ) (names : List (List ℕ)) : Type 0 where
+  pub known : All (IsName c) numbers
+  pub are : map (name_term c) numbers ≡ names
+
+-- the context of a bench stayed or grew, and its module, marks and analyses stayed
+pub record Interned {B : Type 0} (meaning : B → Listener) (old new : Benched B) : Type 0 where
+  pub grows : Grows old.desk.ctx new.desk.ctx
+  pub same : state_of meaning new ≡ state_of meaning old
+  pub led : LedOn meaning old new

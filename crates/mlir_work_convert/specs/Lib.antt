@@ -1,0 +1,3 @@
+pub mod Interned
+pub use Rattle.conversion.specs.Converting
+pub use Rattle.conversion.specs.declared.fault.Fault

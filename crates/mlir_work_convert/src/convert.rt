@@ -1,0 +1,47 @@
+//! Converting the module of a bench.
+ghost use Rattle.std.specs.Prelude.{◌≡◌, true, OnOk};
+ghost use Rattle.ir_types.specs.Things.{Grows};
+ghost use Rattle.rewriter.specs.Machine.{Change};
+ghost use Rattle.rewriter.specs.Benched.{Does, Led};
+ghost use Rattle.rewriter.specs.Held.{module_held};
+ghost use Rattle.mlir_work_script.specs.Clauses.{clauses_of, target_of as said_target};
+ghost use Rattle.conversion.specs.Conversion.{conversion_of, has_no_cast};
+ghost use Rattle.conversion.specs.Benches.{seen};
+ghost use Rattle.conversion.specs.Converting.{command_aim, conversion, conversion_reply};
+ghost use Rattle.conversion.specs.States.{Converts};
+
+use crate::target::target_of;
+use conversion::fault::Fault;
+use ir_event::analysis::Analysis;
+use mlir_work_script::clauses::Clauses;
+use rewriter::Bench;
+use rewriter::laws::led_benches_are_kept;
+use std::alloc::Global;
+
+/// Converts the module of a bench (Dialect Conversion, "Modes of Conversion") for the target that clauses say. The names of
+/// its lists are interned first. The answer is how many rules stand. It is whole or not made at all.
+///
+/// Refusals: those of `conversion::convert::convert`; and `Full` or `Memory` where a name of a list has no room in the
+/// context, before the target is looked at.
+pub fn convert<L: Analysis>(
+    alloc: Global,
+    bench: &mut Bench<L>,
+    full: bool,
+    clauses: &Clauses<'_>,
+) -> Result<u32, Fault>
+    ensures does { Does L.meaning (Change (conversion (said_target full (clauses_of clauses.now)))) (conversion_reply result) bench.old bench.new }
+    ensures converts { Converts (conversion_of (command_aim (said_target full (clauses_of clauses.now))) (module_held bench.old.desk)) result (seen bench.old) (seen bench.new) }
+    ensures none { OnOk result (has_no_cast (module_held bench.new.desk).tree ≡ true) }
+    ensures grows { Grows bench.old.desk.ctx bench.new.desk.ctx }
+    ensures led { Led L.meaning bench.old bench.new }
+{
+    led_benches_are_kept::<L>();
+    bench.is_formed();
+    let target = match target_of(alloc, bench, full, clauses) {
+        Ok(target) => target,
+        Err(refusal) => {
+            return Err(Fault { refusal, id: None });
+        }
+    };
+    conversion::convert::convert(alloc, bench, &target)
+}

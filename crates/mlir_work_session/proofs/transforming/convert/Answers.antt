@@ -1,0 +1,15 @@
+use Rattle.std.proofs.Common.{refl}
+use Rattle.rewriter.specs.Commands as command
+use Rattle.rewriter.specs.Machine as call
+use Rattle.mlir_work_script.specs.Clauses.{clauses_of, target_of}
+use Rattle.mlir_work_convert.specs.Converting.{conversion}
+use Rattle.mlir_work_session.proofs.Obeying.{obeys_plain}
+use Rattle.mlir_work_session.proofs.transforming.convert.Goals as goal
+
+pub returns-clause-obeys : goal.returns-clause-obeys
+returns-clause-obeys g c manner =
+    let target = target_of c.args.full (clauses_of c.args.clauses.now) in
+    obeys_plain manner _ _ (command.Convert target) (call.Change (conversion target)) _ _ c.reply_converted.ensures refl c.convert.ensures.does
+
+pub returns-clause-kept : goal.returns-clause-kept
+returns-clause-kept g c = c.led_benches_are_kept.ensures.kept _ _ c.convert.ensures.led c.requires
