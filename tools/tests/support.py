@@ -15,7 +15,7 @@ import program  # noqa: E402
 def referred(text):
     """The status of a run by bench/reference, and the lines that it writes."""
     from reference import script
-    status, out = script.run(text, True, script.BOXES, getattr(script, "REWRITES", script.ALL))
+    status, out = script.run(text, True)
     return status, out.decode().splitlines()
 
 

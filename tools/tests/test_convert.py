@@ -6,8 +6,8 @@ from support import mistakes, program, session, targets
 
 # Lines that are no command, with the byte where the fault stands, and a part of what is said.
 MISSPELT = {
-    "convert": (7, "`partial` or `full` is missing: write `convert partial CLAUSES` or `convert full CLAUSES`"),
-    "convert illegal a.b": (8, "`illegal` stands where `partial` or `full` is wanted"),
+    "convert": (7, "MODE is missing: write `convert MODE CLAUSES`; a mode is `partial` or `full`"),
+    "convert illegal a.b": (8, "`illegal` is no MODE: write `convert MODE CLAUSES`; a mode is `partial` or `full`"),
     "convert partial a.b": (16, "`a.b` is no clause: the clauses are `legal NAMES`, "),
     "convert full legal": (18, "NAMES is missing: write `legal NAMES`"),
     "convert full  legal a.b, a.c": (24, "a name is missing here"),
@@ -19,8 +19,8 @@ MISSPELT = {
     "convert full rules 2,4294967296": (21, "4294967296 is above 4294967295"),
     "convert full depth 1,2": (20, "one number stands behind `depth`"),
     "convert full depth -1": (19, "`-1` is no number"),
-    "legalize": (0, "write `convert partial CLAUSES` or `convert full CLAUSES`"),
-    "converted": (0, "write `convert partial CLAUSES`"),
+    "legalize": (0, "write `convert MODE CLAUSES`"),
+    "converted": (0, "write `convert MODE CLAUSES`"),
 }
 # Targets that can't be, with the byte where the fault stands, and a part of what is said.
 UNFIT = {
