@@ -12,7 +12,7 @@ from program import MOST_SCRIPT, asked
 OPENED = re.compile(r"\((\{\}, )*\{$")
 NEXT_REGION = re.compile(r"\}, ((?:\{\}, )*)\{$")
 ARGUMENT = re.compile(r"(%\w+):")
-NAMED = re.compile(r"%\w+(?:[#:]\d+)?")
+NAMED = re.compile(r"(%\w+(?:[#:]\d+)?)")
 MARGIN = 6
 # Stands in place of an operation that a refusal names and that isn't in the module.
 MADE = "        (made on the way, and gone again)"
@@ -126,14 +126,18 @@ class Listing:
         self.names.update((f"{name}#{place}", value) for place, value in enumerate(values))
 
     def shown(self, first, last):
-        """Lines as they are shown: the number of the operation that begins in each, and values as a script names them.
-        Strings are left as they are: none of them has a quote in it, since that is printed by its number."""
-        def named(it):
-            return names.get(it[0], it[0])
-        names, parts = self.names, "\n".join(self.texts[first:last]).split('"')
-        parts[::2] = NAMED.sub(named, '"'.join(parts[::2])).split('"')
+        """Lines as they are shown: the number of the operation that begins in each, and values as a script names them."""
         numbers = ("" if isinstance(key, tuple) else f"#{key}" for key, _ in self.keys[first:last])
-        return [f"{number:>{MARGIN}}  {line}" for number, line in zip(numbers, '"'.join(parts).split("\n"))]
+        return [f"{number:>{MARGIN}}  {line}" for number, line in zip(numbers, self.named(first, last))]
+
+    def named(self, first, last):
+        """Lines with values as a script names them. Strings are left as they are: none of them has a quote in it, since
+        that is printed by its number."""
+        parts = "\n".join(self.texts[first:last]).split('"')
+        pieces = NAMED.split('"'.join(parts[::2]))
+        pieces[1::2] = [self.names.get(name, name) for name in pieces[1::2]]
+        parts[::2] = "".join(pieces).split('"')
+        return '"'.join(parts).split("\n")
 
     @functools.cached_property
     def lines(self):
