@@ -647,9 +647,11 @@ def over_limits():
 
 
 def refused():
-    """Each input of docs/REFUSALS.md."""
+    """Each input of docs/REFUSALS.md, and of docs/VERIFIER.md."""
     for text, answer, _ in refusals.rows():
         run("brief", text, 3 if answer.startswith("module") else 1, answer.encode() + b"\n")
+    for text, row, _ in refusals.broken():
+        run("brief", text + DIVIDER + b"report diagnostics\n", 0, f"1 ok\n{row}\n".encode())
 
 
 def worked():

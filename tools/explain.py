@@ -4,14 +4,16 @@
 usage: tools/explain.py MODULE [SCRIPT]     (without a SCRIPT it stands in MODULE, behind a line `// -----`)
 
 For each refused line it prints `FILE:LINE:COLUMN: NUMBER WORD: ` and the sentence of docs/REFUSALS.md, the line, and a
-caret where the fault has a place; of a line that is no command, how the command is written that was meant. Columns
-count bytes from 1. The status is the program's."""
+caret where the fault has a place; of a line that is no command, how the command is written that was meant. Below
+that stands the operation that a refusal names, as `ids` of tools/session.py shows it. Columns count bytes from 1. The
+status is the program's."""
 import sys
 
 sys.dont_write_bytecode = True
 
 import mistakes  # noqa: E402
 import program  # noqa: E402
+from listing import MADE, PROBE, Listing, free_number  # noqa: E402
 
 BEHIND = "    note: it took no number; what is put in behind it has a lower one than it would have"
 
@@ -33,16 +35,37 @@ def module_refused(name, module, number, word, offset):
     return told(name, before.count(b"\n") + 1, line, mistakes.Fault(offset - before.rfind(b"\n") - 1, says))
 
 
-def commands_refused(name, script, first, lines):
-    """What is told of each refused line of a script that begins at line `first` of a file, by the lines written."""
-    out, is_noted = [], False
-    for (place, line), (reply, _) in zip(program.counted(script), program.replies(lines)):
+class Before:
+    """A module, and the lines of a script that were accepted in front of one that is refused."""
+
+    def __init__(self, module):
+        self.module, self.lines = module, []
+
+    def take(self, line):
+        """Takes one more line that was accepted."""
+        if line.split()[0] not in (b"print", b"report"):
+            self.lines.append(line.decode("utf-8", "surrogateescape"))
+
+    def shown(self, number):
+        """The line of an operation."""
+        free = free_number(program.asked(self.module, [*self.lines, PROBE])[1])
+        return free and Listing(self.module, self.lines, free).near(number, 0) or [MADE]
+
+
+def commands_refused(name, parts, first, lines):
+    """What is told of each refused line of a script that begins at line `first` of a file, by the lines written. The
+    parts are the module and the script."""
+    out, is_noted, before = [], False, Before(parts[0])
+    for (place, line), (reply, _) in zip(program.counted(parts[1]), program.replies(lines)):
         if not reply.startswith("refused"):
+            before.take(line)
             continue
         out += told(name, place + first - 1, line, mistakes.explained(reply, line))
         if line.split()[:1] == [b"insert"] and not is_noted:
             out.append(BEHIND)
             is_noted = True
+        number = mistakes.named(reply)
+        out += [] if number is None else before.shown(number)
     return out
 
 
@@ -53,7 +76,7 @@ def explained(names):
     refused = program.REFUSED_MODULE.fullmatch(lines[0]) if lines else None
     if refused:
         return status, module_refused(names[0], module, *refused.groups())
-    return status, commands_refused(names[-1], script, first, lines)
+    return status, commands_refused(names[-1], (module, script), first, lines)
 
 
 def main():

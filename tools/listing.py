@@ -6,14 +6,24 @@ import bisect
 import functools
 import re
 
+from forms import kinds
 from program import MOST_SCRIPT, asked
 
 OPENED = re.compile(r"\((\{\}, )*\{$")
 NEXT_REGION = re.compile(r"\}, ((?:\{\}, )*)\{$")
-RESULTS = re.compile(r"(%\w+)(?::(\d+))? = ")
 ARGUMENT = re.compile(r"(%\w+):")
-NAMED = re.compile(r'("(?:[^"\\]|\\.)*"|%\w+(?:[#:]\d+)?)')
+NAMED = re.compile(r"(%\w+(?:[#:]\d+)?)")
 MARGIN = 6
+# Stands in place of an operation that a refusal names and that isn't in the module.
+MADE = "        (made on the way, and gone again)"
+# Its reply says the next free number. It is asked behind a script, and never kept.
+PROBE = 'insert end #0 0 "workbench.probe"() : () -> ()'
+
+
+def free_number(lines):
+    """The next free number, by what was written of a script with the probe behind it; None where that is refused."""
+    free = re.fullmatch(r"\d+ ok #(\d+)", lines[-1])
+    return int(free.group(1)) if free else None
 
 
 def unused_key(module, script):
@@ -27,23 +37,23 @@ def unused_key(module, script):
 
 def cut(line, begins):
     """A printed line without the entry that begins so, and the number that it says, or None."""
-    begin = line.find(begins)
-    if begin < 0:
+    before, is_there, rest = line.partition(begins)
+    if not is_there:
         return line, None
-    digits = begin + len(begins)
-    end = line.index(" : i64", digits)
-    number, end = int(line[digits:end]), end + len(" : i64")
-    if line.startswith(", ", end):
-        return line[:begin] + line[end + 2:], number
-    if line.startswith(", ", begin - 2):
-        return line[:begin - 2] + line[end:], number
-    return line[:begin - 2] + line[end + 1:], number
+    number, _, behind = rest.partition(" : i64")
+    if behind.startswith(", "):
+        return before + behind[2:], int(number)
+    if before.endswith(", "):
+        return before[:-2] + behind, int(number)
+    return before[:-2] + behind[1:], int(number)
 
 
 def printed(module, script, begins, first, last):
-    """The lines of the module, those from `first` up to `last` with their number in it, and none else."""
+    """The lines of the module, those from `first` up to `last` with their number in it, and none else. The analyses are
+    dropped before, for speed."""
     key = begins.partition(" ")[0]
-    numbering = [f"set-attr #{number} {key} {number}" for number in range(first, last)]
+    numbering = [f"detach {kind}" for kind in kinds()]
+    numbering += [f"set-attr #{number} {key} {number}" for number in range(first, last)]
     lines = asked(module, [*script, *numbering, "print"])[1]
     return lines[len(script) + len(numbering) + 1:]
 
@@ -52,7 +62,7 @@ def numbered(module, script, count):
     """The lines of the module, and beside each the number that stands in it, or None. All numbers are below `count`."""
     begins = unused_key(module, script) + " = "
     taken = sum(len(line.encode("utf-8", "replace")) + 1 for line in script)
-    most = max((MOST_SCRIPT - taken) // (len(begins) + 40), 1)
+    most = max((MOST_SCRIPT - taken - 200) // (len(begins) + 40), 1)
     lines, numbers = [], []
     for first in range(0, count, most):
         pairs = [cut(line, begins) for line in printed(module, script, begins, first, min(first + most, count))]
@@ -69,35 +79,37 @@ class Listing:
     whose regions it is, and which region; and all by how far they are indented. So two listings can be compared."""
 
     def __init__(self, module, script, count):
-        self.texts, self.keys, self.places, self.names = [], [], {}, {}
+        self.texts, numbers = numbered(module, script, count)
+        self.keys, self.places, self.names = [], {}, {}
         self.around = []
-        lines, numbers = numbered(module, script, count)
-        for line, owner in zip(lines, owners_of(lines, numbers)):
-            self.add(line, owner)
+        for place, (line, owner) in enumerate(zip(self.texts, owners_of(self.texts, numbers))):
+            text = line.lstrip(" ")
+            key = self.inside(text, owner) if text[0] in "}^" else self.begun(text, owner, place)
+            self.keys.append((key, len(line) - len(text)))
 
-    def add(self, line, owner):
-        """Takes one more printed line, whose operation has this number."""
-        text = line.lstrip(" ")
+    def inside(self, text, owner):
+        """The key of a line that ends a region of an operation, or names the arguments of its block."""
+        key = owner, self.around[-1][1], text[0]
         if text[0] == "}":
-            key = owner, self.around[-1][1], "}"
             self.go_on(text)
-        elif text[0] == "^":
-            key = owner, self.around[-1][1], "^"
-            names = ARGUMENT.findall(line)
-            self.names.update((name, f"%a{owner}.{key[1]}.{place}") for place, name in enumerate(names))
         else:
-            key = "?" if owner is None else owner
-            self.places[key] = len(self.texts)
-            self.begin(text, key)
-        self.texts.append(line)
-        self.keys.append((key, len(line) - len(text)))
+            names = ARGUMENT.findall(text)
+            self.names.update((name, f"%a{owner}.{key[1]}.{place}") for place, name in enumerate(names))
+        return key
 
-    def begin(self, text, owner):
-        """Takes a line that begins an operation."""
+    def begun(self, text, owner, place):
+        """The key of a line that begins an operation."""
+        key = "?" if owner is None else owner
+        self.places[key] = place
         if text[0] == "%":
-            self.bind(*RESULTS.match(text).groups(), owner)
+            name = text.partition(" = ")[0]
+            if ":" in name:
+                self.bind(*name.split(":"), key)
+            else:
+                self.names[name] = f"%v{key}.0"
         if text[-1] == "{":
-            self.around.append([owner, OPENED.search(text).group().count("{}")])
+            self.around.append([key, OPENED.search(text).group().count("{}")])
+        return key
 
     def go_on(self, text):
         """Goes from one region of an operation to its next, or out of its last one."""
@@ -108,33 +120,36 @@ class Listing:
             self.around.pop()
 
     def bind(self, name, count, owner):
-        """Says how a script names the results of an operation."""
-        self.names[name] = f"%v{owner}.0"
-        if count:
-            values = [f"%v{owner}.{place}" for place in range(int(count))]
-            self.names[f"{name}:{count}"] = ", ".join(values)
-            self.names.update((f"{name}#{place}", value) for place, value in enumerate(values))
+        """Says how a script names the results of an operation that has several."""
+        values = [f"%v{owner}.{place}" for place in range(int(count))]
+        self.names[f"{name}:{count}"] = ", ".join(values)
+        self.names.update((f"{name}#{place}", value) for place, value in enumerate(values))
 
-    def line(self, place):
-        """A line as it is shown: the number of the operation that begins in it, and values as a script names them."""
-        text, (key, _) = self.texts[place], self.keys[place]
-        if "%" in text:
-            parts = NAMED.split(text)
-            parts[1::2] = [self.names.get(name, name) for name in parts[1::2]]
-            text = "".join(parts)
-        return f"{'' if isinstance(key, tuple) else f'#{key}':>{MARGIN}}  {text}"
+    def shown(self, first, last):
+        """Lines as they are shown: the number of the operation that begins in each, and values as a script names them."""
+        numbers = ("" if isinstance(key, tuple) else f"#{key}" for key, _ in self.keys[first:last])
+        return [f"{number:>{MARGIN}}  {line}" for number, line in zip(numbers, self.named(first, last))]
+
+    def named(self, first, last):
+        """Lines with values as a script names them. Strings are left as they are: none of them has a quote in it, since
+        that is printed by its number."""
+        parts = "\n".join(self.texts[first:last]).split('"')
+        pieces = NAMED.split('"'.join(parts[::2]))
+        pieces[1::2] = [self.names.get(name, name) for name in pieces[1::2]]
+        parts[::2] = "".join(pieces).split('"')
+        return '"'.join(parts).split("\n")
 
     @functools.cached_property
     def lines(self):
         """All lines as they are shown."""
-        return [self.line(place) for place in range(len(self.texts))]
+        return self.shown(0, len(self.texts))
 
     def near(self, number, lines):
         """The lines around that of an operation, or None where it isn't in the module."""
         place = self.places.get(number)
         if place is None:
             return None
-        return [self.line(at) for at in range(max(place - lines, 0), min(place + lines + 1, len(self.texts)))]
+        return self.shown(max(place - lines, 0), place + lines + 1)
 
 
 def owners_of(lines, numbers):
@@ -142,13 +157,13 @@ def owners_of(lines, numbers):
     line where they end."""
     owners, opened = list(numbers), []
     for place, line in enumerate(lines):
-        text = line.lstrip(" ")
-        if text.startswith("}") and not text.endswith("{"):
+        last, first = line[-1], line.lstrip(" ")[0]
+        if first == "}" and last != "{":
             for inside in opened.pop() if opened else ():
                 owners[inside] = numbers[place]
-        elif text.startswith(("}", "^")):
+        elif first in "}^":
             opened[-1].append(place)
-        elif text.endswith("({") or text.endswith("{}, {"):
+        elif last == "{":
             opened.append([place])
     return owners
 
@@ -173,13 +188,22 @@ def common(old, new):
     return kept[::-1]
 
 
+def alike(old, new):
+    """How many pairs of a key and a line are the same in both, from the first on."""
+    return next((place for place, (it, that) in enumerate(zip(old, new)) if it != that), min(len(old), len(new)))
+
+
 def changes(old, new):
     """The lines that went between two listings, and those that came, in order; one that changed is told as both."""
-    out, was, now = [], 0, 0
-    for old_place, new_place in common(old.keys, new.keys):
-        out += ["-" + line for line in old.lines[was:old_place]]
-        out += ["+" + line for line in new.lines[now:new_place]]
-        if old.lines[old_place] != new.lines[new_place]:
-            out += ["-" + old.lines[old_place], "+" + new.lines[new_place]]
+    old, new, out = list(zip(old.keys, old.lines)), list(zip(new.keys, new.lines)), []
+    first = alike(old, new)
+    old, new = old[first:], new[first:]
+    last = alike(old[::-1], new[::-1])
+    old, new, was, now = old[:len(old) - last], new[:len(new) - last], 0, 0
+    for old_place, new_place in common([key for key, _ in old], [key for key, _ in new]):
+        out += ["-" + line for _, line in old[was:old_place]]
+        out += ["+" + line for _, line in new[now:new_place]]
+        (_, before), (_, behind) = old[old_place], new[new_place]
+        out += ["-" + before, "+" + behind] if before != behind else []
         was, now = old_place + 1, new_place + 1
-    return out + ["-" + line for line in old.lines[was:]] + ["+" + line for line in new.lines[now:]]
+    return out + ["-" + line for _, line in old[was:]] + ["+" + line for _, line in new[now:]]

@@ -7,7 +7,8 @@ Besides the commands of a script there are these, each on a line of its own:
 
   ids          the module with the number of each operation in the margin, and values as a script names them
   at #N [K]    the same, but only the K lines (3) before and behind operation #N
-  diff         what changed in it since the last `diff`, or since the beginning
+  diff         what changed in it since the last `diff`, or since the beginning; what a `canon`, a `convert` or a `sweep`
+               changed stands behind it by itself
   KIND [WORD]  `report KIND`; with a WORD, as #3 or %v2.0, only the rows in which it stands
   undo         the last edit was never typed
   save FILE    what was typed and accepted is written as a script
@@ -25,18 +26,23 @@ sys.dont_write_bytecode = True
 import explain  # noqa: E402
 import mistakes  # noqa: E402
 import program  # noqa: E402
-from listing import Listing, changes  # noqa: E402
+from listing import MADE, PROBE, Listing, changes, free_number  # noqa: E402
 
 PROMPT = "> "
 WIDTH = 100
 # Commands that change nothing, and so aren't run again.
 LOOKS = {"print", "report"}
-# Commands that edit what they don't name: behind them stands what `diff` says. None of today's does.
-WITH_DIFF = set()
+# Commands that edit what they don't name: behind them stands what they changed, up to so many lines.
+WITH_DIFF, MOST_DIFF = {"canon", "convert", "sweep"}, 60
 # A script that is too long has one reply in place of one for each line.
 REFUSED = ("refused", [])
-# Its reply says the next free number. It is asked behind each line, and never kept.
-PROBE = 'insert end #0 0 "workbench.probe"() : () -> ()'
+
+
+def cut_off(lines):
+    """The first lines of a difference, where it is long."""
+    if len(lines) > MOST_DIFF:
+        return [*lines[:MOST_DIFF], f".. {len(lines) - MOST_DIFF} more lines: `diff` has them"]
+    return lines or ["nothing changed"]
 
 
 class Entry:
@@ -77,8 +83,7 @@ class Session:
         """Runs the edits and a line behind them, and gives its reply, and what is written below it."""
         script = [*self.kept(), *typed]
         lines = program.asked(self.module, [*script, PROBE])[1]
-        free = re.fullmatch(r"\d+ ok #(\d+)", lines[-1])
-        self.count = int(free.group(1)) if free else self.count
+        self.count = free_number(lines) or self.count
         return program.replies(lines)[len(script) - 1] if typed else None
 
     def listing(self):
@@ -103,15 +108,20 @@ class Session:
 
     def command(self, line):
         """Runs a command of a script, and keeps it where it is accepted."""
+        word = line.split()[0]
+        before = self.listing() if word in WITH_DIFF else None
         reply, below = self.run(line)
-        if not reply.startswith("refused"):
-            word = line.split()[0]
-            self.entries.append(Entry(line, word not in LOOKS))
-            return [reply, *below, *(self.diff("") if word in WITH_DIFF else [])]
-        line = line.encode("utf-8", "surrogateescape")
-        fault = mistakes.explained(reply, line)
+        if reply.startswith("refused"):
+            return self.refused(reply, line.encode("utf-8", "surrogateescape"))
+        self.entries.append(Entry(line, word not in LOOKS))
+        return [reply, *below, *(cut_off(changes(before, self.listing())) if before else [])]
+
+    def refused(self, reply, line):
+        """What is said of a line that is refused, and the operation that its reply names."""
+        fault, number = mistakes.explained(reply, line), mistakes.named(reply)
         words = textwrap.wrap(f"refused {fault.words}", WIDTH, subsequent_indent="    ", break_long_words=False)
-        return [*words, *(mistakes.pointed(line, fault.column) if fault.column is not None else [])]
+        pointed = mistakes.pointed(line, fault.column) if fault.column is not None else []
+        return [*words, *pointed, *([] if number is None else self.listing().near(number, 0) or [MADE])]
 
     def rows(self, kind, word):
         """The rows of an analysis in which a word stands."""
@@ -159,7 +169,7 @@ class Session:
 
     def help(self, _):
         """The words of a session, and the commands of a script."""
-        return [*__doc__.splitlines()[6:-2], *(f"  {form}" for form in mistakes.forms().values())]
+        return [*__doc__.splitlines()[6:-2], *(f"  {form}" for those in mistakes.forms().values() for form in those)]
 
 
 def typed():
@@ -193,7 +203,7 @@ def opened(names):
         say(explain.module_refused(names[0], module, *refused.groups()))
         sys.exit(status)
     say(lines)
-    say(explain.commands_refused(names[-1], script, first, lines))
+    say(explain.commands_refused(names[-1], (module, script), first, lines))
     return session
 
 

@@ -7,6 +7,7 @@ import sys
 sys.dont_write_bytecode = True
 ROOT = pathlib.Path(__file__).resolve().parents[2]
 sys.path.insert(0, str(ROOT / "tools"))
+sys.path.append(str(ROOT / "bench"))
 
 import program  # noqa: E402
 
@@ -20,11 +21,13 @@ def referred(text):
 
 if "MLIR_WORK" not in os.environ and not program.BUILT.exists():
     os.environ["MLIR_WORK"] = "reference"
-    sys.path.insert(0, str(ROOT / "bench"))
     program.ran = referred
 
 import check_examples  # noqa: E402, F401
 import explain  # noqa: E402, F401
+import forms  # noqa: E402, F401
 import listing  # noqa: E402, F401
 import mistakes  # noqa: E402, F401
+import refusals  # noqa: E402, F401
 import session  # noqa: E402, F401
+import targets  # noqa: E402, F401

@@ -5,7 +5,7 @@ import tempfile
 import unittest
 import unittest.mock
 
-from support import ROOT, check_examples, explain, mistakes, program
+from support import ROOT, check_examples, explain, forms, mistakes, program, targets
 
 STRENGTH = ROOT / "examples/strength.mlir"
 # Lines that are no command, with the byte where the fault stands, and a part of what is said.
@@ -27,6 +27,14 @@ MISSPELT = {
     "delete #8": (0, "write `erase #N`"),
     "inesrt": (0, "write `insert PLACE OPERATION`"),
     "xyzzy": (0, "they are print, report, "),
+    "canon 5": (6, "`5` stands where `limit` is wanted: write `canon` or `canon limit N`"),
+    "canon limit": (11, "N is missing: write `canon limit N`"),
+    "canon limit #5": (12, "`#5` is no N: write `canon limit N`"),
+    "canon limit 4294967296": (12, "4294967296 is above 4294967295"),
+    "canon limit 5 6": (14, "`6` is too much: write `canon limit N`"),
+    "sweep #3": (6, "`#3` is too much: write `sweep`"),
+    "canonicalize": (0, "write `canon` or `canon limit N`"),
+    "symbol-dce": (0, "write `sweep`"),
     '"scf.yield"() : () -> ()': (0, "an operation stands on one line"),
 }
 
@@ -68,9 +76,11 @@ class Words(unittest.TestCase):
         self.assertTrue(all(mistakes.sentences().values()))
 
     def test_a_word_of_a_form_that_is_not_known(self):
-        forms = {"go": "go #N [limit N]"}
-        with unittest.mock.patch.object(mistakes, "forms", lambda: forms):
+        known = {"go": ["go #N [limit N]", "go (left|right) OTHER"]}
+        with unittest.mock.patch.object(forms, "forms", lambda: known), \
+                unittest.mock.patch.object(mistakes, "forms", lambda: known):
             self.assertIsNone(mistakes.misspelt("go #3 limit 8"))
+            self.assertIsNone(mistakes.misspelt("go left x"))
             self.assertEqual(mistakes.misspelt("go 3").column, 3)
 
     def test_commands_and_kinds_of_the_help(self):

@@ -1,4 +1,4 @@
-"""The runs that stand on README.md, docs/GUIDE.md and docs/REPORTS.md, typed as they stand there."""
+"""The runs that stand on README.md, docs/GUIDE.md, docs/CONVERT.md and docs/REPORTS.md, typed as they stand there."""
 import os
 import re
 import shlex
@@ -6,11 +6,12 @@ import shutil
 import subprocess
 import unittest
 
-from support import ROOT, program, session
+from support import ROOT, program, refusals, session
 
 BLOCK = re.compile(r"(?:^    .*\n)+", re.M)
 MODULE = re.compile(r"```mlir\n(.*?)```", re.S)
-RUNS = {"A pattern by hand": "strength", "A pass replayed, with marks": "hoist", "The verifier, live": "signature"}
+RUNS = {"A pattern by hand": "strength", "A pass replayed, with marks": "hoist", "The verifier, live": "signature",
+        "Made simpler, a rule at a time": "canon", "Converted to a target": "index", "What nothing reaches": "sweep"}
 
 
 def sections(page):
@@ -85,6 +86,46 @@ class Guide(unittest.TestCase):
                 (said, _), (_, diagnostics) = program.replies(program.asked(module, [line, "report diagnostics"])[1])
                 self.assertEqual(said, reply if reply == "ok" else f"refused {reply}")
                 self.assertEqual(diagnostics, [row] if row else [])
+
+
+def conversions():
+    """The examples of docs/CONVERT.md: a module, the lines that are typed over it with what is answered, and the module
+    behind them where it is shown, in the next block of the same section."""
+    parts = re.split(r"^```mlir\n(.*?)^```\n", (ROOT / "docs/CONVERT.md").read_text(), flags=re.M | re.S)
+    for module, text, after in zip(["", *parts[1::2]], parts[::2], [*parts[1::2], ""]):
+        runs = typed(text)
+        is_shown = "\n#" not in BLOCK.split(text)[-1] and "refused" not in str(runs)
+        if runs:
+            yield module.encode(), runs, after.encode() if is_shown else None
+
+
+class Convert(unittest.TestCase):
+    def test_examples(self):
+        found = list(conversions())
+        self.assertEqual(len(found), 13)
+        self.assertEqual(sum(after is not None for _, _, after in found), 9)
+        for module, runs, after in found:
+            with self.subTest(runs[0][0]):
+                script = [line for line, _ in runs] + ["print"]
+                *said, (_, printed) = program.replies(program.asked(module, script)[1])
+                self.assertEqual([[reply, *below] for reply, below in said], [wanted for _, wanted in runs])
+                if after is not None:
+                    self.assertEqual(printed, program.asked(after, ["print"])[1][1:])
+
+
+class Refused(unittest.TestCase):
+    def test_refusals(self):
+        for text, answer, _ in refusals.rows(ROOT / "docs/REFUSALS.md"):
+            with self.subTest(text):
+                self.assertEqual(program.ran(text)[1], [answer])
+
+    def test_verifier(self):
+        found = list(refusals.broken(ROOT / "docs/VERIFIER.md"))
+        self.assertEqual(len(found), 24)
+        for number, (text, row, _) in enumerate(found, 1):
+            with self.subTest(number):
+                self.assertTrue(row.endswith(f" V{number}"))
+                self.assertEqual(program.asked(text, ["report diagnostics"])[1], ["1 ok", row])
 
 
 class Reports(unittest.TestCase):

@@ -1,0 +1,136 @@
+"""Lines that canonicalize, convert or sweep: what their mistake is, and what is said behind them."""
+import unittest
+import unittest.mock
+
+from support import mistakes, program, session, targets
+
+# Lines that are no command, with the byte where the fault stands, and a part of what is said.
+MISSPELT = {
+    "convert": (7, "MODE is missing: write `convert MODE CLAUSES`; a mode is `partial` or `full`"),
+    "convert illegal a.b": (8, "`illegal` is no MODE: write `convert MODE CLAUSES`; a mode is `partial` or `full`"),
+    "convert partial a.b": (16, "`a.b` is no clause: the clauses are `legal NAMES`, "),
+    "convert full legal": (18, "NAMES is missing: write `legal NAMES`"),
+    "convert full  legal a.b, a.c": (24, "a name is missing here"),
+    "convert full legal ,": (19, "a name is missing here"),
+    "convert full legal a.b,,a.c": (23, "a name is missing here"),
+    "convert full legal a.b legal a.c": (23, "`legal` stands twice"),
+    "convert full rules 2,x": (21, "`x` is no number"),
+    "convert full rules 2;25": (19, "`2;25` is no number"),
+    "convert full rules 2,4294967296": (21, "4294967296 is above 4294967295"),
+    "convert full depth 1,2": (20, "one number stands behind `depth`"),
+    "convert full depth -1": (19, "`-1` is no number"),
+    "legalize": (0, "write `convert MODE CLAUSES`"),
+    "converted": (0, "write `convert MODE CLAUSES`"),
+}
+# Targets that can't be, with the byte where the fault stands, and a part of what is said.
+UNFIT = {
+    "convert partial legal a.b illegal a.b": (34, "`a.b` stands twice"),
+    "convert  full dynamic a.c,a.c": (26, "`a.c` stands twice"),
+    "convert partial illegal a.b,builtin.unrealized_conversion_cast": (28, "casts are always legal"),
+    "convert partial rules 2,1": (24, "1 is none of the rules 2 and 25 to 30"),
+    "convert partial rules 25,31": (25, "31 is none of the rules 2 and 25 to 30"),
+    "convert partial depth 0": (22, "a depth is 1 to 16"),
+    "convert partial legal a.b depth 17": (32, "a depth is 1 to 16"),
+}
+RIGHT = ["convert partial", "convert full", "convert partial depth 1 rules 2,25,25 dynamic a.b legal c,d illegal e",
+         "canon", "canon limit 0", "sweep"]
+REMAINDER = b'''%a = "test.a"() : () -> i32
+%r = "arith.remsi"(%a, %a) : (i32, i32) -> i32
+"test.use"(%r) : (i32) -> ()
+'''
+PRIVATE = b'''"func.func"() <{function_type = () -> (), sym_name = "f", sym_visibility = "private"}> ({}) : () -> ()
+'''
+
+
+def begun(module):
+    """A session over a module."""
+    here = session.Session(module)
+    here.begin(b"")
+    return here
+
+
+class Misspelt(unittest.TestCase):
+    def test_where_and_why(self):
+        for line, (column, words) in MISSPELT.items():
+            with self.subTest(line):
+                fault = mistakes.misspelt(line)
+                self.assertEqual(fault.column, column)
+                self.assertIn(words, fault.words)
+
+    def test_each_is_refused(self):
+        replies = program.replies(program.asked(b"", list(MISSPELT))[1])
+        self.assertEqual({reply for reply, _ in replies}, {"refused 60 BadCommand"})
+
+    def test_right_ones(self):
+        for line in RIGHT:
+            self.assertIsNone(mistakes.misspelt(line), line)
+        replies = program.replies(program.asked(b"", RIGHT)[1])
+        self.assertFalse([reply for reply, _ in replies if "60" in reply])
+
+
+class Targets(unittest.TestCase):
+    def test_where_and_why(self):
+        for line, (column, words) in UNFIT.items():
+            with self.subTest(line):
+                self.assertIsNone(mistakes.misspelt(line))
+                self.assertEqual((targets.unfit(line)[0], words in targets.unfit(line)[1]), (column, True))
+
+    def test_each_is_refused(self):
+        replies = program.replies(program.asked(b"", list(UNFIT))[1])
+        self.assertEqual({reply for reply, _ in replies}, {"refused 54 BadTarget"})
+
+    def test_the_others_are_not(self):
+        replies = program.replies(program.asked(b"", RIGHT)[1])
+        self.assertEqual([line for line, (reply, _) in zip(RIGHT, replies) if "54" in reply], [])
+        self.assertTrue(all(targets.unfit(line) is None for line in RIGHT[:3]))
+
+
+class Answered(unittest.TestCase):
+    def test_with_a_diff(self):
+        here = begun(REMAINDER)
+        self.assertEqual(here.answer("convert partial illegal arith.remsi rules 27"), [
+            "converted 1",
+            '-    #2    %v2.0 = "arith.remsi"(%v1.0, %v1.0) : (i32, i32) -> i32',
+            '+    #4    %v4.0 = "arith.divsi"(%v1.0, %v1.0) : (i32, i32) -> i32',
+            '+    #5    %v5.0 = "arith.muli"(%v4.0, %v1.0) <{overflowFlags = #arith.overflow<none>}> : (i32, i32) -> i32',
+            '+    #6    %v6.0 = "arith.subi"(%v1.0, %v5.0) <{overflowFlags = #arith.overflow<none>}> : (i32, i32) -> i32',
+            '-    #3    "test.use"(%v2.0) : (i32) -> ()',
+            '+    #3    "test.use"(%v6.0) : (i32) -> ()'])
+        self.assertEqual(here.answer("undo"), ["undone: convert partial illegal arith.remsi rules 27"])
+        self.assertEqual(here.answer("at #2 0"), ['    #2    %v2.0 = "arith.remsi"(%v1.0, %v1.0) : (i32, i32) -> i32'])
+
+    def test_sweep(self):
+        self.assertEqual(begun(PRIVATE).answer("sweep")[0], "swept 1")
+        self.assertEqual(begun(REMAINDER).answer("sweep"), ["swept 0", "nothing changed"])
+
+    def test_a_diff_that_is_long(self):
+        here = begun(PRIVATE * 3)
+        with unittest.mock.patch.object(session, "MOST_DIFF", 2):
+            said = here.answer("sweep")
+        self.assertEqual((said[0], len(said), said[-1]), ("swept 3", 4, ".. 2 more lines: `diff` has them"))
+        self.assertEqual(len(here.answer("diff")), 4)
+
+    def test_what_it_changed_itself(self):
+        here = begun(REMAINDER)
+        here.answer("set-attr #3 k unit")
+        said = here.answer("convert partial illegal arith.remsi rules 27")
+        here.answer("undo")
+        self.assertEqual(here.answer("convert partial illegal arith.remsi rules 27"), said)
+        self.assertEqual(sum("{k}" in line for line in said), 2)
+
+    def test_the_operation_that_is_named(self):
+        here = begun(REMAINDER)
+        self.assertEqual(here.answer("convert partial illegal arith.remsi")[-1],
+                         '    #2    %v2.0 = "arith.remsi"(%v1.0, %v1.0) : (i32, i32) -> i32')
+        full = "convert full legal builtin.module,test.a,test.use,arith.muli,arith.subi rules 27"
+        self.assertTrue(here.answer(full)[0].startswith("refused 51 NotLegalised #2: "))
+
+    def test_a_target(self):
+        self.assertEqual(begun(b"").answer("convert partial rules 1"), [
+            "refused 54 BadTarget: 1 is none of the rules 2 and 25 to 30",
+            "    convert partial rules 1",
+            "                          ^"])
+
+
+if __name__ == "__main__":
+    unittest.main()
