@@ -498,6 +498,23 @@ def failing_ends():
             run(f"narrow {fault} {at}", text, 4, out[:at - 1], script.BOXES)
 
 
+def byte_limits():
+    """Both sides of the limits of bytes, of a module's text, of a script's, and of an input: copies of a piece, and the rest."""
+    def sized(piece, size, rest, status, out):
+        count, left = divmod(size - len(rest), len(piece))
+        assert left == 0, (piece, size, rest)
+        case(f"run none copies {count} {given(piece)}|{given(rest)}", f"{status} {told(out)}")
+
+    sized(b"\n", 16777216, b"", 0, b"")
+    sized(b"\n", 16777217, b"", 3, b"module refused 11 TooMany at 16777216\n")
+    # The first divider is in front of the script, which the others are in, as comments.
+    front = len(DIVIDER)
+    sized(DIVIDER, front + 16777216, b"print\n////", 0, b"1 ok\n" + EMPTY)
+    sized(DIVIDER, front + 16777217, b"print\n/////", 1, b"1 refused 60 BadCommand\n")
+    sized(DIVIDER, 33554432, b"//", 1, b"1 refused 60 BadCommand\n")
+    sized(DIVIDER, 33554433, b"///", 3, b"module refused 11 TooMany at 33554432\n")
+
+
 def due(text, refusals=(), boxes=BOXES):
     """A run in both forms, with what is due by the rules; these refusals are among its replies, and no others."""
     for how in ("brief", "full"):
