@@ -7,7 +7,7 @@
 #include <sys/syscall.h>
 #include <sys/uio.h>
 #include <unistd.h>
-static unsigned long reads, writes, bad_read, bad_write, every, most;
+static unsigned long reads, writes, bad_read, bad_write, every, on, most;
 static int error = EIO, teller = -1;
 static unsigned long number_of(const char *name, unsigned long other) {
     const char *text = getenv(name);
@@ -17,6 +17,7 @@ __attribute__((constructor)) static void begin(void) {
     bad_read = number_of("ENDS_READ", 0);
     bad_write = number_of("ENDS_WRITE", 0);
     every = number_of("ENDS_EVERY", 0);
+    on = number_of("ENDS_ON", 0);
     most = number_of("ENDS_MOST", -1);
     error = (int)number_of("ENDS_ERROR", EIO);
     teller = (int)number_of("ENDS_TELL", -1);
@@ -35,7 +36,8 @@ ssize_t read(int file, void *bytes, size_t size) {
 }
 ssize_t write(int file, const void *bytes, size_t size) {
     if (file == 1) {
-        if (bad_write && ++writes == bad_write) return errno = error, -1;
+        writes++;
+        if (bad_write && (writes == bad_write || (on && writes > bad_write))) return errno = error, -1;
         if (size > most) size = most;
     }
     return syscall(SYS_write, file, bytes, size);

@@ -7,7 +7,8 @@
 - Every read is interrupted: the program gives up behind 40,000,000 of them, nothing is written, and the status is 4. (The table of
   crates/mlir_work_cases has this of the reading alone; a whole run has no word there, since its answer is the same line for 40,000,000
   steps of a second program.)
-- The output takes one byte a write, and each write fails in turn: a front is written, and the status is 4.
+- The output takes one byte a write. Each write fails in turn: a front is written, which may be all of it, since what is buffered is
+  tried again at the end, and the status is 4. Each from one on fails: what came before is written, and the status is 4.
 
 usage: bench/ends.py PROGRAM"""
 import errno
@@ -56,7 +57,7 @@ class Ends:
     def look(self, what, status, out, wanted):
         if (status, out) != wanted:
             self.bad += 1
-            print(f"{what}: status {status}, and not {wanted[0]}\n{out.decode()}")
+            print(f"{what}: status {status}, and not {wanted[0]}; {len(out)} bytes, and not {len(wanted[1])}")
 
 
 def main(argv):
@@ -69,13 +70,15 @@ def main(argv):
             ends.look(f"read {at} fails", *ends.run(most=1, read=at)[:2], (4, b""))
             ends.look(f"read {at} is interrupted", *ends.run(most=1, read=at, error=errno.EINTR)[:2], ends.wanted)
         for at in range(1, len(out) + 1):
-            ends.look(f"write {at} fails", *ends.run(most=1, write=at)[:2], (4, out[:at - 1]))
+            status, front, _ = ends.run(most=1, write=at)
+            ends.look(f"write {at} fails", status, front, (4, out[:max(len(front), at - 1)]))
+            ends.look(f"each write from {at} on fails", *ends.run(most=1, write=at, on=1)[:2], (4, out[:at - 1]))
         status, out, busy = ends.run(every=1, error=errno.EINTR)
         ends.look("every read is interrupted", status, out, (4, b""))
         if busy != MOST_READS:
             ends.bad += 1
             print(f"{busy} reads, and not {MOST_READS}")
-    print(f"{reads} reads failed, {reads} interrupted, {len(ends.wanted[1])} writes failed, {busy:,} reads interrupted in one run: {ends.bad} not as due")
+    print(f"{reads} reads failed, {reads} interrupted, {len(ends.wanted[1])} writes failed, once and from one on, {busy:,} reads interrupted in one run: {ends.bad} not as due")
     return 1 if ends.bad else 0
 
 

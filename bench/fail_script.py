@@ -60,8 +60,8 @@ OPENED = [
     "convert partial illegal func.return rules 25", f"insert end #0 0 {PRIVATE}", "sweep", "erase #9", "jump", "set-attr #3 k 1 : i129", "insert before #3 %0 =",
     'set-attr #1 function_type (i32) -> i64', "report diagnostics", "canon", "resync constants", "resync symbols", "print", *ASKED, "detach dead", "report dead", "begin", "erase #1", "commit"]
 CLOSED = ["rollback", "rollback", "rollback"]
-# What is written by the last rollback, and lines whose replies fill what a program may write at once.
-UNTIL, FILLING = "NoMark", ["x"] * 1200
+# What is written by the last rollback, and how many lines have replies that fill what is written at once, without listings and with.
+UNTIL, FILLING = "NoMark", {True: ["x"] * 400, False: ["x"] * 80}
 BEGUN = [f"resync {kind}" for kind in script.BOXES]
 AFTER = ["print", *BEGUN, *ASKED, 'insert end #0 0 "test.z"() : () -> ()']
 
@@ -107,7 +107,7 @@ class Look:
 
     def whole(self, brief, name, many, every):
         """Refuses growths of the script from each on."""
-        opened, filling = without(OPENED, self.gone), FILLING if many == ALL else []
+        opened, filling = without(OPENED, self.gone), FILLING[brief] if many == ALL else []
         lines = opened + CLOSED + filling + AFTER
         calm = len(opened + CLOSED + filling) + 1 if many == ALL else None
         for number in range(1, 1000000, every):
@@ -207,6 +207,7 @@ def main():
             bad += wrong
             for row, here in more.items():
                 counts[row] += here
+                print(*row, here["all"], file=sys.stderr, flush=True)
     table(counts)
     missing = [row[2] for row, here in counts.items() if row[0] == "conversion" and not here["stale"]]
     print(f"{bad} not explained" + (f"; never stale in a refused conversion: {', '.join(missing)}" if missing else ""))

@@ -18,7 +18,7 @@ class Program:
         """What the library tells, and the status and what was written."""
         told, teller = os.pipe()
         env = {"LD_PRELOAD": self.library, "REFUSED_ALLOCATION": str(number), "REFUSED_TELL": str(teller), **more}
-        ended = subprocess.run([self.path, *words], input=text, capture_output=True, env=env, pass_fds=[teller], timeout=60)
+        ended = subprocess.run([self.path, *words], input=text, capture_output=True, env=env, pass_fds=[teller], timeout=600)
         os.close(teller)
         said = os.read(told, 99)
         os.close(told)

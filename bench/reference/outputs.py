@@ -113,6 +113,7 @@ class Follower:
             self.fault(word)
             if word == "resync":
                 self.stale.add(kind)
+                self.doubtful.discard(kind)
             return is_listed, word in UNDONE
         if word == "report" and accepts and kind in self.stale or not self.takes(f"{count}{due}"):
             self.wrong(f"line {count}: {line} is due{due}")
