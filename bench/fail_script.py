@@ -3,7 +3,8 @@
 a command that isn't accepted leaves the module, each listener's rows are those of the module, or it is stale, or memory was
 wanting, and what takes no memory is never refused for want of it. It needs a C compiler.
 
-usage: bench/fail_script.py PROGRAM [--without COMMAND,..] [--parts script,alone,conversion] [--every N] [--processes N]
+usage: bench/fail_script.py PROGRAM [--without COMMAND,..] [--parts script,alone,conversion] [--every N] [--sizes N,..]
+                            [--processes N]
 
 - script: one of every command over a function, marks inside a mark that stays open, with and without listings. The Nth growth is
   refused, for N from 1 until a run meets none; the Nth and the two behind it; and each from the Nth on, until the script has
@@ -13,7 +14,7 @@ usage: bench/fail_script.py PROGRAM [--without COMMAND,..] [--parts script,alone
   to do what it does where nothing was refused before.
 - conversion: each growth of a conversion that is refused, beside each listener alone, in modules of several sizes.
 
-With `--every N` only each Nth growth of the script is taken. The table says how many growths were refused, and what came of it. The
+With `--every N` only each Nth growth of the script is taken; the sizes are of the modules of a conversion. The table says how many growths were refused, and what came of it. The
 status is 1 where something isn't explained, or where a listener never turned stale in a refused conversion."""
 import argparse
 import collections
@@ -151,7 +152,7 @@ MARKED = {"set-operand", "move", "replace", "erase", "drop-attr", "set-attr", "i
 SIZES = [0, 1, 2, 3, 4, 7, 8, 11, 14, 15, 16]
 
 
-def jobs(look, parts, every):
+def jobs(look, parts, every, sizes):
     """Each call that is asked for."""
     if "script" in parts:
         for brief in (True, False):
@@ -170,7 +171,7 @@ def jobs(look, parts, every):
                     yield look.alone, (MODULE, front, command, kept)
     if "conversion" in parts and "convert" not in look.gone:
         for kind in script.BOXES:
-            for size in SIZES:
+            for size in sizes:
                 yield look.conversion, (kind, size)
 
 
@@ -178,7 +179,7 @@ def one(words, place):
     """What came of one of the jobs, in a process of its own."""
     with tempfile.TemporaryDirectory() as work:
         look = Look(Program(words.program, work), [word for word in words.without.split(",") if word])
-        call, given = list(jobs(look, words.parts.split(","), words.every))[place]
+        call, given = list(jobs(look, words.parts.split(","), words.every, words.sizes))[place]
         call(*given)
         return dict(look.counts), look.bad
 
@@ -197,10 +198,11 @@ def main():
     reader.add_argument("--without", default="")
     reader.add_argument("--parts", default="script,alone,conversion")
     reader.add_argument("--every", type=int, default=1)
+    reader.add_argument("--sizes", type=lambda text: [int(size) for size in text.split(",")], default=SIZES)
     reader.add_argument("--processes", type=int, default=1)
     words = reader.parse_args()
     gone = [word for word in words.without.split(",") if word]
-    count = len(list(jobs(Look(None, gone), words.parts.split(","), words.every)))
+    count = len(list(jobs(Look(None, gone), words.parts.split(","), words.every, words.sizes)))
     counts, bad = collections.defaultdict(collections.Counter), 0
     with concurrent.futures.ProcessPoolExecutor(words.processes) as pool:
         for more, wrong in pool.map(one, [words] * count, range(count)):
