@@ -481,6 +481,38 @@ def runs():
             run(f"narrow {fault} {at}", text, 4 if at else 1, taken)
 
 
+def failing_ends():
+    """The first run of the guide, with all listeners: of a reader that gives a byte a read each read fails in turn, then nothing is
+    written; of a writer that takes a byte a write each write, then a front is written."""
+    text = TEXT + DIVIDER + b"report uses\nset-operand #3 0 %v2.0\nreport uses\nprint\n"
+    out = b"1 ok\n" + USES + b"2 ok\n3 ok\n" + EDITED_USES + b"4 ok\n" + EDITED
+    run("brief", text, 0, out, script.BOXES)
+    # The last read finds the end, and the last call of the writer hands on what was written.
+    for at in range(1, len(text) + 2):
+        run(f"slow other {at}", text, 4, b"", script.BOXES)
+    run(f"slow other {len(text) + 2}", text, 0, out, script.BOXES)
+    for fault in ("fails", "nothing", "interrupted"):
+        for at in range(1, len(out) + 2) if fault == "fails" else (1, 2, len(out) // 2, len(out), len(out) + 1):
+            run(f"narrow {fault} {at}", text, 4, out[:at - 1], script.BOXES)
+
+
+def byte_limits():
+    """Both sides of the limits of bytes, of a module's text, of a script's, and of an input: copies of a piece, and the rest."""
+    def sized(piece, size, rest, status, out):
+        count, left = divmod(size - len(rest), len(piece))
+        assert left == 0, (piece, size, rest)
+        case(f"run none copies {count} {given(piece)}|{given(rest)}", f"{status} {told(out)}")
+
+    sized(b"\n", 16777216, b"", 0, b"")
+    sized(b"\n", 16777217, b"", 3, b"module refused 11 TooMany at 16777216\n")
+    # The first divider is in front of the script, which the others are in, as comments.
+    front = len(DIVIDER)
+    sized(DIVIDER, front + 16777216, b"print\n////", 0, b"1 ok\n" + EMPTY)
+    sized(DIVIDER, front + 16777217, b"print\n/////", 1, b"1 refused 60 BadCommand\n")
+    sized(DIVIDER, 33554432, b"//", 1, b"1 refused 60 BadCommand\n")
+    sized(DIVIDER, 33554433, b"///", 3, b"module refused 11 TooMany at 33554432\n")
+
+
 def due(text, refusals=(), boxes=BOXES):
     """A run in both forms, with what is due by the rules; these refusals are among its replies, and no others."""
     for how in ("brief", "full"):

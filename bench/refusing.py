@@ -1,9 +1,10 @@
-"""Runs of a program in which one allocation is refused, by a library that stands before the C library (refuse.c)."""
+"""Runs of a program in which allocations are refused, by a library that stands before the C library (refuse.c)."""
 import os
 import pathlib
 import subprocess
 
 SOURCE = pathlib.Path(__file__).with_name("refuse.c")
+ALL = 1 << 40
 
 
 class Program:
@@ -13,22 +14,24 @@ class Program:
         self.path, self.library = path, f"{folder}/refuse.so"
         subprocess.run([os.environ.get("CC", "cc"), "-shared", "-fPIC", "-O1", "-o", self.library, str(SOURCE)], check=True)
 
-    def told(self, text, number, brief):
+    def told(self, text, number, words, more):
         """What the library tells, and the status and what was written."""
         told, teller = os.pipe()
-        env = {"LD_PRELOAD": self.library, "REFUSED_ALLOCATION": str(number), "REFUSED_TELL": str(teller)}
-        ended = subprocess.run([self.path] + ["--brief"] * brief, input=text, capture_output=True, env=env, pass_fds=[teller], timeout=60)
+        env = {"LD_PRELOAD": self.library, "REFUSED_ALLOCATION": str(number), "REFUSED_TELL": str(teller), **more}
+        ended = subprocess.run([self.path, *words], input=text, capture_output=True, env=env, pass_fds=[teller], timeout=600)
         os.close(teller)
         said = os.read(told, 99)
         os.close(told)
         return said, (ended.returncode, ended.stdout)
 
-    def run(self, text, number, brief=True):
-        """Whether the allocation of a number was there to be refused, and the status and what was written."""
-        said, answer = self.told(text, number, brief)
+    def run(self, text, number, brief=True, many=1, until=None):
+        """Whether the allocation of a number was there to be refused, and the status and what was written; with it as many from
+        it on, until a text was written."""
+        more = {"REFUSED_MANY": str(many), **({"REFUSED_UNTIL": until} if until else {})}
+        said, answer = self.told(text, number, ["--brief"] * brief, more)
         return said == b"!", answer
 
     def count(self, text, brief=True):
         """How many allocations a run makes, and the status and what was written."""
-        said, answer = self.told(text, 0, brief)
+        said, answer = self.told(text, 0, ["--brief"] * brief, {})
         return int(said), answer

@@ -40,10 +40,13 @@ class Op:
 
 def walk(op):
     """An operation and all inside it, in pre-order."""
-    yield op
-    for block in op.blocks():
-        for inner in block.ops:
-            yield from walk(inner)
+    waiting = [op]
+    while waiting:
+        op = waiting.pop()
+        yield op
+        for block in reversed(op.regions):
+            if block is not None:
+                waiting.extend(reversed(block.ops))
 
 
 class Where:

@@ -10,6 +10,7 @@ WORDS = {20: "NoSuchOp", 21: "NoSuchValue", 22: "HasUses", 23: "NotVisible", 24:
          34: "TooManyMarks", 35: "NoMark", 36: "Memory", 40: "Stale", 41: "NoSuchKind", 50: "BadLimit", 51: "NotLegalised", 52: "ChainTooDeep", 53: "Unreconciled",
          54: "BadTarget", 60: "BadCommand"}
 BOXES = tuple(KINDS.values())
+KIND_WORDS = {KINDS.get(kind, f"kind{kind}") for kind in range(256)}
 MOST_MARKS = 16
 FIRST = {"report", "print", "set-operand", "move", "set-attr", "drop-attr", "resync", "detach"}
 EDITS = FIRST | {"erase", "insert", "replace"}
@@ -91,7 +92,7 @@ class Run:
         self.module = tried
 
     def kind_of(self, word):
-        need(word in [KINDS.get(kind, f"kind{kind}") for kind in range(256)])
+        need(word in KIND_WORDS)
         return word
 
     def is_attached(self, kind):

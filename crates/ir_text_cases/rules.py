@@ -150,7 +150,7 @@ class Reader:
     """Reads parts of a text from a byte on; each call gives the part and the byte behind it."""
 
     def __init__(self, text, outer=None):
-        self.text, self.outer, self.ops = text, outer, 0
+        self.text, self.outer, self.ops, self.tokens = text, outer, 0, {}
         if len(text) > MOST_BYTES:
             raise Refused(11, MOST_BYTES)
         try:
@@ -159,7 +159,10 @@ class Reader:
             raise Refused(14, error.start)
 
     def look(self, at):
-        return token(self.text, at)
+        it = self.tokens.get(at)
+        if it is None:
+            it = self.tokens[at] = token(self.text, at)
+        return it
 
     def see(self, at, mark):
         """The byte behind a mark, where it stands there. A byte that begins no token is none."""
