@@ -1,5 +1,5 @@
 -- A walk over casts takes the first away that the definition takes.
-use Rattle.std.proofs.Common.{◌≡◌, refl, ap, sym, ◌∙◌, subst, inl, inr, ℕ, ◌<◌, ◌≤◌, Bool, true, false, true≢false, cond, eqb, List, [], ◌∷◌, filter, length, Option, Some, None, option_map, Result, Ok, Err, arith}
+use Rattle.std.proofs.Common.{◌≡◌, refl, ap, sym, ◌∙◌, subst, inr, ℕ, ◌≤◌, Bool, true, false, true≢false, cond, eqb, List, [], ◌∷◌, filter, length, Option, Some, None, option_map, Result, Ok, Err}
 use Rattle.std.specs.Prelude.{IfOk, IfSome, OnOk, Vec, slice_get}
 use Rattle.std.specs.List.{AllByRecursion, IsDistinct}
 use Rattle.ir_types.specs.Things.{Things}
@@ -9,7 +9,7 @@ use Rattle.ir_tree.specs.Meaning.{Operation}
 use Rattle.ir_tree.specs.WellFormed.{IsWellFormed}
 use Rattle.ir_event.specs.Modules.{Module}
 use Rattle.conversion_base.specs.Listing.{HaveCasts}
-use Rattle.conversion_base.specs.Reconciling.{collapse, first_rewrite, next_collapse, rewrite_or}
+use Rattle.conversion_base.specs.Reconciling.{collapse, next_collapse, rewrite_or}
 use Rattle.conversion_base.specs.Rewrites.{Rewrite, none, refused, becomes}
 use Rattle.conversion_base.proofs.Listed.{casts_stay, next_listed}
 use Rattle.conversion_casts.specs.Waiting.{ArePlaces, Took}

@@ -1,11 +1,10 @@
 -- Whether a cast is clean is told by what it has alone.
-use Rattle.std.proofs.Common.{◌≡◌, refl, ap, sym, ◌∙◌, ℕ, Bool, true, false, not, ◌&&◌, List, [], ◌∷◌, map, Option, Some, None, option_map}
-use Rattle.std.specs.Prelude.{codes}
+use Rattle.std.proofs.Common.{◌≡◌, refl, ap, sym, ◌∙◌, ℕ, Bool, true, false, not, ◌&&◌, List, [], ◌∷◌, Option, Some, None, option_map}
 use Rattle.std.specs.List.{list_all}
 use Rattle.std.proofs.lemmas.Slice.Eq.{bytes_eq-Decides}
 use Rattle.ir_types.specs.Terms.{TypeTerm, AttrTerm}
 use Rattle.ir_types.specs.Words.{is_inherent}
-use Rattle.ir_tree.specs.Tree.{OpOf, op, head}
+use Rattle.ir_tree.specs.Tree.{op, head}
 use Rattle.ir_tree.specs.Ids.{find}
 use Rattle.ir_tree.specs.Meaning.{Operation}
 use Rattle.ir_store.specs.Nodes.{NodeOf, node_of}
@@ -15,7 +14,7 @@ use Rattle.op_registry.specs.declared.definition.TypeRule.TheVariants.{Any}
 use Rattle.op_registry.specs.declared.own.Own.TheVariants.{Pure}
 use Rattle.op_registry.specs.Rows.{Row, rows}
 use Rattle.op_registry.specs.Registry.{row_of}
-use Rattle.listeners_surroundings.specs.Surroundings.{SurroundingsOf, OuterOf, surround, surroundings}
+use Rattle.listeners_surroundings.specs.Surroundings.{OuterOf, surround, surroundings}
 use Rattle.ir_verify_base.specs.Fits.{Known, Surroundings, fits, first_fit, known_of, there}
 use Rattle.ir_verify_base.specs.Shapes.{breaks_1, breaks_3, breaks_5, breaks_12, breaks_13, is_well_shaped}
 use Rattle.ir_verify_base.specs.TypeRules.{breaks_2, breaks_4}

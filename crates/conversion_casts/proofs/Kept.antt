@@ -1,7 +1,6 @@
 -- Rule 21 applies at a cast of a tree where it applied before heads were changed and an operation was taken out, if neither
 -- its head nor that of what gives its operand was changed.
-use Rattle.std.proofs.Common.{◌≡◌, refl, ap, sym, ◌∙◌, subst, inl, inr, ◌⊎◌, ℕ, Bool, true, false, true≢false, cond, not, ◌&&◌, eqb, eqb-true, eq-eqb, List, [], ◌∷◌, Option, Some, None, option_map}
-use Rattle.std.specs.Prelude.{codes}
+use Rattle.std.proofs.Common.{◌≡◌, refl, ap, sym, ◌∙◌, subst, inl, inr, ◌⊎◌, ℕ, Bool, true, false, true≢false, cond, ◌&&◌, eqb, eq-eqb, List, [], ◌∷◌, Option, Some, None, option_map}
 use Rattle.std.specs.Option.{option_eq}
 use Rattle.std.proofs.lemmas.Slice.Eq.{bytes_eq-Decides}
 use Rattle.ir_types.specs.SameTypes.{same_type}
@@ -9,16 +8,16 @@ use Rattle.ir_types.specs.Terms.{TypeTerm, AttrTerm}
 use Rattle.ir_tree.specs.declared.value.Value.{Value}
 use Rattle.ir_tree.specs.declared.value.Value.TheVariants.{Result, Arg}
 use Rattle.ir_tree.specs.declared.place.Place.{Place}
-use Rattle.ir_tree.specs.Tree.{OpOf, op, head, regions}
+use Rattle.ir_tree.specs.Tree.{op, head, regions}
 use Rattle.ir_tree.specs.Ids.{HasDistinctIds, find, has_id}
 use Rattle.ir_tree.specs.Places.{place_of}
 use Rattle.ir_tree.specs.Meaning.{Operation}
 use Rattle.ir_store.specs.Nodes.{NodeOf, node_of, regions_arguments}
 use Rattle.ir_tree_laws.specs.Members.{In}
-use Rattle.ir_tree_laws.specs.Stands.{StepOf, StandOf, stand_id, stands}
+use Rattle.ir_tree_laws.specs.Stands.{StandOf, stand_id, stands}
 use Rattle.ir_tree_laws.proofs.Around.{place_of_member, present_stand}
-use Rattle.ir_tree_laws.proofs.Listed.{both, not_false}
-use Rattle.ir_tree_laws.proofs.Members.{stand, found_stands, has_around}
+use Rattle.ir_tree_laws.proofs.Listed.{both}
+use Rattle.ir_tree_laws.proofs.Members.{stand, has_around}
 use Rattle.ir_event.specs.Modules.{Module}
 use Rattle.patterns_edits.specs.Contents.{Edit}
 use Rattle.patterns_base.specs.Casting.{rule_21, unrealized, back_from, through_index}
@@ -30,11 +29,10 @@ use Rattle.patterns_base.specs.Rewrites.{edits_of}
 use Rattle.patterns_base.specs.Words.{named, among, index_casts}
 use Rattle.conversion_base.specs.Reconciling.{is_cast, is_cast_found}
 use Rattle.conversion_base.specs.Targets.{cast_name}
-use Rattle.conversion_base.proofs.Collapsing.{is_inner}
-use Rattle.conversion_base.proofs.Falls.{cast_there, found_id}
+use Rattle.conversion_base.proofs.Falls.{found_id}
 use Rattle.conversion_base.proofs.Makes.{given_some, when_some}
 use Rattle.conversion_casts.proofs.Clean.{clean_alike}
-use Rattle.conversion_casts.proofs.From.{From, Was, type_back}
+use Rattle.conversion_casts.proofs.From.{From, type_back}
 
 -- ---- how rule 21 comes to apply at a cast
 
@@ -148,12 +146,12 @@ collapses_to m x c k e =
     let name = one_name (head k.here).name (head k.here).operands (head k.here).results k.ends k.one_is in
     let cast = ap (named cast_name) name.0 ∙ named_cast x m.tree k.here c k.found in
     way_to m.tree m.next k.front k.here k.ends k.way (
-        sym (rule_at m.tree m.next k.front k.here k.ends k.one_is cast)
-        ∙ sym (ap (λ b. when b (rule 21 m.tree m.next k.front k.here)) k.clean)
-        ∙ sym (ap (λ a. given a (λ front. when (is_clean m.tree (head k.here)) (rule 21 m.tree m.next front k.here))) k.at)
-        ∙ sym (ap (λ a. given a (λ o. given (front_of x m.tree) (λ front. when (is_clean m.tree (head o)) (rule 21 m.tree m.next front o)))) k.found)
-        ∙ sym (edits_are m x)
-        ∙ e)
+    sym (rule_at m.tree m.next k.front k.here k.ends k.one_is cast)
+    ∙ sym (ap (λ b. when b (rule 21 m.tree m.next k.front k.here)) k.clean)
+    ∙ sym (ap (λ a. given a (λ front. when (is_clean m.tree (head k.here)) (rule 21 m.tree m.next front k.here))) k.at)
+    ∙ sym (ap (λ a. given a (λ o. given (front_of x m.tree) (λ front. when (is_clean m.tree (head o)) (rule 21 m.tree m.next front o)))) k.found)
+    ∙ sym (edits_are m x)
+    ∙ e)
 
 -- an operation that isn't the root stands at a place
 placed : (t : Operation) → HasDistinctIds t → (x : ℕ) → has_id x t ≡ true → eqb (head t).id x ≡ false → (f : Place) × (front_of x t ≡ Some f)

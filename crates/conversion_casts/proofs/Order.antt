@@ -1,5 +1,5 @@
 -- An operation comes behind those whose results it sees.
-use Rattle.std.proofs.Common.{◌≡◌, refl, ap, sym, ◌∙◌, subst, ℕ, zero, suc, ◌+◌, Bool, true, false, true≢false, cond, not, ◌&&◌, ◌||◌, eqb, eqb-true, eq-eqb, List, [], ◌∷◌, ◌++◌, length, Some, inl, inr}
+use Rattle.std.proofs.Common.{◌≡◌, refl, ap, sym, ◌∙◌, subst, ℕ, zero, suc, ◌+◌, Bool, true, false, true≢false, cond, not, ◌||◌, eqb, eqb-true, eq-eqb, List, [], ◌∷◌, ◌++◌, length, Some, inl, inr}
 use Rattle.std.specs.Prelude.{nat_lt}
 use Rattle.std.specs.List.{list_any, IsDistinct}
 use Rattle.std.proofs.lemmas.Map.Keys.{IsDistinct-tail}
@@ -8,7 +8,7 @@ use Rattle.ir_tree.specs.Tree.{OpOf, op, RegionsOf, no_regions, region, RegionOf
 use Rattle.ir_tree.specs.Ids.{ids, ops_ids, region_ids, regions_ids, HasDistinctIds}
 use Rattle.ir_tree.specs.Sites.{shows, results_of}
 use Rattle.ir_tree_laws.specs.Reads.{comes_after, precedes}
-use Rattle.ir_tree_laws.specs.Stands.{StepOf, StandOf, stand_id, stands, sees}
+use Rattle.ir_tree_laws.specs.Stands.{StepOf, stands, sees}
 use Rattle.ir_tree_laws.specs.Members.{In}
 use Rattle.ir_tree_laws.specs.Values.{region_at}
 use Rattle.ir_tree_laws.proofs.Listed.{bool_cases, both, either, one_any}

@@ -1,6 +1,6 @@
 -- What a step at a cast leaves of the others: rule 21 applies to none of those before it, and no other is freed but those that
 -- give its operands.
-use Rattle.std.proofs.Common.{◌≡◌, refl, ap, sym, ◌∙◌, subst, inl, inr, ◌⊎◌, ℕ, ◌+◌, Bool, true, false, true≢false, cond, not, ◌&&◌, eqb, eqb-true, eq-eqb, List, [], ◌∷◌, map, Option, Some, None}
+use Rattle.std.proofs.Common.{◌≡◌, refl, ap, sym, ◌∙◌, subst, inl, inr, ◌⊎◌, ℕ, ◌+◌, Bool, true, false, true≢false, cond, not, ◌&&◌, eqb, eqb-true, List, [], ◌∷◌, map, Option, Some, None}
 use Rattle.std.specs.Prelude.{nat_le}
 use Rattle.std.specs.List.{IsDistinct}
 use Rattle.ir_types.specs.declared.refusal.Refusal.TheVariants.{Full, IdsExhausted}
@@ -8,10 +8,10 @@ use Rattle.ir_types.specs.Terms.{TypeTerm, AttrTerm}
 use Rattle.ir_types.specs.Words.{is_isolated}
 use Rattle.ir_tree.specs.declared.value.Value.{Value}
 use Rattle.ir_tree.specs.declared.value.Value.TheVariants.{Result}
-use Rattle.ir_tree.specs.Tree.{HeadOf, OpOf, op, no_regions, head, regions}
+use Rattle.ir_tree.specs.Tree.{no_regions, head, regions}
 use Rattle.ir_tree.specs.Ids.{HasDistinctIds, find, op_count}
 use Rattle.ir_tree.specs.Limits.{most_ops, most_next}
-use Rattle.ir_tree.specs.Edits.{each_head, put_value, put_values, with_value_replaced}
+use Rattle.ir_tree.specs.Edits.{put_value, put_values, with_value_replaced}
 use Rattle.ir_tree.specs.Places.{without}
 use Rattle.ir_tree.specs.Uses.{same_value}
 use Rattle.ir_tree.specs.Meaning.{Operation}
@@ -19,7 +19,7 @@ use Rattle.ir_tree.specs.WellFormed.{IsWellFormed}
 use Rattle.ir_tree.proofs.Replaced.{same_value_true}
 use Rattle.ir_tree_laws.specs.Members.{In}
 use Rattle.ir_tree_laws.specs.Reads.{precedes}
-use Rattle.ir_tree_laws.specs.Stands.{StandOf, stand_id, stands, sees, dropping}
+use Rattle.ir_tree_laws.specs.Stands.{StandOf, sees, dropping}
 use Rattle.ir_tree_laws.proofs.Around.{left_apart}
 use Rattle.ir_tree_laws.proofs.Formed.{from_formed}
 use Rattle.ir_tree_laws.proofs.Heads.{each_id}
@@ -33,7 +33,7 @@ use Rattle.patterns_edits.specs.Contents.{Edit, all_edited, edited}
 use Rattle.patterns_edits.specs.Edits.{Erase}
 use Rattle.patterns_base.specs.Looks.{Header}
 use Rattle.patterns_base.specs.Makes.{give, made_by}
-use Rattle.patterns_base.specs.Rewrites.{Rewrite, none, refused, becomes, carried_out, edits_of, rewrite_by, rewrite_of}
+use Rattle.patterns_base.specs.Rewrites.{none, refused, becomes, edits_of, rewrite_by, rewrite_of}
 use Rattle.patterns_base.specs.Words.{named}
 use Rattle.conversion_base.specs.Reconciling.{collapse, is_cast, is_cast_found, rewrite_or, unused_erased}
 use Rattle.conversion_base.specs.Targets.{cast_name}

@@ -14,7 +14,7 @@ use Rattle.std.proofs.lemmas.Map.Keys.{IsDistinct-tail}
 use Rattle.ir_tree.proofs.Returns.{absent_first}
 use Rattle.ir_tree_laws.specs.Members.{In}
 use Rattle.ir_tree_laws.proofs.Listed.{bool_cases}
-use Rattle.conversion_casts.specs.Waiting.{Again, ArePlaces, Freed, Took, Waits, of_again, of_next}
+use Rattle.conversion_casts.specs.Waiting.{Again, ArePlaces, Took, Waits, of_again}
 
 -- ---- a set's keys
 

@@ -1,25 +1,22 @@
 -- What calls of a walk leave.
-use Rattle.std.proofs.Common.{◌≡◌, refl, ap, sym, ◌∙◌, subst, inl, inr, ◌⊎◌, ℕ, zero, suc, ◌+◌, ◌-◌, ◌<◌, ◌≤◌, Bool, true, false, true≢false, cond, not, ◌&&◌, ◌||◌, eqb, eqb-true, eq-eqb, List, [], ◌∷◌, filter, length, map, Option, Some, None, arith}
+use Rattle.std.proofs.Common.{◌≡◌, refl, ap, sym, ◌∙◌, subst, inl, inr, ◌⊎◌, ℕ, zero, suc, ◌<◌, ◌≤◌, Bool, true, false, true≢false, cond, not, ◌||◌, eqb, eqb-true, eq-eqb, List, [], ◌∷◌, filter, length, Option, Some, None, arith}
 use Rattle.std.specs.Prelude.{slice_get}
-use Rattle.std.specs.List.{list_any, IsDistinct}
+use Rattle.std.specs.List.{list_any}
 use Rattle.std.proofs.lemmas.Bool.{cases_order}
-use Rattle.std.proofs.lemmas.Map.Keys.{IsDistinct-tail}
 use Rattle.ir_types.specs.Words.{is_isolated}
-use Rattle.ir_tree.specs.Tree.{no_regions, head, regions}
-use Rattle.ir_tree.specs.Ids.{ids, find}
+use Rattle.ir_tree.specs.Tree.{head}
+use Rattle.ir_tree.specs.Ids.{ids}
 use Rattle.ir_tree.specs.Meaning.{Operation}
 use Rattle.ir_tree.specs.WellFormed.{IsWellFormed}
 use Rattle.ir_tree_laws.specs.Members.{In}
 use Rattle.ir_tree_laws.specs.Reads.{comes_after, precedes}
 use Rattle.ir_tree_laws.proofs.Listed.{bool_cases, both}
 use Rattle.ir_event.specs.Modules.{Module}
-use Rattle.effects.specs.Dead.{is_unused}
-use Rattle.patterns_base.specs.Rewrites.{Rewrite, none, refused, becomes}
+use Rattle.patterns_base.specs.Rewrites.{Rewrite, none, becomes}
 use Rattle.conversion_base.specs.Listing.{HaveCasts}
 use Rattle.conversion_base.specs.Reconciling.{collapse, first_rewrite, is_cast, next_collapse, rewrite_or}
-use Rattle.conversion_base.proofs.Falls.{cast_there, found_id}
+use Rattle.conversion_base.proofs.Falls.{cast_there}
 use Rattle.conversion_base.proofs.Listed.{next_listed}
-use Rattle.conversion_casts.specs.Givers.{givers_of}
 use Rattle.conversion_casts.specs.Waiting.{ArePlaces, Freed, Took, of_again, of_next}
 use Rattle.conversion_casts.specs.Walks.{Gives, NoRule, Walked, collapse_at, is_inner}
 use Rattle.conversion_casts.proofs.Steps.{none_of_parts, none_parts, only_erased, step_gone, step_of, still_none, still_stuck, was_inner}

@@ -1,4 +1,4 @@
-use Rattle.std.proofs.Common.{ap, nat_eq, option_map, sym, ◌∙◌}
+use Rattle.std.proofs.Common.{nat_eq}
 use Rattle.std.specs.HashMap.{get}
 use Rattle.conversion.proofs.Walking.{gives_each, looked_at, walked_by, walked_past}
 use Rattle.conversion.proofs.collapsing.collapse_at.Goals as goal

@@ -1,5 +1,4 @@
 use Rattle.std.proofs.Common.{arith, ap, ◌∙◌, sym}
-use Rattle.ir_tree.specs.declared.value.Value.{Value}
 use Rattle.conversion_casts.specs.Givers.{givers_of}
 use Rattle.conversion_casts.proofs.Given.{gives_none, gives_shown}
 use Rattle.conversion_casts.proofs.givers.givers.Goals as goal

@@ -1,7 +1,5 @@
-use Rattle.std.proofs.Common.{nat_eq, ◌⊎◌, ◌≡◌, ◌<◌, ℕ, Some, length, List}
+use Rattle.std.proofs.Common.{nat_eq, length}
 use Rattle.std.specs.HashMap.{get}
-use Rattle.ir_tree_laws.specs.Members.{In}
-use Rattle.conversion_casts.specs.Waiting.{Again}
 use Rattle.conversion_casts.proofs.Waiting.{Adding}
 use Rattle.conversion_casts.proofs.walk.look_again.Given as goal
 
