@@ -1,26 +1,23 @@
 -- The rules, by their numbers.
-use Rattle.std.proofs.Common.{◌≡◌, refl, ap, sym, ◌∙◌, subst, ℕ, ◌+◌, ◌≤◌, Bool, true, false, ◌||◌, List, [], ◌∷◌, map, Option, Some, None, eqb, eqb-true, leb-true, if◌then◌else◌}
+use Rattle.std.proofs.Common.{◌≡◌, refl, ap, sym, ◌∙◌, subst, ℕ, ◌+◌, Bool, true, false, ◌||◌, List, [], ◌∷◌, map, Some, eqb, eqb-true, leb-true, if◌then◌else◌}
 use Rattle.std.specs.Prelude.{nat_le}
 use Rattle.std.specs.List.{list_any}
-use Rattle.ir_types.specs.Words.{is_isolated}
 use Rattle.ir_types.specs.declared.refusal.Refusal.TheVariants.{Full, IdsExhausted}
 use Rattle.ir_tree.specs.declared.place.Place.{Place}
 use Rattle.ir_tree.specs.Tree.{head}
 use Rattle.ir_tree.specs.Ids.{find, op_count}
 use Rattle.ir_tree.specs.Limits.{most_next, most_ops}
 use Rattle.ir_tree.specs.Meaning.{Operation}
-use Rattle.ir_tree.specs.WellFormed.{IsWellFormed}
 use Rattle.ir_tree_laws.proofs.Members.{found_stands}
 use Rattle.ir_event.specs.Modules.{Module}
-use Rattle.ir_event.specs.Step.{IsSorted}
 use Rattle.rewriter_machine.specs.Contents.{Edit, all_edited}
 use Rattle.patterns_edits.specs.Lists.{Free}
 use Rattle.patterns_base.specs.Keeps.{given}
 use Rattle.patterns_base.specs.Looks.{front_of, is_clean, when}
 use Rattle.patterns_base.specs.Makes.{made_by}
 use Rattle.patterns_base.specs.Rules.{rule}
-use Rattle.patterns_base.specs.Rewrites.{Rewrite, becomes, carried_out, edits_of, refused}
-use Rattle.patterns_free.specs.Accepted.{AreAccepted, IsAcceptedAt, accepted_rules}
+use Rattle.patterns_base.specs.Rewrites.{becomes, carried_out, edits_of, refused}
+use Rattle.patterns_free.specs.Accepted.{AreAccepted, accepted_rules}
 use Rattle.patterns_free.proofs.Spots.{Spot}
 use Rattle.patterns_free.proofs.Shapes.{given_is, when_is}
 use Rattle.patterns_free.proofs.Given.{HasRoom, free_4, free_5, free_6, free_8, free_15, free_16, free_17, free_21}

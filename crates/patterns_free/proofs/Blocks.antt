@@ -1,24 +1,22 @@
 -- The blocks of clean branches and loops.
-use Rattle.std.proofs.Common.{◌≡◌, refl, ap, sym, ◌∙◌, subst, ℕ, zero, suc, ◌≤◌, Bool, true, false, ◌&&◌, ◌||◌, not, List, [], ◌∷◌, cond, ◌+◌, length, map, drop, Option, Some, None, option_map, is_none, inl, inr, arith}
+use Rattle.std.proofs.Common.{◌≡◌, refl, ap, sym, ◌∙◌, subst, ℕ, zero, suc, ◌≤◌, Bool, true, false, ◌&&◌, not, List, [], ◌∷◌, cond, ◌+◌, length, Option, Some, None, option_map, is_none, inl, inr, arith}
 use Rattle.std.specs.Prelude.{◌==◌, codes, is_some, option_and_then, slice_get}
 use Rattle.std.specs.Cmp.{unsigned_Decides}
 use Rattle.std.specs.Str.{bytes_eq}
 use Rattle.ir_types.specs.Words.{is_isolated, is_table}
 use Rattle.ir_types.specs.Terms.{TypeTerm, AttrTerm}
 use Rattle.ir_tree.specs.declared.value.Value.{Value}
-use Rattle.ir_tree.specs.declared.value.Value.TheVariants.{Result, Arg}
+use Rattle.ir_tree.specs.declared.value.Value.TheVariants.{Arg}
 use Rattle.ir_tree.specs.declared.place.Place.{Place}
-use Rattle.ir_tree.specs.Tree.{OpOf, op, RegionOf, empty, block, head, regions}
-use Rattle.ir_tree.specs.Ids.{HasDistinctIds, find}
-use Rattle.ir_tree.specs.Sites.{operands_visible}
+use Rattle.ir_tree.specs.Tree.{op, RegionOf, head, regions}
 use Rattle.ir_tree.specs.Uses.{operand_uses, same_value, uses_of}
 use Rattle.ir_tree.specs.Meaning.{Operation}
 use Rattle.ir_tree.proofs.Replaced.{same_value_true}
 use Rattle.ir_store.specs.Nodes.{node_of, regions_arguments}
-use Rattle.ir_tree_laws.specs.Stands.{StepOf, StandOf, stand_id, stands}
+use Rattle.ir_tree_laws.specs.Stands.{StepOf, stand_id, stands}
 use Rattle.ir_tree_laws.specs.Members.{In}
-use Rattle.ir_tree_laws.specs.Values.{arguments_at, arguments_of, has_value, region_at, type_of_value}
-use Rattle.ir_tree_laws.proofs.Listed.{both, neither}
+use Rattle.ir_tree_laws.specs.Values.{arguments_at, arguments_of, has_value, region_at}
+use Rattle.ir_tree_laws.proofs.Listed.{neither}
 use Rattle.ir_tree_laws.proofs.Members.{found_stands, stand, stand_of_member}
 use Rattle.ir_tree_laws.proofs.Readings.{stands_uses}
 use Rattle.ir_tree_laws.proofs.Values.{seen_by}
@@ -29,7 +27,6 @@ use Rattle.ir_verify_base.specs.Fits.{Known, any_region, block_at, is_named, kno
 use Rattle.ir_verify_base.specs.TypeRules.{any_differ, arguments_differ}
 use Rattle.ir_verify.specs.BlockRules.{is_without}
 use Rattle.ir_event.specs.Modules.{Module}
-use Rattle.patterns_base.specs.Looks.{is_clean}
 use Rattle.patterns_yields.proofs.Ends.{arguments_read}
 use Rattle.patterns_yields.proofs.Unbroken.{Stand, Unbroken, clean_unbroken, node_head}
 use Rattle.patterns_free.proofs.InPlace.{gathers_none}

@@ -1,6 +1,5 @@
 -- All operations of a block but the last come in front of the operation that has the block: what the last sees.
-use Rattle.std.proofs.Common.{◌≡◌, refl, ap, sym, ◌∙◌, subst, ℕ, zero, suc, ◌+◌, ◌<◌, Bool, true, false, ◌&&◌, ◌||◌, not, eqb, eqb-true, List, [], ◌∷◌, ◌++◌, length, map, Option, Some, None, option_map, inl, inr, arith, append_assoc}
-use Rattle.std.specs.Prelude.{nat_lt}
+use Rattle.std.proofs.Common.{◌≡◌, refl, ap, sym, ◌∙◌, subst, ℕ, true, false, ◌&&◌, not, eqb, eqb-true, List, [], ◌∷◌, ◌++◌, length, map, Option, Some, None, option_map, inl, inr, arith, append_assoc}
 use Rattle.std.specs.Option.{option_eq}
 use Rattle.ir_types.specs.Words.{is_isolated, is_table}
 use Rattle.ir_types.specs.Terms.{TypeTerm, AttrTerm}
@@ -26,15 +25,15 @@ use Rattle.listeners_surroundings.proofs.Spots.{stands_in}
 use Rattle.ir_verify_base.specs.Fits.{there}
 use Rattle.ir_verify_base.specs.Types.{same_types}
 use Rattle.ir_event.specs.Modules.{Module}
-use Rattle.rewriter_machine.specs.Contents.{Edit, all_edited}
+use Rattle.rewriter_machine.specs.Contents.{all_edited}
 use Rattle.rewriter_machine.specs.Edits.{Erase}
 use Rattle.patterns_edits.specs.Lists.{Free}
 use Rattle.patterns_edits.proofs.Body.{list_ids}
 use Rattle.patterns_edits.proofs.Headed.{found_there}
-use Rattle.patterns_edits.proofs.Plans.{HasFirst, StandsAt, move_free, move_rest, moving, sees}
-use Rattle.patterns_base.specs.Looks.{Ended, Header, body}
+use Rattle.patterns_edits.proofs.Plans.{HasFirst, move_free, move_rest, moving, sees}
+use Rattle.patterns_base.specs.Looks.{Ended, Header}
 use Rattle.patterns_base.specs.Makes.{give_body, replacing, results_from}
-use Rattle.patterns_yields.proofs.Ends.{Ending, ending}
+use Rattle.patterns_yields.proofs.Ends.{Ending}
 use Rattle.patterns_free.proofs.Results.{AreGiven, results_free}
 use Rattle.patterns_free.proofs.Shapes.{some_is}
 use Rattle.patterns_free.proofs.Shifts.{moved_heads, moved_types}

@@ -1,5 +1,5 @@
 -- Edits in front of an operation of one result, which is given by another value in the end.
-use Rattle.std.proofs.Common.{◌≡◌, refl, ap, sym, ◌∙◌, subst, ℕ, suc, ◌+◌, ◌≤◌, ◌<◌, Bool, true, ◌&&◌, List, [], ◌∷◌, length, Option, Some, None, option_map, arith}
+use Rattle.std.proofs.Common.{◌≡◌, refl, ap, sym, ◌∙◌, ℕ, suc, ◌+◌, ◌≤◌, true, List, [], ◌∷◌, Some, option_map, arith}
 use Rattle.std.specs.Prelude.{nat_lt, slice_get, option_and_then}
 use Rattle.std.specs.List.{list_all}
 use Rattle.std.specs.Option.{option_eq}
@@ -11,7 +11,7 @@ use Rattle.ir_tree.specs.declared.value.Value.{Value}
 use Rattle.ir_tree.specs.declared.value.Value.TheVariants.{Result}
 use Rattle.ir_tree.specs.declared.place.Place.{Place}
 use Rattle.ir_tree.specs.Tree.{HeadOf, head}
-use Rattle.ir_tree.specs.Ids.{find, has_id, op_count}
+use Rattle.ir_tree.specs.Ids.{op_count}
 use Rattle.ir_tree.specs.Limits.{most_ops, most_next, op_fits, items_fit}
 use Rattle.ir_tree.specs.Sites.{visible}
 use Rattle.ir_tree.specs.Meaning.{Operation}

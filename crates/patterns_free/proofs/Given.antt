@@ -17,23 +17,21 @@ use Rattle.ir_tree_laws.specs.Members.{In}
 use Rattle.ir_tree_laws.proofs.Listed.{both}
 use Rattle.ir_tree_laws.specs.Values.{type_of_value}
 use Rattle.ir_event.specs.Modules.{Module}
-use Rattle.dialects_int.specs.Arithmetic.{choice_of}
-use Rattle.dialects_int.specs.Folds.{Known}
 use Rattle.rewriter_machine.specs.Contents.{Edit}
 use Rattle.patterns_edits.specs.Lists.{Free}
-use Rattle.patterns_edits.proofs.Plans.{StandsAt, sees}
+use Rattle.patterns_edits.proofs.Plans.{sees}
 use Rattle.patterns_base.specs.Keeps.{Each, given}
 use Rattle.patterns_base.specs.Words.{among, ignoring_one, ignoring_zero, index_casts, keeping, named}
 use Rattle.patterns_base.specs.Made.{i1}
-use Rattle.patterns_base.specs.Looks.{Header, One, Three, Two, is_number, is_of_type, known, one, passes, source, source_among, when}
+use Rattle.patterns_base.specs.Looks.{Header, One, is_number, is_of_type, known, one, passes, source, when}
 use Rattle.patterns_base.specs.Makes.{give, made_by}
-use Rattle.patterns_base.specs.Casting.{resizing, rule_20, rule_21, through_index, unrealized}
+use Rattle.patterns_base.specs.Casting.{rule_21, through_index, unrealized}
 use Rattle.patterns_base.specs.Folding.{is_all_ones, rule_4, rule_5, rule_6, rule_8, rule_15, rule_16, rule_17}
 use Rattle.patterns_free.proofs.Typed.{ChoiceTypes, a_choice, among_each, choice_is, choices_are, conjunction_is, ignoring_one_are, ignoring_zero_are, keeping_are, named_is, number_is, two_numbers, typed, types_at}
 use Rattle.patterns_free.proofs.Spots.{Giver, Spot, here_is, sees_behind, sees_operand, stands_there}
 use Rattle.patterns_free.proofs.Fit as fit
 use Rattle.patterns_free.proofs.Fit.{Fit}
-use Rattle.patterns_free.proofs.Shapes.{IsOne, IsThree, IsTwo, given_is, one_is, some_is, source_among_is, source_is, three_is, two_is, when_is}
+use Rattle.patterns_free.proofs.Shapes.{given_is, one_is, some_is, source_is, three_is, two_is, when_is}
 
 -- what edits make is within the limits
 abbrev pub HasRoom : Module → List Edit → Type 0

@@ -1,6 +1,6 @@
 -- Rules 1, 3, 13 and 18: an operation is erased, or changed in place.
-use Rattle.std.proofs.Common.{◌≡◌, refl, ap, sym, ◌∙◌, subst, ℕ, ◌+◌, ◌<◌, Bool, true, false, ◌&&◌, ◌||◌, not, cond, List, [], ◌∷◌, ◌++◌, length, Option, Some, None, map, inl, inr, arith, eqb, eq-eqb, eqb-true, if◌then◌else◌}
-use Rattle.std.specs.Prelude.{codes, is_some, nat_lt, option_map, slice_set}
+use Rattle.std.proofs.Common.{◌≡◌, refl, ap, sym, ◌∙◌, subst, ℕ, ◌+◌, Bool, true, false, ◌&&◌, not, cond, List, [], ◌∷◌, ◌++◌, length, Option, Some, None, inl, inr, eqb, eq-eqb, eqb-true, if◌then◌else◌}
+use Rattle.std.specs.Prelude.{codes, is_some, nat_lt, option_map}
 use Rattle.std.specs.List.{list_all}
 use Rattle.std.specs.Str.{bytes_eq}
 use Rattle.std.proofs.lemmas.List.{length-set}
@@ -14,11 +14,9 @@ use Rattle.ir_tree.specs.declared.place.Place.{Place}
 use Rattle.ir_tree.specs.declared.place.Part.{Part}
 use Rattle.ir_tree.specs.declared.place.Part.TheVariants.{Props, Attrs}
 use Rattle.ir_tree.specs.Tree.{HeadOf, op, head}
-use Rattle.ir_tree.specs.Ids.{find}
-use Rattle.ir_tree.specs.Edits.{at, change_entry, change_part, each_head, entry_at, part_of, put_operand, same_key, with_entry, with_operand}
+use Rattle.ir_tree.specs.Edits.{at, change_entry, change_part, each_head, entry_at, put_operand}
 use Rattle.ir_tree.specs.Limits.{most_items}
 use Rattle.ir_tree.specs.Meaning.{Operation, key_before}
-use Rattle.ir_tree.specs.Sites.{visible}
 use Rattle.ir_tree.specs.Uses.{operand_uses, same_value, uses_of}
 use Rattle.ir_tree_laws.specs.Reasons.{found_entry_reason, set_entry_reason, unless}
 use Rattle.ir_tree_laws.specs.Stands.{StandOf, gather, stand_id, stands}
@@ -31,8 +29,8 @@ use Rattle.ir_tree_laws.proofs.Readings.{stands_every, stands_uses}
 use Rattle.ir_event.specs.Modules.{Module}
 use Rattle.op_registry.specs.Registry.{beside}
 use Rattle.dialects_int.specs.Folds.{property_of}
-use Rattle.effects.specs.Dead.{is_dead, is_result_of, is_unused}
-use Rattle.rewriter_machine.specs.Contents.{Edit, edit_reason, edited, tests}
+use Rattle.effects.specs.Dead.{is_result_of, is_unused}
+use Rattle.rewriter_machine.specs.Contents.{Edit, edited, tests}
 use Rattle.rewriter_machine.specs.Edits.{Erase, SetAttr, SetOperand, part_for, part_in}
 use Rattle.patterns_edits.specs.Lists.{Free}
 use Rattle.patterns_edits.proofs.Headed as headed
@@ -41,8 +39,8 @@ use Rattle.patterns_edits.proofs.Plans.{StandsAt, sees}
 use Rattle.patterns_base.specs.Keeps.{mirrored}
 use Rattle.patterns_base.specs.Words.{among, named, swapping}
 use Rattle.patterns_base.specs.Made.{i64}
-use Rattle.patterns_base.specs.Looks.{Header, is_constant, is_known, is_number, known, may_go, predicate, source, two, when}
-use Rattle.patterns_base.specs.Folding.{is_to_swap, rule_1, rule_3, rule_13, rule_18, swap}
+use Rattle.patterns_base.specs.Looks.{Header, is_constant, is_known, is_number, may_go, predicate, source}
+use Rattle.patterns_base.specs.Folding.{rule_1, rule_3, rule_13, rule_18}
 use Rattle.patterns_free.proofs.Spots.{Spot, here_is, sees_behind, sees_operand, stands_there}
 use Rattle.patterns_free.proofs.Shapes.{given_is, some_is, source_is, three_is, two_is, when_is}
 

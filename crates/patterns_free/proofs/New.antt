@@ -1,23 +1,21 @@
 -- Rules that make operations: 2, 7, 9 to 12, 14, 19, 20 and 25 to 27.
-use Rattle.std.proofs.Common.{◌≡◌, refl, ap, sym, ◌∙◌, subst, ℕ, suc, ◌+◌, ◌≤◌, Bool, true, false, ◌&&◌, not, List, [], ◌∷◌, length, Option, Some, None, map, if◌then◌else◌, inl, inr, arith}
+use Rattle.std.proofs.Common.{◌≡◌, refl, sym, subst, ℕ, suc, ◌+◌, Bool, true, false, ◌&&◌, not, List, [], ◌∷◌, Option, Some, None, if◌then◌else◌, inl, inr, arith}
 use Rattle.std.specs.Prelude.{codes, eqb, ◌||◌}
 use Rattle.std.specs.List.{list_all}
 use Rattle.ir_types.specs.Words.{is_isolated}
 use Rattle.ir_types.specs.Readings.{type_width}
 use Rattle.ir_types.specs.Terms.{TypeTerm, AttrTerm, Overflow}
-use Rattle.ir_types.specs.SameTypes.{same_type}
 use Rattle.ir_types.proofs.SameTerms.{type_refl}
 use Rattle.ir_tree.specs.declared.value.Value.{Value}
 use Rattle.ir_tree.specs.declared.value.Value.TheVariants.{Result}
 use Rattle.ir_tree.specs.declared.place.Place.{Place}
 use Rattle.ir_tree.specs.Tree.{head}
-use Rattle.ir_tree.specs.Ids.{op_count}
-use Rattle.ir_tree.specs.Limits.{items_fit, most_ops, most_next}
+use Rattle.ir_tree.specs.Limits.{items_fit}
 use Rattle.ir_tree.specs.Sites.{visible}
 use Rattle.ir_tree.specs.Uses.{same_value}
 use Rattle.ir_tree.specs.Meaning.{Operation}
 use Rattle.ir_tree_laws.specs.Members.{In}
-use Rattle.ir_tree_laws.proofs.Listed.{both, both_hold}
+use Rattle.ir_tree_laws.proofs.Listed.{both_hold}
 use Rattle.ir_event.specs.Modules.{Module}
 use Rattle.op_registry.specs.Registry.{beside}
 use Rattle.dialects_int.specs.Arithmetic.{all_ones, difference_of}
@@ -26,17 +24,17 @@ use Rattle.rewriter_machine.specs.Contents.{Edit, edited}
 use Rattle.rewriter_machine.specs.Edits.{Make}
 use Rattle.patterns_edits.specs.Lists.{Free}
 use Rattle.patterns_edits.proofs.Plans.{sees}
-use Rattle.patterns_base.specs.Keeps.{given, holds_of_itself}
+use Rattle.patterns_base.specs.Keeps.{holds_of_itself}
 use Rattle.patterns_base.specs.Words.{among, asking, cancelling, dividing, extensions, flagged, named, regrouping, remainders}
 use Rattle.patterns_base.specs.Made.{Entries, binary, cast, choice, comparison, constant, flags, i1, made, predicate_entry, value_entry}
-use Rattle.patterns_base.specs.Looks.{Header, One, Two, is_number, is_of_type, known, one, predicate, source, source_among, two, when}
-use Rattle.patterns_base.specs.Makes.{give, give_constant, give_new, made_by}
+use Rattle.patterns_base.specs.Looks.{Header, is_number, is_of_type, known, one, predicate, source, source_among, when}
+use Rattle.patterns_base.specs.Makes.{give, give_constant, give_new}
 use Rattle.patterns_base.specs.Casting.{resizing, rule_19, rule_20}
 use Rattle.patterns_base.specs.Folding.{folded_to, may_read, rule_2, rule_7, rule_9, rule_10, rule_11, rule_12, rule_14, rule_25, rule_26, rule_27}
 use Rattle.patterns_free.proofs.Spots.{Giver, Spot, sees_behind, sees_operand}
 use Rattle.patterns_free.proofs.Fit as fit
 use Rattle.patterns_free.proofs.Fit.{Fit}
-use Rattle.patterns_free.proofs.Shapes.{IsOne, IsTwo, given_is, one_is, some_is, source_among_is, source_is, two_is, when_is}
+use Rattle.patterns_free.proofs.Shapes.{given_is, one_is, some_is, source_among_is, source_is, two_is, when_is}
 use Rattle.patterns_free.proofs.Given.{HasRoom, fits, gives_behind}
 
 few_flags : (name : List ℕ) → items_fit (flags name) ≡ true

@@ -1,39 +1,33 @@
 -- Rules 22 to 24: blocks come in front of the operation that has them, or go with it.
-use Rattle.std.proofs.Common.{◌≡◌, refl, ap, sym, ◌∙◌, subst, ℕ, zero, suc, ◌+◌, ◌≤◌, Bool, true, false, ◌&&◌, List, [], ◌∷◌, ◌++◌, length, map, Option, Some, None, option_map, option_and_then, if◌then◌else◌, inl, inr, arith}
+use Rattle.std.proofs.Common.{◌≡◌, refl, ap, sym, ◌∙◌, subst, ℕ, ◌≤◌, Bool, true, false, List, [], ◌∷◌, length, map, Some, option_map, option_and_then, if◌then◌else◌, arith}
 use Rattle.std.specs.Prelude.{codes, eqb}
 use Rattle.std.proofs.lemmas.Slice.Eq.{bytes_eq-Decides}
 use Rattle.ir_types.specs.Words.{is_isolated, is_table}
 use Rattle.ir_types.specs.Terms.{TypeTerm, AttrTerm}
 use Rattle.ir_tree.specs.declared.value.Value.{Value}
-use Rattle.ir_tree.specs.declared.value.Value.TheVariants.{Result, Arg}
 use Rattle.ir_tree.specs.declared.place.Place.{Place}
 use Rattle.ir_tree.specs.Tree.{RegionOf, empty, block, OpsOf, no_ops, head, regions}
 use Rattle.ir_tree.specs.Ids.{find}
 use Rattle.ir_tree.specs.Meaning.{Operation}
-use Rattle.ir_store.specs.Nodes.{node_of}
 use Rattle.ir_tree_laws.specs.Members.{In}
-use Rattle.ir_tree_laws.specs.Values.{arguments_of, region_at, type_of_value}
+use Rattle.ir_tree_laws.specs.Values.{arguments_of, region_at}
 use Rattle.ir_tree_laws.specs.Stands.{stands}
 use Rattle.ir_tree_laws.proofs.Members.{found_stands, stand, stand_found}
 use Rattle.ir_tree_laws.proofs.Readings.{step}
 use Rattle.listeners_surroundings.proofs.Spots.{stands_in}
 use Rattle.ir_event.specs.Modules.{Module}
-use Rattle.ir_verify_base.specs.Fits.{there}
-use Rattle.ir_verify_base.specs.Types.{same_types}
-use Rattle.dialects_int.specs.Folds.{Known}
 use Rattle.rewriter_machine.specs.Contents.{Edit}
 use Rattle.rewriter_machine.specs.Edits.{Erase}
 use Rattle.patterns_edits.specs.Lists.{Free}
 use Rattle.patterns_edits.proofs.Headed.{found_there}
 use Rattle.patterns_edits.proofs.Plans as plans
-use Rattle.patterns_edits.proofs.Plans.{StandsAt, sees}
 use Rattle.patterns_base.specs.Keeps.{given}
 use Rattle.patterns_base.specs.Words.{named}
-use Rattle.patterns_base.specs.Looks.{Ended, Header, body, known, when}
+use Rattle.patterns_base.specs.Looks.{Ended, Header, body, known}
 use Rattle.patterns_base.specs.Makes.{give_body, replaced}
 use Rattle.patterns_base.specs.Opening.{by_condition, chosen, opened, rule_22}
 use Rattle.patterns_yields.specs.Yields.{IsCleanOf}
-use Rattle.patterns_yields.proofs.Ends.{Ending, ending}
+use Rattle.patterns_yields.proofs.Ends.{ending}
 use Rattle.patterns_yields.proofs.Yielding.{choice_types}
 use Rattle.patterns_free.proofs.Blocks.{block_is, if_arguments, if_opened, if_plain, no_arguments, none_given}
 use Rattle.patterns_free.proofs.Emptied.{HaveTypes, body_free, has_first, have_types}

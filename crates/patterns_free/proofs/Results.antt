@@ -1,22 +1,21 @@
 -- Results are replaced, one after another, by values that their operation sees, and it is erased.
-use Rattle.std.proofs.Common.{◌≡◌, refl, ap, sym, ◌∙◌, subst, ℕ, suc, zero, ◌+◌, ◌<◌, Bool, true, false, ◌&&◌, List, [], ◌∷◌, ◌++◌, length, Option, Some, None, option_map, arith, eqb, eq-eqb, eqb-true, append_assoc, append-nil, length-append}
+use Rattle.std.proofs.Common.{◌≡◌, refl, ap, sym, ◌∙◌, ℕ, ◌+◌, ◌<◌, Bool, true, false, ◌&&◌, List, [], ◌∷◌, ◌++◌, length, Option, Some, None, option_map, arith, eqb, eqb-true, append_assoc, append-nil, length-append}
 use Rattle.std.specs.Prelude.{is_some, nat_lt, option_and_then, slice_get}
 use Rattle.std.specs.Option.{option_eq}
 use Rattle.std.proofs.lemmas.Bool.{ltb-true, ltb-false}
 use Rattle.ir_types.specs.Words.{is_isolated}
 use Rattle.ir_types.specs.Terms.{TypeTerm, AttrTerm}
 use Rattle.ir_types.specs.SameTypes.{same_type}
-use Rattle.ir_types.specs.declared.refusal.Refusal.TheVariants.{NoSuchValue, NotVisible, TypeDiffers}
 use Rattle.ir_tree.specs.declared.value.Value.{Value}
-use Rattle.ir_tree.specs.declared.value.Value.TheVariants.{Result, Arg}
+use Rattle.ir_tree.specs.declared.value.Value.TheVariants.{Result}
 use Rattle.ir_tree.specs.declared.place.Place.{Place}
-use Rattle.ir_tree.specs.Tree.{HeadOf, OpOf, op, RegionsOf, no_regions, region, empty, block, head, regions}
+use Rattle.ir_tree.specs.Tree.{op, RegionsOf, no_regions, region, empty, block, head}
 use Rattle.ir_tree.specs.Ids.{find}
 use Rattle.ir_tree.specs.Frames.{owner_of}
 use Rattle.ir_tree.specs.Edits.{each_head, put_values, regions_each_head, with_value_replaced}
 use Rattle.ir_tree.specs.Uses.{same_value, uses_of}
 use Rattle.ir_tree.specs.Meaning.{Operation}
-use Rattle.ir_tree.proofs.Heads.{Alike, head_find}
+use Rattle.ir_tree.proofs.Heads.{head_find}
 use Rattle.ir_tree.proofs.Replaced.{old_unused, others_stay}
 use Rattle.ir_store.specs.Nodes.{regions_arguments}
 use Rattle.ir_tree_laws.specs.Values.{type_of_value}

@@ -1,19 +1,16 @@
 -- An operation is moved: types of values, and heads, stay.
-use Rattle.std.proofs.Common.{◌≡◌, refl, ap, sym, ◌∙◌, subst, ℕ, Bool, true, false, true≢false, eqb, eq-eqb, eqb-true, List, [], ◌∷◌, ◌++◌, Option, Some, None, inl, inr, ◌⊎◌}
+use Rattle.std.proofs.Common.{◌≡◌, refl, ap, sym, ◌∙◌, subst, ℕ, false, true≢false, eqb, eq-eqb, eqb-true, List, [], ◌∷◌, ◌++◌, Option, Some, None, inl, inr, ◌⊎◌}
 use Rattle.std.specs.Prelude.{option_map}
 use Rattle.ir_types.specs.Words.{is_isolated, is_table}
-use Rattle.ir_types.specs.Terms.{TypeTerm, AttrTerm}
 use Rattle.ir_tree.specs.declared.value.Value.{Value}
 use Rattle.ir_tree.specs.declared.place.Place.{Place}
-use Rattle.ir_tree.specs.Tree.{OpOf, head}
-use Rattle.ir_tree.specs.Ids.{HasDistinctIds, find, has_id}
+use Rattle.ir_tree.specs.Tree.{head}
+use Rattle.ir_tree.specs.Ids.{HasDistinctIds, find}
 use Rattle.ir_tree.specs.Places.{put, shifted, without}
 use Rattle.ir_tree.specs.Frames.{owner_of}
 use Rattle.ir_tree.specs.Meaning.{Operation}
 use Rattle.ir_store.specs.Nodes.{node_of}
-use Rattle.ir_tree_laws.specs.Stands.{StandOf, left_stand, stand_id, stand_of, stands}
-use Rattle.ir_tree_laws.specs.Members.{In}
-use Rattle.ir_tree_laws.specs.Reads.{is_within}
+use Rattle.ir_tree_laws.specs.Stands.{left_stand, stand_of, stands}
 use Rattle.ir_tree_laws.specs.Reasons.{leads_inside}
 use Rattle.ir_tree_laws.specs.Values.{type_of_value}
 use Rattle.ir_tree_laws.proofs.Listed.{bool_cases}

@@ -1,5 +1,5 @@
 -- A clean operation of a module, and what it sees.
-use Rattle.std.proofs.Common.{◌≡◌, refl, ap, sym, ◌∙◌, subst, ℕ, ◌+◌, ◌≤◌, Bool, true, ◌&&◌, List, [], ◌∷◌, Option, Some, None, inl, inr}
+use Rattle.std.proofs.Common.{◌≡◌, refl, ap, sym, ◌∙◌, subst, ℕ, true, List, [], Option, Some, None}
 use Rattle.std.specs.Prelude.{option_map}
 use Rattle.std.specs.List.{list_all}
 use Rattle.ir_types.specs.Words.{is_isolated}
@@ -8,16 +8,15 @@ use Rattle.ir_tree.specs.declared.value.Value.{Value}
 use Rattle.ir_tree.specs.declared.value.Value.TheVariants.{Result, Arg}
 use Rattle.ir_tree.specs.declared.place.Place.{Place}
 use Rattle.ir_tree.specs.Tree.{head}
-use Rattle.ir_tree.specs.Ids.{HasDistinctIds, find, op_count}
-use Rattle.ir_tree.specs.Limits.{most_ops, most_next}
+use Rattle.ir_tree.specs.Ids.{HasDistinctIds, find}
 use Rattle.ir_tree.specs.Places.{place_of}
 use Rattle.ir_tree.specs.Sites.{operands_visible}
 use Rattle.ir_tree.specs.Meaning.{Operation}
 use Rattle.ir_tree.specs.WellFormed.{IsWellFormed}
-use Rattle.ir_tree_laws.specs.Stands.{StandOf, stands, stand_id, sees as sees_from}
+use Rattle.ir_tree_laws.specs.Stands.{StandOf, stands, sees as sees_from}
 use Rattle.ir_tree_laws.specs.Members.{In}
 use Rattle.ir_tree_laws.proofs.Listed.{all_each}
-use Rattle.ir_tree_laws.proofs.Members.{stand_found, found_stands}
+use Rattle.ir_tree_laws.proofs.Members.{found_stands}
 use Rattle.ir_tree_laws.proofs.Sees.{stands_operands, visible_there}
 use Rattle.ir_event.specs.Modules.{Module}
 use Rattle.ir_event.specs.Step.{IsSorted}

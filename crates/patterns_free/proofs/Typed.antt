@@ -1,7 +1,7 @@
 -- The types of a clean operation's operands and results.
-use Rattle.std.proofs.Common.{◌≡◌, refl, ap, sym, ◌∙◌, subst, ℕ, List, [], ◌∷◌, map, Bool, true, false, not, ◌&&◌, ◌||◌, Option, Some, None, if◌then◌else◌}
+use Rattle.std.proofs.Common.{◌≡◌, refl, ap, sym, ◌∙◌, subst, ℕ, List, [], ◌∷◌, map, Bool, true, false, not, ◌||◌, Option, Some, None}
 use Rattle.std.specs.Cmp.{unsigned_Decides}
-use Rattle.std.specs.Prelude.{◌==◌, codes, option_map}
+use Rattle.std.specs.Prelude.{codes, option_map}
 use Rattle.std.specs.Option.{option_eq}
 use Rattle.std.specs.Str.{bytes_eq}
 use Rattle.std.proofs.lemmas.Slice.Eq.{bytes_eq-Decides}
@@ -13,7 +13,7 @@ use Rattle.ir_tree.specs.Tree.{head}
 use Rattle.ir_tree.specs.Ids.{HasDistinctIds, find}
 use Rattle.ir_tree.specs.Meaning.{Operation}
 use Rattle.ir_tree_laws.specs.Values.{type_of_value}
-use Rattle.ir_tree_laws.specs.Stands.{StepOf, StandOf, stands}
+use Rattle.ir_tree_laws.specs.Stands.{StandOf, stands}
 use Rattle.ir_tree_laws.specs.Members.{In}
 use Rattle.ir_tree_laws.proofs.Listed.{both, neither}
 use Rattle.ir_tree_laws.proofs.Members.{stand, stand_of_member, found_stands}
@@ -22,13 +22,13 @@ use Rattle.op_registry.specs.declared.definition.TypeRule.TheVariants as type
 use Rattle.op_registry.specs.Registry.{row_of}
 use Rattle.listeners_surroundings.specs.Surroundings.{surround}
 use Rattle.ir_verify_base.specs.Types.{is_boolean}
-use Rattle.ir_verify_base.specs.Fits.{Known, first_called, fits, is_there, is_the_number, known_of, there, types_fit}
+use Rattle.ir_verify_base.specs.Fits.{Known, first_called, is_there, is_the_number, known_of, there, types_fit}
 use Rattle.ir_verify_base.specs.TypeRules.{is_no_number}
 use Rattle.patterns_base.specs.Keeps.{Each}
 use Rattle.patterns_base.specs.Words.{named, among, ignoring_zero, ignoring_one, keeping}
 use Rattle.patterns_base.specs.Made.{i1}
 use Rattle.patterns_base.specs.Looks.{is_clean}
-use Rattle.patterns_yields.proofs.Unbroken.{Unbroken, clean_unbroken, node_head}
+use Rattle.patterns_yields.proofs.Unbroken.{clean_unbroken, node_head}
 
 pub passed : (b : Bool) → not b ≡ false → b ≡ true
 passed true e = refl

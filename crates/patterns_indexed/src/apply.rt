@@ -18,8 +18,7 @@ use std::alloc::Global;
 /// applied.
 ///
 /// Refusals, in order: `NoSuchOp` where the operation isn't in the module; `Full`; `IdsExhausted`; `Full` where the context
-/// is full; and `Memory`. Of a rule of 1 to 22, or of 25 to 27, no edit is refused for a
-/// reason.
+/// is full; and `Memory`. No edit of a rule of 1 to 22, or of 25 to 27, is refused for a reason.
 pub fn apply<L: Analysis>(
     alloc: Global,
     bench: &mut Bench<L>,
