@@ -66,7 +66,7 @@ def clauses(maker, legal, illegal, dynamic):
     """The clauses of a target, in any order, with some rules and maybe a depth."""
     lists = {"legal": legal, "illegal": illegal, "dynamic": dynamic}
     words = [f"{word} {','.join(them)}" for word, them in lists.items() if them]
-    words.append("rules " + ",".join(map(str, maker.sample(RULES, maker.choice([7, 7, 7, *range(1, 8)])))))
+    words.append("rules " + ",".join(map(str, maker.sample(RULES, maker.choice([len(RULES)] * 3 + [*range(1, len(RULES) + 1)])))))
     words += [f"depth {maker.choice([1, 2, 3, 4, 16])}"] * (maker.random() < 0.6)
     maker.shuffle(words)
     return " ".join(words)

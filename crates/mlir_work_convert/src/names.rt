@@ -68,7 +68,7 @@ pub(crate) fn names_in<L: Analysis>(
     bench: &mut Bench<L>,
     names: Option<&[u8]>,
 ) -> Result<Vec<NameId>, Refusal>
-    ensures named { IfOk result (λ v. AreNumbers bench.new.desk.ctx v.items (items_behind (option_copied names))) }
+    ensures named { IfOk result (λ v. AreNumbers bench.new.desk.ctx v.items (items_behind (option_copied {List ℕ} names))) }
     ensures want { IfErr result (IsWant bench.new.desk.ctx) }
     ensures interned { Interned L.meaning bench.old bench.new }
 {
@@ -98,7 +98,7 @@ fn number_onto(numbers: &mut Vec<u32>, item: &[u8]) -> Result<(), Refusal>
 
 /// The numbers of a list, if there is one.
 pub(crate) fn numbers_in(alloc: Global, list: Option<&[u8]>) -> Result<Vec<u32>, Refusal>
-    ensures numbers { IfOk result (λ v. v.items ≡ numbers_behind (option_copied list)) }
+    ensures numbers { IfOk result (λ v. v.items ≡ numbers_behind (option_copied {List ℕ} list)) }
     ensures want { IfErr result (λ refusal. refusal ≡ NoMemory) }
 {
     let mut numbers = Vec::new(alloc);
