@@ -13,7 +13,7 @@ sys.dont_write_bytecode = True
 
 import mistakes  # noqa: E402
 import program  # noqa: E402
-from listing import MADE, PROBE, Listing, free_number  # noqa: E402
+from listing import MADE, listed  # noqa: E402
 
 BEHIND = "    note: it took no number; what is put in behind it has a lower one than it would have"
 
@@ -48,8 +48,7 @@ class Before:
 
     def shown(self, number):
         """The line of an operation."""
-        free = free_number(program.asked(self.module, [*self.lines, PROBE])[1])
-        return free and Listing(self.module, self.lines, free).near(number, 0) or [MADE]
+        return listed(self.module, self.lines, number + 1).near(number, 0) or [MADE]
 
 
 def commands_refused(name, parts, first, lines):

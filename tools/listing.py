@@ -49,37 +49,46 @@ def cut(line, begins):
 
 
 def printed(module, script, begins, first, last):
-    """The lines of the module, those from `first` up to `last` with their number in it, and none else. The analyses are
-    dropped before, for speed."""
+    """The reply to each line of the script; the lines of the module, those from `first` up to `last` with their number
+    in it, and none else; and the next free number. The analyses are dropped before, for speed."""
     key = begins.partition(" ")[0]
     numbering = [f"detach {kind}" for kind in kinds()]
     numbering += [f"set-attr #{number} {key} {number}" for number in range(first, last)]
-    lines = asked(module, [*script, *numbering, "print"])[1]
-    return lines[len(script) + len(numbering) + 1:]
+    lines = asked(module, [*script, *numbering, "print", PROBE])[1]
+    return lines[:len(script)], lines[len(script) + len(numbering) + 1:-1], free_number(lines)
 
 
-def numbered(module, script, count):
-    """The lines of the module, and beside each the number that stands in it, or None. All numbers are below `count`."""
+def numbered(module, script, bound):
+    """The reply to each line of the script; the lines of the module, and beside each the number that stands in it, where
+    that is below the bound; and the next free number."""
     begins = unused_key(module, script) + " = "
     taken = sum(len(line.encode("utf-8", "replace")) + 1 for line in script)
     most = max((MOST_SCRIPT - taken - 200) // (len(begins) + 40), 1)
-    lines, numbers = [], []
-    for first in range(0, count, most):
-        pairs = [cut(line, begins) for line in printed(module, script, begins, first, min(first + most, count))]
-        lines = [line for line, _ in pairs]
+    numbers = []
+    for first in range(0, bound, most):
+        replies, lines, free = printed(module, script, begins, first, min(first + most, bound))
+        pairs = [cut(line, begins) for line in lines]
         olds = numbers or [None] * len(pairs)
         numbers = [number if old is None else old for (_, number), old in zip(pairs, olds)]
-    return lines, numbers
+    return replies, [line for line, _ in pairs], numbers, free
+
+
+def listed(module, script, bound):
+    """The listing of a module behind a script. Most numbers are below the bound; where one isn't it takes two runs."""
+    found = Listing(module, script, bound)
+    return found if found.count <= bound else Listing(module, script, found.count)
 
 
 class Listing:
-    """The lines of a module as `ids` shows them.
+    """The lines of a module as `ids` shows them; `replies` has the reply to each line of the script, each of which has to
+    write one line, and `count` is the next free number.
 
     `keys` tells each line from all others: one that begins an operation by its number, another by the operation in
     whose regions it is, and which region; and all by how far they are indented. So two listings can be compared."""
 
-    def __init__(self, module, script, count):
-        self.texts, numbers = numbered(module, script, count)
+    def __init__(self, module, script, bound):
+        self.replies, self.texts, numbers, free = numbered(module, script, bound)
+        self.count = free or bound
         self.keys, self.places, self.names = [], {}, {}
         self.around = []
         for place, (line, owner) in enumerate(zip(self.texts, owners_of(self.texts, numbers))):

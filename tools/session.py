@@ -26,7 +26,7 @@ sys.dont_write_bytecode = True
 import explain  # noqa: E402
 import mistakes  # noqa: E402
 import program  # noqa: E402
-from listing import MADE, PROBE, Listing, changes, free_number  # noqa: E402
+from listing import MADE, PROBE, changes, free_number, listed  # noqa: E402
 
 PROMPT = "> "
 WIDTH = 100
@@ -34,6 +34,8 @@ WIDTH = 100
 LOOKS = {"print", "report"}
 # Commands that edit what they don't name: behind them stands what they changed, up to so many lines.
 WITH_DIFF, MOST_DIFF = {"canon", "convert", "sweep"}, 60
+# So many operations they make mostly, at least.
+MADE_MOSTLY = 4096
 # A script that is too long has one reply in place of one for each line.
 REFUSED = ("refused", [])
 
@@ -90,8 +92,19 @@ class Session:
         """The module as it is, made once for each state."""
         state = (self.count, *self.kept())
         if self.last[0] != state:
-            self.last = state, Listing(self.module, list(state[1:]), self.count)
+            self.last = state, listed(self.module, list(state[1:]), self.count)
         return self.last[1]
+
+    def rewritten(self, line):
+        """Runs a line that has a difference behind it, and gives its reply, and that difference."""
+        before, bound = self.listing(), self.count + max(self.count // 4, MADE_MOSTLY)
+        behind = listed(self.module, [*self.kept(), line], bound)
+        reply = (program.replies(behind.replies)[-1:] or [REFUSED])[0][0]
+        if reply.startswith("refused"):
+            return reply, []
+        self.count = behind.count
+        self.last = (self.count, *self.kept(), line), behind
+        return reply, cut_off(changes(before, behind))
 
     def answer(self, line):
         """The lines that answer one that was typed."""
@@ -109,12 +122,11 @@ class Session:
     def command(self, line):
         """Runs a command of a script, and keeps it where it is accepted."""
         word = line.split()[0]
-        before = self.listing() if word in WITH_DIFF else None
-        reply, below = self.run(line)
+        reply, below = self.rewritten(line) if word in WITH_DIFF else self.run(line)
         if reply.startswith("refused"):
             return self.refused(reply, line.encode("utf-8", "surrogateescape"))
         self.entries.append(Entry(line, word not in LOOKS))
-        return [reply, *below, *(cut_off(changes(before, self.listing())) if before else [])]
+        return [reply, *below]
 
     def refused(self, reply, line):
         """What is said of a line that is refused, and the operation that its reply names."""
