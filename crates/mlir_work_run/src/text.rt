@@ -13,7 +13,7 @@ analyses go to standard output.";
 pub(crate) const BRIEF: &str = "Leave out the module and all rows behind each edit";
 
 /// What `--limit` says.
-pub(crate) const LIMIT: &str = "The most rewrites of a `canon` that doesn't say";
+pub(crate) const LIMIT: &str = "The most rewrites of a plain `canon`";
 
 /// Its number, where it isn't there.
 pub(crate) const DEFAULT_LIMIT: &str = "1000";
@@ -38,8 +38,8 @@ To edit:
   set-attr #N KEY ATTRIBUTE  ATTRIBUTE, the rest of the line, becomes the entry
                              KEY of operation #N
   drop-attr #N KEY           the entry KEY of operation #N is taken out
-  sweep                      the private symbols that nothing reaches are taken
-                             away, with what is inside them, or none of them
+
+To rewrite:
   canon                      the first operation to which one of the rules 1 to
                              24 applies (docs/CANONICALIZE.md) is rewritten by
                              the lowest such rule, again and again, until none
@@ -50,6 +50,8 @@ To edit:
                              between types reconciled, or all stays as it was
                              (docs/CONVERT.md); MODE is `partial`, or `full`,
                              where each operation has to be legal in the end
+  sweep                      the private symbols that nothing reaches are taken
+                             away, with what is inside them, or none of them
 
 Marks, of which 16 may be open:
   begin                      a mark is made of the module
