@@ -1,6 +1,6 @@
 -- Rules 28 to 30: operations on index become operations on i64, with unrealized casts around them (as a type
 -- converter's materializations). In brackets stands where MLIR has the rule.
-use Rattle.std.specs.Prelude.{ℕ, ◌+◌, List, [], ◌∷◌, ◌++◌, codes, map, length, Bool, true, false, ◌&&◌, ◌||◌, Option, Some, None}
+use Rattle.std.specs.Prelude.{ℕ, ◌+◌, List, [], ◌∷◌, ◌++◌, codes, map, length, reverse, Bool, true, false, ◌&&◌, ◌||◌, Option, Some, None}
 use Rattle.std.specs.List.{list_any, range_with_len}
 use Rattle.ir_types.specs.Terms.{TypeTerm, Index, AttrTerm, IntegerOf}
 use Rattle.ir_tree.specs.declared.value.Value.{Value}
@@ -10,7 +10,7 @@ use Rattle.ir_tree.specs.Tree.{op, RegionsOf, no_regions, region, RegionOf, empt
 use Rattle.ir_tree.specs.Meaning.{Operation}
 use Rattle.ir_tree_laws.specs.Values.{arguments_at}
 use Rattle.rewriter_machine.specs.Contents.{Edit}
-use Rattle.rewriter_machine.specs.Edits.{Make, Erase, SetOperand}
+use Rattle.rewriter_machine.specs.Edits.{Make, Erase, Move, SetOperand}
 use Rattle.patterns_laws.specs.Made.{i64, bridge, placeholder}
 use Rattle.patterns_laws.specs.Keeps.{given, lowered_type}
 use Rattle.patterns_laws.specs.Words.{named, among, index_users}
@@ -87,6 +87,21 @@ end_of x r = record { parent = x; region = r; before = None }
 abbrev pub before_in : ℕ → ℕ → ℕ → Place
 before_in x r y = record { parent = x; region = r; before = Some y }
 
+-- the place in front of operation y, which stands at a place
+abbrev pub beside : Place → ℕ → Place
+beside front y = record { parent = front.parent; region = front.region; before = Some y }
+
+-- operations come into block r of operation y, each in front of the one named before it, the first of them in front of z
+abbrev pub gathering : ℕ → ℕ → ℕ → List ℕ → List Edit
+gathering y r z [] = []
+gathering y r z (x ∷ xs) = Move x (before_in y r z) ∷ gathering y r x xs
+
+-- all operations of a block, the last of them too, come into block r of operation y, which stands at a place: first, in
+-- order, in front of y, and then, the last of them first, into the block. So each one sees its operands and is seen by
+-- its users wherever it stands meanwhile, as it wouldn't be where they came from the one block into the other
+abbrev pub brought : Place → ℕ → ℕ → List ℕ → ℕ → List Edit
+brought front y r ops last = moving (beside front y) ops ++ Move last (beside front y) ∷ Move last (end_of y r) ∷ gathering y r last (reverse ops)
+
 module _ (t : Operation) (n : ℕ) (front : Place) (o : Operation) where
   abbrev h : Header
   h = head o
@@ -127,9 +142,9 @@ module _ (t : Operation) (n : ℕ) (front : Place) (o : Operation) where
   take_over y r c e olds news =
       bridges i64 (before_in y r e.last.id) index_results (map (replaced olds news) e.last.operands) ++ crossing e.last.id 0 c index_results
 
-  -- all operations of block r, the last of them too, moved there
+  -- all operations of block r, the last of them too, brought there
   abbrev pub move_over : ℕ → ℕ → Ended → List Edit
-  move_over y r e = moving (end_of y r) (e.before ++ e.last.id ∷ [])
+  move_over y r e = brought front y r e.before e.last.id
 
   -- a loop: casts of its operands, placeholders for its arguments, the loop, casts of its arguments, casts of what it
   -- hands on, casts of its results

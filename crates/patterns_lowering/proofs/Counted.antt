@@ -1,5 +1,5 @@
 -- How many operations are made by the edits of lowerings.
-use Rattle.std.proofs.Common.{◌≡◌, refl, ap, sym, ◌∙◌, ℕ, ◌+◌, ◌*◌, List, [], ◌∷◌, ◌++◌, length, map, Bool, true, false, arith}
+use Rattle.std.proofs.Common.{◌≡◌, refl, ap, sym, ◌∙◌, ℕ, ◌+◌, ◌*◌, List, [], ◌∷◌, ◌++◌, length, map, reverse, Bool, true, false, arith}
 use Rattle.std.specs.List.{range_with_len}
 use Rattle.std.proofs.lemmas.List.{length-map}
 use Rattle.ir_types.specs.Things.{Things}
@@ -10,10 +10,10 @@ use Rattle.ir_tree.specs.declared.place.Place.{Place}
 use Rattle.ir_tree.specs.Tree.{Op, op, head}
 use Rattle.ir_tree.specs.Meaning.{Operation, meaning}
 use Rattle.patterns_edits.specs.Contents.{Edit}
-use Rattle.patterns_edits.specs.Edits.{Make, Erase}
+use Rattle.patterns_edits.specs.Edits.{Make, Erase, Move}
 use Rattle.patterns_base.specs.Made.{i64, placeholder}
 use Rattle.patterns_base.specs.Makes.{results_from, arguments_from, replacing, replaced, moving, erasing, made_by}
-use Rattle.patterns_base.specs.Lowering.{bridges, crossed, crossing, marked, end_of, before_in}
+use Rattle.patterns_base.specs.Lowering.{before_in, beside, bridges, brought, crossed, crossing, end_of, gathering, marked}
 use Rattle.patterns_lowering.specs.declared.plan.Taken.{Taken}
 use Rattle.patterns_lowering.specs.declared.plan.Indexed.{Indexed}
 use Rattle.patterns_lowering.specs.declared.plan.Lowering.{Lowering}
@@ -44,6 +44,10 @@ replacing_makes (v ∷ vs) (w ∷ ws) = omega (arith, replacing_makes vs ws)
 moving_makes : (place : Place) (xs : List ℕ) → made_by (moving place xs) ≡ 0
 moving_makes place [] = refl
 moving_makes place (x ∷ xs) = (let e = moving_makes place xs in omega (arith, e))
+
+gathering_makes : (y r z : ℕ) (xs : List ℕ) → made_by (gathering y r z xs) ≡ 0
+gathering_makes y r z [] = refl
+gathering_makes y r z (x ∷ xs) = (let e = gathering_makes y r x xs in omega (arith, e))
 
 erasing_makes : (xs : List ℕ) → made_by (erasing xs) ≡ 0
 erasing_makes [] = refl
@@ -81,7 +85,9 @@ module _ (n : ℕ) (front : Place) (operands results : List Bool) (o : Operation
       both_make (bridges i64 (before_in y r last) results vs) (crossing last 0 c results) _ _ (bridges_make i64 (before_in y r last) results vs h) (crossing_makes last 0 c results) ∙ omega arith
 
   moved_makes : (y r : ℕ) (b : Taken) → made_by (moved_over n front operands results o y r b) ≡ 0
-  moved_makes y r b = moving_makes (end_of y r) (b.before.items ++ b.last ∷ [])
+  moved_makes y r b =
+      both_make (moving (beside front y) b.before.items) (Move b.last (beside front y) ∷ Move b.last (end_of y r) ∷ gathering y r b.last (reverse b.before.items)) 0 0 (moving_makes (beside front y) b.before.items)
+      (gathering_makes y r b.last (reverse b.before.items))
 
   operation_makes : length operands ≡ length (head o).operands → made_by (operation_lowered n front operands results o) ≡ marked operands + 1 + marked results
   operation_makes h =

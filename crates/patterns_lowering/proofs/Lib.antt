@@ -3,6 +3,7 @@ pub mod Joined
 pub mod Typed
 pub mod Meant
 pub mod Fitting
+pub mod Gathered
 pub mod Interning
 pub mod Read
 pub mod Reached

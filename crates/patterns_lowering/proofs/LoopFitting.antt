@@ -1,5 +1,5 @@
 -- The edits of loops and choices fit a context.
-use Rattle.std.proofs.Common.{◌≡◌, refl, ℕ, ◌+◌, List, [], ◌∷◌, ◌++◌, length, Bool, true, false}
+use Rattle.std.proofs.Common.{◌≡◌, refl, ℕ, ◌+◌, List, [], ◌∷◌, ◌++◌, length, reverse, Bool, true, false}
 use Rattle.std.specs.List.{list_all}
 use Rattle.std.proofs.lemmas.Bool.{ltb-true}
 use Rattle.ir_types.specs.Things.{Things, IsType}
@@ -10,7 +10,7 @@ use Rattle.ir_tree.specs.Tree.{Op, head, regions}
 use Rattle.ir_tree.specs.Meaning.{IsSoundIn, is_type}
 use Rattle.ir_tree.proofs.Agreeing.{both}
 use Rattle.patterns_base.specs.Makes.{arguments_from}
-use Rattle.patterns_base.specs.Lowering.{crossed, end_of, before_in, marked}
+use Rattle.patterns_base.specs.Lowering.{before_in, beside, crossed, end_of, marked}
 use Rattle.patterns_edits.specs.declared.edit.Edit.{Edit}
 use Rattle.patterns_edits.specs.declared.edit.Edit.TheVariants.{Make, Move}
 use Rattle.patterns_edits.specs.Lists.{AllFit}
@@ -18,7 +18,7 @@ use Rattle.patterns_lowering.specs.declared.plan.Taken.{Taken}
 use Rattle.patterns_lowering.specs.declared.plan.IndexedLoop.{IndexedLoop}
 use Rattle.patterns_lowering.specs.declared.plan.IndexedChoice.{IndexedChoice}
 use Rattle.patterns_lowering.specs.Lowered.{AreLowered, AreTypes}
-use Rattle.patterns_lowering.specs.Numbers.{bridge_edits, replace_edits, op_lowered, give_edits, numbers_from, first_results, holder_edits, move_edits, erase_edits, over_edits, crossing_edits, handed_edits, loop_ids, front_edits, inside_edits, behind_edits, loop_edits, side_edits, choice_edits}
+use Rattle.patterns_lowering.specs.Numbers.{bridge_edits, replace_edits, op_lowered, give_edits, numbers_from, first_results, holder_edits, move_edits, erase_edits, gather_edits, over_edits, crossing_edits, handed_edits, loop_ids, front_edits, inside_edits, behind_edits, loop_edits, side_edits, choice_edits}
 use Rattle.patterns_lowering.specs.Plans.{IsIndexedLoop, IsIndexedChoice}
 use Rattle.patterns_lowering.proofs.Joined.{fit_more}
 use Rattle.patterns_lowering.proofs.Fitting.{bridges_fit, cast_sound, give_fits, op_sound, regions_held, replaces_fit}
@@ -40,8 +40,14 @@ crossings_fit c x k n [] = tt
 crossings_fit c x k n (true ∷ ms) = (tt, crossings_fit c x (k + 1) (n + 1) ms)
 crossings_fit c x k n (false ∷ ms) = crossings_fit c x (k + 1) n ms
 
-over_fits : (c : Things) (y r : ℕ) (b : Taken) → AllFit c (over_edits y r b)
-over_fits c y r b = fit_more c (move_edits (end_of y r) b.before.items) (Move b.last (end_of y r) ∷ []) (moves_fit c (end_of y r) b.before.items) (tt, tt)
+gathers_fit : (c : Things) (y r z : ℕ) (xs : List ℕ) → AllFit c (gather_edits y r z xs)
+gathers_fit c y r z [] = tt
+gathers_fit c y r z (x ∷ xs) = (tt, gathers_fit c y r x xs)
+
+over_fits : (c : Things) (front : Place) (y r : ℕ) (b : Taken) → AllFit c (over_edits front y r b)
+over_fits c front y r b =
+    fit_more c (move_edits (beside front y) b.before.items) (Move b.last (beside front y) ∷ Move b.last (end_of y r) ∷ gather_edits y r b.last (reverse b.before.items)) (moves_fit c (beside front y) b.before.items)
+    (tt, (tt, gathers_fit c y r b.last (reverse b.before.items)))
 
 handed_fits : (c : Things) (wide : ℕ) (place : Place) (n last : ℕ) (ms : List Bool) (vs : List Value) → Holds c → IsType c wide → AllFit c (handed_edits wide place n last ms vs)
 handed_fits c wide place n last ms vs h k = fit_more c (bridge_edits wide place ms vs) (crossing_edits last 0 n ms) (bridges_fit c wide place ms vs h k) (crossings_fit c last 0 n ms)
@@ -62,25 +68,25 @@ loop_fits c wide index fs n front l h types ps p =
     let arguments = arguments_from ids.op 0 args in
     let news = crossed ids.arguments l.index_arguments.items arguments in
     let o = l.of.op in
-    fit_more c (front_edits c wide fs n front holders l ++ inside_edits index ids.op holder_ids holders arguments news l) (behind_edits wide index front ids news l)
-    (fit_more c (front_edits c wide fs n front holders l) (inside_edits index ids.op holder_ids holders arguments news l)
+    fit_more c (front_edits c wide fs n front holders l ++ inside_edits index front ids.op holder_ids holders arguments news l) (behind_edits wide index front ids news l)
+    (fit_more c (front_edits c wide fs n front holders l) (inside_edits index front ids.op holder_ids holders arguments news l)
     (four_fit c (bridge_edits wide front l.of.index_operands.items (head o).operands) (holder_edits front args) (replace_edits (arguments_from (head o).id 0 args) holders) (Make front (op_lowered c wide fs (crossed n l.of.index_operands.items (head o).operands) o) ∷ [])
     (bridges_fit c wide front l.of.index_operands.items (head o).operands h types.wide_known)
     (holders_fit c front args h p.known)
     (replaces_fit c (arguments_from (head o).id 0 args) holders)
     (made_fits c wide fs front (crossed n l.of.index_operands.items (head o).operands) o types.wide_known ps p.of.sound))
-    (four_fit c (bridge_edits index (end_of ids.op 0) l.index_arguments.items arguments) (over_edits ids.op 0 l.body) (replace_edits holders news) (erase_edits holder_ids)
+    (four_fit c (bridge_edits index (end_of ids.op 0) l.index_arguments.items arguments) (over_edits front ids.op 0 l.body) (replace_edits holders news) (erase_edits holder_ids)
     (bridges_fit c index (end_of ids.op 0) l.index_arguments.items arguments h types.index_known)
-    (over_fits c ids.op 0 l.body)
+    (over_fits c front ids.op 0 l.body)
     (replaces_fit c holders news)
     (erases_fit c holder_ids)))
     (fit_more c _ (give_edits index front l.of.index_results.items o ids.op ids.results)
     (handed_fits c wide (before_in ids.op 0 l.body.last) ids.handed l.body.last l.of.index_results.items _ h types.wide_known)
     (give_fits c index front l.of.index_results.items o ids.op ids.results h types.index_known))
 
-side_fits : (c : Things) (wide y r k : ℕ) (ms : List Bool) (b : Taken) → Holds c → IsType c wide → AllFit c (side_edits wide y r k ms b)
-side_fits c wide y r k ms b h t =
-    fit_more c (over_edits y r b) (handed_edits wide (before_in y r b.last) k b.last ms b.handed.items) (over_fits c y r b) (handed_fits c wide (before_in y r b.last) k b.last ms b.handed.items h t)
+side_fits : (c : Things) (wide : ℕ) (front : Place) (y r k : ℕ) (ms : List Bool) (b : Taken) → Holds c → IsType c wide → AllFit c (side_edits wide front y r k ms b)
+side_fits c wide front y r k ms b h t =
+    fit_more c (over_edits front y r b) (handed_edits wide (before_in y r b.last) k b.last ms b.handed.items) (over_fits c front y r b) (handed_fits c wide (before_in y r b.last) k b.last ms b.handed.items h t)
 
 pub choice_fits : (c : Things) (wide index : ℕ) (fs : List (ℕ × ℕ)) (n : ℕ) (front : Place) (d : IndexedChoice)
     → Holds c → AreTypes c wide index → AreLowered c (head d.of.op).properties fs → IsIndexedChoice c d → AllFit c (choice_edits c wide index fs n front d)
@@ -88,9 +94,9 @@ choice_fits c wide index fs n front d h types ps p =
     let o = d.of.op in
     let results = d.of.index_results.items in
     let y = n + marked d.of.index_operands.items in
-    four_fit c (Make front (op_lowered c wide fs (crossed n d.of.index_operands.items (head o).operands) o) ∷ []) (side_edits wide y 0 (y + 1) results d.first) (side_edits wide y 1 (y + 1 + marked results) results d.second)
+    four_fit c (Make front (op_lowered c wide fs (crossed n d.of.index_operands.items (head o).operands) o) ∷ []) (side_edits wide front y 0 (y + 1) results d.first) (side_edits wide front y 1 (y + 1 + marked results) results d.second)
     (give_edits index front results o y (y + 1 + marked results + marked results))
     (made_fits c wide fs front (crossed n d.of.index_operands.items (head o).operands) o types.wide_known ps p.of.sound)
-    (side_fits c wide y 0 (y + 1) results d.first h types.wide_known)
-    (side_fits c wide y 1 (y + 1 + marked results) results d.second h types.wide_known)
+    (side_fits c wide front y 0 (y + 1) results d.first h types.wide_known)
+    (side_fits c wide front y 1 (y + 1 + marked results) results d.second h types.wide_known)
     (give_fits c index front results o y (y + 1 + marked results + marked results) h types.index_known)

@@ -1,7 +1,7 @@
 -- What the edits of loops and choices stand for.
-use Rattle.std.proofs.Common.{◌≡◌, refl, ap, sym, ◌∙◌, ℕ, ◌+◌, List, [], ◌∷◌, ◌++◌, length, map, Bool, true, false, append_assoc, arith}
+use Rattle.std.proofs.Common.{◌≡◌, refl, ap, sym, ◌∙◌, ℕ, ◌+◌, List, [], ◌∷◌, ◌++◌, length, map, reverse, Bool, true, false, append_assoc, arith}
 use Rattle.std.specs.List.{range_with_len}
-use Rattle.std.proofs.lemmas.List.{length-map, map-append}
+use Rattle.std.proofs.lemmas.List.{length-map}
 use Rattle.ir_types.specs.Things.{Things}
 use Rattle.ir_types.specs.Sound.{IsSound}
 use Rattle.ir_types.specs.Terms.{TypeTerm, Index, type_term}
@@ -18,14 +18,14 @@ use Rattle.patterns_edits.specs.declared.edit.Edit.TheVariants as coded
 use Rattle.patterns_edits.specs.Lists.{edits_meaning}
 use Rattle.patterns_base.specs.Made.{i64, placeholder}
 use Rattle.patterns_base.specs.Makes.{arguments_from, replacing, replaced, moving, erasing}
-use Rattle.patterns_base.specs.Lowering.{bridges, crossed, crossing, marked, lowered_op, end_of, before_in}
+use Rattle.patterns_base.specs.Lowering.{before_in, beside, bridges, brought, crossed, crossing, end_of, gathering, lowered_op, marked}
 use Rattle.patterns_regions.specs.Opened.{put_for}
 use Rattle.patterns_lowering.specs.declared.plan.Taken.{Taken}
 use Rattle.patterns_lowering.specs.declared.plan.IndexedLoop.{IndexedLoop}
 use Rattle.patterns_lowering.specs.declared.plan.IndexedChoice.{IndexedChoice}
 use Rattle.patterns_lowering.specs.declared.plan.Lowering.TheVariants as plan
 use Rattle.patterns_lowering.specs.Lowered.{AreLowered, AreTypes}
-use Rattle.patterns_lowering.specs.Numbers.{bridge_edits, replace_edits, op_lowered, give_edits, numbers_from, first_results, holder_edits, move_edits, erase_edits, over_edits, crossing_edits, handed_edits, loop_ids, front_edits, inside_edits, behind_edits, loop_edits, side_edits, choice_edits}
+use Rattle.patterns_lowering.specs.Numbers.{bridge_edits, replace_edits, op_lowered, give_edits, numbers_from, first_results, holder_edits, move_edits, erase_edits, gather_edits, over_edits, crossing_edits, handed_edits, loop_ids, front_edits, inside_edits, behind_edits, loop_edits, side_edits, choice_edits}
 use Rattle.patterns_lowering.specs.Meanings.{results_given, loop_lowered, choice_lowered, lowering_meaning}
 use Rattle.patterns_lowering.proofs.Joined.{edits_more}
 use Rattle.patterns_lowering.proofs.Meant.{bridges_meant, replaces_meant, op_meant, give_meant}
@@ -41,11 +41,14 @@ module _ (c : Things) where
   moves_meant place [] = refl
   moves_meant place (x ∷ xs) = ap (λ l. edit.Move x place ∷ l) (moves_meant place xs)
 
-  over_meant : (y r : ℕ) (b : Taken) → edits_meaning c (over_edits y r b) ≡ moving (end_of y r) (b.before.items ++ b.last ∷ [])
-  over_meant y r b =
-      edits_more c (move_edits (end_of y r) b.before.items) (coded.Move b.last (end_of y r) ∷ [])
-      ∙ ap (λ l. l ++ edit.Move b.last (end_of y r) ∷ []) (moves_meant (end_of y r) b.before.items)
-      ∙ sym (map-append (λ (x : ℕ). edit.Move x (end_of y r)) b.before.items (b.last ∷ []))
+  gathers_meant : (y r z : ℕ) (xs : List ℕ) → edits_meaning c (gather_edits y r z xs) ≡ gathering y r z xs
+  gathers_meant y r z [] = refl
+  gathers_meant y r z (x ∷ xs) = ap (λ l. edit.Move x (before_in y r z) ∷ l) (gathers_meant y r x xs)
+
+  over_meant : (front : Place) (y r : ℕ) (b : Taken) → edits_meaning c (over_edits front y r b) ≡ brought front y r b.before.items b.last
+  over_meant front y r b =
+      edits_more c (move_edits (beside front y) b.before.items) (coded.Move b.last (beside front y) ∷ coded.Move b.last (end_of y r) ∷ gather_edits y r b.last (reverse b.before.items))
+      ∙ (λ i. moves_meant (beside front y) b.before.items i ++ edit.Move b.last (beside front y) ∷ edit.Move b.last (end_of y r) ∷ gathers_meant y r b.last (reverse b.before.items) i)
 
   erases_meant : (xs : List ℕ) → edits_meaning c (erase_edits xs) ≡ erasing xs
   erases_meant [] = refl
@@ -108,7 +111,7 @@ module _ (n : ℕ) (front : Place) (operands results : List Bool) (o : Op) (c : 
       ++ replacing olds holders
       ++ edit.Make front (lowered_op (meaning c o) (crossed n operands (head o).operands)) ∷ []
       ++ bridges Index (end_of y 0) marks arguments
-      ++ moving (end_of y 0) (b.before.items ++ b.last ∷ [])
+      ++ brought front y 0 b.before.items b.last
       ++ replacing holders news
       ++ erasing holder_ids
       ++ (bridges i64 (before_in y 0 b.last) results (map (replaced olds news) handed_values) ++ crossing b.last 0 yields_id results)
@@ -151,12 +154,12 @@ module _ (c : Things) (wide index : ℕ) (fs : List (ℕ × ℕ)) (n : ℕ) (fro
         ++ replaces_meant c (arguments_from (head l.of.op).id 0 l.arguments.items) holders i
         ++ edit.Make front (op_meant c wide fs (crossed n operands (head l.of.op).operands) l.of.op types.wide_is ps i) ∷ [])
 
-    inside_meant : (y : ℕ) (ids : List ℕ) (holders arguments news : List Value) → edits_meaning c (inside_edits index y ids holders arguments news l)
-        ≡ bridges Index (end_of y 0) l.index_arguments.items arguments ++ moving (end_of y 0) (l.body.before.items ++ l.body.last ∷ []) ++ replacing holders news ++ erasing ids
+    inside_meant : (y : ℕ) (ids : List ℕ) (holders arguments news : List Value) → edits_meaning c (inside_edits index front y ids holders arguments news l)
+        ≡ bridges Index (end_of y 0) l.index_arguments.items arguments ++ brought front y 0 l.body.before.items l.body.last ++ replacing holders news ++ erasing ids
     inside_meant y ids holders arguments news =
-        four_meant c (bridge_edits index (end_of y 0) l.index_arguments.items arguments) (over_edits y 0 l.body) (replace_edits holders news) (erase_edits ids)
+        four_meant c (bridge_edits index (end_of y 0) l.index_arguments.items arguments) (over_edits front y 0 l.body) (replace_edits holders news) (erase_edits ids)
         ∙ (λ i. bridges_meant c sound index Index (end_of y 0) l.index_arguments.items arguments types.index_is i
-        ++ over_meant c y 0 l.body i
+        ++ over_meant c front y 0 l.body i
         ++ replaces_meant c holders news i
         ++ erases_meant c ids i)
 
@@ -182,7 +185,7 @@ module _ (c : Things) (wide index : ℕ) (fs : List (ℕ × ℕ)) (n : ℕ) (fro
         let x = (head l.of.op).id in
         bridges i64 front operands (head l.of.op).operands ++ map (λ (ty : TypeTerm). edit.Make front (placeholder ty)) (map (type_term c) args) ++ replacing (arguments_from x 0 args) holders
         ++ edit.Make front (lowered_op (meaning c l.of.op) (crossed n operands (head l.of.op).operands)) ∷ []
-        ++ bridges Index (end_of ids.op 0) l.index_arguments.items arguments ++ moving (end_of ids.op 0) (l.body.before.items ++ l.body.last ∷ []) ++ replacing holders news ++ erasing holder_ids
+        ++ bridges Index (end_of ids.op 0) l.index_arguments.items arguments ++ brought front ids.op 0 l.body.before.items l.body.last ++ replacing holders news ++ erasing holder_ids
         ++ (bridges i64 (before_in ids.op 0 l.body.last) results (map (replaced (arguments_from x 0 args) news) l.body.handed.items) ++ crossing l.body.last 0 ids.handed results)
         ++ results_given n front operands results (meaning c l.of.op) ids.op ids.results
 
@@ -197,14 +200,14 @@ module _ (c : Things) (wide index : ℕ) (fs : List (ℕ × ℕ)) (n : ℕ) (fro
         let x = (head l.of.op).id in
         let many_news = crossed_count ids.arguments l.index_arguments.items arguments (many ∙ sym (arguments_count ids.op 0 args)) ∙ arguments_count ids.op 0 args in
         let a = front_edits c wide fs n front holders l in
-        let b = inside_edits index ids.op holder_ids holders arguments news l in
+        let b = inside_edits index front ids.op holder_ids holders arguments news l in
         let d = behind_edits wide index front ids news l in
         edits_more c (a ++ b) d
         ∙ (λ i. edits_more c a b i ++ edits_meaning c d)
         ∙ (λ i. front_meant holders i ++ inside_meant ids.op holder_ids holders arguments news i ++ behind_meant ids.op ids.handed ids.results (put_is x args news many_news l.body.handed.items i) i)
         ∙ regrouped (bridges i64 front operands (head l.of.op).operands) (map (λ (ty : TypeTerm). edit.Make front (placeholder ty)) (map (type_term c) args)) (replacing (arguments_from x 0 args) holders)
         (edit.Make front (lowered_op (meaning c l.of.op) (crossed n operands (head l.of.op).operands)) ∷ [])
-        (bridges Index (end_of ids.op 0) l.index_arguments.items arguments) (moving (end_of ids.op 0) (l.body.before.items ++ l.body.last ∷ [])) (replacing holders news) (erasing holder_ids)
+        (bridges Index (end_of ids.op 0) l.index_arguments.items arguments) (brought front ids.op 0 l.body.before.items l.body.last) (replacing holders news) (erasing holder_ids)
         (bridges i64 (before_in ids.op 0 l.body.last) results (map (replaced (arguments_from x 0 args) news) l.body.handed.items) ++ crossing l.body.last 0 ids.handed results)
         (results_given n front operands results (meaning c l.of.op) ids.op ids.results)
         ∙ again
@@ -222,11 +225,11 @@ module _ (c : Things) (wide index : ℕ) (fs : List (ℕ × ℕ)) (n : ℕ) (fro
     abbrev results_of : List Bool
     results_of = d.of.index_results.items
 
-    side_meant : (y r k : ℕ) (b : Taken) → edits_meaning c (side_edits wide y r k results_of b)
-        ≡ moving (end_of y r) (b.before.items ++ b.last ∷ []) ++ (bridges i64 (before_in y r b.last) results_of b.handed.items ++ crossing b.last 0 k results_of)
+    side_meant : (y r k : ℕ) (b : Taken) → edits_meaning c (side_edits wide front y r k results_of b)
+        ≡ brought front y r b.before.items b.last ++ (bridges i64 (before_in y r b.last) results_of b.handed.items ++ crossing b.last 0 k results_of)
     side_meant y r k b =
-        edits_more c (over_edits y r b) (handed_edits wide (before_in y r b.last) k b.last results_of b.handed.items)
-        ∙ (λ i. over_meant c y r b i ++ handed_meant c sound wide (before_in y r b.last) k b.last results_of b.handed.items types.wide_is i)
+        edits_more c (over_edits front y r b) (handed_edits wide (before_in y r b.last) k b.last results_of b.handed.items)
+        ∙ (λ i. over_meant c front y r b i ++ handed_meant c sound wide (before_in y r b.last) k b.last results_of b.handed.items types.wide_is i)
 
     sides_apart : (m p q r s g : List Edit) → m ++ (p ++ q) ++ (r ++ s) ++ g ≡ m ++ p ++ q ++ r ++ s ++ g
     sides_apart m p q r s g = simp append_assoc
@@ -236,8 +239,8 @@ module _ (c : Things) (wide index : ℕ) (fs : List (ℕ × ℕ)) (n : ℕ) (fro
         let o = d.of.op in
         let y = n + marked operands_of in
         let m = coded.Make front (op_lowered c wide fs (crossed n operands_of (head o).operands) o) ∷ [] in
-        let p = side_edits wide y 0 (y + 1) results_of d.first in
-        let q = side_edits wide y 1 (y + 1 + marked results_of) results_of d.second in
+        let p = side_edits wide front y 0 (y + 1) results_of d.first in
+        let q = side_edits wide front y 1 (y + 1 + marked results_of) results_of d.second in
         let last = y + 1 + marked results_of + marked results_of in
         let g = give_edits index front results_of o y last in
         four_meant c m p q g
@@ -246,16 +249,16 @@ module _ (c : Things) (wide index : ℕ) (fs : List (ℕ × ℕ)) (n : ℕ) (fro
         ++ side_meant y 1 (y + 1 + marked results_of) d.second i
         ++ give_meant c index front n operands_of results_of o y last sound types.index_is i)
         ∙ sides_apart (edit.Make front (lowered_op (meaning c o) (crossed n operands_of (head o).operands)) ∷ [])
-        (moving (end_of y 0) (d.first.before.items ++ d.first.last ∷ [])) (bridges i64 (before_in y 0 d.first.last) results_of d.first.handed.items ++ crossing d.first.last 0 (y + 1) results_of)
-        (moving (end_of y 1) (d.second.before.items ++ d.second.last ∷ [])) (bridges i64 (before_in y 1 d.second.last) results_of d.second.handed.items ++ crossing d.second.last 0 (y + 1 + marked results_of) results_of)
+        (brought front y 0 d.first.before.items d.first.last) (bridges i64 (before_in y 0 d.first.last) results_of d.first.handed.items ++ crossing d.first.last 0 (y + 1) results_of)
+        (brought front y 1 d.second.before.items d.second.last) (bridges i64 (before_in y 1 d.second.last) results_of d.second.handed.items ++ crossing d.second.last 0 (y + 1 + marked results_of) results_of)
         (results_given n front operands_of results_of (meaning c o) y last)
         ∙ again o
       where
         again : (o : Op)
             → edit.Make front (lowered_op (meaning c o) (crossed n operands_of (head o).operands)) ∷ []
-            ++ moving (end_of (n + marked operands_of) 0) (d.first.before.items ++ d.first.last ∷ [])
+            ++ brought front (n + marked operands_of) 0 d.first.before.items d.first.last
             ++ (bridges i64 (before_in (n + marked operands_of) 0 d.first.last) results_of d.first.handed.items ++ crossing d.first.last 0 (n + marked operands_of + 1) results_of)
-            ++ moving (end_of (n + marked operands_of) 1) (d.second.before.items ++ d.second.last ∷ [])
+            ++ brought front (n + marked operands_of) 1 d.second.before.items d.second.last
             ++ (bridges i64 (before_in (n + marked operands_of) 1 d.second.last) results_of d.second.handed.items ++ crossing d.second.last 0 (n + marked operands_of + 1 + marked results_of) results_of)
             ++ results_given n front operands_of results_of (meaning c o) (n + marked operands_of) (n + marked operands_of + 1 + marked results_of + marked results_of)
             ≡ choice_lowered n front operands_of results_of (meaning c o) d.first d.second

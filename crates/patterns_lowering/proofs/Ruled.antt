@@ -22,8 +22,8 @@ use Rattle.patterns_base.specs.Keeps.{given}
 use Rattle.patterns_base.specs.Made.{i64, placeholder}
 use Rattle.patterns_base.specs.Words.{among, index_users, named}
 use Rattle.patterns_base.specs.Looks.{Ended, body, is_index_value, when}
-use Rattle.patterns_base.specs.Makes.{arguments_from, replacing, replaced, moving, erasing}
-use Rattle.patterns_base.specs.Lowering.{any, bridges, crossed, crossing, marked, indices, lowered_loop, lowered_if, end_of, before_in, rule_28, rule_29, rule_30}
+use Rattle.patterns_base.specs.Makes.{arguments_from, replacing, replaced, erasing}
+use Rattle.patterns_base.specs.Lowering.{any, bridges, brought, crossed, crossing, marked, indices, lowered_loop, lowered_if, end_of, before_in, rule_28, rule_29, rule_30}
 use Rattle.patterns_regions.specs.Blocks.{Shows, body_at}
 use Rattle.patterns_regions.proofs.Viewed.{block_types}
 use Rattle.patterns_yields.specs.Yields.{IsCleanOf}
@@ -80,7 +80,7 @@ module _ (t : Operation) (n : ℕ) (front : Place) where
       ++ replacing olds holders
       ++ Make front made ∷ []
       ++ bridges Index (end_of y 0) (indices args) arguments
-      ++ moving (end_of y 0) (before ++ last ∷ [])
+      ++ brought front y 0 before last
       ++ replacing holders news
       ++ erasing holder_ids
       ++ (bridges i64 (before_in y 0 last) results (map (replaced olds news) handed) ++ crossing last 0 yields_id results)
@@ -100,9 +100,9 @@ module _ (t : Operation) (n : ℕ) (front : Place) where
       let second_id = first_id + marked results in
       let results_id = second_id + marked results in
       Make front made ∷ []
-      ++ moving (end_of y 0) (before ++ last ∷ [])
+      ++ brought front y 0 before last
       ++ (bridges i64 (before_in y 0 last) results handed ++ crossing last 0 first_id results)
-      ++ moving (end_of y 1) (others ++ end ∷ [])
+      ++ brought front y 1 others end
       ++ (bridges i64 (before_in y 1 end) results given ++ crossing end 0 second_id results)
       ++ results_given n front operands results o y results_id
 

@@ -11,8 +11,8 @@ use Rattle.ir_tree.specs.Meaning.{Operation, meaning}
 use Rattle.patterns_edits.specs.Contents.{Edit}
 use Rattle.patterns_edits.specs.Edits.{Make, Erase}
 use Rattle.patterns_base.specs.Made.{i64, placeholder}
-use Rattle.patterns_base.specs.Makes.{results_from, arguments_from, replacing, replaced, moving, erasing}
-use Rattle.patterns_base.specs.Lowering.{bridges, crossed, crossing, marked, lowered_op, end_of, before_in}
+use Rattle.patterns_base.specs.Makes.{results_from, arguments_from, replacing, replaced, erasing}
+use Rattle.patterns_base.specs.Lowering.{bridges, brought, crossed, crossing, marked, lowered_op, end_of, before_in}
 use Rattle.patterns_lowering.specs.declared.plan.Taken.{Taken}
 use Rattle.patterns_lowering.specs.declared.plan.Lowering.{Lowering}
 use Rattle.patterns_lowering.specs.declared.plan.Lowering.TheVariants as plan
@@ -38,9 +38,9 @@ module _ (n : ℕ) (front : Place) (operands results : List Bool) (o : Operation
   abbrev pub operation_lowered : List Edit
   operation_lowered = bridges i64 front operands (head o).operands ++ operation_made ++ results_given operation_id (operation_id + 1)
 
-  -- the operations of a block come to the end of block r of operation y
+  -- the operations of a block come into block r of operation y
   abbrev pub moved_over : ℕ → ℕ → Taken → List Edit
-  moved_over y r b = moving (end_of y r) (b.before.items ++ b.last ∷ [])
+  moved_over y r b = brought front y r b.before.items b.last
 
   -- some values that the last of them hands on, there, go through casts whose ids begin with c
   abbrev pub handed_on : ℕ → ℕ → ℕ → ℕ → List Value → List Edit

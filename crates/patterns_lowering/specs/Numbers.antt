@@ -1,5 +1,5 @@
 -- Edits of lowerings, in the numbers of a context.
-use Rattle.std.specs.Prelude.{ℕ, ◌+◌, List, [], ◌∷◌, ◌++◌, map, length, Bool, true, false, if◌then◌else◌}
+use Rattle.std.specs.Prelude.{ℕ, ◌+◌, List, [], ◌∷◌, ◌++◌, map, length, reverse, Bool, true, false, if◌then◌else◌}
 use Rattle.ir_types.specs.Things.{Things}
 use Rattle.ir_types.specs.Terms.{type_term}
 use Rattle.ir_types.specs.declared.word.Word.TheVariants.{BuiltinUnrealizedConversionCast}
@@ -12,7 +12,7 @@ use Rattle.patterns_edits.specs.declared.edit.Edit.{Edit}
 use Rattle.patterns_edits.specs.declared.edit.Edit.TheVariants.{Make, SetOperand, Replace, Move, Erase}
 use Rattle.patterns_base.specs.Looks.{is_index}
 use Rattle.patterns_base.specs.Makes.{arguments_from, results_from}
-use Rattle.patterns_base.specs.Lowering.{before_in, crossed, end_of, marked}
+use Rattle.patterns_base.specs.Lowering.{before_in, beside, crossed, end_of, marked}
 use Rattle.patterns_regions.specs.Opened.{put_for}
 use Rattle.patterns_lowering.specs.declared.plan.Taken.{Taken}
 use Rattle.patterns_lowering.specs.declared.plan.IndexedLoop.{IndexedLoop}
@@ -90,9 +90,14 @@ abbrev pub erase_edits : List ℕ → List Edit
 erase_edits [] = []
 erase_edits (x ∷ xs) = Erase x ∷ erase_edits xs
 
--- the operations of a block come to the end of block r of operation y
-abbrev pub over_edits : ℕ → ℕ → Taken → List Edit
-over_edits y r b = move_edits (end_of y r) b.before.items ++ Move b.last (end_of y r) ∷ []
+-- operations come into block r of operation y, each in front of the one named before it, the first of them in front of z
+abbrev pub gather_edits : ℕ → ℕ → ℕ → List ℕ → List Edit
+gather_edits y r z [] = []
+gather_edits y r z (x ∷ xs) = Move x (before_in y r z) ∷ gather_edits y r x xs
+
+-- the operations of a block come in front of operation y, which stands at a place, and from there into its block r
+abbrev pub over_edits : Place → ℕ → ℕ → Taken → List Edit
+over_edits front y r b = move_edits (beside front y) b.before.items ++ Move b.last (beside front y) ∷ Move b.last (end_of y r) ∷ gather_edits y r b.last (reverse b.before.items)
 
 -- casts, whose ids begin with n, set as operands of x from number k on, where these are marked
 abbrev pub crossing_edits : ℕ → ℕ → ℕ → List Bool → List Edit
@@ -123,10 +128,10 @@ front_edits c wide properties n front holders l =
     ++ Make front (op_lowered c wide properties (crossed n l.of.index_operands.items (head l.of.op).operands) l.of.op) ∷ []
 
 -- what comes in its block: casts of its arguments, the operations, which are given these, and what stood for them goes
-abbrev pub inside_edits : ℕ → ℕ → List ℕ → List Value → List Value → List Value → IndexedLoop → List Edit
-inside_edits index y ids holders arguments news l =
+abbrev pub inside_edits : ℕ → Place → ℕ → List ℕ → List Value → List Value → List Value → IndexedLoop → List Edit
+inside_edits index front y ids holders arguments news l =
     bridge_edits index (end_of y 0) l.index_arguments.items arguments
-    ++ over_edits y 0 l.body
+    ++ over_edits front y 0 l.body
     ++ replace_edits holders news
     ++ erase_edits ids
 
@@ -144,12 +149,12 @@ loop_edits c wide index properties n front l =
     let holders = first_results holder_ids in
     let arguments = arguments_from ids.op 0 l.arguments.items in
     let news = crossed ids.arguments l.index_arguments.items arguments in
-    front_edits c wide properties n front holders l ++ inside_edits index ids.op holder_ids holders arguments news l ++ behind_edits wide index front ids news l
+    front_edits c wide properties n front holders l ++ inside_edits index front ids.op holder_ids holders arguments news l ++ behind_edits wide index front ids news l
 
 -- the operations of a block become those of block r of operation y, and what they hand on goes through casts whose ids
 -- begin with n
-abbrev pub side_edits : ℕ → ℕ → ℕ → ℕ → List Bool → Taken → List Edit
-side_edits wide y r n marks b = over_edits y r b ++ handed_edits wide (before_in y r b.last) n b.last marks b.handed.items
+abbrev pub side_edits : ℕ → Place → ℕ → ℕ → ℕ → List Bool → Taken → List Edit
+side_edits wide front y r n marks b = over_edits front y r b ++ handed_edits wide (before_in y r b.last) n b.last marks b.handed.items
 
 -- the edits of rule 30
 abbrev pub choice_edits : Things → ℕ → ℕ → List (ℕ × ℕ) → ℕ → Place → IndexedChoice → List Edit
@@ -158,6 +163,6 @@ choice_edits c wide index properties n front d =
     let results = d.of.index_results.items in
     let y = n + marked d.of.index_operands.items in
     Make front (op_lowered c wide properties (crossed n d.of.index_operands.items (head o).operands) o) ∷ []
-    ++ side_edits wide y 0 (y + 1) results d.first
-    ++ side_edits wide y 1 (y + 1 + marked results) results d.second
+    ++ side_edits wide front y 0 (y + 1) results d.first
+    ++ side_edits wide front y 1 (y + 1 + marked results) results d.second
     ++ give_edits index front results o y (y + 1 + marked results + marked results)

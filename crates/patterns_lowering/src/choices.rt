@@ -23,6 +23,7 @@ fn push_side(
     alloc: Global,
     edits: &mut Vec<Edit>,
     wide: TypeId,
+    front: &Place,
     op: OpId,
     region: u32,
     first: u32,
@@ -31,9 +32,9 @@ fn push_side(
 ) -> Result<(), AllocError>
     requires few { length marks.now ≤ 256 }
     requires room { first + marked marks.now ≤ most_next }
-    ensures { OnOk result (edits.new.items ≡ edits.old.items ++ side_edits wide op region first marks.now block.now) }
+    ensures { OnOk result (edits.new.items ≡ edits.old.items ++ side_edits wide front.now op region first marks.now block.now) }
 {
-    push_over(edits, op, region, block)?;
+    push_over(edits, front, op, region, block)?;
     let place = Place {
         parent: op,
         region,
@@ -78,8 +79,12 @@ pub(crate) fn choice_edits(
     let op = OpId::new(id);
     let first = id + 1;
     let second = first + marked(marks);
-    push_side(alloc, &mut edits, wide, op, 0, first, marks, &of.first)?;
-    push_side(alloc, &mut edits, wide, op, 1, second, marks, &of.second)?;
+    push_side(
+        alloc, &mut edits, wide, front, op, 0, first, marks, &of.first,
+    )?;
+    push_side(
+        alloc, &mut edits, wide, front, op, 1, second, marks, &of.second,
+    )?;
     let results = second + marked(marks);
     push_given(
         alloc, &mut edits, index, front, marks, &of.of.op, op, results,

@@ -91,6 +91,7 @@ fn push_inside(
     alloc: Global,
     edits: &mut Vec<Edit>,
     index: TypeId,
+    front: &Place,
     op: OpId,
     ids: &[OpId],
     holders: &[Value],
@@ -98,7 +99,7 @@ fn push_inside(
     news: &[Value],
     of: &IndexedLoop,
 ) -> Result<(), AllocError>
-    ensures { OnOk result (edits.new.items ≡ edits.old.items ++ inside_edits index op ids.now holders.now arguments.now news.now of.now) }
+    ensures { OnOk result (edits.new.items ≡ edits.old.items ++ inside_edits index front.now op ids.now holders.now arguments.now news.now of.now) }
 {
     let end = Place {
         parent: op,
@@ -106,7 +107,7 @@ fn push_inside(
         before: None,
     };
     push_bridges(alloc, edits, index, &end, &of.index_arguments, arguments)?;
-    push_over(edits, op, 0, &of.body)?;
+    push_over(edits, front, op, 0, &of.body)?;
     push_replaced(edits, holders, news)?;
     push_erased(edits, ids)
 }
@@ -190,6 +191,7 @@ pub(crate) fn loop_edits(
         alloc,
         &mut edits,
         index,
+        front,
         op,
         &holder_ids,
         &holders,

@@ -1,10 +1,10 @@
 //! The operations of a block are taken over by another one, where what the last of them hands on goes through casts.
-ghost use Rattle.std.specs.Prelude.{◌≡◌, ◌≤◌, ◌+◌, IfOk, OnOk, List, ◌++◌, ◌∷◌, [], length, map, Bool};
+ghost use Rattle.std.specs.Prelude.{◌≡◌, ◌≤◌, ◌+◌, IfOk, OnOk, List, ◌++◌, ◌∷◌, [], length, map, reverse, Bool};
 ghost use Rattle.ir_tree.specs.Limits.{most_next};
 ghost use Rattle.patterns_base.specs.Makes.{arguments_from};
 ghost use Rattle.patterns_base.specs.Lowering.{marked};
 ghost use Rattle.patterns_regions.specs.Opened.{put_for};
-ghost use Rattle.patterns_lowering.specs.Numbers.{crossing_edits, handed_edits, move_edits, over_edits};
+ghost use Rattle.patterns_lowering.specs.Numbers.{crossing_edits, gather_edits, handed_edits, move_edits, over_edits};
 
 use crate::lists::{push_bridges, put};
 use crate::plan::Taken;
@@ -33,28 +33,73 @@ fn push_moved(edits: &mut Vec<Edit>, place: &Place, ops: &[OpId]) -> Result<(), 
     Ok(())
 }
 
-/// The operations of a block come to the end of the block of a region of an operation.
+/// Operations come into the block of a region of an operation, the last of them in front of another one, and each other in
+/// front of the one behind it.
+fn push_gathered(
+    edits: &mut Vec<Edit>,
+    op: OpId,
+    region: u32,
+    behind: OpId,
+    ops: &[OpId],
+) -> Result<(), AllocError>
+    ensures { OnOk result (edits.new.items ≡ edits.old.items ++ gather_edits op region behind (reverse ops.now)) }
+{
+    let mut next = behind;
+    let mut rest = ops;
+    'ops: while let [front @ .., last] = rest {
+        put(
+            edits,
+            Edit::Move {
+                op: *last,
+                place: Place {
+                    parent: op,
+                    region,
+                    before: Some(next),
+                },
+            },
+        )?;
+        next = *last;
+        rest = front;
+    }
+    Ok(())
+}
+
+/// The operations of a block come in front of an operation, which stands at a place, and from there into the block of a
+/// region of it: so each sees its operands, and is seen by its users, wherever it stands meanwhile.
 pub(crate) fn push_over(
     edits: &mut Vec<Edit>,
+    front: &Place,
     op: OpId,
     region: u32,
     block: &Taken,
 ) -> Result<(), AllocError>
-    ensures { OnOk result (edits.new.items ≡ edits.old.items ++ over_edits op region block.now) }
+    ensures { OnOk result (edits.new.items ≡ edits.old.items ++ over_edits front.now op region block.now) }
 {
-    let place = Place {
-        parent: op,
-        region,
-        before: None,
+    let beside = Place {
+        parent: front.parent,
+        region: front.region,
+        before: Some(op),
     };
-    push_moved(edits, &place, &block.before)?;
+    push_moved(edits, &beside, &block.before)?;
     put(
         edits,
         Edit::Move {
             op: block.last,
-            place,
+            place: beside,
         },
-    )
+    )?;
+    put(
+        edits,
+        Edit::Move {
+            op: block.last,
+            place: Place {
+                parent: op,
+                region,
+                before: None,
+            },
+        },
+    )?;
+    push_gathered(edits, op, region, block.last, &block.before)
 }
 
 /// A cast is set as an operand, if that is marked. The next cast's id.
