@@ -144,9 +144,10 @@ class Runs:
 
 def a_text(maker, known, text, kind):
     """A text that is read, or isn't; with a few lines behind it."""
-    text = changed(maker, text).replace(DIVIDER, b"// ----\n")
+    text = changed(maker, text)
     if text and not text.endswith(b"\n"):
         text += b"\n"
+    text = text.replace(DIVIDER, b"// ----\n")
     try:
         runs = Runs(text, known, script.LIMIT, True)
     except rules.Refused as fault:
