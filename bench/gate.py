@@ -1,12 +1,10 @@
 #!/usr/bin/env python3
 """Runs the gate and prints what it took, as the rows of a table of docs/GATE.md.
 
-usage: bench/gate.py [LOG [CRATE..]]   runs `rt ci` at the top of the repository, or for these crates and those below
-                               them, and keeps what it prints in LOG (else gate.log in a temporary folder); then prints
-                               wall and processor time, and for each crate the seconds of processor time of its own
-                               check, its tests and its edits. It ends with the gate's status.
-       bench/gate.py --table LOG.times..       prints the table of earlier runs again, of all of them together: what one
-                               run proved, a later one on that machine keeps
+usage: bench/gate.py [LOG]     runs `rt ci` at the top of the repository and keeps what it prints in LOG (else gate.log in a
+                               temporary folder); then prints wall and processor time, and for each crate the seconds of
+                               processor time of its own check, its tests and its edits. It ends with the gate's status.
+       bench/gate.py --table LOG.times     prints the table of an earlier run again
 
 The gate prints no times of its own, so its processes are looked at twice a second, and each is counted with what it had used
 when it was last seen. Only those that it started are counted, but others beside it make it slower.
@@ -93,19 +91,11 @@ def table(times):
     return rows
 
 
-def together(files):
-    """Returns the processes of several runs."""
-    seen = {}
-    for file in files:
-        with open(file) as it:
-            seen.update((f"{file} {key}", found) for key, found in json.load(it)["seen"].items())
-    return seen
-
-
 def main():
     words = sys.argv[1:]
     if words[:1] == ["--table"]:
-        print("\n".join(table({"seen": together(words[1:])})))
+        with open(words[1]) as it:
+            print("\n".join(table(json.load(it))))
         return 0
     if words and words[0].startswith("-"):
         print(__doc__)
@@ -113,7 +103,7 @@ def main():
     log = words[0] if words else f"{tempfile.mkdtemp(prefix='gate-')}/gate.log"
     seen, began = {}, time.time()
     with open(log, "w") as out:
-        gate = subprocess.Popen(["rt", "ci", *words[1:]], stdout=out, stderr=subprocess.STDOUT)
+        gate = subprocess.Popen(["rt", "ci"], stdout=out, stderr=subprocess.STDOUT)
         while gate.poll() is None:
             look(seen, gate.pid)
             time.sleep(0.5)
