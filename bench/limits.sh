@@ -1,6 +1,6 @@
 #!/bin/sh
-# Reads modules of as many operations as there may be, and of one more, and compares the answers. Run at the top of
-# the repository, after `./run` has built the program:
+# Reads modules of as many operations as there may be, and of one more, and rewrites one of so many, and compares the
+# answers. Run at the top of the repository, after `./run` has built the program:
 #
 #     bench/limits.sh
 set -eu
@@ -14,9 +14,9 @@ operations() {
     yes '"t"():()->()' | head -n "$1" | tr -d '\n'
 }
 
-# Runs the program over the module, with a script or without one, and compares what it prints with the text.
+# Runs the program over the module, with a script where one is given, and compares what it prints with the text.
 answers() {
-    printf '\n// -----\n%s' "${3-}" >>"$work/in"
+    printf '\n// -----\n%s\n' "${3-}" >>"$work/in"
     "$program" --brief <"$work/in" >"$work/out" || true
     if [ "$(cat "$work/out")" = "$2" ]; then
         echo "$1: as it must be"
@@ -47,5 +47,14 @@ answers 'a conversion that makes two of 1,048,576' '1 converted 1' 'convert part
 
 { operations 1048572 && printf '%s' "$maximum"; } >"$work/in"
 answers 'one more, and there is no room for both' '1 refused 31 Full' 'convert partial illegal arith.maxsi rules 25'
+
+# A sum of constants, in three operations, of which canonicalization makes a constant before the sum goes.
+sum='%a="arith.constant"()<{value=1:i8}>:()->i8 %b="arith.addi"(%a,%a):(i8,i8)->i8 "t"(%b):(i8)->()'
+
+{ operations 1048572 && printf '%s' "$sum"; } >"$work/in"
+answers 'a rewrite that would make one more than 1,048,576' '1 refused 31 Full' canon
+
+{ operations 1048571 && printf '%s' "$sum"; } >"$work/in"
+answers 'a rewrite that makes the last of 1,048,576' '1 converged 2' canon
 
 [ "$failed" = 0 ]
