@@ -86,8 +86,8 @@ module _ (n : ℕ) (front : Place) (operands results : List Bool) (o : Operation
 
   moved_makes : (y r : ℕ) (b : Taken) → made_by (moved_over n front operands results o y r b) ≡ 0
   moved_makes y r b =
-      both_make (moving (beside front y) b.before.items) (Move b.last (beside front y) ∷ Move b.last (end_of y r) ∷ gathering y r b.last (reverse b.before.items)) 0 0 (moving_makes (beside front y) b.before.items)
-      (gathering_makes y r b.last (reverse b.before.items))
+      let e = gathering_makes y r b.last (reverse b.before.items) in
+      both_make (moving (beside front y) b.before.items) (Move b.last (beside front y) ∷ Move b.last (end_of y r) ∷ gathering y r b.last (reverse b.before.items)) 0 0 (moving_makes (beside front y) b.before.items) (omega (arith, e))
 
   operation_makes : length operands ≡ length (head o).operands → made_by (operation_lowered n front operands results o) ≡ marked operands + 1 + marked results
   operation_makes h =

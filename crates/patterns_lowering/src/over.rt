@@ -33,24 +33,26 @@ fn push_moved(edits: &mut Vec<Edit>, place: &Place, ops: &[OpId]) -> Result<(), 
     Ok(())
 }
 
-/// Operations come into the block of a region of an operation, the last of them in front of another one, and each other in
-/// front of the one behind it.
+/// The operations of a block but its last one come into the block of a region of an operation, each in front of the one
+/// behind it.
+#[tactic(auto, using(crate::proofs::Gathered::gathered_more, crate::proofs::Gathered::gathered_all))]
 fn push_gathered(
     edits: &mut Vec<Edit>,
     op: OpId,
     region: u32,
-    behind: OpId,
-    ops: &[OpId],
+    block: &Taken,
 ) -> Result<(), AllocError>
-    ensures { OnOk result (edits.new.items ≡ edits.old.items ++ gather_edits op region behind (reverse ops.now)) }
+    ensures { OnOk result (edits.new.items ≡ edits.old.items ++ gather_edits op region block.now.last (reverse block.now.before.items)) }
 {
-    let mut next = behind;
-    let mut rest = ops;
-    'ops: while let [front @ .., last] = rest {
+    let mut next = block.last;
+    let mut left = block.before.len();
+    'ops: while left > 0 {
+        left -= 1;
+        let moved = block.before[left];
         put(
             edits,
             Edit::Move {
-                op: *last,
+                op: moved,
                 place: Place {
                     parent: op,
                     region,
@@ -58,8 +60,7 @@ fn push_gathered(
                 },
             },
         )?;
-        next = *last;
-        rest = front;
+        next = moved;
     }
     Ok(())
 }
@@ -99,7 +100,7 @@ pub(crate) fn push_over(
             },
         },
     )?;
-    push_gathered(edits, op, region, block.last, &block.before)
+    push_gathered(edits, op, region, block)
 }
 
 /// A cast is set as an operand, if that is marked. The next cast's id.
