@@ -17,7 +17,7 @@ from reference.lines import Table, given, told  # noqa: E402
 from reference.module import read, rules, text_of  # noqa: E402
 
 MOST_NEXT = 4294967295
-WRITTEN = range(1, 28)  # (the rules that are tried here)
+WRITTEN = range(1, 31)
 WIDTHS = ["i1", "i8", "i64", "i65", "i128", "index"]
 SWAPPING = "addi muli andi ori xori maxsi maxui minsi minui".split()
 GIVER = '%{0} = "test.d"() : () -> {1}\n'
