@@ -179,7 +179,7 @@ def timed(program, text, them, library, seconds):
 
 
 def run(program, text, library, seconds):
-    """The lines that a run wrote, and what it told of each part: how many lines it had written, and its processor time."""
+    """The lines that a run wrote, and of each part that it wrote how many lines it had come to by then, and its processor time."""
     with tempfile.TemporaryFile() as given, tempfile.TemporaryFile() as taken, tempfile.TemporaryFile() as told:
         given.write(text)
         given.seek(0)
@@ -187,7 +187,10 @@ def run(program, text, library, seconds):
         subprocess.run([program, "--brief"], stdin=given, stdout=taken, stderr=subprocess.DEVNULL, env=env, pass_fds=[told.fileno()], timeout=seconds)
         taken.seek(0)
         told.seek(0)
-        return taken.read().splitlines(), [tuple(int(it) for it in line.split()) for line in told]
+        wrote, parts = taken.read().splitlines(), [tuple(int(it) for it in line.split()) for line in told]
+    # What is told in front of a part is how many lines were written before it; by then it had come to the end of that part.
+    counts = [count for count, _ in parts[1:]] + [len(wrote)]
+    return wrote, list(zip(counts, (at for _, at in parts)))
 
 
 def least(program, shape, groups, library, words):
