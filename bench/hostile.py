@@ -157,7 +157,9 @@ def rewrites(shape):
 
 def timed(program, text, them, library, seconds):
     """Nanoseconds for reading, and for each command; and the first reply of each; none where the run was given up."""
-    lines, spans = list(FILLING), []
+    lines, spans, nothing = list(FILLING), [], 0
+    # The first is what the lines between two commands cost, which is taken off.
+    them = [("nothing", 1, ["x"]), *them]
     for _, _, more in them:
         spans.append((len(lines) + 1, len(lines) + len(more)))
         lines += more + FILLING
@@ -174,7 +176,10 @@ def timed(program, text, them, library, seconds):
         begun = [at for count, at in told if count <= replies[first - 1]][-1]
         ended = [at for count, at in told if count >= replies[last]][0]
         refusals = {wrote[replies[k]].split(b" ", 1)[1].decode() for k in range(first - 1, last)}
-        found.append((word, (ended - begun) / times, ", ".join(sorted(it for it in refusals if not it.startswith("ok")))))
+        if word == "nothing":
+            nothing = ended - begun
+            continue
+        found.append((word, max(ended - begun - nothing, 0) / times, ", ".join(sorted(it for it in refusals if not it.startswith("ok")))))
     return found
 
 
