@@ -31,7 +31,7 @@ DIVIDER = b"// -----\n"
 # Of a hundred cases.
 MIX = {"text": 45, "file": 25, "script": 26, "long": 4}
 KINDS = [kind for kind, part in MIX.items() for _ in range(part)]
-BATCH, MOST_SHOWN = 1000, 3
+BATCH, MOST_SHOWN = 500, 3
 # Words that are put in the place of others, or between them.
 WORDS = """i32 i64 index i1 i129 si8 ui128 memref<?x4xi32> () ({ }) ({}) ({^bb0: }) ^bb1: ^bb0(%a: <{ }> { } ( ) [ ] = : :2 , -> - // /// # % @f @f::@g %0 %1
 %arg0 %0#0 %0#1 %v1.0 %a1.0.0 "test.a" "func.func" "scf.if" "arith.addi" "func.return" "builtin.module" true false unit 0 1 -1 255 0xFF 128
@@ -275,7 +275,7 @@ def main():
             counts, wrong, spent = counts + more, wrong + len(differ), spent + seconds
             for it in differ[:MOST_SHOWN]:
                 show(*it)
-            if place % 20 == 0:
+            if place % 10 == 0:
                 print(f"{total(counts):,} cases, {wrong} differences, {time.time() - began:.0f} s", flush=True)
     here = os.times()
     print(f"{told_counts(counts)}: {wrong or 'no'} difference{'s' * (wrong != 1 and wrong != 0)}; {spent / max(total(counts), 1) * 1e3:.1f} ms a case by the rules, "

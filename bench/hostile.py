@@ -157,7 +157,9 @@ def rewrites(shape):
 
 def timed(program, text, them, library, seconds):
     """Nanoseconds for reading, and for each command; and the first reply of each; none where the run was given up."""
-    lines, spans = list(FILLING), []
+    lines, spans, nothing = list(FILLING), [], 0
+    # The first is what the lines between two commands cost, which is taken off.
+    them = [("nothing", 1, ["x"]), *them]
     for _, _, more in them:
         spans.append((len(lines) + 1, len(lines) + len(more)))
         lines += more + FILLING
@@ -174,12 +176,15 @@ def timed(program, text, them, library, seconds):
         begun = [at for count, at in told if count <= replies[first - 1]][-1]
         ended = [at for count, at in told if count >= replies[last]][0]
         refusals = {wrote[replies[k]].split(b" ", 1)[1].decode() for k in range(first - 1, last)}
-        found.append((word, (ended - begun) / times, ", ".join(sorted(it for it in refusals if not it.startswith("ok")))))
+        if word == "nothing":
+            nothing = ended - begun
+            continue
+        found.append((word, max(ended - begun - nothing, 0) / times, ", ".join(sorted(it for it in refusals if not it.startswith("ok")))))
     return found
 
 
 def run(program, text, library, seconds):
-    """The lines that a run wrote, and what it told of each part: how many lines it had written, and its processor time."""
+    """The lines that a run wrote, and of each part that it wrote how many lines it had come to by then, and its processor time."""
     with tempfile.TemporaryFile() as given, tempfile.TemporaryFile() as taken, tempfile.TemporaryFile() as told:
         given.write(text)
         given.seek(0)
@@ -187,7 +192,10 @@ def run(program, text, library, seconds):
         subprocess.run([program, "--brief"], stdin=given, stdout=taken, stderr=subprocess.DEVNULL, env=env, pass_fds=[told.fileno()], timeout=seconds)
         taken.seek(0)
         told.seek(0)
-        return taken.read().splitlines(), [tuple(int(it) for it in line.split()) for line in told]
+        wrote, parts = taken.read().splitlines(), [tuple(int(it) for it in line.split()) for line in told]
+    # What is told in front of a part is how many lines were written before it; by then it had come to the end of that part.
+    counts = [count for count, _ in parts[1:]] + [len(wrote)]
+    return wrote, list(zip(counts, (at for _, at in parts)))
 
 
 def least(program, shape, groups, library, words):
