@@ -62,7 +62,7 @@ OPENED = [
     'set-attr #1 function_type (i32) -> i64', "report diagnostics", "canon", "resync constants", "resync symbols", "print", *ASKED, "detach dead", "report dead", "begin", "erase #1", "commit"]
 CLOSED = ["rollback", "rollback", "rollback"]
 # What is written by the last rollback, and how many lines have replies that fill what is written at once, without listings and with.
-UNTIL, FILLING = "NoMark", {True: ["x"] * 400, False: ["x"] * 80}
+UNTIL, FILLING = "NoMark", {True: ["x"] * 400, False: ["x"] * 240}
 BEGUN = [f"resync {kind}" for kind in script.BOXES]
 AFTER = ["print", *BEGUN, *ASKED, 'insert end #0 0 "test.z"() : () -> ()']
 
