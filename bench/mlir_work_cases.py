@@ -708,7 +708,7 @@ def analyses(kinds, text, brief=True):
 
 
 print("seeds", analyses_cases.SEED, verifier_cases.SEED, heard_cases.SEED, conversion_cases.SEED)
-for part in (lines, words, cuts, writes, reads, runs, moves, entries, wholes, panels, sweeps, command_lines, examples, over_limits, refused, worked):
+for part in (lines, words, cuts, writes, reads, runs, moves, entries, wholes, panels, sweeps, command_lines, examples, over_limits, refused, worked, failing_ends, byte_limits):
     part()
 analyses_cases.all_cases(analyses)
 conversion_cases.all_cases(analyses)
