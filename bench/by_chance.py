@@ -117,7 +117,7 @@ def asked(maker, known):
     asks = ["print"] + [f"report {kind}" for kind in script.BOXES]
     lines = maker.sample(asks, maker.randrange(1, 4))
     if maker.random() < 0.3:
-        lines += [maker.choice([edits_fuzz.rewriting(maker, "convert" in known), "sweep"]), "print"]
+        lines += [maker.choice([edits_fuzz.rewriting(maker) if "convert" in known else "canon", "sweep"]), "print"]
     return lines
 
 
@@ -232,7 +232,7 @@ def show(number, case, found):
 def part(words, files, numbers):
     """Compares the cases of some numbers: how many of each kind, how many commands, what differs, and the seconds of this process."""
     began, counts, wrong = time.process_time(), collections.Counter(), []
-    known = script.REWRITES - set(words.without.split(","))
+    known = script.ALL - set(words.without.split(","))
     cases = [(number, case_of(number, words.seed, known, files)) for number in numbers]
     cases = [(number, case) for number, case in cases if case is not None]
     lines = of_table(words.program, [case for _, case in cases]) if words.table else None

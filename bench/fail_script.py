@@ -80,7 +80,7 @@ class Look:
 
     def __init__(self, program, gone):
         self.program, self.gone = program, gone
-        self.commands, self.kinds = script.REWRITES - set(gone), script.BOXES
+        self.commands, self.kinds = script.ALL - set(gone), script.BOXES
         self.counts, self.bad, self.rules = collections.defaultdict(collections.Counter), 0, {}
 
     def rules_of(self, module):
