@@ -1,5 +1,4 @@
-//! Types are read from a text, and interned as they are read. What reading is: grammars and readers over
-//! any state, and the laws that join them.
+//! Types are read from a text, and interned as they are read; laws join the reader with the grammar.
 #![tactic(auto)]
 
 pub mod full;

@@ -85,7 +85,7 @@ line_of true x name = []
 line_of false x None = []
 line_of false x (Some name) = (x, name) ∷ []
 
--- those of the private definitions that a test finds reached, in the order of ids
+-- those of the private definitions that a test does not find reached, in the order of ids
 abbrev pub lines_with : {N T A : Type 0} → (ℕ → Bool) → RolesOf N T A → List (ℕ × N)
 lines_with is_reached [] = []
 lines_with is_reached (e ∷ es) = line_of (is_reached e.0) e.0 (private_name e.1) ++ lines_with is_reached es

@@ -46,7 +46,7 @@ use thiserror::Error;
 pub struct Options {
     /// The module and the rows don't follow each command.
     pub brief: bool,
-    /// The most rewrites of a command that rewrites.
+    /// The most rewrites of a `canon` that says no limit.
     pub limit: u32,
 }
 
