@@ -45,7 +45,7 @@ COMMANDS = {
     "./run --brief < crates/mlir_work/stdin": Typed("\n2 ok\n", wants="minutes"),
     "rt try -- --brief < stdin": Typed("\n2 ok\n", wants="minutes", folder="crates/mlir_work"),
     "rt ci": Typed("", wants="an hour"),
-    "rt version": Typed("rattle-kit-13f logic dac8208d650f15bf\n"),
+    "rt version": Typed(" logic dac8208d650f15bf\n"),
     "tools/session.py FILE": Typed('    #0  "builtin.module"', line="tools/session.py module.mlir", given=SESSION),
     "tools/session.py module.mlir": Typed('    #0  "builtin.module"', given=SESSION),
     "tools/session.py examples/fold.mlir": Typed('    #0  "builtin.module"', given=SESSION),

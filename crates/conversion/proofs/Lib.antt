@@ -6,3 +6,4 @@ pub mod Seen
 pub mod Trying
 pub mod Turns
 pub mod Walking
+pub use Rattle.patterns_indexed.proofs.of_rewriter_bench

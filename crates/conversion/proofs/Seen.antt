@@ -13,17 +13,17 @@ use Rattle.ir_tree_laws.proofs.Contents.{map_has_id}
 use Rattle.ir_event.specs.Listener.{Listener}
 use Rattle.ir_event.specs.Modules.{Module, module_in, module_meaning}
 use Rattle.ir_event.specs.declared.world.World.{World}
-use Rattle.rewriter.proofs.Calls.{stepped, unstepped}
-use Rattle.rewriter.proofs.Told.{heard_none}
-use Rattle.rewriter.specs.Machine.{Goes, Nothing, Step}
-use Rattle.rewriter.specs.Wholes.{IsFinished}
+use Rattle.patterns_indexed.proofs.of_rewriter_bench.Calls.{stepped, unstepped}
+use Rattle.patterns_indexed.proofs.of_rewriter_bench.Told.{heard_none}
+use Rattle.patterns_indexed.specs.rewriter_bench.Machine.{Goes, Nothing, Step}
+use Rattle.patterns_indexed.specs.rewriter_bench.Wholes.{IsFinished}
 use Rattle.patterns_indexed.specs.Interned.{IsFull as AddedFull}
 use Rattle.patterns_indexed.specs.Applied.{Applied, Gave, IsReason}
 use Rattle.patterns_indexed.specs.Benched.{Benched, Led, reply_of, state_of}
 use Rattle.patterns_indexed.specs.Held.{Held, module_held, open_marks}
 use Rattle.conversion_base.specs.Lists.{AllFit, edits_meaning}
-use Rattle.patterns_runs.specs.Edit.{Edit as Coded}
-use Rattle.patterns_runs.specs.Runs.{Along}
+use Rattle.patterns_indexed.specs.runs.Edit.{Edit as Coded}
+use Rattle.patterns_indexed.specs.runs.Runs.{Along}
 use Rattle.conversion_base.specs.Makes.{made_by}
 use Rattle.conversion_base.specs.Reconciling.{index_edits, index_rewrite}
 use Rattle.conversion_base.proofs.Collapsing.{one_made}

@@ -6,3 +6,4 @@ pub use Rattle.conversion_base.specs.Legalization
 pub use Rattle.conversion_base.specs.Reconciling
 pub use Rattle.conversion_base.specs.Conversion
 pub use Rattle.conversion_base.specs.Rewrites
+pub use Rattle.patterns_indexed.specs.rewriter_bench

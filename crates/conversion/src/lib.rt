@@ -12,3 +12,4 @@ mod rules;
 mod tried;
 
 pub use conversion_base::{laws, target};
+pub use patterns_indexed::rewriter_bench;

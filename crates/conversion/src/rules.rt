@@ -4,7 +4,7 @@ use crate::rewriting::Rules;
 use ir_event::analysis::Analysis;
 use ir_types::ids::OpId;
 use ir_types::refusal::Refusal;
-use patterns_runs::Bench;
+use patterns_indexed::runs::Bench;
 use std::alloc::Global;
 
 impl<L: Analysis> Rules for Bench<L> {

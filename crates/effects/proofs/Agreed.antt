@@ -14,8 +14,8 @@ use Rattle.ir_event.specs.declared.event.Event.{Event}
 use Rattle.ir_event.specs.declared.event.Event.TheVariants.{Put, Take, SetOperand, SetEntry, Shift}
 use Rattle.ir_event.specs.Modules.{Module, Node, module_in, shown_in}
 use Rattle.ir_event.specs.declared.world.World.{World}
-use Rattle.ir_store.specs.Nodes.{node_of}
-use Rattle.ir_store.specs.Nodes.{Node as Numbered}
+use Rattle.ir_event.specs.store.Nodes.{node_of}
+use Rattle.ir_event.specs.store.Nodes.{Node as Numbered}
 use Rattle.std.specs.FinMap.{get}
 use Rattle.ir_event.specs.Step.{Step}
 use Rattle.ir_types.specs.Words.{is_table}

@@ -12,8 +12,8 @@ use Rattle.ir_tree_laws.specs.Stands.{StepOf, StandOf, stand_id, stands, place_i
 use Rattle.ir_tree_laws.proofs.Around.{member_of_place, place_of_member}
 use Rattle.ir_tree_laws.proofs.Listed.{in_mapped}
 use Rattle.ir_tree_laws.proofs.Members.{same_stand, stand, stand_found}
-use Rattle.ir_store.specs.Nodes.{Node, node_of}
-use Rattle.ir_store.specs.Stored.{Stored}
+use Rattle.ir_event.specs.store.Nodes.{Node, node_of}
+use Rattle.ir_event.specs.store.Stored.{Stored}
 use Rattle.op_registry.specs.declared.own.Own.{Own}
 use Rattle.effects.specs.Spots.{Spot, spots}
 use Rattle.ir_event.specs.Heads.{heads}

@@ -22,7 +22,7 @@ use Rattle.ir_event.specs.declared.event.Event.{Event}
 use Rattle.ir_event.specs.declared.event.Event.TheVariants.{Put, Take, SetOperand, SetEntry, Shift}
 use Rattle.ir_event.specs.Modules.{Module, Node}
 use Rattle.ir_event.specs.Listener.{ShowsTaken, is_take}
-use Rattle.ir_store.specs.Nodes.{node_of}
+use Rattle.ir_event.specs.store.Nodes.{node_of}
 use Rattle.effects.proofs.Agreed.{ShowsAll}
 use Rattle.ir_event.specs.Step.{Step}
 use Rattle.ir_event.specs.Bounds.{op_of}

@@ -11,8 +11,8 @@ use Rattle.ir_tree_laws.proofs.Listed.{both}
 use Rattle.ir_tree_laws.proofs.Members.{found_stands, stand_found}
 use Rattle.ir_tree_laws.proofs.Around.{present_stand}
 use Rattle.ir_tree_laws.proofs.Formed.{from_formed}
-use Rattle.ir_store.specs.Nodes.{Node, node_of, regions_arguments}
-use Rattle.ir_store.specs.Stored.{Stored, known}
+use Rattle.ir_event.specs.store.Nodes.{Node, node_of, regions_arguments}
+use Rattle.ir_event.specs.store.Stored.{Stored, known}
 use Rattle.ir_event.specs.declared.world.World.{World}
 use Rattle.effects.specs.Within.{regions_of}
 

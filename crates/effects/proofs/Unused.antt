@@ -25,7 +25,7 @@ use Rattle.ir_tree_laws.proofs.HeadForm.{used_here, in_gather}
 use Rattle.ir_tree_laws.proofs.Formed.{from_formed}
 use Rattle.ir_tree_laws.proofs.Values.{seen_by}
 use Rattle.ir_tree_laws.proofs.Reverted.{got_below}
-use Rattle.ir_store.specs.Nodes.{Node, node_of}
+use Rattle.ir_event.specs.store.Nodes.{Node, node_of}
 use Rattle.ir_event.specs.declared.world.World.{World}
 use Rattle.ir_event.specs.Heads.{heads, all_operands}
 use Rattle.op_registry.specs.declared.own.Own.{Own}

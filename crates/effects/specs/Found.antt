@@ -2,8 +2,8 @@
 use Rattle.std.specs.Prelude.{ℕ, List, [], ◌∷◌, Option, Some, None, option_map}
 use Rattle.ir_tree.specs.Tree.{Head}
 use Rattle.ir_tree_laws.specs.Reads.{parent_of}
-use Rattle.ir_store.specs.Nodes.{Node, node_of}
-use Rattle.ir_store.specs.Stored.{Stored, known}
+use Rattle.ir_event.specs.store.Nodes.{Node, node_of}
+use Rattle.ir_event.specs.store.Stored.{Stored, known}
 use Rattle.op_registry.specs.declared.own.Own.{Own}
 use Rattle.effects.specs.Spots.{Spot}
 

@@ -2,7 +2,7 @@
 ghost use Rattle.std.specs.Prelude.{◌≡◌, ◌≤◌, IfSome, option_map};
 ghost use Rattle.ir_tree.specs.Tree.{region_count, head};
 ghost use Rattle.ir_tree.specs.Ids.{find};
-ghost use Rattle.ir_store.specs.Nodes.{node_of};
+ghost use Rattle.ir_event.specs.store.Nodes.{node_of};
 ghost use Rattle.ir_event.specs.Modules.{module_in};
 ghost use Rattle.effects.specs.Dead.{dead_at, may_go};
 ghost use Rattle.effects.specs.Effects.{own_by, own_kinds};
@@ -12,8 +12,8 @@ ghost use Rattle.effects.specs.Within.{list_at, regions_of};
 use crate::kinds::{EffectKinds, recursive};
 use crate::own::own;
 use crate::tally::is_kept;
+use ir_event::store::node::Node;
 use ir_event::world::World;
-use ir_store::node::Node;
 use ir_tree::value::Value;
 use ir_types::ids::OpId;
 use op_registry::own::Own;

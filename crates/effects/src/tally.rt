@@ -8,8 +8,8 @@ ghost use Rattle.effects.specs.Found.{head_at, heads_by, with_head};
 ghost use Rattle.effects.specs.Counts.{counts_in, kept_by, Raised, AllEntered};
 
 use crate::counts::{enter, raise_all};
+use ir_event::store::store::Store;
 use ir_event::world::World;
-use ir_store::store::Store;
 use ir_types::context::Context;
 use ir_types::ids::{NameId, OpId};
 use op_registry::definition::Trait;

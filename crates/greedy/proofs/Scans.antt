@@ -15,8 +15,8 @@ use Rattle.patterns_base.specs.Rewrites.{Rewrite, none, refused, becomes, edits_
 use Rattle.patterns_base.specs.Canonicalization.{or_else, first_rule, lowest, first_among, next_rewrite}
 use Rattle.greedy.specs.Outcomes.{Applied, Refuses}
 use Rattle.greedy.specs.Work.{waits, IsWork, Right, CoversBut, StillWaits, Taken, NoneWaits}
-use Rattle.patterns_touched.specs.Sights.{is_listed}
-use Rattle.patterns_touched.specs.Listing.{Touched}
+use Rattle.patterns_listing.specs.touching.Sights.{is_listed}
+use Rattle.patterns_listing.specs.touching.Listing.{Touched}
 use Rattle.patterns_orders.proofs.Order.{first_there, listed_at, listed_more, listed_past}
 
 -- a rewrite that there is

@@ -7,7 +7,7 @@ use Rattle.ir_event.specs.Modules.{Module}
 use Rattle.patterns_base.specs.Rewrites.{none}
 use Rattle.patterns_base.specs.Canonicalization.{lowest}
 use Rattle.patterns_orders.specs.Orders.{Orderly}
-use Rattle.patterns_touched.specs.Sights.{is_listed}
+use Rattle.patterns_listing.specs.touching.Sights.{is_listed}
 
 -- the first of a list, and the one behind the first a in a list
 abbrev pub first_id : List ℕ → Option ℕ

@@ -5,8 +5,8 @@ ghost use Rattle.ir_tree.specs.Ids.{has_id};
 ghost use Rattle.patterns_base.specs.Canonicalization.{next_rewrite};
 ghost use Rattle.greedy.specs.Outcomes.{Applied, ComeTo, IsCanonical, IsReason, Refuses, Stop, Tells};
 ghost use Rattle.greedy.specs.Work.{IsWork, Right, CoversBut, Rewritten, StillWaits, waits};
-ghost use Rattle.patterns_touched.specs.Sights.{is_listed};
-ghost use Rattle.patterns_touched.specs.Listing.{Touched};
+ghost use Rattle.patterns_listing.specs.touching.Sights.{is_listed};
+ghost use Rattle.patterns_listing.specs.touching.Listing.{Touched};
 
 use crate::outcome::Outcome;
 use crate::rewriting::Rewriting;

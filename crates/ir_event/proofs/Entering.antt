@@ -1,20 +1,20 @@
 -- A world in which an entry of a dictionary is set.
 use Rattle.std.proofs.Common.{◌≡◌, refl, ap, sym, ◌∙◌, subst, ℕ, Bool, false, Option, Some, None}
 use Rattle.std.specs.Prelude.{Result, Ok, Err, IfOk, OnOk, OnErr, IfSome, MatchResult, option_map}
-use Rattle.ir_types.specs.declared.refusal.Refusal.{Refusal}
-use Rattle.ir_types.specs.declared.refusal.Refusal.TheVariants.{NoSuchOp}
-use Rattle.ir_types.specs.Reasons.{IsRefusedFor}
-use Rattle.ir_types.specs.Things.{Things, IsName, IsAttr}
-use Rattle.ir_tree.specs.declared.place.Part.{Part}
-use Rattle.ir_tree.specs.declared.place.Part.TheVariants.{Props, Attrs}
-use Rattle.ir_tree.specs.Tree.{Op, op, head}
-use Rattle.ir_tree.specs.Ids.{find, has_id}
-use Rattle.ir_tree.specs.Edits.{entry_at, part_of}
-use Rattle.ir_tree.specs.Meaning.{IsSoundIn, isolated_in, key_before_in}
-use Rattle.ir_tree.specs.WellFormed.{IsWellFormed}
-use Rattle.ir_tree_laws.specs.Changes.{entry_in}
-use Rattle.ir_tree_laws.specs.Reasons.{found_entry_reason, set_entry_reason}
-use Rattle.ir_tree_laws.proofs.Around.{absent_find}
+use Rattle.op_registry.specs.types.declared.refusal.Refusal.{Refusal}
+use Rattle.op_registry.specs.types.declared.refusal.Refusal.TheVariants.{NoSuchOp}
+use Rattle.op_registry.specs.types.Reasons.{IsRefusedFor}
+use Rattle.op_registry.specs.types.Things.{Things, IsName, IsAttr}
+use Rattle.ir_store.specs.trees.declared.place.Part.{Part}
+use Rattle.ir_store.specs.trees.declared.place.Part.TheVariants.{Props, Attrs}
+use Rattle.ir_store.specs.trees.Tree.{Op, op, head}
+use Rattle.ir_store.specs.trees.Ids.{find, has_id}
+use Rattle.ir_store.specs.trees.Edits.{entry_at, part_of}
+use Rattle.ir_store.specs.trees.Meaning.{IsSoundIn, isolated_in, key_before_in}
+use Rattle.ir_store.specs.trees.WellFormed.{IsWellFormed}
+use Rattle.ir_store.specs.tree_laws.Changes.{entry_in}
+use Rattle.ir_store.specs.tree_laws.Reasons.{found_entry_reason, set_entry_reason}
+use Rattle.ir_store.proofs.of_tree_laws.Around.{absent_find}
 use Rattle.ir_store.specs.Nodes.{Node, node_of}
 use Rattle.ir_store.specs.Stored.{Stored}
 use Rattle.ir_store.specs.Calls.{after_entry}

@@ -4,9 +4,9 @@ use Rattle.std.specs.Prelude.{option_map}
 use Rattle.std.specs.List.{IsDistinct, AllByRecursion}
 use Rattle.std.proofs.lemmas.List.{map-append}
 use Rattle.std.proofs.lemmas.Map.Keys.{IsDistinct-head, IsDistinct-tail}
-use Rattle.ir_tree.specs.Tree.{HeadOf, OpOf, op, RegionsOf, no_regions, region, RegionOf, empty, block, OpsOf, no_ops, next, head}
-use Rattle.ir_tree.specs.Ids.{ids, regions_ids, region_ids, ops_ids, first_of, find, regions_find, region_find, ops_find}
-use Rattle.ir_tree.specs.Edits.{each_head, regions_each_head, region_each_head, ops_each_head}
+use Rattle.ir_store.specs.trees.Tree.{HeadOf, OpOf, op, RegionsOf, no_regions, region, RegionOf, empty, block, OpsOf, no_ops, next, head}
+use Rattle.ir_store.specs.trees.Ids.{ids, regions_ids, region_ids, ops_ids, first_of, find, regions_find, region_find, ops_find}
+use Rattle.ir_store.specs.trees.Edits.{each_head, regions_each_head, region_each_head, ops_each_head}
 use Rattle.ir_event.specs.Heads.{heads, regions_heads, region_heads, ops_heads}
 
 -- the first head with id x

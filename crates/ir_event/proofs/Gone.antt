@@ -1,9 +1,9 @@
 -- What is taken out of a tree isn't found there.
 use Rattle.std.proofs.Common.{◌≡◌, refl, ℕ, ◌+◌, false, eqb, ⊎_elim, None}
 use Rattle.std.proofs.lemmas.Bool.{cases_Bool}
-use Rattle.ir_tree.specs.Tree.{OpOf, op, RegionsOf, no_regions, region, RegionOf, empty, block, OpsOf, no_ops, next, head}
-use Rattle.ir_tree.specs.Ids.{find, regions_find, region_find, ops_find}
-use Rattle.ir_tree.specs.Places.{drop_op, each_list, regions_each_list, region_each_list, ops_each_list, without}
+use Rattle.ir_store.specs.trees.Tree.{OpOf, op, RegionsOf, no_regions, region, RegionOf, empty, block, OpsOf, no_ops, next, head}
+use Rattle.ir_store.specs.trees.Ids.{find, regions_find, region_find, ops_find}
+use Rattle.ir_store.specs.trees.Places.{drop_op, each_list, regions_each_list, region_each_list, ops_each_list, without}
 
 module _ {N T A : Type 0} (x : ℕ) where
   abbrev cut : ℕ → ℕ → OpsOf N T A → OpsOf N T A

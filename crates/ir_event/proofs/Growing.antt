@@ -3,15 +3,15 @@ use Rattle.std.proofs.Common.{◌≡◌, ap, sym, ◌∙◌, subst, ℕ, Some, N
 use Rattle.std.specs.Prelude.{Result, Ok, Err, OnOk, OnErr}
 use Rattle.std.specs.Ordering.{nat_cmp}
 use Rattle.std.specs.FinMap as finmap
-use Rattle.ir_types.specs.declared.refusal.Refusal.{Refusal}
-use Rattle.ir_types.specs.Things.{Things, Grows}
-use Rattle.ir_types.specs.Sound.{Holds}
-use Rattle.ir_types.specs.Words.{is_isolated}
-use Rattle.ir_tree.specs.declared.value.Value.{Value}
-use Rattle.ir_tree.specs.Tree.{Op}
-use Rattle.ir_tree.specs.Meaning.{IsSoundIn, isolated_in}
-use Rattle.ir_tree.specs.WellFormed.{IsWellFormed, Module as Numbered}
-use Rattle.ir_tree.proofs.Meanings.{stable, stays_sound}
+use Rattle.op_registry.specs.types.declared.refusal.Refusal.{Refusal}
+use Rattle.op_registry.specs.types.Things.{Things, Grows}
+use Rattle.op_registry.specs.types.Sound.{Holds}
+use Rattle.op_registry.specs.types.Words.{is_isolated}
+use Rattle.ir_store.specs.trees.declared.value.Value.{Value}
+use Rattle.ir_store.specs.trees.Tree.{Op}
+use Rattle.ir_store.specs.trees.Meaning.{IsSoundIn, isolated_in}
+use Rattle.ir_store.specs.trees.WellFormed.{IsWellFormed, Module as Numbered}
+use Rattle.ir_store.proofs.of_trees.Meanings.{stable, stays_sound}
 use Rattle.ir_store.specs.Stored.{Stored}
 use Rattle.ir_store.specs.Calls.{Loaded, after_operand}
 use Rattle.ir_event.specs.declared.event.Event.{Event}

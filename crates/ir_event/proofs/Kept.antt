@@ -2,10 +2,10 @@
 use Rattle.std.proofs.Common.{◌≡◌, ℕ, List, get_or, true, inl, inr, ◌⊎◌, sym, subst, suc}
 use Rattle.std.specs.Prelude.{All, take, drop}
 use Rattle.std.proofs.lemmas.List.Elements.{All-push, All-append, All-take, All-drop, All-set}
-use Rattle.ir_types.specs.Things.{Things, Grows}
-use Rattle.ir_types.specs.Sound.{Holds}
-use Rattle.ir_types.specs.declared.refusal.Refusal.{Refusal}
-use Rattle.ir_types.specs.declared.refusal.Refusal.TheVariants.{NoSuchKind, Memory}
+use Rattle.op_registry.specs.types.Things.{Things, Grows}
+use Rattle.op_registry.specs.types.Sound.{Holds}
+use Rattle.op_registry.specs.types.declared.refusal.Refusal.{Refusal}
+use Rattle.op_registry.specs.types.declared.refusal.Refusal.TheVariants.{NoSuchKind, Memory}
 use Rattle.ir_event.specs.Modules.{Module}
 use Rattle.ir_event.specs.Listener.{Listener}
 use Rattle.ir_event.specs.Panels.{AllKept, AttachedLast, Detached, BegunAgain, NotBegunAgain}

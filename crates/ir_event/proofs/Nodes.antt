@@ -5,15 +5,15 @@ use Rattle.std.specs.List.{list_all}
 use Rattle.std.proofs.lemmas.Bool.{ltb-true}
 use Rattle.std.proofs.lemmas.List.Elements.{All-cons, All-nil}
 use Rattle.std.specs.FinMap as finmap
-use Rattle.ir_types.specs.Things.{Things, IsName, IsType, IsAttr}
-use Rattle.ir_types.specs.Terms.{name_term, type_term, attr_term}
-use Rattle.ir_tree.specs.Tree.{Op, op, Regions, no_regions, region, empty, block}
-use Rattle.ir_tree.specs.Ids.{find, first_of}
-use Rattle.ir_tree.specs.Limits.{all_arguments_pass, regions_every}
-use Rattle.ir_tree.specs.Maps.{map_regions}
-use Rattle.ir_tree.specs.Meaning.{IsSoundIn, is_attr, is_name, is_type, meaning}
-use Rattle.ir_tree.specs.Passing.{entry_passes, head_passes, op_passes}
-use Rattle.ir_tree_laws.proofs.Listed.{both}
+use Rattle.op_registry.specs.types.Things.{Things, IsName, IsType, IsAttr}
+use Rattle.op_registry.specs.types.Terms.{name_term, type_term, attr_term}
+use Rattle.ir_store.specs.trees.Tree.{Op, op, Regions, no_regions, region, empty, block}
+use Rattle.ir_store.specs.trees.Ids.{find, first_of}
+use Rattle.ir_store.specs.trees.Limits.{all_arguments_pass, regions_every}
+use Rattle.ir_store.specs.trees.Maps.{map_regions}
+use Rattle.ir_store.specs.trees.Meaning.{IsSoundIn, is_attr, is_name, is_type, meaning}
+use Rattle.ir_store.specs.trees.Passing.{entry_passes, head_passes, op_passes}
+use Rattle.ir_store.proofs.of_tree_laws.Listed.{both}
 use Rattle.ir_store.specs.Nodes.{Node as Numbers, node_of, regions_arguments}
 use Rattle.ir_store.specs.Stored.{known}
 use Rattle.ir_event.specs.declared.world.World.{World}

@@ -2,12 +2,12 @@
 use Rattle.std.proofs.Common.{◌≡◌, refl, ap, sym, ◌∙◌, subst, ℕ, zero, suc, Bool, true, false, cond, eqb, List, [], ◌∷◌, map, Option, Some, None, slice_get}
 use Rattle.std.specs.Prelude.{option_map, option_and_then, slice_set}
 use Rattle.std.specs.List.{IsDistinct, AllByRecursion}
-use Rattle.ir_tree.specs.declared.value.Value.{Value}
-use Rattle.ir_tree.specs.Tree.{HeadOf, OpOf, op, head}
-use Rattle.ir_tree.specs.Ids.{HasDistinctIds, find}
-use Rattle.ir_tree.specs.Edits.{each_head, at, put_operand, with_operand}
-use Rattle.ir_tree.proofs.Heads.{alike_operand, head_find}
-use Rattle.ir_tree_laws.specs.Changes.{operand_at}
+use Rattle.ir_store.specs.trees.declared.value.Value.{Value}
+use Rattle.ir_store.specs.trees.Tree.{HeadOf, OpOf, op, head}
+use Rattle.ir_store.specs.trees.Ids.{HasDistinctIds, find}
+use Rattle.ir_store.specs.trees.Edits.{each_head, at, put_operand, with_operand}
+use Rattle.ir_store.proofs.of_trees.Heads.{alike_operand, head_find}
+use Rattle.ir_store.specs.tree_laws.Changes.{operand_at}
 use Rattle.ir_event.specs.Heads.{heads}
 use Rattle.ir_event.proofs.Flat.{first_head, heads_ids, found_head, each_twice, each_left, the_only}
 

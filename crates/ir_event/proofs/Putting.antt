@@ -1,15 +1,15 @@
 -- A world into which an operation is put.
 use Rattle.std.proofs.Common.{◌≡◌, sym, subst, true, None}
 use Rattle.std.specs.Prelude.{Result, Ok, Err, IfOk, OnErr, MatchResult}
-use Rattle.ir_types.specs.declared.refusal.Refusal.{Refusal}
-use Rattle.ir_types.specs.Reasons.{IsRefusedFor}
-use Rattle.ir_types.specs.Things.{Things}
-use Rattle.ir_tree.specs.declared.place.Place.{Place}
-use Rattle.ir_tree.specs.Tree.{Op, regions}
-use Rattle.ir_tree.specs.Meaning.{IsSoundIn, isolated_in}
-use Rattle.ir_tree.specs.WellFormed.{IsWellFormed}
-use Rattle.ir_tree.proofs.SoundEdits.{put_sound}
-use Rattle.ir_tree_laws.specs.Reasons.{hold_none, put_reason, with_id}
+use Rattle.op_registry.specs.types.declared.refusal.Refusal.{Refusal}
+use Rattle.op_registry.specs.types.Reasons.{IsRefusedFor}
+use Rattle.op_registry.specs.types.Things.{Things}
+use Rattle.ir_store.specs.trees.declared.place.Place.{Place}
+use Rattle.ir_store.specs.trees.Tree.{Op, regions}
+use Rattle.ir_store.specs.trees.Meaning.{IsSoundIn, isolated_in}
+use Rattle.ir_store.specs.trees.WellFormed.{IsWellFormed}
+use Rattle.ir_store.proofs.of_trees.SoundEdits.{put_sound}
+use Rattle.ir_store.specs.tree_laws.Reasons.{hold_none, put_reason, with_id}
 use Rattle.ir_store.specs.Stored.{Stored}
 use Rattle.ir_store.specs.Calls.{after_put}
 use Rattle.ir_event.specs.declared.event.Event.{Event}

@@ -1,18 +1,18 @@
 -- A world in which an operation is shifted.
 use Rattle.std.proofs.Common.{◌≡◌, sym, ◌∙◌, subst, ℕ, Option, Some, None}
 use Rattle.std.specs.Prelude.{Result, Ok, Err, IfOk, OnOk, OnErr, MatchResult}
-use Rattle.ir_types.specs.declared.refusal.Refusal.{Refusal}
-use Rattle.ir_types.specs.Things.{Things}
-use Rattle.ir_types.specs.Terms.{name_term}
-use Rattle.ir_types.specs.Words.{is_table}
-use Rattle.ir_tree.specs.declared.place.Place.{Place}
-use Rattle.ir_tree.specs.Places.{place_of}
-use Rattle.ir_tree.specs.Meaning.{IsSoundIn, isolated_in}
-use Rattle.ir_tree.specs.WellFormed.{IsWellFormed}
-use Rattle.ir_tree_laws.specs.Changes.{Shifts}
-use Rattle.ir_tree_laws.specs.Reasons.{shift_reason}
-use Rattle.ir_tree_laws.proofs.Changed.{shift_changes}
-use Rattle.ir_tree_laws.proofs.WellKept.{shift_keeps}
+use Rattle.op_registry.specs.types.declared.refusal.Refusal.{Refusal}
+use Rattle.op_registry.specs.types.Things.{Things}
+use Rattle.op_registry.specs.types.Terms.{name_term}
+use Rattle.op_registry.specs.types.Words.{is_table}
+use Rattle.ir_store.specs.trees.declared.place.Place.{Place}
+use Rattle.ir_store.specs.trees.Places.{place_of}
+use Rattle.ir_store.specs.trees.Meaning.{IsSoundIn, isolated_in}
+use Rattle.ir_store.specs.trees.WellFormed.{IsWellFormed}
+use Rattle.ir_store.specs.tree_laws.Changes.{Shifts}
+use Rattle.ir_store.specs.tree_laws.Reasons.{shift_reason}
+use Rattle.ir_store.proofs.of_tree_laws.Changed.{shift_changes}
+use Rattle.ir_store.proofs.of_tree_laws.WellKept.{shift_keeps}
 use Rattle.ir_store.specs.Stored.{Stored}
 use Rattle.ir_store.specs.Calls.{after_shift}
 use Rattle.ir_event.specs.declared.event.Event.{Event}

@@ -1,16 +1,16 @@
 -- What a sound tree has is sound.
 use Rattle.std.proofs.Common.{◌≡◌, refl, ap, sym, ◌∙◌, subst, ℕ, Bool, true, false, cond, eqb, Option, Some, None}
-use Rattle.ir_types.specs.Things.{Things}
-use Rattle.ir_tree.specs.declared.place.Place.{Place}
-use Rattle.ir_tree.specs.Tree.{Op, OpOf, op, RegionsOf, no_regions, region, RegionOf, empty, block, OpsOf, no_ops, next}
-use Rattle.ir_tree.specs.Ids.{first_of, find, regions_find, region_find, ops_find}
-use Rattle.ir_tree.specs.Limits.{every, regions_every, region_every, ops_every}
-use Rattle.ir_tree.specs.Places.{put_found, shifted, without}
-use Rattle.ir_tree.specs.Meaning.{IsSoundIn, dictionaries_rise, is_attr, is_name, is_type, key_before_in}
-use Rattle.ir_tree.specs.Passing.{op_passes}
-use Rattle.ir_tree.proofs.SoundEdits.{put_sound, without_sound}
-use Rattle.ir_tree_laws.specs.Reasons.{with_id}
-use Rattle.ir_tree_laws.proofs.Listed.{both}
+use Rattle.op_registry.specs.types.Things.{Things}
+use Rattle.ir_store.specs.trees.declared.place.Place.{Place}
+use Rattle.ir_store.specs.trees.Tree.{Op, OpOf, op, RegionsOf, no_regions, region, RegionOf, empty, block, OpsOf, no_ops, next}
+use Rattle.ir_store.specs.trees.Ids.{first_of, find, regions_find, region_find, ops_find}
+use Rattle.ir_store.specs.trees.Limits.{every, regions_every, region_every, ops_every}
+use Rattle.ir_store.specs.trees.Places.{put_found, shifted, without}
+use Rattle.ir_store.specs.trees.Meaning.{IsSoundIn, dictionaries_rise, is_attr, is_name, is_type, key_before_in}
+use Rattle.ir_store.specs.trees.Passing.{op_passes}
+use Rattle.ir_store.proofs.of_trees.SoundEdits.{put_sound, without_sound}
+use Rattle.ir_store.specs.tree_laws.Reasons.{with_id}
+use Rattle.ir_store.proofs.of_tree_laws.Listed.{both}
 
 module _ {N T A : Type 0} (p : OpOf N T A → Bool) (x : ℕ) where
   one_found : (a b : Option (OpOf N T A)) (P : OpOf N T A → Type 0) (o : OpOf N T A) → (a ≡ Some o → P o) → (b ≡ Some o → P o) → first_of a b ≡ Some o → P o

@@ -1,17 +1,17 @@
 -- Edits of a module of numbers against which no reason stands are steps of what it stands for.
 use Rattle.std.proofs.Common.{◌≡◌, refl, ℕ, ◌+◌, true, false, None}
-use Rattle.ir_types.specs.Things.{Things}
-use Rattle.ir_types.specs.Terms.{name_term, type_term, attr_term}
-use Rattle.ir_types.specs.Words.{is_table}
-use Rattle.ir_tree.specs.declared.place.Place.{Place}
-use Rattle.ir_tree.specs.Tree.{Op, regions}
-use Rattle.ir_tree.specs.Places.{put, shifted, without}
-use Rattle.ir_tree.specs.Meaning.{IsSoundIn, isolated_in}
-use Rattle.ir_tree.specs.WellFormed.{IsWellFormed, Module as Numbered}
-use Rattle.ir_tree.proofs.SoundEdits.{put_sound, without_sound}
-use Rattle.ir_tree_laws.specs.Reasons.{hold_none, put_reason, shift_reason, take_reason, with_id}
-use Rattle.ir_tree_laws.proofs.WellKept.{put_keeps, take_keeps, shift_keeps}
-use Rattle.ir_tree_laws.proofs.Changed.{put_changes, take_changes, shift_changes}
+use Rattle.op_registry.specs.types.Things.{Things}
+use Rattle.op_registry.specs.types.Terms.{name_term, type_term, attr_term}
+use Rattle.op_registry.specs.types.Words.{is_table}
+use Rattle.ir_store.specs.trees.declared.place.Place.{Place}
+use Rattle.ir_store.specs.trees.Tree.{Op, regions}
+use Rattle.ir_store.specs.trees.Places.{put, shifted, without}
+use Rattle.ir_store.specs.trees.Meaning.{IsSoundIn, isolated_in}
+use Rattle.ir_store.specs.trees.WellFormed.{IsWellFormed, Module as Numbered}
+use Rattle.ir_store.proofs.of_trees.SoundEdits.{put_sound, without_sound}
+use Rattle.ir_store.specs.tree_laws.Reasons.{hold_none, put_reason, shift_reason, take_reason, with_id}
+use Rattle.ir_store.proofs.of_tree_laws.WellKept.{put_keeps, take_keeps, shift_keeps}
+use Rattle.ir_store.proofs.of_tree_laws.Changed.{put_changes, take_changes, shift_changes}
 use Rattle.ir_event.specs.declared.event.Event.TheVariants.{Put, Take, Shift}
 use Rattle.ir_event.specs.Modules.{module_meaning}
 use Rattle.ir_event.specs.Step.{Step}

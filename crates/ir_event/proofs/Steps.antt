@@ -1,28 +1,28 @@
 -- Steps between what modules of numbers stand for.
 use Rattle.std.proofs.Common.{◌≡◌, refl, ap, sym, ◌∙◌, subst, ℕ, ◌<◌, ◌≤◌, eqb, List, Option, Some, None, slice_get, IsTrue, length-append, arith}
 use Rattle.std.specs.Prelude.{option_map, option_and_then, Result, Ok, Err, OnOk, OnErr, IfOk}
-use Rattle.ir_types.specs.declared.refusal.Refusal.{Refusal}
+use Rattle.op_registry.specs.types.declared.refusal.Refusal.{Refusal}
 use Rattle.std.specs.List.{IsDistinct, All}
-use Rattle.ir_types.specs.Things.{Things, Grows, IsName, IsAttr}
-use Rattle.ir_types.specs.Sound.{Holds}
-use Rattle.ir_types.specs.Terms.{name_term, type_term, attr_term}
-use Rattle.ir_types.specs.Words.{is_isolated}
-use Rattle.ir_types.proofs.Terms.{name_stays, attr_stays}
-use Rattle.ir_tree.specs.declared.value.Value.{Value}
-use Rattle.ir_tree.specs.Tree.{Op, op, head}
-use Rattle.ir_tree.specs.Ids.{find}
-use Rattle.ir_tree.specs.Limits.{most_around}
-use Rattle.ir_tree.specs.Edits.{with_operand}
-use Rattle.ir_tree.specs.Meaning.{meaning, isolated_in, dictionaries_rise, key_before, key_before_in, IsSoundIn}
-use Rattle.ir_tree.specs.WellFormed.{Module as Numbered, IsWellFormed}
-use Rattle.ir_tree.proofs.Mapped.{map_every, map_ids, map_find, map_operands_visible, map_depth, map_counts}
-use Rattle.ir_tree.proofs.MappedEdits.{map_with_operand}
-use Rattle.ir_tree.proofs.SoundEdits.{operand_sound}
-use Rattle.ir_tree_laws.proofs.Contents.{map_dictionaries}
+use Rattle.op_registry.specs.types.Things.{Things, Grows, IsName, IsAttr}
+use Rattle.op_registry.specs.types.Sound.{Holds}
+use Rattle.op_registry.specs.types.Terms.{name_term, type_term, attr_term}
+use Rattle.op_registry.specs.types.Words.{is_isolated}
+use Rattle.op_registry.proofs.of_types.Terms.{name_stays, attr_stays}
+use Rattle.ir_store.specs.trees.declared.value.Value.{Value}
+use Rattle.ir_store.specs.trees.Tree.{Op, op, head}
+use Rattle.ir_store.specs.trees.Ids.{find}
+use Rattle.ir_store.specs.trees.Limits.{most_around}
+use Rattle.ir_store.specs.trees.Edits.{with_operand}
+use Rattle.ir_store.specs.trees.Meaning.{meaning, isolated_in, dictionaries_rise, key_before, key_before_in, IsSoundIn}
+use Rattle.ir_store.specs.trees.WellFormed.{Module as Numbered, IsWellFormed}
+use Rattle.ir_store.proofs.of_trees.Mapped.{map_every, map_ids, map_find, map_operands_visible, map_depth, map_counts}
+use Rattle.ir_store.proofs.of_trees.MappedEdits.{map_with_operand}
+use Rattle.ir_store.proofs.of_trees.SoundEdits.{operand_sound}
+use Rattle.ir_store.proofs.of_tree_laws.Contents.{map_dictionaries}
 use Rattle.ir_event.specs.declared.event.Event.{Event}
 use Rattle.ir_event.specs.declared.event.Event.TheVariants.{Put, Take, SetOperand, SetEntry, Shift}
 use Rattle.ir_event.specs.Modules.{Module, module_meaning}
-use Rattle.ir_tree_laws.specs.Changes.{operand_at, SetsEntry}
+use Rattle.ir_store.specs.tree_laws.Changes.{operand_at, SetsEntry}
 use Rattle.ir_store.specs.Stored.{Stored}
 use Rattle.ir_store.specs.Calls.{after_operand}
 use Rattle.ir_event.specs.Step.{Changes, EventIsOf, IsAttrOrNone, IsSorted, Step, IsOperandEvent, IsOperandStep}

@@ -5,22 +5,22 @@ use Rattle.std.specs.Prelude.{Result, Ok, Err, MatchResult, option_map}
 use Rattle.std.specs.Ordering.{nat_cmp}
 use Rattle.std.specs.FinMap as finmap
 use Rattle.std.specs.Cmp.{nat_cmp_total}
-use Rattle.ir_types.specs.declared.refusal.Refusal.{Refusal}
-use Rattle.ir_types.specs.Things.{Things}
-use Rattle.ir_types.specs.Terms.{name_term, type_term, attr_term}
-use Rattle.ir_tree.specs.declared.place.Place.{Place}
-use Rattle.ir_tree.specs.Tree.{Op, head}
-use Rattle.ir_tree.specs.Ids.{find, first_of, has_id}
-use Rattle.ir_tree.specs.Places.{place_of}
-use Rattle.ir_tree.specs.Meaning.{IsSoundIn, isolated_in, meaning}
-use Rattle.ir_tree.specs.WellFormed.{IsWellFormed}
-use Rattle.ir_tree.proofs.Mapped.{map_find}
-use Rattle.ir_tree.proofs.SoundEdits.{without_sound}
-use Rattle.ir_tree_laws.specs.Reasons.{take_reason}
-use Rattle.ir_tree_laws.specs.Changes.{Takes}
-use Rattle.ir_tree_laws.proofs.Changed.{take_changes}
-use Rattle.ir_tree_laws.proofs.Reasoned.{no_take_reason}
-use Rattle.ir_tree_laws.proofs.WellKept.{take_keeps}
+use Rattle.op_registry.specs.types.declared.refusal.Refusal.{Refusal}
+use Rattle.op_registry.specs.types.Things.{Things}
+use Rattle.op_registry.specs.types.Terms.{name_term, type_term, attr_term}
+use Rattle.ir_store.specs.trees.declared.place.Place.{Place}
+use Rattle.ir_store.specs.trees.Tree.{Op, head}
+use Rattle.ir_store.specs.trees.Ids.{find, first_of, has_id}
+use Rattle.ir_store.specs.trees.Places.{place_of}
+use Rattle.ir_store.specs.trees.Meaning.{IsSoundIn, isolated_in, meaning}
+use Rattle.ir_store.specs.trees.WellFormed.{IsWellFormed}
+use Rattle.ir_store.proofs.of_trees.Mapped.{map_find}
+use Rattle.ir_store.proofs.of_trees.SoundEdits.{without_sound}
+use Rattle.ir_store.specs.tree_laws.Reasons.{take_reason}
+use Rattle.ir_store.specs.tree_laws.Changes.{Takes}
+use Rattle.ir_store.proofs.of_tree_laws.Changed.{take_changes}
+use Rattle.ir_store.proofs.of_tree_laws.Reasoned.{no_take_reason}
+use Rattle.ir_store.proofs.of_tree_laws.WellKept.{take_keeps}
 use Rattle.ir_store.specs.Nodes.{node_of}
 use Rattle.ir_store.specs.Stored.{Stored, known}
 use Rattle.ir_store.specs.Calls.{after_take, hold}

@@ -3,14 +3,14 @@ use Rattle.std.proofs.Common.{◌≡◌, refl, ap, sym, ◌∙◌, ℕ, zero, su
 use Rattle.std.specs.Prelude.{option_map, option_and_then}
 use Rattle.std.specs.List.{All}
 use Rattle.std.proofs.lemmas.List.Elements.{All-head, All-tail}
-use Rattle.ir_types.specs.Things.{Things, IsType}
-use Rattle.ir_tree.specs.declared.value.Value.{Value}
-use Rattle.ir_tree.specs.declared.value.Value.TheVariants.{Result, Arg}
-use Rattle.ir_tree.specs.Tree.{OpOf, Op, op, RegionsOf, no_regions, region, RegionOf, head, regions}
-use Rattle.ir_tree.specs.Ids.{find}
-use Rattle.ir_tree.specs.Frames.{owner_of}
+use Rattle.op_registry.specs.types.Things.{Things, IsType}
+use Rattle.ir_store.specs.trees.declared.value.Value.{Value}
+use Rattle.ir_store.specs.trees.declared.value.Value.TheVariants.{Result, Arg}
+use Rattle.ir_store.specs.trees.Tree.{OpOf, Op, op, RegionsOf, no_regions, region, RegionOf, head, regions}
+use Rattle.ir_store.specs.trees.Ids.{find}
+use Rattle.ir_store.specs.trees.Frames.{owner_of}
 use Rattle.ir_store.specs.Nodes.{Node, node_of, regions_arguments}
-use Rattle.ir_tree_laws.specs.Values.{type_of_value, arguments_of, arguments_at, region_at}
+use Rattle.ir_store.specs.tree_laws.Values.{type_of_value, arguments_of, arguments_at, region_at}
 use Rattle.ir_event.specs.declared.world.World.{World}
 use Rattle.ir_event.specs.Modules.{NodeIsOf}
 use Rattle.ir_event.proofs.Sounds.{found_sound}

@@ -6,26 +6,26 @@ use Rattle.std.specs.Cmp.{nat_cmp_total}
 use Rattle.std.specs.FinMap as finmap
 use Rattle.std.proofs.lemmas.Bool.{lt-ltb, cases_eq, cases_Bool, eq-eqb, ne_eqb, cond-true, cond-false}
 use Rattle.std.proofs.lemmas.List.Elements.{recursion_from_All}
-use Rattle.ir_types.specs.Things.{Things, IsName, IsAttr}
-use Rattle.ir_types.specs.Sound.{IsSound}
-use Rattle.ir_types.specs.Terms.{name_term, type_term, attr_term}
-use Rattle.ir_types.specs.Words.{is_isolated}
-use Rattle.ir_types.proofs.Terms.{name_term_one}
-use Rattle.ir_tree.specs.declared.place.Place.{Place}
-use Rattle.ir_tree.specs.declared.place.Part.{Part}
-use Rattle.ir_tree.specs.declared.place.Part.TheVariants.{Props, Attrs}
-use Rattle.ir_tree.specs.Tree.{Op, op, head}
-use Rattle.ir_tree.specs.Ids.{find, first_of, has_id}
-use Rattle.ir_tree.specs.Edits.{entry_at, part_of, same_key}
-use Rattle.ir_tree.specs.Places.{without}
-use Rattle.ir_tree.specs.Meaning.{IsSoundIn, is_attr, isolated_in, key_before, key_before_in, meaning}
-use Rattle.ir_tree.specs.WellFormed.{IsWellFormed}
-use Rattle.ir_tree.proofs.SoundEdits.{operand_sound, entry_sound, put_sound, without_sound}
-use Rattle.ir_tree_laws.specs.Values.{has_value}
-use Rattle.ir_tree_laws.specs.Restores.{MayRestore, MayRetract}
-use Rattle.ir_tree_laws.proofs.Around.{absent_find}
-use Rattle.ir_tree_laws.proofs.Contents.{map_entry_in}
-use Rattle.ir_tree_laws.proofs.Keys.{keys_ordered}
+use Rattle.op_registry.specs.types.Things.{Things, IsName, IsAttr}
+use Rattle.op_registry.specs.types.Sound.{IsSound}
+use Rattle.op_registry.specs.types.Terms.{name_term, type_term, attr_term}
+use Rattle.op_registry.specs.types.Words.{is_isolated}
+use Rattle.op_registry.proofs.of_types.Terms.{name_term_one}
+use Rattle.ir_store.specs.trees.declared.place.Place.{Place}
+use Rattle.ir_store.specs.trees.declared.place.Part.{Part}
+use Rattle.ir_store.specs.trees.declared.place.Part.TheVariants.{Props, Attrs}
+use Rattle.ir_store.specs.trees.Tree.{Op, op, head}
+use Rattle.ir_store.specs.trees.Ids.{find, first_of, has_id}
+use Rattle.ir_store.specs.trees.Edits.{entry_at, part_of, same_key}
+use Rattle.ir_store.specs.trees.Places.{without}
+use Rattle.ir_store.specs.trees.Meaning.{IsSoundIn, is_attr, isolated_in, key_before, key_before_in, meaning}
+use Rattle.ir_store.specs.trees.WellFormed.{IsWellFormed}
+use Rattle.ir_store.proofs.of_trees.SoundEdits.{operand_sound, entry_sound, put_sound, without_sound}
+use Rattle.ir_store.specs.tree_laws.Values.{has_value}
+use Rattle.ir_store.specs.tree_laws.Restores.{MayRestore, MayRetract}
+use Rattle.ir_store.proofs.of_tree_laws.Around.{absent_find}
+use Rattle.ir_store.proofs.of_tree_laws.Contents.{map_entry_in}
+use Rattle.ir_store.proofs.of_tree_laws.Keys.{keys_ordered}
 use Rattle.ir_store.specs.Slots.{has_key}
 use Rattle.ir_store.specs.Nodes.{node_of}
 use Rattle.ir_store.specs.Stored.{Stored, known, has_slot, is_some_with}

@@ -1,7 +1,7 @@
 -- Words for the bounds of looks.
 use Rattle.std.specs.Prelude.{ℕ, max, length, Option, Some, None}
-use Rattle.ir_tree.specs.Tree.{OpOf, head}
-use Rattle.ir_tree.specs.Ids.{find}
+use Rattle.ir_store.specs.trees.Tree.{OpOf, head}
+use Rattle.ir_store.specs.trees.Ids.{find}
 use Rattle.ir_event.specs.declared.event.Event.{Event}
 use Rattle.ir_event.specs.declared.event.Event.TheVariants.{Put, Take, SetOperand, SetEntry, Shift}
 use Rattle.ir_event.specs.Modules.{Module}

@@ -1,11 +1,11 @@
 -- The steps of the edits of a world.
 use Rattle.std.specs.Prelude.{◌≡◌, ℕ, Bool, Option, Some, true, false}
-use Rattle.ir_types.specs.Things.{Things}
-use Rattle.ir_tree.specs.declared.place.Place.{Place}
-use Rattle.ir_tree.specs.declared.place.Part.{Part}
-use Rattle.ir_tree.specs.Tree.{Op}
-use Rattle.ir_tree.specs.Places.{place_of}
-use Rattle.ir_tree_laws.specs.Changes.{entry_in}
+use Rattle.op_registry.specs.types.Things.{Things}
+use Rattle.ir_store.specs.trees.declared.place.Place.{Place}
+use Rattle.ir_store.specs.trees.declared.place.Part.{Part}
+use Rattle.ir_store.specs.trees.Tree.{Op}
+use Rattle.ir_store.specs.trees.Places.{place_of}
+use Rattle.ir_store.specs.tree_laws.Changes.{entry_in}
 use Rattle.ir_event.specs.declared.event.Event.{Event}
 use Rattle.ir_event.specs.declared.event.Event.TheVariants.{Put, Take, SetEntry, Shift}
 use Rattle.ir_event.specs.Modules.{Module}

@@ -5,10 +5,10 @@ use Rattle.std.specs.Coded.{Π_prop}
 use Rattle.std.specs.List.{IsDistinct-prop}
 use Rattle.std.specs.Ordering.{nat_cmp}
 use Rattle.std.specs.FinMap as map
-use Rattle.ir_types.specs.Things.{Things}
-use Rattle.ir_tree.specs.Tree.{Op}
-use Rattle.ir_tree.specs.WellFormed.{ModuleOf, IsWellFormed}
-use Rattle.ir_tree.specs.Meaning.{IsSoundIn}
+use Rattle.op_registry.specs.types.Things.{Things}
+use Rattle.ir_store.specs.trees.Tree.{Op}
+use Rattle.ir_store.specs.trees.WellFormed.{ModuleOf, IsWellFormed}
+use Rattle.ir_store.specs.trees.Meaning.{IsSoundIn}
 
 -- what is held of a module is sound in the context
 abbrev pub HeldIsSound : Things → map.FinMap nat_cmp Op → Type 0

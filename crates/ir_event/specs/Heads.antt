@@ -1,8 +1,8 @@
 -- What the operations of a tree have beside their regions, in a list.
 use Rattle.std.specs.Prelude.{List, [], ◌∷◌, ◌++◌}
-use Rattle.ir_tree.specs.declared.value.Value.{Value}
-use Rattle.ir_tree.specs.Tree.{HeadOf, OpOf, op, RegionsOf, no_regions, region, RegionOf, empty, block, OpsOf, no_ops, next}
-use Rattle.ir_tree_laws.specs.Stands.{gather}
+use Rattle.ir_store.specs.trees.declared.value.Value.{Value}
+use Rattle.ir_store.specs.trees.Tree.{HeadOf, OpOf, op, RegionsOf, no_regions, region, RegionOf, empty, block, OpsOf, no_ops, next}
+use Rattle.ir_store.specs.tree_laws.Stands.{gather}
 
 -- the heads of a tree in pre-order
 abbrev mutual

@@ -10,3 +10,6 @@ pub mod Looks
 pub mod Facts
 pub mod Edits
 pub mod Undoing
+pub use Rattle.ir_store.specs as store
+pub use Rattle.ir_store.specs.tree_laws
+pub use Rattle.op_registry.specs as registry

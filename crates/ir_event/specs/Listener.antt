@@ -1,9 +1,9 @@
 -- What a listener means.
 use Rattle.std.specs.Prelude.{◌≡◌, ℕ, List, [], ◌∷◌, ◌++◌, Option, Some, None, Bool, true, false, ◌⊎◌, option_map}
-use Rattle.ir_types.specs.Things.{Things, Grows}
-use Rattle.ir_types.specs.Sound.{Holds}
-use Rattle.ir_tree.specs.Meaning.{Operation}
-use Rattle.ir_tree.specs.Ids.{find}
+use Rattle.op_registry.specs.types.Things.{Things, Grows}
+use Rattle.op_registry.specs.types.Sound.{Holds}
+use Rattle.ir_store.specs.trees.Meaning.{Operation}
+use Rattle.ir_store.specs.trees.Ids.{find}
 use Rattle.ir_store.specs.Nodes.{node_of}
 use Rattle.ir_event.specs.declared.event.Event.{Event}
 use Rattle.ir_event.specs.declared.event.Event.TheVariants.{Put, Take, SetOperand, SetEntry, Shift}

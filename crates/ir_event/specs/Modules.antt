@@ -1,10 +1,10 @@
 -- Modules of contents: what the module of a world stands for.
 use Rattle.std.specs.Prelude.{◌≡◌, ℕ, List, All, map, Option, Some, option_map, slice_get}
-use Rattle.ir_types.specs.Things.{Things, IsName, IsType, IsAttr}
-use Rattle.ir_types.specs.Terms.{TypeTerm, AttrTerm, name_term, type_term, attr_term}
-use Rattle.ir_tree.specs.WellFormed.{ModuleOf, Module as Numbered}
-use Rattle.ir_tree.specs.Meaning.{meaning}
-use Rattle.ir_tree.specs.Maps.{map_head}
+use Rattle.op_registry.specs.types.Things.{Things, IsName, IsType, IsAttr}
+use Rattle.op_registry.specs.types.Terms.{TypeTerm, AttrTerm, name_term, type_term, attr_term}
+use Rattle.ir_store.specs.trees.WellFormed.{ModuleOf, Module as Numbered}
+use Rattle.ir_store.specs.trees.Meaning.{meaning}
+use Rattle.ir_store.specs.trees.Maps.{map_head}
 use Rattle.ir_store.specs.Nodes.{NodeOf, Node as Numbers, node_of}
 use Rattle.ir_store.specs.Stored.{known}
 use Rattle.ir_event.specs.declared.world.World.{World}

@@ -1,9 +1,9 @@
 -- Lists of listeners.
 use Rattle.std.specs.Prelude.{◌≡◌, ℕ, List, [], ◌∷◌, ◌++◌, Bool, true, false, ◌==◌, ◌⊎◌, Option, Some, is_some, position, remove, slice_get, slice_set, map, All}
 use Rattle.std.specs.List.{AllZip}
-use Rattle.ir_types.specs.Things.{Things}
-use Rattle.ir_types.specs.declared.refusal.Refusal.{Refusal}
-use Rattle.ir_types.specs.declared.refusal.Refusal.TheVariants.{KindTaken, NoSuchKind, Memory}
+use Rattle.op_registry.specs.types.Things.{Things}
+use Rattle.op_registry.specs.types.declared.refusal.Refusal.{Refusal}
+use Rattle.op_registry.specs.types.declared.refusal.Refusal.TheVariants.{KindTaken, NoSuchKind, Memory}
 use Rattle.ir_event.specs.declared.event.Event.{Event}
 use Rattle.ir_event.specs.Modules.{Module, Node}
 use Rattle.ir_event.specs.Listener.{Listener, SameAnalysis, Told, Followed}

@@ -1,10 +1,10 @@
 -- The rows of reports.
 use Rattle.std.specs.Prelude.{◌≡◌, ℕ, ◌<◌, List, [], ◌∷◌, map, nat_lt, if◌then◌else◌}
 use Rattle.std.specs.List.{All}
-use Rattle.ir_types.specs.Things.{Things, IsName, IsAttr}
-use Rattle.ir_types.specs.Terms.{AttrTerm, IntegerOf, String, TypeOf, Flag, Array, Dictionary, Symbol, DenseArray, Overflow, name_term, attr_term}
-use Rattle.ir_types.specs.declared.bits.BitsKind.{BitsKind}
-use Rattle.ir_tree.specs.declared.value.Value.{Value}
+use Rattle.op_registry.specs.types.Things.{Things, IsName, IsAttr}
+use Rattle.op_registry.specs.types.Terms.{AttrTerm, IntegerOf, String, TypeOf, Flag, Array, Dictionary, Symbol, DenseArray, Overflow, name_term, attr_term}
+use Rattle.op_registry.specs.types.declared.bits.BitsKind.{BitsKind}
+use Rattle.ir_store.specs.trees.declared.value.Value.{Value}
 use Rattle.ir_event.specs.declared.row.Cell.{Cell}
 use Rattle.ir_event.specs.declared.row.Cell.TheVariants as cell
 use Rattle.ir_event.specs.declared.row.Row.{Row}

@@ -1,14 +1,14 @@
 -- What one event does to a module, and which event undoes it.
 use Rattle.std.specs.Prelude.{◌≡◌, ℕ, List, [], ◌∷◌, IsTrue, Option, Some, None, option_map}
-use Rattle.ir_types.specs.Things.{Things, IsName, IsAttr}
-use Rattle.ir_types.specs.Terms.{name_term, attr_term}
-use Rattle.ir_types.specs.Words.{is_isolated, is_table}
-use Rattle.ir_tree.specs.declared.value.Value.{Value}
-use Rattle.ir_tree.specs.Tree.{OpOf}
-use Rattle.ir_tree.specs.Limits.{every}
-use Rattle.ir_tree.specs.Meaning.{dictionaries_rise, key_before}
-use Rattle.ir_tree.specs.WellFormed.{IsWellFormed}
-use Rattle.ir_tree_laws.specs.Changes.{operand_at, Takes, SetsOperand, SetsEntry, Shifts}
+use Rattle.op_registry.specs.types.Things.{Things, IsName, IsAttr}
+use Rattle.op_registry.specs.types.Terms.{name_term, attr_term}
+use Rattle.op_registry.specs.types.Words.{is_isolated, is_table}
+use Rattle.ir_store.specs.trees.declared.value.Value.{Value}
+use Rattle.ir_store.specs.trees.Tree.{OpOf}
+use Rattle.ir_store.specs.trees.Limits.{every}
+use Rattle.ir_store.specs.trees.Meaning.{dictionaries_rise, key_before}
+use Rattle.ir_store.specs.trees.WellFormed.{IsWellFormed}
+use Rattle.ir_store.specs.tree_laws.Changes.{operand_at, Takes, SetsOperand, SetsEntry, Shifts}
 use Rattle.ir_event.specs.declared.event.Event.{Event}
 use Rattle.ir_event.specs.declared.event.Event.TheVariants.{Put, Take, SetOperand, SetEntry, Shift}
 use Rattle.ir_event.specs.Modules.{Module}

@@ -1,11 +1,11 @@
 -- Undoing an event in a store.
 use Rattle.std.specs.Prelude.{◌≡◌, true, Some, None, IfSome, is_some}
 use Rattle.std.specs.FinMap as map
-use Rattle.ir_types.specs.Things.{Things, IsName, IsAttr}
-use Rattle.ir_tree.specs.Tree.{Op}
-use Rattle.ir_tree.specs.Ids.{find}
-use Rattle.ir_tree.specs.Meaning.{IsSoundIn, isolated_in, key_before_in, meaning}
-use Rattle.ir_tree_laws.specs.Reasons.{set_operand_reason}
+use Rattle.op_registry.specs.types.Things.{Things, IsName, IsAttr}
+use Rattle.ir_store.specs.trees.Tree.{Op}
+use Rattle.ir_store.specs.trees.Ids.{find}
+use Rattle.ir_store.specs.trees.Meaning.{IsSoundIn, isolated_in, key_before_in, meaning}
+use Rattle.ir_store.specs.tree_laws.Reasons.{set_operand_reason}
 use Rattle.ir_store.specs.Stored.{Stored, has_slot}
 use Rattle.ir_store.specs.Calls.{after_entry, after_operand, after_restore, after_retract, after_shift, CanRestore, CanRetract, CanRevert}
 use Rattle.ir_store.specs.Shifting.{CanRelink}

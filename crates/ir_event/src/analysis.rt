@@ -1,6 +1,6 @@
 //! Listeners.
 ghost use Rattle.std.specs.Prelude.{◌≡◌, ◌≤◌, ◌+◌, ◌⊎◌, true, OnErr, OnOk, MatchResult};
-ghost use Rattle.ir_types.specs.Things.{Things};
+ghost use Rattle.op_registry.specs.types.Things.{Things};
 ghost use Rattle.ir_event.specs.Modules.{Module, things_in, module_in, shown_in};
 ghost use Rattle.ir_event.specs.Rows.{Shows};
 ghost use Rattle.ir_event.specs.Listener.{Listener, SameAnalysis, ShowsTaken, Told};

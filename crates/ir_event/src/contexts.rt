@@ -1,14 +1,14 @@
 //! A world whose context grows: its module stays what it is.
 ghost use Rattle.std.specs.Prelude.{◌≡◌, true, None, IfOk, IsOk, OnErr};
-ghost use Rattle.ir_types.specs.Things.{Grows, TypeIsOf, AttrIsOf};
-ghost use Rattle.ir_types.specs.Interning.{with_name, with_type, with_attr, knows_name, knows_type, knows_attr};
-ghost use Rattle.ir_types.specs.Reasons.{IsRefusedFor, name_reason, type_reason, attr_reason};
+ghost use Rattle.op_registry.specs.types.Things.{Grows, TypeIsOf, AttrIsOf};
+ghost use Rattle.op_registry.specs.types.Interning.{with_name, with_type, with_attr, knows_name, knows_type, knows_attr};
+ghost use Rattle.op_registry.specs.types.Reasons.{IsRefusedFor, name_reason, type_reason, attr_reason};
 ghost use Rattle.ir_event.specs.Modules.{module_in, shown_in};
 
 use crate::world::World;
-use ir_types::ids::{AttrId, NameId, TypeId};
-use ir_types::node::{AttrNode, TypeNode};
-use ir_types::refusal::Refusal;
+use op_registry::types::ids::{AttrId, NameId, TypeId};
+use op_registry::types::node::{AttrNode, TypeNode};
+use op_registry::types::refusal::Refusal;
 
 impl World {
     /// The number of a name in the context.

@@ -1,15 +1,15 @@
 //! Operations are put and taken, operands and entries are set, each with its event.
 ghost use Rattle.std.specs.Prelude.{◌≡◌, Some, None, true, IfOk, OnOk, OnErr, IfErr, IfSome, MatchResult, Err};
 ghost use Rattle.std.specs.FinMap as finmap;
-ghost use Rattle.ir_types.specs.Reasons.{IsRefusedFor};
-ghost use Rattle.ir_types.specs.Terms.{name_term};
-ghost use Rattle.ir_types.specs.Things.{IsName, IsAttr};
-ghost use Rattle.ir_types.specs.Words.{is_table};
-ghost use Rattle.ir_tree.specs.Edits.{entry_at};
-ghost use Rattle.ir_tree.specs.Meaning.{IsSoundIn, isolated_in, key_before_in};
-ghost use Rattle.ir_tree.specs.WellFormed.{IsWellFormed};
-ghost use Rattle.ir_tree_laws.specs.Changes.{entry_in};
-ghost use Rattle.ir_tree_laws.specs.Reasons.{holds_none, put_reason, set_entry_reason, set_operand_reason, shift_reason, take_reason};
+ghost use Rattle.op_registry.specs.types.Reasons.{IsRefusedFor};
+ghost use Rattle.op_registry.specs.types.Terms.{name_term};
+ghost use Rattle.op_registry.specs.types.Things.{IsName, IsAttr};
+ghost use Rattle.op_registry.specs.types.Words.{is_table};
+ghost use Rattle.ir_store.specs.trees.Edits.{entry_at};
+ghost use Rattle.ir_store.specs.trees.Meaning.{IsSoundIn, isolated_in, key_before_in};
+ghost use Rattle.ir_store.specs.trees.WellFormed.{IsWellFormed};
+ghost use Rattle.ir_store.specs.tree_laws.Changes.{entry_in};
+ghost use Rattle.ir_store.specs.tree_laws.Reasons.{holds_none, put_reason, set_entry_reason, set_operand_reason, shift_reason, take_reason};
 ghost use Rattle.ir_store.specs.Calls.{WantsNoSlot, after_entry, after_operand, after_put, after_shift, after_take};
 ghost use Rattle.ir_event.specs.declared.event.Event.TheVariants.{Put};
 ghost use Rattle.ir_event.specs.Modules.{things_in, module_in, shown_in};
@@ -20,13 +20,13 @@ ghost use Rattle.ir_event.specs.Edits.{IsEntryEvent, IsEntryStep, IsPutStep, IsS
 use crate::event::Event;
 use crate::world::World;
 use ir_store::store::Store;
-use ir_tree::place::{Part, Place};
-use ir_tree::sound::comes_before;
-use ir_tree::tree::TreeOp;
-use ir_tree::value::Value;
-use ir_types::context::Context;
-use ir_types::ids::{AttrId, NameId, OpId};
-use ir_types::refusal::Refusal;
+use ir_store::trees::place::{Part, Place};
+use ir_store::trees::sound::comes_before;
+use ir_store::trees::tree::TreeOp;
+use ir_store::trees::value::Value;
+use op_registry::types::context::Context;
+use op_registry::types::ids::{AttrId, NameId, OpId};
+use op_registry::types::refusal::Refusal;
 
 impl World {
     /// Puts an operation at a place of the module, and gives the event: one like a header, whose blocks hold none and

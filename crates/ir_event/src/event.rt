@@ -2,9 +2,9 @@
 ghost use Rattle.std.specs.Prelude.{◌≡◌};
 ghost use Rattle.ir_event.specs.Step.{inverse_of};
 
-use ir_tree::place::{Part, Place};
-use ir_tree::value::Value;
-use ir_types::ids::{AttrId, NameId, OpId};
+use ir_store::trees::place::{Part, Place};
+use ir_store::trees::value::Value;
+use op_registry::types::ids::{AttrId, NameId, OpId};
 
 /// One elementary edit of a module.
 #[derive(Clone, Copy, Debug, PartialEq, Eq)]

@@ -1,13 +1,13 @@
 //! Laws of events. Each is a function that does nothing: its contract is the law.
 ghost use Rattle.std.specs.Prelude.{◌≡◌, ◌↔◌, ℕ, List, [], ◌∷◌, ◌++◌, Option, Some, option_map};
-ghost use Rattle.ir_types.specs.Things.{Things, Grows};
-ghost use Rattle.ir_types.specs.Sound.{Holds};
-ghost use Rattle.ir_types.specs.Words.{is_isolated};
-ghost use Rattle.ir_types.specs.declared.refusal.Refusal.{Refusal as Reason};
-ghost use Rattle.ir_tree.specs.declared.value.Value.{Value as TreeValue};
-ghost use Rattle.ir_tree.specs.Edits.{with_operand};
-ghost use Rattle.ir_tree.specs.Meaning.{IsSoundIn, isolated_in};
-ghost use Rattle.ir_tree.specs.WellFormed.{Module as Numbered, IsWellFormed};
+ghost use Rattle.op_registry.specs.types.Things.{Things, Grows};
+ghost use Rattle.op_registry.specs.types.Sound.{Holds};
+ghost use Rattle.op_registry.specs.types.Words.{is_isolated};
+ghost use Rattle.op_registry.specs.types.declared.refusal.Refusal.{Refusal as Reason};
+ghost use Rattle.ir_store.specs.trees.declared.value.Value.{Value as TreeValue};
+ghost use Rattle.ir_store.specs.trees.Edits.{with_operand};
+ghost use Rattle.ir_store.specs.trees.Meaning.{IsSoundIn, isolated_in};
+ghost use Rattle.ir_store.specs.trees.WellFormed.{Module as Numbered, IsWellFormed};
 ghost use Rattle.ir_event.specs.declared.event.Event.{Event as Edit};
 ghost use Rattle.ir_event.specs.declared.event.Event.TheVariants.{SetOperand};
 ghost use Rattle.ir_store.specs.Nodes.{Node as Numbers, node_of};
@@ -15,7 +15,7 @@ ghost use Rattle.ir_store.specs.Stored.{known};
 ghost use Rattle.ir_event.specs.declared.world.World.{World as Whole};
 ghost use Rattle.ir_event.specs.Modules.{Module, Node, NodeIsOf, module_meaning, node_meaning, shown_in};
 ghost use Rattle.ir_event.specs.Listener.{ShowsTaken};
-ghost use Rattle.ir_tree_laws.specs.Changes.{operand_at};
+ghost use Rattle.ir_store.specs.tree_laws.Changes.{operand_at};
 ghost use Rattle.ir_event.specs.Step.{IsSorted, Step, inverse_of};
 ghost use Rattle.ir_event.specs.Panels.{AllTold, AllFollowed, AllKept, AttachedLast, Detached, BegunAgain, NotBegunAgain, kinds_of};
 

@@ -15,3 +15,6 @@ pub mod tag;
 mod undo;
 pub mod view;
 pub mod world;
+
+pub use ir_store as store;
+pub use op_registry as registry;

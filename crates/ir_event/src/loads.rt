@@ -1,17 +1,17 @@
 //! Worlds that are made.
 ghost use Rattle.std.specs.Prelude.{◌≡◌, ◌<◌, ◌⊎◌, IfOk, IfErr, Some};
 ghost use Rattle.std.specs.List.{All};
-ghost use Rattle.ir_tree.specs.Ids.{ids, HasDistinctIds};
-ghost use Rattle.ir_tree.specs.Meaning.{isolated_in, IsSoundIn};
-ghost use Rattle.ir_tree.specs.WellFormed.{IsFormed, fault};
+ghost use Rattle.ir_store.specs.trees.Ids.{ids, HasDistinctIds};
+ghost use Rattle.ir_store.specs.trees.Meaning.{isolated_in, IsSoundIn};
+ghost use Rattle.ir_store.specs.trees.WellFormed.{IsFormed, fault};
 ghost use Rattle.ir_store.specs.Calls.{Loaded};
 
 use crate::world::World;
 use ir_store::store::Store;
-use ir_tree::tree::TreeOp;
-use ir_types::context::Context;
-use ir_types::refusal::Refusal;
+use ir_store::trees::tree::TreeOp;
 use op_registry::registry::Registry;
+use op_registry::types::context::Context;
+use op_registry::types::refusal::Refusal;
 use std::alloc::Global;
 
 impl World {

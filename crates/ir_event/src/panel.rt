@@ -1,7 +1,7 @@
 //! The panel, which owns listeners.
 ghost use Rattle.std.specs.Prelude.{◌≡◌, ◌⊎◌, [], OnOk, OnErr, IfErr, true, false, position, MatchResult, IsErrOf};
-ghost use Rattle.ir_types.specs.Things.{Things};
-ghost use Rattle.ir_types.specs.declared.refusal.Refusal.TheVariants.{NoSuchKind, Stale, Memory as NoMemory};
+ghost use Rattle.op_registry.specs.types.Things.{Things};
+ghost use Rattle.op_registry.specs.types.declared.refusal.Refusal.TheVariants.{NoSuchKind, Stale, Memory as NoMemory};
 ghost use Rattle.ir_event.specs.Modules.{Module, things_in, module_in, shown_in};
 ghost use Rattle.ir_event.specs.Rows.{Shows};
 ghost use Rattle.ir_event.specs.Panels.{has_kind, is_kind, AllTold, AttachedLast, HandedBack, Detached, BegunAgain, NotBegunAgain, IsListener};
@@ -11,7 +11,7 @@ use crate::event::Event;
 use crate::row::{Kind, Memory, ReportFault, Row};
 use crate::view::View;
 use crate::world::World;
-use ir_types::refusal::Refusal;
+use op_registry::types::refusal::Refusal;
 use std::alloc::Global;
 use std::marker::Model;
 

@@ -1,9 +1,9 @@
 //! The rows of reports.
 ghost use Rattle.std.specs.Prelude.{ℕ, ◌≡◌};
 
-use ir_tree::value::Value;
-use ir_types::bits::Bits;
-use ir_types::ids::{AttrId, NameId, OpId};
+use ir_store::trees::value::Value;
+use op_registry::types::bits::Bits;
+use op_registry::types::ids::{AttrId, NameId, OpId};
 use std::marker::Model;
 use thiserror::Error;
 

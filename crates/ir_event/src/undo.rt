@@ -8,7 +8,7 @@ ghost use Rattle.ir_event.specs.Undoing.{CameFrom, MayUndo, undone};
 use crate::event::Event;
 use crate::world::World;
 use ir_store::store::Store;
-use ir_types::context::Context;
+use op_registry::types::context::Context;
 
 impl World {
     /// Undoes an event that led to the module, by a step back: what was put is taken, what was taken is put back with

@@ -1,20 +1,20 @@
 //! What a listener is shown when it is told of an event.
 ghost use Rattle.std.specs.Prelude.{◌≡◌, ◌+◌, length, option_map};
-ghost use Rattle.ir_tree.specs.Ids.{has_id};
+ghost use Rattle.ir_store.specs.trees.Ids.{has_id};
 ghost use Rattle.ir_store.specs.Nodes.{node_of};
 ghost use Rattle.ir_store.specs.Stored.{known};
-ghost use Rattle.ir_tree_laws.specs.Values.{type_of_value};
+ghost use Rattle.ir_store.specs.tree_laws.Values.{type_of_value};
 ghost use Rattle.ir_store.specs.Using.{AreUses};
-ghost use Rattle.ir_tree_laws.specs.Reads.{parent_of, next_of, prev_of, first_at, last_at};
+ghost use Rattle.ir_store.specs.tree_laws.Reads.{parent_of, next_of, prev_of, first_at, last_at};
 ghost use Rattle.ir_event.specs.Looks.{more_looks, one_more};
 
 use crate::world::World;
 use ir_store::node::Node;
+use ir_store::trees::value::Value;
 use ir_store::uses::UsesOf;
-use ir_tree::value::Value;
-use ir_types::context::Context;
-use ir_types::ids::{OpId, TypeId};
 use op_registry::registry::Registry;
+use op_registry::types::context::Context;
+use op_registry::types::ids::{OpId, TypeId};
 
 /// A look at a world. It counts the calls that read the module, and can't be copied.
 #[derive(Drop)]

@@ -1,11 +1,11 @@
 //! What listeners are shown.
-ghost use Rattle.ir_tree.specs.Meaning.{IsSoundIn, isolated_in};
-ghost use Rattle.ir_tree.specs.WellFormed.{IsWellFormed};
+ghost use Rattle.ir_store.specs.trees.Meaning.{IsSoundIn, isolated_in};
+ghost use Rattle.ir_store.specs.trees.WellFormed.{IsWellFormed};
 ghost use Rattle.ir_event.specs.Facts.{HeldIsSound, sound_prop, formed_prop, held_prop};
 
 use ir_store::store::Store;
-use ir_types::context::Context;
 use op_registry::registry::Registry;
+use op_registry::types::context::Context;
 
 /// A context, the rows of its operations, and a well-formed module. The names, types and attributes of the module
 /// and of what is held of it are numbers of the context.

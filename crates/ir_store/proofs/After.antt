@@ -3,10 +3,10 @@ use Rattle.std.proofs.Common.{◌≡◌, refl, ap, sym, ◌∙◌, subst, ℕ, B
 use Rattle.std.specs.List.{list_any, IsDistinct}
 use Rattle.std.proofs.lemmas.List.Folds.{list_any-append}
 use Rattle.std.proofs.lemmas.Map.Keys.{IsDistinct-tail}
-use Rattle.ir_tree.proofs.Moves.{Absent}
-use Rattle.ir_tree.proofs.Returns.{Present, halves, absent_first}
-use Rattle.ir_tree_laws.specs.Reads.{comes_after}
-use Rattle.ir_tree_laws.proofs.Listed.{bool_cases, neither}
+use Rattle.ir_store_reads.proofs.of_trees.Moves.{Absent}
+use Rattle.ir_store_reads.proofs.of_trees.Returns.{Present, halves, absent_first}
+use Rattle.ir_store_reads.specs.tree_laws.Reads.{comes_after}
+use Rattle.ir_store_reads.proofs.of_tree_laws.Listed.{bool_cases, neither}
 
 abbrev pub there : ℕ → List ℕ → Bool
 there y xs = list_any (λ z. eqb z y) xs

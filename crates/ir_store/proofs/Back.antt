@@ -1,16 +1,16 @@
 -- An operation that was shifted can be shifted back, and then all is as it was.
 use Rattle.std.proofs.Common.{◌≡◌, refl, ap, sym, ◌∙◌, subst, ℕ, true, false, ◌||◌, eqb, Option, Some, None}
-use Rattle.ir_tree.specs.declared.place.Place.{Place}
-use Rattle.ir_tree.specs.Tree.{HeadOf, Op, OpOf, head}
-use Rattle.ir_tree.specs.Ids.{HasDistinctIds, find, has_id}
-use Rattle.ir_tree.specs.Places.{place_of, put, put_here, put_found, without, shifted}
-use Rattle.ir_tree.proofs.Returns.{put_take}
-use Rattle.ir_tree_laws.specs.Reasons.{has_place, leads_inside, before_within}
-use Rattle.ir_tree_laws.specs.Stands.{dropping}
-use Rattle.ir_tree_laws.proofs.Without.{same_head}
-use Rattle.ir_tree_laws.proofs.Changed.{spot_left}
-use Rattle.ir_tree_laws.proofs.Reverted.{inside_goes, spot_parent, spot_before, spot_was}
-use Rattle.ir_tree_laws.proofs.Shift.{Inner, inner_of, inner_place, is_put, shift_distinct, shift_found, shift_rest}
+use Rattle.ir_store_reads.specs.trees.declared.place.Place.{Place}
+use Rattle.ir_store_reads.specs.trees.Tree.{HeadOf, Op, OpOf, head}
+use Rattle.ir_store_reads.specs.trees.Ids.{HasDistinctIds, find, has_id}
+use Rattle.ir_store_reads.specs.trees.Places.{place_of, put, put_here, put_found, without, shifted}
+use Rattle.ir_store_reads.proofs.of_trees.Returns.{put_take}
+use Rattle.ir_store_reads.specs.tree_laws.Reasons.{has_place, leads_inside, before_within}
+use Rattle.ir_store_reads.specs.tree_laws.Stands.{dropping}
+use Rattle.ir_store_reads.proofs.of_tree_laws.Without.{same_head}
+use Rattle.ir_store_reads.proofs.of_tree_laws.Changed.{spot_left}
+use Rattle.ir_store_reads.proofs.of_tree_laws.Reverted.{inside_goes, spot_parent, spot_before, spot_was}
+use Rattle.ir_store_reads.proofs.of_tree_laws.Shift.{Inner, inner_of, inner_place, is_put, shift_distinct, shift_found, shift_rest}
 use Rattle.ir_store_reads.specs.Stored.{Stored}
 use Rattle.ir_store.specs.Calls.{after_shift}
 use Rattle.ir_store.specs.Shifting.{CanRelink}

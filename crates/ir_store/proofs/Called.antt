@@ -2,9 +2,9 @@
 use Rattle.std.proofs.Common.{◌≡◌, ℕ, ◌<◌, List, map, set, get_or, sym, ap, ◌∙◌, subst, length, false, Option, Some, None, arith}
 use Rattle.std.specs.FinMap as finmap
 use Rattle.ir_store_reads.specs.Lists.{Lists, free, without as drop_node, IsItem}
-use Rattle.ir_tree.specs.Tree.{Op, Head, op, head}
-use Rattle.ir_tree.specs.Ids.{find}
-use Rattle.ir_tree.specs.Places.{without}
+use Rattle.ir_store_reads.specs.trees.Tree.{Op, Head, op, head}
+use Rattle.ir_store_reads.specs.trees.Ids.{find}
+use Rattle.ir_store_reads.specs.trees.Places.{without}
 use Rattle.ir_store.specs.declared.store.Store.TheInside.{Inside}
 use Rattle.ir_store_reads.specs.Stored.{Stored}
 use Rattle.ir_store.specs.Calls.{after_take, hold}
@@ -17,10 +17,10 @@ use Rattle.std.specs.Prelude.{option_and_then, option_map, slice_get}
 use Rattle.ir_store_reads.specs.Nodes.{node_of}
 use Rattle.ir_store_reads.specs.Stored.{known}
 use Rattle.ir_store_reads.specs.Rows.{node_row, row_with_operand, live_slot}
-use Rattle.ir_tree.specs.declared.value.Value.{Value}
-use Rattle.ir_tree.specs.Edits.{with_operand}
+use Rattle.ir_store_reads.specs.trees.declared.value.Value.{Value}
+use Rattle.ir_store_reads.specs.trees.Edits.{with_operand}
 use Rattle.ir_store.specs.Calls.{after_operand}
-use Rattle.ir_tree_laws.specs.Changes.{operand_at}
+use Rattle.ir_store_reads.specs.tree_laws.Changes.{operand_at}
 use Rattle.ir_store_reads.proofs.Slots.{Found, found}
 use Rattle.ir_store.proofs.Writing.{write_spells, write_right, write_holds, write_gone}
 use Rattle.ir_store.proofs.Taking.{IsLeaf, cut_spells, cut_right, cut_holds, cut_gone}

@@ -2,16 +2,16 @@
 use Rattle.std.proofs.Common.{◌≡◌, ℕ, ◌<◌, sym, subst, length, true, Option, Some, None, arith}
 use Rattle.std.specs.Prelude.{Result, Ok, Err, MatchResult, IfSome, nat_lt}
 use Rattle.std.proofs.lemmas.Bool.Decides.{nat_tests}
-use Rattle.ir_types.specs.Things.{Things, IsName, IsAttr}
-use Rattle.ir_types.specs.Reasons.{IsRefusedFor}
-use Rattle.ir_types.specs.declared.refusal.Refusal.{Refusal}
-use Rattle.ir_tree.specs.declared.place.Part.{Part}
-use Rattle.ir_tree.specs.Meaning.{IsSoundIn, key_before_in, isolated_in, is_attr}
-use Rattle.ir_tree.specs.WellFormed.{IsWellFormed}
-use Rattle.ir_tree.proofs.SoundEdits.{entry_sound}
-use Rattle.ir_tree_laws.specs.Reasons.{set_entry_reason}
-use Rattle.ir_tree_laws.proofs.Keys.{key_before_trans}
-use Rattle.ir_tree_laws.proofs.HeadForm.{entry_keeps}
+use Rattle.ir_store_reads.specs.types.Things.{Things, IsName, IsAttr}
+use Rattle.ir_store_reads.specs.types.Reasons.{IsRefusedFor}
+use Rattle.ir_store_reads.specs.types.declared.refusal.Refusal.{Refusal}
+use Rattle.ir_store_reads.specs.trees.declared.place.Part.{Part}
+use Rattle.ir_store_reads.specs.trees.Meaning.{IsSoundIn, key_before_in, isolated_in, is_attr}
+use Rattle.ir_store_reads.specs.trees.WellFormed.{IsWellFormed}
+use Rattle.ir_store_reads.proofs.of_trees.SoundEdits.{entry_sound}
+use Rattle.ir_store_reads.specs.tree_laws.Reasons.{set_entry_reason}
+use Rattle.ir_store_reads.proofs.of_tree_laws.Keys.{key_before_trans}
+use Rattle.ir_store_reads.proofs.of_tree_laws.HeadForm.{entry_keeps}
 use Rattle.ir_store_reads.specs.Stored.{Stored}
 use Rattle.ir_store.specs.Calls.{after_entry}
 

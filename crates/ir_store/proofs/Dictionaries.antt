@@ -3,21 +3,21 @@ use Rattle.std.proofs.Common.{◌≡◌, ℕ, ◌<◌, List, [], set, get_or, re
 use Rattle.std.specs.Prelude.{if◌then◌else◌, Result, Ok, Err, OnOk, OnErr, is_some, option_map}
 use Rattle.std.specs.FinMap as finmap
 use Rattle.std.proofs.lemmas.Bool.{false≢true}
-use Rattle.ir_types.specs.declared.refusal.Refusal.{Refusal}
-use Rattle.ir_types.specs.declared.refusal.Refusal.TheVariants.{NoSuchKey, Memory}
-use Rattle.ir_types.specs.Reasons.{IsRefusedFor}
-use Rattle.ir_tree.specs.declared.place.Part.{Part}
-use Rattle.ir_tree.specs.declared.place.Part.TheVariants.{Props, Attrs}
-use Rattle.ir_tree.specs.Tree.{Head, Op, op, head}
-use Rattle.ir_tree.specs.Ids.{find, has_id}
-use Rattle.ir_tree.specs.Limits.{every}
-use Rattle.ir_tree.specs.Meaning.{dictionaries_rise, rises}
-use Rattle.ir_tree.specs.Edits.{at, part_of, change_part, change_entry, with_entry, entry_at}
-use Rattle.ir_tree_laws.specs.Reasons.{entry_reason, found_entry_reason, set_entry_reason}
-use Rattle.ir_tree_laws.proofs.Listed.{all_each, both}
-use Rattle.ir_tree_laws.specs.Stands.{stands as all_stands}
-use Rattle.ir_tree_laws.proofs.Readings.{stands_every}
-use Rattle.ir_tree_laws.proofs.Members.{found_stands}
+use Rattle.ir_store_reads.specs.types.declared.refusal.Refusal.{Refusal}
+use Rattle.ir_store_reads.specs.types.declared.refusal.Refusal.TheVariants.{NoSuchKey, Memory}
+use Rattle.ir_store_reads.specs.types.Reasons.{IsRefusedFor}
+use Rattle.ir_store_reads.specs.trees.declared.place.Part.{Part}
+use Rattle.ir_store_reads.specs.trees.declared.place.Part.TheVariants.{Props, Attrs}
+use Rattle.ir_store_reads.specs.trees.Tree.{Head, Op, op, head}
+use Rattle.ir_store_reads.specs.trees.Ids.{find, has_id}
+use Rattle.ir_store_reads.specs.trees.Limits.{every}
+use Rattle.ir_store_reads.specs.trees.Meaning.{dictionaries_rise, rises}
+use Rattle.ir_store_reads.specs.trees.Edits.{at, part_of, change_part, change_entry, with_entry, entry_at}
+use Rattle.ir_store_reads.specs.tree_laws.Reasons.{entry_reason, found_entry_reason, set_entry_reason}
+use Rattle.ir_store_reads.proofs.of_tree_laws.Listed.{all_each, both}
+use Rattle.ir_store_reads.specs.tree_laws.Stands.{stands as all_stands}
+use Rattle.ir_store_reads.proofs.of_tree_laws.Readings.{stands_every}
+use Rattle.ir_store_reads.proofs.of_tree_laws.Members.{found_stands}
 use Rattle.ir_store_reads.specs.Slots.{gone_after, has_key, has_slot as is_slot}
 use Rattle.ir_store.specs.declared.store.Store.TheInside.{Inside}
 use Rattle.ir_store_reads.specs.Nodes.{node_of}

@@ -2,13 +2,13 @@
 use Rattle.std.proofs.Common.{◌≡◌, ℕ, List, [], ◌∷◌, ◌++◌, refl, sym, ap, ◌∙◌, subst, length, Bool, true, false, eqb, ◌||◌, Some, None}
 use Rattle.std.specs.List.{list_any, IsDistinct}
 use Rattle.std.proofs.lemmas.Bool.{false≢true, eqb-true}
-use Rattle.ir_tree.specs.declared.place.Place.{Place}
-use Rattle.ir_tree.specs.Tree.{Head, Op, op, Regions, no_regions, region, Region, empty, block, Ops, no_ops, next}
-use Rattle.ir_tree.specs.Ids.{ids, regions_ids, region_ids, ops_ids, has_id, HasDistinctIds, op_count}
-use Rattle.ir_tree.specs.Edits.{each_head, regions_each_head, region_each_head, ops_each_head}
-use Rattle.ir_tree.specs.Places.{put}
-use Rattle.ir_tree.proofs.Gained.{gained_distinct}
-use Rattle.ir_tree.proofs.Returns.{cons_distinct, nil_distinct}
+use Rattle.ir_store_reads.specs.trees.declared.place.Place.{Place}
+use Rattle.ir_store_reads.specs.trees.Tree.{Head, Op, op, Regions, no_regions, region, Region, empty, block, Ops, no_ops, next}
+use Rattle.ir_store_reads.specs.trees.Ids.{ids, regions_ids, region_ids, ops_ids, has_id, HasDistinctIds, op_count}
+use Rattle.ir_store_reads.specs.trees.Edits.{each_head, regions_each_head, region_each_head, ops_each_head}
+use Rattle.ir_store_reads.specs.trees.Places.{put}
+use Rattle.ir_store_reads.proofs.of_trees.Gained.{gained_distinct}
+use Rattle.ir_store_reads.proofs.of_trees.Returns.{cons_distinct, nil_distinct}
 use Rattle.ir_store_reads.specs.Rows.{Row, Shape, bare, bare_regions}
 
 bare_ids : (xs : List Shape) → regions_ids (bare_regions xs) ≡ []

@@ -1,8 +1,8 @@
 -- What stands last in an operation, in slots and in the tree.
 use Rattle.std.proofs.Common.{◌≡◌, ℕ, ◌<◌, List, [], ◌∷◌, ◌++◌, refl, sym, ap, ◌∙◌, subst, length, length-append, append_assoc, append-nil, Option, Some, None, arith}
 use Rattle.ir_store_reads.specs.Lists.{last_of, list_at}
-use Rattle.ir_tree.specs.Tree.{Op, op, Regions, no_regions, region, empty, block, Ops, no_ops, next}
-use Rattle.ir_tree.specs.Ids.{ids, regions_ids, ops_ids, find, first_of}
+use Rattle.ir_store_reads.specs.trees.Tree.{Op, op, Regions, no_regions, region, empty, block, Ops, no_ops, next}
+use Rattle.ir_store_reads.specs.trees.Ids.{ids, regions_ids, ops_ids, find, first_of}
 use Rattle.ir_store_reads.specs.Rows.{Row, Shape, row_at, live_slot}
 use Rattle.ir_store_reads.specs.Spells.{SpellsOp, SpellsRegions, SpellsOps, SpellsOp-one}
 use Rattle.ir_store_reads.specs.Right.{Live}

@@ -5,10 +5,10 @@ use Rattle.std.specs.Ordering.{nat_cmp}
 use Rattle.std.specs.Cmp.{nat_cmp_total}
 use Rattle.std.proofs.lemmas.Bool.{cases_eq, eq-eqb, ne_eqb, cond-true, cond-false, cond_both}
 use Rattle.ir_store_reads.specs.Lists.{Lists}
-use Rattle.ir_tree.specs.Tree.{Head, Op}
-use Rattle.ir_tree.specs.Frames.{owner_of}
-use Rattle.ir_tree.specs.Ids.{has_id, op_count}
-use Rattle.ir_tree.specs.Edits.{each_head, at}
+use Rattle.ir_store_reads.specs.trees.Tree.{Head, Op}
+use Rattle.ir_store_reads.specs.trees.Frames.{owner_of}
+use Rattle.ir_store_reads.specs.trees.Ids.{has_id, op_count}
+use Rattle.ir_store_reads.specs.trees.Edits.{each_head, at}
 use Rattle.ir_store_reads.specs.Stored.{Gone}
 use Rattle.ir_store.specs.Calls.{change_gone_of}
 use Rattle.ir_store_reads.specs.Rows.{Row, row_at, held_in, gone_in}

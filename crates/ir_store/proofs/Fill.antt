@@ -7,11 +7,11 @@ use Rattle.std.specs.FinMap as finmap
 use Rattle.std.proofs.lemmas.Bool.{cases_eq, eq-eqb, ne_eqb, cond-true, cond-false, false≢true}
 use Rattle.std.proofs.lemmas.Bool.Decides.{nat_tests}
 use Rattle.ir_store_reads.specs.Lists.{IsHead, IsFree, home_at, free}
-use Rattle.ir_tree.specs.declared.value.Value.{Value}
-use Rattle.ir_tree.specs.declared.value.Value.TheVariants.{Result, Arg}
-use Rattle.ir_tree.specs.Frames.{owner_of}
-use Rattle.ir_tree.specs.Ids.{has_id}
-use Rattle.ir_tree.specs.Tree.{Op}
+use Rattle.ir_store_reads.specs.trees.declared.value.Value.{Value}
+use Rattle.ir_store_reads.specs.trees.declared.value.Value.TheVariants.{Result, Arg}
+use Rattle.ir_store_reads.specs.trees.Frames.{owner_of}
+use Rattle.ir_store_reads.specs.trees.Ids.{has_id}
+use Rattle.ir_store_reads.specs.trees.Tree.{Op}
 use Rattle.ir_store_reads.specs.Stored.{Gone}
 use Rattle.ir_store_reads.specs.Rows.{Row, Shape, row_at, held_in, gone_in, bare}
 use Rattle.ir_store_reads.specs.Spells.{SpellsOp}

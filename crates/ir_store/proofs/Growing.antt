@@ -6,8 +6,8 @@ use Rattle.std.specs.Cmp.{nat_cmp_total}
 use Rattle.std.proofs.lemmas.Bool.{cases_Bool, cases_eq, eq-eqb, ne_eqb, cases_lt}
 use Rattle.ir_store_reads.proofs.Items.{eq_nat}
 use Rattle.ir_store_reads.specs.Lists.{Laws, free}
-use Rattle.ir_tree.specs.Tree.{Op}
-use Rattle.ir_tree.specs.Ids.{HasDistinctIds, find, first_of, op_count}
+use Rattle.ir_store_reads.specs.trees.Tree.{Op}
+use Rattle.ir_store_reads.specs.trees.Ids.{HasDistinctIds, find, first_of, op_count}
 use Rattle.ir_store.specs.declared.store.Store.TheInside.{Inside}
 use Rattle.ir_store_reads.specs.Stored.{Stored, known}
 use Rattle.ir_store_reads.specs.Emptied.{after_grow}

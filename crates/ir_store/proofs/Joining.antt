@@ -6,10 +6,10 @@ use Rattle.std.specs.FinMap as finmap
 use Rattle.std.proofs.lemmas.Bool.{cases_eq, eq-eqb, ne_eqb, cond-true, cond-false, cases_Bool, false≢true}
 use Rattle.std.proofs.lemmas.List.{get_or-set_same, get_or-set_other, length-set}
 use Rattle.ir_store_reads.specs.Lists.{Lists, Laws, list_at, home_at, free, has, IsHead, IsItem, IsFree}
-use Rattle.ir_tree.specs.declared.place.Place.{Place}
-use Rattle.ir_tree.specs.Tree.{Op, op, Ops, no_ops}
-use Rattle.ir_tree.specs.Ids.{has_id, find}
-use Rattle.ir_tree.specs.Places.{put, put_here, put_in, is_in_block}
+use Rattle.ir_store_reads.specs.trees.declared.place.Place.{Place}
+use Rattle.ir_store_reads.specs.trees.Tree.{Op, op, Ops, no_ops}
+use Rattle.ir_store_reads.specs.trees.Ids.{has_id, find}
+use Rattle.ir_store_reads.specs.trees.Places.{put, put_here, put_in, is_in_block}
 use Rattle.ir_store_reads.specs.Rows.{Row, Shape, row_at, bare, bare_regions, held_in, gone_in}
 use Rattle.ir_store_reads.specs.Spells.{SpellsOp, SpellsRegions, SpellsOps}
 use Rattle.ir_store_reads.specs.Spots.{joined}

@@ -6,20 +6,20 @@ use Rattle.std.proofs.lemmas.Bool.{and_cases, or_cases, or_left, or_right}
 use Rattle.std.proofs.lemmas.Bool.Decides.{nat_tests}
 use Rattle.std.proofs.lemmas.List.Folds.{list_all-append}
 use Rattle.ir_store_reads.specs.Lists.{Laws, has, list_at, home_at}
-use Rattle.ir_tree.specs.declared.value.Value.{Value}
-use Rattle.ir_tree.specs.declared.value.Value.TheVariants.{Result as ResultOf, Arg}
-use Rattle.ir_tree.specs.Tree.{Op, op, Regions, no_regions, region, empty, block, Ops, no_ops, next, head}
-use Rattle.ir_tree.specs.Frames.{owner_of}
-use Rattle.ir_tree.specs.Ids.{ids, regions_ids, ops_ids, find, has_id}
-use Rattle.ir_tree.specs.Limits.{depth, regions_depth, ops_depth}
-use Rattle.ir_tree.specs.Places.{without}
-use Rattle.ir_tree_laws.specs.Members.{In}
-use Rattle.ir_tree_laws.specs.Reads.{is_within}
-use Rattle.ir_tree_laws.specs.Reasons.{leaves_within, unused_outside}
-use Rattle.ir_tree_laws.specs.Stands.{StandOf, stand_id, stands, is_gone}
-use Rattle.ir_tree_laws.proofs.Listed.{any_one, bool_cases, both, each_all}
-use Rattle.ir_tree_laws.proofs.Members.{stand_found}
-use Rattle.ir_tree_laws.proofs.Around.{stand_present}
+use Rattle.ir_store_reads.specs.trees.declared.value.Value.{Value}
+use Rattle.ir_store_reads.specs.trees.declared.value.Value.TheVariants.{Result as ResultOf, Arg}
+use Rattle.ir_store_reads.specs.trees.Tree.{Op, op, Regions, no_regions, region, empty, block, Ops, no_ops, next, head}
+use Rattle.ir_store_reads.specs.trees.Frames.{owner_of}
+use Rattle.ir_store_reads.specs.trees.Ids.{ids, regions_ids, ops_ids, find, has_id}
+use Rattle.ir_store_reads.specs.trees.Limits.{depth, regions_depth, ops_depth}
+use Rattle.ir_store_reads.specs.trees.Places.{without}
+use Rattle.ir_store_reads.specs.tree_laws.Members.{In}
+use Rattle.ir_store_reads.specs.tree_laws.Reads.{is_within}
+use Rattle.ir_store_reads.specs.tree_laws.Reasons.{leaves_within, unused_outside}
+use Rattle.ir_store_reads.specs.tree_laws.Stands.{StandOf, stand_id, stands, is_gone}
+use Rattle.ir_store_reads.proofs.of_tree_laws.Listed.{any_one, bool_cases, both, each_all}
+use Rattle.ir_store_reads.proofs.of_tree_laws.Members.{stand_found}
+use Rattle.ir_store_reads.proofs.of_tree_laws.Around.{stand_present}
 use Rattle.ir_store.specs.declared.store.Store.TheInside.{Inside}
 use Rattle.ir_store_reads.specs.Stored.{Stored}
 use Rattle.ir_store_reads.specs.Rows.{Row, Shape, row_at, live_slot}

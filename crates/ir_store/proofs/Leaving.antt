@@ -1,21 +1,21 @@
 -- What stays where an operation is taken out.
 use Rattle.std.proofs.Common.{◌≡◌, ℕ, ◌<◌, ◌≤◌, List, [], ◌∷◌, refl, sym, ap, ◌∙◌, subst, length, length-append, Bool, true, false, true≢false, eqb, eqb-true, Option, Some, None, arith, inl, inr}
-use Rattle.ir_tree.specs.Tree.{OpOf, op, RegionsOf, no_regions, region, RegionOf, empty, block, OpsOf, no_ops, next, head}
-use Rattle.ir_tree.specs.Ids.{HasDistinctIds, ids, regions_ids, region_ids, ops_ids, find, has_id, op_count}
-use Rattle.ir_tree.specs.Limits.{depth, regions_depth, region_depth, ops_depth}
-use Rattle.ir_tree.specs.Places.{without}
-use Rattle.ir_tree_laws.specs.Members.{In}
-use Rattle.ir_tree_laws.specs.Reads.{is_within}
-use Rattle.ir_tree_laws.specs.Reasons.{leaves_within, unused_outside}
-use Rattle.ir_tree_laws.specs.Stands.{StepOf, StandOf, stand_id, stands, dropping, is_gone, left_stand}
-use Rattle.ir_tree_laws.proofs.Listed.{all_each, each_all, bool_cases}
-use Rattle.ir_tree_laws.proofs.Readings.{stands_every}
-use Rattle.ir_tree_laws.proofs.Members.{stand, itself, same_stand, stand_found}
-use Rattle.ir_tree_laws.proofs.Around.{stand_present, present_stand, gone_within}
-use Rattle.ir_tree_laws.proofs.Edited.{taken_op_count}
-use Rattle.ir_tree_laws.proofs.Reverted.{inside_goes}
-use Rattle.ir_tree_laws.proofs.Shift.{inner_of}
-use Rattle.ir_tree_laws.proofs.Without.{same_head, left_member, member_left}
+use Rattle.ir_store_reads.specs.trees.Tree.{OpOf, op, RegionsOf, no_regions, region, RegionOf, empty, block, OpsOf, no_ops, next, head}
+use Rattle.ir_store_reads.specs.trees.Ids.{HasDistinctIds, ids, regions_ids, region_ids, ops_ids, find, has_id, op_count}
+use Rattle.ir_store_reads.specs.trees.Limits.{depth, regions_depth, region_depth, ops_depth}
+use Rattle.ir_store_reads.specs.trees.Places.{without}
+use Rattle.ir_store_reads.specs.tree_laws.Members.{In}
+use Rattle.ir_store_reads.specs.tree_laws.Reads.{is_within}
+use Rattle.ir_store_reads.specs.tree_laws.Reasons.{leaves_within, unused_outside}
+use Rattle.ir_store_reads.specs.tree_laws.Stands.{StepOf, StandOf, stand_id, stands, dropping, is_gone, left_stand}
+use Rattle.ir_store_reads.proofs.of_tree_laws.Listed.{all_each, each_all, bool_cases}
+use Rattle.ir_store_reads.proofs.of_tree_laws.Readings.{stands_every}
+use Rattle.ir_store_reads.proofs.of_tree_laws.Members.{stand, itself, same_stand, stand_found}
+use Rattle.ir_store_reads.proofs.of_tree_laws.Around.{stand_present, present_stand, gone_within}
+use Rattle.ir_store_reads.proofs.of_tree_laws.Edited.{taken_op_count}
+use Rattle.ir_store_reads.proofs.of_tree_laws.Reverted.{inside_goes}
+use Rattle.ir_store_reads.proofs.of_tree_laws.Shift.{inner_of}
+use Rattle.ir_store_reads.proofs.of_tree_laws.Without.{same_head, left_member, member_left}
 
 same_bool : (a b : Bool) → (a ≡ true → b ≡ true) → (b ≡ true → a ≡ true) → a ≡ b
 same_bool true b f g = sym (f refl)

@@ -5,17 +5,17 @@ use Rattle.std.proofs.lemmas.Bool.{cases_eq, eq-eqb, ne_eqb, or_left, or_right}
 use Rattle.std.proofs.lemmas.List.{get_or_past}
 use Rattle.ir_store_reads.specs.Lists.{Lists, Laws, has, before, last_of, list_at, home_at, free, IsHead}
 use Rattle.ir_store_reads.specs.Labels.{goes_before as slot_before}
-use Rattle.ir_tree.specs.declared.place.Place.{Place}
-use Rattle.ir_tree.specs.Tree.{Op, op, Regions, no_regions, region, empty, block, Ops, no_ops, next, head, regions, ops_of, op_list}
-use Rattle.ir_tree.specs.Ids.{HasDistinctIds, first_of}
-use Rattle.ir_tree.specs.Places.{place_of, first_id}
-use Rattle.ir_tree_laws.specs.Members.{In}
-use Rattle.ir_tree_laws.specs.Values.{region_at}
-use Rattle.ir_tree_laws.specs.Stands.{StepOf, StandOf, stand_id, stands, place_in}
-use Rattle.ir_tree_laws.specs.Reads.{ops_in, ops_at, last_id, is_among, goes_before, id_before, list_of, in_list, is_before}
-use Rattle.ir_tree_laws.proofs.Members.{stand}
-use Rattle.ir_tree_laws.proofs.Around.{member_of_place}
-use Rattle.ir_tree_laws.proofs.Neighbours.{list_there}
+use Rattle.ir_store_reads.specs.trees.declared.place.Place.{Place}
+use Rattle.ir_store_reads.specs.trees.Tree.{Op, op, Regions, no_regions, region, empty, block, Ops, no_ops, next, head, regions, ops_of, op_list}
+use Rattle.ir_store_reads.specs.trees.Ids.{HasDistinctIds, first_of}
+use Rattle.ir_store_reads.specs.trees.Places.{place_of, first_id}
+use Rattle.ir_store_reads.specs.tree_laws.Members.{In}
+use Rattle.ir_store_reads.specs.tree_laws.Values.{region_at}
+use Rattle.ir_store_reads.specs.tree_laws.Stands.{StepOf, StandOf, stand_id, stands, place_in}
+use Rattle.ir_store_reads.specs.tree_laws.Reads.{ops_in, ops_at, last_id, is_among, goes_before, id_before, list_of, in_list, is_before}
+use Rattle.ir_store_reads.proofs.of_tree_laws.Members.{stand}
+use Rattle.ir_store_reads.proofs.of_tree_laws.Around.{member_of_place}
+use Rattle.ir_store_reads.proofs.of_tree_laws.Neighbours.{list_there}
 use Rattle.ir_store_reads.specs.Rows.{Row, Shape, row_at, live_slot, head_in}
 use Rattle.ir_store_reads.specs.Spells.{SpellsOp, SpellsRegions, SpellsOps}
 use Rattle.ir_store_reads.specs.Spots.{id_in, slot_place}

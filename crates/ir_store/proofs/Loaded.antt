@@ -4,18 +4,18 @@ use Rattle.std.specs.Prelude.{option_and_then, if◌then◌else◌}
 use Rattle.std.specs.List.{list_any, IsDistinct}
 use Rattle.std.proofs.lemmas.Bool.{cases_Bool, false≢true, eq-eqb}
 use Rattle.std.proofs.lemmas.List.{append_assoc, append-nil}
-use Rattle.ir_tree.specs.declared.place.Place.{Place}
-use Rattle.ir_tree.specs.Tree.{Head, Op, op, Regions, no_regions, region, Region, empty, block, Ops, no_ops, next, head, regions}
-use Rattle.ir_tree.specs.Ids.{HasDistinctIds, ids, regions_ids, region_ids, ops_ids, has_id, regions_find}
-use Rattle.ir_tree.specs.Places.{put, put_last}
-use Rattle.ir_tree.proofs.Moves.{Absent}
-use Rattle.ir_tree.proofs.Returns.{halves, absent_first}
-use Rattle.ir_tree_laws.specs.Nested.{with_last}
-use Rattle.ir_tree_laws.specs.Reads.{ops_in}
-use Rattle.ir_tree_laws.specs.Reasons.{is_in_list}
-use Rattle.ir_tree_laws.specs.Values.{region_at}
-use Rattle.ir_tree_laws.specs.Restores.{MayPut}
-use Rattle.ir_tree_laws.proofs.Nested.{put_along, may_along, put_at_end}
+use Rattle.ir_store_reads.specs.trees.declared.place.Place.{Place}
+use Rattle.ir_store_reads.specs.trees.Tree.{Head, Op, op, Regions, no_regions, region, Region, empty, block, Ops, no_ops, next, head, regions}
+use Rattle.ir_store_reads.specs.trees.Ids.{HasDistinctIds, ids, regions_ids, region_ids, ops_ids, has_id, regions_find}
+use Rattle.ir_store_reads.specs.trees.Places.{put, put_last}
+use Rattle.ir_store_reads.proofs.of_trees.Moves.{Absent}
+use Rattle.ir_store_reads.proofs.of_trees.Returns.{halves, absent_first}
+use Rattle.ir_store_reads.specs.tree_laws.Nested.{with_last}
+use Rattle.ir_store_reads.specs.tree_laws.Reads.{ops_in}
+use Rattle.ir_store_reads.specs.tree_laws.Reasons.{is_in_list}
+use Rattle.ir_store_reads.specs.tree_laws.Values.{region_at}
+use Rattle.ir_store_reads.specs.tree_laws.Restores.{MayPut}
+use Rattle.ir_store_reads.proofs.of_tree_laws.Nested.{put_along, may_along, put_at_end}
 use Rattle.ir_store_reads.specs.Emptied.{emptied_regions, emptied}
 use Rattle.ir_store.specs.Loads.{end_of, put_ops, put_regions, MayOps, MayRegions}
 

@@ -7,17 +7,17 @@ use Rattle.std.specs.Ordering.{nat_cmp}
 use Rattle.std.specs.Cmp.{nat_cmp_total}
 use Rattle.std.specs.FinMap as finmap
 use Rattle.std.proofs.lemmas.Bool.{cases_eq, eq-eqb, ne_eqb, cond-true, cond-false, false≢true, eqb-true, or_cases}
-use Rattle.ir_tree.specs.declared.tree.TreeRegion.{TreeRegion}
-use Rattle.ir_tree.specs.View.{region_view}
-use Rattle.ir_tree.specs.Tree.{Op, op, Regions, no_regions, region, Region, block, Ops, no_ops, next, head, regions, regions_of, ops_of, op_size, regions_size, region_size, ops_size}
-use Rattle.ir_tree.specs.Ids.{HasDistinctIds, ids, regions_ids, region_ids, ops_ids, has_id, first_of}
-use Rattle.ir_tree.specs.Places.{put}
-use Rattle.ir_tree.specs.declared.value.Value.{Value}
-use Rattle.ir_tree.specs.Sites.{in_scope, inside, regions_sites, sees_operands, operands_visible}
+use Rattle.ir_store_reads.specs.trees.declared.tree.TreeRegion.{TreeRegion}
+use Rattle.ir_store_reads.specs.trees.View.{region_view}
+use Rattle.ir_store_reads.specs.trees.Tree.{Op, op, Regions, no_regions, region, Region, block, Ops, no_ops, next, head, regions, regions_of, ops_of, op_size, regions_size, region_size, ops_size}
+use Rattle.ir_store_reads.specs.trees.Ids.{HasDistinctIds, ids, regions_ids, region_ids, ops_ids, has_id, first_of}
+use Rattle.ir_store_reads.specs.trees.Places.{put}
+use Rattle.ir_store_reads.specs.trees.declared.value.Value.{Value}
+use Rattle.ir_store_reads.specs.trees.Sites.{in_scope, inside, regions_sites, sees_operands, operands_visible}
 use Rattle.std.proofs.lemmas.List.Elements.{recursion_from_All}
-use Rattle.ir_tree_laws.specs.Reasons.{with_id}
-use Rattle.ir_tree_laws.specs.Restores.{MayPut}
-use Rattle.ir_tree_laws.specs.Values.{has_value}
+use Rattle.ir_store_reads.specs.tree_laws.Reasons.{with_id}
+use Rattle.ir_store_reads.specs.tree_laws.Restores.{MayPut}
+use Rattle.ir_store_reads.specs.tree_laws.Values.{has_value}
 use Rattle.ir_store_reads.specs.Stored.{Stored, Gone, none_gone, known}
 use Rattle.ir_store_reads.specs.Emptied.{seeded, emptied_regions, emptied, after_grow}
 use Rattle.ir_store.specs.Calls.{Loaded, CanRestore, after_restore, put_held}

@@ -3,23 +3,23 @@ use Rattle.std.proofs.Common.{◌≡◌, refl, ap, sym, ◌∙◌, subst, ℕ, �
 use Rattle.std.specs.Prelude.{nat_lt, is_some}
 use Rattle.std.proofs.lemmas.Bool.{leb-true}
 use Rattle.std.proofs.lemmas.Bool.Decides.{nat_tests}
-use Rattle.ir_types.specs.declared.refusal.Refusal.{Refusal}
-use Rattle.ir_types.specs.declared.refusal.Refusal.TheVariants.{NoSuchOp, NoSuchIndex, NotVisible, IsRoot, IntoItself, OtherTable, TooDeepHere}
-use Rattle.ir_types.specs.Reasons.{first_reason}
-use Rattle.ir_tree.specs.declared.place.Place.{Place}
-use Rattle.ir_tree.specs.Tree.{Op, OpOf, op, head}
-use Rattle.ir_tree.specs.Ids.{find, has_id}
-use Rattle.ir_tree.specs.Limits.{items_fit, most_around, most_items, op_fits}
-use Rattle.ir_tree.specs.Places.{shifted}
-use Rattle.ir_tree.specs.Sites.{operands_visible}
-use Rattle.ir_tree.specs.WellFormed.{IsWellFormed, Module}
-use Rattle.ir_tree_laws.specs.Reads.{around}
-use Rattle.ir_tree_laws.specs.Tables.{table_of}
-use Rattle.ir_tree_laws.specs.Reasons.{unless, has_place, leads_inside, same_table, fits_around, levels_in, shift_reason}
-use Rattle.ir_tree_laws.proofs.Listed.{both}
-use Rattle.ir_tree_laws.proofs.Formed.{from_formed}
-use Rattle.ir_tree_laws.proofs.Members.{found_stands}
-use Rattle.ir_tree_laws.proofs.Reasoned.{no_unless}
+use Rattle.ir_store_reads.specs.types.declared.refusal.Refusal.{Refusal}
+use Rattle.ir_store_reads.specs.types.declared.refusal.Refusal.TheVariants.{NoSuchOp, NoSuchIndex, NotVisible, IsRoot, IntoItself, OtherTable, TooDeepHere}
+use Rattle.ir_store_reads.specs.types.Reasons.{first_reason}
+use Rattle.ir_store_reads.specs.trees.declared.place.Place.{Place}
+use Rattle.ir_store_reads.specs.trees.Tree.{Op, OpOf, op, head}
+use Rattle.ir_store_reads.specs.trees.Ids.{find, has_id}
+use Rattle.ir_store_reads.specs.trees.Limits.{items_fit, most_around, most_items, op_fits}
+use Rattle.ir_store_reads.specs.trees.Places.{shifted}
+use Rattle.ir_store_reads.specs.trees.Sites.{operands_visible}
+use Rattle.ir_store_reads.specs.trees.WellFormed.{IsWellFormed, Module}
+use Rattle.ir_store_reads.specs.tree_laws.Reads.{around}
+use Rattle.ir_store_reads.specs.tree_laws.Tables.{table_of}
+use Rattle.ir_store_reads.specs.tree_laws.Reasons.{unless, has_place, leads_inside, same_table, fits_around, levels_in, shift_reason}
+use Rattle.ir_store_reads.proofs.of_tree_laws.Listed.{both}
+use Rattle.ir_store_reads.proofs.of_tree_laws.Formed.{from_formed}
+use Rattle.ir_store_reads.proofs.of_tree_laws.Members.{found_stands}
+use Rattle.ir_store_reads.proofs.of_tree_laws.Reasoned.{no_unless}
 use Rattle.ir_store.specs.Shifting.{CanRelink, relink_reason, unseen_reason}
 use Rattle.ir_store.specs.Looks.{CanLook, is_seen, results_in}
 use Rattle.ir_store.proofs.Relinked.{can_relink, parent_there}

@@ -4,21 +4,21 @@ use Rattle.std.specs.Prelude.{nat_lt, option_and_then}
 use Rattle.std.specs.List.{IsDistinct}
 use Rattle.std.proofs.lemmas.Bool.{cases_eq, cases_lt, ne_eqb, lt-ltb, ltb-true}
 use Rattle.std.proofs.lemmas.Map.Keys.{IsDistinct-tail}
-use Rattle.ir_tree.specs.declared.place.Place.{Place}
-use Rattle.ir_tree.specs.Tree.{OpOf, RegionOf, empty, block, OpsOf, head, regions, ops_of, op_list}
-use Rattle.ir_tree.specs.Ids.{ids, regions_ids, HasDistinctIds, find}
-use Rattle.ir_tree.specs.Places.{place_of, first_id}
-use Rattle.ir_tree.proofs.Moves.{Absent}
-use Rattle.ir_tree.proofs.Returns.{Present, halves}
-use Rattle.ir_tree_laws.specs.Members.{In}
-use Rattle.ir_tree_laws.specs.Values.{region_at}
-use Rattle.ir_tree_laws.specs.Reads.{parent_of, ops_in, ops_at, is_among, goes_before, list_of, in_list, is_before, comes_after, precedes}
-use Rattle.ir_tree_laws.specs.Stands.{StepOf, StandOf, stand_id, stands, stand_in}
-use Rattle.ir_tree_laws.proofs.Listed.{bool_cases, or_left, or_right}
-use Rattle.ir_tree_laws.proofs.Members.{stand, itself, within, has_around, member, stand_found}
-use Rattle.ir_tree_laws.proofs.Around.{around_there, stand_present, present_stand, place_of_member, stands_around}
-use Rattle.ir_tree_laws.proofs.Neighbours.{list_there, parent_there}
-use Rattle.ir_tree_laws.proofs.Cuts.{preorder}
+use Rattle.ir_store_reads.specs.trees.declared.place.Place.{Place}
+use Rattle.ir_store_reads.specs.trees.Tree.{OpOf, RegionOf, empty, block, OpsOf, head, regions, ops_of, op_list}
+use Rattle.ir_store_reads.specs.trees.Ids.{ids, regions_ids, HasDistinctIds, find}
+use Rattle.ir_store_reads.specs.trees.Places.{place_of, first_id}
+use Rattle.ir_store_reads.proofs.of_trees.Moves.{Absent}
+use Rattle.ir_store_reads.proofs.of_trees.Returns.{Present, halves}
+use Rattle.ir_store_reads.specs.tree_laws.Members.{In}
+use Rattle.ir_store_reads.specs.tree_laws.Values.{region_at}
+use Rattle.ir_store_reads.specs.tree_laws.Reads.{parent_of, ops_in, ops_at, is_among, goes_before, list_of, in_list, is_before, comes_after, precedes}
+use Rattle.ir_store_reads.specs.tree_laws.Stands.{StepOf, StandOf, stand_id, stands, stand_in}
+use Rattle.ir_store_reads.proofs.of_tree_laws.Listed.{bool_cases, or_left, or_right}
+use Rattle.ir_store_reads.proofs.of_tree_laws.Members.{stand, itself, within, has_around, member, stand_found}
+use Rattle.ir_store_reads.proofs.of_tree_laws.Around.{around_there, stand_present, present_stand, place_of_member, stands_around}
+use Rattle.ir_store_reads.proofs.of_tree_laws.Neighbours.{list_there, parent_there}
+use Rattle.ir_store_reads.proofs.of_tree_laws.Cuts.{preorder}
 use Rattle.ir_store.specs.Lifted.{level, level_of, or_itself, lifted}
 use Rattle.ir_store.proofs.After.{there, never_first, never_later, not_itself, same_first, same_later, same_within, first_before, none_before_first, past_first}
 use Rattle.ir_store.proofs.Siblings.{own_present, own_ids, OfRegion, by_region, by_list}

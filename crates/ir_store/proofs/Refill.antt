@@ -4,10 +4,10 @@ use Rattle.std.specs.Prelude.{option_and_then, nat_lt, if◌then◌else◌}
 use Rattle.std.proofs.lemmas.Bool.{cases_Bool, cases_eq, false≢true}
 use Rattle.std.proofs.lemmas.Bool.Decides.{nat_tests}
 use Rattle.ir_store_reads.specs.Lists.{IsHead, home_at, free}
-use Rattle.ir_tree.specs.declared.value.Value.{Value}
-use Rattle.ir_tree.specs.declared.value.Value.TheVariants.{Result, Arg}
-use Rattle.ir_tree.specs.Frames.{owner_of}
-use Rattle.ir_tree.specs.Tree.{Op}
+use Rattle.ir_store_reads.specs.trees.declared.value.Value.{Value}
+use Rattle.ir_store_reads.specs.trees.declared.value.Value.TheVariants.{Result, Arg}
+use Rattle.ir_store_reads.specs.trees.Frames.{owner_of}
+use Rattle.ir_store_reads.specs.trees.Tree.{Op}
 use Rattle.ir_store_reads.specs.Rows.{Row, Shape, row_at}
 use Rattle.ir_store_reads.specs.Right.{Used, Right}
 use Rattle.ir_store_reads.specs.Index.{argument_head, slot_head, value_head, cell_at, Celled}

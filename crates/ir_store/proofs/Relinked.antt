@@ -1,11 +1,11 @@
 -- Nothing is against moving an operation.
 use Rattle.std.proofs.Common.{◌≡◌, ℕ, true, None}
-use Rattle.ir_types.specs.declared.refusal.Refusal.TheVariants.{NoSuchOp, NoSuchIndex, IsRoot, IntoItself}
-use Rattle.ir_tree.specs.declared.place.Place.{Place}
-use Rattle.ir_tree.specs.Tree.{Op}
-use Rattle.ir_tree.specs.Ids.{has_id}
-use Rattle.ir_tree_laws.proofs.Listed.{both, not_false}
-use Rattle.ir_tree_laws.proofs.Reasoned.{no_unless}
+use Rattle.ir_store_reads.specs.types.declared.refusal.Refusal.TheVariants.{NoSuchOp, NoSuchIndex, IsRoot, IntoItself}
+use Rattle.ir_store_reads.specs.trees.declared.place.Place.{Place}
+use Rattle.ir_store_reads.specs.trees.Tree.{Op}
+use Rattle.ir_store_reads.specs.trees.Ids.{has_id}
+use Rattle.ir_store_reads.proofs.of_tree_laws.Listed.{both, not_false}
+use Rattle.ir_store_reads.proofs.of_tree_laws.Reasoned.{no_unless}
 use Rattle.ir_store.specs.Shifting.{CanRelink, relink_reason}
 
 module _ (x : ℕ) (place : Place) (t : Op) (e : relink_reason x place t ≡ None) where

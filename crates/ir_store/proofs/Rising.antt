@@ -3,18 +3,18 @@ use Rattle.std.proofs.Common.{◌≡◌, refl, ap, sym, ◌∙◌, subst, suc, l
 use Rattle.std.specs.Prelude.{is_some, nat_lt}
 use Rattle.std.specs.List.{list_any}
 use Rattle.std.proofs.lemmas.Bool.Decides.{nat_tests}
-use Rattle.ir_tree.specs.Limits.{most_around}
-use Rattle.ir_tree_laws.specs.Reasons.{fits_around}
-use Rattle.ir_tree.specs.declared.place.Place.{Place}
-use Rattle.ir_tree.specs.Tree.{OpOf, head}
-use Rattle.ir_tree.specs.Ids.{HasDistinctIds, find, has_id, ids}
-use Rattle.ir_tree.specs.Places.{place_of}
-use Rattle.ir_tree_laws.specs.Members.{In}
-use Rattle.ir_tree_laws.specs.Reads.{is_within, around}
-use Rattle.ir_tree_laws.specs.Stands.{StepOf, StandOf, stand_id, stand_in, stand_of, stands, place_in}
-use Rattle.ir_tree_laws.proofs.Listed.{bool_cases}
-use Rattle.ir_tree_laws.proofs.Members.{stand, itself, within, has_around, same_stand, found_stands, stand_found, member, stand_of_member}
-use Rattle.ir_tree_laws.proofs.Around.{stands_around, stand_present, present_stand, around_there, place_of_member}
+use Rattle.ir_store_reads.specs.trees.Limits.{most_around}
+use Rattle.ir_store_reads.specs.tree_laws.Reasons.{fits_around}
+use Rattle.ir_store_reads.specs.trees.declared.place.Place.{Place}
+use Rattle.ir_store_reads.specs.trees.Tree.{OpOf, head}
+use Rattle.ir_store_reads.specs.trees.Ids.{HasDistinctIds, find, has_id, ids}
+use Rattle.ir_store_reads.specs.trees.Places.{place_of}
+use Rattle.ir_store_reads.specs.tree_laws.Members.{In}
+use Rattle.ir_store_reads.specs.tree_laws.Reads.{is_within, around}
+use Rattle.ir_store_reads.specs.tree_laws.Stands.{StepOf, StandOf, stand_id, stand_in, stand_of, stands, place_in}
+use Rattle.ir_store_reads.proofs.of_tree_laws.Listed.{bool_cases}
+use Rattle.ir_store_reads.proofs.of_tree_laws.Members.{stand, itself, within, has_around, same_stand, found_stands, stand_found, member, stand_of_member}
+use Rattle.ir_store_reads.proofs.of_tree_laws.Around.{stands_around, stand_present, present_stand, around_there, place_of_member}
 use Rattle.ir_store.specs.Shifting.{level}
 use Rattle.ir_store.specs.Lifted.{level as old_level}
 use Rattle.ir_store.proofs.Climbing.{placed, level_up}

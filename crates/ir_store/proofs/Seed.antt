@@ -7,9 +7,9 @@ use Rattle.std.proofs.lemmas.Bool.{cases_eq, eq-eqb, ne_eqb, cond-true, cond-fal
 use Rattle.std.proofs.lemmas.List.{length-set, get_or-set_same, get_or-set_other}
 use Rattle.ir_store_reads.specs.Lists.{home_at, free}
 use Rattle.ir_store.proofs.Distinct.{bare_own, bare_count}
-use Rattle.ir_tree.specs.Ids.{HasDistinctIds, has_id, op_count}
-use Rattle.ir_tree.specs.Tree.{Op, op, head}
-use Rattle.ir_tree_laws.specs.Reasons.{with_id}
+use Rattle.ir_store_reads.specs.trees.Ids.{HasDistinctIds, has_id, op_count}
+use Rattle.ir_store_reads.specs.trees.Tree.{Op, op, head}
+use Rattle.ir_store_reads.specs.tree_laws.Reasons.{with_id}
 use Rattle.ir_store_reads.specs.Stored.{Gone, none_gone}
 use Rattle.ir_store_reads.specs.Emptied.{emptied}
 use Rattle.ir_store_reads.specs.Rows.{Row, row_at, no_row, held_in, gone_in, bare, bare_regions}

@@ -6,16 +6,16 @@ use Rattle.std.proofs.lemmas.Bool.{cases_eq, eqb-false, eq-eqb, ne_eqb, cond-tru
 use Rattle.std.proofs.lemmas.List.{get_or-set_same, get_or-set_other, length-set}
 use Rattle.ir_store_reads.specs.Lists.{Lists, Laws, list_at, home_at, free, has, IsHead, IsItem, IsFree, without as drop_node}
 use Rattle.ir_store_reads.proofs.Cuts.{list_at-map}
-use Rattle.ir_tree.specs.declared.place.Place.{Place}
-use Rattle.ir_tree.specs.Tree.{Op, op, Regions, no_regions, region, Region, empty, block, Ops, no_ops, next, head}
-use Rattle.ir_tree.specs.Ids.{HasDistinctIds, has_id, find, ids, op_count, regions_ids}
-use Rattle.ir_tree.specs.Places.{put, put_here, put_in, is_in_block, without, shifted}
-use Rattle.ir_tree.proofs.Moves.{Absent, regions_untouched}
-use Rattle.ir_tree.proofs.Returns.{absent_first}
-use Rattle.ir_tree_laws.specs.Reads.{is_within}
-use Rattle.ir_tree_laws.specs.Reasons.{leads_inside, before_within}
-use Rattle.ir_tree_laws.proofs.Shift.{own_distinct, is_put, may_shift, shift_distinct, shift_found}
-use Rattle.ir_tree_laws.proofs.Edited.{taken_order, taken_op_count, put_op_count}
+use Rattle.ir_store_reads.specs.trees.declared.place.Place.{Place}
+use Rattle.ir_store_reads.specs.trees.Tree.{Op, op, Regions, no_regions, region, Region, empty, block, Ops, no_ops, next, head}
+use Rattle.ir_store_reads.specs.trees.Ids.{HasDistinctIds, has_id, find, ids, op_count, regions_ids}
+use Rattle.ir_store_reads.specs.trees.Places.{put, put_here, put_in, is_in_block, without, shifted}
+use Rattle.ir_store_reads.proofs.of_trees.Moves.{Absent, regions_untouched}
+use Rattle.ir_store_reads.proofs.of_trees.Returns.{absent_first}
+use Rattle.ir_store_reads.specs.tree_laws.Reads.{is_within}
+use Rattle.ir_store_reads.specs.tree_laws.Reasons.{leads_inside, before_within}
+use Rattle.ir_store_reads.proofs.of_tree_laws.Shift.{own_distinct, is_put, may_shift, shift_distinct, shift_found}
+use Rattle.ir_store_reads.proofs.of_tree_laws.Edited.{taken_order, taken_op_count, put_op_count}
 use Rattle.ir_store_reads.specs.Rows.{Row, Shape, row_at}
 use Rattle.ir_store_reads.specs.Spells.{SpellsOp, SpellsRegions, SpellsRegion, SpellsOps}
 use Rattle.ir_store_reads.specs.Spots.{joined, StandsIn}

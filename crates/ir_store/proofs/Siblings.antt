@@ -1,13 +1,13 @@
 -- Operations of one parent, in pre-order.
 use Rattle.std.proofs.Common.{◌≡◌, refl, ap, sym, ◌∙◌, subst, ℕ, zero, suc, ◌<◌, Bool, true, false, true≢false, cond, eqb, eq-eqb, eqb-true, List, ◌∷◌, ◌++◌, Some, inl, inr, arith}
 use Rattle.std.specs.List.{IsDistinct}
-use Rattle.ir_tree.specs.Tree.{OpOf, op, RegionsOf, no_regions, region, RegionOf, block, OpsOf, no_ops, next, head, regions}
-use Rattle.ir_tree.specs.Ids.{ids, regions_ids, region_ids, ops_ids}
-use Rattle.ir_tree.proofs.Moves.{Absent}
-use Rattle.ir_tree.proofs.Returns.{Present, halves}
-use Rattle.ir_tree_laws.specs.Values.{region_at}
-use Rattle.ir_tree_laws.specs.Reads.{is_among, goes_before, comes_after}
-use Rattle.ir_tree_laws.proofs.Listed.{bool_cases, neither, either, or_left}
+use Rattle.ir_store_reads.specs.trees.Tree.{OpOf, op, RegionsOf, no_regions, region, RegionOf, block, OpsOf, no_ops, next, head, regions}
+use Rattle.ir_store_reads.specs.trees.Ids.{ids, regions_ids, region_ids, ops_ids}
+use Rattle.ir_store_reads.proofs.of_trees.Moves.{Absent}
+use Rattle.ir_store_reads.proofs.of_trees.Returns.{Present, halves}
+use Rattle.ir_store_reads.specs.tree_laws.Values.{region_at}
+use Rattle.ir_store_reads.specs.tree_laws.Reads.{is_among, goes_before, comes_after}
+use Rattle.ir_store_reads.proofs.of_tree_laws.Listed.{bool_cases, neither, either, or_left}
 use Rattle.ir_store.proofs.After.{there, in_front, in_back, skip, hit, never_later, cut_back, not_itself}
 
 both_false : (b : Bool) → cond b false false ≡ false

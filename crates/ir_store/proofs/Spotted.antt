@@ -4,9 +4,9 @@ use Rattle.std.specs.Prelude.{option_and_then}
 use Rattle.std.specs.FinMap as finmap
 use Rattle.std.proofs.lemmas.Bool.{cases_eq, eqb-true, false≢true}
 use Rattle.ir_store_reads.specs.Lists.{Lists, Laws, home_at, free, IsHead, IsItem, IsFree}
-use Rattle.ir_tree.specs.declared.place.Place.{Place}
-use Rattle.ir_tree.specs.Tree.{Op}
-use Rattle.ir_tree.specs.Places.{put}
+use Rattle.ir_store_reads.specs.trees.declared.place.Place.{Place}
+use Rattle.ir_store_reads.specs.trees.Tree.{Op}
+use Rattle.ir_store_reads.specs.trees.Places.{put}
 use Rattle.ir_store.specs.declared.store.Store.TheInside.{Inside}
 use Rattle.ir_store_reads.specs.Stored.{Stored}
 use Rattle.ir_store.specs.Calls.{after_restore, put_held}
@@ -18,7 +18,7 @@ use Rattle.ir_store_reads.specs.Right.{Live, Right}
 use Rattle.ir_store_reads.proofs.Slots.{found, used_inside}
 use Rattle.ir_store.proofs.OneRow.{put_long, put_own, put_other}
 use Rattle.ir_store.proofs.Called.{rows_in, keys_in, IsRight, stored}
-use Rattle.ir_tree.specs.Ids.{HasDistinctIds, has_id}
+use Rattle.ir_store_reads.specs.trees.Ids.{HasDistinctIds, has_id}
 use Rattle.ir_store_reads.proofs.Founds.{has_is}
 use Rattle.ir_store.proofs.Distinct.{bare_distinct}
 use Rattle.ir_store.proofs.Joining.{x_out, FoundHeld, Before, Spot, spot_head, slot_free, join_spells, join_right, join_holds, was_held, join_gone}

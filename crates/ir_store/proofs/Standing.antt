@@ -5,11 +5,11 @@ use Rattle.std.specs.List.{list_any}
 use Rattle.std.proofs.lemmas.Bool.{cases_Bool, eq-eqb, eqb-true, cond-true, cond-false, false≢true, or_left}
 use Rattle.std.proofs.lemmas.List.{append_assoc}
 use Rattle.ir_store_reads.specs.Lists.{Lists, Laws, Once, has, after, list_at, home_at}
-use Rattle.ir_tree.specs.declared.place.Place.{Place}
-use Rattle.ir_tree.specs.Tree.{Op, op, Regions, no_regions, region, Region, empty, block, Ops, no_ops, next, head}
-use Rattle.ir_tree.specs.Ids.{regions_ids, first_of, HasDistinctIds}
-use Rattle.ir_tree.specs.Places.{place_of, regions_place, region_place, ops_place, first_id}
-use Rattle.ir_tree.proofs.Returns.{absent_first}
+use Rattle.ir_store_reads.specs.trees.declared.place.Place.{Place}
+use Rattle.ir_store_reads.specs.trees.Tree.{Op, op, Regions, no_regions, region, Region, empty, block, Ops, no_ops, next, head}
+use Rattle.ir_store_reads.specs.trees.Ids.{regions_ids, first_of, HasDistinctIds}
+use Rattle.ir_store_reads.specs.trees.Places.{place_of, regions_place, region_place, ops_place, first_id}
+use Rattle.ir_store_reads.proofs.of_trees.Returns.{absent_first}
 use Rattle.ir_store_reads.specs.Rows.{Row, Shape, row_at, live_slot}
 use Rattle.ir_store_reads.specs.Spells.{SpellsOp, SpellsRegions, SpellsRegion, SpellsOps}
 use Rattle.ir_store_reads.specs.Spots.{id_in, slot_place}

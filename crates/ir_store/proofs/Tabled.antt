@@ -2,20 +2,20 @@
 use Rattle.std.proofs.Common.{◌≡◌, refl, ap, sym, ◌∙◌, ℕ, Bool, true, false, eqb, cond, List, [], ◌∷◌, Option, Some, None, option_map, subst}
 use Rattle.std.specs.Prelude.{option_and_then}
 use Rattle.std.specs.Option.{option_eq}
-use Rattle.ir_tree.specs.declared.place.Place.{Place}
-use Rattle.ir_tree.specs.Tree.{Op, OpOf, head}
-use Rattle.ir_tree.specs.Ids.{HasDistinctIds, find, has_id}
-use Rattle.ir_tree.specs.Places.{place_of, put, without, shifted}
-use Rattle.ir_tree_laws.specs.Tables.{table_of}
-use Rattle.ir_tree_laws.specs.Reasons.{has_place, leads_inside, same_table}
-use Rattle.ir_tree_laws.specs.Stands.{StepOf, StandOf, stand_id, stands, table_in, place_in}
-use Rattle.ir_tree_laws.specs.Members.{In}
-use Rattle.ir_tree_laws.proofs.Readings.{stands_table}
-use Rattle.ir_tree_laws.proofs.Members.{stand, stand_found, stand_of_member, found_stands}
-use Rattle.ir_tree_laws.proofs.Around.{stand_present, place_of_member}
-use Rattle.ir_tree_laws.proofs.Put.{spot_of}
-use Rattle.ir_tree_laws.proofs.Edited.{head_stays, table_stays}
-use Rattle.ir_tree_laws.proofs.Shift.{may_shift, is_put, shift_distinct, shift_place, shift_rest, inner_of, inner_place}
+use Rattle.ir_store_reads.specs.trees.declared.place.Place.{Place}
+use Rattle.ir_store_reads.specs.trees.Tree.{Op, OpOf, head}
+use Rattle.ir_store_reads.specs.trees.Ids.{HasDistinctIds, find, has_id}
+use Rattle.ir_store_reads.specs.trees.Places.{place_of, put, without, shifted}
+use Rattle.ir_store_reads.specs.tree_laws.Tables.{table_of}
+use Rattle.ir_store_reads.specs.tree_laws.Reasons.{has_place, leads_inside, same_table}
+use Rattle.ir_store_reads.specs.tree_laws.Stands.{StepOf, StandOf, stand_id, stands, table_in, place_in}
+use Rattle.ir_store_reads.specs.tree_laws.Members.{In}
+use Rattle.ir_store_reads.proofs.of_tree_laws.Readings.{stands_table}
+use Rattle.ir_store_reads.proofs.of_tree_laws.Members.{stand, stand_found, stand_of_member, found_stands}
+use Rattle.ir_store_reads.proofs.of_tree_laws.Around.{stand_present, place_of_member}
+use Rattle.ir_store_reads.proofs.of_tree_laws.Put.{spot_of}
+use Rattle.ir_store_reads.proofs.of_tree_laws.Edited.{head_stays, table_stays}
+use Rattle.ir_store_reads.proofs.of_tree_laws.Shift.{may_shift, is_put, shift_distinct, shift_place, shift_rest, inner_of, inner_place}
 use Rattle.ir_store.specs.Shifting.{CanRelink, table_at, near_table}
 use Rattle.ir_store.proofs.Climbing.{placed}
 use Rattle.ir_store.proofs.Rising.{the_op}

@@ -1,7 +1,7 @@
 -- What taking an operation makes of the slots.
 use Rattle.std.proofs.Common.{◌≡◌, ℕ, zero, suc, List, [], ◌∷◌, map, set, refl, sym, ap, ◌∙◌, subst, length, true, false, eqb, cond, ◌&&◌, ⊎_elim, arith, Option, Some, None, slice_get}
 use Rattle.std.specs.Prelude.{Result, Ok, Err, if◌then◌else◌}
-use Rattle.ir_types.specs.declared.refusal.Refusal.TheVariants.{NotEmpty}
+use Rattle.ir_store_reads.specs.types.declared.refusal.Refusal.TheVariants.{NotEmpty}
 use Rattle.std.specs.Ordering.{nat_cmp}
 use Rattle.std.specs.Cmp.{nat_cmp_total}
 use Rattle.std.specs.FinMap as finmap
@@ -9,11 +9,11 @@ use Rattle.std.proofs.lemmas.Bool.{cases_eq, eq-eqb, ne_eqb, cond-true, cond-fal
 use Rattle.std.proofs.lemmas.List.{get_or-set_same, get_or-set_other, length-set}
 use Rattle.ir_store_reads.specs.Lists.{Lists, list_at, home_at, free, IsHead, IsFree, without as drop_node}
 use Rattle.ir_store_reads.proofs.Cuts.{list_at-map}
-use Rattle.ir_types.specs.declared.refusal.Refusal.{Refusal}
-use Rattle.ir_tree.specs.Tree.{Op, op, Regions, no_regions, region, empty, block, Ops, no_ops, next, head, regions}
-use Rattle.ir_tree.specs.Ids.{has_id, find}
-use Rattle.ir_tree.specs.Places.{without}
-use Rattle.ir_tree_laws.specs.Reasons.{hold_none, holds_none}
+use Rattle.ir_store_reads.specs.types.declared.refusal.Refusal.{Refusal}
+use Rattle.ir_store_reads.specs.trees.Tree.{Op, op, Regions, no_regions, region, empty, block, Ops, no_ops, next, head, regions}
+use Rattle.ir_store_reads.specs.trees.Ids.{has_id, find}
+use Rattle.ir_store_reads.specs.trees.Places.{without}
+use Rattle.ir_store_reads.specs.tree_laws.Reasons.{hold_none, holds_none}
 use Rattle.ir_store_reads.specs.Rows.{Row, Shape, row_at, held_in, gone_in, live_slot}
 use Rattle.ir_store_reads.specs.Spells.{SpellsOp, SpellsRegions, SpellsOps}
 use Rattle.ir_store_reads.specs.Right.{Live, Used, Right}

@@ -5,15 +5,15 @@ use Rattle.std.specs.List.{list_any}
 use Rattle.std.proofs.lemmas.Bool.{cases_eq, eq-eqb, ne_eqb, cases_lt, false≢true, or_left, or_right}
 use Rattle.std.proofs.lemmas.List.{length-map}
 use Rattle.ir_store_reads.specs.Lists.{Lists}
-use Rattle.ir_tree.specs.declared.value.Value.{Value}
-use Rattle.ir_tree.specs.declared.place.Place.{Place}
-use Rattle.ir_tree.specs.Frames.{owner_of}
-use Rattle.ir_tree.specs.Tree.{Op, op, head}
-use Rattle.ir_tree.specs.Ids.{HasDistinctIds, ids, has_id, op_count}
-use Rattle.ir_tree.specs.Places.{put, without}
-use Rattle.ir_tree_laws.specs.Reasons.{has_place, leaves, unused}
-use Rattle.ir_tree_laws.proofs.Formed.{no_more}
-use Rattle.ir_tree_laws.proofs.Edited.{put_op_count, taken_op_count}
+use Rattle.ir_store_reads.specs.trees.declared.value.Value.{Value}
+use Rattle.ir_store_reads.specs.trees.declared.place.Place.{Place}
+use Rattle.ir_store_reads.specs.trees.Frames.{owner_of}
+use Rattle.ir_store_reads.specs.trees.Tree.{Op, op, head}
+use Rattle.ir_store_reads.specs.trees.Ids.{HasDistinctIds, ids, has_id, op_count}
+use Rattle.ir_store_reads.specs.trees.Places.{put, without}
+use Rattle.ir_store_reads.specs.tree_laws.Reasons.{has_place, leaves, unused}
+use Rattle.ir_store_reads.proofs.of_tree_laws.Formed.{no_more}
+use Rattle.ir_store_reads.proofs.of_tree_laws.Edited.{put_op_count, taken_op_count}
 use Rattle.ir_store_reads.specs.Rows.{Row, row_at, if_live, live_slot, bare, row_with_operand}
 use Rattle.ir_store_reads.specs.Spells.{SpellsOp}
 use Rattle.ir_store_reads.specs.Right.{Live, Right}

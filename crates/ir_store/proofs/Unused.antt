@@ -6,15 +6,15 @@ use Rattle.std.proofs.lemmas.Bool.{eq-eqb, eqb-true, cases_Bool, false≢true, a
 use Rattle.std.proofs.lemmas.Bool.Decides.{nat_tests}
 use Rattle.ir_store_reads.specs.Lists.{Lists, Laws, has, list_at, home_at, free, IsHead, IsItem}
 use Rattle.ir_store_reads.proofs.Around.{home_inside}
-use Rattle.ir_types.specs.declared.refusal.Refusal.{Refusal}
-use Rattle.ir_types.specs.declared.refusal.Refusal.TheVariants.{NoSuchOp, IsRoot, NotEmpty, HasUses}
-use Rattle.ir_tree.specs.declared.value.Value.{Value}
-use Rattle.ir_tree.specs.declared.value.Value.TheVariants.{Result as ResultOf, Arg}
-use Rattle.ir_tree.specs.Frames.{owner_of}
-use Rattle.ir_tree.specs.Limits.{every, regions_every, region_every, ops_every}
-use Rattle.ir_tree.specs.Tree.{Head, Op, op, Regions, no_regions, region, Region, empty, block, Ops, no_ops, next, head}
-use Rattle.ir_tree.specs.Ids.{has_id, find, regions_find, region_find, ops_find, first_of}
-use Rattle.ir_tree_laws.specs.Reasons.{leaves, unused, take_reason, holds_none, unless}
+use Rattle.ir_store_reads.specs.types.declared.refusal.Refusal.{Refusal}
+use Rattle.ir_store_reads.specs.types.declared.refusal.Refusal.TheVariants.{NoSuchOp, IsRoot, NotEmpty, HasUses}
+use Rattle.ir_store_reads.specs.trees.declared.value.Value.{Value}
+use Rattle.ir_store_reads.specs.trees.declared.value.Value.TheVariants.{Result as ResultOf, Arg}
+use Rattle.ir_store_reads.specs.trees.Frames.{owner_of}
+use Rattle.ir_store_reads.specs.trees.Limits.{every, regions_every, region_every, ops_every}
+use Rattle.ir_store_reads.specs.trees.Tree.{Head, Op, op, Regions, no_regions, region, Region, empty, block, Ops, no_ops, next, head}
+use Rattle.ir_store_reads.specs.trees.Ids.{has_id, find, regions_find, region_find, ops_find, first_of}
+use Rattle.ir_store_reads.specs.tree_laws.Reasons.{leaves, unused, take_reason, holds_none, unless}
 use Rattle.ir_store_reads.specs.Rows.{Row, Shape, row_at, live_slot}
 use Rattle.ir_store_reads.specs.Spells.{SpellsOp, SpellsRegions, SpellsRegion, SpellsOps}
 use Rattle.ir_store_reads.specs.Right.{Live, Right}

@@ -4,13 +4,13 @@ use Rattle.std.specs.Prelude.{option_and_then, nat_lt, is_some, if◌then◌else
 use Rattle.std.proofs.lemmas.Bool.{eq-eqb, ne_eqb, eqb-true, cases_Bool, false≢true, or_cases, or_left, or_right}
 use Rattle.std.proofs.lemmas.Bool.Decides.{nat_tests}
 use Rattle.ir_store_reads.specs.Lists.{Lists, Laws, has, list_at, home_at, free, IsHead, IsItem}
-use Rattle.ir_tree.specs.declared.value.Value.{Value}
-use Rattle.ir_tree.specs.declared.value.Value.TheVariants.{Result, Arg}
-use Rattle.ir_tree.specs.declared.place.Place.{Place}
-use Rattle.ir_tree.specs.Tree.{Op, op, Regions, no_regions, region, empty, block, Ops, no_ops, next, head, regions}
-use Rattle.ir_tree_laws.specs.Values.{region_at, arguments_of, arguments_at, type_of_value, has_value}
-use Rattle.ir_tree_laws.specs.Reads.{ops_in, is_among}
-use Rattle.ir_tree_laws.specs.Reasons.{is_in_list, has_place}
+use Rattle.ir_store_reads.specs.trees.declared.value.Value.{Value}
+use Rattle.ir_store_reads.specs.trees.declared.value.Value.TheVariants.{Result, Arg}
+use Rattle.ir_store_reads.specs.trees.declared.place.Place.{Place}
+use Rattle.ir_store_reads.specs.trees.Tree.{Op, op, Regions, no_regions, region, empty, block, Ops, no_ops, next, head, regions}
+use Rattle.ir_store_reads.specs.tree_laws.Values.{region_at, arguments_of, arguments_at, type_of_value, has_value}
+use Rattle.ir_store_reads.specs.tree_laws.Reads.{ops_in, is_among}
+use Rattle.ir_store_reads.specs.tree_laws.Reasons.{is_in_list, has_place}
 use Rattle.ir_store_reads.specs.Rows.{Row, Shape, row_at, live_slot, head_in}
 use Rattle.ir_store_reads.specs.Spells.{SpellsOp, SpellsRegions, SpellsOps}
 use Rattle.ir_store_reads.specs.Spots.{spot_in, before_in, at_slot, stands}

@@ -3,8 +3,8 @@ use Rattle.std.proofs.Common.{◌≡◌, eqb, ℕ, zero, suc, ◌+◌, ◌-◌, 
 use Rattle.std.specs.Prelude.{Result, Ok, Err}
 use Rattle.std.proofs.lemmas.List.{length-set}
 use Rattle.ir_store_reads.specs.Lists.{Lists, Laws, free, without as drop_node}
-use Rattle.ir_types.specs.declared.refusal.Refusal.{Refusal}
-use Rattle.ir_tree.specs.declared.value.Value.{Value}
+use Rattle.ir_store_reads.specs.types.declared.refusal.Refusal.{Refusal}
+use Rattle.ir_store_reads.specs.trees.declared.value.Value.{Value}
 use Rattle.ir_store.specs.declared.store.Store.TheInside.{Inside}
 use Rattle.ir_store_reads.specs.Rows.{Row, row_at, row_with_operand, live_slot}
 use Rattle.ir_store_reads.specs.Right.{Live, Used}
@@ -22,21 +22,21 @@ use Rattle.std.specs.Prelude.{is_some, nat_lt, if◌then◌else◌}
 use Rattle.std.specs.FinMap as finmap
 use Rattle.std.proofs.lemmas.Bool.{cases_eq, cases_Bool, false≢true}
 use Rattle.ir_store_reads.specs.Lists.{IsItem, IsHead, IsFree}
-use Rattle.ir_types.specs.declared.refusal.Refusal.TheVariants.{NoSuchIndex, NoSuchValue}
-use Rattle.ir_tree.specs.declared.place.Place.{Place}
-use Rattle.ir_tree.specs.Tree.{Head, Op, head}
-use Rattle.ir_tree.specs.Edits.{at as at_op, put_operand}
-use Rattle.ir_tree.specs.Ids.{HasDistinctIds, op_count, has_id}
-use Rattle.ir_tree.proofs.Left.{left_distinct}
-use Rattle.ir_tree.specs.Places.{put, without}
-use Rattle.ir_tree.specs.Frames.{owner_of}
+use Rattle.ir_store_reads.specs.types.declared.refusal.Refusal.TheVariants.{NoSuchIndex, NoSuchValue}
+use Rattle.ir_store_reads.specs.trees.declared.place.Place.{Place}
+use Rattle.ir_store_reads.specs.trees.Tree.{Head, Op, head}
+use Rattle.ir_store_reads.specs.trees.Edits.{at as at_op, put_operand}
+use Rattle.ir_store_reads.specs.trees.Ids.{HasDistinctIds, op_count, has_id}
+use Rattle.ir_store_reads.proofs.of_trees.Left.{left_distinct}
+use Rattle.ir_store_reads.specs.trees.Places.{put, without}
+use Rattle.ir_store_reads.specs.trees.Frames.{owner_of}
 use Rattle.ir_store.proofs.Tally.{lower_below, count_within, cut_counted, cut_below, cut_owned, joined_counted, join_below, join_owned, write_below, write_owned, value_owner}
 use Rattle.ir_store.proofs.Distinct.{each_distinct, each_ids}
-use Rattle.ir_tree.specs.Ids.{find}
-use Rattle.ir_tree_laws.specs.Values.{has_value}
+use Rattle.ir_store_reads.specs.trees.Ids.{find}
+use Rattle.ir_store_reads.specs.tree_laws.Values.{has_value}
 use Rattle.ir_store_reads.specs.Stored.{Stored}
 use Rattle.ir_store.specs.Calls.{CanRestore, after_restore, raised}
-use Rattle.ir_tree_laws.specs.Reasons.{operand_reason, unless, unused}
+use Rattle.ir_store_reads.specs.tree_laws.Reasons.{operand_reason, unless, unused}
 use Rattle.ir_store_reads.specs.Reasoned.{with_head, rewire_reason}
 use Rattle.ir_store_reads.specs.Plans.{operand_in}
 use Rattle.ir_store_reads.specs.Rows.{held_slot, held_in, if_held, bare}

@@ -3,16 +3,16 @@ use Rattle.std.specs.Prelude.{◌≡◌, ℕ, ◌+◌, ◌<◌, ◌⊎◌, eqb, 
 use Rattle.std.specs.List.{list_all}
 use Rattle.std.specs.Ordering.{nat_cmp}
 use Rattle.std.specs.FinMap as map
-use Rattle.ir_tree.specs.declared.value.Value.{Value}
-use Rattle.ir_tree.specs.declared.place.Place.{Place}
-use Rattle.ir_tree.specs.declared.place.Part.{Part}
-use Rattle.ir_tree.specs.Tree.{Op, head}
-use Rattle.ir_tree.specs.Ids.{find, has_id}
-use Rattle.ir_tree.specs.Edits.{with_operand, with_entry}
-use Rattle.ir_tree.specs.Places.{put, without, shifted}
-use Rattle.ir_tree.specs.Limits.{most_next}
-use Rattle.ir_tree_laws.specs.Values.{has_value}
-use Rattle.ir_tree_laws.specs.Reasons.{with_id, has_place, holds_none, unused}
+use Rattle.ir_store_reads.specs.trees.declared.value.Value.{Value}
+use Rattle.ir_store_reads.specs.trees.declared.place.Place.{Place}
+use Rattle.ir_store_reads.specs.trees.declared.place.Part.{Part}
+use Rattle.ir_store_reads.specs.trees.Tree.{Op, head}
+use Rattle.ir_store_reads.specs.trees.Ids.{find, has_id}
+use Rattle.ir_store_reads.specs.trees.Edits.{with_operand, with_entry}
+use Rattle.ir_store_reads.specs.trees.Places.{put, without, shifted}
+use Rattle.ir_store_reads.specs.trees.Limits.{most_next}
+use Rattle.ir_store_reads.specs.tree_laws.Values.{has_value}
+use Rattle.ir_store_reads.specs.tree_laws.Reasons.{with_id, has_place, holds_none, unused}
 use Rattle.ir_store_reads.specs.Slots.{gone_after}
 use Rattle.ir_store_reads.specs.Stored.{Stored, Gone, none_gone, change_gone, has_entry, has_slot}
 

@@ -1,7 +1,7 @@
 -- The last operations, in pre-order.
 use Rattle.std.specs.Prelude.{◌≡◌, ℕ, List, [], ◌∷◌, ◌++◌, true, Option, Some, None}
-use Rattle.ir_tree.specs.Tree.{OpOf}
-use Rattle.ir_tree.specs.Ids.{ids, find, has_id}
+use Rattle.ir_store_reads.specs.trees.Tree.{OpOf}
+use Rattle.ir_store_reads.specs.trees.Ids.{ids, find, has_id}
 
 -- the ids in an operation that may be there, in pre-order
 abbrev pub ids_in : {N T A : Type 0} → Option (OpOf N T A) → List ℕ

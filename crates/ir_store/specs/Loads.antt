@@ -2,11 +2,11 @@
 use Rattle.std.specs.Prelude.{◌≡◌, ◌<◌, ℕ, ◌+◌, List, eqb, true, if◌then◌else◌, Option, None, Some}
 use Rattle.std.specs.List.{list_any}
 use Rattle.std.specs.FinMap as map
-use Rattle.ir_tree.specs.declared.place.Place.{Place}
-use Rattle.ir_tree.specs.Tree.{Op, Regions, no_regions, region, Region, empty, block, Ops, no_ops, next}
-use Rattle.ir_tree.specs.Ids.{ops_ids, regions_ids}
-use Rattle.ir_tree.specs.Places.{put}
-use Rattle.ir_tree_laws.specs.Restores.{MayPut}
+use Rattle.ir_store_reads.specs.trees.declared.place.Place.{Place}
+use Rattle.ir_store_reads.specs.trees.Tree.{Op, Regions, no_regions, region, Region, empty, block, Ops, no_ops, next}
+use Rattle.ir_store_reads.specs.trees.Ids.{ops_ids, regions_ids}
+use Rattle.ir_store_reads.specs.trees.Places.{put}
+use Rattle.ir_store_reads.specs.tree_laws.Restores.{MayPut}
 use Rattle.ir_store_reads.specs.Stored.{Stored, Gone, none_gone}
 
 -- the end of the block of a region

@@ -2,9 +2,9 @@
 use Rattle.std.specs.Prelude.{ℕ, zero, suc, ◌+◌, List, [], ◌∷◌, length, Bool, true, false, ◌&&◌, Some, None}
 use Rattle.std.specs.List.{list_all}
 use Rattle.ir_store_reads.specs.Lists.{list_at}
-use Rattle.ir_tree.specs.Tree.{Op}
-use Rattle.ir_tree.specs.Ids.{has_id}
-use Rattle.ir_tree.specs.Places.{without}
+use Rattle.ir_store_reads.specs.trees.Tree.{Op}
+use Rattle.ir_store_reads.specs.trees.Ids.{has_id}
+use Rattle.ir_store_reads.specs.trees.Places.{without}
 use Rattle.ir_store_reads.specs.Rows.{Row, Shape, row_at}
 use Rattle.ir_store_reads.specs.Using.{use_in}
 

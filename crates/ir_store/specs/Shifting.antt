@@ -1,15 +1,15 @@
 -- What shifting an operation needs, and where it goes in the slots.
 use Rattle.std.specs.Prelude.{◌≡◌, ℕ, eqb, true, false, not, ◌&&◌, Bool, if◌then◌else◌, Option, Some, None, option_map, option_and_then}
-use Rattle.ir_types.specs.declared.refusal.Refusal.{Refusal}
-use Rattle.ir_types.specs.declared.refusal.Refusal.TheVariants.{NoSuchOp, NoSuchIndex, IsRoot, IntoItself, OtherTable, TooDeepHere}
-use Rattle.ir_tree.specs.declared.place.Place.{Place}
-use Rattle.ir_tree.specs.Tree.{Op, OpOf, HeadOf, head}
-use Rattle.ir_tree.specs.Ids.{find, has_id}
-use Rattle.ir_types.specs.Reasons.{first_reason}
-use Rattle.ir_tree.specs.Places.{shifted}
-use Rattle.ir_tree_laws.specs.Reads.{around}
-use Rattle.ir_tree_laws.specs.Tables.{table_of}
-use Rattle.ir_tree_laws.specs.Reasons.{unless, has_place, leads_inside, same_table, fits_around, levels_in}
+use Rattle.ir_store_reads.specs.types.declared.refusal.Refusal.{Refusal}
+use Rattle.ir_store_reads.specs.types.declared.refusal.Refusal.TheVariants.{NoSuchOp, NoSuchIndex, IsRoot, IntoItself, OtherTable, TooDeepHere}
+use Rattle.ir_store_reads.specs.trees.declared.place.Place.{Place}
+use Rattle.ir_store_reads.specs.trees.Tree.{Op, OpOf, HeadOf, head}
+use Rattle.ir_store_reads.specs.trees.Ids.{find, has_id}
+use Rattle.ir_store_reads.specs.types.Reasons.{first_reason}
+use Rattle.ir_store_reads.specs.trees.Places.{shifted}
+use Rattle.ir_store_reads.specs.tree_laws.Reads.{around}
+use Rattle.ir_store_reads.specs.tree_laws.Tables.{table_of}
+use Rattle.ir_store_reads.specs.tree_laws.Reasons.{unless, has_place, leads_inside, same_table, fits_around, levels_in}
 
 -- operation x is there and not the root, and the place is there and not within it
 pub record CanRelink (x : ℕ) (place : Place) (t : Op) : Type 0 where

@@ -1,11 +1,11 @@
 //! What stands beside an operation of the module.
 ghost use Rattle.std.specs.Prelude.{◌≡◌};
-ghost use Rattle.ir_tree_laws.specs.Reads.{first_at, last_at, prev_of, is_before};
+ghost use Rattle.ir_store_reads.specs.tree_laws.Reads.{first_at, last_at, prev_of, is_before};
 
 use crate::store::Store;
 use ir_store_reads::beside::{find_block, goes_before, id_of};
 use ir_store_reads::find::find;
-use ir_types::ids::OpId;
+use ir_store_reads::types::ids::OpId;
 
 impl Store {
     /// The first operation of the block of a region, if there is one.

@@ -3,8 +3,8 @@ ghost use Rattle.std.specs.Prelude.{◌≡◌, IfOk, IfErr};
 
 use crate::store::Store;
 use ir_store_reads::copy::copy_op;
-use ir_tree::tree::TreeOp;
-use ir_types::refusal::Refusal;
+use ir_store_reads::trees::tree::TreeOp;
+use ir_store_reads::types::refusal::Refusal;
 
 /// More levels than an operation of a module has inside it.
 const LEVELS: u32 = 1_000;

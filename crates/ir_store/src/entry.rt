@@ -1,10 +1,10 @@
 //! Entries of dictionaries, set and taken out.
 ghost use Rattle.std.specs.Prelude.{◌≡◌, None, OnOk, OnErr, IfErr, IfSome, MatchResult, Some};
-ghost use Rattle.ir_types.specs.Reasons.{IsRefusedFor};
-ghost use Rattle.ir_types.specs.Things.{IsName, IsAttr};
-ghost use Rattle.ir_tree.specs.Meaning.{isolated_in, key_before_in, IsSoundIn};
-ghost use Rattle.ir_tree.specs.WellFormed.{IsWellFormed};
-ghost use Rattle.ir_tree_laws.specs.Reasons.{set_entry_reason};
+ghost use Rattle.ir_store_reads.specs.types.Reasons.{IsRefusedFor};
+ghost use Rattle.ir_store_reads.specs.types.Things.{IsName, IsAttr};
+ghost use Rattle.ir_store_reads.specs.trees.Meaning.{isolated_in, key_before_in, IsSoundIn};
+ghost use Rattle.ir_store_reads.specs.trees.WellFormed.{IsWellFormed};
+ghost use Rattle.ir_store_reads.specs.tree_laws.Reasons.{set_entry_reason};
 ghost use Rattle.ir_store_reads.specs.Stored.{has_slot};
 ghost use Rattle.ir_store.specs.Calls.{after_entry, CanRevert, WantsNoSlot};
 
@@ -12,10 +12,10 @@ use crate::store::Store;
 use ir_store_reads::entry::{find_entry, has_slot_at};
 use ir_store_reads::find::{find, slot};
 use ir_store_reads::marks::put_mark;
-use ir_tree::place::Part;
-use ir_types::context::Context;
-use ir_types::ids::{AttrId, NameId, OpId};
-use ir_types::refusal::Refusal;
+use ir_store_reads::trees::place::Part;
+use ir_store_reads::types::context::Context;
+use ir_store_reads::types::ids::{AttrId, NameId, OpId};
+use ir_store_reads::types::refusal::Refusal;
 
 impl Store {
     /// Whether a key is one of a dictionary of an operation, of the module or held, or its slot still stands.

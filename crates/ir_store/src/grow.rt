@@ -7,8 +7,8 @@ use crate::store::Store;
 use ir_store_reads::grow::grow_slot;
 use ir_store_reads::marks::{put_mark, reach};
 use ir_store_reads::spare::{find_spare, take_spare};
-use ir_tree::tree::TreeOp;
-use ir_types::ids::OpId;
+use ir_store_reads::trees::tree::TreeOp;
+use ir_store_reads::types::ids::OpId;
 use std::alloc::AllocError;
 
 impl Store {

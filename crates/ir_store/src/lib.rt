@@ -21,5 +21,5 @@ pub mod store;
 mod using;
 mod walk;
 
-pub use ir_store_reads::{node, row, uses};
-pub use ir_tree::place;
+pub use ir_store_reads::trees::place;
+pub use ir_store_reads::{node, row, trees, uses};

@@ -2,27 +2,27 @@
 ghost use Rattle.std.specs.Prelude.{◌≡◌, ◌⊎◌, ◌<◌, ◌∷◌, [], IfOk, IfErr, OnOk, Some, map, true};
 ghost use Rattle.std.specs.List.{All, list_all};
 ghost use Rattle.std.specs.FinMap as finmap;
-ghost use Rattle.ir_tree.specs.Ids.{HasDistinctIds, ids, regions_ids, region_ids};
-ghost use Rattle.ir_tree.specs.Tree.{head, regions_of};
-ghost use Rattle.ir_tree.specs.View.{region_view};
-ghost use Rattle.ir_tree.specs.Places.{put};
-ghost use Rattle.ir_tree_laws.specs.Restores.{MayPut};
-ghost use Rattle.ir_tree_laws.specs.Values.{has_value};
-ghost use Rattle.ir_tree.specs.Meaning.{isolated_in, IsSoundIn};
-ghost use Rattle.ir_tree.specs.WellFormed.{IsFormed, IsWellFormed, fault};
+ghost use Rattle.ir_store_reads.specs.trees.Ids.{HasDistinctIds, ids, regions_ids, region_ids};
+ghost use Rattle.ir_store_reads.specs.trees.Tree.{head, regions_of};
+ghost use Rattle.ir_store_reads.specs.trees.View.{region_view};
+ghost use Rattle.ir_store_reads.specs.trees.Places.{put};
+ghost use Rattle.ir_store_reads.specs.tree_laws.Restores.{MayPut};
+ghost use Rattle.ir_store_reads.specs.tree_laws.Values.{has_value};
+ghost use Rattle.ir_store_reads.specs.trees.Meaning.{isolated_in, IsSoundIn};
+ghost use Rattle.ir_store_reads.specs.trees.WellFormed.{IsFormed, IsWellFormed, fault};
 ghost use Rattle.ir_store.specs.Calls.{Loaded};
 ghost use Rattle.ir_store_reads.specs.Emptied.{emptied};
 ghost use Rattle.ir_store.specs.Loads.{end_of, put_region, put_regions, MayRegion, MayRegions, Adds, AreBelow};
 
 use crate::store::Store;
 use ir_store_reads::room::room_for;
-use ir_tree::check::check;
-use ir_tree::place::Place;
-use ir_tree::tree::{TreeOp, TreeRegion};
-use ir_tree::value::Value;
-use ir_types::context::Context;
-use ir_types::ids::OpId;
-use ir_types::refusal::Refusal;
+use ir_store_reads::trees::check::check;
+use ir_store_reads::trees::place::Place;
+use ir_store_reads::trees::tree::{TreeOp, TreeRegion};
+use ir_store_reads::trees::value::Value;
+use ir_store_reads::types::context::Context;
+use ir_store_reads::types::ids::OpId;
+use ir_store_reads::types::refusal::Refusal;
 use std::alloc::{AllocError, Global};
 
 impl Store {

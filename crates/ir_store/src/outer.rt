@@ -1,11 +1,11 @@
 //! The module of a store, beside which the text of an operation is read.
 use crate::store::Store;
-use ir_tree::outer::Outer;
-use ir_tree::value::Value;
-use ir_types::ids::TypeId;
+use ir_store_reads::trees::outer::Outer;
+use ir_store_reads::trees::value::Value;
+use ir_store_reads::types::ids::TypeId;
 
 impl Outer for Store {
-    ghost use Rattle.ir_tree_laws.specs.Values.{type_of_value};
+    ghost use Rattle.ir_store_reads.specs.tree_laws.Values.{type_of_value};
 
     ghost types = { λ s v. type_of_value v s.module_of.tree };
 

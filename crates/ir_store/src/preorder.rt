@@ -1,10 +1,10 @@
 //! The order of the operations of the module.
 ghost use Rattle.std.specs.Prelude.{◌≡◌};
-ghost use Rattle.ir_tree_laws.specs.Reads.{precedes};
+ghost use Rattle.ir_store_reads.specs.tree_laws.Reads.{precedes};
 ghost use Rattle.ir_store.specs.Lifted.{level_of, lifted};
 
 use crate::store::Store;
-use ir_types::ids::OpId;
+use ir_store_reads::types::ids::OpId;
 
 impl Store {
     /// Whether an operation comes before another in pre-order: an operation before those inside it, and these in the

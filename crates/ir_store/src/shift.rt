@@ -2,17 +2,17 @@
 ghost use Rattle.std.specs.Prelude.{◌≡◌, ◌-◌, eqb, length, MatchOption, Some, is_some, ◌&&◌, true, false, None, MatchResult};
 ghost use Rattle.std.specs.FinMap as finmap;
 ghost use Rattle.std.specs.Ordering.{nat_cmp};
-ghost use Rattle.ir_types.specs.Terms.{name_term};
-ghost use Rattle.ir_types.specs.Words.{is_table};
-ghost use Rattle.ir_tree.specs.Tree.{Op, head};
-ghost use Rattle.ir_tree.specs.Places.{shifted};
-ghost use Rattle.ir_tree_laws.specs.Tables.{table_of};
-ghost use Rattle.ir_tree.specs.Ids.{find as the_first, has_id};
-ghost use Rattle.ir_tree.specs.Limits.{most_around};
-ghost use Rattle.ir_tree.specs.Meaning.{isolated_in};
-ghost use Rattle.ir_tree.specs.WellFormed.{IsWellFormed};
-ghost use Rattle.ir_tree_laws.specs.Reads.{around, is_within};
-ghost use Rattle.ir_tree_laws.specs.Reasons.{fits_around, leads_inside, levels_in, same_table, shift_reason};
+ghost use Rattle.ir_store_reads.specs.types.Terms.{name_term};
+ghost use Rattle.ir_store_reads.specs.types.Words.{is_table};
+ghost use Rattle.ir_store_reads.specs.trees.Tree.{Op, head};
+ghost use Rattle.ir_store_reads.specs.trees.Places.{shifted};
+ghost use Rattle.ir_store_reads.specs.tree_laws.Tables.{table_of};
+ghost use Rattle.ir_store_reads.specs.trees.Ids.{find as the_first, has_id};
+ghost use Rattle.ir_store_reads.specs.trees.Limits.{most_around};
+ghost use Rattle.ir_store_reads.specs.trees.Meaning.{isolated_in};
+ghost use Rattle.ir_store_reads.specs.trees.WellFormed.{IsWellFormed};
+ghost use Rattle.ir_store_reads.specs.tree_laws.Reads.{around, is_within};
+ghost use Rattle.ir_store_reads.specs.tree_laws.Reasons.{fits_around, leads_inside, levels_in, same_table, shift_reason};
 ghost use Rattle.ir_store.specs.Calls.{after_shift};
 ghost use Rattle.ir_store_reads.specs.Rows.{live_slot};
 ghost use Rattle.ir_store_reads.specs.Spots.{spot_in};
@@ -22,13 +22,13 @@ use crate::store::Store;
 use ir_store_reads::depth::op_fits;
 use ir_store_reads::find::{Keys, find};
 use ir_store_reads::spot::{find_spot, link};
+use ir_store_reads::trees::limits::MOST_AROUND;
+use ir_store_reads::trees::place::Place;
+use ir_store_reads::types::context::Context;
+use ir_store_reads::types::ids::OpId;
+use ir_store_reads::types::refusal::Refusal;
 use ir_store_reads::use_lists::id_at;
 use ir_store_reads::{Ordered, Rows};
-use ir_tree::limits::MOST_AROUND;
-use ir_tree::place::Place;
-use ir_types::context::Context;
-use ir_types::ids::OpId;
-use ir_types::refusal::Refusal;
 
 impl Store {
     /// Moves an operation of the module other than the root, with what stands in it, to a place outside of it. Whether

@@ -1,13 +1,13 @@
 //! Where operations of the module stand.
 ghost use Rattle.std.specs.Prelude.{◌≡◌, ◌<◌, Some, is_some};
-ghost use Rattle.ir_tree.specs.Places.{place_of};
-ghost use Rattle.ir_tree_laws.specs.Reads.{parent_of, next_of};
+ghost use Rattle.ir_store_reads.specs.trees.Places.{place_of};
+ghost use Rattle.ir_store_reads.specs.tree_laws.Reads.{parent_of, next_of};
 
 use crate::store::Store;
 use ir_store_reads::find::find;
 use ir_store_reads::stand::place_at;
-use ir_tree::place::Place;
-use ir_types::ids::OpId;
+use ir_store_reads::trees::place::Place;
+use ir_store_reads::types::ids::OpId;
 
 impl Store {
     /// Where an operation stands, or none where it isn't in the module, or is its root.

@@ -2,16 +2,16 @@
 ghost use Rattle.std.specs.Prelude.{◌≡◌, eqb, Some, None, MatchResult, option_map, IfOk, OnOk, false, true, length, slice_set, ◌<◌, []};
 ghost use Rattle.std.specs.FinMap as finmap;
 ghost use Rattle.std.specs.Ordering.{nat_cmp};
-ghost use Rattle.ir_tree.specs.Ids.{has_id, op_count};
-ghost use Rattle.ir_tree.specs.Tree.{head};
+ghost use Rattle.ir_store_reads.specs.trees.Ids.{has_id, op_count};
+ghost use Rattle.ir_store_reads.specs.trees.Tree.{head};
 ghost use Rattle.ir_store_reads.specs.Lists.{free};
 ghost use Rattle.ir_store_reads.specs.Spells.{Spelled, Spelled-prop};
-ghost use Rattle.ir_tree_laws.specs.Values.{type_of_value};
+ghost use Rattle.ir_store_reads.specs.tree_laws.Values.{type_of_value};
 ghost use Rattle.ir_store_reads.specs.Using.{AreUses};
 ghost use Rattle.ir_store_reads.specs.Reasoned.{rewire_reason};
-ghost use Rattle.ir_tree.specs.Limits.{most_next};
-ghost use Rattle.ir_tree_laws.specs.Changes.{operand_at};
-ghost use Rattle.ir_tree_laws.specs.Reasons.{take_reason};
+ghost use Rattle.ir_store_reads.specs.trees.Limits.{most_next};
+ghost use Rattle.ir_store_reads.specs.tree_laws.Changes.{operand_at};
+ghost use Rattle.ir_store_reads.specs.tree_laws.Reasons.{take_reason};
 ghost use Rattle.ir_store_reads.specs.Nodes.{node_of};
 ghost use Rattle.ir_store_reads.specs.Stored.{known};
 ghost use Rattle.ir_store.specs.Calls.{after_take, after_restore, after_retract, after_operand, CanRestore, CanRetract, raised};
@@ -26,16 +26,16 @@ use ir_store_reads::room::Room;
 use ir_store_reads::row::Cell;
 use ir_store_reads::spare::NO_SLOT;
 use ir_store_reads::spot::{find_joint, link};
+use ir_store_reads::trees::place::Place;
+use ir_store_reads::trees::tree::TreeOp;
+use ir_store_reads::trees::value::Value;
+use ir_store_reads::types::ids::{OpId, TypeId};
+use ir_store_reads::types::refusal::Refusal;
 use ir_store_reads::use_lists::{
     find_idle, find_rewire, free_uses, lead_row, live_type, use_node, use_run, value_head,
 };
 use ir_store_reads::uses::{UsesOf, uses_from};
 use ir_store_reads::{Chains, Draft, IdTable, Ordered, Rows};
-use ir_tree::place::Place;
-use ir_tree::tree::TreeOp;
-use ir_tree::value::Value;
-use ir_types::ids::{OpId, TypeId};
-use ir_types::refusal::Refusal;
 use std::alloc::{AllocError, Global};
 use std::marker::Model;
 

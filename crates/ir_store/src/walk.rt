@@ -1,14 +1,14 @@
 //! The operations of the module, one after another.
 ghost use Rattle.std.specs.Prelude.{◌≡◌, ◌∷◌, ◌++◌, [], ℕ, List, IfOk, IfErr, MatchOption, None, true};
-ghost use Rattle.ir_tree.specs.Ids.{find as the_first, has_id, ids};
+ghost use Rattle.ir_store_reads.specs.trees.Ids.{find as the_first, has_id, ids};
 ghost use Rattle.ir_store.specs.Ends.{IsLastIn, ids_in};
 
 use crate::store::Store;
 use ir_store_reads::find::find;
+use ir_store_reads::types::ids::OpId;
+use ir_store_reads::types::refusal::Refusal;
 use ir_store_reads::use_lists::id_at;
 use ir_store_reads::walk::{last_slot, push_op};
-use ir_types::ids::OpId;
-use ir_types::refusal::Refusal;
 
 /// More levels than an operation of a module has inside it.
 const LEVELS: u32 = 1_000;

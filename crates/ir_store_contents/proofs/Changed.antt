@@ -3,7 +3,7 @@ use Rattle.std.proofs.Common.{◌≡◌, ℕ, suc, ◌+◌, ◌-◌, ◌<◌, �
 use Rattle.std.specs.List.{insert, remove}
 use Rattle.std.proofs.Math.Seq.{take-append_seam, drop-append_seam, drop-append-add, take-append-add, take-set-lt, take-add}
 use Rattle.std.proofs.lemmas.List.{length-take, take-append-drop, take-append-le, drop-append-le, drop-set-lt, length-take-le, length-drop, map-append, take_at}
-use Rattle.ir_tree.specs.Edits.{put_entry, drop_entry}
+use Rattle.ir_tree_laws.specs.trees.Edits.{put_entry, drop_entry}
 use Rattle.ir_store_contents.specs.Slots.{keys, slots_of, has_key, is_gone, has_slot, keep_gone, with_change}
 
 -- the entries that are there, and the others, joined, show both

@@ -3,8 +3,8 @@ use Rattle.std.proofs.Common.{◌≡◌, ℕ, ◌+◌, ◌<◌, ◌≤◌, List,
 use Rattle.std.proofs.lemmas.Bool.{cond-true, cond-false}
 use Rattle.std.proofs.lemmas.List.{length_push, map-append}
 use Rattle.std.specs.List.{insert, remove}
-use Rattle.ir_tree.specs.Edits.{put_entry, drop_entry, entry_at, same_key}
-use Rattle.ir_tree.specs.Meaning.{rises}
+use Rattle.ir_tree_laws.specs.trees.Edits.{put_entry, drop_entry, entry_at, same_key}
+use Rattle.ir_tree_laws.specs.trees.Meaning.{rises}
 use Rattle.ir_store_contents.specs.Slots.{has_key, is_gone, keep_gone, keys}
 use Rattle.ir_store_contents.proofs.Orders.{Order, apart, apart', none_after, rises_rest}
 use Rattle.ir_store_contents.proofs.Splits.{Cut, cut_insert, cut_set, cut_remove, cut_long}

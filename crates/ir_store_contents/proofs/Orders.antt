@@ -2,10 +2,10 @@
 use Rattle.std.proofs.Common.{◌≡◌, ℕ, List, [], ◌∷◌, refl, sym, ap, ◌∙◌, Bool, true, false, eqb, ◌&&◌, ◌||◌, not, ⊎_elim, Some}
 use Rattle.std.specs.Prelude.{is_some}
 use Rattle.std.proofs.lemmas.Bool.{ne_eqb, false≢true, cases_Bool, cond-true, cond-false}
-use Rattle.ir_types.specs.Things.{Things}
-use Rattle.ir_types.specs.Terms.{name_term}
-use Rattle.ir_tree.specs.Edits.{entry_at, same_key}
-use Rattle.ir_tree.specs.Meaning.{key_before_in, rises, rises_after}
+use Rattle.ir_tree_laws.specs.types.Things.{Things}
+use Rattle.ir_tree_laws.specs.types.Terms.{name_term}
+use Rattle.ir_tree_laws.specs.trees.Edits.{entry_at, same_key}
+use Rattle.ir_tree_laws.specs.trees.Meaning.{key_before_in, rises, rises_after}
 use Rattle.ir_tree_laws.proofs.Keys.{keys_ordered, key_before_trans}
 use Rattle.ir_store_contents.specs.Slots.{has_key}
 

@@ -1,9 +1,9 @@
 -- What an operation in a slot has, beside its name and its places: a block's head has nothing of it.
 use Rattle.std.specs.Prelude.{◌≡◌, ℕ, List, [], map, slice_set}
-use Rattle.ir_tree.specs.declared.place.Part.{Part}
-use Rattle.ir_tree.specs.declared.place.Part.TheVariants.{Props, Attrs}
-use Rattle.ir_tree.specs.declared.value.Value.{Value}
-use Rattle.ir_tree.specs.Tree.{Head}
+use Rattle.ir_tree_laws.specs.trees.declared.place.Part.{Part}
+use Rattle.ir_tree_laws.specs.trees.declared.place.Part.TheVariants.{Props, Attrs}
+use Rattle.ir_tree_laws.specs.trees.declared.value.Value.{Value}
+use Rattle.ir_tree_laws.specs.trees.Tree.{Head}
 use Rattle.ir_store_contents.specs.Slots.{Slots}
 use Rattle.ir_store_contents.specs.declared.made.Entries.{Entries}
 use Rattle.ir_store_contents.specs.Shapes.{Shape}

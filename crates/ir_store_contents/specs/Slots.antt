@@ -2,7 +2,7 @@
 use Rattle.std.specs.Prelude.{◌≡◌, ◌⊎◌, ℕ, true, List, [], ◌∷◌, ◌++◌, map, take, drop, eqb, Bool, ◌||◌, if◌then◌else◌, Option, Some, None, refl}
 use Rattle.std.specs.Coded.{Coded, code_by, coded×, coded_list, coded_ℕ}
 use Rattle.std.specs.List.{list_any}
-use Rattle.ir_tree.specs.Edits.{change_entry}
+use Rattle.ir_tree_laws.specs.trees.Edits.{change_entry}
 
 -- the entries that are there, in the order of their keys, and the keys that were taken out, in the order in which they
 -- went, each of which has a slot still

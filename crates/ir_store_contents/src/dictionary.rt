@@ -1,12 +1,12 @@
 //! A dictionary, with the slots of the keys that were taken out of it.
 ghost use Rattle.std.specs.Prelude.{◌≡◌, [], true, length, nat_lt, IfOk, OnOk, OnErr, IsOk, Some, None, is_some};
-ghost use Rattle.ir_tree.specs.Edits.{entry_at};
-ghost use Rattle.ir_tree.specs.Meaning.{key_before_in, rises};
+ghost use Rattle.ir_tree_laws.specs.trees.Edits.{entry_at};
+ghost use Rattle.ir_tree_laws.specs.trees.Meaning.{key_before_in, rises};
 ghost use Rattle.ir_store_contents.specs.Slots.{has_key, has_slot, with_change};
 
 use crate::lookup::{contains, find_entry, find_spot, forget, value_at};
-use ir_types::context::Context;
-use ir_types::ids::{AttrId, NameId};
+use ir_tree_laws::types::context::Context;
+use ir_tree_laws::types::ids::{AttrId, NameId};
 use std::alloc::{AllocError, Global};
 use std::marker::Model;
 

@@ -13,4 +13,5 @@ mod made;
 
 pub use area::Area;
 pub use dictionary::Dictionary;
+pub use ir_tree_laws::{trees, types};
 pub use made::{Entered, Entries, FEW, Made, Plain, Short, Whole};

@@ -2,13 +2,13 @@
 ghost use Rattle.std.specs.Prelude.{◌≡◌, ℕ, ◌<◌, ◌≤◌, ◌+◌, ◌⊎◌, length, take, drop, true, false, slice_set, None, MatchOption, MatchResult};
 ghost use Rattle.std.specs.List.{insert, remove};
 ghost use Rattle.std.specs.Vec.{vec_capacity, vec_len};
-ghost use Rattle.ir_tree.specs.Edits.{put_entry, drop_entry, entry_at, same_key};
-ghost use Rattle.ir_tree.specs.Meaning.{key_before_in, rises};
+ghost use Rattle.ir_tree_laws.specs.trees.Edits.{put_entry, drop_entry, entry_at, same_key};
+ghost use Rattle.ir_tree_laws.specs.trees.Meaning.{key_before_in, rises};
 ghost use Rattle.ir_store_contents.specs.Slots.{has_key, is_gone, keep_gone, keys};
 
-use ir_tree::sound::comes_before;
-use ir_types::context::Context;
-use ir_types::ids::{AttrId, NameId};
+use ir_tree_laws::trees::sound::comes_before;
+use ir_tree_laws::types::context::Context;
+use ir_tree_laws::types::ids::{AttrId, NameId};
 
 /// Where a key stands in a dictionary (`Ok`), or would come (`Err`).
 pub(crate) fn find_spot(

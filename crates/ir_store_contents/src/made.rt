@@ -1,8 +1,8 @@
 //! What an operation has, beside its name and its places.
 ghost use Rattle.std.specs.Prelude.{◌≡◌, ◌<◌, [], ◌||◌, true, nat_lt, map, length, slice_get, slice_set, Some, None, is_some, IfOk, IsOk, IfSome, OnOk, OnErr};
-ghost use Rattle.ir_tree.specs.Edits.{entry_at};
-ghost use Rattle.ir_tree.specs.Meaning.{key_before_in, rises};
-ghost use Rattle.ir_tree.specs.Tree.{head};
+ghost use Rattle.ir_tree_laws.specs.trees.Edits.{entry_at};
+ghost use Rattle.ir_tree_laws.specs.trees.Meaning.{key_before_in, rises};
+ghost use Rattle.ir_tree_laws.specs.trees.Tree.{head};
 ghost use Rattle.ir_store_contents.specs.Slots.{has_key, has_slot as is_slot, with_change, WantsNoSlot};
 ghost use Rattle.ir_store_contents.specs.Shapes.{shape_of};
 ghost use Rattle.ir_store_contents.specs.Contents.{contents_with, with_operand, no_entries, entries_with, entries_at, with_part, entries_kept};
@@ -11,11 +11,11 @@ ghost use Rattle.ir_store_contents.specs.Made.{short_contents, plain_contents, m
 use crate::area::Area;
 use crate::dictionary::Dictionary;
 use arrayvec::ArrayVec;
-use ir_tree::place::Part;
-use ir_tree::tree::TreeOp;
-use ir_tree::value::Value;
-use ir_types::context::Context;
-use ir_types::ids::{AttrId, NameId, TypeId};
+use ir_tree_laws::trees::place::Part;
+use ir_tree_laws::trees::tree::TreeOp;
+use ir_tree_laws::trees::value::Value;
+use ir_tree_laws::types::context::Context;
+use ir_tree_laws::types::ids::{AttrId, NameId, TypeId};
 use smallvec::SmallVec;
 use std::alloc::{AllocError, Global};
 use std::mem::replace;

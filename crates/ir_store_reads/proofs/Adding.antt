@@ -1,7 +1,7 @@
 -- The ids of what slots spell are added one after another.
 use Rattle.std.proofs.Common.{◌≡◌, ◌<◌, ℕ, List, [], ◌∷◌, ◌++◌, refl, sym, ap, ◌∙◌, subst, append_assoc, append-nil, Option, None, Some, true, map, length, slice_get, arith}
-use Rattle.ir_tree.specs.Tree.{op, no_regions, region, empty, block, no_ops, next}
-use Rattle.ir_tree.specs.Ids.{ids, region_ids, regions_ids, ops_ids}
+use Rattle.ir_store_slots.specs.trees.Tree.{op, no_regions, region, empty, block, no_ops, next}
+use Rattle.ir_store_slots.specs.trees.Ids.{ids, region_ids, regions_ids, ops_ids}
 use Rattle.ir_store_slots.specs.Lists.{Once, list_at, after}
 use Rattle.ir_store_slots.specs.Area.{Area}
 use Rattle.ir_store_slots.specs.Rows.{Row, Shape, row_at, shape_of}

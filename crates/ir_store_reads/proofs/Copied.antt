@@ -1,9 +1,9 @@
 -- Copies of what slots spell.
 use Rattle.std.proofs.Common.{◌≡◌, ℕ, zero, suc, ◌+◌, ◌<◌, List, [], ◌∷◌, ◌++◌, map, take, get_or, sym, ap, ◌∙◌, subst, length, arith, Some, None}
 use Rattle.std.proofs.lemmas.List.{take_more, map-append, map_more}
-use Rattle.ir_tree.specs.declared.tree.TreeRegion.{TreeRegion}
-use Rattle.ir_tree.specs.View.{region_view}
-use Rattle.ir_tree.specs.Tree.{Op, Region, regions_of, ops_of}
+use Rattle.ir_store_slots.specs.trees.declared.tree.TreeRegion.{TreeRegion}
+use Rattle.ir_store_slots.specs.trees.View.{region_view}
+use Rattle.ir_store_slots.specs.trees.Tree.{Op, Region, regions_of, ops_of}
 use Rattle.ir_store_slots.specs.Area.{Area}
 use Rattle.ir_store_slots.specs.Rows.{Row, Shape, shape_of}
 use Rattle.ir_store_slots.specs.Spells.{SpellsOp, SpellsRegions, SpellsRegion, SpellsOps}

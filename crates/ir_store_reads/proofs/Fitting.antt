@@ -5,8 +5,8 @@ use Rattle.std.proofs.lemmas.Bool.{cases_eq}
 use Rattle.std.proofs.lemmas.List.{get_or-map}
 use Rattle.std.proofs.lemmas.Option.{slice_get_within}
 use Rattle.ir_store_slots.specs.Lists.{IsHead, IsFree}
-use Rattle.ir_tree.specs.Tree.{Op, op, head, Region, regions_of}
-use Rattle.ir_tree_laws.specs.Reasons.{with_id}
+use Rattle.ir_store_slots.specs.trees.Tree.{Op, op, head, Region, regions_of}
+use Rattle.ir_store_slots.specs.tree_laws.Reasons.{with_id}
 use Rattle.ir_store_slots.specs.declared.row.Cell.{Cell}
 use Rattle.ir_store_slots.specs.Rows.{Row, Shape, row_at}
 use Rattle.ir_store_slots.specs.Index.{cells_of, cell_at}

@@ -17,3 +17,5 @@ pub use Rattle.ir_store_slots.proofs.Marking
 pub use Rattle.ir_store_slots.proofs.Slots
 pub use Rattle.ir_store_slots.proofs.Walked
 pub use Rattle.ir_store_slots.proofs.Wide
+pub use Rattle.ir_store_slots.proofs.of_trees
+pub use Rattle.ir_store_slots.proofs.of_tree_laws

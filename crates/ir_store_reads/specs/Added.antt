@@ -1,7 +1,7 @@
 -- The ids of what slots spell, added to a list.
 use Rattle.std.specs.Prelude.{◌≡◌, ℕ, List, ◌++◌}
-use Rattle.ir_tree.specs.Tree.{Op, Regions, Ops}
-use Rattle.ir_tree.specs.Ids.{ids, regions_ids, ops_ids}
+use Rattle.ir_store_slots.specs.trees.Tree.{Op, Regions, Ops}
+use Rattle.ir_store_slots.specs.trees.Ids.{ids, regions_ids, ops_ids}
 use Rattle.ir_store_slots.specs.Rows.{Row, Shape}
 use Rattle.ir_store_slots.specs.Spells.{SpellsOp, SpellsRegions, SpellsOps}
 

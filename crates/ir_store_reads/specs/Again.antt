@@ -1,7 +1,7 @@
 -- What is asked of a spare slot that is written again.
 use Rattle.std.specs.Prelude.{◌≡◌, ℕ, ◌+◌, ◌<◌, List, [], length, false}
 use Rattle.ir_store_slots.specs.Lists.{IsHead, IsFree, list_at}
-use Rattle.ir_tree.specs.Tree.{Head}
+use Rattle.ir_store_slots.specs.trees.Tree.{Head}
 use Rattle.ir_store_slots.specs.Rows.{Row, row_at}
 use Rattle.ir_store_slots.specs.Index.{cell_at}
 use Rattle.ir_store_slots.specs.Grows.{Parts}

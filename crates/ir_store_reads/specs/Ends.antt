@@ -1,7 +1,7 @@
 -- The last slots of blocks.
 use Rattle.std.specs.Prelude.{ℕ, List, [], ◌∷◌, Option, None, Some}
 use Rattle.ir_store_slots.specs.Lists.{last_of, list_at}
-use Rattle.ir_tree.specs.Ids.{first_of}
+use Rattle.ir_store_slots.specs.trees.Ids.{first_of}
 use Rattle.ir_store_slots.specs.Rows.{Shape}
 
 -- the last slot of a region's block, or another where that has none

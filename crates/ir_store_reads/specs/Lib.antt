@@ -22,3 +22,6 @@ pub use Rattle.ir_store_slots.specs.Spots
 pub use Rattle.ir_store_slots.specs.Stored
 pub use Rattle.ir_store_slots.specs.Using
 pub use Rattle.ir_store_slots.specs.Walks
+pub use Rattle.ir_store_slots.specs.trees
+pub use Rattle.ir_store_slots.specs.tree_laws
+pub use Rattle.ir_store_slots.specs.types

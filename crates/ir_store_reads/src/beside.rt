@@ -9,9 +9,9 @@ ghost use Rattle.ir_store_reads.specs.Heading.{block_in, CanStand};
 
 use ir_store_slots::find::{Keys, find};
 use ir_store_slots::spot::block_head;
+use ir_store_slots::types::ids::OpId;
 use ir_store_slots::use_lists::id_at;
 use ir_store_slots::{Ordered, Rows};
-use ir_types::ids::OpId;
 
 /// The head of the list of the block of a region of an operation of the module, if it has one.
 pub fn find_block(rows: &Rows, keys: &Keys, op: OpId, region: u32) -> Option<usize>

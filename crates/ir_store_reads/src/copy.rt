@@ -1,17 +1,17 @@
 //! The tree of a store.
 ghost use Rattle.std.specs.Prelude.{◌≡◌, ◌∷◌, [], ℕ, IfOk, map};
 ghost use Rattle.ir_store_slots.specs.Lists.{IsHead, list_at};
-ghost use Rattle.ir_tree.specs.Tree.{op, head, regions_of};
-ghost use Rattle.ir_tree.specs.View.{region_view};
+ghost use Rattle.ir_store_slots.specs.trees.Tree.{op, head, regions_of};
+ghost use Rattle.ir_store_slots.specs.trees.View.{region_view};
 ghost use Rattle.ir_store_slots.specs.Rows.{row_at, shape_of};
 ghost use Rattle.ir_store_slots.specs.Plans.{AllHeads};
 ghost use Rattle.ir_store_slots.specs.Right.{Live};
 ghost use Rattle.ir_store_slots.specs.Spells.{SpellsOp, SpellsRegions, SpellsRegion};
 
 use ir_store_slots::row::Area;
+use ir_store_slots::trees::place::Part;
+use ir_store_slots::trees::tree::{TreeOp, TreeRegion};
 use ir_store_slots::{Ordered, Rows};
-use ir_tree::place::Part;
-use ir_tree::tree::{TreeOp, TreeRegion};
 use std::alloc::{AllocError, Global};
 
 /// The operation of a slot, with all that stands in it, where that is at most so many levels deep.

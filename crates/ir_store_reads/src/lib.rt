@@ -13,5 +13,5 @@ pub mod walk;
 
 pub use ir_store_slots::{
     Chains, Draft, IdTable, Ordered, Rows, entry, find, grow, marks, release, room, row, spot,
-    use_lists,
+    trees, types, use_lists,
 };

@@ -4,9 +4,9 @@ ghost use Rattle.ir_store_slots.specs.Rows.{row_at, node_row, shape_of, shape_ar
 
 use ir_store_slots::Rows;
 use ir_store_slots::row::Area;
-use ir_tree::place::Part;
-use ir_tree::value::Value;
-use ir_types::ids::{AttrId, NameId, TypeId};
+use ir_store_slots::trees::place::Part;
+use ir_store_slots::trees::value::Value;
+use ir_store_slots::types::ids::{AttrId, NameId, TypeId};
 use std::marker::Model;
 
 /// An operation of the module, or a held one, to be read.

@@ -2,18 +2,18 @@
 //! known of it.
 ghost use Rattle.std.specs.Prelude.{◌≡◌, ◌<◌, [], true, map, IfOk, IfSome};
 ghost use Rattle.ir_store_slots.specs.Lists.{IsFree, IsHead, list_at};
-ghost use Rattle.ir_tree.specs.View.{region_view};
+ghost use Rattle.ir_store_slots.specs.trees.View.{region_view};
 ghost use Rattle.ir_store_slots.specs.Rows.{row_at, shape_of};
 ghost use Rattle.ir_store_slots.specs.Index.{cells_of, cell_at};
 ghost use Rattle.ir_store_slots.specs.Emptied.{emptied_region};
 ghost use Rattle.ir_store_slots.specs.Grows.{parts_of, IsBlock, AreBlocks, AreEmptied, Grown, bare_region};
 ghost use Rattle.ir_store_reads.specs.Again.{HeadsOf, NodesOf, BlockFits, RowFits};
-ghost use Rattle.ir_tree.specs.Tree.{head};
+ghost use Rattle.ir_store_slots.specs.trees.Tree.{head};
 
 use ir_store_slots::row::{Area, Cell};
+use ir_store_slots::trees::tree::{TreeOp, TreeRegion};
+use ir_store_slots::types::ids::OpId;
 use ir_store_slots::{Chains, Draft, Ordered, Rows};
-use ir_tree::tree::{TreeOp, TreeRegion};
-use ir_types::ids::OpId;
 use std::alloc::{AllocError, Global};
 
 /// No slot.

@@ -3,10 +3,10 @@ ghost use Rattle.std.specs.Prelude.{◌≡◌, ◌<◌, Some, option_map};
 ghost use Rattle.ir_store_slots.specs.Lists.{IsItem, after, home_at, list_at};
 ghost use Rattle.ir_store_slots.specs.Spots.{id_in, slot_place};
 
+use ir_store_slots::trees::place::Place;
+use ir_store_slots::types::ids::OpId;
 use ir_store_slots::use_lists::id_at;
 use ir_store_slots::{Ordered, Rows};
-use ir_tree::place::Place;
-use ir_types::ids::OpId;
 
 /// Where the operation of a slot stands.
 pub fn place_at(rows: &Rows, sibs: &Ordered, key: usize) -> Option<Place>

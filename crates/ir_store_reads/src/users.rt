@@ -6,8 +6,8 @@ ghost use Rattle.ir_store_slots.specs.Using.{use_in};
 
 use ir_store_slots::Rows;
 use ir_store_slots::row::Cell;
+use ir_store_slots::types::ids::OpId;
 use ir_store_slots::use_lists::id_at;
-use ir_types::ids::OpId;
 
 /// The heads of the uses of a slot's results: the first, and how many.
 pub fn result_run(rows: &Rows, key: usize) -> (usize, usize)

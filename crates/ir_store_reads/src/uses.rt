@@ -7,8 +7,8 @@ ghost use Rattle.ir_store_slots.specs.Using.{uses_at};
 
 use crate::users::user_at;
 use ir_store_slots::row::Cell;
+use ir_store_slots::types::ids::OpId;
 use ir_store_slots::{Chains, Rows};
-use ir_types::ids::OpId;
 use std::iter::FusedIterator;
 use std::marker::Model;
 

@@ -8,8 +8,8 @@ ghost use Rattle.ir_store_reads.specs.Added.{AddsOp, AddsOps, AddsRegions};
 ghost use Rattle.ir_store_reads.specs.Ends.{last_in, later};
 
 use ir_store_slots::row::Area;
+use ir_store_slots::types::ids::OpId;
 use ir_store_slots::{Ordered, Rows};
-use ir_types::ids::OpId;
 use std::alloc::AllocError;
 
 /// Adds the operation of a slot and those inside it, where that is at most so many levels deep.

@@ -3,8 +3,8 @@ use Rattle.std.proofs.Common.{◌≡◌, ◌⊎◌, inl, inr, ℕ, zero, suc, �
 use Rattle.std.specs.Prelude.{Result, Ok, Err, MatchResult, OnOk, OnErr}
 use Rattle.std.proofs.lemmas.Bool.{cases_eq, cases_lt, cases_Bool, false≢true}
 use Rattle.std.proofs.lemmas.List.{get_or-map, get_or_past, get_or-set_same, get_or-set_other, set-get_or, length-map, map-set, map-append}
-use Rattle.ir_tree.specs.declared.place.Part.{Part}
-use Rattle.ir_tree.specs.declared.place.Part.TheVariants.{Props, Attrs}
+use Rattle.ir_store_contents.specs.trees.declared.place.Part.{Part}
+use Rattle.ir_store_contents.specs.trees.declared.place.Part.TheVariants.{Props, Attrs}
 use Rattle.ir_store_contents.specs.Slots.{with_change}
 use Rattle.ir_store_rows.specs.declared.held.Held.{Held}
 use Rattle.ir_store_rows.specs.declared.held.Held.TheVariants.{Nothing, Head as Leading, AtShort, AtPlain, AtEntered, AtWhole}

@@ -1,2 +1,4 @@
 pub mod Keys
 pub use Rattle.ir_store_contents.proofs.Splits
+pub use Rattle.ir_store_contents.proofs.of_trees
+pub use Rattle.ir_store_contents.proofs.of_tree_laws

@@ -6,3 +6,6 @@ pub use Rattle.ir_store_contents.specs.declared.area.Area
 pub use Rattle.ir_store_contents.specs.Slots
 pub use Rattle.ir_store_contents.specs.Shapes
 pub use Rattle.ir_store_contents.specs.Contents
+pub use Rattle.ir_store_contents.specs.trees
+pub use Rattle.ir_store_contents.specs.tree_laws
+pub use Rattle.ir_store_contents.specs.types

@@ -1,11 +1,11 @@
 -- What the slots hold, as plain data.
 use Rattle.std.specs.Prelude.{◌≡◌, ℕ, List, [], ◌∷◌, map, Bool, true, false, get_or, is_some, Option, refl}
 use Rattle.std.specs.Coded.{Coded, code_by, coded×, coded_list, coded_option, coded_ℕ, coded_bool}
-use Rattle.ir_tree.specs.declared.place.Part.{Part}
-use Rattle.ir_tree.specs.declared.value.Value.{Value}
-use Rattle.ir_tree.specs.Code.{head_code}
-use Rattle.ir_tree.specs.Edits.{put_operand, part_of, change_part, change_entry}
-use Rattle.ir_tree.specs.Tree.{Head}
+use Rattle.ir_store_contents.specs.trees.declared.place.Part.{Part}
+use Rattle.ir_store_contents.specs.trees.declared.value.Value.{Value}
+use Rattle.ir_store_contents.specs.trees.Code.{head_code}
+use Rattle.ir_store_contents.specs.trees.Edits.{put_operand, part_of, change_part, change_entry}
+use Rattle.ir_store_contents.specs.trees.Tree.{Head}
 use Rattle.ir_store_contents.specs.Slots.{Slots, gone_after}
 use Rattle.ir_store_rows.specs.declared.held.Held.{Held}
 use Rattle.ir_store_rows.specs.declared.held.Held.TheVariants.{Nothing}

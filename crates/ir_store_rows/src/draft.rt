@@ -1,12 +1,12 @@
 //! A row that is to be written.
 ghost use Rattle.std.specs.Prelude.{◌≡◌, map, IfOk};
-ghost use Rattle.ir_tree.specs.Tree.{head};
+ghost use Rattle.ir_store_contents.specs.trees.Tree.{head};
 ghost use Rattle.ir_store_contents.specs.Shapes.{shape_of};
 ghost use Rattle.ir_store_rows.specs.Rows.{row_held};
 
+use ir_store_contents::trees::tree::TreeOp;
+use ir_store_contents::types::ids::{NameId, OpId};
 use ir_store_contents::{Area, Made};
-use ir_tree::tree::TreeOp;
-use ir_types::ids::{NameId, OpId};
 use std::alloc::{AllocError, Global};
 use std::marker::Model;
 

@@ -10,5 +10,5 @@ mod rows;
 mod shelf;
 
 pub use draft::Draft;
-pub use ir_store_contents::{Area, Dictionary, FEW};
+pub use ir_store_contents::{Area, Dictionary, FEW, trees, types};
 pub use rows::Rows;

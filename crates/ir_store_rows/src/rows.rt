@@ -1,7 +1,7 @@
 //! Slots, and what stands in them.
 ghost use Rattle.std.specs.Prelude.{◌≡◌, List, ◌<◌, ◌≤◌, ◌++◌, ◌∷◌, [], ◌||◌, true, false, nat_lt, map, length, slice_get, slice_set, Some, None, is_some, IfOk, IsOk, OnOk, OnErr, MatchOption};
-ghost use Rattle.ir_tree.specs.Edits.{entry_at, part_of as the_part};
-ghost use Rattle.ir_tree.specs.Meaning.{key_before_in, rises};
+ghost use Rattle.ir_store_contents.specs.trees.Edits.{entry_at, part_of as the_part};
+ghost use Rattle.ir_store_contents.specs.trees.Meaning.{key_before_in, rises};
 ghost use Rattle.ir_store_contents.specs.Slots.{has_key, has_slot as is_slot, WantsNoSlot};
 ghost use Rattle.ir_store_contents.specs.Contents.{no_slots};
 ghost use Rattle.ir_store_rows.specs.Gone.{none_gone};
@@ -12,11 +12,11 @@ ghost use Rattle.ir_store_rows.specs.Rows.{Row as RowModel, row_at, row_spare, r
 use crate::draft::Draft;
 use crate::held::{Held, Row};
 use crate::shelf::{Shelf, growth};
+use ir_store_contents::trees::place::Part;
+use ir_store_contents::trees::value::Value;
+use ir_store_contents::types::context::Context;
+use ir_store_contents::types::ids::{AttrId, NameId, OpId, TypeId};
 use ir_store_contents::{Area, Dictionary};
-use ir_tree::place::Part;
-use ir_tree::value::Value;
-use ir_types::context::Context;
-use ir_types::ids::{AttrId, NameId, OpId, TypeId};
 use slab::Slab;
 use std::alloc::{AllocError, Global};
 use std::marker::Model;

@@ -1,8 +1,8 @@
 //! What operations have, under keys: in four slabs, so that each takes no more room than what it has asks.
 ghost use Rattle.std.specs.Prelude.{◌≡◌, ◌<◌, ◌≤◌, [], ◌||◌, true, nat_lt, map, length, slice_get, Some, None, is_some, option_map, IfOk, IsOk, OnOk, OnErr, MatchOption, MatchResult};
 ghost use Rattle.slab.specs.Slab.{get, HasRoomFor, Updates};
-ghost use Rattle.ir_tree.specs.Edits.{entry_at};
-ghost use Rattle.ir_tree.specs.Meaning.{key_before_in, rises};
+ghost use Rattle.ir_store_contents.specs.trees.Edits.{entry_at};
+ghost use Rattle.ir_store_contents.specs.trees.Meaning.{key_before_in, rises};
 ghost use Rattle.ir_store_contents.specs.Slots.{has_key, has_slot as is_slot, with_change, WantsNoSlot};
 ghost use Rattle.ir_store_contents.specs.Shapes.{shape_of};
 ghost use Rattle.ir_store_contents.specs.Contents.{no_slots, no_contents, with_operand, dictionary_in, with_dictionary, without_gone, HasNoEntries};
@@ -10,11 +10,11 @@ ghost use Rattle.ir_store_contents.specs.Made.{short_contents, plain_contents, e
 ghost use Rattle.ir_store_rows.specs.Shelf.{found, or_none, contents_at, Sets, AllSame, Adds, Takes, Moves, Swaps, AllAlike};
 
 use crate::held::Held;
+use ir_store_contents::trees::place::Part;
+use ir_store_contents::trees::value::Value;
+use ir_store_contents::types::context::Context;
+use ir_store_contents::types::ids::{AttrId, NameId, TypeId};
 use ir_store_contents::{Area, Dictionary, Entered, Entries, Made, Plain, Short, Whole};
-use ir_tree::place::Part;
-use ir_tree::value::Value;
-use ir_types::context::Context;
-use ir_types::ids::{AttrId, NameId, TypeId};
 use slab::Slab;
 use std::alloc::{AllocError, Global};
 

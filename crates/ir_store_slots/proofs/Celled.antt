@@ -2,8 +2,8 @@
 use Rattle.std.proofs.Common.{◌≡◌, ℕ, ◌+◌, ◌<◌, List, sym, ap, ◌∙◌, subst, length, ⊎_elim, arith, Option, Some, None, slice_get}
 use Rattle.std.specs.Prelude.{option_and_then, if◌then◌else◌}
 use Rattle.std.proofs.lemmas.Bool.{cases_eq, cases_lt, false≢true}
-use Rattle.ir_tree.specs.declared.value.Value.{Value}
-use Rattle.ir_tree.specs.declared.value.Value.TheVariants.{Result, Arg}
+use Rattle.ir_store_rows.specs.trees.declared.value.Value.{Value}
+use Rattle.ir_store_rows.specs.trees.declared.value.Value.TheVariants.{Result, Arg}
 use Rattle.ir_store_slots.specs.Rows.{Row, row_at}
 use Rattle.ir_store_slots.specs.Right.{Used}
 use Rattle.ir_store_slots.specs.Index.{argument_head, slot_head, value_head, cell_at, Index, Celled, lives}

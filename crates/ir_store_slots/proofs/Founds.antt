@@ -2,8 +2,8 @@
 use Rattle.std.proofs.Common.{◌≡◌, ℕ, List, [], ◌∷◌, ◌++◌, refl, sym, ap, ◌∙◌, subst, Bool, true, false, eqb, ◌||◌, ⊎_elim, Option, Some, None}
 use Rattle.std.specs.List.{list_any}
 use Rattle.std.proofs.lemmas.Bool.{eqb-true, cases_Bool, false≢true, or_cases}
-use Rattle.ir_tree.specs.Tree.{Op, op, Regions, no_regions, region, Region, empty, block, Ops, no_ops, next}
-use Rattle.ir_tree.specs.Ids.{ids, regions_ids, region_ids, ops_ids, has_id, find, regions_find, region_find, ops_find, first_of}
+use Rattle.ir_store_rows.specs.trees.Tree.{Op, op, Regions, no_regions, region, Region, empty, block, Ops, no_ops, next}
+use Rattle.ir_store_rows.specs.trees.Ids.{ids, regions_ids, region_ids, ops_ids, has_id, find, regions_find, region_find, ops_find, first_of}
 use Rattle.ir_store_lists.specs.Lists.{list_at}
 use Rattle.ir_store_slots.specs.Rows.{Row, Shape, row_at}
 use Rattle.ir_store_slots.specs.Spells.{SpellsOp, SpellsRegions, SpellsRegion, SpellsOps}

@@ -3,10 +3,10 @@ use Rattle.std.proofs.Common.{◌≡◌, ℕ, zero, suc, ◌+◌, ◌-◌, ◌<�
 use Rattle.std.proofs.lemmas.List.{map-append, append_assoc}
 use Rattle.std.proofs.lemmas.Option.{slice_get_within}
 use Rattle.ir_store_lists.specs.Lists.{Lists, home_at}
-use Rattle.ir_tree.specs.declared.tree.TreeRegion.{TreeRegion}
-use Rattle.ir_tree.specs.View.{region_view}
-use Rattle.ir_tree.specs.Tree.{Op, op, head, region, Region, empty, block, no_ops, regions_of}
-use Rattle.ir_tree_laws.specs.Reasons.{with_id}
+use Rattle.ir_store_rows.specs.trees.declared.tree.TreeRegion.{TreeRegion}
+use Rattle.ir_store_rows.specs.trees.View.{region_view}
+use Rattle.ir_store_rows.specs.trees.Tree.{Op, op, head, region, Region, empty, block, no_ops, regions_of}
+use Rattle.ir_store_rows.specs.tree_laws.Reasons.{with_id}
 use Rattle.ir_store_slots.specs.Rows.{Row, Shape, bare_regions}
 use Rattle.ir_store_slots.specs.Grows.{Parts, IsEven, Wider, Ready, AreBlocks, Runs, AddsSlot, Grown, row_spare, row_held, bare_region}
 use Rattle.ir_store_slots.specs.Emptied.{emptied_region, emptied_regions, emptied}

@@ -1,8 +1,8 @@
 -- The heads of the values of live slots.
 use Rattle.std.proofs.Common.{◌≡◌, ℕ, List, Bool, true, false, Option, Some, None}
 use Rattle.std.specs.Prelude.{option_and_then, if◌then◌else◌}
-use Rattle.ir_tree.specs.declared.value.Value.{Value}
-use Rattle.ir_tree.specs.Frames.{owner_of}
+use Rattle.ir_store_rows.specs.trees.declared.value.Value.{Value}
+use Rattle.ir_store_rows.specs.trees.Frames.{owner_of}
 use Rattle.ir_store_slots.specs.Rows.{Row, row_at, live_slot, if_live}
 use Rattle.ir_store_slots.specs.Index.{slot_head, value_head}
 

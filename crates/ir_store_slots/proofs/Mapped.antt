@@ -1,9 +1,9 @@
 -- The trees that slots spell after heads, lists or rows have changed.
 use Rattle.std.proofs.Common.{◌≡◌, ℕ, suc, ◌+◌, List, [], ◌∷◌, refl, sym, ap, ◌∙◌, subst, Bool, true, false, eqb, ◌||◌, arith, Some, None, slice_get}
 use Rattle.std.proofs.lemmas.Bool.{eqb-false, false≢true}
-use Rattle.ir_tree.specs.Tree.{Head, Op, op, Regions, no_regions, region, Region, empty, block, Ops, no_ops, next}
-use Rattle.ir_tree.specs.Edits.{each_head, regions_each_head, region_each_head, ops_each_head}
-use Rattle.ir_tree.specs.Places.{each_list, regions_each_list, region_each_list, ops_each_list}
+use Rattle.ir_store_rows.specs.trees.Tree.{Head, Op, op, Regions, no_regions, region, Region, empty, block, Ops, no_ops, next}
+use Rattle.ir_store_rows.specs.trees.Edits.{each_head, regions_each_head, region_each_head, ops_each_head}
+use Rattle.ir_store_rows.specs.trees.Places.{each_list, regions_each_list, region_each_list, ops_each_list}
 use Rattle.ir_store_lists.specs.Lists.{list_at}
 use Rattle.ir_store_slots.specs.Rows.{Row, Shape, row_at}
 use Rattle.ir_store_slots.specs.Spells.{SpellsOp, SpellsRegions, SpellsRegion, SpellsOps}

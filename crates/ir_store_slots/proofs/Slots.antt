@@ -3,14 +3,14 @@ use Rattle.std.proofs.Common.{◌≡◌, ℕ, ◌<◌, List, [], ◌∷◌, refl
 use Rattle.std.specs.Prelude.{is_some, map, option_map}
 use Rattle.std.specs.Prelude.{Result, Ok, Err, nat_lt, if◌then◌else◌}
 use Rattle.std.proofs.lemmas.Bool.Decides.{nat_tests}
-use Rattle.ir_types.specs.declared.refusal.Refusal.{Refusal}
-use Rattle.ir_types.specs.declared.refusal.Refusal.TheVariants.{NoSuchIndex}
+use Rattle.ir_store_rows.specs.types.declared.refusal.Refusal.{Refusal}
+use Rattle.ir_store_rows.specs.types.declared.refusal.Refusal.TheVariants.{NoSuchIndex}
 use Rattle.ir_store_slots.specs.Plans.{operand_in, write_reason}
 use Rattle.std.proofs.lemmas.Bool.{cases_Bool, false≢true, cases_lt}
 use Rattle.std.proofs.lemmas.List.{get_or_past}
 use Rattle.ir_store_lists.specs.Lists.{Lists}
-use Rattle.ir_tree.specs.Tree.{Op, op, Regions, no_regions, region, empty, block, head}
-use Rattle.ir_tree.specs.Ids.{has_id, find, first_of}
+use Rattle.ir_store_rows.specs.trees.Tree.{Op, op, Regions, no_regions, region, empty, block, head}
+use Rattle.ir_store_rows.specs.trees.Ids.{has_id, find, first_of}
 use Rattle.ir_store_slots.specs.Nodes.{node_of, regions_arguments}
 use Rattle.ir_store_slots.specs.Rows.{node_row, Row, Shape, row_at, no_row, if_live, live_slot, held_in, bare, bare_regions}
 use Rattle.ir_store_slots.specs.Spells.{SpellsOp, SpellsRegions}

@@ -6,8 +6,8 @@ use Rattle.std.proofs.lemmas.Bool.{false≢true, cond-true, cond-false, eq-eqb, 
 use Rattle.std.proofs.lemmas.Bool.Decides.{nat_tests}
 use Rattle.std.proofs.lemmas.List.{get_or_past}
 use Rattle.ir_store_lists.specs.Lists.{free, Once, Laws, IsHead, IsItem, list_at, has, after}
-use Rattle.ir_tree.specs.Tree.{Op, op, Regions, no_regions, region, empty, block, Ops, no_ops, next}
-use Rattle.ir_tree.specs.Limits.{depth, regions_depth, ops_depth}
+use Rattle.ir_store_rows.specs.trees.Tree.{Op, op, Regions, no_regions, region, empty, block, Ops, no_ops, next}
+use Rattle.ir_store_rows.specs.trees.Limits.{depth, regions_depth, ops_depth}
 use Rattle.ir_store_slots.specs.Rows.{Row, Shape, row_at}
 use Rattle.ir_store_slots.specs.Spells.{SpellsOp, SpellsRegions, SpellsOps}
 use Rattle.ir_store_slots.specs.Walks.{shapes_pass, slot_fits, from_slot}

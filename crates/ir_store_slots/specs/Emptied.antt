@@ -1,9 +1,9 @@
 -- Operations without those that stand in their blocks.
 use Rattle.std.specs.Prelude.{ℕ}
 use Rattle.std.specs.FinMap as map
-use Rattle.ir_tree_laws.specs.Reasons.{with_id}
+use Rattle.ir_store_rows.specs.tree_laws.Reasons.{with_id}
 use Rattle.ir_store_slots.specs.Stored.{Stored, none_gone}
-use Rattle.ir_tree.specs.Tree.{head, Op, op, Regions, no_regions, region, Region, empty, block, no_ops}
+use Rattle.ir_store_rows.specs.trees.Tree.{head, Op, op, Regions, no_regions, region, Region, empty, block, no_ops}
 
 -- an operation of which the blocks hold none
 abbrev pub emptied_region : Region → Region

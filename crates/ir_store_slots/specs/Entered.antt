@@ -1,10 +1,10 @@
 -- What setting an entry looks at in the slots, and what it makes of a row.
 use Rattle.std.specs.Prelude.{ℕ, List, Bool, Option, Some, None, Result, Ok, Err}
-use Rattle.ir_types.specs.declared.refusal.Refusal.{Refusal}
-use Rattle.ir_types.specs.declared.refusal.Refusal.TheVariants.{NoSuchOp}
-use Rattle.ir_tree.specs.declared.place.Part.{Part}
-use Rattle.ir_tree.specs.Edits.{part_of}
-use Rattle.ir_tree_laws.specs.Reasons.{entry_reason}
+use Rattle.ir_store_rows.specs.types.declared.refusal.Refusal.{Refusal}
+use Rattle.ir_store_rows.specs.types.declared.refusal.Refusal.TheVariants.{NoSuchOp}
+use Rattle.ir_store_rows.specs.trees.declared.place.Part.{Part}
+use Rattle.ir_store_rows.specs.trees.Edits.{part_of}
+use Rattle.ir_store_rows.specs.tree_laws.Reasons.{entry_reason}
 use Rattle.ir_store_slots.specs.Rows.{Row, row_at}
 pub use Rattle.ir_store_rows.specs.Rows.{slots_in, row_with_entry}
 

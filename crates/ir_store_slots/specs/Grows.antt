@@ -1,14 +1,14 @@
 -- Slots that are added, and what a row needs that is written into one.
 use Rattle.std.specs.Prelude.{◌≡◌, ◌⊎◌, ℕ, zero, suc, ◌+◌, ◌<◌, ◌≤◌, List, [], ◌∷◌, ◌++◌, map, length, slice_get, Bool, true, false, if◌then◌else◌, Option, Some, None}
 use Rattle.ir_store_lists.specs.Lists.{Lists, IsHead, IsFree, list_at, home_at, free}
-use Rattle.ir_tree.specs.Tree.{Op, Region, empty, block, no_ops}
+use Rattle.ir_store_rows.specs.trees.Tree.{Op, Region, empty, block, no_ops}
 use Rattle.ir_store_slots.specs.Emptied.{emptied_region, emptied}
-use Rattle.ir_tree.specs.declared.value.Value.{Value}
+use Rattle.ir_store_rows.specs.trees.declared.value.Value.{Value}
 use Rattle.ir_store_slots.specs.declared.row.Cell.{Cell}
 use Rattle.ir_store_slots.specs.Rows.{Row, Shape, row_at, bare}
 pub use Rattle.ir_store_rows.specs.Rows.{row_spare, row_held}
 use Rattle.ir_store_slots.specs.Stored.{none_gone}
-use Rattle.ir_tree_laws.specs.Reasons.{with_id}
+use Rattle.ir_store_rows.specs.tree_laws.Reasons.{with_id}
 use Rattle.ir_store_slots.specs.Index.{cell_at, cells_of}
 
 -- the slots and the uses of a store

@@ -1,11 +1,11 @@
 -- What is true of the uses of values, in slots.
 use Rattle.std.specs.Prelude.{◌≡◌, ℕ, zero, suc, ◌+◌, ◌<◌, List, [], ◌∷◌, map, length, nat_lt, eqb, get_or, slice_get, slice_set, Bool, true, false, not, ◌&&◌, if◌then◌else◌, Option, Some, None, option_and_then, is_some}
 use Rattle.ir_store_lists.specs.Lists.{Lists, IsHead, IsItem, IsFree, list_at, home_at, free}
-use Rattle.ir_tree.specs.declared.value.Value.{Value}
-use Rattle.ir_tree.specs.declared.value.Value.TheVariants.{Result, Arg}
-use Rattle.ir_tree.specs.Ids.{HasDistinctIds, op_count}
-use Rattle.ir_tree.specs.Tree.{Op}
-use Rattle.ir_tree.specs.Frames.{owner_of}
+use Rattle.ir_store_rows.specs.trees.declared.value.Value.{Value}
+use Rattle.ir_store_rows.specs.trees.declared.value.Value.TheVariants.{Result, Arg}
+use Rattle.ir_store_rows.specs.trees.Ids.{HasDistinctIds, op_count}
+use Rattle.ir_store_rows.specs.trees.Tree.{Op}
+use Rattle.ir_store_rows.specs.trees.Frames.{owner_of}
 use Rattle.ir_store_slots.specs.declared.row.Cell.{Cell}
 use Rattle.ir_store_slots.specs.Rows.{Row, Shape, row_at, live_slot}
 use Rattle.ir_store_slots.specs.Right.{Live, Used, Right}

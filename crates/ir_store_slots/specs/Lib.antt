@@ -18,3 +18,6 @@ pub use Rattle.ir_store_rows.specs.Area
 pub use Rattle.ir_store_lists.specs.Labels
 pub use Rattle.ir_store_lists.specs.Lists
 pub use Rattle.ir_store_rows.specs.Slots
+pub use Rattle.ir_store_rows.specs.trees
+pub use Rattle.ir_store_rows.specs.tree_laws
+pub use Rattle.ir_store_rows.specs.types

@@ -1,12 +1,12 @@
 -- What an edit looks at in the slots before it writes.
 use Rattle.std.specs.Prelude.{ℕ, List, [], ◌∷◌, eqb, nat_lt, length, not, ◌&&◌, Bool, true, false, if◌then◌else◌, Option, Some, None, Result, Ok, Err}
-use Rattle.ir_types.specs.declared.refusal.Refusal.{Refusal}
-use Rattle.ir_types.specs.declared.refusal.Refusal.TheVariants.{NoSuchOp, NoSuchIndex, IsRoot, NotEmpty}
+use Rattle.ir_store_rows.specs.types.declared.refusal.Refusal.{Refusal}
+use Rattle.ir_store_rows.specs.types.declared.refusal.Refusal.TheVariants.{NoSuchOp, NoSuchIndex, IsRoot, NotEmpty}
 use Rattle.ir_store_lists.specs.Lists.{list_at, IsHead}
-use Rattle.ir_tree.specs.Tree.{OpOf, head}
-use Rattle.ir_tree.specs.Ids.{has_id, find}
+use Rattle.ir_store_rows.specs.trees.Tree.{OpOf, head}
+use Rattle.ir_store_rows.specs.trees.Ids.{has_id, find}
 use Rattle.ir_store_slots.specs.Rows.{Row, Shape, row_at}
-use Rattle.ir_tree_laws.specs.Reasons.{unless, holds_none, operand_reason}
+use Rattle.ir_store_rows.specs.tree_laws.Reasons.{unless, holds_none, operand_reason}
 
 abbrev pub is_nil : List ℕ → Bool
 is_nil [] = true

@@ -1,12 +1,12 @@
 -- What the calls that look at uses find in the slots.
 use Rattle.std.specs.Prelude.{ℕ, List, if◌then◌else◌, Option, Some, None, Result, Ok, Err}
-use Rattle.ir_types.specs.declared.refusal.Refusal.{Refusal}
-use Rattle.ir_types.specs.declared.refusal.Refusal.TheVariants.{HasUses, NoSuchValue}
-use Rattle.ir_tree.specs.declared.value.Value.{Value}
-use Rattle.ir_tree.specs.Tree.{OpOf}
-use Rattle.ir_tree.specs.Ids.{find}
-use Rattle.ir_tree_laws.specs.Values.{has_value}
-use Rattle.ir_tree_laws.specs.Reasons.{operand_reason, unless}
+use Rattle.ir_store_rows.specs.types.declared.refusal.Refusal.{Refusal}
+use Rattle.ir_store_rows.specs.types.declared.refusal.Refusal.TheVariants.{HasUses, NoSuchValue}
+use Rattle.ir_store_rows.specs.trees.declared.value.Value.{Value}
+use Rattle.ir_store_rows.specs.trees.Tree.{OpOf}
+use Rattle.ir_store_rows.specs.trees.Ids.{find}
+use Rattle.ir_store_rows.specs.tree_laws.Values.{has_value}
+use Rattle.ir_store_rows.specs.tree_laws.Reasons.{operand_reason, unless}
 use Rattle.ir_store_slots.specs.Rows.{Row}
 use Rattle.ir_store_slots.specs.Index.{row_idle}
 

@@ -1,8 +1,8 @@
 -- What else is true of the slots.
 use Rattle.std.specs.Prelude.{◌≡◌, ℕ, List, [], true, false, length, ◌<◌, slice_get, Option, Some}
 use Rattle.ir_store_lists.specs.Lists.{Lists, IsHead, IsItem, IsFree, free, home_at, list_at}
-use Rattle.ir_tree.specs.Tree.{Op}
-use Rattle.ir_tree.specs.Ids.{has_id}
+use Rattle.ir_store_rows.specs.trees.Tree.{Op}
+use Rattle.ir_store_rows.specs.trees.Ids.{has_id}
 use Rattle.ir_store_slots.specs.Rows.{Row, row_at}
 
 -- the slot k holds an operation of the tree

@@ -1,6 +1,6 @@
 -- What the slots hold, as plain data.
 use Rattle.std.specs.Prelude.{ℕ, List, [], ◌∷◌, map, not, ◌&&◌, if◌then◌else◌, option_map, Option, Some, None}
-use Rattle.ir_tree.specs.Tree.{Op, op, Regions, no_regions, region, empty, block, no_ops}
+use Rattle.ir_store_rows.specs.trees.Tree.{Op, op, Regions, no_regions, region, empty, block, no_ops}
 use Rattle.ir_store_slots.specs.Stored.{Gone}
 use Rattle.ir_store_slots.specs.Nodes.{Node}
 pub use Rattle.ir_store_rows.specs.Shapes.{Shape, shape_of}

@@ -1,7 +1,7 @@
 -- Where an operation is put, in slots.
 use Rattle.std.specs.Prelude.{option_map, ◌≡◌, ℕ, List, [], ◌∷◌, ◌++◌, map, eqb, slice_get, slice_set, Bool, not, ◌&&◌, if◌then◌else◌, Option, Some, None, option_and_then}
 use Rattle.ir_store_lists.specs.Lists.{after, list_at, home_at, free, IsItem, put_before}
-use Rattle.ir_tree.specs.declared.place.Place.{Place}
+use Rattle.ir_store_rows.specs.trees.declared.place.Place.{Place}
 use Rattle.ir_store_slots.specs.Rows.{Row, row_at, live_slot, head_in}
 
 -- the lists where slot k joins that of head n: before another slot, or last

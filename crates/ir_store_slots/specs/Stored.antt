@@ -4,12 +4,12 @@ use Rattle.std.specs.Prelude.{ℕ, Bool, false, ◌||◌, Option, Some, None, re
 use Rattle.std.specs.Coded.{Coded, code_by, coded×, coded_ℕ}
 use Rattle.std.specs.Ordering.{nat_cmp}
 use Rattle.std.specs.FinMap as map
-use Rattle.ir_tree.specs.declared.place.Part.{Part}
-use Rattle.ir_tree.specs.Tree.{Op, head}
-use Rattle.ir_tree.specs.Code.{op_code}
-use Rattle.ir_tree.specs.Ids.{find, first_of}
-use Rattle.ir_tree.specs.Edits.{part_of}
-use Rattle.ir_tree.specs.WellFormed.{Module, module_code}
+use Rattle.ir_store_rows.specs.trees.declared.place.Part.{Part}
+use Rattle.ir_store_rows.specs.trees.Tree.{Op, head}
+use Rattle.ir_store_rows.specs.trees.Code.{op_code}
+use Rattle.ir_store_rows.specs.trees.Ids.{find, first_of}
+use Rattle.ir_store_rows.specs.trees.Edits.{part_of}
+use Rattle.ir_store_rows.specs.trees.WellFormed.{Module, module_code}
 use Rattle.ir_store_rows.specs.Slots.{has_key, is_gone}
 pub use Rattle.ir_store_rows.specs.Gone.{Gone, none_gone, gone_code, gone_in, change_gone}
 

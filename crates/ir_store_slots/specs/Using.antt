@@ -2,9 +2,9 @@
 use Rattle.std.specs.Prelude.{◌≡◌, ℕ, false, List, [], ◌∷◌, map, eqb, Bool, ◌&&◌, Option, Some, None}
 use Rattle.std.specs.List.{list_any}
 use Rattle.ir_store_lists.specs.Lists.{list_at}
-use Rattle.ir_tree.specs.declared.value.Value.{Value}
-use Rattle.ir_tree.specs.Tree.{Op}
-use Rattle.ir_tree.specs.Uses.{uses_of}
+use Rattle.ir_store_rows.specs.trees.declared.value.Value.{Value}
+use Rattle.ir_store_rows.specs.trees.Tree.{Op}
+use Rattle.ir_store_rows.specs.trees.Uses.{uses_of}
 use Rattle.ir_store_slots.specs.Rows.{Row, row_at}
 use Rattle.ir_store_slots.specs.Index.{cell_at}
 

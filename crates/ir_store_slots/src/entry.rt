@@ -1,21 +1,21 @@
 //! Entries of dictionaries, set and taken out.
 ghost use Rattle.std.specs.Prelude.{◌≡◌, true, None, IsOk, OnOk, OnErr, Some, is_some, MatchOption};
 ghost use Rattle.std.specs.FinMap as finmap;
-ghost use Rattle.ir_tree.specs.Edits.{entry_at, part_of as the_part};
-ghost use Rattle.ir_tree.specs.Meaning.{key_before_in, rises};
-ghost use Rattle.ir_tree_laws.specs.Reasons.{entry_reason};
+ghost use Rattle.ir_store_rows.specs.trees.Edits.{entry_at, part_of as the_part};
+ghost use Rattle.ir_store_rows.specs.trees.Meaning.{key_before_in, rises};
+ghost use Rattle.ir_store_rows.specs.tree_laws.Reasons.{entry_reason};
 ghost use Rattle.ir_store_rows.specs.Slots.{has_key, has_slot as is_slot};
 ghost use Rattle.ir_store_rows.specs.Contents.{no_slots};
 ghost use Rattle.ir_store_slots.specs.Rows.{row_at, live_slot};
 ghost use Rattle.ir_store_slots.specs.Entered.{slots_in, row_with_entry, entry_in};
 
 use crate::find::{Keys, find, slot};
+use ir_store_rows::trees::limits::MOST_ITEMS;
+use ir_store_rows::trees::place::Part;
+use ir_store_rows::types::context::Context;
+use ir_store_rows::types::ids::{AttrId, NameId, OpId};
+use ir_store_rows::types::refusal::Refusal;
 use ir_store_rows::{Dictionary, Rows};
-use ir_tree::limits::MOST_ITEMS;
-use ir_tree::place::Part;
-use ir_types::context::Context;
-use ir_types::ids::{AttrId, NameId, OpId};
-use ir_types::refusal::Refusal;
 
 /// Whether there is a slot for a key in one dictionary of a row.
 pub fn has_slot_at(rows: &Rows, at: usize, part: Part, key: NameId) -> bool

@@ -10,8 +10,8 @@ use crate::row::Area;
 use ir_store_ids::IdTable;
 use ir_store_lists::Ordered;
 use ir_store_rows::Rows;
-use ir_types::ids::OpId;
-use ir_types::refusal::Refusal;
+use ir_store_rows::types::ids::OpId;
+use ir_store_rows::types::refusal::Refusal;
 
 /// The slots of operations by their numbers.
 pub type Keys = IdTable;

@@ -1,7 +1,7 @@
 //! Slots and nodes that are added.
 ghost use Rattle.std.specs.Prelude.{◌≡◌, true, false, ℕ, ◌+◌, ◌<◌, ◌≤◌, ◌++◌, ◌∷◌, [], length, map, IfOk, MatchResult, IfSome};
-ghost use Rattle.ir_tree.specs.View.{region_view};
-ghost use Rattle.ir_tree.specs.Tree.{block, no_ops, head};
+ghost use Rattle.ir_store_rows.specs.trees.View.{region_view};
+ghost use Rattle.ir_store_rows.specs.trees.Tree.{block, no_ops, head};
 ghost use Rattle.ir_store_slots.specs.Rows.{shape_of};
 ghost use Rattle.ir_store_slots.specs.Index.{cells_of};
 ghost use Rattle.ir_store_slots.specs.Grows.{parts_of, IsEven, Wider, Runs, AddsSlot, KeepsSlots, AreBlocks, IsBlock, Grown, AreEmptied, row_spare, row_held, bare_region};
@@ -11,10 +11,10 @@ ghost use Rattle.std.specs.Prelude.{if◌then◌else◌};
 
 use crate::row::{Area, Cell};
 use ir_store_lists::{Chains, Ordered};
+use ir_store_rows::trees::tree::{TreeOp, TreeRegion};
+use ir_store_rows::trees::value::Value;
+use ir_store_rows::types::ids::{OpId, TypeId};
 use ir_store_rows::{Draft, Rows};
-use ir_tree::tree::{TreeOp, TreeRegion};
-use ir_tree::value::Value;
-use ir_types::ids::{OpId, TypeId};
 use std::alloc::{AllocError, Global};
 
 /// One slot more, which holds nothing.

@@ -10,8 +10,8 @@ use crate::find::{Keys, find, slot};
 use crate::row::Area;
 use ir_store_lists::Ordered;
 use ir_store_rows::Rows;
-use ir_tree::place::Place;
-use ir_types::ids::OpId;
+use ir_store_rows::trees::place::Place;
+use ir_store_rows::types::ids::OpId;
 
 /// The slot of a held operation.
 pub fn find_held(rows: &Rows, keys: &Keys, op: OpId) -> Option<usize>

@@ -6,7 +6,7 @@ ghost use Rattle.std.specs.Prelude.{eqb};
 ghost use Rattle.std.specs.FinMap as finmap;
 ghost use Rattle.std.specs.Ordering.{nat_cmp};
 ghost use Rattle.ir_store_lists.specs.Lists.{free, IsHead};
-ghost use Rattle.ir_tree.specs.Frames.{owner_of};
+ghost use Rattle.ir_store_rows.specs.trees.Frames.{owner_of};
 ghost use Rattle.ir_store_slots.specs.Rows.{live_slot};
 ghost use Rattle.ir_store_slots.specs.Right.{Live};
 ghost use Rattle.ir_store_slots.specs.Plans.{AllHeads, leaf_in, operand_in};
@@ -18,9 +18,9 @@ use crate::find::{Keys, find, find_leaf, find_operand, slot};
 use crate::row::Area;
 use ir_store_lists::{Chains, Ordered};
 use ir_store_rows::Rows;
-use ir_tree::value::Value;
-use ir_types::ids::{OpId, TypeId};
-use ir_types::refusal::Refusal;
+use ir_store_rows::trees::value::Value;
+use ir_store_rows::types::ids::{OpId, TypeId};
+use ir_store_rows::types::refusal::Refusal;
 
 /// Whether the lists of some heads are empty.
 fn all_idle(uses: &Chains, base: usize, count: usize) -> bool

@@ -31,11 +31,11 @@ use Rattle.ir_text_grammar.specs.Typed.{Typed, after_typed, name_step, attr_step
 use Rattle.ir_text_types.specs.TypeReading.{many, type_done, type_at}
 use Rattle.ir_text_grammar.specs.Lists.{more_at, more_from, list_at, list_from}
 use Rattle.ir_text_grammar.proofs.Worlds.{bind_read, option_read}
-use Rattle.ir_text_attributes.specs.declared.flag.Flag.{Flag}
-use Rattle.ir_text_attributes.specs.Literals.{Word, Truth, UnitWord, ArrayWord, TypeWord, word_of, truth_bits, overflow_word, none_word, flag_of, has_nsw, has_nuw}
-use Rattle.ir_text_attributes.specs.Elements.{bits_of, type_of, element_named, is_bit, item_value}
-use Rattle.ir_text_attributes.specs.Keyed.{has_key}
-use Rattle.ir_text_attributes.specs.AttrReading.{attr_done, name_done, truth_at, string_attr_at, type_attr_at, suffix_from, suffix_at, literal_done, literal_at, negative_from, negative_at, flag_from, flag_at, some_flags_at, no_flags_at, flags_from, flags_at, overflow_at, part_from, part_at, parts_from, parts_at, symbol_attr_at, element_from, element_at, truth_item, number_item, minus_from, minus_item, mark_item, item_from, item_at, some_items_at, no_items_at, items_from, items_at, dense_done, dense_at, Entries, key_from, key_at, unit_value_at, value_from, value_by, entry_by, entries_by, dictionary_by, attrs_by, array_by, word_attr, mark_attr, attr_from, attr_at}
+use Rattle.ir_text_operations.specs.attributes.declared.flag.Flag.{Flag}
+use Rattle.ir_text_operations.specs.attributes.Literals.{Word, Truth, UnitWord, ArrayWord, TypeWord, word_of, truth_bits, overflow_word, none_word, flag_of, has_nsw, has_nuw}
+use Rattle.ir_text_operations.specs.attributes.Elements.{bits_of, type_of, element_named, is_bit, item_value}
+use Rattle.ir_text_operations.specs.attributes.Keyed.{has_key}
+use Rattle.ir_text_operations.specs.attributes.AttrReading.{attr_done, name_done, truth_at, string_attr_at, type_attr_at, suffix_from, suffix_at, literal_done, literal_at, negative_from, negative_at, flag_from, flag_at, some_flags_at, no_flags_at, flags_from, flags_at, overflow_at, part_from, part_at, parts_from, parts_at, symbol_attr_at, element_from, element_at, truth_item, number_item, minus_from, minus_item, mark_item, item_from, item_at, some_items_at, no_items_at, items_from, items_at, dense_done, dense_at, Entries, key_from, key_at, unit_value_at, value_from, value_by, entry_by, entries_by, dictionary_by, attrs_by, array_by, word_attr, mark_attr, attr_from, attr_at}
 use Rattle.ir_text.specs.Room.{Fits}
 use Rattle.ir_text.proofs.Lengths.{gain}
 use Rattle.ir_text.proofs.Fits.{fits_to, Has, Good, wrong, reads, good_then, good_some, unless_good, more_good, list_good, text, things}

@@ -4,7 +4,7 @@ use Rattle.ir_types.specs.Things.{Things}
 use Rattle.ir_types.specs.Terms.{name_term, type_term, type_terms, types_at, next_type, attr_term, attr_terms, entries_at, next_entry}
 use Rattle.ir_tree.specs.Maps.{map_entry}
 use Rattle.ir_text_types.specs.TypeGrammar.{types_of}
-use Rattle.ir_text_attributes.specs.AttrGrammar.{entries_of}
+use Rattle.ir_text_operations.specs.attributes.AttrGrammar.{entries_of}
 
 pub types_are : (c : Things) (ns : List ℕ) → types_of (map (type_term c) ns) ≡ types_at (type_terms c) ns
 types_are c [] = refl

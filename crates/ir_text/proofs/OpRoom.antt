@@ -18,12 +18,12 @@ use Rattle.ir_text_grammar.specs.Marks.{after}
 use Rattle.ir_text_grammar.specs.Outcomes.{Outcome, Read, Wrong, Full, ◌>>=◌, interned, Parse}
 use Rattle.ir_text_grammar.specs.Typed.{Typed, after_typed, name_step}
 use Rattle.ir_text_types.specs.TypeReading.{type_at, function_type_at}
-use Rattle.ir_text_names.specs.declared.bound.Bound.{Bound}
-use Rattle.ir_text_names.specs.BlockReading.{bind, results_of, bind_results, finish, arg_at, args_at, label_args_from, some_args_at, label_args_at, head_from, head_at}
-use Rattle.ir_text_names.specs.NameReading.{value_name_at}
-use Rattle.ir_text_names.specs.Packs.{Counted, counts}
-use Rattle.ir_text_names.specs.States.{State, to_bytes, after_in, typed, with_typed, with_scopes, inside, outside}
-use Rattle.ir_text_attributes.specs.AttrReading.{Entries}
+use Rattle.ir_text_operations.specs.names.declared.bound.Bound.{Bound}
+use Rattle.ir_text_operations.specs.names.BlockReading.{bind, results_of, bind_results, finish, arg_at, args_at, label_args_from, some_args_at, label_args_at, head_from, head_at}
+use Rattle.ir_text_operations.specs.names.NameReading.{value_name_at}
+use Rattle.ir_text_operations.specs.names.Packs.{Counted, counts}
+use Rattle.ir_text_operations.specs.names.States.{State, to_bytes, after_in, typed, with_typed, with_scopes, inside, outside}
+use Rattle.ir_text_operations.specs.attributes.AttrReading.{Entries}
 use Rattle.ir_text_operations.specs.EntryReading.{properties_at, attributes_at}
 use Rattle.ir_text_operations.specs.FrontReading.{Frees, Start, start_at}
 use Rattle.ir_text_operations.specs.Made.{region_of}

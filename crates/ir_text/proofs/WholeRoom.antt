@@ -12,8 +12,8 @@ use Rattle.ir_tree.specs.Tree.{Op}
 use Rattle.ir_text_grammar.specs.Outcomes.{Outcome, Read, Full}
 use Rattle.ir_text_grammar.specs.Typed.{name_step}
 use Rattle.ir_text_types.specs.TypeReading.{type_at, function_type_at}
-use Rattle.ir_text_attributes.specs.AttrReading.{attr_at}
-use Rattle.ir_text_names.specs.States.{State, fresh}
+use Rattle.ir_text_operations.specs.attributes.AttrReading.{attr_at}
+use Rattle.ir_text_operations.specs.names.States.{State, fresh}
 use Rattle.ir_text_operations.specs.Filling.{new_things, RootFills, OpsFill, Fills}
 use Rattle.ir_text_operations.specs.Free.{free_bound, no_types}
 use Rattle.ir_text_operations.specs.FrontReading.{Frees}

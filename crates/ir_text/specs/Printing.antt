@@ -6,7 +6,7 @@ use Rattle.ir_tree.specs.declared.value.Value.{Value}
 use Rattle.ir_tree.specs.Tree.{HeadOf, op, RegionsOf, no_regions, region, RegionOf, empty, block, OpsOf, no_ops, next}
 use Rattle.ir_text_tokens.specs.Printing.{string_text}
 use Rattle.ir_text_types.specs.TypeGrammar.{types_of}
-use Rattle.ir_text_attributes.specs.AttrGrammar.{entries_of}
+use Rattle.ir_text_operations.specs.attributes.AttrGrammar.{entries_of}
 use Rattle.ir_text.specs.TypeText.{in_round, type_text}
 use Rattle.ir_text.specs.AttrText.{in_curly, entry_texts}
 use Rattle.ir_tree.specs.Meaning.{Operation}

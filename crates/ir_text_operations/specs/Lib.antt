@@ -13,3 +13,5 @@ pub mod Spelling
 pub mod Claims
 pub mod Standing
 pub mod Openings
+pub use Rattle.ir_text_attributes.specs as attributes
+pub use Rattle.ir_text_names.specs as names

@@ -14,3 +14,5 @@ pub mod ops;
 mod places;
 pub mod single;
 mod tail;
+
+pub use ir_text_attributes as attributes;

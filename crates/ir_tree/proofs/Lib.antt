@@ -20,3 +20,4 @@ pub mod SeenSites
 pub mod SoundEdits
 pub mod Steps
 pub mod Tallies
+pub use Rattle.ir_types.proofs as of_types

@@ -18,3 +18,4 @@ pub mod Places
 pub mod Edited
 pub mod Passing
 pub mod Meaning
+pub use Rattle.ir_types.specs as types

@@ -22,3 +22,5 @@ pub mod tree;
 pub mod uses;
 pub mod value;
 pub mod visible;
+
+pub use ir_types as types;

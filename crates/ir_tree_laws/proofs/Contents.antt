@@ -5,7 +5,7 @@ use Rattle.std.specs.Prelude.{nat_lt, nat_le, is_some, slice_get, option_and_the
 use Rattle.std.specs.List.{list_any, list_all}
 use Rattle.std.proofs.lemmas.List.{length-map}
 use Rattle.std.proofs.lemmas.Option.{slice_get-map}
-use Rattle.ir_types.specs.declared.refusal.Refusal.TheVariants.{NoSuchOp, NoSuchValue, NotVisible, NoSuchIndex, NoSuchKey, Full, IdsExhausted, TooDeepHere, IsRoot, NotEmpty, HasUses, IntoItself, OtherTable}
+use Rattle.ir_tree.specs.types.declared.refusal.Refusal.TheVariants.{NoSuchOp, NoSuchValue, NotVisible, NoSuchIndex, NoSuchKey, Full, IdsExhausted, TooDeepHere, IsRoot, NotEmpty, HasUses, IntoItself, OtherTable}
 use Rattle.ir_tree.specs.declared.value.Value.{Value}
 use Rattle.ir_tree.specs.declared.value.Value.TheVariants.{Result, Arg}
 use Rattle.ir_tree.specs.declared.place.Place.{Place}

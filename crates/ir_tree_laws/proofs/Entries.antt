@@ -1,7 +1,7 @@
 -- An entry that is set or taken out, and set back.
 use Rattle.std.proofs.Common.{◌≡◌, refl, ap, sym, ◌∙◌, subst, ℕ, ◌+◌, Bool, true, false, true≢false, cond, not, ◌&&◌, eqb, eq-eqb, eqb-true, List, [], ◌∷◌, ◌++◌, Option, Some, None, option_map, inl, inr}
 use Rattle.std.specs.Prelude.{is_some}
-use Rattle.ir_types.specs.declared.refusal.Refusal.TheVariants.{NoSuchKey}
+use Rattle.ir_tree.specs.types.declared.refusal.Refusal.TheVariants.{NoSuchKey}
 use Rattle.ir_tree.specs.declared.place.Part.{Part}
 use Rattle.ir_tree.specs.declared.place.Part.TheVariants.{Props, Attrs}
 use Rattle.ir_tree.specs.Tree.{HeadOf, OpOf, op, RegionsOf, no_regions, region, RegionOf, empty, block, OpsOf, no_ops, next, head}

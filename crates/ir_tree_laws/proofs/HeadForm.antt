@@ -4,7 +4,7 @@ use Rattle.std.specs.Prelude.{All, nat_lt, nat_le, is_some, slice_set}
 use Rattle.std.specs.List.{list_all, IsDistinct}
 use Rattle.std.proofs.lemmas.Bool.{ltb-true, leb-true, le-leb}
 use Rattle.std.proofs.lemmas.List.{length-map, length-set}
-use Rattle.ir_types.specs.declared.refusal.Refusal.TheVariants.{Full}
+use Rattle.ir_tree.specs.types.declared.refusal.Refusal.TheVariants.{Full}
 use Rattle.ir_tree.specs.declared.value.Value.{Value}
 use Rattle.ir_tree.specs.declared.place.Part.{Part}
 use Rattle.ir_tree.specs.declared.place.Part.TheVariants.{Props, Attrs}

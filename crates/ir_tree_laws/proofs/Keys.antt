@@ -4,9 +4,9 @@ use Rattle.std.specs.Ordering.{is_eq, is_lt, nat_cmp, ordering_reverse}
 use Rattle.std.specs.Cmp.Lexicographic.{slice_cmp}
 use Rattle.std.proofs.lemmas.Cmp.{nat_list_cmp_total}
 use Rattle.std.proofs.lemmas.Map.Text.{is_eq-slice_cmp}
-use Rattle.ir_types.specs.Things.{Things}
-use Rattle.ir_types.specs.Terms.{name_term}
-use Rattle.ir_types.proofs.Growth.{name_refl, name_is}
+use Rattle.ir_tree.specs.types.Things.{Things}
+use Rattle.ir_tree.specs.types.Terms.{name_term}
+use Rattle.ir_tree.proofs.of_types.Growth.{name_refl, name_is}
 use Rattle.ir_tree.specs.Meaning.{key_before, key_before_in}
 use Rattle.ir_tree_laws.specs.Keys.{Ordered}
 

@@ -30,3 +30,4 @@ pub mod RenumberedSame
 pub mod RenumberedSight
 pub mod RenumberedForm
 pub mod RenumberedFixed
+pub use Rattle.ir_tree.proofs as of_trees

@@ -10,3 +10,5 @@ pub mod Changes
 pub mod Restores
 pub mod Keys
 pub mod Renumbered
+pub use Rattle.ir_tree.specs as trees
+pub use Rattle.ir_tree.specs.types

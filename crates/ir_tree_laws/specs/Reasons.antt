@@ -2,8 +2,8 @@
 use Rattle.std.specs.Prelude.{ℕ, ◌+◌, nat_lt, nat_le, eqb, length, List, Bool, true, false, not, ◌&&◌, ◌||◌, Option, Some, None, is_some, if◌then◌else◌}
 use Rattle.std.specs.List.{list_all}
 use Rattle.std.specs.Option.{option_eq}
-use Rattle.ir_types.specs.declared.refusal.Refusal.{Refusal}
-use Rattle.ir_types.specs.declared.refusal.Refusal.TheVariants.{NoSuchOp, NoSuchValue, HasUses, NotVisible, NoSuchIndex, NoSuchKey, IntoItself, OtherTable, IsRoot, NotEmpty, Full, IdsExhausted, TooDeepHere}
+use Rattle.ir_tree.specs.types.declared.refusal.Refusal.{Refusal}
+use Rattle.ir_tree.specs.types.declared.refusal.Refusal.TheVariants.{NoSuchOp, NoSuchValue, HasUses, NotVisible, NoSuchIndex, NoSuchKey, IntoItself, OtherTable, IsRoot, NotEmpty, Full, IdsExhausted, TooDeepHere}
 use Rattle.ir_tree.specs.declared.value.Value.{Value}
 use Rattle.ir_tree.specs.declared.place.Place.{Place}
 use Rattle.ir_tree.specs.declared.place.Part.{Part}

@@ -1,9 +1,9 @@
 //! Laws of trees. Each is a function that does nothing: its contract is the law.
 ghost use Rattle.std.specs.Prelude.{◌≡◌, ◌↔◌, ◌<◌, ◌≤◌, ◌+◌, ◌&&◌, ◌||◌, ◌-◌, not, ℕ, Bool, true, false, List, [], ◌∷◌, ◌++◌, map, length, eqb, Option, Some, None, option_map};
 ghost use Rattle.std.specs.List.{filter, list_all, list_any};
-ghost use Rattle.ir_types.specs.Things.{Things};
-ghost use Rattle.ir_types.specs.Terms.{name_term, type_term, attr_term};
-ghost use Rattle.ir_types.specs.Words.{is_isolated, is_table};
+ghost use Rattle.ir_tree.specs.types.Things.{Things};
+ghost use Rattle.ir_tree.specs.types.Terms.{name_term, type_term, attr_term};
+ghost use Rattle.ir_tree.specs.types.Words.{is_isolated, is_table};
 ghost use Rattle.ir_tree.specs.declared.place.Part.{Part as Dictionary};
 ghost use Rattle.ir_tree.specs.declared.place.Place.{Place as Spot};
 ghost use Rattle.ir_tree.specs.declared.value.Value.{Value as TreeValue};

@@ -1,7 +1,7 @@
 //! Laws of trees with other ids. Each is a function that does nothing: its contract is the law.
 ghost use Rattle.std.specs.Prelude.{◌≡◌, ◌++◌, ℕ, Bool, List, ◌∷◌, length, map, eqb};
 ghost use Rattle.std.specs.List.{IsDistinct};
-ghost use Rattle.ir_types.specs.Terms.{AttrTerm, TypeTerm};
+ghost use Rattle.ir_tree.specs.types.Terms.{AttrTerm, TypeTerm};
 ghost use Rattle.ir_tree.specs.declared.value.Value.{Value};
 ghost use Rattle.ir_tree.specs.Tree.{head};
 ghost use Rattle.ir_tree.specs.Ids.{HasDistinctIds, IsNumberedFrom, ids};

@@ -5,8 +5,8 @@ use Rattle.ir_types.specs.Terms.{name_term, type_term, attr_term}
 use Rattle.ir_tree.specs.Ids.{has_id}
 use Rattle.ir_tree_laws.proofs.Contents.{map_has_id}
 use Rattle.ir_tree_laws.proofs.Listed.{bool_cases}
-use Rattle.ir_event.specs.declared.world.World.{World}
-use Rattle.ir_event.specs.Modules.{module_in}
+use Rattle.ir_verify_base.specs.events.declared.world.World.{World}
+use Rattle.ir_verify_base.specs.events.Modules.{module_in}
 use Rattle.ir_verify_base.specs.Surroundings.{SurroundingsOf, surroundings}
 use Rattle.ir_verify_base.specs.Mapped.{map_surroundings}
 use Rattle.ir_verify_base.specs.Facts.{fact_of}

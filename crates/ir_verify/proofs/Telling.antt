@@ -13,10 +13,10 @@ use Rattle.ir_tree_laws.specs.Stands.{StandOf, stand_id, stands}
 use Rattle.ir_tree_laws.proofs.Listed.{bool_cases}
 use Rattle.op_registry.specs.Rows.{Row}
 use Rattle.op_registry.specs.Registry.{row_of}
-use Rattle.ir_event.specs.declared.row.Cell.{Cell}
-use Rattle.ir_event.specs.declared.row.Cell.TheVariants.{Op, Rule}
-use Rattle.ir_event.specs.declared.row.Row.{Row as Line}
-use Rattle.ir_event.specs.Rows.{cell_meaning, rows_meaning, CellIsOf, RowIsOf, Shows}
+use Rattle.ir_verify_base.specs.events.declared.row.Cell.{Cell}
+use Rattle.ir_verify_base.specs.events.declared.row.Cell.TheVariants.{Op, Rule}
+use Rattle.ir_verify_base.specs.events.declared.row.Row.{Row as Line}
+use Rattle.ir_verify_base.specs.events.Rows.{cell_meaning, rows_meaning, CellIsOf, RowIsOf, Shows}
 use Rattle.ir_verify_base.specs.Surroundings.{surround, surroundings}
 use Rattle.ir_verify_base.specs.Facts.{fact_of, sorted_in, sorted_facts, kept_facts}
 use Rattle.ir_verify_base.specs.Fits.{Surroundings}

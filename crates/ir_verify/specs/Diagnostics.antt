@@ -4,7 +4,7 @@ use Rattle.ir_types.specs.declared.refusal.Refusal.{Refusal}
 use Rattle.ir_types.specs.declared.refusal.Refusal.TheVariants.{NoSuchOp, Memory}
 use Rattle.ir_tree.specs.Ids.{has_id}
 use Rattle.ir_tree.specs.Meaning.{Operation}
-use Rattle.ir_event.specs.Rows.{RowTerm, Op, Rule}
+use Rattle.ir_verify_base.specs.events.Rows.{RowTerm, Op, Rule}
 use Rattle.ir_verify_base.specs.Surroundings.{surroundings}
 use Rattle.ir_verify_base.specs.Facts.{sorted_facts}
 use Rattle.ir_verify.specs.Breaks.{broken}

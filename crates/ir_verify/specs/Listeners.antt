@@ -2,7 +2,7 @@
 use Rattle.std.specs.Prelude.{◌≡◌, false, None}
 use Rattle.std.specs.Ordering.{nat_cmp}
 use Rattle.std.specs.BTreeMap.{get}
-use Rattle.ir_event.specs.Listener.{Listener}
+use Rattle.ir_verify_base.specs.events.Listener.{Listener}
 use Rattle.ir_verify_base.specs.Facts.{Keeps, most_looks}
 use Rattle.ir_verify.specs.declared.diagnostics.Diagnostics.{Diagnostics}
 use Rattle.ir_verify.specs.Sets.{has_any, set_of}

@@ -5,7 +5,7 @@ use Rattle.std.specs.Ordering.{ordering_then, nat_cmp}
 use Rattle.std.specs.List.Sorted.{IsStrictlySortedBy}
 use Rattle.ir_tree.specs.Meaning.{Operation}
 use Rattle.ir_tree_laws.specs.Members.{In}
-use Rattle.ir_event.specs.Rows.{RowTerm, Op, Rule}
+use Rattle.ir_verify_base.specs.events.Rows.{RowTerm, Op, Rule}
 use Rattle.ir_verify.specs.Diagnostics.{broken_at}
 
 -- operation x of a tree is there, and breaks rule r

@@ -1,7 +1,7 @@
 -- The rows of the report as they are made: the cells of each.
 use Rattle.std.specs.Prelude.{ℕ, List, [], ◌∷◌, ◌++◌}
-use Rattle.ir_event.specs.declared.row.Cell.{Cell}
-use Rattle.ir_event.specs.declared.row.Cell.TheVariants.{Op, Rule}
+use Rattle.ir_verify_base.specs.events.declared.row.Cell.{Cell}
+use Rattle.ir_verify_base.specs.events.declared.row.Cell.TheVariants.{Op, Rule}
 use Rattle.ir_verify.specs.declared.rules.RuleSet.{RuleSet}
 use Rattle.ir_verify.specs.Sets.{rules_in}
 

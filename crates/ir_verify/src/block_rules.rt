@@ -5,19 +5,19 @@ ghost use Rattle.ir_types.specs.Terms.{name_term};
 ghost use Rattle.ir_types.specs.WordNames.{word_bytes};
 ghost use Rattle.op_registry.specs.Registry.{region_row, row_from};
 ghost use Rattle.op_registry.specs.Properties.{string_of as string_in};
-ghost use Rattle.ir_event.specs.Modules.{NodeIsOf};
+ghost use Rattle.ir_verify_base.specs.events.Modules.{NodeIsOf};
 ghost use Rattle.ir_verify_base.specs.Gathered.{AroundIsOf};
 ghost use Rattle.ir_verify_base.specs.Numbers.{node_in, around_in};
 ghost use Rattle.ir_verify_base.specs.Fits as fits;
 ghost use Rattle.ir_verify.specs.BlockRules as rules;
 
-use ir_store::node::Node;
 use ir_types::context::Context;
 use ir_types::ids::NameId;
 use ir_types::word::Word;
 use ir_verify_base::around::Around;
 use ir_verify_base::node::{has_block, is_named, property};
 use ir_verify_base::properties::string_of;
+use ir_verify_base::store::node::Node;
 use op_registry::definition::{OpDef, RegionRule, Trait};
 use op_registry::registry::Registry;
 

@@ -3,11 +3,11 @@ ghost use Rattle.std.specs.Prelude.{◌≡◌, true};
 
 use crate::report::rows;
 use crate::rules::RuleSet;
-use ir_event::analysis::Analysis;
-use ir_event::event::Event;
-use ir_event::row::{Kind, Memory, ReportFault, Row};
-use ir_event::view::View;
-use ir_event::world::World;
+use ir_verify_base::events::analysis::Analysis;
+use ir_verify_base::events::event::Event;
+use ir_verify_base::events::row::{Kind, Memory, ReportFault, Row};
+use ir_verify_base::events::view::View;
+use ir_verify_base::events::world::World;
 use ir_verify_base::kept::Kept;
 use std::alloc::Global;
 

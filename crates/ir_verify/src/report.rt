@@ -1,13 +1,13 @@
 //! The rows of the report.
 ghost use Rattle.std.specs.Prelude.{◌≡◌, ◌++◌, [], ◌∷◌, map, OnOk, IfOk};
-ghost use Rattle.ir_event.specs.declared.row.Row.{Row as Line};
+ghost use Rattle.ir_verify_base.specs.events.declared.row.Row.{Row as Line};
 ghost use Rattle.ir_verify.specs.Sets.{rules_in};
 ghost use Rattle.ir_verify.specs.Reports.{rule_cells, rules_cells, all_cells};
 
 use crate::rules::RuleSet;
-use ir_event::row::{Cell, Row};
 use ir_tree::value::Value;
 use ir_types::ids::OpId;
+use ir_verify_base::events::row::{Cell, Row};
 use std::alloc::{AllocError, Global};
 use std::collections::BTreeMap;
 

@@ -9,3 +9,4 @@ pub use Rattle.listeners_surroundings.specs.Mapped
 pub use Rattle.listeners_surroundings.specs.Surroundings
 pub use Rattle.listeners_surroundings.specs.declared.around.Around
 pub use Rattle.listeners_surroundings.specs.declared.around.Outer
+pub use Rattle.listeners_surroundings.specs.events

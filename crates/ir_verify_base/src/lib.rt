@@ -8,4 +8,4 @@ pub mod shapes;
 pub mod type_rules;
 pub mod types;
 
-pub use listeners_surroundings::{around, fact, kept, properties};
+pub use listeners_surroundings::{around, events, fact, kept, properties, store};

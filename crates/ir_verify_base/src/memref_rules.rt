@@ -7,7 +7,7 @@ ghost use Rattle.std.specs.Cmp.Lexicographic.{pointwise};
 ghost use Rattle.ir_types.specs.Things.{Things, IsType, TypeIsOf};
 ghost use Rattle.ir_types.specs.Terms.{TypeTerm, AttrTerm, attr_from, type_at, type_from, type_term};
 ghost use Rattle.ir_types.specs.WordNames.{word_bytes};
-ghost use Rattle.ir_event.specs.Modules.{NodeIsOf};
+ghost use Rattle.listeners_surroundings.specs.events.Modules.{NodeIsOf};
 ghost use Rattle.listeners_surroundings.specs.Gathered.{AroundIsOf};
 ghost use Rattle.ir_verify_base.specs.Numbers.{typed, node_in, around_in};
 ghost use Rattle.ir_verify_base.specs.Fits as fits;

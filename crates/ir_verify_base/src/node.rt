@@ -5,7 +5,7 @@ ghost use Rattle.std.specs.Option.{option_map};
 ghost use Rattle.ir_types.specs.Things.{IsAttr, IsType};
 ghost use Rattle.ir_types.specs.Terms.{attr_term, type_term};
 ghost use Rattle.ir_types.specs.WordNames.{word_bytes};
-ghost use Rattle.ir_event.specs.Modules.{NodeIsOf};
+ghost use Rattle.listeners_surroundings.specs.events.Modules.{NodeIsOf};
 ghost use Rattle.ir_verify_base.specs.Numbers.{node_in};
 ghost use Rattle.ir_verify_base.specs.Fits as fits;
 

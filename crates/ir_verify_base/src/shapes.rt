@@ -3,7 +3,7 @@ ghost use Rattle.std.specs.Prelude.{◌≡◌, map};
 ghost use Rattle.std.specs.List.{list_any};
 ghost use Rattle.ir_types.specs.Things.{Things};
 ghost use Rattle.op_registry.specs.Registry.{property_row, row_from};
-ghost use Rattle.ir_event.specs.Modules.{NodeIsOf};
+ghost use Rattle.listeners_surroundings.specs.events.Modules.{NodeIsOf};
 ghost use Rattle.ir_verify_base.specs.Numbers.{node_in};
 ghost use Rattle.ir_verify_base.specs.Shapes as shapes;
 

@@ -7,7 +7,7 @@ ghost use Rattle.ir_types.specs.Terms.{TypeTerm, AttrTerm, attr_from, attr_term,
 ghost use Rattle.ir_types.specs.WordNames.{word_bytes};
 ghost use Rattle.op_registry.specs.Registry.{region_row, row_from};
 ghost use Rattle.op_registry.specs.Properties.{integer_of as integer_in};
-ghost use Rattle.ir_event.specs.Modules.{NodeIsOf};
+ghost use Rattle.listeners_surroundings.specs.events.Modules.{NodeIsOf};
 ghost use Rattle.listeners_surroundings.specs.Gathered.{AroundIsOf};
 ghost use Rattle.ir_verify_base.specs.Numbers.{typed, known_in, node_in, around_in, AreKnown, AreKnownOf};
 ghost use Rattle.ir_verify_base.specs.Fits as fits;

@@ -5,7 +5,7 @@ use Rattle.ir_tree.specs.declared.value.Value.{Value}
 use Rattle.ir_tree.specs.Tree.{HeadOf, OpOf, op, head}
 use Rattle.ir_tree.specs.Ids.{HasDistinctIds}
 use Rattle.ir_tree.specs.Frames.{owner_of}
-use Rattle.ir_store.specs.Nodes.{node_of}
+use Rattle.ir_event.specs.store.Nodes.{node_of}
 use Rattle.ir_tree_laws.specs.Values.{type_of_value}
 use Rattle.ir_tree_laws.specs.Stands.{StandOf, stand_id, stands, stand_of}
 use Rattle.ir_tree_laws.specs.Members.{In}

@@ -6,7 +6,7 @@ use Rattle.ir_tree.specs.Tree.{HeadOf, OpOf, op, RegionsOf, no_regions, region, 
 use Rattle.ir_tree.specs.Ids.{HasDistinctIds, find, first_of}
 use Rattle.ir_tree.specs.Edits.{each_head, regions_each_head, ops_each_head, at}
 use Rattle.ir_tree.specs.Frames.{owner_of}
-use Rattle.ir_store.specs.Nodes.{node_of, regions_arguments}
+use Rattle.ir_event.specs.store.Nodes.{node_of, regions_arguments}
 use Rattle.ir_tree_laws.specs.Values.{type_of_value, region_at}
 use Rattle.ir_tree_laws.specs.Reads.{ops_in, last_id, last_at}
 use Rattle.ir_tree_laws.specs.Stands.{StepOf, StandOf, stand_id, stands, stand_in, stand_of, edit_step, edit_stand}

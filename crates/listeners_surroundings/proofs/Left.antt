@@ -4,7 +4,7 @@ use Rattle.ir_tree.specs.declared.place.Place.{Place}
 use Rattle.ir_tree.specs.Tree.{OpOf, op, RegionsOf, no_regions, region, empty, block, OpsOf, no_ops, next, head, regions}
 use Rattle.ir_tree.specs.Ids.{HasDistinctIds, first_of}
 use Rattle.ir_tree.specs.Places.{each_list, regions_each_list, ops_each_list, drop_op, place_of}
-use Rattle.ir_store.specs.Nodes.{node_of, regions_arguments}
+use Rattle.ir_event.specs.store.Nodes.{node_of, regions_arguments}
 use Rattle.ir_tree_laws.specs.Values.{region_at}
 use Rattle.ir_tree_laws.specs.Reads.{is_among}
 use Rattle.ir_tree_laws.specs.Stands.{StepOf, StandOf, stand_id, stands, dropping, left_step, left_stand}

@@ -9,7 +9,7 @@ use Rattle.ir_tree.specs.Ids.{find, first_of}
 use Rattle.ir_tree.specs.Places.{place_of}
 use Rattle.ir_tree.specs.Maps.{map_head, map_tree, map_regions, map_region, map_ops}
 use Rattle.ir_tree.proofs.Mapped.{map_find, map_place}
-use Rattle.ir_store.specs.Nodes.{node_of, regions_arguments}
+use Rattle.ir_event.specs.store.Nodes.{node_of, regions_arguments}
 use Rattle.ir_tree_laws.specs.Values.{region_at, type_of_value}
 use Rattle.ir_tree_laws.specs.Reads.{ops_in, ops_at, last_id, last_at, id_before, prev_of}
 use Rattle.ir_tree_laws.specs.Stands.{StepOf, StandOf, stand_id, stands, regions_stands, region_stands, ops_stands, stand_in, stand_of}

@@ -8,7 +8,7 @@ use Rattle.ir_tree.specs.Ids.{HasDistinctIds, find}
 use Rattle.ir_tree.specs.Uses.{uses_of}
 use Rattle.ir_tree.specs.Places.{place_of, without}
 use Rattle.ir_tree.specs.Frames.{owner_of}
-use Rattle.ir_store.specs.Nodes.{node_of}
+use Rattle.ir_event.specs.store.Nodes.{node_of}
 use Rattle.ir_tree_laws.specs.Changes.{HoldNone}
 use Rattle.ir_tree_laws.specs.Values.{type_of_value}
 use Rattle.ir_tree_laws.specs.Reads.{last_at, prev_of}

@@ -11,8 +11,8 @@ use Rattle.ir_tree.specs.Ids.{HasDistinctIds, find, first_of, has_id}
 use Rattle.ir_tree.specs.Places.{first_id, place_of}
 use Rattle.ir_tree.specs.Limits.{most_regions, items_fit, head_fits, all_arguments_pass, op_fits}
 use Rattle.ir_tree.specs.WellFormed.{IsFormed}
-use Rattle.ir_store.specs.Nodes.{Node, NodeOf, node_of, regions_arguments}
-use Rattle.ir_store.specs.Stored.{Stored, known}
+use Rattle.ir_event.specs.store.Nodes.{Node, NodeOf, node_of, regions_arguments}
+use Rattle.ir_event.specs.store.Stored.{Stored, known}
 use Rattle.ir_tree_laws.specs.Values.{type_of_value, has_value, region_at}
 use Rattle.ir_tree_laws.specs.Reads.{ops_in, last_id, last_at, parent_of, next_of}
 use Rattle.ir_tree_laws.specs.Stands.{StepOf, StandOf, stand_id, stands, stand_of, place_in, sees}

@@ -5,8 +5,8 @@ use Rattle.ir_types.specs.Things.{Things}
 use Rattle.ir_types.specs.Terms.{TypeTerm, AttrTerm, name_term, type_term, attr_term}
 use Rattle.ir_tree.specs.Ids.{HasDistinctIds, has_id}
 use Rattle.ir_tree.specs.Meaning.{meaning}
-use Rattle.ir_store.specs.Nodes.{Node, node_of}
-use Rattle.ir_store.specs.Stored.{Stored, known}
+use Rattle.ir_event.specs.store.Nodes.{Node, node_of}
+use Rattle.ir_event.specs.store.Stored.{Stored, known}
 use Rattle.listeners_surroundings.specs.Surroundings.{SurroundingsOf, surround, surroundings}
 use Rattle.listeners_surroundings.specs.Mapped.{map_surroundings}
 use Rattle.listeners_surroundings.specs.Facts.{if_kept, kept_of}

@@ -2,7 +2,7 @@
 use Rattle.std.specs.Prelude.{ℕ, List, [], ◌∷◌, map, Option, Some, None, option_map, option_and_then}
 use Rattle.ir_tree.specs.Tree.{OpOf, RegionsOf, no_regions, region, OpsOf, no_ops, next, head, regions}
 use Rattle.ir_tree.specs.Ids.{first_of}
-use Rattle.ir_store.specs.Nodes.{NodeOf, node_of}
+use Rattle.ir_event.specs.store.Nodes.{NodeOf, node_of}
 use Rattle.ir_tree_laws.specs.Values.{type_of_value}
 use Rattle.ir_tree_laws.specs.Stands.{StepOf, StandOf, stand_of}
 use Rattle.ir_tree_laws.specs.Reads.{ops_in}

@@ -1,5 +1,5 @@
 //! What an operation is and has around it, gathered from a view.
-use ir_store::node::Node;
+use ir_event::store::node::Node;
 use ir_types::ids::{NameId, TypeId};
 
 /// What an operation sees of the one that it stands in.

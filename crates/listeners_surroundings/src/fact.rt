@@ -13,10 +13,10 @@ ghost use Rattle.listeners_surroundings.specs.Gathered.{AroundIsOf, gathered_in,
 use crate::around::Around;
 use crate::gather::{around_of, gather, shown};
 use ir_event::event::Event;
+use ir_event::registry::registry::Registry;
 use ir_event::view::View;
 use ir_types::context::Context;
 use ir_types::ids::{NameId, OpId};
-use op_registry::registry::Registry;
 use std::alloc::{AllocError, Global};
 use std::collections::BTreeMap;
 

@@ -3,8 +3,8 @@ ghost use Rattle.std.specs.Prelude.{◌≡◌, ◌≤◌, ◌<◌, ◌+◌, ◌*
 ghost use Rattle.std.specs.List.{All};
 ghost use Rattle.ir_types.specs.Things.{IsType};
 ghost use Rattle.ir_tree.specs.Ids.{find, has_id};
-ghost use Rattle.ir_store.specs.Nodes.{node_of};
-ghost use Rattle.ir_store.specs.Stored.{known};
+ghost use Rattle.ir_event.specs.store.Nodes.{node_of};
+ghost use Rattle.ir_event.specs.store.Stored.{known};
 ghost use Rattle.ir_tree_laws.specs.Values.{type_of_value, has_value};
 ghost use Rattle.ir_event.specs.Modules.{NodeIsOf};
 ghost use Rattle.listeners_surroundings.specs.Surroundings.{surroundings};
@@ -12,8 +12,8 @@ ghost use Rattle.listeners_surroundings.specs.Gathered.{AroundIsOf, gathered, ou
 ghost use Rattle.listeners_surroundings.specs.declared.around.Outer.{Outer as GatheredOuter};
 
 use crate::around::{Around, Outer};
+use ir_event::store::node::Node;
 use ir_event::view::View;
-use ir_store::node::Node;
 use ir_tree::value::Value;
 use ir_types::ids::{NameId, OpId, TypeId};
 use std::alloc::{AllocError, Global};

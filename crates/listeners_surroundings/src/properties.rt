@@ -7,8 +7,8 @@ ghost use Rattle.ir_types.specs.Things.{Things, IsName, IsAttr, AttrIsOf};
 ghost use Rattle.ir_types.specs.Terms.{TypeTerm, AttrTerm, attr_from, attr_term, name_term};
 ghost use Rattle.ir_types.specs.WordNames.{word_bytes};
 ghost use Rattle.ir_tree.specs.Maps.{map_entry};
-ghost use Rattle.op_registry.specs.Registry.{beside};
-ghost use Rattle.op_registry.specs.Properties as properties;
+ghost use Rattle.ir_event.specs.registry.Registry.{beside};
+ghost use Rattle.ir_event.specs.registry.Properties as properties;
 
 use ir_types::context::Context;
 use ir_types::ids::{AttrId, NameId};

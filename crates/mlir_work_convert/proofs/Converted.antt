@@ -4,11 +4,11 @@ use Rattle.ir_types.specs.Sound.{Holds}
 use Rattle.ir_types.specs.declared.refusal.Refusal.{Refusal}
 use Rattle.ir_event.specs.Listener.{Listener}
 use Rattle.ir_event.specs.Modules.{Module}
-use Rattle.rewriter.proofs.Together.{Ages}
-use Rattle.rewriter.proofs.Told.{heard_more}
-use Rattle.rewriter.specs.Benched.{Benched, Does, Led, state_of}
-use Rattle.rewriter.specs.Held.{module_held}
-use Rattle.rewriter.specs.Machine.{Change, Goes, Nothing, State as Machine}
+use Rattle.conversion.proofs.of_rewriter_bench.Together.{Ages}
+use Rattle.conversion.proofs.of_rewriter_bench.Told.{heard_more}
+use Rattle.conversion.specs.rewriter_bench.Benched.{Benched, Does, Led, state_of}
+use Rattle.conversion.specs.rewriter_bench.Held.{module_held}
+use Rattle.conversion.specs.rewriter_bench.Machine.{Change, Goes, Nothing, State as Machine}
 use Rattle.conversion.proofs.Replied.{converts_goes}
 use Rattle.conversion.specs.Benches.{seen}
 use Rattle.conversion.specs.Conversion.{Ended, converted, given_up, conversion_of}

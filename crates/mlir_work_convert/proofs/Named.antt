@@ -18,9 +18,9 @@ use Rattle.ir_types.proofs.CallNumbers.{new_name, name_stands}
 use Rattle.ir_types.proofs.Growth.{front_agree, front_length, grows_refl, grows_trans}
 use Rattle.ir_event.specs.Listener.{Listener}
 use Rattle.ir_tree_laws.proofs.Listed.{both}
-use Rattle.rewriter.specs.Benched.{Benched, Led}
-use Rattle.rewriter.specs.Moves.{Grown}
-use Rattle.rewriter.specs.Panels.{all_shown}
+use Rattle.conversion.specs.rewriter_bench.Benched.{Benched, Led}
+use Rattle.conversion.specs.rewriter_bench.Moves.{Grown}
+use Rattle.conversion.specs.rewriter_bench.Panels.{all_shown}
 use Rattle.conversion.specs.Benches.{led_more, led_none}
 use Rattle.conversion.specs.States.{IsWant}
 use Rattle.mlir_work_convert.specs.Interned.{AreNumbers, Interned}

@@ -4,7 +4,7 @@ use Rattle.std.specs.List.{All}
 use Rattle.ir_types.specs.Things.{Things, Grows, IsName}
 use Rattle.ir_types.specs.Terms.{name_term}
 use Rattle.ir_event.specs.Listener.{Listener}
-use Rattle.rewriter.specs.Benched.{Benched, state_of}
+use Rattle.conversion.specs.rewriter_bench.Benched.{Benched, state_of}
 use Rattle.mlir_work_script.specs.Items.{numbers_of}
 use Rattle.conversion.specs.Benches.{LedOn}
 

@@ -1,9 +1,9 @@
 //! Converting the module of a bench.
 ghost use Rattle.std.specs.Prelude.{◌≡◌, true, OnOk};
 ghost use Rattle.ir_types.specs.Things.{Grows};
-ghost use Rattle.rewriter.specs.Machine.{Change};
-ghost use Rattle.rewriter.specs.Benched.{Does, Led};
-ghost use Rattle.rewriter.specs.Held.{module_held};
+ghost use Rattle.conversion.specs.rewriter_bench.Machine.{Change};
+ghost use Rattle.conversion.specs.rewriter_bench.Benched.{Does, Led};
+ghost use Rattle.conversion.specs.rewriter_bench.Held.{module_held};
 ghost use Rattle.mlir_work_script.specs.Clauses.{clauses_of, target_of as said_target};
 ghost use Rattle.conversion.specs.Conversion.{conversion_of, has_no_cast};
 ghost use Rattle.conversion.specs.Benches.{seen};
@@ -12,10 +12,10 @@ ghost use Rattle.conversion.specs.States.{Converts};
 
 use crate::target::target_of;
 use conversion::fault::Fault;
+use conversion::rewriter_bench::Bench;
+use conversion::rewriter_bench::laws::led_benches_are_kept;
 use ir_event::analysis::Analysis;
 use mlir_work_script::clauses::Clauses;
-use rewriter::Bench;
-use rewriter::laws::led_benches_are_kept;
 use std::alloc::Global;
 
 /// Converts the module of a bench (Dialect Conversion, "Modes of Conversion") for the target that clauses say. The names of

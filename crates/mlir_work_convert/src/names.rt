@@ -10,12 +10,12 @@ ghost use Rattle.mlir_work_script.specs.Numbers.{number_of};
 ghost use Rattle.conversion.specs.States.{IsWant};
 ghost use Rattle.mlir_work_convert.specs.Interned.{AreNumbers, Interned, numbers_behind};
 
+use conversion::rewriter_bench::Bench;
 use ir_event::analysis::Analysis;
 use ir_types::ids::NameId;
 use ir_types::refusal::Refusal;
 use mlir_work_script::items::split_item;
 use mlir_work_script::numbers::number;
-use rewriter::Bench;
 use std::alloc::Global;
 
 /// Why a conversion is refused where a name finds no number: the context is full, or there is no memory.

@@ -7,11 +7,11 @@ ghost use Rattle.conversion.specs.Targets.{IsNamedIn, aim_of};
 ghost use Rattle.mlir_work_convert.specs.Interned.{Interned};
 
 use crate::names::{names_in, numbers_in};
+use conversion::rewriter_bench::Bench;
 use conversion::target::Target;
 use ir_event::analysis::Analysis;
 use ir_types::refusal::Refusal;
 use mlir_work_script::clauses::Clauses;
-use rewriter::Bench;
 use std::alloc::Global;
 
 /// How deep rules may follow one another, where no clause says.

@@ -1,3 +1,4 @@
 pub mod Rows
 pub mod Registry
 pub mod Properties
+pub use Rattle.ir_types.specs as types

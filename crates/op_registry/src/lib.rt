@@ -9,4 +9,5 @@ pub mod registry;
 pub mod signature;
 mod table;
 
+pub use ir_types as types;
 pub use ir_types::things;

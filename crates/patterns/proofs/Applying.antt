@@ -10,8 +10,8 @@ use Rattle.ir_tree.specs.Limits.{most_ops, most_next}
 use Rattle.ir_tree_laws.proofs.Contents.{map_has_id}
 use Rattle.ir_event.specs.Modules.{Module, module_in, module_meaning}
 use Rattle.ir_event.specs.declared.world.World.{World}
-use Rattle.patterns_runs.specs.Contents.{Edit, all_edited}
-use Rattle.patterns_runs.specs.Held.{Held, module_held}
+use Rattle.patterns_makes.specs.runs.Contents.{Edit, all_edited}
+use Rattle.patterns_makes.specs.runs.Held.{Held, module_held}
 use Rattle.patterns_base.specs.Makes.{made_by}
 use Rattle.patterns_base.specs.Rewrites.{Rewrite, none, refused, becomes, edits_of, rewrite_of, rewrite_by, carried_out}
 use Rattle.patterns.specs.Applied.{Gave, IsReason, IsRefusedSo}

@@ -13,13 +13,13 @@ use Rattle.ir_tree_laws.specs.Reasons.{unless}
 use Rattle.ir_event.specs.Listener.{Listener}
 use Rattle.ir_event.specs.Modules.{Module, module_in, module_meaning}
 use Rattle.ir_event.specs.declared.world.World.{World}
-use Rattle.rewriter.specs.Moves.{Grown, Recorded, all_noted}
-use Rattle.rewriter.proofs.Told.{heard_none, heard_more}
-use Rattle.patterns_runs.specs.Benched.{Benched, Journaled}
-use Rattle.patterns_runs.specs.Contents.{Edit, all_edited}
-use Rattle.patterns_runs.specs.Held.{Held, module_held}
-use Rattle.patterns_runs.specs.Runs.{Along}
-use Rattle.patterns_runs.proofs.Journals.{recorded_none}
+use Rattle.patterns_makes.specs.rewriter_bench.Moves.{Grown, Recorded, all_noted}
+use Rattle.patterns_makes.proofs.of_rewriter_bench.Told.{heard_none, heard_more}
+use Rattle.patterns_makes.specs.runs.Benched.{Benched, Journaled}
+use Rattle.patterns_makes.specs.runs.Contents.{Edit, all_edited}
+use Rattle.patterns_makes.specs.runs.Held.{Held, module_held}
+use Rattle.patterns_makes.specs.runs.Runs.{Along}
+use Rattle.patterns_makes.proofs.of_runs.Journals.{recorded_none}
 use Rattle.patterns_base.specs.Makes.{made_by}
 use Rattle.patterns_base.specs.Rewrites.{becomes, refused, carried_out}
 use Rattle.patterns_makes.specs.Interned.{Added, IsNoRoom}

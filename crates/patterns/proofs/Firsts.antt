@@ -6,7 +6,7 @@ use Rattle.ir_tree.specs.Ids.{op_count}
 use Rattle.ir_tree.specs.Limits.{most_ops, most_next}
 use Rattle.ir_event.specs.Modules.{Module}
 use Rattle.ir_types.specs.declared.refusal.Refusal.TheVariants.{Full, IdsExhausted}
-use Rattle.patterns_runs.specs.Contents.{Edit, all_edited}
+use Rattle.patterns_makes.specs.runs.Contents.{Edit, all_edited}
 use Rattle.patterns_base.specs.Canonicalization.{first_rule, or_else, greedy_rules, lowest}
 use Rattle.patterns_base.specs.Makes.{made_by}
 use Rattle.patterns_base.specs.Rewrites.{Rewrite, none, refused, becomes, edits_of, rewrite_of, rewrite_by, carried_out}

@@ -5,7 +5,7 @@ use Rattle.ir_tree.specs.declared.place.Place.{Place}
 use Rattle.ir_tree.specs.Tree.{head}
 use Rattle.ir_event.specs.Modules.{Module, module_in}
 use Rattle.ir_event.specs.declared.world.World.{World}
-use Rattle.patterns_runs.specs.Held.{Held, module_held}
+use Rattle.patterns_makes.specs.runs.Held.{Held, module_held}
 use Rattle.patterns_plans.specs.Planned.{IsPlanAt}
 use Rattle.patterns_plans.specs.Reads.{head_at}
 use Rattle.patterns_base.specs.Looks.{Header}

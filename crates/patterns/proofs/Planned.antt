@@ -6,7 +6,7 @@ use Rattle.ir_tree.specs.Ids.{find}
 use Rattle.ir_tree.specs.Meaning.{Operation}
 use Rattle.ir_tree_laws.proofs.Members.{found_stands}
 use Rattle.ir_event.specs.Modules.{Module}
-use Rattle.patterns_runs.specs.Contents.{Edit}
+use Rattle.patterns_makes.specs.runs.Contents.{Edit}
 use Rattle.patterns_plans.specs.Keeps.{given}
 use Rattle.patterns_base.specs.Looks.{Header, when, is_clean, front_of}
 use Rattle.patterns_base.specs.Rules.{rule}

@@ -4,7 +4,7 @@ use Rattle.ir_tree.specs.declared.place.Place.{Place}
 use Rattle.ir_tree.specs.Tree.{head}
 use Rattle.ir_tree.specs.Ids.{find}
 use Rattle.ir_tree.specs.Meaning.{Operation}
-use Rattle.patterns_runs.specs.Contents.{Edit}
+use Rattle.patterns_makes.specs.runs.Contents.{Edit}
 use Rattle.patterns_plans.specs.Keeps.{given}
 use Rattle.patterns_plans.specs.Reads.{head_at}
 use Rattle.patterns_base.specs.Looks.{Header}

@@ -10,8 +10,8 @@ use Rattle.ir_event.specs.Listener.{Listener}
 use Rattle.ir_event.specs.Modules.{Module}
 use Rattle.patterns_base.specs.Rewrites.{Rewrite, none, refused, becomes}
 use Rattle.patterns_makes.specs.Interned.{IsFull}
-use Rattle.patterns_runs.specs.Benched.{Benched, Led}
-use Rattle.patterns_runs.specs.Held.{open_marks}
+use Rattle.patterns_makes.specs.runs.Benched.{Benched, Led}
+use Rattle.patterns_makes.specs.runs.Held.{open_marks}
 
 -- the rules that are applied by their numbers: all but those that conversion alone tries
 abbrev pub IsWritten : ℕ → Type 0

@@ -8,7 +8,7 @@ use Rattle.ir_tree.specs.Ids.{find}
 use Rattle.ir_tree.specs.Meaning.{Operation}
 use Rattle.ir_event.specs.declared.world.World.{World}
 use Rattle.ir_event.specs.Modules.{Module, module_in}
-use Rattle.patterns_runs.specs.Contents.{Edit}
+use Rattle.patterns_makes.specs.runs.Contents.{Edit}
 use Rattle.patterns_base.specs.Rules.{rule}
 use Rattle.patterns_base.specs.Rewrites.{becomes, refused, carried_out}
 use Rattle.patterns_makes.specs.Interned.{IsFull}

@@ -1,7 +1,7 @@
 //! A plan, carried out.
 ghost use Rattle.ir_event.specs.Modules.{module_meaning};
-ghost use Rattle.patterns_runs.specs.Benched.{Keeps};
-ghost use Rattle.patterns_runs.specs.Held.{module_held};
+ghost use Rattle.patterns_makes.specs.runs.Benched.{Keeps};
+ghost use Rattle.patterns_makes.specs.runs.Held.{module_held};
 ghost use Rattle.patterns_makes.specs.Plans.{PlanIsOf};
 ghost use Rattle.patterns.specs.Applied.{Applied};
 ghost use Rattle.patterns.specs.Planned.{WereCarried, planned_edits};

@@ -5,8 +5,8 @@ ghost use Rattle.patterns_base.specs.Canonicalization.{lowest as lowest_of};
 ghost use Rattle.patterns_base.specs.Looks.{front_of, is_clean as clean_at};
 ghost use Rattle.patterns_base.specs.Rewrites.{rewrite_of};
 ghost use Rattle.patterns_plans.specs.Reads.{head_at, head_in};
-ghost use Rattle.patterns_runs.specs.Benched.{Keeps};
-ghost use Rattle.patterns_runs.specs.Held.{module_held};
+ghost use Rattle.patterns_makes.specs.runs.Benched.{Keeps};
+ghost use Rattle.patterns_makes.specs.runs.Held.{module_held};
 ghost use Rattle.patterns.specs.Applied.{Applied, Gave, IsReason, IsWritten};
 ghost use Rattle.patterns.specs.Lowest.{AreWritten, IsFirst, IsLowest, TriedFirst};
 

@@ -6,12 +6,12 @@ use Rattle.ir_types.specs.declared.refusal.Refusal.TheVariants.{BadLimit}
 use Rattle.ir_types.specs.Words as words
 use Rattle.ir_types.specs.Readings as readings
 use Rattle.ir_tree.specs.declared.value.Value.TheVariants.{Result}
-use Rattle.ir_event.specs.Modules.{Module}
+use Rattle.rewriter_machine.specs.events.Modules.{Module}
 use Rattle.op_registry.specs.Registry as registry
 use Rattle.op_registry.specs.Rows as rows
 use Rattle.op_registry.specs.Properties as properties
-use Rattle.dialects_int.specs.Arithmetic as arithmetic
-use Rattle.dialects_int.specs.Folds as folds
+use Rattle.patterns_laws.specs.integers.Arithmetic as arithmetic
+use Rattle.patterns_laws.specs.integers.Folds as folds
 use Rattle.patterns_laws.specs.Words as named
 use Rattle.patterns_base.specs.Looks.{is_clean, may_go, known}
 use Rattle.patterns_base.specs.Casting.{resizing}

@@ -12,8 +12,8 @@ use Rattle.ir_tree.specs.Tree.{op, head}
 use Rattle.ir_tree.specs.Meaning.{Operation}
 use Rattle.op_registry.specs.Registry.{beside, row_of, own_of}
 use Rattle.op_registry.specs.Rows.{Row, rows}
-use Rattle.dialects_int.specs.Folds.{Known, rule_of, rules, fold_of, is_property}
-use Rattle.dialects_int.specs.declared.operations.Rule.{Rule}
+use Rattle.patterns_laws.specs.integers.Folds.{Known, rule_of, rules, fold_of, is_property}
+use Rattle.patterns_laws.specs.integers.declared.operations.Rule.{Rule}
 use Rattle.effects.specs.declared.kinds.EffectKinds.{EffectKinds}
 use Rattle.effects.specs.Effects.{effects_by, regions_effects}
 use Rattle.effects.specs.Dead.{is_unused, is_kept}

@@ -10,8 +10,8 @@ use Rattle.ir_tree.specs.Tree.{no_regions}
 use Rattle.op_registry.specs.Registry as registry
 use Rattle.op_registry.specs.Rows as rows
 use Rattle.op_registry.specs.Properties as properties
-use Rattle.dialects_int.specs.Arithmetic as arithmetic
-use Rattle.dialects_int.specs.Folds as folds
+use Rattle.patterns_laws.specs.integers.Arithmetic as arithmetic
+use Rattle.patterns_laws.specs.integers.Folds as folds
 use Rattle.patterns_laws.specs.Made.{i1, i64}
 use Rattle.patterns_laws.specs.Words as named
 use Rattle.patterns_base.specs.Looks.{is_clean, may_go, known}

@@ -7,7 +7,7 @@ use Rattle.ir_tree.specs.Tree.{head}
 use Rattle.ir_tree.specs.Meaning.{Operation}
 use Rattle.ir_tree_laws.specs.Values.{arguments_at}
 use Rattle.op_registry.specs.Registry.{beside}
-use Rattle.dialects_int.specs.Folds.{Known}
+use Rattle.patterns_laws.specs.integers.Folds.{Known}
 use Rattle.rewriter_machine.specs.Contents.{Edit}
 use Rattle.rewriter_machine.specs.Edits.{Make}
 use Rattle.patterns_laws.specs.Keeps.{given}

@@ -5,7 +5,7 @@ use Rattle.ir_types.specs.Terms.{TypeTerm, Integer, AttrTerm}
 use Rattle.ir_tree.specs.declared.value.Value.{Value}
 use Rattle.ir_tree.specs.Tree.{op, RegionsOf, no_regions, region, RegionOf, block, OpsOf, no_ops, next}
 use Rattle.ir_tree.specs.Meaning.{Operation}
-use Rattle.ir_event.specs.Modules.{Module}
+use Rattle.rewriter_machine.specs.events.Modules.{Module}
 use Rattle.patterns_laws.specs.Made.{Entries, i1, value_entry, predicate_entry}
 use Rattle.patterns_base.specs.Rewrites.{Rewrite, rewrite_of}
 

@@ -5,7 +5,7 @@ use Rattle.std.specs.List.{filter}
 use Rattle.ir_tree.specs.Tree.{head}
 use Rattle.ir_tree.specs.Ids.{find}
 use Rattle.ir_tree.specs.Meaning.{Operation}
-use Rattle.ir_event.specs.Modules.{Module}
+use Rattle.rewriter_machine.specs.events.Modules.{Module}
 use Rattle.op_registry.specs.Registry.{beside}
 use Rattle.patterns_laws.specs.Keeps.{given, Each}
 use Rattle.patterns_base.specs.Looks.{when, is_clean, front_of}

@@ -7,7 +7,7 @@ use Rattle.ir_types.specs.declared.refusal.Refusal.TheVariants.{BadLimit}
 use Rattle.ir_tree.specs.Ids.{ids, find}
 use Rattle.ir_tree.specs.Tree.{head}
 use Rattle.ir_tree.specs.Meaning.{Operation}
-use Rattle.ir_event.specs.Modules.{Module}
+use Rattle.rewriter_machine.specs.events.Modules.{Module}
 use Rattle.patterns_base.specs.Rules.{rules_for}
 use Rattle.patterns_base.specs.Rewrites.{Rewrite, none, refused, becomes, rewrite_of}
 

@@ -11,8 +11,8 @@ use Rattle.ir_tree.specs.Tree.{head}
 use Rattle.ir_tree.specs.Uses.{same_value}
 use Rattle.ir_tree.specs.Meaning.{Operation}
 use Rattle.op_registry.specs.Registry.{beside}
-use Rattle.dialects_int.specs.Arithmetic.{all_ones, difference_of, choice_of}
-use Rattle.dialects_int.specs.Folds.{Known, fold_of}
+use Rattle.patterns_laws.specs.integers.Arithmetic.{all_ones, difference_of, choice_of}
+use Rattle.patterns_laws.specs.integers.Folds.{Known, fold_of}
 use Rattle.ir_types.specs.SameTypes.{same_type}
 use Rattle.rewriter_machine.specs.Contents.{Edit}
 use Rattle.rewriter_machine.specs.Edits.{Make, Erase, SetOperand, SetAttr}

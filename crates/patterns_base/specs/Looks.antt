@@ -13,7 +13,7 @@ use Rattle.ir_tree.specs.Ids.{find}
 use Rattle.ir_tree.specs.Places.{place_of}
 use Rattle.ir_tree.specs.Meaning.{Operation}
 use Rattle.ir_tree_laws.specs.Values.{region_at, type_of_value}
-use Rattle.dialects_int.specs.Folds.{Known, fold_of, property_of}
+use Rattle.patterns_laws.specs.integers.Folds.{Known, fold_of, property_of}
 use Rattle.ir_types.specs.SameTypes.{same_type}
 use Rattle.ir_verify.specs.Diagnostics.{broken_at}
 use Rattle.effects.specs.Dead.{is_dead}

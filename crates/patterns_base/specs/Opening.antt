@@ -9,7 +9,7 @@ use Rattle.ir_tree.specs.declared.place.Place.{Place}
 use Rattle.ir_tree.specs.Tree.{RegionOf, empty, block, head, regions}
 use Rattle.ir_tree.specs.Meaning.{Operation}
 use Rattle.ir_tree_laws.specs.Values.{region_at}
-use Rattle.dialects_int.specs.Folds.{Known}
+use Rattle.patterns_laws.specs.integers.Folds.{Known}
 use Rattle.rewriter_machine.specs.Contents.{Edit}
 use Rattle.rewriter_machine.specs.Edits.{Erase}
 use Rattle.patterns_laws.specs.Keeps.{given}

@@ -7,7 +7,7 @@ use Rattle.ir_tree.specs.Tree.{head}
 use Rattle.ir_tree.specs.Ids.{find, op_count}
 use Rattle.ir_tree.specs.Limits.{most_ops, most_next}
 use Rattle.ir_tree.specs.Meaning.{Operation}
-use Rattle.ir_event.specs.Modules.{Module}
+use Rattle.rewriter_machine.specs.events.Modules.{Module}
 use Rattle.rewriter_machine.specs.Contents.{Edit, all_edited}
 use Rattle.patterns_laws.specs.Keeps.{given, Each}
 use Rattle.patterns_base.specs.Looks.{when, is_clean, front_of}

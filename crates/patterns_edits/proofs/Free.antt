@@ -2,7 +2,7 @@
 use Rattle.std.proofs.Common.{◌≡◌, ap, sym, ◌∙◌, List, [], ◌∷◌, ◌++◌, Some, None, inl, inr}
 use Rattle.ir_types.specs.declared.refusal.Refusal.{Refusal}
 use Rattle.ir_types.specs.declared.refusal.Refusal.TheVariants.{Memory}
-use Rattle.ir_event.specs.Modules.{Module}
+use Rattle.rewriter_machine.specs.events.Modules.{Module}
 use Rattle.rewriter_machine.specs.Contents.{Edit, all_edited, edit_reason, edited}
 use Rattle.patterns_edits.specs.Lists.{Free, IsWhy}
 

@@ -16,7 +16,7 @@ use Rattle.ir_tree.specs.Sites.{visible}
 use Rattle.ir_tree.specs.Meaning.{Operation}
 use Rattle.ir_tree_laws.specs.Reasons.{with_id, hold_none}
 use Rattle.ir_tree_laws.specs.Values.{type_of_value}
-use Rattle.ir_event.specs.Modules.{Module}
+use Rattle.rewriter_machine.specs.events.Modules.{Module}
 use Rattle.ir_types.specs.SameTypes.{same_type}
 use Rattle.rewriter_machine.specs.Contents.{Edit, all_edited, edited, edit_reason}
 use Rattle.rewriter_machine.specs.Edits.{Make, Erase, Move, SetOperand, Replace}

@@ -6,7 +6,7 @@ use Rattle.ir_types.specs.declared.refusal.Refusal.TheVariants.{Memory}
 use Rattle.ir_tree.specs.Tree.{regions}
 use Rattle.ir_tree.specs.Meaning.{IsSoundIn}
 use Rattle.ir_tree_laws.specs.Reasons.{hold_none}
-use Rattle.ir_event.specs.Modules.{Module}
+use Rattle.rewriter_machine.specs.events.Modules.{Module}
 use Rattle.rewriter_machine.specs.Contents.{Edit, NumberedEdit, all_edited, edit_meaning, edit_reason, edited}
 use Rattle.rewriter_machine.specs.Edits as edit
 use Rattle.patterns_edits.specs.declared.edit.Edit.{Edit as Coded}

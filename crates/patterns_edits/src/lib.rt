@@ -2,3 +2,5 @@
 #![tactic(auto)]
 
 pub mod edit;
+
+pub use rewriter_machine::events;

@@ -5,7 +5,7 @@ use Rattle.ir_tree.specs.Limits.{most_next}
 use Rattle.ir_event.specs.Listener.{Listener}
 use Rattle.ir_event.specs.Modules.{module_in, module_meaning}
 use Rattle.ir_event.specs.declared.world.World.{World}
-use Rattle.patterns_runs.specs.Contents.{Edit, all_edited}
+use Rattle.patterns_lowering.specs.runs.Contents.{Edit, all_edited}
 use Rattle.patterns.specs.Benched.{Benched}
 use Rattle.patterns.specs.Held.{Held, module_held}
 use Rattle.patterns.specs.Interned.{Added}

@@ -3,3 +3,5 @@ pub mod Carried
 pub mod Lowered
 pub use Rattle.patterns.proofs.Bounds
 pub use Rattle.patterns.proofs.Carrying
+pub use Rattle.patterns_lowering.proofs.of_runs
+pub use Rattle.patterns_lowering.proofs.of_rewriter_bench

@@ -3,8 +3,8 @@ use Rattle.std.proofs.Common.{◌≡◌, ℕ, true, Option, Some, option_map}
 use Rattle.ir_tree.specs.declared.place.Place.{Place}
 use Rattle.ir_event.specs.declared.world.World.{World}
 use Rattle.ir_event.specs.Modules.{module_in}
-use Rattle.patterns_reads.specs.Looks.{Header, is_clean, front_of}
-use Rattle.patterns_reads.specs.Reads.{head_at}
+use Rattle.patterns_lowering.specs.reads.Looks.{Header, is_clean, front_of}
+use Rattle.patterns_lowering.specs.reads.Reads.{head_at}
 use Rattle.patterns.specs.Rewrites.{edits_of}
 use Rattle.patterns.proofs.Planned.{by_rule}
 use Rattle.patterns_lowering.specs.declared.plan.Lowering.{Lowering}

@@ -1,10 +1,10 @@
 -- What rules make of operations, with the place in front of them.
 use Rattle.std.specs.Prelude.{ℕ, List}
 use Rattle.ir_types.specs.Things.{Things}
-use Rattle.patterns_runs.specs.Contents.{Edit}
+use Rattle.patterns_lowering.specs.runs.Contents.{Edit}
 use Rattle.patterns_lowering.specs.Meanings.{lowering_meaning}
 use Rattle.patterns_lowering.specs.Plans.{LoweringIsOf}
-use Rattle.patterns_reads.specs.Plans.{PlanIsOf}
+use Rattle.patterns_lowering.specs.reads.Plans.{PlanIsOf}
 use Rattle.patterns.specs.Planned.{planned_edits as plan_edits}
 use Rattle.patterns_indexed.specs.declared.plan.PlannedLowering.{PlannedLowering}
 use Rattle.patterns_indexed.specs.declared.found.Found.{Found}

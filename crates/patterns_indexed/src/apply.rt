@@ -11,7 +11,7 @@ use ir_event::analysis::Analysis;
 use ir_types::ids::OpId;
 use ir_types::refusal::Refusal;
 use patterns_free::laws::no_edit_is_refused;
-use patterns_runs::Bench;
+use patterns_lowering::runs::Bench;
 use std::alloc::Global;
 
 /// Applies a rule at an operation, or leaves the module, its marks and the journal as they were. The answer is whether it

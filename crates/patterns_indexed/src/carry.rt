@@ -12,8 +12,8 @@ use ir_types::refusal::Refusal;
 use patterns::limits::limit_reason;
 use patterns_lowering::count::lowering_makes;
 use patterns_lowering::edits::lowering_edits;
-use patterns_runs::Bench;
-use patterns_runs::carry::carry_whole;
+use patterns_lowering::runs::Bench;
+use patterns_lowering::runs::carry::carry_whole;
 use std::alloc::Global;
 
 /// Carries out a lowering, or leaves the module, its marks and the journal as they were.

@@ -16,7 +16,7 @@ use ir_types::ids::OpId;
 use ir_types::refusal::Refusal;
 use patterns::carry::carry_plan;
 use patterns::plan::{Planned, find_plan};
-use patterns_runs::Bench;
+use patterns_lowering::runs::Bench;
 use std::alloc::{AllocError, Global};
 
 /// What a rule makes of an operation.

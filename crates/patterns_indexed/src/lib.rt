@@ -5,3 +5,5 @@ pub mod apply;
 mod carry;
 mod found;
 mod plan;
+
+pub use patterns_lowering::{rewriter_bench, runs};

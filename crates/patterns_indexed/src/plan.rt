@@ -10,8 +10,8 @@ use ir_tree::place::Place;
 use ir_types::ids::OpId;
 use patterns_lowering::by_number::plan_lowered;
 use patterns_lowering::plan::Lowering;
-use patterns_reads::clean::is_clean;
-use patterns_reads::look::{front, shown};
+use patterns_lowering::reads::clean::is_clean;
+use patterns_lowering::reads::look::{front, shown};
 use std::alloc::{AllocError, Global};
 
 /// How a rule lowers an operation, and the place in front of that.

@@ -10,3 +10,5 @@ mod push;
 mod reach;
 pub mod touched;
 mod users;
+
+pub use rewriter as rewriter_bench;

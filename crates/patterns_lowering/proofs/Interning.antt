@@ -26,10 +26,10 @@ use Rattle.ir_tree.proofs.Meanings.{both_hold}
 use Rattle.ir_tree_laws.proofs.Listed.{bool_cases}
 use Rattle.ir_event.specs.declared.event.Event.{Event}
 use Rattle.ir_event.specs.Listener.{Listener}
-use Rattle.rewriter.specs.Benched.{Benched, Heard}
-use Rattle.rewriter.specs.Held.{Held}
-use Rattle.rewriter.specs.Moves.{Grown}
-use Rattle.rewriter.proofs.Told.{heard_grown}
+use Rattle.patterns_runs.specs.rewriter_bench.Benched.{Benched, Heard}
+use Rattle.patterns_runs.specs.rewriter_bench.Held.{Held}
+use Rattle.patterns_runs.specs.rewriter_bench.Moves.{Grown}
+use Rattle.patterns_runs.proofs.of_rewriter_bench.Told.{heard_grown}
 use Rattle.patterns_base.specs.Made.{i64}
 use Rattle.patterns_base.specs.Lowering.{lowered_attr}
 use Rattle.patterns_lowering.specs.Interned.{Interned, IsWanting, as_full}

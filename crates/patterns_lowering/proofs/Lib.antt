@@ -16,3 +16,5 @@ pub mod Shown
 pub mod Ruled
 pub mod Numbered
 pub mod Asked
+pub use Rattle.patterns_runs.proofs as of_runs
+pub use Rattle.patterns_runs.proofs.of_rewriter_bench

@@ -5,8 +5,8 @@ use Rattle.ir_types.specs.Limits.{most_things}
 use Rattle.ir_types.specs.declared.refusal.Refusal.{Refusal}
 use Rattle.ir_types.specs.declared.refusal.Refusal.TheVariants.{Memory, Full}
 use Rattle.ir_event.specs.Listener.{Listener}
-use Rattle.rewriter.specs.Moves.{Grown}
-use Rattle.rewriter.specs.Benched.{Benched, Heard}
+use Rattle.patterns_runs.specs.rewriter_bench.Moves.{Grown}
+use Rattle.patterns_runs.specs.rewriter_bench.Benched.{Benched, Heard}
 
 -- a context is full: it has as many types, or attributes, as there may be
 abbrev pub IsFull : Things → Type 0

@@ -22,3 +22,7 @@ pub mod plan;
 mod plans;
 mod reading;
 mod users;
+
+pub use patterns_regions::reads;
+pub use patterns_runs as runs;
+pub use patterns_runs::rewriter_bench;

@@ -4,8 +4,8 @@ use Rattle.ir_types.specs.Things.{Things}
 use Rattle.ir_types.specs.Sound.{Holds}
 use Rattle.ir_types.proofs.Growth.{grows_refl, grows_trans}
 use Rattle.ir_event.specs.Listener.{Listener}
-use Rattle.rewriter.specs.Moves.{Grown}
-use Rattle.rewriter.proofs.Told.{heard_none, heard_more, heard_grown}
+use Rattle.patterns_runs.specs.rewriter_bench.Moves.{Grown}
+use Rattle.patterns_runs.proofs.of_rewriter_bench.Told.{heard_none, heard_more, heard_grown}
 use Rattle.patterns_runs.specs.Benched.{Benched, Heard}
 use Rattle.patterns_runs.specs.Held.{Held}
 use Rattle.patterns_makes.specs.Interned.{Added}

@@ -8,7 +8,7 @@ use Rattle.ir_types.specs.Limits.{most_things}
 use Rattle.ir_types.specs.declared.refusal.Refusal.{Refusal}
 use Rattle.ir_types.specs.declared.refusal.Refusal.TheVariants.{Memory, Full}
 use Rattle.ir_event.specs.Listener.{Listener}
-use Rattle.rewriter.specs.Moves.{Grown}
+use Rattle.patterns_runs.specs.rewriter_bench.Moves.{Grown}
 use Rattle.patterns_laws.specs.Words.{among, flagged}
 use Rattle.patterns_runs.specs.Benched.{Benched, Heard}
 

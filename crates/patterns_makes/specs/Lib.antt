@@ -18,3 +18,5 @@ pub use Rattle.patterns_runs.specs.Runs
 pub use Rattle.patterns_edits.specs.Contents
 pub use Rattle.patterns_edits.specs.Lists
 pub use Rattle.patterns_edits.specs.declared.edit.Edit
+pub use Rattle.patterns_runs.specs as runs
+pub use Rattle.patterns_runs.specs.rewriter_bench

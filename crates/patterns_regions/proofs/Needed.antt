@@ -11,7 +11,7 @@ use Rattle.dialects_int.specs.Folds.{Known}
 use Rattle.patterns_reads.specs.Keeps.{given}
 use Rattle.patterns_reads.specs.Looks.{Ended, Header, body, is_clean, is_number, known, passes, when}
 use Rattle.patterns_reads.specs.Reads.{head_at}
-use Rattle.patterns_base.specs.Opening.{by_bounds, by_condition, by_end, loop_from, rule_22, rule_23, rule_24}
+use Rattle.patterns_reads.specs.rules.Opening.{by_bounds, by_condition, by_end, loop_from, rule_22, rule_23, rule_24}
 use Rattle.patterns_regions.specs.Blocks.{before_at, body_at}
 use Rattle.patterns_regions.specs.Rules.{rule_24_at}
 use Rattle.patterns_regions.proofs.Bodies.{body_whole}

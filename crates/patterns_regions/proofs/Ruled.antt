@@ -19,7 +19,7 @@ use Rattle.patterns_reads.specs.Words.{named}
 use Rattle.patterns_reads.specs.Looks.{Ended, body, is_number, known, when}
 use Rattle.patterns_reads.specs.Makes.{replacing, results_from}
 use Rattle.patterns_reads.specs.Reads.{head_in}
-use Rattle.patterns_base.specs.Opening.{Loop, by_bounds, by_condition, by_end, chosen, goes_once, loop_from, never, once, reading, rule_22, rule_23, rule_24}
+use Rattle.patterns_reads.specs.rules.Opening.{Loop, by_bounds, by_condition, by_end, chosen, goes_once, loop_from, never, once, reading, rule_22, rule_23, rule_24}
 use Rattle.patterns_regions.specs.declared.bounds.Times.{Times}
 use Rattle.patterns_regions.specs.declared.bounds.Times.TheVariants.{Never, Once}
 use Rattle.patterns_regions.specs.Blocks.{Shows, is_block, body_at}

@@ -8,7 +8,7 @@ use Rattle.ir_tree.specs.Meaning.{Operation}
 use Rattle.ir_tree_laws.specs.Values.{region_at}
 use Rattle.patterns_reads.specs.Contents.{Edit}
 use Rattle.patterns_reads.specs.Keeps.{given}
-use Rattle.patterns_base.specs.Opening.{chosen, rule_22, rule_23, rule_24}
+use Rattle.patterns_reads.specs.rules.Opening.{chosen, rule_22, rule_23, rule_24}
 use Rattle.patterns_regions.specs.Blocks.{body_at}
 use Rattle.patterns_regions.specs.Opened.{opening}
 

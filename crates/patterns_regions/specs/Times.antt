@@ -4,7 +4,7 @@ use Rattle.ir_tree.specs.declared.value.Value.{Value}
 use Rattle.ir_tree.specs.Meaning.{Operation}
 use Rattle.patterns_reads.specs.Keeps.{given}
 use Rattle.patterns_reads.specs.Looks.{known, when}
-use Rattle.patterns_base.specs.Opening.{reading}
+use Rattle.patterns_reads.specs.rules.Opening.{reading}
 use Rattle.patterns_regions.specs.declared.bounds.Times.{Times}
 use Rattle.patterns_regions.specs.declared.bounds.Times.TheVariants.{Never, Once}
 

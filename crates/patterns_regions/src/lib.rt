@@ -6,3 +6,5 @@ mod bounds;
 pub mod opened;
 pub mod plans;
 pub mod tests;
+
+pub use patterns_reads as reads;

@@ -4,7 +4,7 @@ ghost use Rattle.ir_tree.specs.declared.place.Place.{Place as At};
 ghost use Rattle.ir_tree.specs.Tree.{head};
 ghost use Rattle.ir_tree.specs.Meaning.{Operation};
 ghost use Rattle.ir_event.specs.Modules.{module_in};
-ghost use Rattle.patterns_base.specs.Opening.{rule_22, rule_23};
+ghost use Rattle.patterns_reads.specs.rules.Opening.{rule_22, rule_23};
 ghost use Rattle.patterns_reads.specs.Reads.{head_in};
 ghost use Rattle.patterns_regions.specs.Rules.{rule_24_at};
 

@@ -6,10 +6,10 @@ use Rattle.ir_types.specs.declared.refusal.Refusal.TheVariants.{NoSuchValue, Not
 use Rattle.ir_tree.specs.declared.value.Value.{Value}
 use Rattle.ir_tree.specs.Meaning.{isolated_in}
 use Rattle.ir_tree.specs.WellFormed.{IsWellFormed, Module as Numbered}
-use Rattle.ir_tree_laws.specs.Values.{has_value, type_of_value}
-use Rattle.ir_tree_laws.proofs.Reasoned.{no_unless}
-use Rattle.ir_tree_laws.proofs.HeadForm.{replaced_keeps}
-use Rattle.ir_tree_laws.specs.Reasons.{users_see}
+use Rattle.ir_event.specs.tree_laws.Values.{has_value, type_of_value}
+use Rattle.ir_event.proofs.of_tree_laws.Reasoned.{no_unless}
+use Rattle.ir_event.proofs.of_tree_laws.HeadForm.{replaced_keeps}
+use Rattle.ir_event.specs.tree_laws.Reasons.{users_see}
 use Rattle.rewriter_machine.specs.Edits.{Replace, edited_by, reason_by}
 use Rattle.rewriter_machine.specs.Contents.{tests_in}
 

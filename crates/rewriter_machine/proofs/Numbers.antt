@@ -22,10 +22,10 @@ use Rattle.ir_tree.specs.Places.{put, without}
 use Rattle.ir_tree.specs.WellFormed.{Module as Numbered}
 use Rattle.ir_tree.proofs.Mapped.{map_ids, map_find, map_every, map_depth, map_uses, map_visible, map_operands_visible}
 use Rattle.ir_tree.proofs.MappedEdits.{map_put, map_shifted, map_without, map_with_operand, map_with_value_replaced, map_with_entry}
-use Rattle.ir_tree_laws.specs.Values.{type_of_value}
-use Rattle.ir_tree_laws.specs.Reads.{is_within}
-use Rattle.ir_tree_laws.specs.Reasons.{unless, fits_around, with_id, set_entry_reason, leaves_within, unused_outside, users_see}
-use Rattle.ir_tree_laws.proofs.Contents.{same_id, map_has_id, map_has_place, map_has_value, map_type_of_value, map_around, map_op_fits, map_with_id, map_entry_at, map_set_entry_reason, map_set_operand_reason, map_put_reason, map_shift_reason}
+use Rattle.ir_event.specs.tree_laws.Values.{type_of_value}
+use Rattle.ir_event.specs.tree_laws.Reads.{is_within}
+use Rattle.ir_event.specs.tree_laws.Reasons.{unless, fits_around, with_id, set_entry_reason, leaves_within, unused_outside, users_see}
+use Rattle.ir_event.proofs.of_tree_laws.Contents.{same_id, map_has_id, map_has_place, map_has_value, map_type_of_value, map_around, map_op_fits, map_with_id, map_entry_at, map_set_entry_reason, map_set_operand_reason, map_put_reason, map_shift_reason}
 use Rattle.ir_event.specs.Modules.{module_meaning}
 use Rattle.ir_types.specs.SameTypes.{same_type}
 use Rattle.rewriter_machine.specs.Edits.{Insert, Make, Erase, Move, SetOperand, Replace, SetAttr, DropAttr, part_in, part_for, tree_edited, next_edited, edited_by, insert_reason, erase_reason, replace_reason, tree_reason, reason_by}

@@ -7,11 +7,11 @@ use Rattle.ir_tree.specs.Tree.{Op, head}
 use Rattle.ir_tree.specs.Ids.{find}
 use Rattle.ir_tree.specs.Meaning.{IsSoundIn, isolated_in}
 use Rattle.ir_tree.specs.WellFormed.{IsWellFormed, Module as Numbered}
-use Rattle.ir_tree_laws.specs.Changes.{operand_at}
-use Rattle.ir_tree_laws.specs.Reasons.{set_operand_reason}
-use Rattle.ir_tree_laws.proofs.Reasoned.{no_operand_reason}
-use Rattle.ir_tree_laws.proofs.HeadForm.{set_operand_keeps}
-use Rattle.ir_tree_laws.proofs.Values.{got}
+use Rattle.ir_event.specs.tree_laws.Changes.{operand_at}
+use Rattle.ir_event.specs.tree_laws.Reasons.{set_operand_reason}
+use Rattle.ir_event.proofs.of_tree_laws.Reasoned.{no_operand_reason}
+use Rattle.ir_event.proofs.of_tree_laws.HeadForm.{set_operand_keeps}
+use Rattle.ir_event.proofs.of_tree_laws.Values.{got}
 use Rattle.std.proofs.lemmas.Bool.{ltb-true}
 use Rattle.ir_event.specs.declared.event.Event.{Event}
 use Rattle.ir_event.specs.declared.event.Event.TheVariants as event

@@ -8,7 +8,7 @@ use Rattle.ir_tree.specs.Tree.{regions}
 use Rattle.ir_tree.specs.Ids.{IsNumberedFrom}
 use Rattle.ir_tree.specs.Meaning.{IsSoundIn, isolated_in, key_before, key_before_in, meaning}
 use Rattle.ir_tree.specs.WellFormed.{Module as Numbered}
-use Rattle.ir_tree_laws.specs.Reasons.{hold_none}
+use Rattle.ir_event.specs.tree_laws.Reasons.{hold_none}
 use Rattle.ir_event.specs.Modules.{Module}
 use Rattle.ir_types.specs.SameTypes.{same_type}
 use Rattle.rewriter_machine.specs.Edits.{TestsOf, EditOf, Insert, Make, Erase, Move, SetOperand, Replace, SetAttr, DropAttr, edited_by, reason_by}

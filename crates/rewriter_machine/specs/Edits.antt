@@ -14,9 +14,9 @@ use Rattle.ir_tree.specs.Limits.{depth, every, most_ops, most_next, op_fits}
 use Rattle.ir_tree.specs.Edits.{with_operand, with_value_replaced, with_entry, entry_at}
 use Rattle.ir_tree.specs.Places.{put, without, shifted}
 use Rattle.ir_tree.specs.WellFormed.{ModuleOf}
-use Rattle.ir_tree_laws.specs.Values.{type_of_value, has_value}
-use Rattle.ir_tree_laws.specs.Reads.{around}
-use Rattle.ir_tree_laws.specs.Reasons.{unless, has_place, fits_around, with_id, put_reason, unused_outside, users_see, set_operand_reason, set_entry_reason, shift_reason}
+use Rattle.ir_event.specs.tree_laws.Values.{type_of_value, has_value}
+use Rattle.ir_event.specs.tree_laws.Reads.{around}
+use Rattle.ir_event.specs.tree_laws.Reasons.{unless, has_place, fits_around, with_id, put_reason, unused_outside, users_see, set_operand_reason, set_entry_reason, shift_reason}
 
 -- the tests of names, keys and types by which modules are edited
 pub record TestsOf (N T : Type 0) : Type 0 where

@@ -7,7 +7,7 @@ use Rattle.ir_tree.specs.declared.place.Place.{Place}
 use Rattle.ir_tree.specs.Tree.{OpOf}
 use Rattle.ir_tree.specs.Ids.{has_id}
 use Rattle.ir_tree.specs.Places.{place_of}
-use Rattle.ir_tree_laws.specs.Reads.{next_of, first_at, ops_at}
+use Rattle.ir_event.specs.tree_laws.Reads.{next_of, first_at, ops_at}
 
 -- before or after an operation, or at the start or the end of the block of one of its regions
 pub data Spot : Type 0 where

@@ -1,5 +1,5 @@
 use Rattle.std.proofs.Common.{refl, sym}
-use Rattle.ir_tree.specs.Meaning.{key_before_in}
+use Rattle.ir_store.specs.trees.Meaning.{key_before_in}
 use Rattle.ir_event.proofs.Entering.{entry_fault}
 use Rattle.ir_event.proofs.edits.enter_in.Goals as goal
 

@@ -1,10 +1,10 @@
 use Rattle.std.proofs.Common.{◌≡◌, ap, sym, ◌∙◌, rules, true, false, Some}
 use Rattle.std.specs.Prelude.{option_map}
-use Rattle.ir_tree.specs.Ids.{has_id}
+use Rattle.ir_store.specs.trees.Ids.{has_id}
 use Rattle.ir_store.specs.Nodes.{node_of}
 use Rattle.ir_store.specs.Stored.{Stored, known}
-use Rattle.ir_tree.specs.Edits.{entry_at}
-use Rattle.ir_tree.specs.Meaning.{key_before_in}
+use Rattle.ir_store.specs.trees.Edits.{entry_at}
+use Rattle.ir_store.specs.trees.Meaning.{key_before_in}
 use Rattle.ir_event.proofs.Shown.{known_there}
 use Rattle.ir_event.proofs.Entering.{no_entry, props_entry, attrs_entry}
 use Rattle.ir_event.proofs.edits.entry_of.Goals as goal

@@ -1,7 +1,7 @@
 use Rattle.std.proofs.Common.{rules, arith, ◌≡◌, ◌+◌, refl, sym, ap, subst, map, drop}
-use Rattle.ir_tree.specs.Tree.{head, regions, regions_of, ops_of, op_size, regions_size, region_size, ops_size}
-use Rattle.ir_tree.specs.Ids.{regions_ids, region_ids}
-use Rattle.ir_tree.specs.View.{region_view}
+use Rattle.ir_store_reads.specs.trees.Tree.{head, regions, regions_of, ops_of, op_size, regions_size, region_size, ops_size}
+use Rattle.ir_store_reads.specs.trees.Ids.{regions_ids, region_ids}
+use Rattle.ir_store_reads.specs.trees.View.{region_view}
 use Rattle.ir_store.specs.Loads.{Adds, end_of, put_region, put_regions, MayRegions, AreBelow, RegionsLeft, OpsLeft}
 use Rattle.ir_store.proofs.Loaded.{may_emptied}
 use Rattle.ir_store.proofs.Loading.{op_no_more, region_no_more, region_step, region_asks, op_step, op_asks, next_at, ops_start, inside_may, inside_below, inside_held, whole_adds, head_below}

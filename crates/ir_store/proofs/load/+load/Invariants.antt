@@ -1,7 +1,7 @@
 use Rattle.std.proofs.Common.{◌*◌, ◌+◌, map, drop}
-use Rattle.ir_tree.specs.Tree.{regions_of, ops_of, op_size, regions_size, region_size}
-use Rattle.ir_tree.specs.Ids.{regions_ids, region_ids}
-use Rattle.ir_tree.specs.View.{region_view}
+use Rattle.ir_store_reads.specs.trees.Tree.{regions_of, ops_of, op_size, regions_size, region_size}
+use Rattle.ir_store_reads.specs.trees.Ids.{regions_ids, region_ids}
+use Rattle.ir_store_reads.specs.trees.View.{region_view}
 use Rattle.ir_store.specs.Loads.{put_region, put_regions, RegionsLeft, OpsLeft}
 use Rattle.ir_store.proofs.load.+load.Given as goal
 

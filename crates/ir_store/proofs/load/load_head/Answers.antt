@@ -1,7 +1,7 @@
 use Rattle.std.proofs.Common.{◌≡◌, sym, ap, ◌∙◌, subst, false, true}
 use Rattle.std.specs.List.{list_all}
-use Rattle.ir_tree.specs.Tree.{head}
-use Rattle.ir_tree_laws.specs.Values.{has_value}
+use Rattle.ir_store_reads.specs.trees.Tree.{head}
+use Rattle.ir_store_reads.specs.tree_laws.Values.{has_value}
 use Rattle.ir_store_reads.specs.Stored.{known}
 use Rattle.ir_store.specs.Calls.{CanRestore, after_restore}
 use Rattle.ir_store_reads.specs.Emptied.{after_grow}

@@ -1,7 +1,7 @@
 use Rattle.std.proofs.Common.{sym, ap, subst, map}
-use Rattle.ir_tree.specs.Tree.{head, regions, regions_of}
-use Rattle.ir_tree.specs.Ids.{regions_ids}
-use Rattle.ir_tree.specs.View.{region_view}
+use Rattle.ir_store_reads.specs.trees.Tree.{head, regions, regions_of}
+use Rattle.ir_store_reads.specs.trees.Ids.{regions_ids}
+use Rattle.ir_store_reads.specs.trees.View.{region_view}
 use Rattle.ir_store.specs.Loads.{Adds, put_regions, MayRegions, AreBelow}
 use Rattle.ir_store.proofs.Loading.{root_may, root_below, root_loaded, head_below}
 use Rattle.ir_store.proofs.load.spread.Goals as goal

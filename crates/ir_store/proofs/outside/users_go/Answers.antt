@@ -1,7 +1,7 @@
 use Rattle.std.proofs.Common.{◌<◌, ◌∙◌, ℕ, sym, ap, subst, length, not}
 use Rattle.ir_store_reads.specs.Lists.{list_at, after}
-use Rattle.ir_tree.specs.Ids.{has_id}
-use Rattle.ir_tree.specs.Places.{without}
+use Rattle.ir_store_reads.specs.trees.Ids.{has_id}
+use Rattle.ir_store_reads.specs.trees.Places.{without}
 use Rattle.ir_store_reads.specs.Index.{cells_of}
 use Rattle.ir_store_reads.specs.Walks.{from_slot}
 use Rattle.ir_store_reads.proofs.Walked.{Walks, listed_item, walk_start, walk_stops, walk_on, walk_less}

@@ -1,5 +1,5 @@
 use Rattle.std.proofs.Common.{sym, subst}
-use Rattle.ir_tree.specs.Meaning.{key_before_in}
+use Rattle.ir_tree_laws.specs.trees.Meaning.{key_before_in}
 use Rattle.ir_store_contents.proofs.Orders.{context_order}
 use Rattle.ir_store_contents.proofs.Lookups.{Sought, sought_start, sought_step, sought_found}
 use Rattle.ir_store_contents.proofs.Splits.{uncons}

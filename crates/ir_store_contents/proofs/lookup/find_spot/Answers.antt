@@ -1,5 +1,5 @@
 use Rattle.std.proofs.Common.{sym, subst}
-use Rattle.ir_tree.specs.Meaning.{key_before_in}
+use Rattle.ir_tree_laws.specs.trees.Meaning.{key_before_in}
 use Rattle.ir_store_contents.proofs.Orders.{context_order}
 use Rattle.ir_store_contents.proofs.Lookups.{Spot, spot_start, spot_step, spot_less, spot_equal}
 use Rattle.ir_store_contents.proofs.Splits.{uncons}

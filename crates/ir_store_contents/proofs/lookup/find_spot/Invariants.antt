@@ -1,5 +1,5 @@
 use Rattle.std.proofs.Common.{length}
-use Rattle.ir_tree.specs.Meaning.{key_before_in}
+use Rattle.ir_tree_laws.specs.trees.Meaning.{key_before_in}
 use Rattle.ir_store_contents.proofs.Lookups.{Spot}
 use Rattle.ir_store_contents.proofs.lookup.find_spot.Given as goal
 

@@ -1,6 +1,6 @@
 use Rattle.std.proofs.Common.{◌*◌, ◌+◌, map, take}
-use Rattle.ir_tree.specs.Tree.{regions_of, ops_of}
-use Rattle.ir_tree.specs.View.{region_view}
+use Rattle.ir_store_slots.specs.trees.Tree.{regions_of, ops_of}
+use Rattle.ir_store_slots.specs.trees.View.{region_view}
 use Rattle.ir_store_slots.specs.Rows.{shape_of}
 use Rattle.ir_store_slots.specs.Spells.{SpellsRegions, SpellsOps}
 use Rattle.ir_store_reads.proofs.copy.+copy.Given as goal

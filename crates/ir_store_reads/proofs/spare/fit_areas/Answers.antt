@@ -1,6 +1,6 @@
 use Rattle.std.proofs.Common.{rules, ◌≡◌, ◌+◌, map, sym, ap, subst, length, ◌∙◌, ◌∷◌, [], arith}
 use Rattle.std.proofs.lemmas.List.{map-append}
-use Rattle.ir_tree.specs.View.{region_view}
+use Rattle.ir_store_slots.specs.trees.View.{region_view}
 use Rattle.ir_store_slots.specs.Rows.{shape_of}
 use Rattle.ir_store_slots.specs.Grows.{parts_of, AreBlocks, IsBlock, bare_region}
 use Rattle.ir_store_slots.specs.Emptied.{emptied_region}

@@ -1,6 +1,6 @@
 use Rattle.std.proofs.Common.{refl, sym, ap, ◌∙◌, ◌<◌, length, map, arith}
-use Rattle.ir_tree.specs.View.{region_view}
-use Rattle.ir_tree.specs.Tree.{op, head, regions_of}
+use Rattle.ir_store_slots.specs.trees.View.{region_view}
+use Rattle.ir_store_slots.specs.trees.Tree.{op, head, regions_of}
 use Rattle.ir_store_slots.specs.Rows.{row_at, shape_of}
 use Rattle.ir_store_slots.specs.Grows.{parts_of, row_held, AreBlocks, AreEmptied}
 use Rattle.ir_store_slots.specs.Emptied.{emptied_region}

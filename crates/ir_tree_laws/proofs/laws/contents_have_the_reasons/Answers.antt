@@ -1,5 +1,5 @@
-use Rattle.ir_types.specs.Terms.{name_term, type_term, attr_term}
-use Rattle.ir_types.specs.Words.{is_isolated, is_table}
+use Rattle.ir_tree.specs.types.Terms.{name_term, type_term, attr_term}
+use Rattle.ir_tree.specs.types.Words.{is_isolated, is_table}
 use Rattle.ir_tree.specs.Meaning.{key_before}
 use Rattle.ir_tree_laws.proofs.Contents.{map_type_of_value, map_table_of, map_entry_in, map_put_reason, map_take_reason, map_shift_reason, map_set_operand_reason, map_set_entry_reason, from_retract, from_restore}
 use Rattle.ir_tree_laws.proofs.laws.contents_have_the_reasons.Goals as goal

@@ -1,6 +1,6 @@
 use Rattle.std.proofs.Common.{◌∙◌, sym, ap, Some}
 use Rattle.std.specs.Prelude.{option_map}
-use Rattle.ir_event.specs.Modules.{module_in}
+use Rattle.ir_verify_base.specs.events.Modules.{module_in}
 use Rattle.ir_verify.specs.Sets.{rules_in}
 use Rattle.ir_verify.proofs.Presence.{same_there, isnt_there, is_there}
 use Rattle.ir_verify.proofs.Telling.{set_read}

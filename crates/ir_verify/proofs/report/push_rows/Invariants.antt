@@ -1,5 +1,5 @@
 use Rattle.std.proofs.Common.{◌≡◌, ◌++◌, map, drop}
-use Rattle.ir_event.specs.declared.row.Row.{Row}
+use Rattle.ir_verify_base.specs.events.declared.row.Row.{Row}
 use Rattle.ir_verify.specs.Reports.{rules_cells}
 use Rattle.ir_verify.proofs.report.push_rows.Given as goal
 

@@ -1,7 +1,7 @@
 use Rattle.std.proofs.Common.{◌∙◌, sym, ap, arith}
 use Rattle.std.specs.Prelude.{option_map}
-use Rattle.ir_store.specs.Nodes.{node_of}
-use Rattle.ir_store.specs.Stored.{known}
+use Rattle.ir_event.specs.store.Nodes.{node_of}
+use Rattle.ir_event.specs.store.Stored.{known}
 use Rattle.ir_event.specs.declared.world.World.{World}
 use Rattle.listeners_surroundings.specs.Gathered.{regions_found}
 use Rattle.listeners_surroundings.proofs.Reading.{absent, present, count_found, few_regions}

@@ -1,7 +1,7 @@
 use Rattle.std.proofs.Common.{◌∙◌, sym, ap, Some}
 use Rattle.std.specs.Prelude.{option_map}
-use Rattle.ir_store.specs.Nodes.{node_of}
-use Rattle.ir_store.specs.Stored.{known}
+use Rattle.ir_event.specs.store.Nodes.{node_of}
+use Rattle.ir_event.specs.store.Stored.{known}
 use Rattle.ir_event.specs.declared.world.World.{World}
 use Rattle.listeners_surroundings.proofs.Reading.{no_last, last_unshown, last_shown}
 use Rattle.listeners_surroundings.proofs.gather.last_name.Goals as goal

@@ -2,7 +2,7 @@ use Rattle.std.proofs.Common.{◌≡◌, length}
 use Rattle.std.specs.List.{All}
 use Rattle.ir_types.specs.Things.{IsName, IsAttr}
 use Rattle.ir_types.specs.WordNames.{word_bytes}
-use Rattle.op_registry.specs.Registry.{beside}
+use Rattle.ir_event.specs.registry.Registry.{beside}
 use Rattle.std.proofs.Common.{map}
 use Rattle.ir_tree.specs.Maps.{map_entry}
 use Rattle.ir_types.specs.Terms.{name_term, attr_term}

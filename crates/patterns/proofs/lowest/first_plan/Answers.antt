@@ -1,7 +1,7 @@
 use Rattle.std.proofs.Common.{◌∙◌, ap}
 use Rattle.ir_event.specs.Modules.{module_in}
 use Rattle.patterns_base.specs.Canonicalization.{first_rule}
-use Rattle.patterns_runs.proofs.Carrying.{none_left}
+use Rattle.patterns_makes.proofs.of_runs.Carrying.{none_left}
 use Rattle.patterns.specs.Lowest.{greedy}
 use Rattle.patterns.proofs.Firsts.{none_first}
 use Rattle.patterns.proofs.lowest.first_plan.Goals as goal

@@ -4,7 +4,7 @@ use Rattle.patterns.specs.Held.{module_held}
 use Rattle.patterns_indexed.specs.Planned.{found_edits}
 use Rattle.patterns.proofs.Applying.{gave, not_there, rewrite_due, stopped, was_none}
 use Rattle.patterns.proofs.Carrying.{applied_none, journaled_none}
-use Rattle.patterns_runs.proofs.Journals.{recorded_none}
+use Rattle.patterns_lowering.proofs.of_runs.Journals.{recorded_none}
 use Rattle.patterns_indexed.proofs.Acceptance.{accepted}
 use Rattle.patterns_indexed.proofs.apply.apply.Goals as goal
 

@@ -1,11 +1,11 @@
 use Rattle.std.proofs.Common.{refl, ap, ◌∙◌, inl}
-use Rattle.patterns_runs.specs.Contents.{all_edited}
-use Rattle.patterns_runs.specs.Lists.{edits_meaning}
+use Rattle.patterns_lowering.specs.runs.Contents.{all_edited}
+use Rattle.patterns_lowering.specs.runs.Lists.{edits_meaning}
 use Rattle.patterns.specs.Held.{module_held}
 use Rattle.patterns.proofs.Carrying.{applied_none, applied_added, applied_along, journaled_along, kept_added, kept_along, no_room}
 use Rattle.patterns_indexed.specs.Planned.{planned_edits}
 use Rattle.patterns_indexed.proofs.Carried.{added_for, has_ids, was_carried, was_limited}
-use Rattle.patterns_runs.proofs.Journals.{recorded_none}
+use Rattle.patterns_lowering.proofs.of_runs.Journals.{recorded_none}
 use Rattle.patterns_indexed.proofs.carry.carry_lowering.Goals as goal
 
 pub lowering_makes-requires : goal.lowering_makes-requires

@@ -1,7 +1,7 @@
 use Rattle.std.proofs.Common.{option_map, ap, sym, ◌∙◌}
 use Rattle.ir_event.specs.Modules.{module_in}
 use Rattle.patterns.proofs.Planned.{none_there, none_front, none_clean}
-use Rattle.patterns_reads.specs.Reads.{head_in}
+use Rattle.patterns_lowering.specs.reads.Reads.{head_in}
 use Rattle.patterns_lowering.proofs.Asked.{clean_shown}
 use Rattle.patterns_lowering.specs.Meanings.{lowering_meaning}
 use Rattle.patterns_indexed.proofs.Lowered.{lowered_by}

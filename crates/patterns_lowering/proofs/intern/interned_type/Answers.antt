@@ -1,6 +1,6 @@
 use Rattle.std.proofs.Common.{ap, sym, subst}
 use Rattle.ir_types.specs.Things.{Things}
-use Rattle.rewriter.specs.Benched.{Benched}
+use Rattle.patterns_runs.specs.rewriter_bench.Benched.{Benched}
 use Rattle.patterns_lowering.specs.Interned.{IsWanting, as_full}
 use Rattle.patterns_lowering.proofs.Interning.{interned_one, type_interned, type_wanting}
 use Rattle.patterns_lowering.proofs.intern.interned_type.Goals as goal

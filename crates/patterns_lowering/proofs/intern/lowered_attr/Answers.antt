@@ -1,6 +1,6 @@
 use Rattle.std.proofs.Common.{◌∙◌, ap, sym, subst}
 use Rattle.ir_types.specs.Things.{Things}
-use Rattle.rewriter.specs.Benched.{Benched}
+use Rattle.patterns_runs.specs.rewriter_bench.Benched.{Benched}
 use Rattle.patterns_lowering.specs.Interned.{IsWanting, as_full}
 use Rattle.ir_types.specs.Terms.{attr_term, type_term}
 use Rattle.patterns_lowering.proofs.Interning.{attr_fine, attr_interned, attr_lowered, attr_read, attr_wanting, interned_none, interned_one}

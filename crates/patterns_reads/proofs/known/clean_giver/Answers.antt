@@ -1,4 +1,4 @@
-use Rattle.ir_event.specs.Modules.{module_in}
+use Rattle.patterns_edits.specs.events.Modules.{module_in}
 use Rattle.patterns_reads.specs.Reads.{head_in}
 use Rattle.patterns_reads.proofs.Cleaned.{source_no, source_yes}
 use Rattle.patterns_reads.proofs.known.clean_giver.Goals as goal

@@ -1,5 +1,5 @@
 use Rattle.std.proofs.Common.{ap, inl, refl, subst, sym, ◌∙◌, List}
-use Rattle.patterns_runs.specs.Edit.{Edit as Coded}
+use Rattle.patterns_indexed.specs.runs.Edit.{Edit as Coded}
 use Rattle.conversion_base.specs.Lists.{AllFit, edits_meaning}
 use Rattle.conversion_base.specs.Rewrites.{Rewrite, carried_out}
 use Rattle.conversion_base.specs.Reconciling.{index_rewrite}

@@ -1,6 +1,6 @@
 use Rattle.std.proofs.Common.{subst, sym}
-use Rattle.ir_tree.specs.Meaning.{IsSoundIn}
-use Rattle.ir_tree.specs.WellFormed.{Module}
+use Rattle.ir_store.specs.trees.Meaning.{IsSoundIn}
+use Rattle.ir_store.specs.trees.WellFormed.{Module}
 use Rattle.ir_event.proofs.Growing.{held_loaded}
 use Rattle.ir_event.proofs.world.World.hold.Goals as goal
 

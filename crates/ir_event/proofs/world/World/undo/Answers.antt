@@ -1,6 +1,6 @@
 use Rattle.std.proofs.Common.{ap, sym, subst, ◌∙◌}
 use Rattle.std.specs.Prelude.{option_map}
-use Rattle.ir_tree.specs.Meaning.{meaning}
+use Rattle.ir_store.specs.trees.Meaning.{meaning}
 use Rattle.ir_store.specs.Nodes.{node_of}
 use Rattle.ir_store.specs.Stored.{Stored, known}
 use Rattle.ir_event.specs.Listener.{ShowsTaken}

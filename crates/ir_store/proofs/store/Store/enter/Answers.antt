@@ -1,10 +1,10 @@
 use Rattle.std.proofs.Common.{refl, ◌∙◌, sym, ap, ⊎_elim, inl, inr}
 use Rattle.std.specs.Prelude.{Ok, Err}
 use Rattle.std.proofs.lemmas.Bool.{false≢true}
-use Rattle.ir_tree.specs.Limits.{every}
-use Rattle.ir_tree.specs.Meaning.{key_before_in, dictionaries_rise}
-use Rattle.ir_tree.specs.Edits.{part_of}
-use Rattle.ir_tree_laws.specs.Reasons.{entry_reason, set_entry_reason}
+use Rattle.ir_store_reads.specs.trees.Limits.{every}
+use Rattle.ir_store_reads.specs.trees.Meaning.{key_before_in, dictionaries_rise}
+use Rattle.ir_store_reads.specs.trees.Edits.{part_of}
+use Rattle.ir_store_reads.specs.tree_laws.Reasons.{entry_reason, set_entry_reason}
 use Rattle.ir_store_reads.specs.Stored.{has_slot}
 use Rattle.ir_store.specs.Calls.{after_entry}
 use Rattle.ir_store.proofs.Called.{rows_in, keys_in, same_inside}

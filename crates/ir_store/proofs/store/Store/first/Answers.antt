@@ -1,7 +1,7 @@
 use Rattle.std.proofs.Common.{sym, ap, ◌∙◌}
 use Rattle.std.specs.Prelude.{option_map, option_and_then}
-use Rattle.ir_tree_laws.specs.Reads.{first_at}
-use Rattle.ir_tree.specs.Places.{first_id}
+use Rattle.ir_store_reads.specs.tree_laws.Reads.{first_at}
+use Rattle.ir_store_reads.specs.trees.Places.{first_id}
 use Rattle.ir_store_reads.specs.Spots.{id_in}
 use Rattle.ir_store.proofs.Called.{rows_in, keys_in}
 use Rattle.ir_store.proofs.Listing.{no_block, some_block, first_spelt}

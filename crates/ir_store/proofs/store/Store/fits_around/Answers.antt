@@ -1,6 +1,6 @@
 use Rattle.std.proofs.Common.{◌∙◌, ap}
 use Rattle.std.specs.Prelude.{nat_lt}
-use Rattle.ir_tree_laws.specs.Reads.{around}
+use Rattle.ir_store_reads.specs.tree_laws.Reads.{around}
 use Rattle.ir_store.proofs.Rising.{around_some, room_is}
 use Rattle.ir_store.proofs.store.Store.fits_around.Goals as goal
 

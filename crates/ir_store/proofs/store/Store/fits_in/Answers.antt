@@ -1,9 +1,9 @@
 use Rattle.std.proofs.Common.{sym, ◌∙◌, ap}
 use Rattle.std.specs.Prelude.{is_some, nat_lt}
 use Rattle.std.proofs.lemmas.Bool.{false≢true}
-use Rattle.ir_tree.specs.Ids.{has_id, find}
-use Rattle.ir_tree_laws.specs.Reads.{around}
-use Rattle.ir_tree_laws.specs.Reasons.{levels_in}
+use Rattle.ir_store_reads.specs.trees.Ids.{has_id, find}
+use Rattle.ir_store_reads.specs.tree_laws.Reads.{around}
+use Rattle.ir_store_reads.specs.tree_laws.Reasons.{levels_in}
 use Rattle.ir_store_reads.proofs.Slots.{found, found_op, in_tree_is}
 use Rattle.ir_store.proofs.Taking.{heads_of}
 use Rattle.ir_store.proofs.Called.{rows_in, keys_in}

@@ -1,5 +1,5 @@
 use Rattle.std.proofs.Common.{◌≡◌}
-use Rattle.ir_tree_laws.specs.Reads.{precedes}
+use Rattle.ir_store_reads.specs.tree_laws.Reads.{precedes}
 use Rattle.ir_store.specs.Lifted.{level_of}
 use Rattle.ir_store.proofs.store.Store.goes_first.Given as goal
 

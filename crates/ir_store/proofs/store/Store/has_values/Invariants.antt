@@ -1,6 +1,6 @@
 use Rattle.std.proofs.Common.{◌≡◌, length}
 use Rattle.std.specs.List.{list_all}
-use Rattle.ir_tree_laws.specs.Values.{has_value}
+use Rattle.ir_store_reads.specs.tree_laws.Values.{has_value}
 use Rattle.ir_store.proofs.store.Store.has_values.Given as goal
 
 abbrev pub invariant-values : goal.invariant-values

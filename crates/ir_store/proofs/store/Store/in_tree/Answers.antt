@@ -1,7 +1,7 @@
 use Rattle.std.proofs.Common.{◌∙◌, ap}
 use Rattle.std.specs.Prelude.{is_some}
 use Rattle.std.specs.FinMap as finmap
-use Rattle.ir_tree.specs.Ids.{has_id}
+use Rattle.ir_store_reads.specs.trees.Ids.{has_id}
 use Rattle.ir_store_reads.proofs.Slots.{in_tree_is}
 use Rattle.ir_store.proofs.store.Store.in_tree.Goals as goal
 

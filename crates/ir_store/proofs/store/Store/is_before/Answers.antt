@@ -1,5 +1,5 @@
 use Rattle.std.proofs.Common.{sym, ap, ◌∙◌}
-use Rattle.ir_tree_laws.specs.Reads.{in_list, goes_before, is_before}
+use Rattle.ir_store_reads.specs.tree_laws.Reads.{in_list, goes_before, is_before}
 use Rattle.ir_store.proofs.Called.{rows_in, keys_in}
 use Rattle.ir_store_reads.proofs.Slots.{found}
 use Rattle.ir_store.proofs.Listing.{stands_alone, missing_listless, before_found, before_missing}

@@ -1,6 +1,6 @@
 use Rattle.std.proofs.Common.{sym, ◌∙◌, ◌<◌, subst, ap}
-use Rattle.ir_tree.specs.Ids.{find}
-use Rattle.ir_tree_laws.specs.Reads.{is_within}
+use Rattle.ir_store_reads.specs.trees.Ids.{find}
+use Rattle.ir_store_reads.specs.tree_laws.Reads.{is_within}
 use Rattle.ir_store.specs.Lifted.{level_of}
 use Rattle.ir_store.proofs.Climbing.{level_up, below_next}
 use Rattle.ir_store.proofs.Rising.{differs, agrees, within_at_none, within_at_up, within_at_own}

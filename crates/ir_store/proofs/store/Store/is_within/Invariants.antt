@@ -1,6 +1,6 @@
 use Rattle.std.proofs.Common.{◌≡◌}
-use Rattle.ir_tree.specs.Ids.{find}
-use Rattle.ir_tree_laws.specs.Reads.{is_within}
+use Rattle.ir_store_reads.specs.trees.Ids.{find}
+use Rattle.ir_store_reads.specs.tree_laws.Reads.{is_within}
 use Rattle.ir_store.specs.Lifted.{level_of}
 use Rattle.ir_store.proofs.store.Store.is_within.Given as goal
 

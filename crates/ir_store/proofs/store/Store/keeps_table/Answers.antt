@@ -1,7 +1,7 @@
 use Rattle.std.proofs.Common.{sym, ◌∙◌, eqb}
 use Rattle.std.specs.Option.{option_eq}
-use Rattle.ir_types.specs.Terms.{name_term}
-use Rattle.ir_types.specs.Words.{is_table}
+use Rattle.ir_store_reads.specs.types.Terms.{name_term}
+use Rattle.ir_store_reads.specs.types.Words.{is_table}
 use Rattle.ir_store.proofs.Climbing.{parent_found}
 use Rattle.ir_store.proofs.Tabled.{found_there, relink_place, relink_parent, relink_tables}
 use Rattle.ir_store.proofs.store.Store.keeps_table.Goals as goal

@@ -1,6 +1,6 @@
 use Rattle.std.proofs.Common.{sym, ap, ◌∙◌}
 use Rattle.std.specs.Prelude.{option_map, option_and_then}
-use Rattle.ir_tree_laws.specs.Reads.{last_at, last_id}
+use Rattle.ir_store_reads.specs.tree_laws.Reads.{last_at, last_id}
 use Rattle.ir_store_reads.specs.Spots.{id_in}
 use Rattle.ir_store.proofs.Called.{rows_in, keys_in}
 use Rattle.ir_store.proofs.Listing.{no_block, some_block, last_spelt}

@@ -1,7 +1,7 @@
 use Rattle.std.proofs.Common.{sym, ◌∙◌, ap, ◌≡◌, subst, [], ◌∷◌}
 use Rattle.std.specs.Prelude.{is_some}
 use Rattle.std.proofs.lemmas.Bool.{false≢true}
-use Rattle.ir_tree.specs.Ids.{has_id, find}
+use Rattle.ir_store_reads.specs.trees.Ids.{has_id, find}
 use Rattle.ir_store_reads.specs.Rows.{row_at}
 use Rattle.ir_store_reads.proofs.Slots.{in_tree_is, found}
 use Rattle.ir_store.specs.Ends.{IsLastIn, ids_in}

@@ -1,6 +1,6 @@
 use Rattle.std.proofs.Common.{sym, ◌∙◌, ap, ◌++◌, ◌∷◌, [], refl, append_assoc}
-use Rattle.ir_tree.specs.Ids.{find}
-use Rattle.ir_tree_laws.proofs.Around.{absent_find}
+use Rattle.ir_store_reads.specs.trees.Ids.{find}
+use Rattle.ir_store_reads.proofs.of_tree_laws.Around.{absent_find}
 use Rattle.ir_store.specs.Ends.{ids_in}
 use Rattle.ir_store.proofs.Ends.{step_less}
 use Rattle.ir_store.proofs.store.Store.last_within.Goals as goal

@@ -1,5 +1,5 @@
 use Rattle.std.proofs.Common.{◌≡◌, List, ℕ, ◌++◌, true, length}
-use Rattle.ir_tree.specs.Ids.{find, has_id}
+use Rattle.ir_store_reads.specs.trees.Ids.{find, has_id}
 use Rattle.ir_store.specs.Ends.{ids_in}
 use Rattle.ir_store.proofs.store.Store.last_within.Given as goal
 

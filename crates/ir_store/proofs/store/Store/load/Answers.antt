@@ -1,5 +1,5 @@
-use Rattle.ir_tree.specs.Ids.{ids}
-use Rattle.ir_tree.specs.Meaning.{isolated_in}
+use Rattle.ir_store_reads.specs.trees.Ids.{ids}
+use Rattle.ir_store_reads.specs.trees.Meaning.{isolated_in}
 use Rattle.ir_store.proofs.Loading.{are_below, root_bare}
 use Rattle.ir_store.proofs.store.Store.load.Goals as goal
 

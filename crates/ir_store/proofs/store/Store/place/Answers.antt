@@ -1,5 +1,5 @@
 use Rattle.std.proofs.Common.{sym, ap, ◌∙◌, subst}
-use Rattle.ir_tree.specs.Places.{place_of}
+use Rattle.ir_store_reads.specs.trees.Places.{place_of}
 use Rattle.ir_store.proofs.Called.{rows_in, keys_in}
 use Rattle.ir_store_reads.proofs.Slots.{Found, found}
 use Rattle.ir_store.proofs.Standing.{some_place, root_placeless, place_missing}

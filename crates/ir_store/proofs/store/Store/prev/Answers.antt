@@ -1,6 +1,6 @@
 use Rattle.std.proofs.Common.{sym, ap, ◌∙◌, None}
 use Rattle.std.specs.Prelude.{option_map, option_and_then}
-use Rattle.ir_tree_laws.specs.Reads.{id_before, prev_of}
+use Rattle.ir_store_reads.specs.tree_laws.Reads.{id_before, prev_of}
 use Rattle.ir_store_reads.specs.Spots.{id_in}
 use Rattle.ir_store.proofs.Called.{rows_in, keys_in}
 use Rattle.ir_store_reads.proofs.Slots.{found}

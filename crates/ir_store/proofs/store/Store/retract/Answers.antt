@@ -1,6 +1,6 @@
 use Rattle.std.proofs.Common.{◌∙◌, sym, ap, ◌≡◌, false}
 use Rattle.ir_store.specs.Calls.{after_take, lowered}
-use Rattle.ir_tree.specs.Ids.{has_id}
+use Rattle.ir_store_reads.specs.trees.Ids.{has_id}
 use Rattle.ir_store.proofs.Called.{stored, same_inside}
 use Rattle.ir_store.proofs.Tally.{left_out}
 use Rattle.ir_store.proofs.Whole.{lower_fits}

@@ -1,7 +1,7 @@
 use Rattle.std.proofs.Common.{◌∙◌, ap, sym}
-use Rattle.ir_tree.specs.Ids.{has_id}
-use Rattle.ir_tree.specs.Limits.{every}
-use Rattle.ir_tree.specs.Meaning.{key_before_in, dictionaries_rise}
+use Rattle.ir_store_reads.specs.trees.Ids.{has_id}
+use Rattle.ir_store_reads.specs.trees.Limits.{every}
+use Rattle.ir_store_reads.specs.trees.Meaning.{key_before_in, dictionaries_rise}
 use Rattle.ir_store_reads.specs.Stored.{has_slot, has_entry}
 use Rattle.ir_store.specs.Calls.{after_entry}
 use Rattle.ir_store.proofs.Called.{rows_in, keys_in, same_inside}

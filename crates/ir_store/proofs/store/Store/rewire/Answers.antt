@@ -1,6 +1,6 @@
 use Rattle.std.proofs.Common.{refl, ◌∙◌, sym, ap, subst, length, ◌<◌, set, arith}
 use Rattle.std.specs.Prelude.{Ok, Err}
-use Rattle.ir_tree_laws.specs.Changes.{operand_at}
+use Rattle.ir_store_reads.specs.tree_laws.Changes.{operand_at}
 use Rattle.ir_store.specs.Calls.{after_operand}
 use Rattle.ir_store_reads.specs.Reasoned.{rewire_reason}
 use Rattle.ir_store.proofs.Called.{same_inside, operand_was, write_given, write_done}

@@ -1,5 +1,5 @@
 use Rattle.std.proofs.Common.{◌≡◌, ◌-◌, sym, ◌∙◌, arith}
-use Rattle.ir_tree_laws.specs.Reads.{around}
+use Rattle.ir_store_reads.specs.tree_laws.Reads.{around}
 use Rattle.ir_store.specs.Shifting.{level}
 use Rattle.ir_store.proofs.Rising.{around_up, around_none}
 use Rattle.ir_store.proofs.store.Store.room_in.Goals as goal

@@ -1,6 +1,6 @@
 use Rattle.std.proofs.Common.{◌≡◌, ◌-◌}
-use Rattle.ir_tree.specs.Limits.{most_around}
-use Rattle.ir_tree_laws.specs.Reads.{around}
+use Rattle.ir_store_reads.specs.trees.Limits.{most_around}
+use Rattle.ir_store_reads.specs.tree_laws.Reads.{around}
 use Rattle.ir_store.specs.Shifting.{level}
 use Rattle.ir_store.proofs.store.Store.room_in.Given as goal
 

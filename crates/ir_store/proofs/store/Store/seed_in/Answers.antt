@@ -1,7 +1,7 @@
 use Rattle.std.proofs.Common.{◌≡◌, ◌<◌, slice_set, ℕ, refl, sym, ap, ◌∙◌, subst, length, true, eqb, cond, Some, None, [], arith}
 use Rattle.std.specs.Ordering.{nat_cmp}
 use Rattle.std.specs.FinMap as finmap
-use Rattle.ir_tree.specs.Tree.{head}
+use Rattle.ir_store_reads.specs.trees.Tree.{head}
 use Rattle.ir_store_reads.specs.Stored.{none_gone}
 use Rattle.ir_store_reads.specs.Rows.{row_at, held_in, gone_in}
 use Rattle.ir_store_reads.specs.Index.{cells_of}

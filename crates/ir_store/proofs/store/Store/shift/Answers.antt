@@ -1,9 +1,9 @@
 use Rattle.std.proofs.Common.{refl, sym, ◌∙◌, ap, subst}
-use Rattle.ir_types.specs.Terms.{name_term}
-use Rattle.ir_types.specs.Words.{is_table}
-use Rattle.ir_tree.specs.Meaning.{isolated_in}
-use Rattle.ir_tree.specs.WellFormed.{IsWellFormed}
-use Rattle.ir_tree_laws.proofs.WellKept.{shift_keeps}
+use Rattle.ir_store_reads.specs.types.Terms.{name_term}
+use Rattle.ir_store_reads.specs.types.Words.{is_table}
+use Rattle.ir_store_reads.specs.trees.Meaning.{isolated_in}
+use Rattle.ir_store_reads.specs.trees.WellFormed.{IsWellFormed}
+use Rattle.ir_store_reads.proofs.of_tree_laws.WellKept.{shift_keeps}
 use Rattle.ir_store.specs.Calls.{after_shift}
 use Rattle.ir_store.specs.Looks.{CanLook, is_seen}
 use Rattle.ir_store.specs.Shifting.{CanRelink}

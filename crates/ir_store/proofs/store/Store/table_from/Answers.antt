@@ -1,6 +1,6 @@
 use Rattle.std.proofs.Common.{refl, sym, ◌∙◌, ◌<◌, subst}
-use Rattle.ir_types.specs.Terms.{name_term}
-use Rattle.ir_types.specs.Words.{is_table}
+use Rattle.ir_store_reads.specs.types.Terms.{name_term}
+use Rattle.ir_store_reads.specs.types.Words.{is_table}
 use Rattle.ir_store.specs.Lifted.{level_of}
 use Rattle.ir_store.proofs.Climbing.{level_up, parent_found, below_next}
 use Rattle.ir_store.proofs.Rising.{the_op}

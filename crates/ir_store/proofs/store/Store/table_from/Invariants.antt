@@ -1,7 +1,7 @@
 use Rattle.std.proofs.Common.{◌≡◌, true}
-use Rattle.ir_types.specs.Terms.{name_term}
-use Rattle.ir_types.specs.Words.{is_table}
-use Rattle.ir_tree.specs.Ids.{has_id}
+use Rattle.ir_store_reads.specs.types.Terms.{name_term}
+use Rattle.ir_store_reads.specs.types.Words.{is_table}
+use Rattle.ir_store_reads.specs.trees.Ids.{has_id}
 use Rattle.ir_store.specs.Shifting.{table_at}
 use Rattle.ir_store.specs.Lifted.{level_of}
 use Rattle.ir_store.proofs.store.Store.table_from.Given as goal

@@ -1,11 +1,11 @@
 use Rattle.std.proofs.Common.{refl, ◌∙◌, sym, ap}
 use Rattle.std.specs.Prelude.{Ok, Err}
 use Rattle.ir_store.specs.Calls.{after_take}
-use Rattle.ir_tree_laws.specs.Reasons.{take_reason}
+use Rattle.ir_store_reads.specs.tree_laws.Reasons.{take_reason}
 use Rattle.ir_store.proofs.Called.{rows_in, keys_in, same_inside, cut_given, cut_done}
 use Rattle.ir_store.proofs.Taking.{heads_of}
 use Rattle.ir_store.proofs.Whole.{find_values, plan, free_run, take_fits}
-use Rattle.ir_tree_laws.proofs.Reasoned.{no_take_reason}
+use Rattle.ir_store_reads.proofs.of_tree_laws.Reasoned.{no_take_reason}
 use Rattle.ir_store_reads.proofs.Marking.{can_mark_used}
 use Rattle.ir_store.proofs.store.Store.take.Goals as goal
 

@@ -1,7 +1,7 @@
 use Rattle.std.proofs.Common.{sym, ◌∙◌, ap, ◌≡◌, true, subst}
 use Rattle.std.specs.Prelude.{is_some}
-use Rattle.ir_tree.specs.Ids.{has_id}
-use Rattle.ir_tree_laws.specs.Reasons.{unused_outside}
+use Rattle.ir_store_reads.specs.trees.Ids.{has_id}
+use Rattle.ir_store_reads.specs.tree_laws.Reasons.{unused_outside}
 use Rattle.ir_store_reads.proofs.Slots.{in_tree_is, none_found}
 use Rattle.ir_store.proofs.Called.{rows_in, keys_in}
 use Rattle.ir_store.proofs.Keeping.{keeps_whole}

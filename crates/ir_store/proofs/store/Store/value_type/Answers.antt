@@ -1,5 +1,5 @@
 use Rattle.std.proofs.Common.{◌∙◌, ap}
-use Rattle.ir_tree_laws.specs.Values.{type_of_value}
+use Rattle.ir_store_reads.specs.tree_laws.Values.{type_of_value}
 use Rattle.ir_store.proofs.Called.{rows_in, keys_in}
 use Rattle.ir_store.proofs.Valued.{type_is}
 use Rattle.ir_store.proofs.store.Store.value_type.Goals as goal

@@ -1,4 +1,4 @@
-use Rattle.ir_tree.specs.Meaning.{key_before_in}
+use Rattle.ir_tree_laws.specs.trees.Meaning.{key_before_in}
 use Rattle.ir_store_contents.proofs.Orders.{context_order, present_has}
 use Rattle.ir_store_contents.proofs.dictionary.Dictionary.revert.Goals as goal
 

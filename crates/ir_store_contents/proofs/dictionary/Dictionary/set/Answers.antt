@@ -1,5 +1,5 @@
 use Rattle.std.proofs.Common.{◌∙◌, ◌+◌, ap, subst, Some, take}
-use Rattle.ir_tree.specs.Meaning.{key_before_in}
+use Rattle.ir_tree_laws.specs.trees.Meaning.{key_before_in}
 use Rattle.ir_store_contents.specs.Slots.{slots_of, with_change}
 use Rattle.ir_store_contents.proofs.Changed.{set_shows, insert_shows}
 use Rattle.ir_store_contents.proofs.Lookups.{Found, Free}

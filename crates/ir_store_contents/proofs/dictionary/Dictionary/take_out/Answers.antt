@@ -1,7 +1,7 @@
 use Rattle.std.proofs.Common.{◌≡◌, ◌∙◌, ◌-◌, ◌<◌, ◌++◌, ◌∷◌, [], ap, subst, None, take, length, ℕ, List}
 use Rattle.std.specs.List.{remove}
-use Rattle.ir_tree.specs.Edits.{drop_entry}
-use Rattle.ir_tree.specs.Meaning.{key_before_in}
+use Rattle.ir_tree_laws.specs.trees.Edits.{drop_entry}
+use Rattle.ir_tree_laws.specs.trees.Meaning.{key_before_in}
 use Rattle.ir_store_contents.specs.Slots.{slots_of, with_change}
 use Rattle.ir_store_contents.proofs.Changed.{remove_shows}
 use Rattle.ir_store_contents.proofs.dictionary.Dictionary.take_out.Goals as goal

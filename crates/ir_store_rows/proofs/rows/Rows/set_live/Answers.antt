@@ -5,7 +5,7 @@ use Rattle.ir_store_rows.specs.Shelf.{contents_at, keyless_contents, vacated_hel
 use Rattle.ir_store_rows.specs.Gone.{none_gone}
 use Rattle.ir_store_rows.specs.Rows.{Row, row_at, row_with_operand, row_with_entry, vacated}
 use Rattle.ir_store_contents.specs.Slots.{with_change}
-use Rattle.ir_tree.specs.Meaning.{key_before_in}
+use Rattle.ir_store_contents.specs.trees.Meaning.{key_before_in}
 use Rattle.ir_store_rows.proofs.Keys.{swaps_none, add_take, give_swaps, give_told, spare_swaps, row_inside, operand_inside, row_stands, old_row, entry_told, written_sound, written_rows, in_both, where_ok, where_err, kept_rows, popped_sound, popped_is}
 use Rattle.ir_store_rows.proofs.rows.Rows.set_live.Goals as goal
 

@@ -1,5 +1,5 @@
 use Rattle.std.proofs.Common.{◌≡◌, ap, sym, subst, true}
-use Rattle.ir_tree.specs.Meaning.{key_before_in, rises}
+use Rattle.ir_store_contents.specs.trees.Meaning.{key_before_in, rises}
 use Rattle.ir_store_contents.specs.Slots.{with_change, WantsNoSlot}
 use Rattle.ir_store_contents.specs.Contents.{Contents, with_dictionary, dictionary_in}
 use Rattle.ir_store_rows.specs.Shelf.{or_none, contents_at, Swaps}
