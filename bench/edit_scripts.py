@@ -1,5 +1,5 @@
 """Modules that are edited, and scripts over them. A module of a million operations must fit in 16 MiB: so an operation has 16
-bytes here, one operand at most, and no result. Used by bench/commands.py and bench/held.py."""
+bytes here, one operand at most, and no result. Used by bench/commands.py, bench/chain.py and bench/held.py."""
 import string
 import typing
 

@@ -1,5 +1,5 @@
 """Runs of a built program with marks: what it had used before it wrote each part of its output (bench/marks.c stands before
-the C library). Used by bench/commands.py, bench/chain.py and bench/held.py."""
+the C library). Used by bench/commands.py, bench/chain.py, bench/held.py and bench/hostile.py."""
 import contextlib
 import os
 import pathlib

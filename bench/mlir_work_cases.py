@@ -3,7 +3,8 @@
 scripts, inputs and replies by regular expressions and Python's own cuts. Run it at the top of the repository.
 
 The whole runs are written out here or in bench/worked_rows.txt, and compared with what the rules of bench/reference give
-for them, or are by chance, from the seeds below, analyses_cases.py and verifier_cases.py, and have what the rules give."""
+for them, or are of analyses_cases.py, verifier_cases.py, conversion_cases.py and heard_cases.py, many by chance from the
+seeds there, and have what the rules give."""
 import itertools
 import pathlib
 import re
@@ -482,7 +483,7 @@ def runs():
 
 
 def failing_ends():
-    """The first run of the guide, with all listeners: of a reader that gives a byte a read each read fails in turn, then nothing is
+    """The beginning of the stored run of crates/mlir_work, with all listeners: of a reader that gives a byte a read each read fails in turn, then nothing is
     written; of a writer that takes a byte a write each write, then a front is written."""
     text = TEXT + DIVIDER + b"report uses\nset-operand #3 0 %v2.0\nreport uses\nprint\n"
     out = b"1 ok\n" + USES + b"2 ok\n3 ok\n" + EDITED_USES + b"4 ok\n" + EDITED
