@@ -6,13 +6,17 @@ Replies are written part by part, and the program's processor time is taken befo
 library). Lines that are no command stand between the commands, so that a part ends there; what is cheap is repeated. The least of
 some rounds. What rewrites has a run of its own, which is given up after some seconds.
 
-usage: bench/hostile.py PROGRAM [--shapes SHAPE,..] [--rounds N] [--seconds N] [--less N] [--only COMMAND] [--without COMMAND,..]
+usage: bench/hostile.py PROGRAM [--instructions] [--shapes SHAPE,..] [--rounds N] [--seconds N] [--less N] [--only COMMAND]
+                        [--without COMMAND,..]
 
-With `--less N` each shape has an Nth of its size. Of the figures the first is the smaller size's; those below a millisecond in a larger
+With `--instructions` these are counted in place of the time, by callgrind, fifty times as slowly, and what else the machine
+does makes no difference. With `--less N` each shape has an Nth of its size. Of the figures the first is the smaller size's; those below a millisecond in a larger
 module aren't judged. The status is 1 where something grows more than twelve times."""
 import argparse
 import collections
 import os
+import pathlib
+import re
 import subprocess
 import sys
 import tempfile
@@ -155,55 +159,85 @@ def rewrites(shape):
 
 # Runs.
 
-def timed(program, text, them, library, seconds):
-    """Nanoseconds for reading, and for each command; and the first reply of each; none where the run was given up."""
-    lines, spans, nothing = list(FILLING), [], 0
-    # The first is what the lines between two commands cost, which is taken off.
-    them = [("nothing", 1, ["x"]), *them]
-    for _, _, more in them:
+def spread(them):
+    """The lines of a script in which commands stand between lines that are none, and for each command the first and the
+    last reply to its lines. The first is what the lines between two commands cost, which is taken off."""
+    lines, spans = list(FILLING), []
+    for _, _, more in [("nothing", 1, ["x"]), *them]:
         spans.append((len(lines) + 1, len(lines) + len(more)))
         lines += more + FILLING
+    return lines, spans
+
+
+def parts_of(replies, told, spans):
+    """The places in what was told at which the first of a command's parts begins and the last one has ended."""
+    for first, last in spans:
+        begun = max(place for place, (count, _) in enumerate(told) if count <= replies[first - 1])
+        ended = min(place for place, (count, _) in enumerate(told) if count >= replies[last])
+        yield begun, ended
+
+
+def cost_of(program, text, them, words, library):
+    """What reading and each command cost, in nanoseconds or instructions, and its refusals; none where the run was given up."""
+    lines, spans = spread(them)
+    given = text.encode() + marks.DIVIDER + listed(lines).encode()
     try:
-        wrote, told = run(program, text.encode() + marks.DIVIDER + listed(lines).encode(), library, seconds)
+        wrote, told = run(program, given, library, words.seconds)
+        # How many lines stood in front of each reply; a line of rows or of a module begins with no digit.
+        replies = [at for at, line in enumerate(wrote) if line[:1].isdigit()] + [len(wrote)]
+        if len(replies) != len(lines) + 1:
+            sys.exit(f"{program}: {wrote[:3]}")
+        places = list(parts_of(replies, told, spans))
+        if words.instructions:
+            told = counted(program, given, library, told, {0, *(place for pair in places for place in pair)}, 60 * words.seconds)
     except subprocess.TimeoutExpired:
         return None
-    # How many lines stood in front of each reply; a line of rows or of a module begins with no digit.
-    replies = [at for at, line in enumerate(wrote) if line[:1].isdigit()] + [len(wrote)]
-    if len(replies) != len(lines) + 1:
-        sys.exit(f"{program}: {wrote[:3]}")
+    costs = [told[ended][1] - told[begun][1] for begun, ended in places]
     found = [("read", told[0][1], "")]
-    for (word, times, _), (first, last) in zip(them, spans):
-        begun = [at for count, at in told if count <= replies[first - 1]][-1]
-        ended = [at for count, at in told if count >= replies[last]][0]
+    for (word, times, _), (first, last), cost in zip(them, spans[1:], costs[1:]):
         refusals = {wrote[replies[k]].split(b" ", 1)[1].decode() for k in range(first - 1, last)}
-        if word == "nothing":
-            nothing = ended - begun
-            continue
-        found.append((word, max(ended - begun - nothing, 0) / times, ", ".join(sorted(it for it in refusals if not it.startswith("ok")))))
+        found.append((word, max(cost - costs[0], 0) / times, ", ".join(sorted(it for it in refusals if not it.startswith("ok")))))
     return found
 
 
-def run(program, text, library, seconds):
+def counted(program, text, library, told, places, seconds):
+    """What was told, with the instructions up to each of these parts in place of the time. Before each of them callgrind writes what
+    it counted since the last one into a file of its own, and one more at the end."""
+    with tempfile.TemporaryDirectory() as folder:
+        words = ["valgrind", "--tool=callgrind", f"--callgrind-out-file={folder}/out", program]
+        dumps = ",".join(str(place) for place in sorted(places))
+        run(words, text, library, seconds, {"MARKS_DUMPS": f",{dumps},"})
+        files = sorted(pathlib.Path(folder).glob("out.*"), key=lambda it: int(it.suffix[1:]))
+        sums = [int(re.search(r"^(?:totals|summary): (\d+)", file.read_text(), re.M)[1]) for file in files]
+    found, so_far = list(told), 0
+    for place, more in zip(sorted(places), sums, strict=True):
+        so_far += more
+        found[place] = told[place][0], so_far
+    return found
+
+
+def run(program, text, library, seconds, more=None):
     """The lines that a run wrote, and of each part that it wrote how many lines it had come to by then, and its processor time."""
     with tempfile.TemporaryFile() as given, tempfile.TemporaryFile() as taken, tempfile.TemporaryFile() as told:
         given.write(text)
         given.seek(0)
-        env = {**marks.PAGES, **os.environ, "LD_PRELOAD": library, "MARKS_TELL": str(told.fileno())}
-        subprocess.run([program, "--brief"], stdin=given, stdout=taken, stderr=subprocess.DEVNULL, env=env, pass_fds=[told.fileno()], timeout=seconds)
+        env = {**marks.PAGES, **os.environ, "LD_PRELOAD": library, "MARKS_TELL": str(told.fileno()), **(more or {})}
+        words = [program] if isinstance(program, str) else program
+        subprocess.run([*words, "--brief"], stdin=given, stdout=taken, stderr=subprocess.DEVNULL, env=env, pass_fds=[told.fileno()], timeout=seconds)
         taken.seek(0)
         told.seek(0)
-        wrote, parts = taken.read().splitlines(), [tuple(int(it) for it in line.split()) for line in told]
+        wrote, parts = taken.read().splitlines(), [tuple(int(it) for it in line.split()) for line in told] or [(0, 0)]
     # What is told in front of a part is how many lines were written before it; by then it had come to the end of that part.
     counts = [count for count, _ in parts[1:]] + [len(wrote)]
     return wrote, list(zip(counts, (at for _, at in parts)))
 
 
-def least(program, shape, groups, library, words):
+def least(shape, groups, library, words):
     """The least cost of each command, with what it was replied."""
     found = {}
     for group in groups:
-        for _ in range(words.rounds):
-            costs = timed(program, HEAD + shape.body, group, library, words.seconds)
+        for _ in range(1 if words.instructions else words.rounds):
+            costs = cost_of(words.program, HEAD + shape.body, group, words, library)
             if costs is None:
                 found.setdefault(group[0][0], (None, f"not ended after {words.seconds} s"))
                 break
@@ -213,9 +247,11 @@ def least(program, shape, groups, library, words):
     return found
 
 
-def shown(cost):
+def shown(cost, is_counted):
     if cost is None:
         return "-"
+    if is_counted:
+        return f"{cost / 1e6:,.1f} million" if cost >= 1e5 else f"{cost:,.0f}"
     return f"{cost / 1e9:.2f} s" if cost >= 1e9 else f"{cost / 1e6:.1f} ms" if cost >= 1e5 else f"{cost / 1e3:.2f} us"
 
 
@@ -227,7 +263,7 @@ def look(words, make, library):
     for shape in (small, large):
         them = [it for it in commands(shape) if not words.only or it[0] == words.only]
         groups = ([them] if them else []) + [[it] for it in rewrites(shape) if it[0] not in gone and (not words.only or it[0] == words.only)]
-        results.append(least(words.program, shape, groups, library, words))
+        results.append(least(shape, groups, library, words))
     wrong = 0
     for word, (cost, said) in results[1].items():
         before = results[0].get(word, (None, ""))[0]
@@ -236,13 +272,14 @@ def look(words, make, library):
         too_much = cost is None or is_judged and growth > MOST
         wrong += too_much
         told = f"{growth:.1f}" + (" **more**" if too_much else "") if growth is not None else "-"
-        print(f"| {make.__name__} {size:,} | {word} | {said} | {shown(before)} | {shown(cost)} | {told} |", flush=True)
+        print(f"| {make.__name__} {size:,} | {word} | {said} | {shown(before, words.instructions)} | {shown(cost, words.instructions)} | {told} |", flush=True)
     return wrong
 
 
 def main():
     reader = argparse.ArgumentParser(description=__doc__, usage=argparse.SUPPRESS, formatter_class=argparse.RawDescriptionHelpFormatter)
     reader.add_argument("program")
+    reader.add_argument("--instructions", action="store_true")
     reader.add_argument("--shapes", default=",".join(it.__name__ for it in SIZES))
     reader.add_argument("--rounds", type=int, default=3)
     reader.add_argument("--seconds", type=int, default=120)

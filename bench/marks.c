@@ -2,6 +2,8 @@
 // had written by then and what processor time it had used, in nanoseconds. Where MARKS_MEMORY is set it tells in place of
 // the time how many bytes of memory were in use, and how many had been resident at most; and tells that at the end, too.
 // Of a long part the last byte is left for another one then: it is written once the program has given the text up.
+// Where MARKS_DUMPS has numbers of parts, from 0 (as `,0,12,`), it tells nothing, but has callgrind dump what it counted
+// before each of these.
 #define _GNU_SOURCE
 #include <fcntl.h>
 #include <malloc.h>
@@ -11,6 +13,11 @@
 #include <sys/syscall.h>
 #include <time.h>
 #include <unistd.h>
+#if __has_include(<valgrind/callgrind.h>)
+#include <valgrind/callgrind.h>
+#else
+#define CALLGRIND_DUMP_STATS
+#endif
 static const size_t long_part = 65536;
 static unsigned long lines;
 static unsigned long most_resident(void) {
@@ -37,13 +44,23 @@ static void tell(int of_memory) {
     int long_is = of_memory ? memory(text, sizeof text) : used(text, sizeof text);
     if (teller) syscall(SYS_write, atoi(teller), text, long_is);
 }
+static void dump(const char *dumps) {
+    static unsigned long part;
+    char word[24];
+    snprintf(word, sizeof word, ",%lu,", part++);
+    if (strstr(dumps, word)) {
+        CALLGRIND_DUMP_STATS;
+    }
+}
 __attribute__((destructor)) static void end(void) {
     if (getenv("MARKS_MEMORY")) tell(1);
 }
 ssize_t write(int file, const void *bytes, size_t count) {
     if (file == 1) {
         int of_memory = getenv("MARKS_MEMORY") != 0;
-        tell(of_memory);
+        const char *dumps = getenv("MARKS_DUMPS");
+        if (dumps) dump(dumps);
+        else tell(of_memory);
         if (of_memory && count > long_part) count--;
         for (size_t at = 0; at < count; at++) lines += ((const char *)bytes)[at] == '\n';
     }
