@@ -6,4 +6,4 @@ pub mod Seen
 pub mod Trying
 pub mod Turns
 pub mod Walking
-pub use Rattle.patterns_indexed.proofs.of_rewriter_bench
+pub use Rattle.rewriter.proofs as of_rewriter_bench

@@ -1,8 +1,8 @@
 -- A conversion is the machine's transformation.
 use Rattle.std.proofs.Common.{◌≡◌, refl, ap, sym, ◌∙◌, inl, inr, ℕ, Result, Ok, Err}
 use Rattle.ir_event.specs.Listener.{Listener}
-use Rattle.patterns_indexed.proofs.of_rewriter_bench.Together.{Ages}
-use Rattle.patterns_indexed.specs.rewriter_bench.Machine.{Answer, Change, Converted, DoneWith, Goes, IsAnswer, IsUnmade, Nothing, State, due_change, fault_reply}
+use Rattle.rewriter.proofs.Together.{Ages}
+use Rattle.rewriter.specs.Machine.{Answer, Change, Converted, DoneWith, Goes, IsAnswer, IsUnmade, Nothing, State, due_change, fault_reply}
 use Rattle.patterns_indexed.specs.Benched.{Benched, Led, state_of}
 use Rattle.patterns_indexed.specs.Held.{module_held, open_marks}
 use Rattle.conversion_base.specs.Conversion.{Ended, converted, given_up, conversion_of}

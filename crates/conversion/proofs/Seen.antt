@@ -13,10 +13,10 @@ use Rattle.ir_tree_laws.proofs.Contents.{map_has_id}
 use Rattle.ir_event.specs.Listener.{Listener}
 use Rattle.ir_event.specs.Modules.{Module, module_in, module_meaning}
 use Rattle.ir_event.specs.declared.world.World.{World}
-use Rattle.patterns_indexed.proofs.of_rewriter_bench.Calls.{stepped, unstepped}
-use Rattle.patterns_indexed.proofs.of_rewriter_bench.Told.{heard_none}
-use Rattle.patterns_indexed.specs.rewriter_bench.Machine.{Goes, Nothing, Step}
-use Rattle.patterns_indexed.specs.rewriter_bench.Wholes.{IsFinished}
+use Rattle.rewriter.proofs.Calls.{stepped, unstepped}
+use Rattle.rewriter.proofs.Told.{heard_none}
+use Rattle.rewriter.specs.Machine.{Goes, Nothing, Step}
+use Rattle.rewriter.specs.Wholes.{IsFinished}
 use Rattle.patterns_indexed.specs.Interned.{IsFull as AddedFull}
 use Rattle.patterns_indexed.specs.Applied.{Applied, Gave, IsReason}
 use Rattle.patterns_indexed.specs.Benched.{Benched, Led, reply_of, state_of}

@@ -1,8 +1,8 @@
 -- Conversion as a transformation, and how it is replied to.
 use Rattle.std.specs.Prelude.{ℕ, true, Result, Ok, Err}
 use Rattle.ir_event.specs.Modules.{Module}
-use Rattle.patterns_indexed.specs.rewriter_bench.Commands.{Target}
-use Rattle.patterns_indexed.specs.rewriter_bench.Machine.{Converted, DoneWith, Fault as Because, Outcome, Reply, Transformation, fault_reply}
+use Rattle.rewriter.specs.Commands.{Target}
+use Rattle.rewriter.specs.Machine.{Converted, DoneWith, Fault as Because, Outcome, Reply, Transformation, fault_reply}
 use Rattle.conversion_base.specs.Conversion.{Ended, converted, given_up, conversion_of}
 use Rattle.conversion_base.specs.Targets.{Aim}
 use Rattle.conversion.specs.declared.fault.Fault.{Fault}

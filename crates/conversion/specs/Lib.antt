@@ -1,3 +1,4 @@
+pub mod Told
 pub mod States
 pub mod Benches
 pub mod Converting
@@ -6,4 +7,4 @@ pub use Rattle.conversion_base.specs.Legalization
 pub use Rattle.conversion_base.specs.Reconciling
 pub use Rattle.conversion_base.specs.Conversion
 pub use Rattle.conversion_base.specs.Rewrites
-pub use Rattle.patterns_indexed.specs.rewriter_bench
+pub use Rattle.rewriter.specs as rewriter_bench

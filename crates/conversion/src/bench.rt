@@ -22,10 +22,10 @@ use ir_tree::limits::MOST_OPS;
 use ir_types::ids::OpId;
 use ir_types::refusal::Refusal;
 use patterns_indexed::apply::apply;
-use patterns_indexed::rewriter_bench::finish::finish;
 use patterns_indexed::runs::Bench;
 use patterns_indexed::runs::carry::carry_whole;
 use patterns_indexed::runs::edit::Edit;
+use rewriter::finish::finish;
 use std::alloc::Global;
 
 /// Why a module can't have an operation more, if it can't: it would be too full, or no id is left.

@@ -1,8 +1,8 @@
 //! Dialect conversion of the module of a bench.
 ghost use Rattle.std.specs.Prelude.{◌≡◌, true, OnOk};
 ghost use Rattle.ir_types.specs.Things.{Grows};
-ghost use Rattle.patterns_indexed.specs.rewriter_bench.Machine.{Change};
-ghost use Rattle.patterns_indexed.specs.rewriter_bench.Benched.{Does, Led};
+ghost use Rattle.rewriter.specs.Machine.{Change};
+ghost use Rattle.rewriter.specs.Benched.{Does, Led};
 ghost use Rattle.patterns_indexed.specs.Held.{module_held};
 ghost use Rattle.conversion_base.specs.Conversion.{conversion_of, has_no_cast};
 ghost use Rattle.conversion_base.specs.Targets.{IsNamedIn, aim_of};

@@ -12,4 +12,4 @@ mod rules;
 mod tried;
 
 pub use conversion_base::{laws, target};
-pub use patterns_indexed::rewriter_bench;
+pub use rewriter as rewriter_bench;

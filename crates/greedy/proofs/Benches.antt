@@ -22,9 +22,9 @@ use Rattle.ir_store_walks.specs.Following as walks
 use Rattle.ir_event.specs.Listener.{Listener}
 use Rattle.patterns.specs.Benched.{Benched, Led, Journaled}
 use Rattle.patterns.specs.Held.{Held, module_held, module_at, open_marks, open_mark}
-use Rattle.patterns_listing.specs.rewriter_bench.Journals.{before}
-use Rattle.patterns_listing.specs.rewriter_bench.Moves.{all_noted}
-use Rattle.patterns_listing.specs.rewriter_bench.Mark.{Mark}
+use Rattle.rewriter.specs.Journals.{before}
+use Rattle.rewriter.specs.Moves.{all_noted}
+use Rattle.rewriter.specs.Mark.{Mark}
 use Rattle.patterns_orders.proofs.Order.{after_at, after_past, second_there}
 use Rattle.greedy.specs.Benches.{Formed, Onward}
 use Rattle.greedy.specs.Work.{first_id, comes_next, following}

@@ -8,8 +8,8 @@ use Rattle.ir_event.specs.Listener.{Listener}
 use Rattle.ir_event.specs.Modules.{Module}
 use Rattle.rewriter_machine.specs.Machine.{State, Answer, Change, Reply, DoneWith, Refused, Nothing, due_change, IsAnswer}
 use Rattle.rewriter_machine.specs.Panels.{AllAge}
-use Rattle.patterns_listing.specs.rewriter_bench.Benched.{Benched, Does, state_of}
-use Rattle.patterns_listing.specs.rewriter_bench.Held.{module_held, open_marks}
+use Rattle.rewriter.specs.Benched.{Benched, Does, state_of}
+use Rattle.rewriter.specs.Held.{module_held, open_marks}
 use Rattle.patterns_base.specs.Canonicalization.{Canonical, stopped, canonical_from, canonicalization_of}
 use Rattle.greedy.specs.declared.outcome.Outcome.{Outcome as Ended}
 use Rattle.greedy.specs.declared.outcome.Outcome.TheVariants.{Converged, Limit}

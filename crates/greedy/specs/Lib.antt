@@ -1,3 +1,4 @@
+pub mod Told
 pub mod Outcomes
 pub mod Work
 pub mod Benches

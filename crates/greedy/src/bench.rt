@@ -20,9 +20,9 @@ use ir_types::ids::OpId;
 use ir_types::refusal::Refusal;
 use patterns::lowest::lowest;
 use patterns_listing::journal::touched;
-use patterns_listing::rewriter_bench::Bench;
-use patterns_listing::rewriter_bench::finish::finish;
-use patterns_listing::rewriter_bench::laws::led_benches_are_kept;
+use rewriter::Bench;
+use rewriter::finish::finish;
+use rewriter::laws::led_benches_are_kept;
 use std::alloc::Global;
 
 /// Whether an operation is the outermost one of a module: it is there, and none comes before it.
