@@ -1,12 +1,12 @@
 #!/usr/bin/env python3
-"""Times each word of a session (tools/session.py) over large modules: the seconds until a line that is typed is answered,
-and in brackets those of the program alone, both as processor time, the least of some rounds. What stands behind a `*` took
-more seconds by the clock than two.
+"""Times each word of a session (tools/session.py) over large modules: the seconds until a line that is typed is
+answered, and in brackets those of the program alone, both as processor time, the least of some rounds. Behind a `*` stand
+the seconds by the clock, where they are more than two.
 
 usage: bench/session_times.py [SIZE [ROUNDS [SHAPES]]]     (100000 operations, 3 rounds, all shapes)
 
-The program is the built one, or that of MLIR_WORK (tools/program.py). `--runs` prints how often it was run, and how many
-megabytes went in and out, in place of seconds."""
+The program is the built one, or that of MLIR_WORK (tools/program.py). `--runs` prints how often it was run, and how
+many megabytes went in and out, in place of seconds."""
 import contextlib
 import os
 import pathlib
@@ -123,7 +123,8 @@ def main(words):
                 found[shape].append(typed(shape, n, clock))
     print("| Typed | " + " | ".join(shapes) + " |\n|---|" + "---|" * len(shapes))
     for name in found[shapes[0]][0]:
-        print(f"| {name} | " + " | ".join(cell([it[name] for it in found[shape]], with_runs) for shape in shapes) + " |")
+        cells = (cell([it[name] for it in found[shape]], with_runs) for shape in shapes)
+        print(f"| {name} | " + " | ".join(cells) + " |")
 
 
 if __name__ == "__main__":

@@ -34,9 +34,9 @@ def margin(line):
 class Changes:
     """The lines that went between two listings, and those that came, in order; one that changed is told as both.
 
-    `parts` has a sign and places of each, `-` for those of the old listing. What is the same from the first line on isn't
-    searched, nor, where values are called alike, what is from the last on; and lines are named only where they may
-    differ, or are told."""
+    `parts` has a sign and places of each, `-` for those of the old listing. What is the same from the first line on
+    isn't searched, nor, where values are called alike, what is from the last on; and lines are named only where they
+    may differ, or are told."""
 
     def __init__(self, old, new):
         self.old, self.new, self.parts = old, new, []

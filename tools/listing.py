@@ -42,11 +42,12 @@ def numbering(key, first, last):
 
 
 class Run:
-    """A script that is put together and run; `room` is how many bytes longer it may be. Where it is bare the analyses are
-    dropped first, for speed: what edits do isn't theirs."""
+    """A script that is put together and run; `room` is how many bytes longer it may be. Where it is bare the analyses
+    are dropped first, for speed: what edits do isn't theirs."""
 
     def __init__(self, module, script, is_bare=True, key=KEY):
         self.module, self.key, self.parts, self.count, self.room = module, key, [], 0, MOST_SCRIPT
+        self.written = None
         self.add(*(f"detach {kind}" for kind in kinds() if is_bare), *script)
 
     def put(self, text, count):
@@ -86,8 +87,8 @@ class Run:
 
 
 class Names(dict):
-    """What a script calls values, by how they are printed: `%arg0` and `%arg0:` are an argument, `%5` is the result of the
-    sixth operation that has results, `%5#1` one of several, and `%5:2` all of them. `owners` has the numbers of these
+    """What a script calls values, by how they are printed: `%arg0` and `%arg0:` are an argument, `%5` is the result of
+    the sixth operation that has results, `%5#1` one of several, and `%5:2` all of them. `owners` has the numbers of these
     operations, in order. Names of results are made where they are asked for, or those of all single ones at once."""
 
     def __init__(self, owners, arguments):
@@ -141,8 +142,8 @@ class Listing:
     """The lines of a module as they were printed, `texts`, with a number in most; `count` is the next free number, or
     None where that isn't told, and `reply` what was replied to the line behind which the module was.
 
-    `keys` tells each line from all others: one that begins an operation by its number, another by the operation in whose
-    regions it is, and which region. So two listings can be compared. `names` has what a script calls values."""
+    `keys` tells each line from all others: one that begins an operation by its number, another by the operation in
+    whose regions it is, and which region. So two listings can be compared. `names` has what a script calls values."""
 
     def __init__(self, text, key, count, reply, more):
         self.texts, self.count, self.reply = text.split("\n") if text else [], count, reply
@@ -176,8 +177,8 @@ class Listing:
         return [line for begin in range(0, len(places), SOME) for line in self.some(places[begin:begin + SOME])]
 
     def some(self, places):
-        """The same for a few lines. Strings are left as they are: none of them has a quote in it, since that is printed by
-        its number."""
+        """The same for a few lines. Strings are left as they are: none of them has a quote in it, since that is printed
+        by its number."""
         parts = self.without_numbers("\n".join([self.texts[place] for place in places])).split('"')
         pieces = NAMED.split('"'.join(parts[::2]))
         pieces[1::2] = map(self.names.__getitem__, pieces[1::2])

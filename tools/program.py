@@ -85,8 +85,8 @@ class Written:
         self.status, self.text = status, text
 
     def reply(self, number):
-        """The reply to a command, without its number, and the text below it; both are empty where it isn't there. A line
-        below a reply begins with no digit."""
+        """The reply to a command, without its number, and the text below it; both are empty where it isn't there. A
+        line below a reply begins with no digit."""
         begin = self.text.find(f"\n{number} ") + 1
         if not begin and not self.text.startswith(f"{number} "):
             return "", ""

@@ -37,7 +37,7 @@ LOOKS = {"print", "report"}
 WITH_ANALYSES = {"report", "resync", "detach"}
 # Commands that edit what they don't name: behind them stands what they changed, up to so many lines.
 WITH_DIFF, MOST_DIFF = {"canon", "convert", "sweep"}, 60
-# So many operations they make mostly for each that there is, and so many besides; and so often a plain `canon` rewrites.
+# So many operations they make mostly for each that there is, and so many besides; so often a plain `canon` rewrites.
 MAKES, MADE_MOSTLY, LIMIT = {"canon": 2, "convert": 4}, 64, 1000
 # So many listings are kept.
 MOST_LISTINGS = 2

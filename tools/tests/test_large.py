@@ -1,5 +1,5 @@
-"""What makes a session fast over large modules: how often the program is run, listings that are made by one run, and what
-changed between two of them."""
+"""What makes a session fast over large modules: how often the program is run, two listings that are made by one run, and
+what changed between them."""
 import unittest
 import unittest.mock
 
@@ -8,7 +8,7 @@ from support import ROOT, changes, listing, program, session
 NAMES = sorted(file.stem for file in (ROOT / "examples").glob("*.mlir"))
 # The line that each example is rewritten by, with the one before it.
 REWRITES = {"canon": ("set-attr #1 k 1", "canon"), "sweep": ("set-attr #1 k 1", "sweep"),
-            "index": ("set-attr #1 k 1", "convert partial dynamic arith.constant,arith.addi,arith.muli,scf.for rules 28,29")}
+            "index": ("set-attr #1 k 1", "convert partial dynamic arith.constant,arith.addi,scf.for rules 28,29")}
 SUMS = "".join(f'%x{k} = "arith.addi"(%a, %a) : (i32, i32) -> i32\n' for k in range(40))
 CHAIN = f'%a = "test.a"() : () -> i32\n{SUMS}"test.use"(%x7, %x8) : (i32, i32) -> ()\n'.encode()
 
@@ -83,7 +83,7 @@ class Runs(unittest.TestCase):
         self.assertEqual(here.answer('insert end #0 0 "b"() : () -> ()'), ["ok #44"])
 
     def check_numbers(self):
-        """What is shown behind a rewriting line has a number at each operation, also where more are made than expected."""
+        """Looks whether each operation that is shown behind a rewriting line has a number."""
         for name, lines in REWRITES.items():
             here = begun(module(name))
             for line in lines:
