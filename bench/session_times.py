@@ -1,7 +1,7 @@
 #!/usr/bin/env python3
 """Times each word of a session (tools/session.py) over large modules: the seconds until a line that is typed is
-answered, and in brackets those of the program alone, both as processor time, the least of some rounds. Behind a `*` stand
-the seconds by the clock, where they are more than two.
+answered, and in brackets those of the program alone, both as processor time, the least of some rounds. Behind a `*`
+stand the seconds by the clock, where they are more than two.
 
 usage: bench/session_times.py [SIZE [ROUNDS [SHAPES]]]     (100000 operations, 3 rounds, all shapes)
 

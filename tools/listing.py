@@ -88,8 +88,8 @@ class Run:
 
 class Names(dict):
     """What a script calls values, by how they are printed: `%arg0` and `%arg0:` are an argument, `%5` is the result of
-    the sixth operation that has results, `%5#1` one of several, and `%5:2` all of them. `owners` has the numbers of these
-    operations, in order. Names of results are made where they are asked for, or those of all single ones at once."""
+    the sixth operation that has results, `%5#1` one of several, and `%5:2` all of them. `owners` has the numbers of
+    these operations, in order. Names of results are made where they are asked for, or those of all single ones at once."""
 
     def __init__(self, owners, arguments):
         super().__init__(arguments)

@@ -1,5 +1,5 @@
-"""What makes a session fast over large modules: how often the program is run, two listings that are made by one run, and
-what changed between them."""
+"""What makes a session fast over large modules: how often the program is run, two listings that are made by one run,
+and what changed between them."""
 import unittest
 import unittest.mock
 
