@@ -23,8 +23,8 @@ PROBE = 'insert end #0 0 "workbench.probe"() : () -> ()'
 KEY = "N."
 # Stands where an operation has no number.
 UNKNOWN = "?"
-# The lines that number so many operations are made once, and kept; and so many lines are named at once.
-PART, SOME = 4096, 512
+# So many lines are named at once.
+SOME = 512
 
 
 def unused_key(module, script):
@@ -35,10 +35,22 @@ def unused_key(module, script):
     return key
 
 
-@functools.lru_cache(maxsize=512)
+@functools.lru_cache(maxsize=4)
+def thousand(key):
+    """Lines for a thousand operations, with a `@` in place of what their numbers begin with."""
+    return "".join([f"set-attr #@{number:03} {key} @{number:03}\n" for number in range(1000)])
+
+
 def numbering(key, first, last):
     """Lines that set the number of each operation from `first` up to `last` as its attribute."""
-    return "".join([f"set-attr #{number} {key} {number}\n" for number in range(first, last)])
+    parts = []
+    for begins in range(first // 1000, last // 1000 + 1):
+        numbers = range(max(first, begins * 1000), min(last, begins * 1000 + 1000))
+        if begins and len(numbers) == 1000:
+            parts.append(thousand(key).replace("@", str(begins)))
+        else:
+            parts += [f"set-attr #{number} {key} {number}\n" for number in numbers]
+    return "".join(parts)
 
 
 class Run:
@@ -64,9 +76,7 @@ class Run:
     def add_listing(self, first, last):
         """Adds lines that print the module with the numbers from `first` up to `last`, and say the next free number;
         gives the number of the reply above the module."""
-        for begin in range(first, last, PART):
-            end = min(begin + PART, last)
-            self.put(numbering(self.key, begin, end), end - begin)
+        self.put(numbering(self.key, first, last), last - first)
         return self.add("print", PROBE) - 1
 
     def go(self):

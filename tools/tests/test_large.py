@@ -144,6 +144,11 @@ class Names(unittest.TestCase):
             line = f'"test.a"(){text} : () -> ()'
             self.assertEqual(begun(line.encode()).answer("at #1 0"), ["    #1    " + line.replace('"N"', "N")])
 
+    def test_numbering(self):
+        for first, last in ((0, 0), (0, 7), (990, 1010), (1000, 2000), (7, 3456), (99900, 101001)):
+            lines = "".join(f"set-attr #{number} N. {number}\n" for number in range(first, last))
+            self.assertEqual(listing.numbering("N.", first, last), lines)
+
     def test_the_key_is_typed(self):
         here = begun(CHAIN)
         here.answer("set-attr #42 N. unit")
