@@ -11,8 +11,8 @@ from program import MOST_SCRIPT, answered
 
 OPENED = re.compile(r"\((\{\}, )*\{$")
 NEXT_REGION = re.compile(r"\}, ((?:\{\}, )*)\{$")
-ARGUMENT = re.compile(r"%\w+:")
-NAMED = re.compile(r"(%[^,) ]+)")
+ARGUMENT = re.compile(r"%(\w+):")
+NAMED = re.compile(r"%([^,) ]+)")
 NEW = re.compile(r"ok #(\d+)")
 MARGIN = 6
 # Stands in place of an operation that a refusal names and that isn't in the module.
@@ -96,28 +96,26 @@ class Run:
         return Listing(text, self.key, self.free(printed + 1), self.written.reply(typed)[0], more)
 
 
-class Names(dict):
-    """What a script calls values, by how they are printed: `%arg0` and `%arg0:` are an argument, `%5` is the result of
-    the sixth operation that has results, `%5#1` one of several, and `%5:2` all of them. `owners` has the numbers of
-    these operations, in order. Names of results are made where they are asked for, or those of all single ones at once."""
+class Names:
+    """What a script calls values, by how they are printed behind the `%`: `arg0` and `arg0:` are an argument, `5` is the
+    result of the sixth operation that has results, `5#1` one of several, and `5:2` all of them. `owners` has the numbers
+    of these operations, in order, and `arguments` what those are called."""
 
     def __init__(self, owners, arguments):
-        super().__init__(arguments)
-        self.owners, self.arguments, self.is_made = owners, arguments, False
+        self.owners, self.arguments = owners, arguments
 
-    def make(self):
-        """Makes the names of all single results."""
-        if not self.is_made:
-            self.update(zip(map("%{}".format, range(len(self.owners))), map("%v{}.0".format, self.owners)))
-            self.is_made = True
+    def called(self, printed):
+        """What values are called."""
+        owners, arguments = self.owners, self.arguments
+        return [f"%v{owners[int(name)]}.0" if name.isdecimal() else arguments.get(name) or self.several(name)
+                for name in printed]
 
-    def __missing__(self, name):
-        result, _, count = name[1:].partition(":")
+    def several(self, name):
+        """What one of several results is called, or all of them are."""
+        result, _, count = name.partition(":")
         result, _, place = result.partition("#")
         number = self.owners[int(result)]
-        places = range(int(count)) if count else [place or 0]
-        self[name] = ", ".join([f"%v{number}.{place}" for place in places])
-        return self[name]
+        return ", ".join([f"%v{number}.{place}" for place in (range(int(count)) if count else [place])])
 
     def are_alike(self, other):
         """Whether what is printed alike is called alike."""
@@ -144,8 +142,8 @@ class Around:
         for place, region, text in self.inside:
             keys[place] = number, region, text[0]
             for at, name in enumerate(ARGUMENT.findall(text) if text[0] == "^" else ()):
-                names[name[:-1]] = f"%a{number}.{region}.{at}"
-                names[name] = names[name[:-1]] + ":"
+                names[name] = f"%a{number}.{region}.{at}"
+                names[name + ":"] = names[name] + ":"
 
 
 class Listing:
@@ -182,8 +180,6 @@ class Listing:
 
     def named(self, places):
         """The lines at some places, without numbers and with values as a script names them."""
-        if len(places) > SOME:
-            self.names.make()
         return [line for begin in range(0, len(places), SOME) for line in self.some(places[begin:begin + SOME])]
 
     def some(self, places):
@@ -191,7 +187,7 @@ class Listing:
         by its number."""
         parts = self.without_numbers("\n".join([self.texts[place] for place in places])).split('"')
         pieces = NAMED.split('"'.join(parts[::2]))
-        pieces[1::2] = map(self.names.__getitem__, pieces[1::2])
+        pieces[1::2] = self.names.called(pieces[1::2])
         parts[::2] = "".join(pieces).split('"')
         return '"'.join(parts).split("\n")
 

@@ -135,9 +135,9 @@ class Names(unittest.TestCase):
             self.assertEqual(firsts, [f"%{place}" for place in range(len(here.names.owners))])
 
     def test_several_and_arguments(self):
-        names = listing.Names(["3", "8"], {"%arg0": "%a1.0.0"})
-        self.assertEqual([names[name] for name in ("%0", "%1", "%1#2", "%1:2", "%arg0")],
-                         ["%v3.0", "%v8.0", "%v8.2", "%v8.0, %v8.1", "%a1.0.0"])
+        names = listing.Names(["3", "8"], {"arg0": "%a1.0.0"})
+        self.assertEqual(names.called(["0", "1#2", "1#0", "1:2", "arg0"]),
+                         ["%v3.0", "%v8.2", "%v8.0", "%v8.0, %v8.1", "%a1.0.0"])
 
     def test_numbers_among_other_attributes(self):
         for text in ("", " {A}", " {z}", " {A, z}", ' {A = {"N" = 1 : i64}, B = "%0, ", z}'):
