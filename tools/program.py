@@ -8,6 +8,7 @@ import re
 import shlex
 import subprocess
 import sys
+import tempfile
 
 ROOT = pathlib.Path(__file__).resolve().parent.parent
 BUILT = ROOT / "crates/mlir_work/out/mlir_work"
@@ -96,10 +97,14 @@ class Written:
 
 
 def written(text):
-    """The status of a run over an input, with --brief, and the text that it wrote."""
+    """The status of a run over an input, with --brief, and the text that it wrote. The input goes through a file, as a
+    whole: into a pipe it is written in pieces of a few kilobytes, each of which is waited for."""
     program, more = words()
     environment = {**PAGES, **os.environ, **more}
-    it = subprocess.run([*program, "--brief"], input=text, stdout=subprocess.PIPE, env=environment, check=False)
+    with tempfile.TemporaryFile() as given:
+        given.write(text)
+        given.seek(0)
+        it = subprocess.run([*program, "--brief"], stdin=given, stdout=subprocess.PIPE, env=environment, check=False)
     if it.returncode not in (0, 1, 3) or not it.stdout and it.returncode:
         raise Fault(f"{program[0]} wrote {len(it.stdout)} bytes and ended with status {it.returncode}")
     return it.returncode, it.stdout.decode("utf-8", "surrogateescape")
