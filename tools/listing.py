@@ -1,218 +1,259 @@
 """The module behind a script, with the number of each operation, and values as a script names them.
 
 `print` shows no numbers and names values anew, so the numbers are set as attributes, printed and cut out again: nothing
-here is worked out that the program doesn't say."""
-import bisect
+here is worked out that the program doesn't say. Where a module is large most is done by a few calls for all its lines,
+or for those that are shown: a call for each line takes longer than the program."""
 import functools
 import re
 
 from forms import kinds
-from program import MOST_SCRIPT, asked
+from program import MOST_SCRIPT, answered
 
 OPENED = re.compile(r"\((\{\}, )*\{$")
 NEXT_REGION = re.compile(r"\}, ((?:\{\}, )*)\{$")
-ARGUMENT = re.compile(r"(%\w+):")
-NAMED = re.compile(r"(%\w+(?:[#:]\d+)?)")
+ARGUMENT = re.compile(r"%(\w+):")
+NAMED = re.compile(r"%([^,) ]+)")
+NEW = re.compile(r"ok #(\d+)")
 MARGIN = 6
 # Stands in place of an operation that a refusal names and that isn't in the module.
 MADE = "        (made on the way, and gone again)"
 # Its reply says the next free number. It is asked behind a script, and never kept.
 PROBE = 'insert end #0 0 "workbench.probe"() : () -> ()'
-
-
-def free_number(lines):
-    """The next free number, by what was written of a script with the probe behind it; None where that is refused."""
-    free = re.fullmatch(r"\d+ ok #(\d+)", lines[-1])
-    return int(free.group(1)) if free else None
+# The key of the attribute that has an operation's number: it is short, since it stands in each line.
+KEY = "N."
+# Stands where an operation has no number.
+UNKNOWN = "?"
+# So many lines are named at once.
+SOME = 512
 
 
 def unused_key(module, script):
     """A key that no text of the module or the script has."""
-    text = module.decode("utf-8", "replace") + "\n".join(script)
-    key = "workbench.id"
-    while key in text:
+    key = KEY
+    while key.encode() in module or any(key in line for line in script):
         key += "_"
     return key
 
 
-def cut(line, begins):
-    """A printed line without the entry that begins so, and the number that it says, or None."""
-    before, is_there, rest = line.partition(begins)
-    if not is_there:
-        return line, None
-    number, _, behind = rest.partition(" : i64")
-    if behind.startswith(", "):
-        return before + behind[2:], int(number)
-    if before.endswith(", "):
-        return before[:-2] + behind, int(number)
-    return before[:-2] + behind[1:], int(number)
+@functools.lru_cache(maxsize=4)
+def thousand(key):
+    """Lines for a thousand operations, with a `@` in place of what their numbers begin with."""
+    return "".join([f"set-attr #@{number:03} {key} @{number:03}\n" for number in range(1000)])
 
 
-def printed(module, script, begins, first, last):
-    """The reply to each line of the script; the lines of the module, those from `first` up to `last` with their number
-    in it, and none else; and the next free number. The analyses are dropped before, for speed."""
-    key = begins.partition(" ")[0]
-    numbering = [f"detach {kind}" for kind in kinds()]
-    numbering += [f"set-attr #{number} {key} {number}" for number in range(first, last)]
-    lines = asked(module, [*script, *numbering, "print", PROBE])[1]
-    return lines[:len(script)], lines[len(script) + len(numbering) + 1:-1], free_number(lines)
+def numbering(key, first, last):
+    """Lines that set the number of each operation from `first` up to `last` as its attribute."""
+    parts = []
+    for begins in range(first // 1000, last // 1000 + 1):
+        numbers = range(max(first, begins * 1000), min(last, begins * 1000 + 1000))
+        if begins and len(numbers) == 1000:
+            parts.append(thousand(key).replace("@", str(begins)))
+        else:
+            parts += [f"set-attr #{number} {key} {number}\n" for number in numbers]
+    return "".join(parts)
+
+
+class Run:
+    """A script that is put together and run; `room` is how many bytes longer it may be. Where it is bare the analyses
+    are dropped first, for speed: what edits do isn't theirs."""
+
+    def __init__(self, module, script, is_bare=True, key=KEY):
+        self.module, self.key, self.parts, self.count, self.room = module, key, [], 0, MOST_SCRIPT
+        self.written = None
+        self.add(*(f"detach {kind}" for kind in kinds() if is_bare), *script)
+
+    def put(self, text, count):
+        """Adds a text of so many lines."""
+        self.parts.append(text)
+        self.count += count
+        self.room -= len(text) if text.isascii() else len(text.encode("utf-8", "surrogateescape"))
+
+    def add(self, *lines):
+        """Adds lines, and gives the number of the last one's reply."""
+        self.put("".join([line + "\n" for line in lines]), len(lines))
+        return self.count
+
+    def add_listing(self, first, last):
+        """Adds lines that print the module with the numbers from `first` up to `last`, and say the next free number;
+        gives the number of the reply above the module."""
+        self.put(numbering(self.key, first, last), last - first)
+        return self.add("print", PROBE) - 1
+
+    def go(self):
+        """Runs it."""
+        self.written = answered(self.module, "".join(self.parts))
+        return self
+
+    def free(self, number):
+        """The next free number, by the reply to the probe; None where that was refused."""
+        found = NEW.fullmatch(self.written.reply(number)[0])
+        return found and int(found.group(1))
+
+    def listing(self, typed, printed, more=None):
+        """The listing below a reply. The number of the reply to the line before the numbers is given too; and another
+        listing, of the same module, for numbers that this one hasn't."""
+        text = self.written.reply(printed)[1]
+        return Listing(text, self.key, self.free(printed + 1), self.written.reply(typed)[0], more)
+
+
+class Names:
+    """What a script calls values, by how they are printed behind the `%`: `arg0` and `arg0:` are an argument, `5` is the
+    result of the sixth operation that has results, `5#1` one of several, and `5:2` all of them. `owners` has the numbers
+    of these operations, in order, and `arguments` what those are called."""
+
+    def __init__(self, owners, arguments):
+        self.owners, self.arguments = owners, arguments
+
+    def called(self, printed):
+        """What values are called."""
+        owners, arguments = self.owners, self.arguments
+        return [f"%v{owners[int(name)]}.0" if name.isdecimal() else arguments.get(name) or self.several(name)
+                for name in printed]
+
+    def several(self, name):
+        """What one of several results is called, or all of them are."""
+        result, _, count = name.partition(":")
+        result, _, place = result.partition("#")
+        number = self.owners[int(result)]
+        return ", ".join([f"%v{number}.{place}" for place in (range(int(count)) if count else [place])])
+
+    def are_alike(self, other):
+        """Whether what is printed alike is called alike."""
+        return self.owners == other.owners and self.arguments == other.arguments
+
+
+class Around:
+    """An operation while its regions are read: the place of its first line, the number of the region that is read, and
+    the lines that end a region or name the arguments of its block."""
+
+    def __init__(self, place, text):
+        self.place, self.region, self.inside = place, OPENED.search(text).group().count("{}"), []
+
+    def take(self, place, text):
+        """Takes a line that ends a region, and may begin another, or that names the arguments of a block."""
+        self.inside.append((place, self.region, text))
+        following = NEXT_REGION.match(text)
+        if following:
+            self.region += 1 + following.group(1).count("{}")
+
+    def end(self, number, keys, names):
+        """Tells the keys of its lines, and what a script calls the arguments, once its number is there."""
+        keys[self.place] = number
+        for place, region, text in self.inside:
+            keys[place] = number, region, text[0]
+            for at, name in enumerate(ARGUMENT.findall(text) if text[0] == "^" else ()):
+                names[name] = f"%a{number}.{region}.{at}"
+                names[name + ":"] = names[name] + ":"
+
+
+class Listing:
+    """The lines of a module as they were printed, `texts`, with a number in most; `count` is the next free number, or
+    None where that isn't told, and `reply` what was replied to the line behind which the module was.
+
+    `keys` tells each line from all others: one that begins an operation by its number, another by the operation in
+    whose regions it is, and which region. So two listings can be compared. `names` has what a script calls values."""
+
+    def __init__(self, text, key, count, reply, more):
+        self.texts, self.count, self.reply = text.split("\n") if text else [], count, reply
+        self.begins = begins = f"{key} = "
+        found = iter(re.findall(re.escape(begins) + "([0-9]+)", text))
+        self.numbers = [next(found) if begins in line else UNKNOWN for line in self.texts]
+        if more:
+            both = zip(self.numbers, more.numbers)
+            self.numbers = [other if number == UNKNOWN else number for number, other in both]
+        heads, self.keys, arguments = [line.lstrip(" ") for line in self.texts], list(self.numbers), {}
+        self.read_regions(heads, arguments)
+        self.names = Names([key for key, head in zip(self.keys, heads) if head[0] == "%"], arguments)
+
+    def read_regions(self, heads, arguments):
+        """Sets the keys of operations with regions, and of the lines of these, and what arguments are called. Such an
+        operation has its number in the line where they end."""
+        opened = []
+        for place in [place for place, head in enumerate(heads) if head[-1] == "{" or head[0] in "}^"]:
+            head = heads[place]
+            if head[0] not in "}^":
+                opened.append(Around(place, head))
+                continue
+            opened[-1].take(place, head)
+            if head[0] == "}" and head[-1] != "{":
+                opened.pop().end(self.numbers[place], self.keys, arguments)
+
+    def named(self, places):
+        """The lines at some places, without numbers and with values as a script names them."""
+        return [line for begin in range(0, len(places), SOME) for line in self.some(places[begin:begin + SOME])]
+
+    def some(self, places):
+        """The same for a few lines. Strings are left as they are: none of them has a quote in it, since that is printed
+        by its number."""
+        parts = self.without_numbers("\n".join([self.texts[place] for place in places])).split('"')
+        pieces = NAMED.split('"'.join(parts[::2]))
+        pieces[1::2] = self.names.called(pieces[1::2])
+        parts[::2] = "".join(pieces).split('"')
+        return '"'.join(parts).split("\n")
+
+    def without_numbers(self, text):
+        """Printed lines without the attributes that number their operations. Most have no others."""
+        stamp = re.escape(self.begins) + "[0-9]+ : i64"
+        text = re.sub(rf" \{{{stamp}\}}", "", text)
+        return re.sub(f"{stamp}, |, {stamp}", "", text) if self.begins in text else text
+
+    def shown(self, places):
+        """The lines at some places as `ids` shows them: beside each the number of the operation that begins in it."""
+        keys = [self.keys[place] for place in places]
+        margins = [("" if isinstance(key, tuple) else "#" + key).rjust(MARGIN) for key in keys]
+        return [margin + "  " + line for margin, line in zip(margins, self.named(places))]
+
+    def lines(self):
+        """All lines as `ids` shows them."""
+        return self.shown(range(len(self.texts)))
+
+    def near(self, number, lines):
+        """The lines around that of an operation, or None where it isn't in the module."""
+        if str(number) not in self.keys:
+            return None
+        place = self.keys.index(str(number))
+        return self.shown(range(max(place - lines, 0), min(place + lines + 1, len(self.texts))))
 
 
 def numbered(module, script, bound):
-    """The reply to each line of the script; the lines of the module, and beside each the number that stands in it, where
-    that is below the bound; and the next free number."""
-    begins = unused_key(module, script) + " = "
-    taken = sum(len(line.encode("utf-8", "replace")) + 1 for line in script)
-    most = max((MOST_SCRIPT - taken - 200) // (len(begins) + 40), 1)
-    numbers = []
+    """The listing of a module behind a script, with the numbers below a bound, by as many runs as they want."""
+    key, found = unused_key(module, script), None
+    room = Run(module, [*script, "print", PROBE], key=key).room
+    most = max(room // len(numbering(key, bound, bound + 1)), 1)
     for first in range(0, bound, most):
-        replies, lines, free = printed(module, script, begins, first, min(first + most, bound))
-        pairs = [cut(line, begins) for line in lines]
-        olds = numbers or [None] * len(pairs)
-        numbers = [number if old is None else old for (_, number), old in zip(pairs, olds)]
-    return replies, [line for line, _ in pairs], numbers, free
+        run = Run(module, script, key=key)
+        typed = run.count
+        printed = run.add_listing(first, min(first + most, bound))
+        found = run.go().listing(typed, printed, found)
+    return found
+
+
+def whole(found, module, script, bound):
+    """A listing with the numbers below a bound, or in its place one with all, where some aren't."""
+    return numbered(module, script, found.count) if found.count and found.count > bound else found
 
 
 def listed(module, script, bound):
     """The listing of a module behind a script. Most numbers are below the bound; where one isn't it takes two runs."""
-    found = Listing(module, script, bound)
-    return found if found.count <= bound else Listing(module, script, found.count)
+    return whole(numbered(module, script, bound), module, script, bound)
 
 
-class Listing:
-    """The lines of a module as `ids` shows them; `replies` has the reply to each line of the script, each of which has to
-    write one line, and `count` is the next free number.
-
-    `keys` tells each line from all others: one that begins an operation by its number, another by the operation in
-    whose regions it is, and which region; and all by how far they are indented. So two listings can be compared."""
-
-    def __init__(self, module, script, bound):
-        self.replies, self.texts, numbers, free = numbered(module, script, bound)
-        self.count = free or bound
-        self.keys, self.places, self.names = [], {}, {}
-        self.around = []
-        for place, (line, owner) in enumerate(zip(self.texts, owners_of(self.texts, numbers))):
-            text = line.lstrip(" ")
-            key = self.inside(text, owner) if text[0] in "}^" else self.begun(text, owner, place)
-            self.keys.append((key, len(line) - len(text)))
-
-    def inside(self, text, owner):
-        """The key of a line that ends a region of an operation, or names the arguments of its block."""
-        key = owner, self.around[-1][1], text[0]
-        if text[0] == "}":
-            self.go_on(text)
-        else:
-            names = ARGUMENT.findall(text)
-            self.names.update((name, f"%a{owner}.{key[1]}.{place}") for place, name in enumerate(names))
-        return key
-
-    def begun(self, text, owner, place):
-        """The key of a line that begins an operation."""
-        key = "?" if owner is None else owner
-        self.places[key] = place
-        if text[0] == "%":
-            name = text.partition(" = ")[0]
-            if ":" in name:
-                self.bind(*name.split(":"), key)
-            else:
-                self.names[name] = f"%v{key}.0"
-        if text[-1] == "{":
-            self.around.append([key, OPENED.search(text).group().count("{}")])
-        return key
-
-    def go_on(self, text):
-        """Goes from one region of an operation to its next, or out of its last one."""
-        region = NEXT_REGION.match(text)
-        if region:
-            self.around[-1][1] += 1 + region.group(1).count("{}")
-        else:
-            self.around.pop()
-
-    def bind(self, name, count, owner):
-        """Says how a script names the results of an operation that has several."""
-        values = [f"%v{owner}.{place}" for place in range(int(count))]
-        self.names[f"{name}:{count}"] = ", ".join(values)
-        self.names.update((f"{name}#{place}", value) for place, value in enumerate(values))
-
-    def shown(self, first, last):
-        """Lines as they are shown: the number of the operation that begins in each, and values as a script names them."""
-        numbers = ("" if isinstance(key, tuple) else f"#{key}" for key, _ in self.keys[first:last])
-        return [f"{number:>{MARGIN}}  {line}" for number, line in zip(numbers, self.named(first, last))]
-
-    def named(self, first, last):
-        """Lines with values as a script names them. Strings are left as they are: none of them has a quote in it, since
-        that is printed by its number."""
-        parts = "\n".join(self.texts[first:last]).split('"')
-        pieces = NAMED.split('"'.join(parts[::2]))
-        pieces[1::2] = [self.names.get(name, name) for name in pieces[1::2]]
-        parts[::2] = "".join(pieces).split('"')
-        return '"'.join(parts).split("\n")
-
-    @functools.cached_property
-    def lines(self):
-        """All lines as they are shown."""
-        return self.shown(0, len(self.texts))
-
-    def near(self, number, lines):
-        """The lines around that of an operation, or None where it isn't in the module."""
-        place = self.places.get(number)
-        if place is None:
-            return None
-        return self.shown(max(place - lines, 0), place + lines + 1)
+def both(module, script, line, bounds):
+    """The listings before a line and behind it, by one run: the numbers of the first are taken back with a mark. None
+    where no mark can be made, or the script would be too long."""
+    run = Run(module, script, key=unused_key(module, [*script, line]))
+    last, begun = run.count, run.add("begin")
+    before = run.add_listing(0, bounds[0])
+    typed = run.add("rollback", line)
+    behind = run.add_listing(0, bounds[1])
+    if run.room < 0 or run.go().written.reply(begun)[0] != "ok":
+        return None
+    return run.listing(last, before), run.listing(typed, behind)
 
 
-def owners_of(lines, numbers):
-    """For each line the number of the operation that it belongs to. An operation with regions has its number in the
-    line where they end."""
-    owners, opened = list(numbers), []
-    for place, line in enumerate(lines):
-        last, first = line[-1], line.lstrip(" ")[0]
-        if first == "}" and last != "{":
-            for inside in opened.pop() if opened else ():
-                owners[inside] = numbers[place]
-        elif first in "}^":
-            opened[-1].append(place)
-        elif last == "{":
-            opened.append([place])
-    return owners
-
-
-def common(old, new):
-    """The places in `new` of the keys that both have in one order: as many as possible, as pairs of places."""
-    places = {key: place for place, key in enumerate(new)}
-    pairs = [(place, places[key]) for place, key in enumerate(old) if key in places]
-    ends, chain, before = [], [], [None] * len(pairs)
-    for number, (_, place) in enumerate(pairs):
-        at = bisect.bisect_left(ends, place)
-        before[number] = chain[at - 1] if at else None
-        if at == len(ends):
-            ends.append(place)
-            chain.append(number)
-        else:
-            ends[at], chain[at] = place, number
-    kept, number = [], chain[-1] if chain else None
-    while number is not None:
-        kept.append(pairs[number])
-        number = before[number]
-    return kept[::-1]
-
-
-def alike(old, new):
-    """How many pairs of a key and a line are the same in both, from the first on."""
-    return next((place for place, (it, that) in enumerate(zip(old, new)) if it != that), min(len(old), len(new)))
-
-
-def changes(old, new):
-    """The lines that went between two listings, and those that came, in order; one that changed is told as both."""
-    old, new, out = list(zip(old.keys, old.lines)), list(zip(new.keys, new.lines)), []
-    first = alike(old, new)
-    old, new = old[first:], new[first:]
-    last = alike(old[::-1], new[::-1])
-    old, new, was, now = old[:len(old) - last], new[:len(new) - last], 0, 0
-    for old_place, new_place in common([key for key, _ in old], [key for key, _ in new]):
-        out += ["-" + line for _, line in old[was:old_place]]
-        out += ["+" + line for _, line in new[now:new_place]]
-        (_, before), (_, behind) = old[old_place], new[new_place]
-        out += ["-" + before, "+" + behind] if before != behind else []
-        was, now = old_place + 1, new_place + 1
-    return out + ["-" + line for _, line in old[was:]] + ["+" + line for _, line in new[now:]]
+def rewritten(module, script, line, bounds, known):
+    """The listings before a line, where that isn't known, and behind it. Most numbers are below the bounds."""
+    found = None if known else both(module, script, line, bounds)
+    behind = found[1] if found else numbered(module, [*script, line], bounds[1])
+    behind = whole(behind, module, [*script, line], bounds[1])
+    return known or (whole(found[0], module, script, bounds[0]) if found else listed(module, script, bounds[0])), behind

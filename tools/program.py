@@ -8,6 +8,7 @@ import re
 import shlex
 import subprocess
 import sys
+import tempfile
 
 ROOT = pathlib.Path(__file__).resolve().parent.parent
 BUILT = ROOT / "crates/mlir_work/out/mlir_work"
@@ -15,6 +16,8 @@ HELP = ROOT / "bench/help.txt"
 DIVIDER = b"// -----"
 MOST_SCRIPT = 16 * 1024 * 1024
 BLANKS = b" \t\r"
+# Pages of two megabytes, as ./run asks for them: a large module waits less for memory.
+PAGES = {"GLIBC_TUNABLES": "glibc.malloc.hugetlb=1"}
 REFUSED_MODULE = re.compile(r"module refused (\d+) (\w+)(?: at (\d+))?")
 REPLY = re.compile(r"(\d+) (.*)")
 
@@ -76,14 +79,46 @@ def counted(script):
     return [(place, line) for place, line in enumerate(script.split(b"\n"), 1) if is_counted(line)]
 
 
-def ran(text):
-    """The status of a run over an input, with --brief, and the lines that it wrote."""
+class Written:
+    """What a run wrote: its status, and its replies with what stands below them, as one text."""
+
+    def __init__(self, status, text):
+        self.status, self.text = status, text
+
+    def reply(self, number):
+        """The reply to a command, without its number, and the text below it; both are empty where it isn't there. A
+        line below a reply begins with no digit."""
+        begin = self.text.find(f"\n{number} ") + 1
+        if not begin and not self.text.startswith(f"{number} "):
+            return "", ""
+        line, end = self.text.find("\n", begin), self.text.find(f"\n{number + 1} ", begin)
+        end = len(self.text) - 1 if end < 0 else end
+        return self.text[begin:line].partition(" ")[2], self.text[line + 1:end]
+
+
+def written(text):
+    """The status of a run over an input, with --brief, and the text that it wrote. The input goes through a file, as a
+    whole: into a pipe it is written in pieces of a few kilobytes, each of which is waited for."""
     program, more = words()
-    environment = {**os.environ, **more}
-    it = subprocess.run([*program, "--brief"], input=text, stdout=subprocess.PIPE, env=environment, check=False)
+    environment = {**PAGES, **os.environ, **more}
+    with tempfile.TemporaryFile() as given:
+        given.write(text)
+        given.seek(0)
+        it = subprocess.run([*program, "--brief"], stdin=given, stdout=subprocess.PIPE, env=environment, check=False)
     if it.returncode not in (0, 1, 3) or not it.stdout and it.returncode:
         raise Fault(f"{program[0]} wrote {len(it.stdout)} bytes and ended with status {it.returncode}")
-    return it.returncode, it.stdout.decode("utf-8", "surrogateescape").splitlines()
+    return it.returncode, it.stdout.decode("utf-8", "surrogateescape")
+
+
+def ran(text):
+    """The status of a run over an input, with --brief, and the lines that it wrote."""
+    status, out = written(text)
+    return status, out.splitlines()
+
+
+def answered(module, script):
+    """What is written of a module, as bytes, and of a script, as text."""
+    return Written(*written(joined(module, script.encode("utf-8", "surrogateescape"))))
 
 
 def asked(module, lines):

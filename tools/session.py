@@ -15,7 +15,7 @@ Besides the commands of a script there are these, each on a line of its own:
   help         these words, and the commands of a script
   quit         the end, as that of the input is
 
-For each line all edits are run again: the program keeps nothing between two lines."""
+For each line all edits are run again, once: the program keeps nothing between two lines. What is listed is kept."""
 import pathlib
 import re
 import sys
@@ -26,32 +26,46 @@ sys.dont_write_bytecode = True
 import explain  # noqa: E402
 import mistakes  # noqa: E402
 import program  # noqa: E402
-from listing import MADE, PROBE, changes, free_number, listed  # noqa: E402
+from changes import Changes  # noqa: E402
+from listing import MADE, PROBE, Run, listed, rewritten  # noqa: E402
 
 PROMPT = "> "
 WIDTH = 100
 # Commands that change nothing, and so aren't run again.
 LOOKS = {"print", "report"}
+# Commands that want the analyses.
+WITH_ANALYSES = {"report", "resync", "detach"}
 # Commands that edit what they don't name: behind them stands what they changed, up to so many lines.
 WITH_DIFF, MOST_DIFF = {"canon", "convert", "sweep"}, 60
-# So many operations they make mostly, at least.
-MADE_MOSTLY = 4096
+# So many operations they make mostly for each that there is, and so many besides; so often a plain `canon` rewrites.
+MAKES, MADE_MOSTLY, LIMIT = {"canon": 2, "convert": 4}, 64, 1000
+# So many listings are kept.
+MOST_LISTINGS = 2
 # A script that is too long has one reply in place of one for each line.
-REFUSED = ("refused", [])
+REFUSED = ("refused 60 BadCommand", [])
 
 
-def cut_off(lines):
+def cut_off(changes):
     """The first lines of a difference, where it is long."""
-    if len(lines) > MOST_DIFF:
-        return [*lines[:MOST_DIFF], f".. {len(lines) - MOST_DIFF} more lines: `diff` has them"]
+    lines, more = changes.lines(MOST_DIFF), len(changes) - MOST_DIFF
+    if more > 0:
+        lines.append(f".. {more} more lines: `diff` has them")
     return lines or ["nothing changed"]
 
 
-class Entry:
-    """A line of the script that `save` writes, and whether it is run again with each further line."""
+def bound(line, count):
+    """Below what most numbers are behind a line, where the next free number before it is `count`."""
+    word, *words = line.split()
+    rewrites = int(words[-1]) if words and words[-1].isdecimal() else LIMIT
+    return count + MAKES.get(word, 0) * (min(count, rewrites) if word == "canon" else count) + MADE_MOSTLY
 
-    def __init__(self, line, is_kept):
-        self.line, self.is_kept = line, is_kept
+
+class Entry:
+    """A line of the script that `save` writes, whether it is run again with each further line, and the next free number
+    before it."""
+
+    def __init__(self, line, is_kept, count):
+        self.line, self.is_kept, self.count = line, is_kept, count
 
 
 class Session:
@@ -59,21 +73,24 @@ class Session:
 
     def __init__(self, module):
         self.module, self.entries, self.count = module, [], 1
-        self.last, self.seen = (None, None), None
+        self.listings, self.seen = {}, None
         self.words = {"ids": self.ids, "at": self.at, "diff": self.diff, "undo": self.undo, "save": self.save,
                       "help": self.help}
 
     def begin(self, script):
         """Takes over a script, and gives the status of its run, and the lines written."""
-        status, lines = program.ran(program.joined(self.module, script))
+        # In a text a `(` stands behind the name of each operation, mostly.
+        self.count = self.module.count(b'"(') + script.count(b'"(') + MADE_MOSTLY
+        status, lines = 0, []
+        if script or not self.listing().texts:
+            status, lines = program.ran(program.joined(self.module, script))
         if lines and lines[0].startswith("module refused"):
             return status, lines
         replies = iter(program.replies(lines))
         for line in script.rstrip(b"\n").split(b"\n") if script else []:
             is_kept = program.is_counted(line) and not next(replies, REFUSED)[0].startswith("refused")
             text = line.decode("utf-8", "surrogateescape")
-            self.entries.append(Entry(text, is_kept and text.split()[0] not in LOOKS))
-        self.run()
+            self.entries.append(Entry(text, is_kept and text.split()[0] not in LOOKS, self.count))
         self.seen = self.listing()
         return status, lines
 
@@ -81,37 +98,50 @@ class Session:
         """The edits that were typed and accepted."""
         return [entry.line for entry in self.entries if entry.is_kept]
 
-    def run(self, *typed):
+    def run(self, line):
         """Runs the edits and a line behind them, and gives its reply, and what is written below it."""
-        script = [*self.kept(), *typed]
-        lines = program.asked(self.module, [*script, PROBE])[1]
-        self.count = free_number(lines) or self.count
-        return program.replies(lines)[len(script) - 1] if typed else None
+        is_bare = line.split()[0] not in WITH_ANALYSES
+        run = Run(self.module, self.kept(), is_bare)
+        typed = run.add(line)
+        run.add(PROBE)
+        reply, below = run.go().written.reply(typed)
+        self.count = run.free(typed + 1) or self.count
+        return reply or REFUSED[0], below.splitlines()
+
+    def keep(self, lines, listing):
+        """Keeps the listing behind some edits, and forgets the oldest of too many."""
+        self.listings.pop(tuple(lines), None)
+        self.listings[tuple(lines)] = listing
+        for state in list(self.listings)[:-MOST_LISTINGS]:
+            del self.listings[state]
 
     def listing(self):
         """The module as it is, made once for each state."""
-        state = (self.count, *self.kept())
-        if self.last[0] != state:
-            self.last = state, listed(self.module, list(state[1:]), self.count)
-        return self.last[1]
+        lines = self.kept()
+        if tuple(lines) not in self.listings:
+            self.keep(lines, listed(self.module, lines, self.count))
+        found = self.listings[tuple(lines)]
+        self.count = found.count or self.count
+        return found
 
     def rewritten(self, line):
         """Runs a line that has a difference behind it, and gives its reply, and that difference."""
-        before, bound = self.listing(), self.count + max(self.count // 4, MADE_MOSTLY)
-        behind = listed(self.module, [*self.kept(), line], bound)
-        reply = (program.replies(behind.replies)[-1:] or [REFUSED])[0][0]
+        lines, bounds = self.kept(), (self.count, bound(line, self.count))
+        before, behind = rewritten(self.module, lines, line, bounds, self.listings.get(tuple(lines)))
+        self.keep(lines, before)
+        reply = behind.reply or REFUSED[0]
         if reply.startswith("refused"):
             return reply, []
-        self.count = behind.count
-        self.last = (self.count, *self.kept(), line), behind
-        return reply, cut_off(changes(before, behind))
+        self.count = behind.count or self.count
+        self.keep([*lines, line], behind)
+        return reply, cut_off(Changes(before, behind))
 
     def answer(self, line):
         """The lines that answer one that was typed."""
         line = line.strip(" \t\r\n")
         word, rest = (line.split(maxsplit=1) + ["", ""])[:2]
         if not line or line.startswith("//"):
-            self.entries += [Entry(line, False)] if line else []
+            self.entries += [Entry(line, False, self.count)] if line else []
             return []
         if word in self.words:
             return self.words[word](rest)
@@ -121,11 +151,11 @@ class Session:
 
     def command(self, line):
         """Runs a command of a script, and keeps it where it is accepted."""
-        word = line.split()[0]
+        word, count = line.split()[0], self.count
         reply, below = self.rewritten(line) if word in WITH_DIFF else self.run(line)
         if reply.startswith("refused"):
             return self.refused(reply, line.encode("utf-8", "surrogateescape"))
-        self.entries.append(Entry(line, word not in LOOKS))
+        self.entries.append(Entry(line, word not in LOOKS, count))
         return [reply, *below]
 
     def refused(self, reply, line):
@@ -140,11 +170,11 @@ class Session:
         reply, *rows = self.command(f"report {kind}")
         if reply != "ok":
             return [reply, *rows]
-        return [row for row in rows if not word or word in row.split()] or ["no rows"]
+        return [row for row in rows if word in row and (not word or word in row.split())] or ["no rows"]
 
     def ids(self, _):
         """The module with numbers."""
-        return self.listing().lines
+        return self.listing().lines()
 
     def at(self, rest):
         """The lines around an operation."""
@@ -157,16 +187,16 @@ class Session:
     def diff(self, _):
         """What changed since the last time."""
         old, self.seen = self.seen, self.listing()
-        return changes(old, self.seen) or ["nothing changed"]
+        return Changes(old, self.seen).lines() or ["nothing changed"]
 
     def undo(self, _):
         """Takes the last edit back, and what was looked at behind it."""
         places = [place for place, entry in enumerate(self.entries) if entry.is_kept]
         if not places:
             return ["there is no edit to take back"]
-        line, self.entries = self.entries[places[-1]].line, self.entries[:places[-1]]
-        self.run()
-        return [f"undone: {line.strip()}"]
+        entry, self.entries = self.entries[places[-1]], self.entries[:places[-1]]
+        self.count = entry.count
+        return [f"undone: {entry.line.strip()}"]
 
     def save(self, rest):
         """Writes what was typed and accepted."""
@@ -201,7 +231,7 @@ def typed():
 
 def say(lines):
     """Prints lines at once."""
-    sys.stdout.write("".join(line + "\n" for line in lines))
+    sys.stdout.write("\n".join([*lines, ""]))
     sys.stdout.flush()
 
 

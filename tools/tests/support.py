@@ -13,16 +13,17 @@ import program  # noqa: E402
 
 
 def referred(text):
-    """The status of a run by bench/reference, and the lines that it writes."""
+    """The status of a run by bench/reference, and the text that it writes."""
     from reference import script
     status, out = script.run(text, True)
-    return status, out.decode().splitlines()
+    return status, out.decode()
 
 
 if "MLIR_WORK" not in os.environ and not program.BUILT.exists():
     os.environ["MLIR_WORK"] = "reference"
-    program.ran = referred
+    program.written = referred
 
+import changes  # noqa: E402, F401
 import check_examples  # noqa: E402, F401
 import explain  # noqa: E402, F401
 import forms  # noqa: E402, F401
