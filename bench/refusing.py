@@ -2,6 +2,7 @@
 import os
 import pathlib
 import subprocess
+import tempfile
 
 SOURCE = pathlib.Path(__file__).with_name("refuse.c")
 ALL = 1 << 40
@@ -15,10 +16,14 @@ class Program:
         subprocess.run([os.environ.get("CC", "cc"), "-shared", "-fPIC", "-O1", "-o", self.library, str(SOURCE)], check=True)
 
     def told(self, text, number, words, more):
-        """What the library tells, and the status and what was written."""
+        """What the library tells, and the status and what was written. (The input is a file: of a pipe the program may read less at
+        once, and then its growths are other ones.)"""
         told, teller = os.pipe()
         env = {"LD_PRELOAD": self.library, "REFUSED_ALLOCATION": str(number), "REFUSED_TELL": str(teller), **more}
-        ended = subprocess.run([self.path, *words], input=text, capture_output=True, env=env, pass_fds=[teller], timeout=600)
+        with tempfile.TemporaryFile() as given:
+            given.write(text)
+            given.seek(0)
+            ended = subprocess.run([self.path, *words], stdin=given, capture_output=True, env=env, pass_fds=[teller], timeout=600)
         os.close(teller)
         said = os.read(told, 99)
         os.close(told)
