@@ -2,7 +2,7 @@
 use Rattle.std.specs.Prelude.{[], ◌++◌}
 use Rattle.ir_types.specs.Sound.{Holds}
 use Rattle.ir_event.specs.Listener.{Listener}
-use Rattle.conversion.specs.Told.{heard_none, heard_more}
+use Rattle.rewriter.proofs.Told.{heard_none, heard_more}
 use Rattle.patterns_indexed.specs.Benched.{Benched, Led}
 use Rattle.patterns_indexed.specs.Held.{module_held, open_marks}
 use Rattle.conversion.specs.States.{State}

@@ -1,4 +1,3 @@
-pub mod Told
 pub mod States
 pub mod Benches
 pub mod Converting

@@ -1,4 +1,3 @@
-pub mod Told
 pub mod Outcomes
 pub mod Work
 pub mod Benches

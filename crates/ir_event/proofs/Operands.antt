@@ -6,7 +6,7 @@ use Rattle.ir_store.specs.trees.declared.value.Value.{Value}
 use Rattle.ir_store.specs.trees.Tree.{HeadOf, OpOf, op, head}
 use Rattle.ir_store.specs.trees.Ids.{HasDistinctIds, find}
 use Rattle.ir_store.specs.trees.Edits.{each_head, at, put_operand, with_operand}
-use Rattle.ir_store.proofs.of_trees.Heads.{alike_operand, head_find}
+use Rattle.ir_tree.proofs.Heads.{alike_operand, head_find}
 use Rattle.ir_store.specs.tree_laws.Changes.{operand_at}
 use Rattle.ir_event.specs.Heads.{heads}
 use Rattle.ir_event.proofs.Flat.{first_head, heads_ids, found_head, each_twice, each_left, the_only}

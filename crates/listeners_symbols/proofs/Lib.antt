@@ -1,4 +1,4 @@
-pub mod Names
+pub mod Found
 pub mod Sizes
 pub mod Meant
 pub mod Local

@@ -1,5 +1,6 @@
 pub mod Roles
 pub mod Symbols
 pub mod Table
+pub mod Found
 pub mod Listeners
 pub mod Lines

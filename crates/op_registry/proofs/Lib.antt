@@ -1,3 +1,2 @@
 pub mod ByName
 pub mod TypeLists
-pub use Rattle.ir_types.proofs as of_types

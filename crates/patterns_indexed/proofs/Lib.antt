@@ -4,4 +4,3 @@ pub mod Lowered
 pub use Rattle.patterns.proofs.Bounds
 pub use Rattle.patterns.proofs.Carrying
 pub use Rattle.patterns_lowering.proofs.of_runs
-pub use Rattle.patterns_lowering.proofs.of_rewriter_bench

@@ -5,4 +5,3 @@ pub use Rattle.patterns.specs.Benched
 pub use Rattle.patterns.specs.Held
 pub use Rattle.patterns.specs.Rewrites
 pub use Rattle.patterns_lowering.specs.runs
-pub use Rattle.patterns_lowering.specs.rewriter_bench

@@ -6,4 +6,4 @@ mod carry;
 mod found;
 mod plan;
 
-pub use patterns_lowering::{rewriter_bench, runs};
+pub use patterns_lowering::runs;

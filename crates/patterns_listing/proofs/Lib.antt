@@ -6,4 +6,3 @@ mod Climbing
 mod Reaching
 mod Gathering
 mod Journaled
-pub use Rattle.rewriter.proofs as of_rewriter_bench

@@ -2,4 +2,3 @@ pub mod Shown
 pub mod Adding
 pub mod Parts
 pub use Rattle.patterns_touched.specs as touching
-pub use Rattle.rewriter.specs as rewriter_bench

@@ -10,5 +10,3 @@ mod push;
 mod reach;
 pub mod touched;
 mod users;
-
-pub use rewriter as rewriter_bench;

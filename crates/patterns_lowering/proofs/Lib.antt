@@ -17,4 +17,3 @@ pub mod Ruled
 pub mod Numbered
 pub mod Asked
 pub use Rattle.patterns_runs.proofs as of_runs
-pub use Rattle.patterns_runs.proofs.of_rewriter_bench

@@ -8,4 +8,3 @@ pub mod Numbers
 pub mod Counts
 pub use Rattle.patterns_regions.specs.reads
 pub use Rattle.patterns_runs.specs as runs
-pub use Rattle.patterns_runs.specs.rewriter_bench

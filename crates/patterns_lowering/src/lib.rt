@@ -25,4 +25,3 @@ mod users;
 
 pub use patterns_regions::reads;
 pub use patterns_runs as runs;
-pub use patterns_runs::rewriter_bench;

@@ -1,10 +1,10 @@
-use Rattle.std.proofs.Common.{◌≡◌, subst, map}
+use Rattle.std.proofs.Common.{◌≡◌, subst}
 use Rattle.std.specs.Prelude.{OnOk}
-use Rattle.listeners_symbols.specs.Table.{reference_meaning}
+use Rattle.listeners_symbols.specs.Found.{found_meaning}
 use Rattle.listeners_symbols.proofs.Meant.{dictionary_is}
 use Rattle.listeners_symbols.proofs.references.add_dictionary.Goals as goal
 
 pub returns-clause-added : goal.returns-clause-added
 returns-clause-added c =
     let ctx = c.args.ctx.now in
-    subst (λ l. OnOk c.add_entries.result (map (reference_meaning ctx) c.add_entries.new.out.items ≡ l)) (dictionary_is ctx c.args.entries.now (map (reference_meaning ctx) c.args.out.now.items)) c.add_entries.ensures.added
+    subst (λ l. OnOk c.add_entries.result (found_meaning ctx c.add_entries.new.out ≡ l)) (dictionary_is ctx c.args.entries.now (found_meaning ctx c.args.out.now)) c.add_entries.ensures.added
