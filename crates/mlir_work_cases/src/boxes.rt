@@ -48,25 +48,26 @@ pub fn status_of<R: Read, W: Write>(
     for name in names.split(',') {
         let (word, more) = name.split_once(':').unwrap_or((name, ""));
         let most = number(more);
-        match word {
-            "none" => {}
-            "symbols" => boxes.push(Box::new(alloc, AtMost::new(Symbols::new(alloc), most))?)?,
-            "diagnostics" => boxes.push(Box::new(alloc, Diagnostics::new(alloc))?)?,
-            "constants" => boxes.push(Box::new(alloc, Constants::new(alloc))?)?,
-            "effects" => boxes.push(Box::new(alloc, AtMost::new(Effects::new(alloc), most))?)?,
-            "dead" => boxes.push(Box::new(alloc, AtMost::new(Dead::new(alloc), most))?)?,
-            "unreached" => boxes.push(Box::new(alloc, AtMost::new(Unreached::new(alloc), most))?)?,
-            "additions" => boxes.push(Box::new(alloc, AdditionCount::new(alloc))?)?,
+        let listener: Box<dyn Analysis> = match word {
+            "none" => continue,
+            "symbols" => Box::new(alloc, AtMost::new(Symbols::new(alloc), most))?,
+            "diagnostics" => Box::new(alloc, Diagnostics::new(alloc))?,
+            "constants" => Box::new(alloc, Constants::new(alloc))?,
+            "effects" => Box::new(alloc, AtMost::new(Effects::new(alloc), most))?,
+            "dead" => Box::new(alloc, AtMost::new(Dead::new(alloc), most))?,
+            "unreached" => Box::new(alloc, AtMost::new(Unreached::new(alloc), most))?,
+            "additions" => Box::new(alloc, AdditionCount::new(alloc))?,
             "stale" => {
                 let plan = Plan::Until(most as usize);
-                boxes.push(Box::new(alloc, Witness::new(alloc, 9, plan))?)?;
+                Box::new(alloc, Witness::new(alloc, 9, plan))?
             }
             "hears" => {
                 let plan = wanted(alloc, more)?;
-                boxes.push(Box::new(alloc, Witness::new(alloc, 101, plan))?)?;
+                Box::new(alloc, Witness::new(alloc, 101, plan))?
             }
-            _ => boxes.push(Box::new(alloc, AtMost::new(Uses::new(alloc), most))?)?,
-        }
+            _ => Box::new(alloc, AtMost::new(Uses::new(alloc), most))?,
+        };
+        boxes.push(listener)?;
     }
     Ok(run(alloc, options, reader, writer, boxes))
 }
