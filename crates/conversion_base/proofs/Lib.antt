@@ -8,5 +8,6 @@ pub mod Makes
 pub mod Named
 pub mod Readings
 pub mod Recast
+pub mod Repeated
 pub mod Shown
 pub mod Unused

@@ -1,10 +1,9 @@
 -- Names by their numbers, and names that stand once.
-use Rattle.std.proofs.Common.{◌≡◌, refl, sym, ap, ◌∙◌, ℕ, ◌≤◌, ◌-◌, Bool, true, false, true≢false, not, ◌&&◌, ◌||◌, List, [], ◌∷◌, ◌++◌, append_assoc, append-nil, length, take, drop, get_or, inl, inr, arith}
-use Rattle.std.specs.Prelude.{◌==◌}
-use Rattle.std.specs.Cmp.{unsigned_Decides}
+use Rattle.std.proofs.Common.{◌≡◌, refl, sym, ap, ◌∙◌, ℕ, Bool, true, false, true≢false, not, ◌&&◌, ◌||◌, eqb, eq-eqb, eqb-true, List, [], ◌∷◌, ◌++◌, map, inl, inr}
+use Rattle.std.specs.List.{All, list_any}
 use Rattle.std.specs.Str.{bytes_eq}
-use Rattle.std.proofs.lemmas.List.{take_all}
-use Rattle.std.proofs.lemmas.List.Folds.{list_any-append}
+use Rattle.std.proofs.lemmas.List.Elements.{All-head, All-tail}
+use Rattle.std.proofs.lemmas.List.Folds.{list_all-append, list_any-append}
 use Rattle.ir_types.specs.Things.{Things, IsName}
 use Rattle.ir_types.specs.Terms.{name_term}
 use Rattle.ir_types.specs.Sound.{IsSound}
@@ -12,67 +11,71 @@ use Rattle.ir_types.proofs.Growth.{name_is, name_refl}
 use Rattle.ir_types.proofs.Terms.{name_term_one}
 use Rattle.ir_tree_laws.proofs.Listed.{bool_cases}
 use Rattle.patterns_base.specs.Words.{among}
-use Rattle.conversion_base.specs.Targets.{each_once}
-use Rattle.conversion_base.specs.Numbers.{once_before}
+use Rattle.conversion_base.specs.Targets.{Aim, each_once, names_of}
+use Rattle.conversion_base.specs.Numbers.{are_apart, lists_apart, lists_once}
+use Rattle.conversion_base.specs.Repeats.{stands_twice}
 
--- two names are one where their numbers are
-pub same_numbers : (c : Things) (m n : ℕ) → IsSound c → IsName c m → IsName c n → (m == n) ≡ bytes_eq (name_term c m) (name_term c n)
-same_numbers c m n sound h k = go (bytes_eq (name_term c m) (name_term c n)) refl
-  where
-    go : (b : Bool) → bytes_eq (name_term c m) (name_term c n) ≡ b → (m == n) ≡ bytes_eq (name_term c m) (name_term c n)
-    go true e = (unsigned_Decides m n).1 (name_term_one c m n sound h k (name_is (name_term c m) (name_term c n) e)) ∙ sym e
-    go false e = elim (bool_cases (m == n)) [
-      | inr f ↦ f ∙ sym e
-      | inl f ↦ absurd (true≢false (sym (name_refl (name_term c m)) ∙ ap (λ z. bytes_eq (name_term c m) (name_term c z)) ((unsigned_Decides m n).0 f) ∙ e))
-    ]
+module _ (c : Things) (sound : IsSound c) where
+  -- two names are one where their numbers are
+  same_numbers : (m n : ℕ) → IsName c m → IsName c n → eqb m n ≡ bytes_eq (name_term c m) (name_term c n)
+  same_numbers m n h k = go (bytes_eq (name_term c m) (name_term c n)) refl
+    where
+      go : (b : Bool) → bytes_eq (name_term c m) (name_term c n) ≡ b → eqb m n ≡ bytes_eq (name_term c m) (name_term c n)
+      go true e = eq-eqb m n (name_term_one c m n sound h k (name_is (name_term c m) (name_term c n) e)) ∙ sym e
+      go false e = elim (bool_cases (eqb m n)) [
+        | inr f ↦ f ∙ sym e
+        | inl f ↦ absurd (true≢false (sym (name_refl (name_term c m)) ∙ ap (λ z. bytes_eq (name_term c m) (name_term c z)) (eqb-true m n f) ∙ e))
+      ]
 
-and_all : (a b c : Bool) → ((a && b) && c) ≡ (a && (b && c))
-and_all true b c = refl
-and_all false b c = refl
+  -- a name among names
+  pub same_among : (n : ℕ) (ns : List ℕ) → IsName c n → All (IsName c) ns → list_any (eqb n) ns ≡ among (map (name_term c) ns) (name_term c n)
+  same_among n [] h a = refl
+  same_among n (m ∷ ns) h a = λ i. same_numbers n m h (All-head (IsName c) m ns a) i || same_among n ns h (All-tail (IsName c) m ns a) i
 
-pub once_joined : (ns ms : List (List ℕ)) → each_once (ns ++ ms) ≡ (once_before ns ms && each_once ms)
+  -- none stands twice where each stands once
+  pub same_once : (ns : List ℕ) → All (IsName c) ns → not (stands_twice ns) ≡ each_once (map (name_term c) ns)
+  same_once [] a = refl
+  same_once (n ∷ ns) a =
+      not_either (list_any (eqb n) ns) (stands_twice ns)
+      ∙ (λ i. not (same_among n ns (All-head (IsName c) n ns a) (All-tail (IsName c) n ns a) i) && same_once ns (All-tail (IsName c) n ns a) i)
+    where
+      not_either : (a b : Bool) → not (a || b) ≡ (not a && not b)
+      not_either true b = refl
+      not_either false b = refl
+
+-- names of two lists
+once_joined : (ns ms : List (List ℕ)) → each_once (ns ++ ms) ≡ (each_once ns && (are_apart ns ms && each_once ms))
 once_joined [] ms = refl
-once_joined (n ∷ ns) ms = ap (λ b. not (among (ns ++ ms) n) && b) (once_joined ns ms) ∙ sym (and_all (not (among (ns ++ ms) n)) (once_before ns ms) (each_once ms))
-
-nothing_behind : (ns : List (List ℕ)) → once_before ns [] ≡ each_once ns
-nothing_behind [] = refl
-nothing_behind (n ∷ ns) = (λ i. not (among (append_none ns i) n) && nothing_behind ns i)
+once_joined (n ∷ ns) ms =
+    (λ i. not (list_any-append (bytes_eq n) ns ms i) && once_joined ns ms i)
+    ∙ go (among ns n) (among ms n) (each_once ns) (are_apart ns ms) (each_once ms)
   where
-    append_none : (xs : List (List ℕ)) → xs ++ [] ≡ xs
-    append_none [] = refl
-    append_none (x ∷ xs) = ap (λ ys. x ∷ ys) (append_none xs)
+    go : (a b c d e : Bool) → (not (a || b) && (c && (d && e))) ≡ ((not a && c) && ((not b && d) && e))
+    go true b c d e = refl
+    go false true true d e = refl
+    go false true false d e = refl
+    go false false c d e = refl
 
-pub among_joined : (ns ms : List (List ℕ)) (n : List ℕ) → among (ns ++ ms) n ≡ (among ns n || among ms n)
-among_joined ns ms n = list_any-append (bytes_eq n) ns ms
-
--- those of two more lists
-pub all_once : (a b c : List (List ℕ)) → (once_before a (b ++ c) && (once_before b c && each_once c)) ≡ each_once (a ++ b ++ c)
-all_once a b c = ap (λ x. once_before a (b ++ c) && x) (sym (once_joined b c)) ∙ sym (once_joined a (b ++ c)) ∙ ap each_once (sym (append_assoc a b c))
-
-module _ (a b c : List (List ℕ)) (r : Bool) (first : r ≡ once_before a (b ++ c)) where
-  pub twice_first : r ≡ false → false ≡ each_once (a ++ b ++ c)
-  twice_first e = sym (ap (λ x. x && (once_before b c && each_once c)) (sym first ∙ e)) ∙ all_once a b c
-
-  module _ (yes : r ≡ true) (s : Bool) (second : s ≡ once_before b (c ++ [])) where
-    one : s ≡ once_before b c
-    one = second ∙ ap (once_before b) (append-nil c)
-
-    so : (once_before b c && each_once c) ≡ each_once (a ++ b ++ c)
-    so = sym (ap (λ x. x && (once_before b c && each_once c)) (sym first ∙ yes)) ∙ all_once a b c
-
-    pub twice_second : s ≡ false → false ≡ each_once (a ++ b ++ c)
-    twice_second e = sym (ap (λ x. x && each_once c) (sym one ∙ e)) ∙ so
-
-    pub once_third : s ≡ true → (t : Bool) → t ≡ once_before c ([] ++ []) → t ≡ each_once (a ++ b ++ c)
-    once_third e t third = third ∙ ap (once_before c) (append-nil []) ∙ nothing_behind c ∙ sym (ap (λ x. x && each_once c) (sym one ∙ e)) ∙ so
-
--- one that stands once among more
-pub once_step : (ns ms ks : List (List ℕ)) (n : List ℕ) → among ns n ≡ false → among ms n ≡ false → among ks n ≡ false → once_before (n ∷ ns) (ms ++ ks) ≡ once_before ns (ms ++ ks)
-once_step ns ms ks n e f g = ap (λ b. not b && once_before ns (ms ++ ks)) (among_joined ns (ms ++ ks) n ∙ (λ i. e i || among_joined ms ks n i) ∙ (λ i. f i || g i))
-
--- a list that isn't empty
-pub rest_at : (xs : List ℕ) (x : ℕ) → 1 ≤ length xs → x ≡ get_or xs 0 x → xs ≡ x ∷ take (length xs - 1) (drop 1 xs)
-rest_at [] x l is = absurd (omega (arith, l))
-rest_at (y ∷ xs) x l is =
-    let e : length (y ∷ xs) - 1 ≡ length xs = omega arith in
-    (λ i. sym is i ∷ xs) ∙ ap (λ ys. x ∷ ys) (sym (ap (λ n. take n xs) e ∙ take_all (length xs) xs (omega arith)))
+-- names of the three of a target
+pub all_once : (g : Aim) → (lists_once g && lists_apart g) ≡ each_once (names_of g)
+all_once g =
+    let a = g.legal in
+    let b = g.illegal in
+    let c = g.dynamic in
+    go (each_once a) (each_once b) (each_once c) (are_apart a b) (are_apart a c) (are_apart b c)
+    ∙ sym (once_joined (a ++ b) c ∙ (λ i. once_joined a b i && (list_all-append (λ n. not (among c n)) a b i && each_once c)))
+  where
+    go : (x y z p q r : Bool) → ((x && (y && z)) && (p && (q && r))) ≡ ((x && (p && y)) && ((q && r) && z))
+    go true true true true q r = and_true (q && r)
+      where
+        and_true : (b : Bool) → b ≡ (b && true)
+        and_true true = refl
+        and_true false = refl
+    go true true true false q r = refl
+    go true true false true true true = refl
+    go true true false true true false = refl
+    go true true false true false r = refl
+    go true true false false q r = refl
+    go true false z true q r = refl
+    go true false z false q r = refl
+    go false y z p q r = refl

@@ -4,6 +4,7 @@ pub mod Reconciling
 pub mod Listing
 pub mod Conversion
 pub mod Numbers
+pub mod Repeats
 pub use Rattle.patterns_base.specs.Looks
 pub use Rattle.patterns_base.specs.Makes
 pub use Rattle.patterns_base.specs.Rewrites

@@ -1,5 +1,6 @@
 -- What code reads and makes in numbers of a context.
-use Rattle.std.specs.Prelude.{ℕ, Bool, true, not, ◌&&◌, List, [], ◌∷◌, ◌++◌, Option, Some, None}
+use Rattle.std.specs.Prelude.{ℕ, Bool, not, ◌&&◌, List, [], ◌∷◌, Option, Some, None}
+use Rattle.std.specs.List.{list_all}
 use Rattle.ir_types.specs.declared.word.Word.TheVariants.{ArithIndexCast}
 use Rattle.ir_types.specs.WordNames.{word_number}
 use Rattle.ir_tree.specs.declared.value.Value.{Value}
@@ -9,12 +10,19 @@ use Rattle.ir_tree.specs.Tree.{Op, op, no_regions}
 use Rattle.patterns_edits.specs.declared.edit.Edit.{Edit}
 use Rattle.patterns_edits.specs.declared.edit.Edit.TheVariants.{Make, Replace, Erase}
 use Rattle.patterns_base.specs.Words.{among}
+use Rattle.conversion_base.specs.Targets.{Aim, each_once}
 use Rattle.conversion_base.specs.declared.casts.Ends.{Ends}
 
--- whether none of some names stands again behind it, or among others
-abbrev pub once_before : List (List ℕ) → List (List ℕ) → Bool
-once_before [] ms = true
-once_before (n ∷ ns) ms = not (among (ns ++ ms) n) && once_before ns ms
+-- whether none of some names is among others
+abbrev pub are_apart : List (List ℕ) → List (List ℕ) → Bool
+are_apart ns ms = list_all (λ n. not (among ms n)) ns
+
+-- whether each name stands once in each list of a target, and whether none is in two of them
+abbrev pub lists_once : Aim → Bool
+lists_once g = each_once g.legal && (each_once g.illegal && each_once g.dynamic)
+
+abbrev pub lists_apart : Aim → Bool
+lists_apart g = are_apart g.legal g.illegal && (are_apart g.legal g.dynamic && are_apart g.illegal g.dynamic)
 
 -- an `arith.index_cast` of a value, to a type
 abbrev pub new_cast : Value → ℕ → Op

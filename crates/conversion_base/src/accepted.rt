@@ -1,51 +1,34 @@
 //! Which targets are accepted.
-ghost use Rattle.std.specs.Prelude.{◌≡◌, ◌++◌, [], map, not};
+ghost use Rattle.std.specs.Prelude.{◌≡◌, map, not};
 ghost use Rattle.std.specs.List.{All, list_all, list_any};
-ghost use Rattle.std.specs.Str.{bytes_eq};
 ghost use Rattle.ir_types.specs.Things.{IsName};
 ghost use Rattle.ir_types.specs.Terms.{name_term};
 ghost use Rattle.ir_types.specs.WordNames.{word_bytes};
 ghost use Rattle.patterns_base.specs.Words.{among, named};
 ghost use Rattle.conversion_base.specs.Targets.{IsNamedIn, aim_of, cast_name, each_once, is_accepted, is_for_conversion, names_of};
-ghost use Rattle.conversion_base.specs.Numbers.{once_before};
+ghost use Rattle.conversion_base.specs.Numbers.{are_apart, lists_apart, lists_once};
 
+use crate::names::Names;
 use crate::target::Target;
 use ir_types::context::Context;
 use ir_types::ids::NameId;
 use ir_types::word::Word;
 
-/// Whether two names are one.
-#[tactic(auto, using(crate::proofs::Named::same_numbers))]
-fn is_same(ctx: &Context, one: NameId, other: NameId) -> bool
-    requires one { IsName ctx.now one }
-    requires other { IsName ctx.now other }
-    ensures { result ≡ bytes_eq (name_term ctx.now one) (name_term ctx.now other) }
-{
-    ctx.sound();
-    one == other
-}
-
 /// Whether a name is among names.
-pub(crate) fn is_among(ctx: &Context, names: &[NameId], name: NameId) -> bool
+pub(crate) fn is_among(ctx: &Context, names: &Names, name: NameId) -> bool
     requires names { All (IsName ctx.now) names.now }
     requires name { IsName ctx.now name }
     ensures { result ≡ among (map (name_term ctx.now) names.now) (name_term ctx.now name) }
 {
-    let mut rest = names;
-    'names: while let [other, tail @ ..] = rest {
-        if is_same(ctx, name, *other) {
-            return true;
-        }
-        rest = tail;
-    }
-    false
+    ctx.sound();
+    names.has(name)
 }
 
 /// Whether a word is among names.
-fn has_word(ctx: &Context, names: &[NameId], word: Word) -> bool
+fn has_word(ctx: &Context, names: &Names, word: Word) -> bool
     ensures { result ≡ list_any (named (word_bytes word)) (map (name_term ctx.now) names.now) }
 {
-    let mut rest = names;
+    let mut rest = names.list();
     'names: while let [name, tail @ ..] = rest {
         if ctx.is_word(*name, word) {
             return true;
@@ -55,16 +38,24 @@ fn has_word(ctx: &Context, names: &[NameId], word: Word) -> bool
     false
 }
 
-/// Whether none of some names stands again behind it, or among those of two more lists.
-fn stand_once(ctx: &Context, names: &[NameId], more: &[NameId], most: &[NameId]) -> bool
+/// Whether each of some names stands once among them.
+fn stand_once(ctx: &Context, names: &Names) -> bool
     requires names { All (IsName ctx.now) names.now }
-    requires more { All (IsName ctx.now) more.now }
-    requires most { All (IsName ctx.now) most.now }
-    ensures { result ≡ once_before (map (name_term ctx.now) names.now) (map (name_term ctx.now) more.now ++ map (name_term ctx.now) most.now) }
+    ensures { result ≡ each_once (map (name_term ctx.now) names.now) }
 {
-    let mut rest = names;
+    ctx.sound();
+    !names.repeats()
+}
+
+/// Whether none of some names is among others.
+fn are_apart(ctx: &Context, names: &Names, others: &Names) -> bool
+    requires names { All (IsName ctx.now) names.now }
+    requires others { All (IsName ctx.now) others.now }
+    ensures { result ≡ are_apart (map (name_term ctx.now) names.now) (map (name_term ctx.now) others.now) }
+{
+    let mut rest = names.list();
     'names: while let [name, tail @ ..] = rest {
-        if is_among(ctx, tail, *name) || is_among(ctx, more, *name) || is_among(ctx, most, *name) {
+        if is_among(ctx, others, *name) {
             return false;
         }
         rest = tail;
@@ -93,20 +84,24 @@ fn are_for_conversion(rules: &[u32]) -> bool
     true
 }
 
-/// Whether each name of three lists stands once.
-fn all_once(ctx: &Context, names: &[NameId], more: &[NameId], most: &[NameId]) -> bool
-    requires names { All (IsName ctx.now) names.now }
-    requires more { All (IsName ctx.now) more.now }
-    requires most { All (IsName ctx.now) most.now }
-    ensures { result ≡ each_once (map (name_term ctx.now) names.now ++ map (name_term ctx.now) more.now ++ map (name_term ctx.now) most.now) }
+/// Whether each name stands once in each list of a target.
+fn lists_once(ctx: &Context, target: &Target) -> bool
+    requires names { IsNamedIn ctx.now target.now }
+    ensures { result ≡ lists_once (aim_of ctx.now target.now) }
 {
-    if !stand_once(ctx, names, more, most) {
-        return false;
-    }
-    if !stand_once(ctx, more, most, &[]) {
-        return false;
-    }
-    stand_once(ctx, most, &[], &[])
+    stand_once(ctx, &target.legal)
+        && stand_once(ctx, &target.illegal)
+        && stand_once(ctx, &target.dynamic)
+}
+
+/// Whether no name is in two lists of a target.
+fn lists_apart(ctx: &Context, target: &Target) -> bool
+    requires names { IsNamedIn ctx.now target.now }
+    ensures { result ≡ lists_apart (aim_of ctx.now target.now) }
+{
+    are_apart(ctx, &target.legal, &target.illegal)
+        && are_apart(ctx, &target.legal, &target.dynamic)
+        && are_apart(ctx, &target.illegal, &target.dynamic)
 }
 
 /// Whether each name of a target stands once.
@@ -114,7 +109,7 @@ fn each_once(ctx: &Context, target: &Target) -> bool
     requires names { IsNamedIn ctx.now target.now }
     ensures { result ≡ each_once (names_of (aim_of ctx.now target.now)) }
 {
-    all_once(ctx, &target.legal, &target.illegal, &target.dynamic)
+    lists_once(ctx, target) && lists_apart(ctx, target)
 }
 
 /// Whether no name of a target is that of the casts which a conversion leaves for the time being.

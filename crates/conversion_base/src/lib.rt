@@ -5,4 +5,5 @@ pub mod accepted;
 pub mod casts;
 pub mod laws;
 pub mod legal;
+pub mod names;
 pub mod target;

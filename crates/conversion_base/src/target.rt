@@ -1,5 +1,5 @@
 //! What a conversion aims at.
-use ir_types::ids::NameId;
+use crate::names::Names;
 use std::marker::Model;
 
 /// What a conversion aims at (Dialect Conversion, "Conversion Target").
@@ -8,11 +8,11 @@ pub struct Target {
     /// Whether each operation has to be legal in the end.
     pub full: bool,
     /// The names of operations that are legal.
-    pub legal: Vec<NameId>,
+    pub legal: Names,
     /// The names of those that aren't.
-    pub illegal: Vec<NameId>,
+    pub illegal: Names,
     /// The names of those that are where they have no value of type index.
-    pub dynamic: Vec<NameId>,
+    pub dynamic: Names,
     /// The rules to be tried, in this order.
     pub rules: Vec<u32>,
     /// How deep the operations that rules make are legalised.
@@ -27,5 +27,5 @@ impl Model for Target {
 
     ghost coded = { target_code };
 
-    ghost view = { λ g. record { full = g.full; legal = g.legal.items; illegal = g.illegal.items; dynamic = g.dynamic.items; rules = g.rules.items; depth = g.depth } };
+    ghost view = { λ g. record { full = g.full; legal = g.legal; illegal = g.illegal; dynamic = g.dynamic; rules = g.rules.items; depth = g.depth } };
 }

@@ -10,6 +10,7 @@ ghost use Rattle.mlir_work_script.specs.Numbers.{number_of};
 ghost use Rattle.conversion.specs.States.{IsWant};
 ghost use Rattle.mlir_work_convert.specs.Interned.{AreNumbers, Interned, numbers_behind};
 
+use conversion::names::Names;
 use conversion::rewriter_bench::Bench;
 use ir_event::analysis::Analysis;
 use ir_types::ids::NameId;
@@ -45,10 +46,10 @@ fn intern<L: Analysis>(bench: &mut Bench<L>, bytes: &[u8]) -> Result<NameId, Ref
 /// Adds the number of a name to those of others.
 fn intern_onto<L: Analysis>(
     bench: &mut Bench<L>,
-    numbers: &mut Vec<NameId>,
+    numbers: &mut Names,
     bytes: &[u8],
 ) -> Result<(), Refusal>
-    ensures named { OnOk result ((names : List (List ℕ)) → AreNumbers bench.old.desk.ctx numbers.old.items names → AreNumbers bench.new.desk.ctx numbers.new.items (names ++ bytes.now ∷ [])) }
+    ensures named { OnOk result ((names : List (List ℕ)) → AreNumbers bench.old.desk.ctx numbers.old names → AreNumbers bench.new.desk.ctx numbers.new (names ++ bytes.now ∷ [])) }
     ensures want { IfErr result (IsWant bench.new.desk.ctx) }
     ensures interned { Interned L.meaning bench.old bench.new }
 {
@@ -67,12 +68,12 @@ pub(crate) fn names_in<L: Analysis>(
     alloc: Global,
     bench: &mut Bench<L>,
     names: Option<&[u8]>,
-) -> Result<Vec<NameId>, Refusal>
-    ensures named { IfOk result (λ v. AreNumbers bench.new.desk.ctx v.items (items_behind (option_copied names.entry))) }
+) -> Result<Names, Refusal>
+    ensures named { IfOk result (λ v. AreNumbers bench.new.desk.ctx v (items_behind (option_copied names.entry))) }
     ensures want { IfErr result (IsWant bench.new.desk.ctx) }
     ensures interned { Interned L.meaning bench.old bench.new }
 {
-    let mut numbers = Vec::new(alloc);
+    let mut numbers = Names::new(alloc);
     let mut rest = names;
     'items: while let Some(items) = rest {
         let (item, behind) = split_item(items);

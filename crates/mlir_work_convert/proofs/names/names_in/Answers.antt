@@ -10,7 +10,7 @@ pub items-init : goal.items-init
 items-init g c = record {
   interned = interned_none g.L.Analysis.meaning _;
   done = [];
-  named = subst (λ (ns : List ℕ). AreNumbers c.args.bench.now.desk.ctx ns []) (sym c.new-numbers.ensures.items) (no_numbers c.args.bench.now.desk.ctx);
+  named = subst (λ (ns : List ℕ). AreNumbers c.args.bench.now.desk.ctx ns []) (sym c.new-numbers.ensures) (no_numbers c.args.bench.now.desk.ctx);
   whole = refl;
 }
 

@@ -10,7 +10,7 @@ abbrev pub invariant-items : goal.invariant-items
 invariant-items g l = record {
   interned : Interned g.L.Analysis.meaning l.initial.bench l.bench;
   done : List (List ℕ);
-  named : AreNumbers l.bench.desk.ctx l.numbers.items done;
+  named : AreNumbers l.bench.desk.ctx l.numbers done;
   whole : done ++ items_behind (option_copied l.rest) ≡ items_behind (option_copied l.fn.names);
 }
 

@@ -24,7 +24,7 @@ returns-clause-names g c =
     let first = c.names_in.new.bench.desk.ctx in
     let second = c.names_in-2.new.bench.desk.ctx in
     let d = c.names_in-3.new.bench.desk.ctx in
-    target_named d (record { full = c.args.full; legal = c.in-Ok.legal.items; illegal = c.in-Ok-names_in.illegal.items; dynamic = c.in-Ok-names_in-2.dynamic.items; rules = c.in-Ok-numbers_in.rules.items; depth = c.unwrap_or.result })
+    target_named d (record { full = c.args.full; legal = c.in-Ok.legal; illegal = c.in-Ok-names_in.illegal; dynamic = c.in-Ok-names_in-2.dynamic; rules = c.in-Ok-numbers_in.rules.items; depth = c.unwrap_or.result })
     c.args.full c.args.clauses.now
     (still_numbers first d _ _ (grows_trans first second d c.names_in-2.ensures.interned.grows c.names_in-3.ensures.interned.grows) c.in-Ok.ensures.named)
     (still_numbers second d _ _ c.names_in-3.ensures.interned.grows c.in-Ok-names_in.ensures.named)
@@ -35,7 +35,7 @@ returns-clause-aim g c =
     let first = c.names_in.new.bench.desk.ctx in
     let second = c.names_in-2.new.bench.desk.ctx in
     let d = c.names_in-3.new.bench.desk.ctx in
-    target_aims d (record { full = c.args.full; legal = c.in-Ok.legal.items; illegal = c.in-Ok-names_in.illegal.items; dynamic = c.in-Ok-names_in-2.dynamic.items; rules = c.in-Ok-numbers_in.rules.items; depth = c.unwrap_or.result })
+    target_aims d (record { full = c.args.full; legal = c.in-Ok.legal; illegal = c.in-Ok-names_in.illegal; dynamic = c.in-Ok-names_in-2.dynamic; rules = c.in-Ok-numbers_in.rules.items; depth = c.unwrap_or.result })
     c.args.full c.args.clauses.now
     (still_numbers first d _ _ (grows_trans first second d c.names_in-2.ensures.interned.grows c.names_in-3.ensures.interned.grows) c.in-Ok.ensures.named)
     (still_numbers second d _ _ c.names_in-3.ensures.interned.grows c.in-Ok-names_in.ensures.named)
