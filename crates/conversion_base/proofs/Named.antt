@@ -66,11 +66,9 @@ all_once g =
     ∙ sym (once_joined (a ++ b) c ∙ (λ i. once_joined a b i && (list_all-append (λ n. not (among c n)) a b i && each_once c)))
   where
     go : (x y z p q r : Bool) → ((x && (y && z)) && (p && (q && r))) ≡ ((x && (p && y)) && ((q && r) && z))
-    go true true true true q r = and_true (q && r)
-      where
-        and_true : (b : Bool) → b ≡ (b && true)
-        and_true true = refl
-        and_true false = refl
+    go true true true true true true = refl
+    go true true true true true false = refl
+    go true true true true false r = refl
     go true true true false q r = refl
     go true true false true true true = refl
     go true true false true true false = refl
