@@ -1,5 +1,5 @@
 -- What becomes of an operation, by what is read of it.
-use Rattle.std.proofs.Common.{◌≡◌, refl, ap, sym, ◌∙◌, ℕ, Bool, true, false, List, Option, Some, None, if◌then◌else◌}
+use Rattle.std.proofs.Common.{◌≡◌, refl, ap, sym, ◌∙◌, ℕ, Bool, true, false, List, Some, if◌then◌else◌}
 use Rattle.std.specs.Prelude.{◌&&◌, codes, eqb, not}
 use Rattle.ir_tree.specs.Tree.{head}
 use Rattle.ir_tree.specs.Ids.{find, has_id}
