@@ -150,6 +150,23 @@ module _ (P : ℕ → Type 0) (U R : ℕ → ℕ → Type 0) where
         ];
       }
 
+  -- one that reaches nothing is done
+  pub considered_nothing : (y : ℕ) (xs : List ℕ) (q : List (List ℕ)) (left : Left) → ((x : ℕ) → R y x → In x xs) → xs ≡ [] → Considered P U R (y ∷ []) q left q left
+  considered_nothing y xs q left all none = record {
+    shrinks = λ z e. e;
+    keeps = λ todo m. record {
+      sound = m.sound;
+      only = m.only;
+      placed = λ u. elim (m.placed u) [
+        | inl a ↦ elim a [
+          | inl i ↦ inr (inr (inr (λ z k. absurd (subst (In z) none (all z (subst (λ v. R v z) i k))))))
+          | inr h ↦ inl h
+        ]
+        | inr b ↦ inr b
+      ];
+    };
+  }
+
   -- the operations that came with what was taken out last are looked at next
   pub popped : (ws : List ℕ) (q : List (List ℕ)) (left : Left) → Marks P U R [] (q ++ ws ∷ []) left → Marks P U R (ws ++ []) q left
   popped ws q left m = record {

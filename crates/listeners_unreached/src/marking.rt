@@ -1,6 +1,6 @@
 //! Private definitions that operations reach are taken out of those that are left, until no more can be.
-ghost use Rattle.std.specs.Prelude.{◌≡◌, ◌≤◌, ◌∷◌, [], eqb, map, OnOk, IfOk};
-ghost use Rattle.listeners_symbols.specs.Symbols.{definitions};
+ghost use Rattle.std.specs.Prelude.{◌≡◌, ◌≤◌, ℕ, List, ◌∷◌, [], eqb, map, true, OnOk, IfOk};
+ghost use Rattle.listeners_symbols.specs.Symbols.{DefinitionOf, definitions};
 ghost use Rattle.listeners_symbols.specs.Table.{reference_of};
 ghost use Rattle.listeners_symbols.specs.Lines.{numbered, numbers_at};
 ghost use Rattle.listeners_unreached.specs.Marks.{ConsideredIn, IsMarked, MarksIn, RemovedIn, SettledIn, StartsIn, TakesFound, left_at, queue_of, size};
@@ -96,8 +96,18 @@ fn reach_from(
     }
 }
 
-/// Looks at an operation: it waits for a definition that it stands under and that is left, or what it reaches is taken
-/// out.
+/// Whether an operation refers to nothing.
+fn refers_to_none(roles: &BTreeMap<OpId, Role>, op: OpId) -> bool
+    ensures { (ds : List (DefinitionOf ℕ)) → result ≡ true → reached_from eqb (numbers_at roles.now) ds (numbers_at roles.now op) ≡ [] }
+{
+    match roles.get(&op) {
+        None => true,
+        Some(role) => role.references.is_empty(),
+    }
+}
+
+/// Looks at an operation: if it refers to anything, it waits for a definition that it stands under and that is left, or
+/// what it reaches is taken out.
 fn consider(
     roles: &BTreeMap<OpId, Role>,
     definitions: &Definitions,
@@ -108,6 +118,9 @@ fn consider(
     ensures considered { OnOk result (ConsideredIn (numbers_at roles.now) definitions.now (op ∷ []) pending.old left.old pending.new left.new) }
     ensures size { OnOk result (size left.new pending.new ≤ size left.old pending.old) }
 {
+    if refers_to_none(roles, op) {
+        return Ok(());
+    }
     match left_above(roles, left, op)? {
         Some(definition) => wait(left, op, definition),
         None => reach_from(roles, definitions, op, left, pending),

@@ -2,9 +2,15 @@ use Rattle.std.proofs.Common.{subst, eqb, Option, ℕ}
 use Rattle.listeners_symbols.specs.Lines.{numbers_at}
 use Rattle.listeners_unreached.specs.Unreached.{reached_from}
 use Rattle.listeners_unreached.specs.Marks.{IsAbove, IsDefinition, Reaches, StandsUnder, left_at, queue_of}
-use Rattle.listeners_unreached.proofs.Taken.{considered_waits, considered_reaches}
+use Rattle.listeners_unreached.proofs.Taken.{considered_waits, considered_reaches, considered_nothing}
 use Rattle.listeners_unreached.proofs.Steps.{on_ok, some_true}
 use Rattle.listeners_unreached.proofs.marking.consider.Goals as goal
+
+pub returns-then-refers_to_none-clause-considered : goal.returns-then-refers_to_none-clause-considered
+returns-then-refers_to_none-clause-considered c =
+    let roles = numbers_at c.args.roles.now in
+    let ds = c.args.definitions.now in
+    considered_nothing (IsDefinition roles) (StandsUnder roles) (Reaches roles ds) c.args.op (reached_from eqb roles ds (roles c.args.op)) (queue_of c.args.pending.now) (left_at c.args.left.now) (λ x h. h) (c.refers_to_none.ensures ds c.if-refers_to_none.true)
 
 pub returns-in-Some-clause-considered : goal.returns-in-Some-clause-considered
 returns-in-Some-clause-considered c =
