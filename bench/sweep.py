@@ -1,15 +1,15 @@
 #!/usr/bin/env python3
 """Counts what sweeping modules costs: instructions of the built program for `sweep`, beyond the same run without it, by shape of the
 module and number of operations, and how much more it is for ten times the operations. callgrind counts, so that the figures don't
-depend on what else the machine does. With `--beside MLIR_OPT` it takes processor time: of reading, `sweep` and printing with all
-seven listeners, and of that tool's `-symbol-dce`, each less the same program's run on an empty module, the least of five.
+depend on what else the machine does. With `--beside MLIR_OPT` it counts reading, `sweep` and printing with all seven listeners, and
+that tool's `-symbol-dce`, each less the same program's run on an empty module.
 
 usage: bench/sweep.py [--listeners] PROGRAM [SIZES [SHAPES]]
        bench/sweep.py --beside MLIR_OPT PROGRAM [SIZES [SHAPES]]
 
 SIZES are numbers of operations with commas (1000,10000), SHAPES names of shapes (all). Listeners are detached first but with
 `--listeners`."""
-import resource
+import re
 import subprocess
 import sys
 
@@ -52,15 +52,10 @@ def none_reached(n):
 SHAPES = {it.__name__: it for it in (halves, all_reached, none_reached)}
 
 
-def microseconds(words, text):
-    """The processor time of a run, the least of five."""
-    taken = []
-    for _ in range(5):
-        before = resource.getrusage(resource.RUSAGE_CHILDREN)
-        subprocess.run(words, input=text.encode(), stdout=subprocess.DEVNULL, check=True)
-        after = resource.getrusage(resource.RUSAGE_CHILDREN)
-        taken.append(after.ru_utime + after.ru_stime - before.ru_utime - before.ru_stime)
-    return min(taken) * 1e6
+def counted(words, text):
+    """The instructions of a run."""
+    words = ["valgrind", "--tool=callgrind", "--callgrind-out-file=/dev/null", *words]
+    return int(re.search(rb"Collected : (\d+)", subprocess.run(words, input=text.encode(), capture_output=True).stderr)[1])
 
 
 def count(program, sizes, shapes, kept):
@@ -81,13 +76,13 @@ def count(program, sizes, shapes, kept):
 def beside(tool, program, sizes, shapes):
     ours, theirs = [program, "--brief"], [tool, "-symbol-dce", "-allow-unregistered-dialect", "-mlir-print-op-generic", "-mlir-disable-threading"]
     script = "// -----\nsweep\nprint\n"
-    begun = microseconds(ours, EMPTY + script), microseconds(theirs, EMPTY)
+    begun = counted(ours, EMPTY + script), counted(theirs, EMPTY)
     print("| Shape | Operations | Here | `mlir-opt` |\n|---|---|---|---|")
     for shape in shapes:
         for size in sizes:
             text = SHAPES[shape](size)
-            here, there = microseconds(ours, text + script) - begun[0], microseconds(theirs, text) - begun[1]
-            print(f"| {shape} | {size:,} | {here / size:.1f} us | {there / size:.1f} us |", flush=True)
+            here, there = counted(ours, text + script) - begun[0], counted(theirs, text) - begun[1]
+            print(f"| {shape} | {size:,} | {here / size:,.0f} | {there / size:,.0f} |", flush=True)
 
 
 def main(words):

@@ -54,12 +54,7 @@ fn add(
 
 /// Adds the references in an attribute, depth first.
 #[cycle(references)]
-fn add_attr(
-    alloc: Global,
-    ctx: &Context,
-    id: AttrId,
-    out: &mut Found,
-) -> Result<(), AllocError>
+fn add_attr(alloc: Global, ctx: &Context, id: AttrId, out: &mut Found) -> Result<(), AllocError>
     requires id { IsAttr ctx.now id }
     requires out { IsFound ctx.now out.old }
     ensures added { OnOk result (found_meaning ctx.now out.new ≡ with_symbols (found_meaning ctx.now out.old) (attr_term ctx.now id)) }

@@ -37,7 +37,7 @@ returns-clause-found c =
     let made : Reference = record { path = c.args.path; parts = c.in_ok-parts.parts } in
     let same = sym c.in_ok-parts.ensures.items in
     added_found ctx c.args.out.now (record { list = c.push.new.self; seen = c.insert.new.self }) made c.requires.out
-      (record { path = c.requires.path; is = subst IsSymbol (sym c.requires.symbol) tt; parts = subst (All (IsName ctx)) same c.requires.parts })
-      (c.requires.symbol ∙ ap (λ ns. Symbol (map (name_term ctx) ns)) same)
-      c.in_ok-push.ensures.items
-      c.in_ok-insert.ensures.updates.0
+    (record { path = c.requires.path; is = subst IsSymbol (sym c.requires.symbol) tt; parts = subst (All (IsName ctx)) same c.requires.parts })
+    (c.requires.symbol ∙ ap (λ ns. Symbol (map (name_term ctx) ns)) same)
+    c.in_ok-push.ensures.items
+    c.in_ok-insert.ensures.updates.0
