@@ -12,13 +12,13 @@ use Rattle.ir_event.specs.declared.row.Cell.TheVariants.{Val, Bits as BitsCell}
 use Rattle.ir_tree.specs.declared.value.Value.TheVariants.{Result}
 use Rattle.ir_event.specs.declared.world.World.{World}
 use Rattle.ir_event.specs.Modules.{module_in}
-use Rattle.constants_base.specs.Folds.{known_of}
+use Rattle.dialects_int.specs.Folds.{known_of}
 use Rattle.ir_event.specs.Heads.{heads}
-use Rattle.constants_base.specs.Facts.{Header, Facts, look, value, AreLocal}
-use Rattle.constants_base.specs.Walk.{with_fact, facts_of, AreOrdered}
-use Rattle.constants_base.specs.Reached.{uses_among, reached, most_over}
-use Rattle.constants_base.specs.Trails.{IsThere}
-use Rattle.constants_base.specs.Phases.{SameBut}
+use Rattle.constants.specs.Facts.{Header, Facts, look, value, AreLocal}
+use Rattle.constants.specs.Walk.{with_fact, facts_of, AreOrdered}
+use Rattle.constants.specs.Reached.{uses_among, reached, most_over}
+use Rattle.constants.specs.Trails.{IsThere}
+use Rattle.constants.specs.Phases.{SameBut}
 
 -- what a table knows
 abbrev pub known_in : BTreeMap ℕ Bits → Facts

@@ -2,9 +2,9 @@
 ghost use Rattle.std.specs.Prelude.{◌≡◌, ◌≤◌, ◌+◌, true};
 ghost use Rattle.ir_event.specs.Modules.{module_in};
 ghost use Rattle.ir_event.specs.Listener.{is_take};
-ghost use Rattle.constants_base.specs.Facts.{value};
-ghost use Rattle.constants_base.specs.Folds.{known_of};
-ghost use Rattle.constants_base.specs.Trails.{IsThere};
+ghost use Rattle.constants.specs.Facts.{value};
+ghost use Rattle.dialects_int.specs.Folds.{known_of};
+ghost use Rattle.constants.specs.Trails.{IsThere};
 ghost use Rattle.constants.specs.Tables.{known_in, look_in, Updated, FactsFollowed, LooksRenewed, LooksWithin, LooksFollowed};
 
 use crate::forget::forget_from;
