@@ -12,21 +12,10 @@ ghost use Rattle.effects.specs.Within.{list_at, regions_of};
 use crate::kinds::{EffectKinds, recursive};
 use crate::own::own;
 use crate::tally::is_kept;
-use ir_event::store::node::Node;
 use ir_event::world::World;
 use ir_tree::value::Value;
 use ir_types::ids::OpId;
 use op_registry::own::Own;
-
-/// What an operation has, if it is in the module.
-fn shown(world: &World, op: OpId) -> Option<Node<'_>>
-    ensures { result ≡ option_map node_of (find op world.now.store.module_of.tree) }
-{
-    if !world.store.in_tree(op) {
-        return None;
-    }
-    world.store.node(op)
-}
 
 /// Whether nobody would miss what an operation has by itself.
 fn may_go(own: &Own) -> bool
@@ -41,7 +30,7 @@ fn own_at(world: &World, op: OpId) -> Option<(Own, u32)>
     ensures own { option_map (λ l. l.0) result ≡ option_map (λ o. own_by world.now.ctx (head o).name) (find op world.now.store.module_of.tree) }
     ensures regions { IfSome result (λ l. l.1 ≡ region_count (regions_of (find op world.now.store.module_of.tree))) }
 {
-    let Some(node) = shown(world, op) else {
+    let Some(node) = world.shown(op) else {
         return None;
     };
     let own = own(&world.ctx, &world.registry, node.name());
@@ -103,7 +92,7 @@ fn is_unused(world: &World, op: OpId, count: u32) -> bool
 pub fn dead_op(world: &World, op: OpId) -> bool
     ensures { result ≡ dead_at op (module_in world.now).tree }
 {
-    let Some(node) = shown(world, op) else {
+    let Some(node) = world.shown(op) else {
         return false;
     };
     if !is_unused(world, op, node.results().len() as u32) {
