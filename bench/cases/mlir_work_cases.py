@@ -689,8 +689,8 @@ def refused():
 
 
 def worked():
-    """Each row of bench/cases/worked_rows.txt that holds where all commands are there, with all listeners."""
-    for row in worked_rows.holding(worked_rows.LATER):
+    """Each row of bench/cases/worked_rows.txt, with all listeners."""
+    for row in worked_rows.rows():
         limit = re.search("--limit ([0-9]+)", row.options)
         status, out = script.run(row.input, "--brief" in row.options, script.BOXES, script.ALL, int(limit[1]) if limit else script.LIMIT)
         assert (status, worked_rows.is_output(row, out)) == (row.status, True), row.input

@@ -1,16 +1,15 @@
 #!/usr/bin/env python3
-"""The inputs of bench/cases/worked_rows.txt, each with what is to be written for it. bench/cases/mlir_work_cases.py makes cases of those
-whose commands there are; run at the top of the repository this runs a built program on them:
+"""The inputs of bench/cases/worked_rows.txt, each with what is to be written for it. mlir_work_cases.py makes cases of
+them; run at the top of the repository this runs a built program on them:
 
-    bench/cases/worked_rows.py PROGRAM [COMMAND..]     (the commands that came later: canon, convert, sweep)"""
+    bench/cases/worked_rows.py PROGRAM"""
 import collections
 import pathlib
 import re
 import subprocess
 import sys
 
-LATER = ("canon", "convert", "sweep")
-Row = collections.namedtuple("Row", "options input status output is_whole since until")
+Row = collections.namedtuple("Row", "options input status output is_whole")
 
 
 def rows(page=pathlib.Path("bench/cases/worked_rows.txt")):
@@ -19,18 +18,11 @@ def rows(page=pathlib.Path("bench/cases/worked_rows.txt")):
     for words, text in zip(parts[::2], parts[1::2]):
         words = words.decode()
         given, status, output = re.split(rb"^=== output ([0-9]+)\n?", text, flags=re.M)
-        since, until = (re.search(f" {word} ([a-z]+)", words) for word in ("since", "until"))
-        options = re.sub(" (since|until|open|in order).*", "", words)
         if " open" in words:
             given = given[:-1]
         if output and not output.endswith(b"\n"):
             output += b"\n"
-        yield Row(options, given, int(status), output, " in order" not in words, since and since[1], until and until[1])
-
-
-def holding(commands):
-    """Those that hold where there are these of the later commands."""
-    return [row for row in rows() if (row.since is None or row.since in commands) and row.until not in commands]
+        yield Row(re.sub(" (open|in order).*", "", words), given, int(status), output, " in order" not in words)
 
 
 def is_output(row, out):
@@ -46,9 +38,8 @@ def is_output(row, out):
 
 
 def main():
-    program, commands = sys.argv[1], sys.argv[2:]
-    found = holding(commands)
-    wrong = 0
+    [program] = sys.argv[1:]
+    found, wrong = list(rows()), 0
     for row in found:
         words = [word for word in row.options.split() if word != "full"]
         ran = subprocess.run([program, *words], input=row.input, capture_output=True)
