@@ -3,8 +3,7 @@
 
   - each path of a file, a folder or a crate in backticks is there (NAME, CRATE and their like stand for any);
   - a line has at most 120 columns, a cell of a table at most 200 (a row of a table can't be broken);
-  - docs/MAP.md names each crate of crates/, and crates.txt no other; the picture of docs/ARCHITECTURE.md has each but
-    those of cases;
+  - the picture of docs/ARCHITECTURE.md has each crate of crates/, and crates.txt no other, each above those it names;
   - bench/wrong_bodies/README.md lists each edit that the prover must refuse, and docs/PROMISES.md says how many there
     are, and names in its last column no other.
 
@@ -82,14 +81,17 @@ def wrong_in(page):
 
 
 def crates_apart():
-    """Where the map, the picture or crates.txt have other crates than there are."""
-    listed = {line.partition("#")[0].partition(":")[0].split()[0]
-              for line in (root / "crates.txt").read_text().splitlines() if line.partition("#")[0].strip()}
-    named = set(SPAN.findall((root / "docs/MAP.md").read_text()))
-    yield from (f"docs/MAP.md: {name} isn't named" for name in sorted(crates - named))
-    drawn = set(re.findall(r"\w+", (root / "docs/ARCHITECTURE.md").read_text()))
-    yield from (f"docs/ARCHITECTURE.md: {name} isn't drawn" for name in sorted(crates - drawn) if "_cases" not in name)
-    yield from (f"crates.txt: {name} is listed, or there, alone" for name in sorted(crates ^ listed))
+    """Where the picture or crates.txt have other crates than there are, or a crate stands on one above it."""
+    drawn = {word for line in (root / "docs/ARCHITECTURE.md").read_text().splitlines() if line.startswith("    ")
+             for word in re.findall(r"\w+", line)}
+    yield from (f"docs/ARCHITECTURE.md: {name} isn't drawn" for name in sorted(crates - drawn))
+    above = set()
+    for line in (root / "crates.txt").read_text().splitlines():
+        name, _, below = line.partition("#")[0].partition(":")
+        if name.strip():
+            above.add(name.split()[0])
+            yield from (f"crates.txt: {it} stands above {name}, which names it" for it in below.split() if it in above)
+    yield from (f"crates.txt: {name} is listed, or there, alone" for name in sorted(crates ^ above))
 
 
 def edits_apart():
