@@ -12,7 +12,7 @@ import tempfile
 
 ROOT = pathlib.Path(__file__).resolve().parent.parent
 BUILT = ROOT / "crates/mlir_work/out/mlir_work"
-HELP = ROOT / "bench/help.txt"
+HELP = ROOT / "tools/help.txt"
 DIVIDER = b"// -----"
 MOST_SCRIPT = 16 * 1024 * 1024
 BLANKS = b" \t\r"

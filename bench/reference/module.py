@@ -1,10 +1,5 @@
 """Modules as plain trees: operations with ids, values by their owner's id."""
-import pathlib
-import sys
-
-sys.path.insert(0, str(pathlib.Path(__file__).resolve().parents[2] / "crates" / "ir_text_cases"))
-import printing  # noqa: E402
-import rules  # noqa: E402
+from . import printing, rules
 
 INDEX = ("index",)
 

@@ -6,7 +6,7 @@ import sys
 
 sys.dont_write_bytecode = True
 ROOT = pathlib.Path(__file__).resolve().parents[2]
-sys.path.insert(0, str(ROOT / "tools"))
+sys.path[:0] = [str(ROOT / "tools"), str(ROOT / "gate")]
 sys.path.append(str(ROOT / "bench"))
 
 import program  # noqa: E402
@@ -29,6 +29,6 @@ import explain  # noqa: E402, F401
 import forms  # noqa: E402, F401
 import listing  # noqa: E402, F401
 import mistakes  # noqa: E402, F401
-import refusals  # noqa: E402, F401
 import session  # noqa: E402, F401
 import targets  # noqa: E402, F401
+from compare import refusals  # noqa: E402, F401
