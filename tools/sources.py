@@ -117,8 +117,20 @@ def built(of_sources):
 
 
 def record(of_sources):
-    """Says beside the program that was built here that it is of these sources."""
-    RECORD.write_text(f"sources: {of_sources}\nprogram: {digest_of(BUILT.read_bytes())}\n")
+    """Says beside the program that was built here that it is of these sources. Where `rt run` left a stamp of it, that has
+    to be of this program."""
+    of_program = digest_of(BUILT.read_bytes())
+    stamp = BUILT.with_suffix(".stamp")
+    if stamp.is_file() and not stamp.read_text().endswith(of_program):
+        sys.exit(f"{stamp.relative_to(ROOT)} is of another program than stands beside it")
+    RECORD.write_text(f"sources: {of_sources}\nprogram: {of_program}\n")
+
+
+def version(path):
+    """What a program of these sources is: its version, the kit that built it, and the digests of sources and program."""
+    said = entries(MANIFEST) if pathlib.Path(path) == UNPACKED else {}
+    told = [said.get("kit", "built here"), f"sources {digest()[:12]}", f"program {digest_of(pathlib.Path(path).read_bytes())[:12]}"]
+    return f"mlir_work {said.get('version', '')}".strip() + f" ({', '.join(told)})"
 
 
 def program():

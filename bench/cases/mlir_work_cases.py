@@ -761,7 +761,7 @@ def analyses(kinds, text, brief=True):
 
 
 GOLDEN_PARTS = {
-    "runs": (runs, moves, entries, wholes, panels, sweeps, over_limits, beginnings, byte_limits),
+    "runs": (runs, moves, entries, wholes, panels, sweeps, over_limits, beginnings, byte_limits, failing_ends),
     "pages": (refused, worked),
     "command_line": (command_lines,),
 }
@@ -769,7 +769,7 @@ GOLDEN_PARTS = {
 
 def main():
     print("seeds", analyses_cases.SEED, verifier_cases.SEED, heard_cases.SEED, conversion_cases.SEED)
-    for part in (lines, words, cuts, writes, reads, failing_ends):
+    for part in (lines, words, cuts, writes, reads):
         part()
     for area, parts in GOLDEN_PARTS.items():
         for part in parts:
