@@ -6,7 +6,7 @@ The digest is of the bytes of all files of `src`, `specs` and `proofs` of the cr
 their lines in crates.txt.
 
 usage: tools/sources.py            prints the digest
-       tools/sources.py --built    says which program was built here of these sources, if one was
+       tools/sources.py --program  says which program is of these sources, if there is one
        tools/sources.py --record   writes beside what was built here just now that it is of these sources"""
 import hashlib
 import os
@@ -142,9 +142,9 @@ def program():
 def main():
     if sys.argv[1:] == ["--record"]:
         record(digest())
-    elif sys.argv[1:] == ["--built"]:
-        found = built(digest())
-        print(found or "no program was built here of these sources")
+    elif sys.argv[1:] == ["--program"]:
+        found = program()
+        print(found or "no program is of these sources: `./run --help` builds one", file=sys.stdout if found else sys.stderr)
         sys.exit(not found)
     elif sys.argv[1:]:
         sys.exit(__doc__)

@@ -69,7 +69,7 @@ class Guide(unittest.TestCase):
         run = next(line for line in lines if line.startswith("(cat module.mlir"))
         back = next(line for line in lines if line.startswith(".. | "))
         words, more = program.words()
-        names = {"crates/mlir_work/out/mlir_work": shlex.join(words), "module.mlir": "examples/fold.mlir",
+        names = {"./run": shlex.join(words), "module.mlir": "examples/fold.mlir",
                  "FILE": "examples/fold.script", "mlir-opt": "mlir-opt-22"}
         command = re.sub("|".join(map(re.escape, names)), lambda found: names[found.group()], run + back[2:])
         environment = {**os.environ, **more}
