@@ -74,7 +74,7 @@ def commands(text):
     """The commands of a page: lines of indented blocks that begin as one does, and words in backticks."""
     for line in re.findall(r"^    (.*)$", text, re.M):
         if line.startswith(BEGINS):
-            yield line
+            yield line.partition("  #")[0].rstrip()
     for span in re.findall(r"(?<!`)`([^`]+)`(?!`)", re.sub(r"^    .*$", "", text, flags=re.M)):
         if SAID.fullmatch(" ".join(span.split())):
             yield " ".join(span.split())

@@ -31,8 +31,8 @@ class Fault(Exception):
 
 @functools.lru_cache(maxsize=None)
 def of_sources():
-    """The program of these sources, if there is one."""
-    return sources.program()
+    """The program of these sources, if there is one, or the one that these tools are installed with."""
+    return os.environ.get("MLIR_WORK_INSTALLED") or sources.program()
 
 
 def words():

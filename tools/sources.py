@@ -7,6 +7,7 @@ their lines in crates.txt.
 
 usage: tools/sources.py            prints the digest
        tools/sources.py --program  says which program is of these sources, if there is one
+       tools/sources.py --version FILE     says what a program of these sources is, or the one that is installed
        tools/sources.py --record   writes beside what was built here just now that it is of these sources"""
 import hashlib
 import os
@@ -127,9 +128,13 @@ def record(of_sources):
 
 
 def version(path):
-    """What a program of these sources is: its version, the kit that built it, and the digests of sources and program."""
-    said = entries(MANIFEST) if pathlib.Path(path) == UNPACKED else {}
-    told = [said.get("kit", "built here"), f"sources {digest()[:12]}", f"program {digest_of(pathlib.Path(path).read_bytes())[:12]}"]
+    """What a program is: its version, the kit that built it, and the digests of its sources and its bytes."""
+    of_program = digest_of(pathlib.Path(path).read_bytes())
+    said = entries(MANIFEST)
+    if said.get("program") != of_program:
+        said = {"kit": "built here, and not that of dist/", **entries(RECORD)}
+        said = said if said.get("program") == of_program else {"kit": "not that of dist/"}
+    told = [said["kit"], f"sources {said.get('sources', 'not known')[:12]}", f"program {of_program[:12]}"]
     return f"mlir_work {said.get('version', '')}".strip() + f" ({', '.join(told)})"
 
 
@@ -146,6 +151,8 @@ def main():
         found = program()
         print(found or "no program is of these sources: `./run --help` builds one", file=sys.stdout if found else sys.stderr)
         sys.exit(not found)
+    elif sys.argv[1:2] == ["--version"] and len(sys.argv) == 3:
+        print(version(sys.argv[2]))
     elif sys.argv[1:]:
         sys.exit(__doc__)
     else:
