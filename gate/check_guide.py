@@ -26,8 +26,9 @@ ROOT = program.ROOT
 PAGES = ["README.md", "docs/GUIDE.md", "docs/REFUSALS.md", "examples/README.md"]
 BEGINS = ("./run", "./test", "rt ", "tools/", "mlir-opt ", "MLIR_WORK", "(cat ", "(head ", ".. | ", "tr ", "cat ")
 # Words in a sentence that are typed, and not only named.
-SAID = re.compile(r"MLIR_WORK\w*=\S+ .*|\./run .*|\./test.*|rt .*|tools/\w+\.py .*|gate/check_\w+\.py|tr .*")
+SAID = re.compile(r"MLIR_WORK\w*=\S+ .*|\./run .*|\./test.*|rt .*|tools/\w+\.(?:py|sh) .*|gate/check_\w+\.py|tr .*")
 RUN = "(cat module.mlir; echo '// -----'; cat FILE) | ./run --brief"
+TOP = "README.md CHANGELOG.md run test bench crates docs examples gate tests tools crates.txt".split()
 SESSION = "ids\ndead\nhelp\n"
 
 
@@ -43,8 +44,9 @@ class Typed:
 COMMANDS = {
     "MLIR_WORK=reference tools/session.py examples/fold.mlir": Typed('    #0  "builtin.module"', given=SESSION),
     "./run --brief < crates/mlir_work/stdin": Typed("\n2 ok\n"),
-    "./run --help": Typed("Usage: mlir_work [OPTIONS]\n"),
-    "MLIR_WORK_BUILD=1 ./run --help": Typed("Usage: mlir_work [OPTIONS]\n", wants="minutes"),
+    "./run --help": Typed("\nTo look:\n"),
+    "./test --help": Typed("./test AREA[/NAME[/CASE]]"),
+    "MLIR_WORK_BUILD=1 ./run --help": Typed("\nTo look:\n", wants="minutes"),
     "./test": Typed("", wants="what is typed here itself"),
     "./test AREA/NAME": Typed("\n0 failed", wants="what is typed here itself"),
     "rt ci": Typed("", wants="an hour"),
@@ -55,9 +57,7 @@ COMMANDS = {
     "tools/session.py examples/fold.mlir": Typed('    #0  "builtin.module"', given=SESSION),
     "tools/explain.py MODULE SCRIPT": Typed("s:1:1: 22 HasUses: ", line="tools/explain.py module.mlir s", status=1),
     "tools/explain.py module.mlir FILE": Typed(""),
-    "gate/check_docs.py": Typed("0 wrong"),
     "gate/check_examples.py": Typed(", 0 faults"),
-    "gate/check_guide.py": Typed("", wants="no more than what it does"),
     "mlir-opt --mlir-print-op-generic FILE.mlir > module.mlir": Typed("", wants="mlir-opt"),
     RUN: Typed("\n2 ok #12\n"),
     RUN.replace("module.mlir", "examples/fold.mlir").replace("FILE", "examples/fold.script"): Typed("\n2 ok #12\n"),
@@ -82,7 +82,7 @@ def commands(text):
 
 def prepared(folder):
     """Fills a folder with what the commands name."""
-    for name in ("README.md", "run", "bench", "crates", "docs", "examples", "gate", "tools", "crates.txt"):
+    for name in TOP:
         (folder / name).symlink_to(ROOT / name)
     for name, source in {"FILE.mlir": "fold.mlir", "module.mlir": "fold.mlir", "FILE": "fold.script"}.items():
         shutil.copy(ROOT / "examples" / source, folder / name)
