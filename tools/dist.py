@@ -71,12 +71,9 @@ def compare():
     """Whether dist/ has what was built here; it is silent where dist/ is of other sources, or is the same."""
     said = sources.entries(sources.MANIFEST)
     if said.get("sources") != sources.digest():
-        print("dist/ isn't compared: it is of other sources", file=sys.stderr)
+        print("dist/ is of other sources, so it isn't compared: `./run` builds; `tools/dist.sh` makes dist/ anew")
         return
-    shipped = lzma.decompress(sources.PACKED.read_bytes())
-    if sources.digest_of(shipped) != said.get("program"):
-        sys.exit("dist/mlir_work.xz isn't the program that dist/MANIFEST speaks of")
-    program, _ = built()
+    shipped, (program, _) = sources.unpacked(), built()
     if program != shipped:
         place = next((at for at, (one, other) in enumerate(zip(program, shipped)) if one != other), min(len(program), len(shipped)))
         sys.exit(f"dist/ says that it is of these sources, but what was built of them is another program: "

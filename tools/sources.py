@@ -1,3 +1,4 @@
+#!/usr/bin/env python3
 """Which program is that of the sources in this checkout: the one that is shipped in dist/, or one that was built here.
 
 A program is of the sources where a digest of them stands beside it: in `dist/MANIFEST` for the one that is shipped, and
@@ -94,15 +95,25 @@ def shipped(of_sources):
     if said.get("sources") != of_sources or not PACKED.is_file():
         return None
     if not UNPACKED.is_file() or digest_of(UNPACKED.read_bytes()) != said.get("program"):
-        unpack(said.get("program"))
+        unpack()
     return UNPACKED
 
 
-def unpack(wanted):
+def unpacked():
+    """The program of dist/, which has to be the one that its MANIFEST speaks of."""
     import lzma  # (here, since few starts want it)
-    program = lzma.decompress(PACKED.read_bytes())
-    if digest_of(program) != wanted:
+    try:
+        program = lzma.decompress(PACKED.read_bytes())
+    except lzma.LZMAError as fault:
+        sys.exit(f"dist/{PACKED.name} can't be unpacked: {fault}")
+    if digest_of(program) != entries(MANIFEST).get("program"):
         sys.exit(f"dist/{PACKED.name} isn't the program that dist/MANIFEST speaks of: its SHA-256 is {digest_of(program)}")
+    return program
+
+
+def unpack():
+    """Writes the program of dist/ to where it is started."""
+    program = unpacked()
     UNPACKED.parent.mkdir(exist_ok=True)
     new = UNPACKED.with_name(f"mlir_work.{os.getpid()}")
     new.write_bytes(program)
