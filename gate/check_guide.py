@@ -24,11 +24,11 @@ import program  # noqa: E402
 
 ROOT = program.ROOT
 PAGES = ["README.md", "docs/GUIDE.md", "docs/REFUSALS.md", "examples/README.md"]
-BEGINS = ("./run", "rt ", "tools/", "mlir-opt ", "crates/mlir_work/out/", "(cat ", "(head ", ".. | ", "tr ", "cat ")
+BEGINS = ("./run", "./test", "rt ", "tools/", "mlir-opt ", "MLIR_WORK", "(cat ", "(head ", ".. | ", "tr ", "cat ")
 # Words in a sentence that are typed, and not only named.
-SAID = re.compile(r"MLIR_WORK=\S+ .*|\./run .*|rt .*|tools/\w+\.py .*|gate/check_\w+\.py|tr .*")
-OUT = "crates/mlir_work/out/mlir_work"
-RUN = f"(cat module.mlir; echo '// -----'; cat FILE) | {OUT} --brief"
+SAID = re.compile(r"MLIR_WORK\w*=\S+ .*|\./run .*|\./test.*|rt .*|tools/\w+\.(?:py|sh) .*|gate/check_\w+\.py|tr .*")
+RUN = "(cat module.mlir; echo '// -----'; cat FILE) | ./run --brief"
+TOP = "README.md CHANGELOG.md run test bench crates docs examples gate tests tools crates.txt".split()
 SESSION = "ids\ndead\nhelp\n"
 
 
@@ -43,18 +43,21 @@ class Typed:
 
 COMMANDS = {
     "MLIR_WORK=reference tools/session.py examples/fold.mlir": Typed('    #0  "builtin.module"', given=SESSION),
-    "./run --brief < crates/mlir_work/stdin": Typed("\n2 ok\n", wants="minutes"),
-    "rt try -- --brief < stdin": Typed("\n2 ok\n", wants="minutes", folder="crates/mlir_work"),
+    "./run --brief < crates/mlir_work/stdin": Typed("\n2 ok\n"),
+    "./run --help": Typed("\nTo look:\n"),
+    "./test --help": Typed("./test AREA[/NAME[/CASE]]"),
+    "MLIR_WORK_BUILD=1 ./run --help": Typed("\nTo look:\n", wants="minutes"),
+    "./test": Typed("", wants="what is typed here itself"),
+    "./test AREA/NAME": Typed("\n0 failed", wants="what is typed here itself"),
     "rt ci": Typed("", wants="an hour"),
-    "rt version": Typed(" logic dac8208d650f15bf\n"),
+    "rt version": Typed(" logic dac8208d650f15bf\n", wants="rt"),
+    "tools/install.sh PREFIX": Typed("installed", line="tools/install.sh prefix && prefix/bin/mlir_work --help"),
     "tools/session.py FILE": Typed('    #0  "builtin.module"', line="tools/session.py module.mlir", given=SESSION),
     "tools/session.py module.mlir": Typed('    #0  "builtin.module"', given=SESSION),
     "tools/session.py examples/fold.mlir": Typed('    #0  "builtin.module"', given=SESSION),
     "tools/explain.py MODULE SCRIPT": Typed("s:1:1: 22 HasUses: ", line="tools/explain.py module.mlir s", status=1),
     "tools/explain.py module.mlir FILE": Typed(""),
-    "gate/check_docs.py": Typed("0 wrong"),
     "gate/check_examples.py": Typed(", 0 faults"),
-    "gate/check_guide.py": Typed("", wants="no more than what it does"),
     "mlir-opt --mlir-print-op-generic FILE.mlir > module.mlir": Typed("", wants="mlir-opt"),
     RUN: Typed("\n2 ok #12\n"),
     RUN.replace("module.mlir", "examples/fold.mlir").replace("FILE", "examples/fold.script"): Typed("\n2 ok #12\n"),
@@ -71,7 +74,7 @@ def commands(text):
     """The commands of a page: lines of indented blocks that begin as one does, and words in backticks."""
     for line in re.findall(r"^    (.*)$", text, re.M):
         if line.startswith(BEGINS):
-            yield line
+            yield line.partition("  #")[0].rstrip()
     for span in re.findall(r"(?<!`)`([^`]+)`(?!`)", re.sub(r"^    .*$", "", text, flags=re.M)):
         if SAID.fullmatch(" ".join(span.split())):
             yield " ".join(span.split())
@@ -79,7 +82,7 @@ def commands(text):
 
 def prepared(folder):
     """Fills a folder with what the commands name."""
-    for name in ("README.md", "run", "bench", "crates", "docs", "examples", "gate", "tools", "crates.txt"):
+    for name in TOP:
         (folder / name).symlink_to(ROOT / name)
     for name, source in {"FILE.mlir": "fold.mlir", "module.mlir": "fold.mlir", "FILE": "fold.script"}.items():
         shutil.copy(ROOT / "examples" / source, folder / name)
@@ -88,8 +91,8 @@ def prepared(folder):
 
 def missing(wants, is_all):
     """Why a command can't be typed here, or nothing."""
-    if wants == "mlir-opt":
-        return "" if tool() else "mlir-opt isn't installed"
+    if wants in ("mlir-opt", "rt"):
+        return "" if (tool() if wants == "mlir-opt" else shutil.which(wants)) else f"{wants} isn't installed"
     return "" if not wants or wants == "minutes" and is_all else f"it takes {wants}"
 
 
@@ -101,8 +104,9 @@ def tool():
 def fault_of(command, how, folder):
     """What is wrong with what a command writes, or nothing."""
     words, more = program.words()
-    line = (how.line or command).replace(OUT, shlex.join(words))
-    line = re.sub(r"\bmlir-opt\b", str(tool()), line)
+    line = re.sub(r"\bmlir-opt\b", str(tool()), how.line or command)
+    if "MLIR_WORK" in os.environ and how.wants != "minutes":
+        line = line.replace("./run", shlex.join(words))
     environment, there = {**os.environ, **more}, folder if how.wants != "minutes" else ROOT
     it = subprocess.run(["sh", "-c", line], cwd=there / how.folder, env=environment, input=how.given, text=True,
                         capture_output=True, check=False)

@@ -307,15 +307,19 @@ def by_scripts(cases, maker):
         cases.run(script_of(text, lines, asked(script.BOXES) if brief else ""), brief)
 
 
-def all_cases(make):
-    """Makes all cases."""
+def all_cases(make, begin):
+    """Makes all cases; `begin` is told the name of each part of them."""
     maker = random.Random(SEED)
     for kinds in GROUPS:
         cases = Cases(("uses", *kinds), make)
         for kind in kinds:
+            begin(f"analyses/{kind}")
             by_hand(cases, kind)
+            begin(f"analyses/{kind}_by_chance")
             by_chance(cases, kind, maker)
-    verifier_cases.all_cases(Cases(verifier_cases.BOXES, make).run)
+    verifier_cases.all_cases(Cases(verifier_cases.BOXES, make).run, begin)
     cases = Cases(script.BOXES, make)
+    begin("analyses/edits")
     by_edits(cases)
+    begin("analyses/scripts_by_chance")
     by_scripts(cases, maker)

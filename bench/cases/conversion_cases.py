@@ -413,7 +413,9 @@ def by_chance(cases):
         cases.due(maker.choice(modules) + DIVIDER + "\n".join(lines) + "\nreport dead\nprint\n", both=False)
 
 
-def all_cases(run):
+def all_cases(run, begin):
+    """Makes all cases; `begin` is told the name of each part of them."""
     cases = Cases(run)
     for part in (clauses, partial_and_full, depths, each_rule, nested, unclean, casts, by_chance):
+        begin(f"conversion/{part.__name__}")
         part(cases)

@@ -1,16 +1,11 @@
 #!/usr/bin/env python3
-"""Writes stdin and stdout of crates/ir_text_cases: texts, one a line, and what is said of each. Run it at the top of
-the repository.
+"""Writes the golden files of tests/texts: texts, and what the program says of each; and stdin and stdout of
+crates/ir_text_cases, of texts that no run of the program can ask for, one a line, and what is said of each. Run it at
+the top of the repository.
 
 What is said is taken from the rules in Python (bench/reference/rules.py and printing.py), which share nothing with the
 crates, and from answers written by hand here and in ir_text_tables.py; where there are both they must be one. A text
-that is accepted also stands there as it is printed, and must then be printed so again.
-
-    bench/cases/ir_text_cases.py           writes the files; the texts that integers of at most 64 bits would answer
-                                           otherwise come last
-    bench/cases/ir_text_cases.py check N   makes N more texts by chance, with N as the seed, and writes more.stdin and
-                                           more.stdout
-"""
+that is accepted also stands there as it is printed, and must then be printed so again. """
 
 import itertools
 import pathlib
@@ -27,13 +22,17 @@ from ir_text_modules import (  # noqa: E402
     SIX_PRINTED, THREE, THREE_PRINTED, TWICE_PRINTED, TWO)
 from reference import printing, rules, texts  # noqa: E402
 
+sys.path.append(str(pathlib.Path("tests").resolve()))
+import ir_text_golden  # noqa: E402
+from ir_text_golden import Made  # noqa: E402
+
 CRATE = pathlib.Path("crates/ir_text_cases")
 A, M, O, C = "attr", "module", "op", "cut"
 LONGEST = 4096
 OUTER = rules.Outer(9, ("i", 32), ("i", 32))
 TAIL = b" : () -> ()"
 
-lines, seen = [], set()
+all_made, seen, part = [], set(), ["none"]
 
 
 # How a text stands in a line.
@@ -59,10 +58,10 @@ def shown(text):
     return text.replace("~", "~7E~").replace("\n", "~0A~")
 
 
-def add(line, answer):
+def add(line, answer, kind="call", text=b"", outer=None):
     if line not in seen:
         seen.add(line)
-        lines.append((line, answer))
+        all_made.append(Made(line, answer, part[0], kind, text, outer))
 
 
 # Cases. A text is bytes, or a list of bytes and of pieces that stand there so many times. What is wanted may be
@@ -90,19 +89,19 @@ def attr(text, want=None):
     good, answer = printing.attribute(bytes_of(text))
     agree(text, answer, want)
     if good:
-        unit = answer == "unit"
-        add(f"attr {written(parts_of(text))}", shown('"a"() {a%s} : () -> ()\n' % ("" if unit else " = " + answer)))
-        add(f"attr {escaped(answer.encode())}", lines[-1][1])
+        said = shown('"a"() {a%s} : () -> ()\n' % ("" if answer == "unit" else " = " + answer))
+        add(f"attr {written(parts_of(text))}", said, "attr", text)
+        add(f"attr {escaped(answer.encode())}", said, "attr", answer.encode())
     else:
-        add(f"attr {written(parts_of(text))}", answer)
+        add(f"attr {written(parts_of(text))}", answer, "attr", text)
 
 
 def module(text, want=None):
     good, answer = printing.module(bytes_of(text))
     agree(text, answer, want)
-    add(f"module {written(parts_of(text))}", shown(answer) if good else answer)
+    add(f"module {written(parts_of(text))}", shown(answer) if good else answer, "module", text)
     if good and len(answer) <= LONGEST:
-        add(f"module {escaped(answer.encode())}", shown(answer))
+        add(f"module {escaped(answer.encode())}", shown(answer), "module", answer.encode())
 
 
 def width(ty):
@@ -113,11 +112,12 @@ def op(text, want=None, outer=OUTER):
     numbers, answer = printing.operation(bytes_of(text), outer)
     agree(text, (numbers or "") + answer, want)
     words = f"{outer.next}/{width(outer.results)}/{width(outer.arguments)}"
-    add(f"{words} {written(parts_of(text))}", answer if numbers is None else numbers + shown(answer))
+    said = answer if numbers is None else numbers + shown(answer)
+    add(f"{words} {written(parts_of(text))}", said, "op", text, outer)
 
 
 def cut(text):
-    add(f"cut {escaped(text)}", printing.cuts(text))
+    add(f"cut {escaped(text)}", "", "cut", text)
 
 
 def same(one, other, want):
@@ -130,7 +130,7 @@ def same(one, other, want):
 
 def large(kind, text, answer):
     """A text that is too long for rules.py, with what is said of it."""
-    add(f"{kind} {written(parts_of(text))}", wanted(answer))
+    add(f"{kind} {written(parts_of(text))}", wanted(answer), "module" if kind == M else "call", text)
 
 
 KINDS = {A: attr, M: module, O: op}
@@ -163,7 +163,7 @@ def type_everywhere(text):
     for front, back in ((b"0 : ", b""), (b"memref<2x", b">"), (b"array<", b">"), (b"(", b") -> ()"), (b"() -> ", b""),
                         (b"() -> (i1, ", b")"), (b"(i1, ", b") -> index")):
         tried(attr, front + text + back)
-    tried(op, b'"t"(%v0.0) : (' + text + b") -> ()")
+    tried(op, b'"t"(%v1.0) : (' + text + b") -> ()")
 
 
 # Tokens alone: the longest of what these match behind blanks and comments.
@@ -869,6 +869,7 @@ def limits():
                  + b", ".join([b"1"] * 300) + b">",
                  b"::".join([b"@a"] * 300), b"memref<" + b"1x" * 300 + b"i1>"):
         attr(text)
+    part[0] = "large_texts"
     large_texts()
 
 
@@ -924,7 +925,7 @@ def cut_texts():
 
 def by_chance(count, seed):
     dice = random.Random(seed)
-    while len(lines) < count:
+    while len(all_made) < count:
         text = texts.source(dice)
         if dice.random() < 0.7:
             text = texts.changed(dice, text)
@@ -940,38 +941,24 @@ def by_hand():
             KINDS[kind](text, (number, at))
 
 
-def write(name):
-    for part, column in (("stdin", 0), ("stdout", 1)):
-        with open(CRATE / f"{name}{part}", "w") as file:
-            file.write("".join(line[column] + "\n" for line in lines))
+def write(rows):
+    for file, column in (("stdin", 0), ("stdout", 1)):
+        (CRATE / file).write_text("".join(row[column] + "\n" for row in rows))
 
 
 SECTIONS = [by_hand, fronts, tokens, marks, strings, types, widths, literals, attributes, depths, modules, names,
             free_names, single, limits, cut_texts]
 
 
-def all_cases(most_width):
-    rules.MOST_WIDTH = most_width
-    lines.clear()
-    seen.clear()
-    for section in SECTIONS:
-        section()
-    by_chance(len(lines) + 700, 1)
-    return list(lines)
-
-
 def main():
-    if sys.argv[1:2] == ["check"]:
-        rules.MOST_WIDTH = int(sys.argv[3]) if len(sys.argv) > 3 else 128
-        by_chance(int(sys.argv[2]), int(sys.argv[2]))
-        write("more.")
-    else:
-        narrow = dict(all_cases(64))
-        wide = [it for it in all_cases(128) if narrow.get(it[0]) != it[1]]
-        lines[:] = [it for it in lines if narrow.get(it[0]) == it[1]] + wide
-        write("")
-        print(f"the last {len(wide)} are of integers wider than 64 bits")
-    print(len(lines), "cases")
+    for section in SECTIONS:
+        part[0] = section.__name__
+        section()
+    part[0] = "by_chance"
+    by_chance(len(all_made) + 700, 1)
+    left = ir_text_golden.kept(all_made)
+    write(left)
+    print(f"{len(all_made)} texts; crates/ir_text_cases: {len(left)}")
 
 
 if __name__ == "__main__":

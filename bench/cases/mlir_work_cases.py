@@ -1,6 +1,7 @@
 #!/usr/bin/env python3
 """Writes stdin and stdout of crates/mlir_work_cases: each case is a line, and its answer worked out here from the rules
-of scripts, inputs and replies by regular expressions and Python's own cuts. Run it at the top of the repository.
+of scripts, inputs and replies by regular expressions and Python's own cuts. And it writes the golden files of tests/
+that are of whole runs with all listeners, of the same rules. Run it at the top of the repository.
 
 The whole runs are written out here or in bench/cases/worked_rows.txt, and compared with what the rules of
 bench/reference give for them, or are of analyses_cases.py, verifier_cases.py, conversion_cases.py and heard_cases.py,
@@ -22,8 +23,17 @@ from compare import refusals  # noqa: E402
 from reference import script  # noqa: E402
 from reference.lines import Table, given, told  # noqa: E402
 
-TABLE = Table()
+sys.path.append(str(pathlib.Path("tests").resolve()))
+import golden  # noqa: E402
+
+TABLE, GOLDEN = Table(), golden.Collected()
 case = TABLE.case
+
+
+def whole(text, brief=True, limit=script.LIMIT):
+    """A golden case of a run with all listeners, with what the rules give."""
+    words = ["--brief"] * brief + ["--limit", str(limit)] * (limit != script.LIMIT)
+    GOLDEN.case(words, text, script.run(text, brief, script.BOXES, script.ALL, limit))
 
 
 # What a script's words say.
@@ -475,10 +485,23 @@ EMPTY = b"\"builtin.module\"() ({\n^bb0:\n}) : () -> ()\n"
 BOXES = ("uses", "diagnostics")
 
 
+def detached(text, boxes):
+    """An input whose script drops all listeners but some before it begins."""
+    module, script_text = script.split(text)
+    dropped = b"".join(b"detach %s\n" % kind.encode() for kind in script.BOXES if kind not in boxes)
+    return module + DIVIDER + dropped + script_text
+
+
 def run(how, text, status, out, boxes=BOXES):
-    if how in ("brief", "full"):
-        assert script.run(text, how == "brief", boxes, script.ALL) == (status, out), text
-    case(f"run {','.join(boxes)} {how} {given(text)}", f"{status} {told(out)}")
+    """A run with some listeners: a golden case with all of them, and where its answer speaks of one that isn't there
+    also one that drops them; with failing ends it is a line of the table."""
+    if how not in ("brief", "full"):
+        case(f"run {','.join(boxes)} {how} {given(text)}", f"{status} {told(out)}")
+        return
+    assert script.run(text, how == "brief", boxes, script.ALL) == (status, out), text
+    whole(text, how == "brief")
+    if b" 41 NoSuchKind" in out and boxes != script.BOXES:
+        whole(detached(text, boxes), how == "brief")
 
 
 def runs():
@@ -580,7 +603,7 @@ def byte_limits():
     def sized(piece, size, rest, status, out):
         count, left = divmod(size - len(rest), len(piece))
         assert left == 0, (piece, size, rest)
-        case(f"run none copies {count} {given(piece)}|{given(rest)}", f"{status} {told(out)}")
+        GOLDEN.case(["--brief"], [(count, piece)] + [(1, rest)] * bool(rest), (status, out))
 
     sized(b"\n", 16777216, b"", 0, b"")
     sized(b"\n", 16777217, b"", 3, b"module refused 11 TooMany at 16777216\n")
@@ -745,48 +768,67 @@ def sweeps():
                                                       + DIVIDER + b"sweep\n" + shown, (), boxes)
 
 
+def whole_cut(text):
+    """A golden case of all beginnings of a module's text."""
+    lines = []
+    for count in range(len(text)):
+        status, out = script.run(text[:count], True, script.BOXES, script.ALL)
+        lines.append((status, b"%d %d %s\n" % (count, status, out.rstrip(b"\n"))))
+    GOLDEN.case(["--brief"], text, (max(status for status, _ in lines), b"".join(line for _, line in lines)), True)
+
+
+def sums(count):
+    """A module in which so many rewrites can be made: sums of two constants, each used."""
+    one = b'%0 = "arith.constant"() <{value = 1 : i32}> : () -> i32\n'
+    return one + b"".join(b'%%%d = "arith.addi"(%%0, %%0) : (i32, i32) -> i32\n"t.u"(%%%d) : (i32) -> ()\n' % (n, n)
+                          for n in range(1, count + 1))
+
+
 def command_lines():
     """What the words of a command line ask for, or what is printed of them, and whether that is a fault."""
     help_text = pathlib.Path("tools/help.txt").read_bytes()
     usage, more = b"\n\nUsage: mlir_work [OPTIONS]\n", b"\nFor more information, try '--help'.\n"
-    case("words --brief", "brief true limit 1000")
+
+    def limited(words, limit, count):
+        text = sums(count) + DIVIDER + b"canon\n"
+        brief = "--brief" in words
+        status, out = script.run(text, brief, script.BOXES, script.ALL, limit)
+        # One rewrite folds a sum, and the last erases the constant.
+        assert out.startswith(b"1 limit %d\n" % limit if count >= limit else b"1 converged %d\n"
+                              % (count + 1)), out[:80]
+        GOLDEN.case(words.split(), text, (status, out))
+
+    def wrong(words, why):
+        GOLDEN.case(words, b"", (2, b"error: " + why))
+
     for words, limit in (("--limit 5", 5), ("--limit=5", 5), ("--limit 0010", 10), ("--limit 1", 1),
                          ("--limit 1000000", 1000000), ("--limit +5", 5)):
-        case("words " + words, f"brief false limit {limit}")
-        case("words " + words + " --brief", f"brief true limit {limit}")
+        limited(words, limit, 11)
+        limited(words + " --brief", limit, 11)
+    # (by hand, since the rules search a module from its root for each rewrite)
+    for count, reply in ((999, b"1 converged 1000\n"), (1000, b"1 limit 1000\n")):
+        GOLDEN.case(["--brief"], sums(count) + DIVIDER + b"canon\n", (0, reply))
+    limited("", script.LIMIT, 2)
     for word, why in (("0", "0 is not in 1..=1000000"), ("1000001", "1000001 is not in 1..=1000000"),
                       ("4294967297", "4294967297 is not in 1..=1000000"), ("-1", "-1 is not in 1..=1000000"),
                       ("x", "invalid digit found in string"), ("1.5", "invalid digit found in string"),
                       ("1_0", "invalid digit found in string"), ("", "cannot parse integer from empty string"),
                       ("99999999999999999999", "number too large to fit in target type")):
-        case("words --limit=" + word, "error "
-             + told(f"error: invalid value '{word}' for '--limit <N>': {why}\n".encode() + more))
+        wrong([f"--limit={word}"], f"invalid value '{word}' for '--limit <N>': {why}\n".encode() + more)
     for words in ("--limit", "--limit --brief", "--brief --limit"):
-        case("words " + words, "error "
-             + told(b"error: a value is required for '--limit <N>' but none was supplied\n" + more))
-    case("words --limit 5 --limit 5", "error "
-         + told(b"error: the argument '--limit <N>' cannot be used multiple times" + usage + more))
+        wrong(words.split(), b"a value is required for '--limit <N>' but none was supplied\n" + more)
+    wrong("--limit 5 --limit 5".split(), b"the argument '--limit <N>' cannot be used multiple times" + usage + more)
     for words, word in (("--limit 5 6", "6"), ("--limit -1", "-1"), ("-l 5", "-l")):
-        case("words " + words, "error " + told(b"error: unexpected argument '%s' found" % word.encode() + usage + more))
+        wrong(words.split(), b"unexpected argument '%s' found" % word.encode() + usage + more)
     for words in ("--help", "-h", "--brief --help"):
-        case("words " + words, "output " + told(help_text))
+        GOLDEN.case(words.split(), b"", (0, help_text))
     for words in ("--nonsense", "x", "-b", "--version", "-V"):
-        case("words " + words, "error "
-             + told(b"error: unexpected argument '%s' found" % words.encode() + usage + more))
-    case("words --brief --brief", "error "
-         + told(b"error: the argument '--brief' cannot be used multiple times" + usage + more))
+        wrong([words], b"unexpected argument '%s' found" % words.encode() + usage + more)
+    wrong(["--brief", "--brief"], b"the argument '--brief' cannot be used multiple times" + usage + more)
     # The example of the help.
     example = re.search(rb"<<'END'\n(.*)  END\n(.*)", help_text, re.S)
     module, out = (re.sub(rb"(?m)^  ", b"", part) for part in example.groups())
     run("brief", module, 0, out, script.BOXES)
-
-
-def examples():
-    """Each module of examples/ with its script, and its output, with all listeners."""
-    for file in sorted(pathlib.Path("examples").glob("*.script")):
-        out = file.with_suffix(".out").read_bytes()
-        status = 1 if b" refused " in out else 0
-        run("brief", file.with_suffix(".mlir").read_bytes() + DIVIDER + file.read_bytes(), status, out, script.BOXES)
 
 
 def over_limits():
@@ -816,29 +858,50 @@ def worked():
         status, out = script.run(row.input, "--brief" in row.options, script.BOXES, script.ALL, int(limit[1]) if limit
                                  else script.LIMIT)
         assert (status, worked_rows.is_output(row, out)) == (row.status, True), row.input
-        run(f"limited {limit[1]}" if limit else "brief" if row.options == "--brief" else "full", row.input, status, out,
-            script.BOXES)
-    # The first text, cut behind each byte: a module, or none.
+        words = row.options.replace("full", "").split()
+        GOLDEN.case(words, row.input, (status, out))
+
+
+def beginnings():
+    """The first text, cut behind each byte: a module, or none."""
     for count in range(len(TEXT)):
         status, out = script.run(TEXT[:count], True, script.BOXES, script.ALL)
         assert (status, out) == (0,
                                  b"") or status == 3 and re.fullmatch(
                                      rb"module refused [0-9]+ [A-Z][A-Za-z0-9]+ at [0-9]+\n", out), count
-        run("brief", TEXT[:count], status, out)
+    whole_cut(TEXT)
 
 
 def analyses(kinds, text, brief=True):
     """A case of a run with some listeners; gives what is written."""
-    status, out = script.run(text, brief, kinds, script.ALL)
-    case(f"run {','.join(kinds)} {'brief' if brief else 'full'} {given(text)}", f"{status} {told(out)}")
+    _, out = script.run(text, brief, kinds, script.ALL)
+    whole(text, brief)
+    if b" 41 NoSuchKind" in out and set(kinds) != set(script.BOXES):
+        whole(detached(text, kinds), brief)
     return out
 
 
-print("seeds", analyses_cases.SEED, verifier_cases.SEED, heard_cases.SEED, conversion_cases.SEED)
-for part in (lines, words, cuts, writes, reads, runs, moves, entries, wholes, panels, sweeps, command_lines, examples,
-             over_limits, refused, worked, failing_ends, byte_limits):
-    part()
-analyses_cases.all_cases(analyses)
-conversion_cases.all_cases(analyses)
-heard_cases.all_cases(case)
-TABLE.write("mlir_work_cases")
+GOLDEN_PARTS = {
+    "runs": (runs, moves, entries, wholes, panels, sweeps, over_limits, beginnings, byte_limits, failing_ends),
+    "pages": (refused, worked),
+    "command_line": (command_lines,),
+}
+
+
+def main():
+    print("seeds", analyses_cases.SEED, verifier_cases.SEED, heard_cases.SEED, conversion_cases.SEED)
+    for part in (lines, words, cuts, writes, reads):
+        part()
+    for area, parts in GOLDEN_PARTS.items():
+        for part in parts:
+            GOLDEN.begin(f"{area}/{part.__name__}")
+            part()
+    analyses_cases.all_cases(analyses, GOLDEN.begin)
+    conversion_cases.all_cases(analyses, GOLDEN.begin)
+    heard_cases.all_cases(case)
+    TABLE.write("mlir_work_cases")
+    GOLDEN.write()
+
+
+if __name__ == "__main__":
+    main()

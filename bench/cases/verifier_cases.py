@@ -85,11 +85,14 @@ def by_chance(case):
         case(edited(maker, text) if number % 4 == 0 else text + ASKED, brief=number % 20 != 0)
 
 
-
-def all_cases(case):
+def all_cases(case, begin):
     """Makes a case of each: of a text, and whether the module is not listed after each command."""
+    begin("verifier/by_hand")
     by_hand(case)
+    begin("verifier/scripts")
     scripts(case)
+    begin("verifier/variations")
     for text in variations.texts():
         case(text + ASKED)
+    begin("verifier/by_chance")
     by_chance(case)

@@ -1,11 +1,11 @@
 #!/bin/sh
 # Reads and prints each module NAME.mlir of a folder, and compares what is printed with NAME.norm beside it, to
-# the byte. Run at the top of the repository, after `./run` has built the program:
+# the byte. Run at the top of the repository, of the program that `./run` starts:
 #
 #     bench/compare/corpus.sh FOLDER
 set -eu
 folder=$1
-program=$(dirname "$0")/../../crates/mlir_work/out/mlir_work
+program=$(python3 "$(dirname "$0")/../../tools/sources.py" --program)
 work=$(mktemp -d)
 trap 'rm -rf "$work"' EXIT
 same=0

@@ -154,13 +154,6 @@ class Outer(rules.Outer):
         return self.module.type_of(("v" if len(numbers) == 2 else "a",) + numbers, self.ops)
 
 
-def type_of_read(value, outer):
-    return outer.type_of(value[1]) if value[0] == "outer" else TYPE_OF(value, outer)
-
-
-TYPE_OF, rules.type_of = rules.type_of, type_of_read
-
-
 def read_op(text, module):
     """The operation that a text spells for a module, numbered from its next id."""
     return taken(rules.Reader(text, Outer(module)).single(), module.next)

@@ -741,10 +741,13 @@ class Outer:
             return None
         return [("outer", tuple(numbers))]
 
+    def type_of(self, numbers):
+        return self.results if len(numbers) == 2 else self.arguments
+
 
 def type_of(value, outer):
     if value[0] == "result":
         return value[1].results[value[2]]
     if value[0] == "argument":
         return value[1].regions[value[2]].args[value[3]]
-    return outer.results if len(value[1]) == 2 else outer.arguments
+    return outer.type_of(value[1])

@@ -14,8 +14,7 @@ set -eu
 rounds=${1:-5}
 sizes=${2:-1000,10000,100000,1000000}
 cd "$(dirname "$0")/../.."
-program=crates/mlir_work/out/mlir_work
-[ -x "$program" ] || ./run < /dev/null > /dev/null || true
+program=$(python3 tools/sources.py --program)
 
 load() {
     cut -d ' ' -f 1-3 /proc/loadavg | sed 's/^/load: /'

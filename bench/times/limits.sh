@@ -1,10 +1,10 @@
 #!/bin/sh
 # Reads modules of as many operations as there may be, and of one more, and rewrites one of so many, and compares the
-# answers. Run at the top of the repository, after `./run` has built the program:
+# answers. Run at the top of the repository, of the program that `./run` starts:
 #
 #     bench/times/limits.sh
 set -eu
-program=$(dirname "$0")/../../crates/mlir_work/out/mlir_work
+program=$(python3 "$(dirname "$0")/../../tools/sources.py" --program)
 work=$(mktemp -d)
 trap 'rm -rf "$work"' EXIT
 failed=0

@@ -19,7 +19,7 @@ def referred(text):
     return status, out.decode()
 
 
-if "MLIR_WORK" not in os.environ and not program.BUILT.exists():
+if "MLIR_WORK" not in os.environ and not program.of_sources():
     os.environ["MLIR_WORK"] = "reference"
     program.written = referred
 

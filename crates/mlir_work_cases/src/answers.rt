@@ -1,5 +1,5 @@
 //! The answer to a line.
-use crate::{lines, options, readers, replies, runs, traces, writers};
+use crate::{lines, readers, replies, runs, traces, writers};
 use mlir_work_cases_base::texts::first;
 use std::alloc::{AllocError, Global};
 
@@ -31,7 +31,6 @@ pub fn answer(alloc: Global, line: &str) -> Result<String, AllocError> {
             lines::answer(alloc, call, rest)
         }
         "long" => lines::is_too_long(alloc, rest),
-        "words" => options::answer(alloc, rest),
         "refusal" => replies::displayed(alloc, rest),
         "read" => read(alloc, rest),
         "write" => write(alloc, rest),
