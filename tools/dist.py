@@ -56,9 +56,17 @@ def built():
     return stripped(found.read_bytes()), of_sources
 
 
+def agree_on_version():
+    """Stops where the program that was built says another version than CHANGELOG.md."""
+    ran = subprocess.run([sources.BUILT, "--version"], stdout=subprocess.PIPE, stderr=subprocess.DEVNULL, text=True, check=False)
+    if not ran.returncode and ran.stdout.split()[1:] != [version()]:
+        sys.exit(f"the program says {ran.stdout.strip()}, and CHANGELOG.md {version()}")
+
+
 def make():
     """Writes dist/."""
     program, of_sources = built()
+    agree_on_version()
     said = {"version": version(), "sources": of_sources, "kit": kit(), "program": sources.digest_of(program),
             "bytes": len(program)}
     sources.DIST.mkdir(exist_ok=True)

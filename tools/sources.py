@@ -91,8 +91,8 @@ def entries(file):
 
 def shipped(of_sources):
     """The program of dist/, where that is of these sources; it is unpacked once."""
-    said = entries(MANIFEST)
-    if said.get("sources") != of_sources or not PACKED.is_file():
+    said, here = entries(MANIFEST), os.uname()
+    if said.get("sources") != of_sources or not PACKED.is_file() or (here.sysname, here.machine) != ("Linux", "x86_64"):
         return None
     if not UNPACKED.is_file() or digest_of(UNPACKED.read_bytes()) != said.get("program"):
         unpack()
