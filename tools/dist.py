@@ -58,7 +58,8 @@ def built():
 
 def agree_on_version():
     """Stops where the program that was built says another version than CHANGELOG.md."""
-    ran = subprocess.run([sources.BUILT, "--version"], stdout=subprocess.PIPE, stderr=subprocess.DEVNULL, text=True, check=False)
+    ran = subprocess.run([sources.BUILT, "--version"], stdout=subprocess.PIPE, stderr=subprocess.DEVNULL, text=True,
+                         check=False)
     if not ran.returncode and ran.stdout.split()[1:] != [version()]:
         sys.exit(f"the program says {ran.stdout.strip()}, and CHANGELOG.md {version()}")
 
