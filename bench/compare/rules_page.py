@@ -16,4 +16,5 @@ sys.path.append(str(pathlib.Path(__file__).resolve().parents[1]))  # bench/, whe
 from reference import rewrites  # noqa: E402
 from reference.module import read, text_of  # noqa: E402
 
+PAGE = pathlib.Path(__file__).resolve().parents[2] / "docs" / "CANONICALIZE.md"
 EXAMPLE = re.compile(r"^## (\d+) `[a-z-]+`: (.*?)^```mlir\n(.*?)^```\n\nat #(\d+):\n\n```mlir\n(.*?)^```$", re.M | re.S)

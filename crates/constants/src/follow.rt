@@ -1,20 +1,20 @@
 //! The table follows an event.
 ghost use Rattle.std.specs.Prelude.{◌≡◌, ◌≤◌, ◌+◌, true};
-ghost use Rattle.ir_event.specs.Modules.{module_in};
-ghost use Rattle.ir_event.specs.Listener.{is_take};
-ghost use Rattle.constants_base.specs.Facts.{value};
-ghost use Rattle.constants_base.specs.Folds.{known_of};
-ghost use Rattle.constants_base.specs.Trails.{IsThere};
+ghost use Rattle.ir.specs.events.Modules.{module_in};
+ghost use Rattle.ir.specs.events.Listener.{is_take};
+ghost use Rattle.constants.specs.Facts.{value};
+ghost use Rattle.dialects_int.specs.Folds.{known_of};
+ghost use Rattle.constants.specs.Trails.{IsThere};
 ghost use Rattle.constants.specs.Tables.{known_in, look_in, Updated, FactsFollowed, LooksRenewed, LooksWithin, LooksFollowed};
 
 use crate::forget::forget_from;
 use crate::learn::learn_from;
 use crate::table::{drop_fact, fact};
 use crate::users::folded;
-use ir_event::event::Event;
-use ir_event::view::View;
-use ir_types::bits::Bits;
-use ir_types::ids::OpId;
+use ir::events::event::Event;
+use ir::events::view::View;
+use ir::types::bits::Bits;
+use ir::types::ids::OpId;
 use std::alloc::Global;
 use std::collections::BTreeMap;
 

@@ -6,7 +6,7 @@ use Rattle.ir_store.specs.Stored.{Stored}
 use Rattle.ir_event.specs.declared.event.Event.{Event}
 use Rattle.ir_event.specs.declared.world.World.{World}
 use Rattle.ir_event.specs.Modules.{Module, module_in, module_meaning}
-use Rattle.rewriter_journal.specs.Journals.{IsJournal}
+use Rattle.rewriter_laws.specs.Journals.{IsJournal}
 use Rattle.rewriter.specs.Held.{Held, module_at, module_held}
 use Rattle.patterns_touched.specs.Listing.{Touched}
 use Rattle.patterns_touched.specs.Near.{Leads}

@@ -22,9 +22,9 @@ use Rattle.ir_event.specs.Modules.{Module, module_meaning}
 use Rattle.ir_event.specs.Step.{Step}
 use Rattle.ir_event.specs.Undoing.{CameFrom, undone}
 use Rattle.op_registry.specs.Registry.{own_of}
-use Rattle.rewriter_journal.specs.Journals.{IsForward, IsJournal, before, undone_all}
-use Rattle.rewriter_journal.proofs.Maps.{set_other, cut_here, cut_other}
-use Rattle.rewriter_journal.proofs.Undoings.{present_below}
+use Rattle.rewriter_laws.specs.Journals.{IsForward, IsJournal, before, undone_all}
+use Rattle.rewriter_laws.proofs.Maps.{set_other, cut_here, cut_other}
+use Rattle.rewriter_laws.proofs.Undoings.{present_below}
 use Rattle.patterns_touched.specs.Near.{Leads, IsShown}
 use Rattle.patterns_touched.proofs.Still.{goes_out, goes_in, goes_on, all_edited}
 use Rattle.patterns_touched.proofs.Tracked.{operand_id, operand_name, part_id, part_name, gone_found}

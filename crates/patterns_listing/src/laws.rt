@@ -4,7 +4,7 @@ ghost use Rattle.ir_types.specs.Things.{Things};
 ghost use Rattle.ir_store.specs.Stored.{Stored};
 ghost use Rattle.ir_event.specs.declared.event.Event.{Event as Edit};
 ghost use Rattle.ir_event.specs.Modules.{module_meaning};
-ghost use Rattle.rewriter_journal.specs.Journals.{IsJournal, before};
+ghost use Rattle.rewriter_laws.specs.Journals.{IsJournal, before};
 ghost use Rattle.patterns_touched.specs.Near.{Leads};
 ghost use Rattle.patterns_listing.specs.Shown.{shown_operands};
 

@@ -3,4 +3,4 @@
 
 pub mod laws;
 
-pub use ir_event as events;
+pub use ir::events;

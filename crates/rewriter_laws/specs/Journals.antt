@@ -1,0 +1,61 @@
+-- Journals: the events that led to what a store holds, so that each can be undone in its turn.
+use Rattle.std.specs.Prelude.{◌≡◌, ℕ, ◌≤◌, true, false, List, [], ◌∷◌, ◌++◌, length, drop, None, is_some}
+use Rattle.std.specs.FinMap as map
+use Rattle.ir.specs.types.Things.{Things}
+use Rattle.ir.specs.types.Sound.{IsSound}
+use Rattle.ir.specs.trees.Meaning.{IsSoundIn, isolated_in}
+use Rattle.ir.specs.trees.WellFormed.{IsWellFormed}
+use Rattle.ir.specs.store.Stored.{Stored, known}
+use Rattle.ir.specs.events.declared.event.Event.{Event}
+use Rattle.ir.specs.events.declared.event.Event.TheVariants.{Put, Take, SetOperand, SetEntry, Shift}
+use Rattle.ir.specs.events.Facts.{HeldIsSound}
+use Rattle.ir.specs.events.Modules.{Module, module_meaning}
+use Rattle.ir.specs.events.Step.{inverse_of}
+use Rattle.ir.specs.events.Undoing.{CameFrom, undone}
+
+-- an event as an edit gives it: what is put has a new id, and what is taken keeps its own
+abbrev pub IsForward : Event → Type 0
+IsForward (Put x place fresh) = fresh ≡ true
+IsForward (Take x place fresh) = fresh ≡ false
+IsForward (SetOperand x k old new) = Unit {0}
+IsForward (SetEntry x part k old new) = Unit {0}
+IsForward (Shift x old new) = Unit {0}
+
+-- what a store held before some events, the oldest first: each is undone, the newest first
+abbrev pub undone_all : Things → List Event → Stored → Stored
+undone_all c [] s = s
+undone_all c (e ∷ es) s = undone c e (undone_all c es s)
+
+-- the module before them, in contents
+abbrev pub before : Things → List Event → Stored → Module
+before c es s = module_meaning c (undone_all c es s).module_of
+
+-- the events led, one after another, to what a store holds, and each can be undone in its turn
+abbrev pub IsJournal : Things → List Event → Stored → Type 0
+IsJournal c [] s = Unit {0}
+IsJournal c (e ∷ es) s = IsJournal c es s × (IsForward e × CameFrom c e (before c (e ∷ es) s) (undone_all c es s))
+
+-- nothing is held under an id that is still to be given out
+abbrev pub IsTidy : Stored → Type 0
+IsTidy s = (x : ℕ) → s.module_of.next ≤ x → map.get s.held x ≡ None
+
+-- each operation of the module, and each held one, has a list of the keys that are gone from it
+abbrev pub IsSlotted : Stored → Type 0
+IsSlotted s = (x : ℕ) → is_some (known x s) ≡ true → is_some (map.get s.gone x) ≡ true
+
+-- the inverses of some events, the newest first
+abbrev pub inverses : List Event → List Event
+inverses [] = []
+inverses (e ∷ es) = inverses es ++ inverse_of e ∷ []
+
+-- what is true of a store in its context: all that it holds is of the context, and its module is well-formed
+pub record IsStoreOf (c : Things) (s : Stored) : Type 0 where
+  pub context : IsSound c
+  pub sound : IsSoundIn c s.module_of.tree
+  pub formed : IsWellFormed (isolated_in c) s.module_of
+  pub held : HeldIsSound c s.held
+
+-- the event is at the end of the journal now, and the modules behind older events are what they were
+pub record Noted (c : Things) (es : List Event) (e : Event) (s u : Stored) : Type 0 where
+  pub journal : IsJournal c (es ++ e ∷ []) u
+  pub modules : (k : ℕ) → k ≤ length es → before c (drop k es ++ e ∷ []) u ≡ before c (drop k es) s
