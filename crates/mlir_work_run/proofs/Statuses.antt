@@ -76,7 +76,7 @@ not_final status e (inr (inl h)) = omega arith
 not_final status e (inr (inr h)) = omega arith
 
 -- status 4 is answered only where a read or a write failed
-pub fault_at : (taken left : Intake) (a b : Stream) (status : ℕ) → LeavesAt taken left a b status → status ≡ 4 → HasFailed left b
+pub fault_at : (taken left : Intake) (a b : Stream) (status : ℕ) → LeavesAt taken left a b status → status ≡ 4 → HasFailed taken left b
 fault_at taken left a b status (inl h) e = absurd (not_final status e h.0)
 fault_at taken left a b status (inr (four, inl h)) e = inl h.0
 fault_at taken left a b status (inr (four, inr h)) e = inr h.1

@@ -1,7 +1,7 @@
 -- How a whole run ends.
 use Rattle.std.specs.Prelude.{◌≡◌, ℕ, List, true, ◌⊎◌, Option, Result, Ok, Err}
 use Rattle.std.specs.Io.KnownBytes.{Appends, Keeps}
-use Rattle.mlir_work_session.specs.Reads.{Intake, IsReadWhole}
+use Rattle.mlir_work_session.specs.Reads.{Intake, IsReadFault, IsReadWhole}
 use Rattle.mlir_work_session.specs.Writes.{AppendsFront, Stays, Stream}
 use Rattle.mlir_work_session.specs.WriteFault.{WriteFault}
 use Rattle.mlir_work_run.specs.declared.run.Fault.{Fault}
@@ -26,21 +26,25 @@ status_of (Err e) = 4
 abbrev pub IsFinal : ℕ → Type 0
 IsFinal status = (status ≡ 0) ⊎ ((status ≡ 1) ⊎ (status ≡ 3))
 
--- the same, where all that is known is the exit status: with 4 nothing was written, or a front of an output
+-- where all that is known is the exit status: with 4 nothing was written, or a front of an output
 abbrev pub HasStatus : (ℕ → List ℕ → Type 0) → Option (List ℕ) → Option (List ℕ) → ℕ → Type 0
-HasStatus P old new status = (IsFinal status × ((out : List ℕ) × P status out × Appends old new out)) ⊎ ((status ≡ 4) × (Keeps old new ⊎ ((other : ℕ) × (out : List ℕ) × P other out × AppendsFront old new out)))
+HasStatus P old new status =
+    (IsFinal status × ((out : List ℕ) × P status out × Appends old new out))
+    ⊎ ((status ≡ 4) × (Keeps old new ⊎ ((other : ℕ) × (out : List ℕ) × P other out × AppendsFront old new out)))
 
--- how a run leaves its reader and its writer. Where it has a status all was read, no read failed and no write; after a
--- read fault a read failed, and nothing was written; at a write fault all had been read, no read failed, and a write did
+-- how a run leaves its reader and its writer. Where it has a status all was read, and no read and no write failed; after
+-- a read fault nothing was written; at a write fault all had been read, no read failed, and a write did
 abbrev pub Leaves : Intake → Intake → Stream → Stream → Result ℕ Fault → Type 0
 Leaves taken left old new (Ok status) = IsFinal status × IsReadWhole taken left × (new.failed ≡ old.failed)
-Leaves taken left old new (Err ReadFailed) = (left.failed ≡ true) × Stays old new
+Leaves taken left old new (Err ReadFailed) = IsReadFault taken left × Stays old new
 Leaves taken left old new (Err WriteFailed) = IsReadWhole taken left × (new.failed ≡ true)
 
--- the same, where all that is known is the exit status
+-- where all that is known is the exit status
 abbrev pub LeavesAt : Intake → Intake → Stream → Stream → ℕ → Type 0
-LeavesAt taken left old new status = (IsFinal status × IsReadWhole taken left × (new.failed ≡ old.failed)) ⊎ ((status ≡ 4) × (((left.failed ≡ true) × Stays old new) ⊎ (IsReadWhole taken left × (new.failed ≡ true))))
+LeavesAt taken left old new status =
+    (IsFinal status × IsReadWhole taken left × (new.failed ≡ old.failed))
+    ⊎ ((status ≡ 4) × ((IsReadFault taken left × Stays old new) ⊎ (IsReadWhole taken left × (new.failed ≡ true))))
 
--- a read or a write failed
-abbrev pub HasFailed : Intake → Stream → Type 0
-HasFailed reader writer = (reader.failed ≡ true) ⊎ (writer.failed ≡ true)
+-- a read or a write failed, or a read would have been one too many
+abbrev pub HasFailed : Intake → Intake → Stream → Type 0
+HasFailed taken left writer = IsReadFault taken left ⊎ (writer.failed ≡ true)

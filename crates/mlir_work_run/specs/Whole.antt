@@ -9,7 +9,7 @@ use Rattle.ir_event.specs.Modules.{Module}
 use Rattle.mlir_work_session.specs.Public.{Spells}
 use Rattle.mlir_work_session.specs.Parts.{module_text, script_text}
 use Rattle.mlir_work_session.specs.Replies.{module_refused_line}
-use Rattle.mlir_work_session.specs.TheConstants.{MAX_INPUT_BYTES}
+use Rattle.mlir_work_session.specs.Limits.{most_input_bytes}
 use Rattle.mlir_work_session.specs.Panels.{Shown}
 use Rattle.mlir_work_session.specs.Output.{IsSession}
 use Rattle.mlir_work_session.specs.declared.manner.Manner.{Manner}
@@ -35,7 +35,7 @@ IsWorldOf text m = (t : Operation) × Spells text t × (m ≡ record { tree = t;
 
 -- there are too many bytes
 abbrev pub IsTooMany : List ℕ → ℕ → List ℕ → Type 0
-IsTooMany input status out = (MAX_INPUT_BYTES < length input) × IsRefusal TooMany (Some MAX_INPUT_BYTES) status out
+IsTooMany input status out = (most_input_bytes < length input) × IsRefusal TooMany (Some most_input_bytes) status out
 
 -- how the script of an input of so many bytes is run
 abbrev pub manner_of : Options → ℕ → Manner
@@ -49,4 +49,4 @@ IsRead options boxes input status out = (m : Module) × IsWorldOf (module_text i
 abbrev pub IsOutput : Options → List Shown → List ℕ → ℕ → List ℕ → Type 0
 IsOutput options boxes input status out =
     IsTooMany input status out
-    ⊎ ((length input ≤ MAX_INPUT_BYTES) × (IsUnread (module_text input) status out ⊎ IsRead options boxes input status out))
+    ⊎ ((length input ≤ most_input_bytes) × (IsUnread (module_text input) status out ⊎ IsRead options boxes input status out))

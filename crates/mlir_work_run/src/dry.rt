@@ -13,19 +13,19 @@ use mlir_work_session::writing::WriteFault;
 use std::alloc::Global;
 use std::io::Read;
 
-/// Bytes in memory. No read of them fails.
+/// Bytes in memory. No read of them fails or is interrupted, and none is counted.
 #[derive(Drop)]
 struct Bytes<'a> {
     rest: &'a [u8],
 }
 
 impl Source for Bytes<'_> {
-    ghost intake = { λ b. record { remaining = Some b.rest.now; failed = false } };
+    ghost intake = { λ b. record { remaining = Some b.rest.now; failed = false; interrupted = false; reads = None } };
 
     fn read_some(&mut self, buffer: &mut [u8]) -> Result<usize, SourceFault> {
         match self.rest.read(buffer) {
             Ok(taken) => Ok(taken),
-            Err(_) => Err(SourceFault),
+            Err(_) => Err(SourceFault::Failed),
         }
     }
 }

@@ -8,9 +8,10 @@ ghost use Rattle.ir_event.specs.Modules.{module_in};
 ghost use Rattle.mlir_work_session.specs.Public.{IsOnly, Spells};
 ghost use Rattle.rewriter_journal.specs.Journals.{IsSlotted, IsTidy};
 ghost use Rattle.mlir_work_session.specs.Panels.{all_shown};
+ghost use Rattle.mlir_work_session.specs.Limits.{most_input_bytes, most_reads, most_script_bytes};
 ghost use Rattle.mlir_work_session.specs.Lines.{lines_of};
 ghost use Rattle.mlir_work_session.specs.Parts.{module_text, script_text};
-ghost use Rattle.mlir_work_session.specs.TheConstants.{MAX_SCRIPT_BYTES};
+ghost use Rattle.mlir_work_session.specs.Reads.{AreMadeAtMost};
 ghost use Rattle.mlir_work_session.specs.Writes.{HandsOn};
 ghost use Rattle.mlir_work_session.specs.Output.{IsSession};
 ghost use Rattle.mlir_work_session.specs.declared.manner.Manner.{Manner as Way};
@@ -180,7 +181,7 @@ fn taken_apart(
 
 /// Whether a script only prints, and no two listeners have one kind: then no line asks for what a listener keeps.
 fn asks_for_prints<L: Analysis>(script: &[u8], boxes: &[L]) -> bool
-    ensures short { IsTrue result → length script.now ≤ MAX_SCRIPT_BYTES }
+    ensures short { IsTrue result → length script.now ≤ most_script_bytes }
     ensures prints { IsTrue result → all_print (lines_of script.now) ≡ true }
     ensures apart { IsTrue result → kinds_apart L.meaning boxes.now ≡ true }
 {
@@ -200,7 +201,7 @@ fn answer_prints<W: Sink, L: Analysis>(
     boxes: &[L],
 ) -> Result<u8, WriteFault>
     requires sound { IsSoundIn ctx.now tree.now }
-    requires short { length script.now ≤ MAX_SCRIPT_BYTES }
+    requires short { length script.now ≤ most_script_bytes }
     requires prints { all_print (lines_of script.now) ≡ true }
     requires apart { kinds_apart L.meaning boxes.now ≡ true }
     ensures { (way : Way) (next : ℕ) → RanOut (IsSession way (all_shown L.meaning boxes.now) (record { tree = meaning ctx.now tree.now; next = next }) script.now) (W.stream writer.old) (W.stream writer.new) result }
@@ -250,7 +251,7 @@ fn answer_input<W: Sink, L: Analysis>(
     writer: &mut W,
     boxes: Vec<L>,
 ) -> Result<u8, WriteFault>
-    requires { length input.items ≤ MAX_INPUT_BYTES }
+    requires { length input.items ≤ most_input_bytes }
     ensures { RanOut (IsOutput options (all_shown L.meaning boxes.items) input.items) (W.stream writer.old) (W.stream writer.new) result }
 {
     let manner = manner_of(options, input.len());
@@ -277,8 +278,9 @@ fn ended(ran: Result<u8, WriteFault>) -> Result<u8, Fault>
 }
 
 /// Reads the whole input, and then runs it, with a reader and a writer of which it may be known whether they failed.
-/// After a read fault nothing is written; after a write fault a front of an output is. A fault is answered only where a
-/// read or a write failed. Nothing that is written depends on the key with which names are hashed.
+/// After a read fault nothing is written; after a write fault a front of an output is. At most `MAX_READS` reads are
+/// made. A fault is answered only where a read or a write failed, or one more read was wanted. Nothing that is written
+/// depends on the key with which names are hashed.
 pub fn read_and_answer_watched<R: Source, W: Sink, L: Analysis>(
     alloc: Global,
     key: u64,
@@ -289,6 +291,7 @@ pub fn read_and_answer_watched<R: Source, W: Sink, L: Analysis>(
 ) -> Result<u8, Fault>
     ensures ran { IfSome (R.intake reader.old).remaining (λ input. EndedSo (IsOutput options (all_shown L.meaning boxes.items) input) (W.stream writer.old).contents (W.stream writer.new).contents result) }
     ensures leaves { Leaves (R.intake reader.old) (R.intake reader.new) (W.stream writer.old) (W.stream writer.new) result }
+    ensures made { AreMadeAtMost (R.intake reader.old).reads (R.intake reader.new).reads most_reads }
 {
     let input = match read_all(alloc, reader) {
         Ok(input) => input,
@@ -333,8 +336,8 @@ fn exit_status(ended: Result<u8, Fault>) -> u8
 /// Reads the whole input, a module and a script, then writes the output, with a reader and a writer of which it may be
 /// known whether they failed. What is written is an output of what was read, and the answer is the exit status: 0 where
 /// all was accepted, 1 where a command or a box was refused, 3 where the module was, and 4 only where a read or a write
-/// failed. After a failed read nothing was written; all is read before the first byte is written. Nothing that is
-/// written depends on the key with which names are hashed.
+/// failed, or one more read than `MAX_READS` was wanted. After a read fault nothing was written; all is read before the
+/// first byte is written. Nothing that is written depends on the key with which names are hashed.
 pub fn run_watched<L: Analysis, R: Source, W: Sink>(
     alloc: Global,
     key: u64,
@@ -345,7 +348,8 @@ pub fn run_watched<L: Analysis, R: Source, W: Sink>(
 ) -> u8
     ensures ran { IfSome (R.intake reader.old).remaining (λ input. HasStatus (IsOutput options (all_shown L.meaning boxes.items) input) (W.stream writer.old).contents (W.stream writer.new).contents result) }
     ensures leaves { LeavesAt (R.intake reader.old) (R.intake reader.new) (W.stream writer.old) (W.stream writer.new) result }
-    ensures fault { result ≡ 4 → HasFailed (R.intake reader.new) (W.stream writer.new) }
+    ensures fault { result ≡ 4 → HasFailed (R.intake reader.old) (R.intake reader.new) (W.stream writer.new) }
+    ensures made { AreMadeAtMost (R.intake reader.old).reads (R.intake reader.new).reads most_reads }
 {
     exit_status(read_and_answer_watched(alloc, key, options, reader, writer, boxes))
 }
@@ -366,8 +370,8 @@ pub fn run<L: Analysis, R: Read, W: Write>(
     run_keyed(alloc, 0, options, reader, writer, boxes)
 }
 
-/// The same, where names are hashed with a key that nobody who writes a text knows, so that no text can be written
-/// whose names collide. Nothing that is written depends on it.
+/// Runs as `run` does, but names are hashed with a key that nobody who writes a text knows, so that no text can be
+/// written whose names collide. Nothing that is written depends on it.
 pub fn run_keyed<L: Analysis, R: Read, W: Write>(
     alloc: Global,
     key: u64,
