@@ -1,5 +1,5 @@
 //! Dry runs: the input stands in memory and nothing is kept of the output, so no read and no write can fail.
-ghost use Rattle.std.specs.Prelude.{ℕ, List, Some, None, false};
+ghost use Rattle.std.specs.Prelude.{ℕ, List, Some, None, false, true};
 ghost use Rattle.mlir_work_session.specs.Panels.{all_shown};
 ghost use Rattle.mlir_work_session.specs.Reads.{Intake};
 ghost use Rattle.mlir_work_session.specs.Writes.{Stream};
@@ -36,6 +36,8 @@ struct Nowhere;
 
 impl Sink for Nowhere {
     ghost stream = { λ w. record { contents = None; failed = false } };
+
+    ghost handed = { λ w. true };
 
     fn write_some(&mut self, bytes: &[u8]) -> Result<usize, WriteFault> {
         Ok(bytes.len())

@@ -16,8 +16,8 @@ ghost use Rattle.mlir_work_session.specs.Writes.{HandsOn};
 ghost use Rattle.mlir_work_session.specs.Output.{IsSession};
 ghost use Rattle.mlir_work_session.specs.declared.manner.Manner.{Manner as Way};
 ghost use Rattle.mlir_work_session.specs.PrintsAlone.{all_print, kinds_apart};
-ghost use Rattle.mlir_work_session.specs.Ran.{RanOut};
-ghost use Rattle.mlir_work_run.specs.Ends.{EndedSo, HasFailed, HasStatus, Leaves, LeavesAt, ended_of, status_of};
+ghost use Rattle.mlir_work_run.specs.Ends.{EndedSo, HandedOut, HasFailed, HasStatus, Leaves, LeavesAt, ended_of};
+ghost use Rattle.mlir_work_run.specs.Ends.{status_of};
 ghost use Rattle.mlir_work_run.specs.Whole.{IsOutput, IsRefusal, WhyNot, manner_of};
 
 use dialects_int::tables::registry;
@@ -137,7 +137,8 @@ fn no_memory() -> Unread
 
 /// Hands on what a buffering writer still holds, and gives the status.
 fn finish<W: Sink>(writer: &mut W, status: u8) -> Result<u8, WriteFault>
-    ensures handed { HandsOn (W.stream writer.old) (W.stream writer.new) result }
+    ensures stays { HandsOn (W.stream writer.old) (W.stream writer.new) result }
+    ensures handed { IfOk result (λ _. W.handed writer.new ≡ true) }
     ensures status { IfOk result (λ s. s ≡ status) }
 {
     match flush(writer) {
@@ -148,7 +149,8 @@ fn finish<W: Sink>(writer: &mut W, status: u8) -> Result<u8, WriteFault>
 
 /// Writes that the module is refused.
 fn refuse<W: Sink>(writer: &mut W, unread: Unread) -> Result<u8, WriteFault>
-    ensures { RanOut (IsRefusal unread.refusal unread.offset) (W.stream writer.old) (W.stream writer.new) result }
+    ensures { HandedOut (IsRefusal unread.refusal unread.offset)
+        (W.stream writer.old) (W.stream writer.new) (W.handed writer.new) result }
 {
     match put_module_refused(writer, unread.refusal, unread.offset) {
         Ok(()) => finish(writer, 3),
@@ -204,7 +206,10 @@ fn answer_prints<W: Sink, L: Analysis>(
     requires short { length script.now ≤ most_script_bytes }
     requires prints { all_print (lines_of script.now) ≡ true }
     requires apart { kinds_apart L.meaning boxes.now ≡ true }
-    ensures { (way : Way) (next : ℕ) → RanOut (IsSession way (all_shown L.meaning boxes.now) (record { tree = meaning ctx.now tree.now; next = next }) script.now) (W.stream writer.old) (W.stream writer.new) result }
+    ensures { (way : Way) (next : ℕ) → HandedOut
+        (IsSession way (all_shown L.meaning boxes.now)
+        (record { tree = meaning ctx.now tree.now; next = next }) script.now)
+        (W.stream writer.old) (W.stream writer.new) (W.handed writer.new) result }
 {
     match print_session(alloc, ctx, tree, script, writer, boxes) {
         Ok(status) => finish(writer, status),
@@ -223,7 +228,8 @@ fn answer_script<W: Sink, L: Analysis>(
 ) -> Result<u8, WriteFault>
     requires slotted { IsSlotted world.store }
     requires tidy { IsTidy world.store }
-    ensures { RanOut (IsSession manner.now (all_shown L.meaning boxes.items) (module_in world) script.now) (W.stream writer.old) (W.stream writer.new) result }
+    ensures { HandedOut (IsSession manner.now (all_shown L.meaning boxes.items) (module_in world) script.now)
+        (W.stream writer.old) (W.stream writer.new) (W.handed writer.new) result }
 {
     match run_session(alloc, manner, world, script, writer, boxes) {
         Ok(status) => finish(writer, status),
@@ -252,7 +258,8 @@ fn answer_input<W: Sink, L: Analysis>(
     boxes: Vec<L>,
 ) -> Result<u8, WriteFault>
     requires { length input.items ≤ most_input_bytes }
-    ensures { RanOut (IsOutput options (all_shown L.meaning boxes.items) input.items) (W.stream writer.old) (W.stream writer.new) result }
+    ensures { HandedOut (IsOutput options (all_shown L.meaning boxes.items) input.items)
+        (W.stream writer.old) (W.stream writer.new) (W.handed writer.new) result }
 {
     let manner = manner_of(options, input.len());
     let ((ctx, tree), script) = match taken_apart(alloc, key, input) {
@@ -289,8 +296,11 @@ pub fn read_and_answer_watched<R: Source, W: Sink, L: Analysis>(
     writer: &mut W,
     boxes: Vec<L>,
 ) -> Result<u8, Fault>
-    ensures ran { IfSome (R.intake reader.old).remaining (λ input. EndedSo (IsOutput options (all_shown L.meaning boxes.items) input) (W.stream writer.old).contents (W.stream writer.new).contents result) }
-    ensures leaves { Leaves (R.intake reader.old) (R.intake reader.new) (W.stream writer.old) (W.stream writer.new) result }
+    ensures ran { IfSome (R.intake reader.old).remaining (λ input. EndedSo
+        (IsOutput options (all_shown L.meaning boxes.items) input)
+        (W.stream writer.old).contents (W.stream writer.new).contents result) }
+    ensures leaves { Leaves (R.intake reader.old) (R.intake reader.new)
+        (W.stream writer.old) (W.stream writer.new) (W.handed writer.new) result }
     ensures made { AreMadeAtMost (R.intake reader.old).reads (R.intake reader.new).reads most_reads }
 {
     let input = match read_all(alloc, reader) {
@@ -318,7 +328,9 @@ pub fn read_and_answer<R: Read, W: Write, L: Analysis>(
     writer: &mut W,
     boxes: Vec<L>,
 ) -> Result<u8, Fault>
-    ensures ran { IfSome (R.remaining reader.old) (λ input. EndedSo (IsOutput options (all_shown L.meaning boxes.items) input) (W.contents writer.old) (W.contents writer.new) result) }
+    ensures ran { IfSome (R.remaining reader.old) (λ input. EndedSo
+        (IsOutput options (all_shown L.meaning boxes.items) input)
+        (W.contents writer.old) (W.contents writer.new) result) }
     ensures unread { IfErr result (λ e. e ≡ Fault.Read → Keeps (W.contents writer.old) (W.contents writer.new)) }
 {
     read_and_answer_watched(alloc, key, options, reader, writer, boxes)
@@ -337,7 +349,8 @@ fn exit_status(ended: Result<u8, Fault>) -> u8
 /// known whether they failed. What is written is an output of what was read, and the answer is the exit status: 0 where
 /// all was accepted, 1 where a command or a box was refused, 3 where the module was, and 4 only where a read or a write
 /// failed, or one more read than `MAX_READS` was wanted. After a read fault nothing was written; all is read before the
-/// first byte is written. Nothing that is written depends on the key with which names are hashed.
+/// first byte is written, and all that is written is handed on where the answer isn't 4. Nothing that is written
+/// depends on the key with which names are hashed.
 pub fn run_watched<L: Analysis, R: Source, W: Sink>(
     alloc: Global,
     key: u64,
@@ -346,8 +359,11 @@ pub fn run_watched<L: Analysis, R: Source, W: Sink>(
     writer: &mut W,
     boxes: Vec<L>,
 ) -> u8
-    ensures ran { IfSome (R.intake reader.old).remaining (λ input. HasStatus (IsOutput options (all_shown L.meaning boxes.items) input) (W.stream writer.old).contents (W.stream writer.new).contents result) }
-    ensures leaves { LeavesAt (R.intake reader.old) (R.intake reader.new) (W.stream writer.old) (W.stream writer.new) result }
+    ensures ran { IfSome (R.intake reader.old).remaining (λ input. HasStatus
+        (IsOutput options (all_shown L.meaning boxes.items) input)
+        (W.stream writer.old).contents (W.stream writer.new).contents result) }
+    ensures leaves { LeavesAt (R.intake reader.old) (R.intake reader.new)
+        (W.stream writer.old) (W.stream writer.new) (W.handed writer.new) result }
     ensures fault { result ≡ 4 → HasFailed (R.intake reader.old) (R.intake reader.new) (W.stream writer.new) }
     ensures made { AreMadeAtMost (R.intake reader.old).reads (R.intake reader.new).reads most_reads }
 {
@@ -365,7 +381,9 @@ pub fn run<L: Analysis, R: Read, W: Write>(
     writer: &mut W,
     boxes: Vec<L>,
 ) -> u8
-    ensures { IfSome (R.remaining reader.old) (λ input. HasStatus (IsOutput options (all_shown L.meaning boxes.items) input) (W.contents writer.old) (W.contents writer.new) result) }
+    ensures { IfSome (R.remaining reader.old) (λ input. HasStatus
+        (IsOutput options (all_shown L.meaning boxes.items) input)
+        (W.contents writer.old) (W.contents writer.new) result) }
 {
     run_keyed(alloc, 0, options, reader, writer, boxes)
 }
@@ -380,7 +398,9 @@ pub fn run_keyed<L: Analysis, R: Read, W: Write>(
     writer: &mut W,
     boxes: Vec<L>,
 ) -> u8
-    ensures { IfSome (R.remaining reader.old) (λ input. HasStatus (IsOutput options (all_shown L.meaning boxes.items) input) (W.contents writer.old) (W.contents writer.new) result) }
+    ensures { IfSome (R.remaining reader.old) (λ input. HasStatus
+        (IsOutput options (all_shown L.meaning boxes.items) input)
+        (W.contents writer.old) (W.contents writer.new) result) }
 {
     run_watched(alloc, key, options, reader, writer, boxes)
 }

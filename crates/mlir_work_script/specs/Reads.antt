@@ -1,5 +1,6 @@
 -- What was read.
-use Rattle.std.specs.Prelude.{◌≡◌, ◌+◌, ◌<◌, ◌≤◌, ℕ, List, length, Bool, true, ⊤, Option, Some, None, ◌⊎◌, IfSome, Result, Ok, Err}
+use Rattle.std.specs.Prelude.{◌≡◌, ◌+◌, ◌<◌, ◌≤◌, ℕ, List, length, Bool, true, ⊤, Option, Some, None, ◌⊎◌, IfSome}
+use Rattle.std.specs.Prelude.{Result, Ok, Err}
 use Rattle.std.specs.Io.KnownBytes.{ReadConsumes, IsAtEnd}
 use Rattle.mlir_work_script.specs.Limits.{most_input_bytes, most_reads}
 use Rattle.mlir_work_script.specs.declared.input.ReadFault.{ReadFault}
@@ -30,8 +31,10 @@ AreMadeAtMost (Some old) (Some new) n = new ≤ old + n
 
 -- one read was made, or, at a failure, one at most; and it is recorded that it was interrupted, or that it failed
 abbrev pub IsRecorded : Intake → Intake → Result ℕ SourceFault → Type 0
-IsRecorded old new (Ok n) = AreMade old.reads new.reads 1 × (new.failed ≡ old.failed) × (new.interrupted ≡ old.interrupted)
-IsRecorded old new (Err Interrupted) = AreMade old.reads new.reads 1 × (new.failed ≡ old.failed) × (new.interrupted ≡ true)
+IsRecorded old new (Ok n) =
+    AreMade old.reads new.reads 1 × (new.failed ≡ old.failed) × (new.interrupted ≡ old.interrupted)
+IsRecorded old new (Err Interrupted) =
+    AreMade old.reads new.reads 1 × (new.failed ≡ old.failed) × (new.interrupted ≡ true)
 IsRecorded old new (Err Failed) = AreMadeAtMost old.reads new.reads 1 × (new.failed ≡ true)
 
 -- at an Ok the first n bytes of the buffer were read, none only at the end or with no room; at an Err none were
@@ -40,7 +43,9 @@ Takes old new r buffer = ReadConsumes old.remaining new.remaining r buffer × Is
 
 -- all was read, or there is more than an input may have; and no read failed
 abbrev pub IsReadWhole : Intake → Intake → Type 0
-IsReadWhole old new = (IsAtEnd new.remaining ⊎ IfSome old.remaining (λ input. most_input_bytes < length input)) × (new.failed ≡ old.failed)
+IsReadWhole old new =
+    (IsAtEnd new.remaining ⊎ IfSome old.remaining (λ input. most_input_bytes < length input))
+    × (new.failed ≡ old.failed)
 
 -- as many reads were made as a run may make, and one was interrupted: without that an input is read whole by fewer
 abbrev pub IsRunOut : Intake → Intake → Type 0

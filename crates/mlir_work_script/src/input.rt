@@ -55,13 +55,15 @@ fn keep(kept: &mut Option<Vec<u8>>, bytes: &[u8])
     }
 }
 
-/// Reads to the end, by at most `MAX_READS` reads; one that is interrupted is made again, and is one of them. Where there
-/// is no memory for the bytes it reads on, so that an input that is too long is always told to be so.
+/// Reads to the end, by at most `MAX_READS` reads; one that is interrupted is made again, and is one of them. Where
+/// there is no memory for the bytes it reads on, so that an input that is too long is always told to be so.
 pub fn read_all<R: Source>(alloc: Global, reader: &mut R) -> Result<Vec<u8>, ReadFault>
     ensures whole { IfOk result (λ all. IfSome (R.intake reader.old).remaining (λ input. all.items ≡ input)) }
     ensures within { IfOk result (λ all. length all.items ≤ most_input_bytes) }
-    ensures too_many { IfErr result (λ fault. fault ≡ TooMany → IfSome (R.intake reader.old).remaining (λ input. most_input_bytes < length input)) }
-    ensures memory { IfErr result (λ fault. fault ≡ NoMemory → IfSome (R.intake reader.old).remaining (λ input. length input ≤ most_input_bytes)) }
+    ensures too_many { IfErr result (λ fault. fault ≡ TooMany →
+        IfSome (R.intake reader.old).remaining (λ input. most_input_bytes < length input)) }
+    ensures memory { IfErr result (λ fault. fault ≡ NoMemory →
+        IfSome (R.intake reader.old).remaining (λ input. length input ≤ most_input_bytes)) }
     ensures read { ReadsWhole (R.intake reader.old) (R.intake reader.new) result }
     ensures made { AreMadeAtMost (R.intake reader.old).reads (R.intake reader.new).reads most_reads }
 {

@@ -59,7 +59,12 @@ impl<R: Read> Source for R {
 
 /// The record is kept. Where no more reads can be counted none is made, which counts as one that failed.
 impl<R: Read> Source for Watched<R> {
-    ghost intake = { λ r. record { remaining = R.remaining r.inner; failed = r.failed; interrupted = r.interrupted; reads = Some r.reads } };
+    ghost intake = { λ r. record {
+      remaining = R.remaining r.inner;
+      failed = r.failed;
+      interrupted = r.interrupted;
+      reads = Some r.reads;
+    } };
 
     fn read_some(&mut self, buffer: &mut [u8]) -> Result<usize, SourceFault> {
         let Some(reads) = self.reads.checked_add(1) else {

@@ -10,4 +10,4 @@ returns-clause-unread g c =
     let left : Intake = record { remaining = g.R.Read.remaining c.read_and_answer_watched.new.reader; failed = true; interrupted = true; reads = None } in
     let old : Stream = record { contents = g.W.Write.contents c.args.writer.now; failed = true } in
     let new : Stream = record { contents = g.W.Write.contents c.read_and_answer_watched.new.writer; failed = true } in
-    unread taken left old new c.read_and_answer_watched.result c.read_and_answer_watched.ensures.leaves
+    unread taken left old new true c.read_and_answer_watched.result c.read_and_answer_watched.ensures.leaves

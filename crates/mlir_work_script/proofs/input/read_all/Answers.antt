@@ -16,31 +16,31 @@ loop-made-preserved g c =
     let before = c.loop-made.invariant in
     let front = c.loop-made.invariant.front in
     elim c.match-read_some.branch [
-      in-Ok+else-count-taken w ↦
-        let bytes = take w.in-Ok.taken c.read_some.new.buffer in
-        let longer : length (front ++ bytes) ≡ length front + w.in-Ok.taken = length-append front bytes ∙ ap (λ n. length front + n) (sym w.in-Ok.ensures.bound.1) in
-        record {
-          front = front ++ bytes;
-          taken = consumes_join _ _ _ front bytes before.taken w.in-Ok.ensures.took.0.0;
-          failed = w.in-Ok.ensures.took.1.1 ∙ before.failed;
-          made = made_join _ _ _ c.loop-made._made 1 before.made w.in-Ok.ensures.took.1.0;
-          counted = w.count-is ∙ (ap (λ n. n + w.in-Ok.taken) before.counted ∙ sym longer);
-          gave = rw w.count-is (gave_more c.loop-made._made c.loop-made.count w.in-Ok.taken _ _ before.gave w.in-Ok.taken-test.1 w.in-Ok.ensures.took.1.2);
-          within = (let room = w.if-count-taken.false in let short = before.within in let same = before.counted in omega (arith, longer));
-          kept = rw w.kept-is (kept_more (λ all. all.items) _ _ front bytes w.keep.ensures.lost w.keep.ensures.kept before.kept);
-        }
-    | in-Err-Interrupted w ↦
-        let took = rw w.in-Err-Interrupted.field-0-is at w.in-Err-Interrupted.ensures.took in
-        record {
-          front = front;
-          taken = consumes_kept _ _ _ front before.taken took.0;
-          failed = took.1.1 ∙ before.failed;
-          made = made_join _ _ _ c.loop-made._made 1 before.made took.1.0;
-          counted = w.count-is ∙ before.counted;
-          gave = inr took.1.2;
-          within = before.within;
-          kept = rw w.kept-is before.kept;
-        }
+      | in-Ok+else-count-taken w ↦
+          let bytes = take w.in-Ok.taken c.read_some.new.buffer in
+          let longer : length (front ++ bytes) ≡ length front + w.in-Ok.taken = length-append front bytes ∙ ap (λ n. length front + n) (sym w.in-Ok.ensures.bound.1) in
+          record {
+            front = front ++ bytes;
+            taken = consumes_join _ _ _ front bytes before.taken w.in-Ok.ensures.took.0.0;
+            failed = w.in-Ok.ensures.took.1.1 ∙ before.failed;
+            made = made_join _ _ _ c.loop-made._made 1 before.made w.in-Ok.ensures.took.1.0;
+            counted = w.count-is ∙ (ap (λ n. n + w.in-Ok.taken) before.counted ∙ sym longer);
+            gave = rw w.count-is (gave_more c.loop-made._made c.loop-made.count w.in-Ok.taken _ _ before.gave w.in-Ok.taken-test.1 w.in-Ok.ensures.took.1.2);
+            within = (let room = w.if-count-taken.false in let short = before.within in let same = before.counted in omega (arith, longer));
+            kept = rw w.kept-is (kept_more (λ all. all.items) _ _ front bytes w.keep.ensures.lost w.keep.ensures.kept before.kept);
+          }
+      | in-Err-Interrupted w ↦
+          let took = rw w.in-Err-Interrupted.field-0-is at w.in-Err-Interrupted.ensures.took in
+          record {
+            front = front;
+            taken = consumes_kept _ _ _ front before.taken took.0;
+            failed = took.1.1 ∙ before.failed;
+            made = made_join _ _ _ c.loop-made._made 1 before.made took.1.0;
+            counted = w.count-is ∙ before.counted;
+            gave = inr took.1.2;
+            within = before.within;
+            kept = rw w.kept-is before.kept;
+          }
     ]
 
 pub returns-in-Ok-eq0-clause-made : goal.returns-in-Ok-eq0-clause-made
