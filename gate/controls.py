@@ -3,7 +3,7 @@
 
 An edit (crates/CRATE/must-fail/NAME.edit of the gate, or bench/wrong_bodies/CRATE/NAME.edit) says something of a
 contract only where it is refused for what its body means, and not for its form: an answer in proofs/ names the calls
-and branches of its function, so a body of another form may be refused however right it is. Its control,
+and branches of its function, so a body of another form may be refused however right it is. Its control, a file
 bench/wrong_bodies/CRATE/NAME.control, changes the lines that the edit changes, with the same calls and branches, and
 means what the contract says.
 
