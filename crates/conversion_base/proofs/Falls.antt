@@ -23,7 +23,7 @@ use Rattle.ir_event.specs.Modules.{Module}
 use Rattle.effects.specs.Dead.{is_unused}
 use Rattle.patterns_edits.specs.Contents.{Edit, all_edited, edited}
 use Rattle.patterns_edits.specs.Edits.{Erase}
-use Rattle.patterns_base.specs.Casting.{rule_21, unrealized, back_from}
+use Rattle.patterns_base.specs.Casting.{cast_back, unrealized, back_from}
 use Rattle.patterns_base.specs.Keeps.{given}
 use Rattle.patterns_base.specs.Looks.{One, is_of_type, one, one_from, source}
 use Rattle.patterns_base.specs.Makes.{give}
@@ -89,7 +89,7 @@ module _ {N T A : Type 0} where
 
 -- ---- casts
 
-rule_is : (t : Operation) (n : ℕ) (front : Place) (o : Operation) → rule 21 t n front o ≡ rule_21 t n front o
+rule_is : (t : Operation) (n : ℕ) (front : Place) (o : Operation) → rule 21 t n front o ≡ cast_back t n front o
 unfolding rule
 rule_is t n front o = refl
 

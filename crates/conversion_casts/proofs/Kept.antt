@@ -20,7 +20,7 @@ use Rattle.ir_tree_laws.proofs.Listed.{both}
 use Rattle.ir_tree_laws.proofs.Members.{stand, has_around}
 use Rattle.ir_event.specs.Modules.{Module}
 use Rattle.patterns_edits.specs.Contents.{Edit}
-use Rattle.patterns_base.specs.Casting.{rule_21, unrealized, back_from, through_index}
+use Rattle.patterns_base.specs.Casting.{cast_back, unrealized, back_from, through_index}
 use Rattle.patterns_base.specs.Keeps.{given}
 use Rattle.patterns_base.specs.Looks.{Header, One, front_of, giver, in_front, is_clean, is_of_type, one, one_from, source, type_of, when}
 use Rattle.patterns_base.specs.Makes.{give}
@@ -40,7 +40,7 @@ edits_are : (m : Module) (x : ℕ) → edits_of 21 m x ≡ given (find x m.tree)
 unfolding edits_of
 edits_are m x = refl
 
-rule_is : (t : Operation) (n : ℕ) (front : Place) (o : Operation) → rule 21 t n front o ≡ rule_21 t n front o
+rule_is : (t : Operation) (n : ℕ) (front : Place) (o : Operation) → rule 21 t n front o ≡ cast_back t n front o
 unfolding rule
 rule_is t n front o = refl
 
@@ -126,7 +126,7 @@ collapses_from m x es c e =
     let o = given_some (find x m.tree) _ es (sym (edits_are m x) ∙ e) in
     let f = given_some (front_of x m.tree) _ es o.2 in
     let w = when_some (is_clean m.tree (head o.0)) _ es f.2 in
-    let r : rule_21 m.tree m.next f.0 o.0 ≡ Some es = sym (rule_is m.tree m.next f.0 o.0) ∙ w.1 in
+    let r : cast_back m.tree m.next f.0 o.0 ≡ Some es = sym (rule_is m.tree m.next f.0 o.0) ∙ w.1 in
     let p = given_some (one (head o.0)) _ es r in
     let name = one_name (head o.0).name (head o.0).operands (head o.0).results p.0 p.1 in
     let cast = ap (named cast_name) name.0 ∙ named_cast x m.tree o.0 c o.1 in

@@ -53,8 +53,8 @@ pub data Step (m n : Module) (x : ℕ) : Type 0 where
   by_rule : is_unused x m.tree ≡ false → (v : Value) → n.tree ≡ without x (with_value_replaced (Result x 0) v m.tree) → Step m n x
 
 module _ (m n : Module) (x : ℕ) where
-  by_21 : is_cast x m.tree ≡ true → is_unused x m.tree ≡ false → rewrite_of 21 m x ≡ becomes n → Step m n x
-  by_21 c u e =
+  by_cast_back : is_cast x m.tree ≡ true → is_unused x m.tree ≡ false → rewrite_of 21 m x ≡ becomes n → Step m n x
+  by_cast_back c u e =
       let w = rewritten 21 m n x e in
       let a = applies 21 m x w.0 w.1 in
       let o = cast_there x m.tree c in
@@ -66,7 +66,7 @@ module _ (m n : Module) (x : ℕ) where
 
   by_either : is_cast x m.tree ≡ true → (b : Bool) → is_unused x m.tree ≡ b → rewrite_or (cond b (becomes (edited (Erase x) m)) none) (rewrite_of 21 m x) ≡ becomes n → Step m n x
   by_either c true u e = by_erasing u (ap (λ (q : Module). q.tree) (sym (becomes_is (edited (Erase x) m) n e)))
-  by_either c false u e = by_21 c u e
+  by_either c false u e = by_cast_back c u e
 
   pub step_of : collapse m x ≡ becomes n → (is_inner x m ≡ true) × Step m n x
   step_of e = go (is_inner x m) refl e

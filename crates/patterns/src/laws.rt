@@ -1,6 +1,6 @@
 //! Laws of the rules 2 to 21 and 25 to 28: the operations that a rule makes give the values that the old one gave.
 pub use patterns_laws::laws::{
-    rule_2, rule_3, rule_4, rule_5, rule_6, rule_7, rule_8, rule_9, rule_10, rule_11, rule_12,
-    rule_13, rule_14, rule_15, rule_16, rule_17, rule_18, rule_19, rule_20, rule_21, rule_25,
-    rule_26, rule_27, rule_28,
+    fold_to_constant, swap_constant, drop_zero, drop_one, drop_all_ones, cancel_itself, keep_itself, zero_remainder, regroup_constants, add_negative, compare_itself,
+    mirror_comparison, compare_zero, choose_same, choose_known, choose_truth, choose_opposite, extend_extension, cut_cast, cast_back, expand_min_max,
+    expand_difference, expand_remainder, lower_index,
 };

@@ -16,7 +16,7 @@ use patterns_makes::plan::Plan;
 use patterns_plans::by_number::plan_by;
 use patterns_plans::clean::is_clean;
 use patterns_plans::look::{front, shown};
-use patterns_regions::plans::{plan_22, plan_23, plan_24};
+use patterns_regions::plans::{plan_open_branch, plan_open_loop, plan_stop_loop};
 use std::alloc::{AllocError, Global};
 
 /// What a rule makes of an operation, and the place in front of that.
@@ -40,12 +40,12 @@ fn plan_in_regions(
     ensures of { IfOk result (λ p. IfSome p (PlanIsOf world.now.ctx)) }
 {
     if rule == 22 {
-        return plan_22(alloc, world, front, op);
+        return plan_open_branch(alloc, world, front, op);
     }
     if rule == 23 {
-        return plan_23(alloc, world, front, op);
+        return plan_open_loop(alloc, world, front, op);
     }
-    plan_24(alloc, world, front, op)
+    plan_stop_loop(alloc, world, front, op)
 }
 
 /// What a rule makes of an operation of the module, of which this is shown, behind a place, if it applies. That the

@@ -20,8 +20,8 @@ use Rattle.patterns_base.specs.Rules.{rule}
 use Rattle.patterns_base.specs.Rewrites.{none, refused, becomes, edits_of, rewrite_of}
 use Rattle.patterns_base.proofs.Small.{i8, i32, Case, at_rule, answer, holding, source, number, user, plain, kept, compared, whole}
 
-abbrev rule_1_dead : Case
-rule_1_dead =
+abbrev erase_dead_dead : Case
+erase_dead_dead =
     at_rule 1 2
     (holding 3 (
     source 1 i32
@@ -29,8 +29,8 @@ rule_1_dead =
     ∷ []))
     (becomes (holding 3 (source 1 i32 ∷ [])))
 
-abbrev rule_1_used : Case
-rule_1_used =
+abbrev erase_dead_used : Case
+erase_dead_used =
     at_rule 1 2
     (holding 4 (
     source 1 i32
@@ -39,8 +39,8 @@ rule_1_used =
     ∷ []))
     none
 
-abbrev rule_2_i1_sum_wraps : Case
-rule_2_i1_sum_wraps =
+abbrev fold_to_constant_i1_sum_wraps : Case
+fold_to_constant_i1_sum_wraps =
     at_rule 2 3
     (holding 5 (
     number 1 i1 1
@@ -55,8 +55,8 @@ rule_2_i1_sum_wraps =
     ∷ user 4 (Result 5 0)
     ∷ [])))
 
-abbrev rule_2_zero_alone : Case
-rule_2_zero_alone =
+abbrev fold_to_constant_zero_alone : Case
+fold_to_constant_zero_alone =
     at_rule 2 3
     (holding 5 (
     source 1 i32
@@ -71,8 +71,8 @@ rule_2_zero_alone =
     ∷ user 4 (Result 5 0)
     ∷ [])))
 
-abbrev rule_2_division_by_zero : Case
-rule_2_division_by_zero =
+abbrev fold_to_constant_division_by_zero : Case
+fold_to_constant_division_by_zero =
     at_rule 2 3
     (holding 5 (
     number 1 i32 4
@@ -82,8 +82,8 @@ rule_2_division_by_zero =
     ∷ []))
     none
 
-abbrev rule_2_bad_constant : Case
-rule_2_bad_constant =
+abbrev fold_to_constant_bad_constant : Case
+fold_to_constant_bad_constant =
     at_rule 2 3
     (holding 5 (
     source 1 i32
@@ -93,8 +93,8 @@ rule_2_bad_constant =
     ∷ []))
     none
 
-abbrev rule_3_swaps : Case
-rule_3_swaps =
+abbrev swap_constant_swaps : Case
+swap_constant_swaps =
     at_rule 3 3
     (holding 4 (
     number 1 i32 4
@@ -107,8 +107,8 @@ rule_3_swaps =
     ∷ plain 3 (codes "arith.addi") (Result 2 0 ∷ Result 1 0 ∷ []) (i32 ∷ [])
     ∷ [])))
 
-abbrev rule_3_two_constants : Case
-rule_3_two_constants =
+abbrev swap_constant_two_constants : Case
+swap_constant_two_constants =
     at_rule 3 3
     (holding 4 (
     number 1 i32 4
@@ -117,8 +117,8 @@ rule_3_two_constants =
     ∷ []))
     none
 
-abbrev rule_3_bad_second_constant : Case
-rule_3_bad_second_constant =
+abbrev swap_constant_bad_second_constant : Case
+swap_constant_bad_second_constant =
     at_rule 3 3
     (holding 4 (
     number 1 i32 4
@@ -127,8 +127,8 @@ rule_3_bad_second_constant =
     ∷ []))
     none
 
-abbrev rule_4_shift_by_zero : Case
-rule_4_shift_by_zero =
+abbrev drop_zero_shift_by_zero : Case
+drop_zero_shift_by_zero =
     at_rule 4 3
     (holding 5 (
     source 1 i8
@@ -142,8 +142,8 @@ rule_4_shift_by_zero =
     ∷ user 4 (Result 1 0)
     ∷ [])))
 
-abbrev rule_4_not_muli : Case
-rule_4_not_muli =
+abbrev drop_zero_not_muli : Case
+drop_zero_not_muli =
     at_rule 4 3
     (holding 5 (
     source 1 i8
@@ -153,8 +153,8 @@ rule_4_not_muli =
     ∷ []))
     none
 
-abbrev rule_5_by_true : Case
-rule_5_by_true =
+abbrev drop_one_by_true : Case
+drop_one_by_true =
     at_rule 5 3
     (holding 5 (
     source 1 i1
@@ -168,8 +168,8 @@ rule_5_by_true =
     ∷ user 4 (Result 1 0)
     ∷ [])))
 
-abbrev rule_6_all_ones : Case
-rule_6_all_ones =
+abbrev drop_all_ones_all_ones : Case
+drop_all_ones_all_ones =
     at_rule 6 3
     (holding 5 (
     source 1 Index
@@ -183,8 +183,8 @@ rule_6_all_ones =
     ∷ user 4 (Result 1 0)
     ∷ [])))
 
-abbrev rule_6_one_bit_short : Case
-rule_6_one_bit_short =
+abbrev drop_all_ones_one_bit_short : Case
+drop_all_ones_one_bit_short =
     at_rule 6 3
     (holding 5 (
     source 1 i8
@@ -194,8 +194,8 @@ rule_6_one_bit_short =
     ∷ []))
     none
 
-abbrev rule_7_itself : Case
-rule_7_itself =
+abbrev cancel_itself_itself : Case
+cancel_itself_itself =
     at_rule 7 2
     (holding 4 (
     source 1 i8
@@ -208,8 +208,8 @@ rule_7_itself =
     ∷ user 3 (Result 4 0)
     ∷ [])))
 
-abbrev rule_8_itself : Case
-rule_8_itself =
+abbrev keep_itself_itself : Case
+keep_itself_itself =
     at_rule 8 2
     (holding 4 (
     source 1 i8
@@ -221,8 +221,8 @@ rule_8_itself =
     ∷ user 3 (Result 1 0)
     ∷ [])))
 
-abbrev rule_9_by_one : Case
-rule_9_by_one =
+abbrev zero_remainder_by_one : Case
+zero_remainder_by_one =
     at_rule 9 3
     (holding 5 (
     source 1 i8
@@ -237,8 +237,8 @@ rule_9_by_one =
     ∷ user 4 (Result 5 0)
     ∷ [])))
 
-abbrev rule_10_sums : Case
-rule_10_sums =
+abbrev regroup_constants_sums : Case
+regroup_constants_sums =
     at_rule 10 5
     (holding 7 (
     source 1 i8
@@ -258,8 +258,8 @@ rule_10_sums =
     ∷ user 6 (Result 8 0)
     ∷ [])))
 
-abbrev rule_10_another_operation : Case
-rule_10_another_operation =
+abbrev regroup_constants_another_operation : Case
+regroup_constants_another_operation =
     at_rule 10 5
     (holding 7 (
     source 1 i8
@@ -271,8 +271,8 @@ rule_10_another_operation =
     ∷ []))
     none
 
-abbrev rule_10_constant_first : Case
-rule_10_constant_first =
+abbrev regroup_constants_constant_first : Case
+regroup_constants_constant_first =
     at_rule 10 5
     (holding 7 (
     source 1 i8
@@ -284,8 +284,8 @@ rule_10_constant_first =
     ∷ []))
     none
 
-abbrev rule_11_negated : Case
-rule_11_negated =
+abbrev add_negative_negated : Case
+add_negative_negated =
     at_rule 11 3
     (holding 5 (
     source 1 i8
@@ -301,8 +301,8 @@ rule_11_negated =
     ∷ user 4 (Result 6 0)
     ∷ [])))
 
-abbrev rule_12_itself : Case
-rule_12_itself =
+abbrev compare_itself_itself : Case
+compare_itself_itself =
     at_rule 12 2
     (holding 4 (
     source 1 i8
@@ -315,8 +315,8 @@ rule_12_itself =
     ∷ user 3 (Result 4 0)
     ∷ [])))
 
-abbrev rule_12_not_itself : Case
-rule_12_not_itself =
+abbrev compare_itself_not_itself : Case
+compare_itself_not_itself =
     at_rule 12 2
     (holding 4 (
     source 1 i8
@@ -329,8 +329,8 @@ rule_12_not_itself =
     ∷ user 3 (Result 4 0)
     ∷ [])))
 
-abbrev rule_13_mirrored : Case
-rule_13_mirrored =
+abbrev mirror_comparison_mirrored : Case
+mirror_comparison_mirrored =
     at_rule 13 3
     (holding 4 (
     number 1 i8 3
@@ -343,8 +343,8 @@ rule_13_mirrored =
     ∷ compared 3 9 (Result 2 0) (Result 1 0)
     ∷ [])))
 
-abbrev rule_13_equal_stays : Case
-rule_13_equal_stays =
+abbrev mirror_comparison_equal_stays : Case
+mirror_comparison_equal_stays =
     at_rule 13 3
     (holding 4 (
     number 1 i8 3
@@ -357,8 +357,8 @@ rule_13_equal_stays =
     ∷ compared 3 0 (Result 2 0) (Result 1 0)
     ∷ [])))
 
-abbrev rule_14_below_zero : Case
-rule_14_below_zero =
+abbrev compare_zero_below_zero : Case
+compare_zero_below_zero =
     at_rule 14 3
     (holding 5 (
     source 1 i8
@@ -373,8 +373,8 @@ rule_14_below_zero =
     ∷ user 4 (Result 5 0)
     ∷ [])))
 
-abbrev rule_14_at_least_zero : Case
-rule_14_at_least_zero =
+abbrev compare_zero_at_least_zero : Case
+compare_zero_at_least_zero =
     at_rule 14 3
     (holding 5 (
     source 1 i8
@@ -389,8 +389,8 @@ rule_14_at_least_zero =
     ∷ user 4 (Result 5 0)
     ∷ [])))
 
-abbrev rule_14_signed : Case
-rule_14_signed =
+abbrev compare_zero_signed : Case
+compare_zero_signed =
     at_rule 14 3
     (holding 5 (
     source 1 i8
@@ -400,8 +400,8 @@ rule_14_signed =
     ∷ []))
     none
 
-abbrev rule_15_same : Case
-rule_15_same =
+abbrev choose_same_same : Case
+choose_same_same =
     at_rule 15 3
     (holding 5 (
     source 1 i1
@@ -415,8 +415,8 @@ rule_15_same =
     ∷ user 4 (Result 2 0)
     ∷ [])))
 
-abbrev rule_16_true : Case
-rule_16_true =
+abbrev choose_known_true : Case
+choose_known_true =
     at_rule 16 4
     (holding 6 (
     number 1 i1 1
@@ -432,8 +432,8 @@ rule_16_true =
     ∷ user 5 (Result 2 0)
     ∷ [])))
 
-abbrev rule_16_false : Case
-rule_16_false =
+abbrev choose_known_false : Case
+choose_known_false =
     at_rule 16 4
     (holding 6 (
     number 1 i1 0
@@ -449,8 +449,8 @@ rule_16_false =
     ∷ user 5 (Result 3 0)
     ∷ [])))
 
-abbrev rule_17_itself : Case
-rule_17_itself =
+abbrev choose_truth_itself : Case
+choose_truth_itself =
     at_rule 17 4
     (holding 6 (
     source 1 i1
@@ -466,8 +466,8 @@ rule_17_itself =
     ∷ user 5 (Result 1 0)
     ∷ [])))
 
-abbrev rule_17_wider : Case
-rule_17_wider =
+abbrev choose_truth_wider : Case
+choose_truth_wider =
     at_rule 17 4
     (holding 6 (
     source 1 i1
@@ -478,8 +478,8 @@ rule_17_wider =
     ∷ []))
     none
 
-abbrev rule_18_opposite : Case
-rule_18_opposite =
+abbrev choose_opposite_opposite : Case
+choose_opposite_opposite =
     at_rule 18 6
     (holding 7 (
     source 1 i1
@@ -498,8 +498,8 @@ rule_18_opposite =
     ∷ plain 6 (codes "arith.select") (Result 1 0 ∷ Result 5 0 ∷ Result 4 0 ∷ []) (i8 ∷ [])
     ∷ [])))
 
-abbrev rule_25_maxui : Case
-rule_25_maxui =
+abbrev expand_min_max_maxui : Case
+expand_min_max_maxui =
     at_rule 25 3
     (holding 5 (
     source 1 i8
@@ -515,8 +515,8 @@ rule_25_maxui =
     ∷ user 4 (Result 6 0)
     ∷ [])))
 
-abbrev rule_26_index : Case
-rule_26_index =
+abbrev expand_difference_index : Case
+expand_difference_index =
     at_rule 26 3
     (holding 5 (
     source 1 Index
@@ -535,8 +535,8 @@ rule_26_index =
     ∷ user 4 (Result 9 0)
     ∷ [])))
 
-abbrev rule_27_remsi : Case
-rule_27_remsi =
+abbrev expand_remainder_remsi : Case
+expand_remainder_remsi =
     at_rule 27 3
     (holding 5 (
     source 1 i8
@@ -553,14 +553,14 @@ rule_27_remsi =
     ∷ user 4 (Result 7 0)
     ∷ [])))
 
-abbrev rule_1_root : Case
-rule_1_root = at_rule 1 0 (holding 2 (source 1 i32 ∷ [])) none
+abbrev erase_dead_root : Case
+erase_dead_root = at_rule 1 0 (holding 2 (source 1 i32 ∷ [])) none
 
-abbrev rule_1_not_there : Case
-rule_1_not_there = at_rule 1 7 (holding 2 (source 1 i32 ∷ [])) none
+abbrev erase_dead_not_there : Case
+erase_dead_not_there = at_rule 1 7 (holding 2 (source 1 i32 ∷ [])) none
 
-abbrev rule_1_past_the_last_id : Case
-rule_1_past_the_last_id =
+abbrev erase_dead_past_the_last_id : Case
+erase_dead_past_the_last_id =
     at_rule 1 2
     (holding 4294967295 (
     source 1 i32
@@ -568,8 +568,8 @@ rule_1_past_the_last_id =
     ∷ []))
     (becomes (holding 4294967295 (source 1 i32 ∷ [])))
 
-abbrev rule_7_last_id : Case
-rule_7_last_id =
+abbrev cancel_itself_last_id : Case
+cancel_itself_last_id =
     at_rule 7 2
     (holding 4294967294 (
     source 1 i8
@@ -582,8 +582,8 @@ rule_7_last_id =
     ∷ user 3 (Result 4294967294 0)
     ∷ [])))
 
-abbrev rule_7_past_the_last_id : Case
-rule_7_past_the_last_id =
+abbrev cancel_itself_past_the_last_id : Case
+cancel_itself_past_the_last_id =
     at_rule 7 2
     (holding 4294967295 (
     source 1 i8
@@ -592,8 +592,8 @@ rule_7_past_the_last_id =
     ∷ []))
     (refused IdsExhausted)
 
-abbrev rule_25_second_past_the_last_id : Case
-rule_25_second_past_the_last_id =
+abbrev expand_min_max_second_past_the_last_id : Case
+expand_min_max_second_past_the_last_id =
     at_rule 25 3
     (holding 4294967294 (
     source 1 i8
@@ -605,15 +605,15 @@ rule_25_second_past_the_last_id =
 
 abbrev cases : List Case
 cases =
-    rule_1_dead ∷ rule_1_used ∷ rule_2_i1_sum_wraps ∷ rule_2_zero_alone ∷ rule_2_division_by_zero
-    ∷ rule_2_bad_constant ∷ rule_3_swaps ∷ rule_3_two_constants ∷ rule_3_bad_second_constant ∷ rule_4_shift_by_zero
-    ∷ rule_4_not_muli ∷ rule_5_by_true ∷ rule_6_all_ones ∷ rule_6_one_bit_short ∷ rule_7_itself ∷ rule_8_itself
-    ∷ rule_9_by_one ∷ rule_10_sums ∷ rule_10_another_operation ∷ rule_10_constant_first ∷ rule_11_negated
-    ∷ rule_12_itself ∷ rule_12_not_itself ∷ rule_13_mirrored ∷ rule_13_equal_stays ∷ rule_14_below_zero
-    ∷ rule_14_at_least_zero ∷ rule_14_signed ∷ rule_15_same ∷ rule_16_true ∷ rule_16_false ∷ rule_17_itself
-    ∷ rule_17_wider ∷ rule_18_opposite ∷ rule_25_maxui ∷ rule_26_index ∷ rule_27_remsi
-    ∷ rule_1_root ∷ rule_1_not_there ∷ rule_1_past_the_last_id ∷ rule_7_last_id ∷ rule_7_past_the_last_id
-    ∷ rule_25_second_past_the_last_id ∷ []
+    erase_dead_dead ∷ erase_dead_used ∷ fold_to_constant_i1_sum_wraps ∷ fold_to_constant_zero_alone ∷ fold_to_constant_division_by_zero
+    ∷ fold_to_constant_bad_constant ∷ swap_constant_swaps ∷ swap_constant_two_constants ∷ swap_constant_bad_second_constant ∷ drop_zero_shift_by_zero
+    ∷ drop_zero_not_muli ∷ drop_one_by_true ∷ drop_all_ones_all_ones ∷ drop_all_ones_one_bit_short ∷ cancel_itself_itself ∷ keep_itself_itself
+    ∷ zero_remainder_by_one ∷ regroup_constants_sums ∷ regroup_constants_another_operation ∷ regroup_constants_constant_first ∷ add_negative_negated
+    ∷ compare_itself_itself ∷ compare_itself_not_itself ∷ mirror_comparison_mirrored ∷ mirror_comparison_equal_stays ∷ compare_zero_below_zero
+    ∷ compare_zero_at_least_zero ∷ compare_zero_signed ∷ choose_same_same ∷ choose_known_true ∷ choose_known_false ∷ choose_truth_itself
+    ∷ choose_truth_wider ∷ choose_opposite_opposite ∷ expand_min_max_maxui ∷ expand_difference_index ∷ expand_remainder_remsi
+    ∷ erase_dead_root ∷ erase_dead_not_there ∷ erase_dead_past_the_last_id ∷ cancel_itself_last_id ∷ cancel_itself_past_the_last_id
+    ∷ expand_min_max_second_past_the_last_id ∷ []
 
 -- each is what the definitions say (to find one that is not, shorten the list)
 pub answered : map answer cases ≡ map (λ c. c.after) cases

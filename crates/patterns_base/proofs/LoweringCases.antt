@@ -19,8 +19,8 @@ use Rattle.patterns_base.specs.Rules.{rule}
 use Rattle.patterns_base.specs.Rewrites.{none, becomes, edits_of, rewrite_of}
 use Rattle.patterns_base.proofs.Small.{i8, Case, at_rule, answer, body, holding, source, number, user, bridged, plain, compared, whole}
 
-abbrev rule_28_sum : Case
-rule_28_sum =
+abbrev lower_index_sum : Case
+lower_index_sum =
     at_rule 28 2
     (holding 4 (
     source 1 Index
@@ -36,8 +36,8 @@ rule_28_sum =
     ∷ user 3 (Result 7 0)
     ∷ [])))
 
-abbrev rule_28_constant : Case
-rule_28_constant =
+abbrev lower_index_constant : Case
+lower_index_constant =
     at_rule 28 1
     (holding 3 (
     number 1 Index 18446744073709551615
@@ -49,8 +49,8 @@ rule_28_constant =
     ∷ user 2 (Result 4 0)
     ∷ [])))
 
-abbrev rule_28_comparison : Case
-rule_28_comparison =
+abbrev lower_index_comparison : Case
+lower_index_comparison =
     at_rule 28 2
     (holding 4 (
     source 1 Index
@@ -65,8 +65,8 @@ rule_28_comparison =
     ∷ user 3 (Result 6 0)
     ∷ [])))
 
-abbrev rule_28_choice : Case
-rule_28_choice =
+abbrev lower_index_choice : Case
+lower_index_choice =
     at_rule 28 3
     (holding 5 (
     source 1 i1
@@ -84,8 +84,8 @@ rule_28_choice =
     ∷ user 4 (Result 8 0)
     ∷ [])))
 
-abbrev rule_28_no_index : Case
-rule_28_no_index =
+abbrev lower_index_no_index : Case
+lower_index_no_index =
     at_rule 28 2
     (holding 4 (
     source 1 i8
@@ -94,8 +94,8 @@ rule_28_no_index =
     ∷ []))
     none
 
-abbrev rule_29_loop : Case
-rule_29_loop =
+abbrev lower_loop_loop : Case
+lower_loop_loop =
     at_rule 29 3
     (holding 7 (
     source 1 Index
@@ -126,8 +126,8 @@ rule_29_loop =
     ∷ user 6 (Result 18 0)
     ∷ [])))
 
-abbrev rule_29_no_index : Case
-rule_29_no_index =
+abbrev lower_loop_no_index : Case
+lower_loop_no_index =
     at_rule 29 2
     (holding 4 (
     source 1 i8
@@ -136,8 +136,8 @@ rule_29_no_index =
     ∷ []))
     none
 
-abbrev rule_30_if : Case
-rule_30_if =
+abbrev lower_choice_if : Case
+lower_choice_if =
     at_rule 30 3
     (holding 8 (
     source 1 i1
@@ -165,8 +165,8 @@ rule_30_if =
     ∷ user 7 (Result 11 0)
     ∷ [])))
 
-abbrev rule_30_no_index : Case
-rule_30_no_index =
+abbrev lower_choice_no_index : Case
+lower_choice_no_index =
     at_rule 30 2
     (holding 4 (
     source 1 i1
@@ -177,8 +177,8 @@ rule_30_no_index =
 
 abbrev cases : List Case
 cases =
-    rule_28_sum ∷ rule_28_constant ∷ rule_28_comparison ∷ rule_28_choice ∷ rule_28_no_index ∷ rule_29_loop
-    ∷ rule_29_no_index ∷ rule_30_if ∷ rule_30_no_index ∷ []
+    lower_index_sum ∷ lower_index_constant ∷ lower_index_comparison ∷ lower_index_choice ∷ lower_index_no_index ∷ lower_loop_loop
+    ∷ lower_loop_no_index ∷ lower_choice_if ∷ lower_choice_no_index ∷ []
 
 -- each is what the definitions say (to find one that is not, shorten the list)
 pub answered : map answer cases ≡ map (λ c. c.after) cases

@@ -19,8 +19,8 @@ use Rattle.patterns_base.specs.Rules.{rule}
 use Rattle.patterns_base.specs.Rewrites.{none, becomes, edits_of, rewrite_of}
 use Rattle.patterns_base.proofs.Small.{i8, i16, i32, i63, i65, Case, at_rule, answer, body, holding, source, number, user, bridged, plain, whole}
 
-abbrev rule_19_signed_of_unsigned : Case
-rule_19_signed_of_unsigned =
+abbrev extend_extension_signed_of_unsigned : Case
+extend_extension_signed_of_unsigned =
     at_rule 19 3
     (holding 5 (
     source 1 i8
@@ -35,8 +35,8 @@ rule_19_signed_of_unsigned =
     ∷ user 4 (Result 5 0)
     ∷ [])))
 
-abbrev rule_19_unsigned_of_signed : Case
-rule_19_unsigned_of_signed =
+abbrev extend_extension_unsigned_of_signed : Case
+extend_extension_unsigned_of_signed =
     at_rule 19 3
     (holding 5 (
     source 1 i8
@@ -46,8 +46,8 @@ rule_19_unsigned_of_signed =
     ∷ []))
     none
 
-abbrev rule_20_cut_twice : Case
-rule_20_cut_twice =
+abbrev cut_cast_cut_twice : Case
+cut_cast_cut_twice =
     at_rule 20 3
     (holding 5 (
     source 1 i32
@@ -62,8 +62,8 @@ rule_20_cut_twice =
     ∷ user 4 (Result 5 0)
     ∷ [])))
 
-abbrev rule_20_back : Case
-rule_20_back =
+abbrev cut_cast_back : Case
+cut_cast_back =
     at_rule 20 3
     (holding 5 (
     source 1 i8
@@ -77,8 +77,8 @@ rule_20_back =
     ∷ user 4 (Result 1 0)
     ∷ [])))
 
-abbrev rule_20_another_width : Case
-rule_20_another_width =
+abbrev cut_cast_another_width : Case
+cut_cast_another_width =
     at_rule 20 3
     (holding 5 (
     source 1 i8
@@ -88,8 +88,8 @@ rule_20_another_width =
     ∷ []))
     none
 
-abbrev rule_21_back_to_64 : Case
-rule_21_back_to_64 =
+abbrev cast_back_back_to_64 : Case
+cast_back_back_to_64 =
     at_rule 21 3
     (holding 5 (
     source 1 i64
@@ -103,8 +103,8 @@ rule_21_back_to_64 =
     ∷ user 4 (Result 1 0)
     ∷ [])))
 
-abbrev rule_21_65_bits : Case
-rule_21_65_bits =
+abbrev rule_cast_back_65_bits : Case
+rule_cast_back_65_bits =
     at_rule 21 3
     (holding 5 (
     source 1 i65
@@ -114,8 +114,8 @@ rule_21_65_bits =
     ∷ []))
     none
 
-abbrev rule_21_index_through_65 : Case
-rule_21_index_through_65 =
+abbrev cast_back_index_through_65 : Case
+cast_back_index_through_65 =
     at_rule 21 3
     (holding 5 (
     source 1 Index
@@ -129,8 +129,8 @@ rule_21_index_through_65 =
     ∷ user 4 (Result 1 0)
     ∷ [])))
 
-abbrev rule_21_index_through_63 : Case
-rule_21_index_through_63 =
+abbrev cast_back_index_through_63 : Case
+cast_back_index_through_63 =
     at_rule 21 3
     (holding 5 (
     source 1 Index
@@ -140,8 +140,8 @@ rule_21_index_through_63 =
     ∷ []))
     none
 
-abbrev rule_21_unrealized : Case
-rule_21_unrealized =
+abbrev cast_back_unrealized : Case
+cast_back_unrealized =
     at_rule 21 3
     (holding 5 (
     source 1 i64
@@ -155,8 +155,8 @@ rule_21_unrealized =
     ∷ user 4 (Result 1 0)
     ∷ [])))
 
-abbrev rule_21_unrealized_same : Case
-rule_21_unrealized_same =
+abbrev cast_back_unrealized_same : Case
+cast_back_unrealized_same =
     at_rule 21 2
     (holding 4 (
     source 1 i64
@@ -168,8 +168,8 @@ rule_21_unrealized_same =
     ∷ user 3 (Result 1 0)
     ∷ [])))
 
-abbrev rule_22_then : Case
-rule_22_then =
+abbrev open_branch_then : Case
+open_branch_then =
     at_rule 22 3
     (holding 9 (
     number 1 i1 1
@@ -190,8 +190,8 @@ rule_22_then =
     ∷ user 8 (Result 4 0)
     ∷ [])))
 
-abbrev rule_22_no_else : Case
-rule_22_no_else =
+abbrev open_branch_no_else : Case
+open_branch_no_else =
     at_rule 22 2
     (holding 5 (
     number 1 i1 0
@@ -203,8 +203,8 @@ rule_22_no_else =
     ∷ []))
     (becomes (holding 5 (number 1 i1 0 ∷ [])))
 
-abbrev rule_23_never : Case
-rule_23_never =
+abbrev open_loop_never : Case
+open_loop_never =
     at_rule 23 5
     (holding 9 (
     number 1 i8 5
@@ -226,8 +226,8 @@ rule_23_never =
     ∷ user 8 (Result 4 0)
     ∷ [])))
 
-abbrev rule_23_once : Case
-rule_23_once =
+abbrev open_loop_once : Case
+open_loop_once =
     at_rule 23 5
     (holding 9 (
     number 1 i8 100
@@ -250,8 +250,8 @@ rule_23_once =
     ∷ user 8 (Result 6 0)
     ∷ [])))
 
-abbrev rule_23_once_hands_on_argument : Case
-rule_23_once_hands_on_argument =
+abbrev open_loop_once_hands_on_argument : Case
+open_loop_once_hands_on_argument =
     at_rule 23 5
     (holding 9 (
     number 1 Index 0
@@ -274,8 +274,8 @@ rule_23_once_hands_on_argument =
     ∷ user 8 (Result 4 0)
     ∷ [])))
 
-abbrev rule_23_twice : Case
-rule_23_twice =
+abbrev open_loop_twice : Case
+open_loop_twice =
     at_rule 23 5
     (holding 9 (
     number 1 i8 0
@@ -291,8 +291,8 @@ rule_23_twice =
     ∷ []))
     none
 
-abbrev rule_23_step_below_zero : Case
-rule_23_step_below_zero =
+abbrev open_loop_step_below_zero : Case
+open_loop_step_below_zero =
     at_rule 23 5
     (holding 9 (
     number 1 i8 0
@@ -308,8 +308,8 @@ rule_23_step_below_zero =
     ∷ []))
     none
 
-abbrev rule_24_false : Case
-rule_24_false =
+abbrev stop_loop_false : Case
+stop_loop_false =
     at_rule 24 2
     (holding 8 (
     source 1 i8
@@ -328,8 +328,8 @@ rule_24_false =
     ∷ user 7 (Result 1 0)
     ∷ [])))
 
-abbrev rule_24_true : Case
-rule_24_true =
+abbrev stop_loop_true : Case
+stop_loop_true =
     at_rule 24 2
     (holding 8 (
     source 1 i8
@@ -345,11 +345,11 @@ rule_24_true =
 
 abbrev cases : List Case
 cases =
-    rule_19_signed_of_unsigned ∷ rule_19_unsigned_of_signed ∷ rule_20_cut_twice ∷ rule_20_back
-    ∷ rule_20_another_width ∷ rule_21_back_to_64 ∷ rule_21_65_bits ∷ rule_21_index_through_65
-    ∷ rule_21_index_through_63 ∷ rule_21_unrealized ∷ rule_21_unrealized_same ∷ rule_22_then ∷ rule_22_no_else
-    ∷ rule_23_never ∷ rule_23_once ∷ rule_23_once_hands_on_argument ∷ rule_23_twice ∷ rule_23_step_below_zero
-    ∷ rule_24_false ∷ rule_24_true ∷ []
+    extend_extension_signed_of_unsigned ∷ extend_extension_unsigned_of_signed ∷ cut_cast_cut_twice ∷ cut_cast_back
+    ∷ cut_cast_another_width ∷ cast_back_back_to_64 ∷ rule_cast_back_65_bits ∷ cast_back_index_through_65
+    ∷ cast_back_index_through_63 ∷ cast_back_unrealized ∷ cast_back_unrealized_same ∷ open_branch_then ∷ open_branch_no_else
+    ∷ open_loop_never ∷ open_loop_once ∷ open_loop_once_hands_on_argument ∷ open_loop_twice ∷ open_loop_step_below_zero
+    ∷ stop_loop_false ∷ stop_loop_true ∷ []
 
 -- each is what the definitions say (to find one that is not, shorten the list)
 pub answered : map answer cases ≡ map (λ c. c.after) cases

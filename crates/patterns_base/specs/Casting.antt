@@ -30,16 +30,16 @@ module _ (t : Operation) (n : ℕ) (front : Place) (o : Operation) where
   abbrev pub recast : One → One → List Edit
   recast p q = give_new front n x (cast q.name p.ty q.first)
 
-  -- rule 19: an extension of one by the same, or by zeros, then one like that (`ExtSIOp::fold`, `ExtUIOp::fold`,
+  -- `extend-extension`: an extension of one by the same, or by zeros, then one like that (`ExtSIOp::fold`, `ExtUIOp::fold`,
   -- `ExtSIOfExtUI`)
-  abbrev pub rule_19 : Option (List Edit)
-  rule_19 = on_one (λ p. when (among extensions p.name) (given (source_among t extensions p.first) (λ y. given (one y) (λ q.
+  abbrev pub extend_extension : Option (List Edit)
+  extend_extension = on_one (λ p. when (among extensions p.name) (given (source_among t extensions p.first) (λ y. given (one y) (λ q.
       when (named p.name q.name || named (codes "arith.extsi") p.name) (Some (recast p q))))))
 
-  -- rule 20: a cut of a cut, then one; a cut of an extension back to the type that it came from, then what was
+  -- `cut-cast`: a cut of a cut, then one; a cut of an extension back to the type that it came from, then what was
   -- extended (`TruncIOp::fold`)
-  abbrev pub rule_20 : Option (List Edit)
-  rule_20 = on_one (λ p. when (named (codes "arith.trunci") p.name) (given (source_among t resizing p.first) (λ y. given (one y) (λ q.
+  abbrev pub cut_cast : Option (List Edit)
+  cut_cast = on_one (λ p. when (named (codes "arith.trunci") p.name) (given (source_among t resizing p.first) (λ y. given (one y) (λ q.
       if named (codes "arith.trunci") q.name then Some (recast p q) else when (is_of_type t p.ty q.first) (Some (give x q.first))))))
 
   -- cast p of cast q back to the type that q came from, then what was cast
@@ -57,9 +57,9 @@ module _ (t : Operation) (n : ℕ) (front : Place) (o : Operation) where
   through_index p = given (source t p.name p.first) (λ y. given (one y) (λ q. when (nat_le (type_width p.ty) (type_width q.ty)) (back_from p q)))
 
   -- rule 21 of unrealized casts alone
-  abbrev pub rule_21_unrealized : Option (List Edit)
-  rule_21_unrealized = on_one (λ p. when (named (codes "builtin.unrealized_conversion_cast") p.name) (unrealized p))
+  abbrev pub cast_back_unrealized : Option (List Edit)
+  cast_back_unrealized = on_one (λ p. when (named (codes "builtin.unrealized_conversion_cast") p.name) (unrealized p))
 
-  -- rule 21: a cast back
-  abbrev pub rule_21 : Option (List Edit)
-  rule_21 = on_one (λ p. if named (codes "builtin.unrealized_conversion_cast") p.name then unrealized p else when (among index_casts p.name) (through_index p))
+  -- `cast-back`: a cast back
+  abbrev pub cast_back : Option (List Edit)
+  cast_back = on_one (λ p. if named (codes "builtin.unrealized_conversion_cast") p.name then unrealized p else when (among index_casts p.name) (through_index p))

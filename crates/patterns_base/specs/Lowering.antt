@@ -131,9 +131,9 @@ module _ (t : Operation) (n : ℕ) (front : Place) (o : Operation) where
   abbrev pub make_lowered : List Edit
   make_lowered = Make front (lowered_op o (crossed n index_operands h.operands)) ∷ []
 
-  -- rule 28: an operation of arith on index, then one on i64
-  abbrev pub rule_28 : Option (List Edit)
-  rule_28 = when (among index_users h.name && (any index_operands || any index_results))
+  -- `lower-index`: an operation of arith on index, then one on i64
+  abbrev pub lower_index : Option (List Edit)
+  lower_index = when (among index_users h.name && (any index_operands || any index_results))
       (Some (bridges i64 front index_operands h.operands ++ make_lowered ++ give_lowered lowered_id (lowered_id + 1)))
 
   -- the operations of block r of x become those of block r of operation y, and what the last of them hands on goes
@@ -171,9 +171,9 @@ module _ (t : Operation) (n : ℕ) (front : Place) (o : Operation) where
       ++ take_over y 0 yields_id e olds news
       ++ give_lowered y results_id
 
-  -- rule 29: a loop over index, then one over i64 (`ConvertForOpTypes`)
-  abbrev pub rule_29 : Option (List Edit)
-  rule_29 = when (named (codes "scf.for") h.name && any index_operands) (given (arguments_at 0 o) (λ args. given (body t o 0) (λ e. Some (lowered_loop args e))))
+  -- `lower-loop`: a loop over index, then one over i64 (`ConvertForOpTypes`)
+  abbrev pub lower_loop : Option (List Edit)
+  lower_loop = when (named (codes "scf.for") h.name && any index_operands) (given (arguments_at 0 o) (λ args. given (body t o 0) (λ e. Some (lowered_loop args e))))
 
   -- an if: the new one, casts of what its blocks hand on, casts of its results
   abbrev pub lowered_if : Ended → Ended → List Edit
@@ -186,6 +186,6 @@ module _ (t : Operation) (n : ℕ) (front : Place) (o : Operation) where
       ++ move_over lowered_id 1 f ++ take_over lowered_id 1 second_id f [] []
       ++ give_lowered lowered_id results_id
 
-  -- rule 30: an if that gives an index, then one that gives an i64 (`ConvertIfOpTypes`)
-  abbrev pub rule_30 : Option (List Edit)
-  rule_30 = when (named (codes "scf.if") h.name && any index_results) (given (body t o 0) (λ e. given (body t o 1) (λ f. Some (lowered_if e f))))
+  -- `lower-choice`: an if that gives an index, then one that gives an i64 (`ConvertIfOpTypes`)
+  abbrev pub lower_choice : Option (List Edit)
+  lower_choice = when (named (codes "scf.if") h.name && any index_results) (given (body t o 0) (λ e. given (body t o 1) (λ f. Some (lowered_if e f))))

@@ -57,9 +57,9 @@ module _ (t : Operation) (front : Place) (o : Operation) where
   by_condition (c ∷ []) = given (known t c) (λ k. let r = if eqb k.1 0 then 1 else 0 in given (region_at r (regions o)) (λ g. chosen g r))
   by_condition _ = None
 
-  -- rule 22: an if by a known condition, then the block that it chooses (`RemoveStaticCondition`)
-  abbrev pub rule_22 : Option (List Edit)
-  rule_22 = when (named (codes "scf.if") h.name) (by_condition h.operands)
+  -- `open-branch`: an if by a known condition, then the block that it chooses (`RemoveStaticCondition`)
+  abbrev pub open_branch : Option (List Edit)
+  open_branch = when (named (codes "scf.if") h.name) (by_condition h.operands)
 
   -- whether a loop whose lower bound is below its upper one is gone through once
   abbrev pub goes_once : ℤ → ℤ → ℤ → Bool
@@ -80,15 +80,15 @@ module _ (t : Operation) (front : Place) (o : Operation) where
       if int_lt (reading low) (reading high) then given (known t l.step) (λ step. when (goes_once (reading low) (reading high) (reading step)) (once l))
       else Some (never l)))
 
-  -- rule 23: a loop that is gone through once or never (`SimplifyTrivialLoops`)
-  abbrev pub rule_23 : Option (List Edit)
-  rule_23 = when (named (codes "scf.for") h.name) (given (loop_from h.operands) by_bounds)
+  -- `open-loop`: a loop that is gone through once or never (`SimplifyTrivialLoops`)
+  abbrev pub open_loop : Option (List Edit)
+  open_loop = when (named (codes "scf.for") h.name) (given (loop_from h.operands) by_bounds)
 
   -- where a block's condition is known to be false: the block, and what the condition hands on
   abbrev pub by_end : Ended → List Value → Option (List Edit)
   by_end e (c ∷ handed) = when (is_number t 0 c) (Some (opened e h.operands handed))
   by_end e _ = None
 
-  -- rule 24: a loop whose condition is known to be false, then its first block
-  abbrev pub rule_24 : Option (List Edit)
-  rule_24 = when (named (codes "scf.while") h.name) (given (body t o 0) (λ e. by_end e e.last.operands))
+  -- `stop-loop`: a loop whose condition is known to be false, then its first block
+  abbrev pub stop_loop : Option (List Edit)
+  stop_loop = when (named (codes "scf.while") h.name) (given (body t o 0) (λ e. by_end e e.last.operands))

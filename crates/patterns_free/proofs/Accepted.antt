@@ -20,10 +20,10 @@ use Rattle.patterns_base.specs.Rewrites.{becomes, carried_out, edits_of, refused
 use Rattle.patterns_free.specs.Accepted.{AreAccepted, accepted_rules}
 use Rattle.patterns_free.proofs.Spots.{Spot}
 use Rattle.patterns_free.proofs.Shapes.{given_is, when_is}
-use Rattle.patterns_free.proofs.Given.{HasRoom, free_4, free_5, free_6, free_8, free_15, free_16, free_17, free_21}
-use Rattle.patterns_free.proofs.New.{free_2, free_7, free_9, free_10, free_11, free_12, free_14, free_19, free_20, free_25, free_26, free_27}
-use Rattle.patterns_free.proofs.Opened.{free_22}
-use Rattle.patterns_free.proofs.InPlace.{free_1, free_3, free_13, free_18}
+use Rattle.patterns_free.proofs.Given.{HasRoom, free_drop_zero, free_drop_one, free_drop_all_ones, free_keep_itself, free_choose_same, free_choose_known, free_choose_truth, free_cast_back}
+use Rattle.patterns_free.proofs.New.{free_fold_to_constant, free_cancel_itself, free_zero_remainder, free_regroup_constants, free_add_negative, free_compare_itself, free_compare_zero, free_extend_extension, free_cut_cast, free_expand_min_max, free_expand_difference, free_expand_remainder}
+use Rattle.patterns_free.proofs.Opened.{free_open_branch}
+use Rattle.patterns_free.proofs.InPlace.{free_erase_dead, free_swap_constant, free_mirror_comparison, free_choose_opposite}
 
 -- a rule's edits at a clean operation are accepted
 abbrev IsFree : ℕ → Type 0
@@ -33,31 +33,31 @@ IsFree r = (m : Module) (o : Operation) (front : Place) → Spot m o front → (
 each_rule : List ((r : ℕ) × IsFree r)
 unfolding rule
 each_rule =
-    (1, λ m o front s es e room. free_1 m o front s m.next es e)
-    ∷ (2, λ m o front s es e. free_2 m o front s es e)
-    ∷ (3, λ m o front s es e room. free_3 m o front s m.next es e)
-    ∷ (4, λ m o front s es e. free_4 m o front s m.next es e)
-    ∷ (5, λ m o front s es e. free_5 m o front s m.next es e)
-    ∷ (6, λ m o front s es e. free_6 m o front s m.next es e)
-    ∷ (7, λ m o front s es e. free_7 m o front s es e)
-    ∷ (8, λ m o front s es e. free_8 m o front s m.next es e)
-    ∷ (9, λ m o front s es e. free_9 m o front s es e)
-    ∷ (10, λ m o front s es e. free_10 m o front s es e)
-    ∷ (11, λ m o front s es e. free_11 m o front s es e)
-    ∷ (12, λ m o front s es e. free_12 m o front s es e)
-    ∷ (13, λ m o front s es e room. free_13 m o front s m.next es e)
-    ∷ (14, λ m o front s es e. free_14 m o front s es e)
-    ∷ (15, λ m o front s es e. free_15 m o front s m.next es e)
-    ∷ (16, λ m o front s es e. free_16 m o front s m.next es e)
-    ∷ (17, λ m o front s es e. free_17 m o front s m.next es e)
-    ∷ (18, λ m o front s es e room. free_18 m o front s m.next es e)
-    ∷ (19, λ m o front s es e. free_19 m o front s es e)
-    ∷ (20, λ m o front s es e. free_20 m o front s es e)
-    ∷ (21, λ m o front s es e. free_21 m o front s m.next es e)
-    ∷ (22, λ m o front s es e room. free_22 m o front s es e)
-    ∷ (25, λ m o front s es e. free_25 m o front s es e)
-    ∷ (26, λ m o front s es e. free_26 m o front s es e)
-    ∷ (27, λ m o front s es e. free_27 m o front s es e)
+    (1, λ m o front s es e room. free_erase_dead m o front s m.next es e)
+    ∷ (2, λ m o front s es e. free_fold_to_constant m o front s es e)
+    ∷ (3, λ m o front s es e room. free_swap_constant m o front s m.next es e)
+    ∷ (4, λ m o front s es e. free_drop_zero m o front s m.next es e)
+    ∷ (5, λ m o front s es e. free_drop_one m o front s m.next es e)
+    ∷ (6, λ m o front s es e. free_drop_all_ones m o front s m.next es e)
+    ∷ (7, λ m o front s es e. free_cancel_itself m o front s es e)
+    ∷ (8, λ m o front s es e. free_keep_itself m o front s m.next es e)
+    ∷ (9, λ m o front s es e. free_zero_remainder m o front s es e)
+    ∷ (10, λ m o front s es e. free_regroup_constants m o front s es e)
+    ∷ (11, λ m o front s es e. free_add_negative m o front s es e)
+    ∷ (12, λ m o front s es e. free_compare_itself m o front s es e)
+    ∷ (13, λ m o front s es e room. free_mirror_comparison m o front s m.next es e)
+    ∷ (14, λ m o front s es e. free_compare_zero m o front s es e)
+    ∷ (15, λ m o front s es e. free_choose_same m o front s m.next es e)
+    ∷ (16, λ m o front s es e. free_choose_known m o front s m.next es e)
+    ∷ (17, λ m o front s es e. free_choose_truth m o front s m.next es e)
+    ∷ (18, λ m o front s es e room. free_choose_opposite m o front s m.next es e)
+    ∷ (19, λ m o front s es e. free_extend_extension m o front s es e)
+    ∷ (20, λ m o front s es e. free_cut_cast m o front s es e)
+    ∷ (21, λ m o front s es e. free_cast_back m o front s m.next es e)
+    ∷ (22, λ m o front s es e room. free_open_branch m o front s es e)
+    ∷ (25, λ m o front s es e. free_expand_min_max m o front s es e)
+    ∷ (26, λ m o front s es e. free_expand_difference m o front s es e)
+    ∷ (27, λ m o front s es e. free_expand_remainder m o front s es e)
     ∷ []
 
 all_rules : map (λ (p : (r : ℕ) × IsFree r). p.0) each_rule ≡ accepted_rules

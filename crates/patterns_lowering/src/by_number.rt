@@ -4,7 +4,7 @@ ghost use Rattle.patterns_lowering.specs.Planned.{IsCleanAt, IsLoweredAt};
 ghost use Rattle.patterns_lowering.specs.Plans.{LoweringIsOf};
 
 use crate::plan::Lowering;
-use crate::plans::{plan_28, plan_29, plan_30};
+use crate::plans::{plan_lower_index, plan_lower_loop, plan_lower_choice};
 use ir_event::world::World;
 use ir_types::ids::OpId;
 use std::alloc::{AllocError, Global};
@@ -24,10 +24,10 @@ pub fn plan_lowered(
     ensures of { IfOk result (λ p. IfSome p (LoweringIsOf world.now.ctx)) }
 {
     if rule == 28 {
-        return plan_28(alloc, world, op);
+        return plan_lower_index(alloc, world, op);
     }
     if rule == 29 {
-        return plan_29(alloc, world, op);
+        return plan_lower_loop(alloc, world, op);
     }
-    plan_30(alloc, world, op)
+    plan_lower_choice(alloc, world, op)
 }

@@ -1,4 +1,4 @@
-//! Rule 30: a choice of index becomes one of i64, with casts in its blocks and behind it.
+//! `lower-choice`: a choice of index becomes one of i64, with casts in its blocks and behind it.
 ghost use Rattle.std.specs.Prelude.{◌≡◌, ◌≤◌, ◌+◌, IfOk, OnOk, ◌++◌, length};
 ghost use Rattle.ir_tree.specs.Limits.{most_next};
 ghost use Rattle.patterns_base.specs.Lowering.{marked};

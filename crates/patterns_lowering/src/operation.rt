@@ -1,4 +1,4 @@
-//! Rule 28: an operation on index becomes one on i64, with casts around it.
+//! `lower-index`: an operation on index becomes one on i64, with casts around it.
 ghost use Rattle.std.specs.Prelude.{◌≡◌, ◌≤◌, ◌+◌, IfOk, OnOk, ◌++◌, ◌∷◌, []};
 ghost use Rattle.ir_tree.specs.Limits.{most_next};
 ghost use Rattle.ir_tree.specs.Tree.{head};

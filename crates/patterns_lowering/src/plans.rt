@@ -1,6 +1,6 @@
 //! Rules 28 to 30: what they make of operations on index.
 ghost use Rattle.std.specs.Prelude.{◌≡◌, ◌||◌, IfOk, IfSome};
-ghost use Rattle.patterns_base.specs.Lowering.{any, rule_28, rule_29, rule_30};
+ghost use Rattle.patterns_base.specs.Lowering.{any, lower_index, lower_loop, lower_choice};
 ghost use Rattle.patterns_lowering.specs.Planned.{IsCleanAt, IsLoweredBy};
 ghost use Rattle.patterns_lowering.specs.Plans.{LoweringIsOf};
 
@@ -23,12 +23,12 @@ fn is_either(some: &[bool], others: &[bool]) -> bool
 }
 
 /// An operation of arith on index: one on i64.
-pub(crate) fn plan_28(
+pub(crate) fn plan_lower_index(
     alloc: Global,
     world: &World,
     op: OpId,
 ) -> Result<Option<Lowering>, AllocError>
-    ensures edits { IfOk result (IsLoweredBy rule_28 world.now op) }
+    ensures edits { IfOk result (IsLoweredBy lower_index world.now op) }
     ensures of { IfOk result (λ p. IfSome p (LoweringIsOf world.now.ctx)) }
 {
     let Some(node) = found(world, op) else {
@@ -45,13 +45,13 @@ pub(crate) fn plan_28(
 }
 
 /// A loop over index: one over i64.
-pub(crate) fn plan_29(
+pub(crate) fn plan_lower_loop(
     alloc: Global,
     world: &World,
     op: OpId,
 ) -> Result<Option<Lowering>, AllocError>
     requires { IsCleanAt world.now op }
-    ensures edits { IfOk result (IsLoweredBy rule_29 world.now op) }
+    ensures edits { IfOk result (IsLoweredBy lower_loop world.now op) }
     ensures of { IfOk result (λ p. IfSome p (LoweringIsOf world.now.ctx)) }
 {
     let Some(node) = found(world, op) else {
@@ -81,13 +81,13 @@ pub(crate) fn plan_29(
 }
 
 /// A choice that gives an index: one that gives an i64.
-pub(crate) fn plan_30(
+pub(crate) fn plan_lower_choice(
     alloc: Global,
     world: &World,
     op: OpId,
 ) -> Result<Option<Lowering>, AllocError>
     requires { IsCleanAt world.now op }
-    ensures edits { IfOk result (IsLoweredBy rule_30 world.now op) }
+    ensures edits { IfOk result (IsLoweredBy lower_choice world.now op) }
     ensures of { IfOk result (λ p. IfSome p (LoweringIsOf world.now.ctx)) }
 {
     let Some(node) = found(world, op) else {

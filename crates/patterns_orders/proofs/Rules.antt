@@ -15,9 +15,9 @@ use Rattle.patterns_base.specs.Keeps.{given, Each}
 use Rattle.patterns_base.specs.Words.{named, among, extensions}
 use Rattle.patterns_base.specs.Looks.{Header, One, Two, Ended, when, is_clean, is_number, is_of_type, source, source_among, known, ended, ended_by, body, one, two, three, predicate}
 use Rattle.patterns_base.specs.Makes.{give, give_body, replacing, moving, results_from, arguments_from, replaced}
-use Rattle.patterns_base.specs.Folding.{folded_to, regrouped, rule_1, rule_2, rule_3, rule_4, rule_5, rule_6, rule_7, rule_8, rule_9, rule_10, rule_11, rule_12, rule_13, rule_14, rule_15, rule_16, rule_17, rule_18}
-use Rattle.patterns_base.specs.Casting.{resizing, recast, unrealized, back_from, through_index, rule_19, rule_20, rule_21}
-use Rattle.patterns_base.specs.Opening.{Loop, opened, chosen, by_condition, never, by_bounds, by_end, loop_from, rule_22, rule_23, rule_24}
+use Rattle.patterns_base.specs.Folding.{folded_to, regrouped, erase_dead, fold_to_constant, swap_constant, drop_zero, drop_one, drop_all_ones, cancel_itself, keep_itself, zero_remainder, regroup_constants, add_negative, compare_itself, mirror_comparison, compare_zero, choose_same, choose_known, choose_truth, choose_opposite}
+use Rattle.patterns_base.specs.Casting.{resizing, recast, unrealized, back_from, through_index, extend_extension, cut_cast, cast_back}
+use Rattle.patterns_base.specs.Opening.{Loop, opened, chosen, by_condition, never, by_bounds, by_end, loop_from, open_branch, open_loop, stop_loop}
 use Rattle.patterns_base.specs.Rules.{rule}
 use Rattle.patterns_base.specs.Canonicalization.{greedy_rules}
 use Rattle.patterns_orders.proofs.Edits.{Still, Opens, names}
@@ -122,68 +122,68 @@ module _ (t : Operation) (n : ℕ) (place : Place) (o : Operation) where
   on_two : (f : Two → Option (List Edit)) → ((p : Two) → Fine place o (f p)) → Fine place o (given (two h) f)
   on_two f g = of_some place o (two h) f g
 
-  fine_1 : Fine place o (rule_1 t n place o)
-  fine_1 = tested place o _ _ (still place o _ refl)
+  fine_erase_dead : Fine place o (erase_dead t n place o)
+  fine_erase_dead = tested place o _ _ (still place o _ refl)
 
-  fine_2 : Fine place o (rule_2 t n place o)
-  fine_2 = tested place o _ _ (folded _ _)
+  fine_fold_to_constant : Fine place o (fold_to_constant t n place o)
+  fine_fold_to_constant = tested place o _ _ (folded _ _)
 
-  fine_3 : Fine place o (rule_3 t n place o)
-  fine_3 = of_some place o (two h) _ (λ p. tested place o _ _ (still place o _ tt))
+  fine_swap_constant : Fine place o (swap_constant t n place o)
+  fine_swap_constant = of_some place o (two h) _ (λ p. tested place o _ _ (still place o _ tt))
 
-  fine_4 : Fine place o (rule_4 t n place o)
-  fine_4 = of_some place o (two h) _ (λ p. tested place o _ _ (still place o _ refl))
+  fine_drop_zero : Fine place o (drop_zero t n place o)
+  fine_drop_zero = of_some place o (two h) _ (λ p. tested place o _ _ (still place o _ refl))
 
-  fine_5 : Fine place o (rule_5 t n place o)
-  fine_5 = of_some place o (two h) _ (λ p. tested place o _ _ (still place o _ refl))
+  fine_drop_one : Fine place o (drop_one t n place o)
+  fine_drop_one = of_some place o (two h) _ (λ p. tested place o _ _ (still place o _ refl))
 
-  fine_6 : Fine place o (rule_6 t n place o)
-  fine_6 = of_some place o (two h) _ (λ p. tested place o _ _ (still place o _ refl))
+  fine_drop_all_ones : Fine place o (drop_all_ones t n place o)
+  fine_drop_all_ones = of_some place o (two h) _ (λ p. tested place o _ _ (still place o _ refl))
 
-  fine_7 : Fine place o (rule_7 t n place o)
-  fine_7 = of_some place o (two h) _ (λ p. tested place o _ _ (still place o _ (refl, refl, refl)))
+  fine_cancel_itself : Fine place o (cancel_itself t n place o)
+  fine_cancel_itself = of_some place o (two h) _ (λ p. tested place o _ _ (still place o _ (refl, refl, refl)))
 
-  fine_8 : Fine place o (rule_8 t n place o)
-  fine_8 = of_some place o (two h) _ (λ p. tested place o _ _ (still place o _ refl))
+  fine_keep_itself : Fine place o (keep_itself t n place o)
+  fine_keep_itself = of_some place o (two h) _ (λ p. tested place o _ _ (still place o _ refl))
 
-  fine_9 : Fine place o (rule_9 t n place o)
-  fine_9 = of_some place o (two h) _ (λ p. tested place o _ _ (still place o _ (refl, refl, refl)))
+  fine_zero_remainder : Fine place o (zero_remainder t n place o)
+  fine_zero_remainder = of_some place o (two h) _ (λ p. tested place o _ _ (still place o _ (refl, refl, refl)))
 
   regroup : (p : Two) (a : Value) (c d : Known) → Fine place o (regrouped t n place o p a c d)
   regroup p a c d = of_some place o _ _ (λ k. still place o _ (refl, refl, (refl, refl, refl)))
 
-  fine_10 : Fine place o (rule_10 t n place o)
-  fine_10 = of_some place o (two h) _ (λ p. tested place o _ _ (of_some place o (known t p.second) _ (λ d. of_some place o (source t p.name p.first) _ (λ y. of_some place o (two y) _ (λ q. of_some place o (known t q.second) _ (λ c. regroup p q.first c d))))))
+  fine_regroup_constants : Fine place o (regroup_constants t n place o)
+  fine_regroup_constants = of_some place o (two h) _ (λ p. tested place o _ _ (of_some place o (known t p.second) _ (λ d. of_some place o (source t p.name p.first) _ (λ y. of_some place o (two y) _ (λ q. of_some place o (known t q.second) _ (λ c. regroup p q.first c d))))))
 
-  fine_11 : Fine place o (rule_11 t n place o)
-  fine_11 = of_some place o (two h) _ (λ p. tested place o _ _ (of_some place o (known t p.second) _ (λ c. still place o _ (refl, refl, (refl, refl, refl)))))
+  fine_add_negative : Fine place o (add_negative t n place o)
+  fine_add_negative = of_some place o (two h) _ (λ p. tested place o _ _ (of_some place o (known t p.second) _ (λ c. still place o _ (refl, refl, (refl, refl, refl)))))
 
-  fine_12 : Fine place o (rule_12 t n place o)
-  fine_12 = of_some place o (two h) _ (λ p. tested place o _ _ (of_some place o (predicate h) _ (λ asks. tested place o _ _ (still place o _ (refl, refl, refl)))))
+  fine_compare_itself : Fine place o (compare_itself t n place o)
+  fine_compare_itself = of_some place o (two h) _ (λ p. tested place o _ _ (of_some place o (predicate h) _ (λ asks. tested place o _ _ (still place o _ (refl, refl, refl)))))
 
-  fine_13 : Fine place o (rule_13 t n place o)
-  fine_13 = of_some place o (two h) _ (λ p. tested place o _ _ (of_some place o (predicate h) _ (λ asks. tested place o _ _ (still place o _ tt))))
+  fine_mirror_comparison : Fine place o (mirror_comparison t n place o)
+  fine_mirror_comparison = of_some place o (two h) _ (λ p. tested place o _ _ (of_some place o (predicate h) _ (λ asks. tested place o _ _ (still place o _ tt))))
 
-  fine_14 : Fine place o (rule_14 t n place o)
-  fine_14 = of_some place o (two h) _ (λ p. tested place o _ _ (of_some place o (predicate h) _ (λ asks. tested place o _ _ (still place o _ (refl, refl, refl)))))
+  fine_compare_zero : Fine place o (compare_zero t n place o)
+  fine_compare_zero = of_some place o (two h) _ (λ p. tested place o _ _ (of_some place o (predicate h) _ (λ asks. tested place o _ _ (still place o _ (refl, refl, refl)))))
 
-  fine_15 : Fine place o (rule_15 t n place o)
-  fine_15 = of_some place o (three h) _ (λ p. tested place o _ _ (tested place o _ _ (still place o _ refl)))
+  fine_choose_same : Fine place o (choose_same t n place o)
+  fine_choose_same = of_some place o (three h) _ (λ p. tested place o _ _ (tested place o _ _ (still place o _ refl)))
 
-  fine_16 : Fine place o (rule_16 t n place o)
-  fine_16 = of_some place o (three h) _ (λ p. tested place o _ _ (of_some place o (known t p.first) _ (λ c. still place o _ refl)))
+  fine_choose_known : Fine place o (choose_known t n place o)
+  fine_choose_known = of_some place o (three h) _ (λ p. tested place o _ _ (of_some place o (known t p.first) _ (λ c. still place o _ refl)))
 
-  fine_17 : Fine place o (rule_17 t n place o)
-  fine_17 = of_some place o (three h) _ (λ p. tested place o _ _ (tested place o _ _ (still place o _ refl)))
+  fine_choose_truth : Fine place o (choose_truth t n place o)
+  fine_choose_truth = of_some place o (three h) _ (λ p. tested place o _ _ (tested place o _ _ (still place o _ refl)))
 
-  fine_18 : Fine place o (rule_18 t n place o)
-  fine_18 = of_some place o (three h) _ (λ p. tested place o (named (codes "arith.select") p.name) _ (of_some place o (source t (codes "arith.xori") p.first) _ (λ y. of_some place o (two y) _ (λ q. tested place o (is_number t 1 q.second) _ (still place o (SetOperand x 0 q.first ∷ SetOperand x 1 p.third ∷ SetOperand x 2 p.second ∷ []) tt)))))
+  fine_choose_opposite : Fine place o (choose_opposite t n place o)
+  fine_choose_opposite = of_some place o (three h) _ (λ p. tested place o (named (codes "arith.select") p.name) _ (of_some place o (source t (codes "arith.xori") p.first) _ (λ y. of_some place o (two y) _ (λ q. tested place o (is_number t 1 q.second) _ (still place o (SetOperand x 0 q.first ∷ SetOperand x 1 p.third ∷ SetOperand x 2 p.second ∷ []) tt)))))
 
-  fine_19 : Fine place o (rule_19 t n place o)
-  fine_19 = of_some place o (one h) _ (λ p. tested place o (among extensions p.name) _ (of_some place o (source_among t extensions p.first) _ (λ y. of_some place o (one y) _ (λ q. tested place o (named p.name q.name || named (codes "arith.extsi") p.name) _ (still place o (recast t n place o p q) (refl, refl, refl))))))
+  fine_extend_extension : Fine place o (extend_extension t n place o)
+  fine_extend_extension = of_some place o (one h) _ (λ p. tested place o (among extensions p.name) _ (of_some place o (source_among t extensions p.first) _ (λ y. of_some place o (one y) _ (λ q. tested place o (named p.name q.name || named (codes "arith.extsi") p.name) _ (still place o (recast t n place o p q) (refl, refl, refl))))))
 
-  fine_20 : Fine place o (rule_20 t n place o)
-  fine_20 = of_some place o (one h) _ (λ p. tested place o (named (codes "arith.trunci") p.name) _ (of_some place o (source_among t resizing p.first) _ (λ y. of_some place o (one y) _ (λ q.
+  fine_cut_cast : Fine place o (cut_cast t n place o)
+  fine_cut_cast = of_some place o (one h) _ (λ p. tested place o (named (codes "arith.trunci") p.name) _ (of_some place o (source_among t resizing p.first) _ (λ y. of_some place o (one y) _ (λ q.
       either place o (named (codes "arith.trunci") q.name) _ _ (still place o (recast t n place o p q) (refl, refl, refl)) (tested place o (is_of_type t p.ty q.first) _ (still place o (give x q.first) refl))))))
 
   back : (p q : One) → Fine place o (back_from t n place o p q)
@@ -195,8 +195,8 @@ module _ (t : Operation) (n : ℕ) (place : Place) (o : Operation) where
   through : (p : One) → Fine place o (through_index t n place o p)
   through p = of_some place o (source t p.name p.first) _ (λ y. of_some place o (one y) _ (λ q. tested place o (nat_le (type_width p.ty) (type_width q.ty)) _ (back p q)))
 
-  fine_21 : Fine place o (rule_21 t n place o)
-  fine_21 = of_some place o (one h) _ (λ p. either place o _ _ _ (unreal p) (tested place o _ _ (through p)))
+  fine_cast_back : Fine place o (cast_back t n place o)
+  fine_cast_back = of_some place o (one h) _ (λ p. either place o _ _ _ (unreal p) (tested place o _ _ (through p)))
 
   -- a block is opened
   open_fine : (r : ℕ) (e : Ended) (values handed : List Value) → body t o r ≡ Some e → Fine place o (Some (opened t place o e values handed))
@@ -227,23 +227,23 @@ module _ (t : Operation) (n : ℕ) (place : Place) (o : Operation) where
   condition (c ∷ []) = of_some place o (known t c) _ (λ k. of_some place o (region_at (cond (eqb k.1 0) 1 0) (regions o)) _ (λ g. choose g (cond (eqb k.1 0) 1 0)))
   condition (c ∷ d ∷ vs) = none_there place o
 
-  fine_22 : Fine place o (rule_22 t place o)
-  fine_22 = tested place o _ _ (condition h.operands)
+  fine_open_branch : Fine place o (open_branch t place o)
+  fine_open_branch = tested place o _ _ (condition h.operands)
 
   bounds : (l : Loop) → Fine place o (by_bounds t place o l)
   bounds l = of_some place o (known t l.lower) _ (λ low. of_some place o (known t l.upper) _ (λ high. either place o _ _ _
       (of_some place o (known t l.step) _ (λ step. tested place o _ _ (of_known place o (body t o 0) _ (λ e k. open_fine 0 e (l.lower ∷ l.inits) e.last.operands k))))
       (still place o (never t place o l) (still_replacing x place (results_from x 0 l.inits) l.inits (Erase x ∷ []) refl))))
 
-  fine_23 : Fine place o (rule_23 t place o)
-  fine_23 = tested place o _ _ (of_some place o (loop_from h.operands) _ bounds)
+  fine_open_loop : Fine place o (open_loop t place o)
+  fine_open_loop = tested place o _ _ (of_some place o (loop_from h.operands) _ bounds)
 
   ends : (e : Ended) → body t o 0 ≡ Some e → (vs : List Value) → Fine place o (by_end t place o e vs)
   ends e k [] = none_there place o
   ends e k (c ∷ handed) = tested place o _ _ (open_fine 0 e h.operands handed k)
 
-  fine_24 : Fine place o (rule_24 t place o)
-  fine_24 = tested place o _ _ (of_known place o (body t o 0) _ (λ e k. ends e k e.last.operands))
+  fine_stop_loop : Fine place o (stop_loop t place o)
+  fine_stop_loop = tested place o _ _ (of_known place o (body t o 0) _ (λ e k. ends e k e.last.operands))
 
 -- a rule's edits are near its operation
 abbrev pub IsFine : ℕ → Type 0
@@ -251,4 +251,4 @@ IsFine r = (t : Operation) (n : ℕ) (place : Place) (o : Operation) → Fine pl
 
 pub all_fine : Each (λ r. (t : Operation) (n : ℕ) (place : Place) (o : Operation) → Fine place o (rule r t n place o)) greedy_rules
 unfolding rule
-all_fine = (fine_1, (fine_2, (fine_3, (fine_4, (fine_5, (fine_6, (fine_7, (fine_8, (fine_9, (fine_10, (fine_11, (fine_12, (fine_13, (fine_14, (fine_15, (fine_16, (fine_17, (fine_18, (fine_19, (fine_20, (fine_21, (λ t n place o. fine_22 t n place o, (λ t n place o. fine_23 t n place o, (λ t n place o. fine_24 t n place o, tt))))))))))))))))))))))))
+all_fine = (fine_erase_dead, (fine_fold_to_constant, (fine_swap_constant, (fine_drop_zero, (fine_drop_one, (fine_drop_all_ones, (fine_cancel_itself, (fine_keep_itself, (fine_zero_remainder, (fine_regroup_constants, (fine_add_negative, (fine_compare_itself, (fine_mirror_comparison, (fine_compare_zero, (fine_choose_same, (fine_choose_known, (fine_choose_truth, (fine_choose_opposite, (fine_extend_extension, (fine_cut_cast, (fine_cast_back, (λ t n place o. fine_open_branch t n place o, (λ t n place o. fine_open_loop t n place o, (λ t n place o. fine_stop_loop t n place o, tt))))))))))))))))))))))))

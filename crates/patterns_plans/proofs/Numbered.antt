@@ -10,8 +10,8 @@ use Rattle.ir_event.specs.declared.world.World.{World}
 use Rattle.ir_event.specs.Modules.{module_in}
 use Rattle.effects.specs.Dead.{dead_at, dead_in, is_dead}
 use Rattle.patterns_edits.specs.Edits.{Erase}
-use Rattle.patterns_reads.specs.Folding.{rule_2, rule_3, rule_4, rule_5, rule_6, rule_7, rule_8, rule_9, rule_10, rule_11, rule_12, rule_13, rule_14, rule_15, rule_16, rule_17, rule_18, rule_25, rule_26, rule_27}
-use Rattle.patterns_reads.specs.Casting.{rule_19, rule_20, rule_21}
+use Rattle.patterns_reads.specs.Folding.{fold_to_constant, swap_constant, drop_zero, drop_one, drop_all_ones, cancel_itself, keep_itself, zero_remainder, regroup_constants, add_negative, compare_itself, mirror_comparison, compare_zero, choose_same, choose_known, choose_truth, choose_opposite, expand_min_max, expand_difference, expand_remainder}
+use Rattle.patterns_reads.specs.Casting.{extend_extension, cut_cast, cast_back}
 use Rattle.patterns_reads.specs.Looks.{Header, may_go, when}
 use Rattle.patterns_reads.specs.Reads.{head_at, head_in}
 use Rattle.patterns_reads.specs.Rules.{rule}
@@ -33,97 +33,97 @@ pub planned_at : (makes : Rule) (r : ℕ) (w : World) (x : ℕ) (node : Node) (p
 planned_at makes r w x node p is e planned o f n front =
     planned n front ∙ is (module_in w).tree n front (record (head_in w.ctx node) { id = x }) o (same_head x (module_in w).tree (head_in w.ctx node) o e f)
 
-pub at_2 : (r : ℕ) → r ≡ 2 → (t : Operation) (n : ℕ) (front : Place) (h : Header) (o : Operation) → h ≡ head o → rule_2 t n front (op h no_regions) ≡ rule r t n front o
+pub at_fold_to_constant : (r : ℕ) → r ≡ 2 → (t : Operation) (n : ℕ) (front : Place) (h : Header) (o : Operation) → h ≡ head o → fold_to_constant t n front (op h no_regions) ≡ rule r t n front o
 unfolding rule
-at_2 r k t n front h o e = ap (λ z. rule_2 t n front (op z no_regions)) e ∙ ap (λ r. rule r t n front o) (sym k)
+at_fold_to_constant r k t n front h o e = ap (λ z. fold_to_constant t n front (op z no_regions)) e ∙ ap (λ r. rule r t n front o) (sym k)
 
-pub at_3 : (r : ℕ) → r ≡ 3 → (t : Operation) (n : ℕ) (front : Place) (h : Header) (o : Operation) → h ≡ head o → rule_3 t n front (op h no_regions) ≡ rule r t n front o
+pub at_swap_constant : (r : ℕ) → r ≡ 3 → (t : Operation) (n : ℕ) (front : Place) (h : Header) (o : Operation) → h ≡ head o → swap_constant t n front (op h no_regions) ≡ rule r t n front o
 unfolding rule
-at_3 r k t n front h o e = ap (λ z. rule_3 t n front (op z no_regions)) e ∙ ap (λ r. rule r t n front o) (sym k)
+at_swap_constant r k t n front h o e = ap (λ z. swap_constant t n front (op z no_regions)) e ∙ ap (λ r. rule r t n front o) (sym k)
 
-pub at_4 : (r : ℕ) → r ≡ 4 → (t : Operation) (n : ℕ) (front : Place) (h : Header) (o : Operation) → h ≡ head o → rule_4 t n front (op h no_regions) ≡ rule r t n front o
+pub at_drop_zero : (r : ℕ) → r ≡ 4 → (t : Operation) (n : ℕ) (front : Place) (h : Header) (o : Operation) → h ≡ head o → drop_zero t n front (op h no_regions) ≡ rule r t n front o
 unfolding rule
-at_4 r k t n front h o e = ap (λ z. rule_4 t n front (op z no_regions)) e ∙ ap (λ r. rule r t n front o) (sym k)
+at_drop_zero r k t n front h o e = ap (λ z. drop_zero t n front (op z no_regions)) e ∙ ap (λ r. rule r t n front o) (sym k)
 
-pub at_5 : (r : ℕ) → r ≡ 5 → (t : Operation) (n : ℕ) (front : Place) (h : Header) (o : Operation) → h ≡ head o → rule_5 t n front (op h no_regions) ≡ rule r t n front o
+pub at_drop_one : (r : ℕ) → r ≡ 5 → (t : Operation) (n : ℕ) (front : Place) (h : Header) (o : Operation) → h ≡ head o → drop_one t n front (op h no_regions) ≡ rule r t n front o
 unfolding rule
-at_5 r k t n front h o e = ap (λ z. rule_5 t n front (op z no_regions)) e ∙ ap (λ r. rule r t n front o) (sym k)
+at_drop_one r k t n front h o e = ap (λ z. drop_one t n front (op z no_regions)) e ∙ ap (λ r. rule r t n front o) (sym k)
 
-pub at_6 : (r : ℕ) → r ≡ 6 → (t : Operation) (n : ℕ) (front : Place) (h : Header) (o : Operation) → h ≡ head o → rule_6 t n front (op h no_regions) ≡ rule r t n front o
+pub at_drop_all_ones : (r : ℕ) → r ≡ 6 → (t : Operation) (n : ℕ) (front : Place) (h : Header) (o : Operation) → h ≡ head o → drop_all_ones t n front (op h no_regions) ≡ rule r t n front o
 unfolding rule
-at_6 r k t n front h o e = ap (λ z. rule_6 t n front (op z no_regions)) e ∙ ap (λ r. rule r t n front o) (sym k)
+at_drop_all_ones r k t n front h o e = ap (λ z. drop_all_ones t n front (op z no_regions)) e ∙ ap (λ r. rule r t n front o) (sym k)
 
-pub at_7 : (r : ℕ) → r ≡ 7 → (t : Operation) (n : ℕ) (front : Place) (h : Header) (o : Operation) → h ≡ head o → rule_7 t n front (op h no_regions) ≡ rule r t n front o
+pub at_cancel_itself : (r : ℕ) → r ≡ 7 → (t : Operation) (n : ℕ) (front : Place) (h : Header) (o : Operation) → h ≡ head o → cancel_itself t n front (op h no_regions) ≡ rule r t n front o
 unfolding rule
-at_7 r k t n front h o e = ap (λ z. rule_7 t n front (op z no_regions)) e ∙ ap (λ r. rule r t n front o) (sym k)
+at_cancel_itself r k t n front h o e = ap (λ z. cancel_itself t n front (op z no_regions)) e ∙ ap (λ r. rule r t n front o) (sym k)
 
-pub at_8 : (r : ℕ) → r ≡ 8 → (t : Operation) (n : ℕ) (front : Place) (h : Header) (o : Operation) → h ≡ head o → rule_8 t n front (op h no_regions) ≡ rule r t n front o
+pub at_keep_itself : (r : ℕ) → r ≡ 8 → (t : Operation) (n : ℕ) (front : Place) (h : Header) (o : Operation) → h ≡ head o → keep_itself t n front (op h no_regions) ≡ rule r t n front o
 unfolding rule
-at_8 r k t n front h o e = ap (λ z. rule_8 t n front (op z no_regions)) e ∙ ap (λ r. rule r t n front o) (sym k)
+at_keep_itself r k t n front h o e = ap (λ z. keep_itself t n front (op z no_regions)) e ∙ ap (λ r. rule r t n front o) (sym k)
 
-pub at_9 : (r : ℕ) → r ≡ 9 → (t : Operation) (n : ℕ) (front : Place) (h : Header) (o : Operation) → h ≡ head o → rule_9 t n front (op h no_regions) ≡ rule r t n front o
+pub at_zero_remainder : (r : ℕ) → r ≡ 9 → (t : Operation) (n : ℕ) (front : Place) (h : Header) (o : Operation) → h ≡ head o → zero_remainder t n front (op h no_regions) ≡ rule r t n front o
 unfolding rule
-at_9 r k t n front h o e = ap (λ z. rule_9 t n front (op z no_regions)) e ∙ ap (λ r. rule r t n front o) (sym k)
+at_zero_remainder r k t n front h o e = ap (λ z. zero_remainder t n front (op z no_regions)) e ∙ ap (λ r. rule r t n front o) (sym k)
 
-pub at_10 : (r : ℕ) → r ≡ 10 → (t : Operation) (n : ℕ) (front : Place) (h : Header) (o : Operation) → h ≡ head o → rule_10 t n front (op h no_regions) ≡ rule r t n front o
+pub at_regroup_constants : (r : ℕ) → r ≡ 10 → (t : Operation) (n : ℕ) (front : Place) (h : Header) (o : Operation) → h ≡ head o → regroup_constants t n front (op h no_regions) ≡ rule r t n front o
 unfolding rule
-at_10 r k t n front h o e = ap (λ z. rule_10 t n front (op z no_regions)) e ∙ ap (λ r. rule r t n front o) (sym k)
+at_regroup_constants r k t n front h o e = ap (λ z. regroup_constants t n front (op z no_regions)) e ∙ ap (λ r. rule r t n front o) (sym k)
 
-pub at_11 : (r : ℕ) → r ≡ 11 → (t : Operation) (n : ℕ) (front : Place) (h : Header) (o : Operation) → h ≡ head o → rule_11 t n front (op h no_regions) ≡ rule r t n front o
+pub at_add_negative : (r : ℕ) → r ≡ 11 → (t : Operation) (n : ℕ) (front : Place) (h : Header) (o : Operation) → h ≡ head o → add_negative t n front (op h no_regions) ≡ rule r t n front o
 unfolding rule
-at_11 r k t n front h o e = ap (λ z. rule_11 t n front (op z no_regions)) e ∙ ap (λ r. rule r t n front o) (sym k)
+at_add_negative r k t n front h o e = ap (λ z. add_negative t n front (op z no_regions)) e ∙ ap (λ r. rule r t n front o) (sym k)
 
-pub at_12 : (r : ℕ) → r ≡ 12 → (t : Operation) (n : ℕ) (front : Place) (h : Header) (o : Operation) → h ≡ head o → rule_12 t n front (op h no_regions) ≡ rule r t n front o
+pub at_compare_itself : (r : ℕ) → r ≡ 12 → (t : Operation) (n : ℕ) (front : Place) (h : Header) (o : Operation) → h ≡ head o → compare_itself t n front (op h no_regions) ≡ rule r t n front o
 unfolding rule
-at_12 r k t n front h o e = ap (λ z. rule_12 t n front (op z no_regions)) e ∙ ap (λ r. rule r t n front o) (sym k)
+at_compare_itself r k t n front h o e = ap (λ z. compare_itself t n front (op z no_regions)) e ∙ ap (λ r. rule r t n front o) (sym k)
 
-pub at_13 : (r : ℕ) → r ≡ 13 → (t : Operation) (n : ℕ) (front : Place) (h : Header) (o : Operation) → h ≡ head o → rule_13 t n front (op h no_regions) ≡ rule r t n front o
+pub at_mirror_comparison : (r : ℕ) → r ≡ 13 → (t : Operation) (n : ℕ) (front : Place) (h : Header) (o : Operation) → h ≡ head o → mirror_comparison t n front (op h no_regions) ≡ rule r t n front o
 unfolding rule
-at_13 r k t n front h o e = ap (λ z. rule_13 t n front (op z no_regions)) e ∙ ap (λ r. rule r t n front o) (sym k)
+at_mirror_comparison r k t n front h o e = ap (λ z. mirror_comparison t n front (op z no_regions)) e ∙ ap (λ r. rule r t n front o) (sym k)
 
-pub at_14 : (r : ℕ) → r ≡ 14 → (t : Operation) (n : ℕ) (front : Place) (h : Header) (o : Operation) → h ≡ head o → rule_14 t n front (op h no_regions) ≡ rule r t n front o
+pub at_compare_zero : (r : ℕ) → r ≡ 14 → (t : Operation) (n : ℕ) (front : Place) (h : Header) (o : Operation) → h ≡ head o → compare_zero t n front (op h no_regions) ≡ rule r t n front o
 unfolding rule
-at_14 r k t n front h o e = ap (λ z. rule_14 t n front (op z no_regions)) e ∙ ap (λ r. rule r t n front o) (sym k)
+at_compare_zero r k t n front h o e = ap (λ z. compare_zero t n front (op z no_regions)) e ∙ ap (λ r. rule r t n front o) (sym k)
 
-pub at_15 : (r : ℕ) → r ≡ 15 → (t : Operation) (n : ℕ) (front : Place) (h : Header) (o : Operation) → h ≡ head o → rule_15 t n front (op h no_regions) ≡ rule r t n front o
+pub at_choose_same : (r : ℕ) → r ≡ 15 → (t : Operation) (n : ℕ) (front : Place) (h : Header) (o : Operation) → h ≡ head o → choose_same t n front (op h no_regions) ≡ rule r t n front o
 unfolding rule
-at_15 r k t n front h o e = ap (λ z. rule_15 t n front (op z no_regions)) e ∙ ap (λ r. rule r t n front o) (sym k)
+at_choose_same r k t n front h o e = ap (λ z. choose_same t n front (op z no_regions)) e ∙ ap (λ r. rule r t n front o) (sym k)
 
-pub at_16 : (r : ℕ) → r ≡ 16 → (t : Operation) (n : ℕ) (front : Place) (h : Header) (o : Operation) → h ≡ head o → rule_16 t n front (op h no_regions) ≡ rule r t n front o
+pub at_choose_known : (r : ℕ) → r ≡ 16 → (t : Operation) (n : ℕ) (front : Place) (h : Header) (o : Operation) → h ≡ head o → choose_known t n front (op h no_regions) ≡ rule r t n front o
 unfolding rule
-at_16 r k t n front h o e = ap (λ z. rule_16 t n front (op z no_regions)) e ∙ ap (λ r. rule r t n front o) (sym k)
+at_choose_known r k t n front h o e = ap (λ z. choose_known t n front (op z no_regions)) e ∙ ap (λ r. rule r t n front o) (sym k)
 
-pub at_17 : (r : ℕ) → r ≡ 17 → (t : Operation) (n : ℕ) (front : Place) (h : Header) (o : Operation) → h ≡ head o → rule_17 t n front (op h no_regions) ≡ rule r t n front o
+pub at_choose_truth : (r : ℕ) → r ≡ 17 → (t : Operation) (n : ℕ) (front : Place) (h : Header) (o : Operation) → h ≡ head o → choose_truth t n front (op h no_regions) ≡ rule r t n front o
 unfolding rule
-at_17 r k t n front h o e = ap (λ z. rule_17 t n front (op z no_regions)) e ∙ ap (λ r. rule r t n front o) (sym k)
+at_choose_truth r k t n front h o e = ap (λ z. choose_truth t n front (op z no_regions)) e ∙ ap (λ r. rule r t n front o) (sym k)
 
-pub at_18 : (r : ℕ) → r ≡ 18 → (t : Operation) (n : ℕ) (front : Place) (h : Header) (o : Operation) → h ≡ head o → rule_18 t n front (op h no_regions) ≡ rule r t n front o
+pub at_choose_opposite : (r : ℕ) → r ≡ 18 → (t : Operation) (n : ℕ) (front : Place) (h : Header) (o : Operation) → h ≡ head o → choose_opposite t n front (op h no_regions) ≡ rule r t n front o
 unfolding rule
-at_18 r k t n front h o e = ap (λ z. rule_18 t n front (op z no_regions)) e ∙ ap (λ r. rule r t n front o) (sym k)
+at_choose_opposite r k t n front h o e = ap (λ z. choose_opposite t n front (op z no_regions)) e ∙ ap (λ r. rule r t n front o) (sym k)
 
-pub at_19 : (r : ℕ) → r ≡ 19 → (t : Operation) (n : ℕ) (front : Place) (h : Header) (o : Operation) → h ≡ head o → rule_19 t n front (op h no_regions) ≡ rule r t n front o
+pub at_extend_extension : (r : ℕ) → r ≡ 19 → (t : Operation) (n : ℕ) (front : Place) (h : Header) (o : Operation) → h ≡ head o → extend_extension t n front (op h no_regions) ≡ rule r t n front o
 unfolding rule
-at_19 r k t n front h o e = ap (λ z. rule_19 t n front (op z no_regions)) e ∙ ap (λ r. rule r t n front o) (sym k)
+at_extend_extension r k t n front h o e = ap (λ z. extend_extension t n front (op z no_regions)) e ∙ ap (λ r. rule r t n front o) (sym k)
 
-pub at_20 : (r : ℕ) → r ≡ 20 → (t : Operation) (n : ℕ) (front : Place) (h : Header) (o : Operation) → h ≡ head o → rule_20 t n front (op h no_regions) ≡ rule r t n front o
+pub at_cut_cast : (r : ℕ) → r ≡ 20 → (t : Operation) (n : ℕ) (front : Place) (h : Header) (o : Operation) → h ≡ head o → cut_cast t n front (op h no_regions) ≡ rule r t n front o
 unfolding rule
-at_20 r k t n front h o e = ap (λ z. rule_20 t n front (op z no_regions)) e ∙ ap (λ r. rule r t n front o) (sym k)
+at_cut_cast r k t n front h o e = ap (λ z. cut_cast t n front (op z no_regions)) e ∙ ap (λ r. rule r t n front o) (sym k)
 
-pub at_21 : (r : ℕ) → r ≡ 21 → (t : Operation) (n : ℕ) (front : Place) (h : Header) (o : Operation) → h ≡ head o → rule_21 t n front (op h no_regions) ≡ rule r t n front o
+pub at_cast_back : (r : ℕ) → r ≡ 21 → (t : Operation) (n : ℕ) (front : Place) (h : Header) (o : Operation) → h ≡ head o → cast_back t n front (op h no_regions) ≡ rule r t n front o
 unfolding rule
-at_21 r k t n front h o e = ap (λ z. rule_21 t n front (op z no_regions)) e ∙ ap (λ r. rule r t n front o) (sym k)
+at_cast_back r k t n front h o e = ap (λ z. cast_back t n front (op z no_regions)) e ∙ ap (λ r. rule r t n front o) (sym k)
 
-pub at_25 : (r : ℕ) → r ≡ 25 → (t : Operation) (n : ℕ) (front : Place) (h : Header) (o : Operation) → h ≡ head o → rule_25 t n front (op h no_regions) ≡ rule r t n front o
+pub at_expand_min_max : (r : ℕ) → r ≡ 25 → (t : Operation) (n : ℕ) (front : Place) (h : Header) (o : Operation) → h ≡ head o → expand_min_max t n front (op h no_regions) ≡ rule r t n front o
 unfolding rule
-at_25 r k t n front h o e = ap (λ z. rule_25 t n front (op z no_regions)) e ∙ ap (λ r. rule r t n front o) (sym k)
+at_expand_min_max r k t n front h o e = ap (λ z. expand_min_max t n front (op z no_regions)) e ∙ ap (λ r. rule r t n front o) (sym k)
 
-pub at_26 : (r : ℕ) → r ≡ 26 → (t : Operation) (n : ℕ) (front : Place) (h : Header) (o : Operation) → h ≡ head o → rule_26 t n front (op h no_regions) ≡ rule r t n front o
+pub at_expand_difference : (r : ℕ) → r ≡ 26 → (t : Operation) (n : ℕ) (front : Place) (h : Header) (o : Operation) → h ≡ head o → expand_difference t n front (op h no_regions) ≡ rule r t n front o
 unfolding rule
-at_26 r k t n front h o e = ap (λ z. rule_26 t n front (op z no_regions)) e ∙ ap (λ r. rule r t n front o) (sym k)
+at_expand_difference r k t n front h o e = ap (λ z. expand_difference t n front (op z no_regions)) e ∙ ap (λ r. rule r t n front o) (sym k)
 
-pub at_27 : (r : ℕ) → r ≡ 27 → (t : Operation) (n : ℕ) (front : Place) (h : Header) (o : Operation) → h ≡ head o → rule_27 t n front (op h no_regions) ≡ rule r t n front o
+pub at_expand_remainder : (r : ℕ) → r ≡ 27 → (t : Operation) (n : ℕ) (front : Place) (h : Header) (o : Operation) → h ≡ head o → expand_remainder t n front (op h no_regions) ≡ rule r t n front o
 unfolding rule
-at_27 r k t n front h o e = ap (λ z. rule_27 t n front (op z no_regions)) e ∙ ap (λ r. rule r t n front o) (sym k)
+at_expand_remainder r k t n front h o e = ap (λ z. expand_remainder t n front (op z no_regions)) e ∙ ap (λ r. rule r t n front o) (sym k)
 
 -- rule 1 looks at the operation itself
 found_id : (x : ℕ) (t o : Operation) → find x t ≡ Some o → (head o).id ≡ x

@@ -4,13 +4,13 @@ ghost use Rattle.ir_event.specs.Modules.{NodeIsOf, module_in};
 ghost use Rattle.patterns_reads.specs.Reads.{head_at, head_in};
 ghost use Rattle.patterns_plans.specs.Planned.{FitsIn, IsPlanAt, IsPlannedRule};
 
-use crate::casts::{plan_19, plan_20, plan_21};
-use crate::combined::{plan_10, plan_11};
-use crate::constant::{plan_2, plan_7, plan_9, plan_12, plan_14};
-use crate::dead::plan_1;
-use crate::expanded::{plan_25, plan_26, plan_27};
-use crate::given::{plan_4, plan_5, plan_6, plan_8, plan_15, plan_16, plan_17};
-use crate::in_place::{plan_3, plan_13, plan_18};
+use crate::casts::{plan_extend_extension, plan_cut_cast, plan_cast_back};
+use crate::combined::{plan_regroup_constants, plan_add_negative};
+use crate::constant::{plan_fold_to_constant, plan_cancel_itself, plan_zero_remainder, plan_compare_itself, plan_compare_zero};
+use crate::dead::plan_erase_dead;
+use crate::expanded::{plan_expand_min_max, plan_expand_difference, plan_expand_remainder};
+use crate::given::{plan_drop_zero, plan_drop_one, plan_drop_all_ones, plan_keep_itself, plan_choose_same, plan_choose_known, plan_choose_truth};
+use crate::in_place::{plan_swap_constant, plan_mirror_comparison, plan_choose_opposite};
 use ir_event::world::World;
 use ir_store::node::Node;
 use ir_types::ids::OpId;
@@ -33,30 +33,30 @@ fn plan_to_10(
     ensures fit { IfOk result (FitsIn world.now.ctx) }
 {
     if rule == 2 {
-        return plan_2(alloc, world, node);
+        return plan_fold_to_constant(alloc, world, node);
     }
     if rule == 3 {
-        return plan_3(alloc, world, op, node);
+        return plan_swap_constant(alloc, world, op, node);
     }
     if rule == 4 {
-        return plan_4(alloc, world, op, node);
+        return plan_drop_zero(alloc, world, op, node);
     }
     if rule == 5 {
-        return plan_5(alloc, world, op, node);
+        return plan_drop_one(alloc, world, op, node);
     }
     if rule == 6 {
-        return plan_6(alloc, world, op, node);
+        return plan_drop_all_ones(alloc, world, op, node);
     }
     if rule == 7 {
-        return Ok(plan_7(world, node));
+        return Ok(plan_cancel_itself(world, node));
     }
     if rule == 8 {
-        return plan_8(alloc, world, op, node);
+        return plan_keep_itself(alloc, world, op, node);
     }
     if rule == 9 {
-        return plan_9(alloc, world, node);
+        return plan_zero_remainder(alloc, world, node);
     }
-    plan_10(alloc, world, node)
+    plan_regroup_constants(alloc, world, node)
 }
 
 /// Rules 11 to 21.
@@ -75,36 +75,36 @@ fn plan_to_21(
     ensures fit { IfOk result (FitsIn world.now.ctx) }
 {
     if rule == 11 {
-        return plan_11(alloc, world, node);
+        return plan_add_negative(alloc, world, node);
     }
     if rule == 12 {
-        return Ok(plan_12(world, node));
+        return Ok(plan_compare_itself(world, node));
     }
     if rule == 13 {
-        return plan_13(alloc, world, node);
+        return plan_mirror_comparison(alloc, world, node);
     }
     if rule == 14 {
-        return plan_14(alloc, world, node);
+        return plan_compare_zero(alloc, world, node);
     }
     if rule == 15 {
-        return plan_15(alloc, world, op, node);
+        return plan_choose_same(alloc, world, op, node);
     }
     if rule == 16 {
-        return plan_16(alloc, world, op, node);
+        return plan_choose_known(alloc, world, op, node);
     }
     if rule == 17 {
-        return plan_17(alloc, world, op, node);
+        return plan_choose_truth(alloc, world, op, node);
     }
     if rule == 18 {
-        return plan_18(alloc, world, op, node);
+        return plan_choose_opposite(alloc, world, op, node);
     }
     if rule == 19 {
-        return plan_19(alloc, world, node);
+        return plan_extend_extension(alloc, world, node);
     }
     if rule == 20 {
-        return plan_20(alloc, world, op, node);
+        return plan_cut_cast(alloc, world, op, node);
     }
-    plan_21(alloc, world, op, node)
+    plan_cast_back(alloc, world, op, node)
 }
 
 /// Rules 25 to 27.
@@ -123,12 +123,12 @@ fn plan_to_27(
     ensures fit { IfOk result (FitsIn world.now.ctx) }
 {
     if rule == 25 {
-        return Ok(plan_25(world, node));
+        return Ok(plan_expand_min_max(world, node));
     }
     if rule == 26 {
-        return Ok(plan_26(world, node));
+        return Ok(plan_expand_difference(world, node));
     }
-    Ok(plan_27(world, node))
+    Ok(plan_expand_remainder(world, node))
 }
 
 /// What one of rules 1 to 21 and 25 to 27 makes of an operation of the module, of which this is shown, if it applies.
@@ -147,7 +147,7 @@ pub fn plan_by(
     ensures fit { IfOk result (FitsIn world.now.ctx) }
 {
     if rule == 1 {
-        return plan_1(alloc, world, op);
+        return plan_erase_dead(alloc, world, op);
     }
     if rule <= 10 {
         return plan_to_10(alloc, world, rule, op, node);

@@ -24,7 +24,7 @@ fn erase(alloc: Global, op: OpId) -> Result<Plan, AllocError>
 }
 
 /// A dead operation: erased.
-pub(crate) fn plan_1(alloc: Global, world: &World, op: OpId) -> Result<Option<Plan>, AllocError>
+pub(crate) fn plan_erase_dead(alloc: Global, world: &World, op: OpId) -> Result<Option<Plan>, AllocError>
     ensures edits { IfOk result (IsPlanAt 1 world.now op) }
     ensures fit { IfOk result (FitsIn world.now.ctx) }
 {

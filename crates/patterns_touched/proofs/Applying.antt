@@ -36,8 +36,8 @@ use Rattle.patterns_touched.proofs.Reaching.{all_far}
 use Rattle.patterns_touched.proofs.Tracked.{effects_stay}
 use Rattle.patterns_touched.proofs.Usings.{unused_stays}
 use Rattle.patterns_touched.proofs.Lasting.{lasts_stay, unreached_all, last_in, same_lasts}
-use Rattle.patterns_touched.proofs.Rules.{when_alike, if_alike, same_2, same_3, same_4, same_5, same_6, same_7, same_8, same_9, same_10, same_11, same_12, same_13, same_14, same_15, same_16, same_17, same_18, same_19, same_20, same_21}
-use Rattle.patterns_touched.proofs.Opened.{given_both, same_22, same_23, same_24}
+use Rattle.patterns_touched.proofs.Rules.{when_alike, if_alike, same_fold_to_constant, same_swap_constant, same_drop_zero, same_drop_one, same_drop_all_ones, same_cancel_itself, same_keep_itself, same_zero_remainder, same_regroup_constants, same_add_negative, same_compare_itself, same_mirror_comparison, same_compare_zero, same_choose_same, same_choose_known, same_choose_truth, same_choose_opposite, same_extend_extension, same_cut_cast, same_cast_back}
+use Rattle.patterns_touched.proofs.Opened.{given_both, same_open_branch, same_open_loop, same_stop_loop}
 use Rattle.patterns_touched.proofs.Unlisted.{found_surroundings, surroundings_found, there_found, found_there, outer_some, last_header, clean_alike, heads_alike, head_id, shows_alike}
 
 not_so : (b : Bool) → (b ≡ true → ⊥) → b ≡ false
@@ -264,29 +264,29 @@ module _ (shown : ℕ → List Value) (c : Things) (es : List Event) (m n : Modu
         let a = n.next in
         let b = m.next in
         if_alike (eqb r 1) (eqb r 1) _ _ _ _ refl (when_alike _ _ _ _ dead_alike refl)
-        (if_alike (eqb r 2) (eqb r 2) _ _ _ _ refl (same_2 t u a b f g o p heads sees)
-        (if_alike (eqb r 3) (eqb r 3) _ _ _ _ refl (same_3 t u a b f g o p heads sees)
-        (if_alike (eqb r 4) (eqb r 4) _ _ _ _ refl (same_4 t u a b f g o p heads sees)
-        (if_alike (eqb r 5) (eqb r 5) _ _ _ _ refl (same_5 t u a b f g o p heads sees)
-        (if_alike (eqb r 6) (eqb r 6) _ _ _ _ refl (same_6 t u a b f g o p heads sees)
-        (if_alike (eqb r 7) (eqb r 7) _ _ _ _ refl (same_7 t u a b f g o p heads sees)
-        (if_alike (eqb r 8) (eqb r 8) _ _ _ _ refl (same_8 t u a b f g o p heads sees)
-        (if_alike (eqb r 9) (eqb r 9) _ _ _ _ refl (same_9 t u a b f g o p heads sees)
-        (if_alike (eqb r 10) (eqb r 10) _ _ _ _ refl (same_10 t u a b f g o p heads sees)
-        (if_alike (eqb r 11) (eqb r 11) _ _ _ _ refl (same_11 t u a b f g o p heads sees)
-        (if_alike (eqb r 12) (eqb r 12) _ _ _ _ refl (same_12 t u a b f g o p heads sees)
-        (if_alike (eqb r 13) (eqb r 13) _ _ _ _ refl (same_13 t u a b f g o p heads sees)
-        (if_alike (eqb r 14) (eqb r 14) _ _ _ _ refl (same_14 t u a b f g o p heads sees)
-        (if_alike (eqb r 15) (eqb r 15) _ _ _ _ refl (same_15 t u a b f g o p heads sees)
-        (if_alike (eqb r 16) (eqb r 16) _ _ _ _ refl (same_16 t u a b f g o p heads sees)
-        (if_alike (eqb r 17) (eqb r 17) _ _ _ _ refl (same_17 t u a b f g o p heads sees)
-        (if_alike (eqb r 18) (eqb r 18) _ _ _ _ refl (same_18 t u a b f g o p heads sees)
-        (if_alike (eqb r 19) (eqb r 19) _ _ _ _ refl (same_19 t u a b f g o p heads sees)
-        (if_alike (eqb r 20) (eqb r 20) _ _ _ _ refl (same_20 t u a b f g o p heads sees)
-        (if_alike (eqb r 21) (eqb r 21) _ _ _ _ refl (same_21 t u a b f g o p heads sees)
-        (if_alike (eqb r 22) (eqb r 22) _ _ _ _ refl (same_22 t u f g o p heads sees.operands ends_alike)
-        (if_alike (eqb r 23) (eqb r 23) _ _ _ _ refl (same_23 t u f g o p heads sees.operands ends_alike)
-        (if_alike (eqb r 24) (eqb r 24) _ _ _ _ refl (same_24 t u f g o p heads sees.operands ends_alike)
+        (if_alike (eqb r 2) (eqb r 2) _ _ _ _ refl (same_fold_to_constant t u a b f g o p heads sees)
+        (if_alike (eqb r 3) (eqb r 3) _ _ _ _ refl (same_swap_constant t u a b f g o p heads sees)
+        (if_alike (eqb r 4) (eqb r 4) _ _ _ _ refl (same_drop_zero t u a b f g o p heads sees)
+        (if_alike (eqb r 5) (eqb r 5) _ _ _ _ refl (same_drop_one t u a b f g o p heads sees)
+        (if_alike (eqb r 6) (eqb r 6) _ _ _ _ refl (same_drop_all_ones t u a b f g o p heads sees)
+        (if_alike (eqb r 7) (eqb r 7) _ _ _ _ refl (same_cancel_itself t u a b f g o p heads sees)
+        (if_alike (eqb r 8) (eqb r 8) _ _ _ _ refl (same_keep_itself t u a b f g o p heads sees)
+        (if_alike (eqb r 9) (eqb r 9) _ _ _ _ refl (same_zero_remainder t u a b f g o p heads sees)
+        (if_alike (eqb r 10) (eqb r 10) _ _ _ _ refl (same_regroup_constants t u a b f g o p heads sees)
+        (if_alike (eqb r 11) (eqb r 11) _ _ _ _ refl (same_add_negative t u a b f g o p heads sees)
+        (if_alike (eqb r 12) (eqb r 12) _ _ _ _ refl (same_compare_itself t u a b f g o p heads sees)
+        (if_alike (eqb r 13) (eqb r 13) _ _ _ _ refl (same_mirror_comparison t u a b f g o p heads sees)
+        (if_alike (eqb r 14) (eqb r 14) _ _ _ _ refl (same_compare_zero t u a b f g o p heads sees)
+        (if_alike (eqb r 15) (eqb r 15) _ _ _ _ refl (same_choose_same t u a b f g o p heads sees)
+        (if_alike (eqb r 16) (eqb r 16) _ _ _ _ refl (same_choose_known t u a b f g o p heads sees)
+        (if_alike (eqb r 17) (eqb r 17) _ _ _ _ refl (same_choose_truth t u a b f g o p heads sees)
+        (if_alike (eqb r 18) (eqb r 18) _ _ _ _ refl (same_choose_opposite t u a b f g o p heads sees)
+        (if_alike (eqb r 19) (eqb r 19) _ _ _ _ refl (same_extend_extension t u a b f g o p heads sees)
+        (if_alike (eqb r 20) (eqb r 20) _ _ _ _ refl (same_cut_cast t u a b f g o p heads sees)
+        (if_alike (eqb r 21) (eqb r 21) _ _ _ _ refl (same_cast_back t u a b f g o p heads sees)
+        (if_alike (eqb r 22) (eqb r 22) _ _ _ _ refl (same_open_branch t u f g o p heads sees.operands ends_alike)
+        (if_alike (eqb r 23) (eqb r 23) _ _ _ _ refl (same_open_loop t u f g o p heads sees.operands ends_alike)
+        (if_alike (eqb r 24) (eqb r 24) _ _ _ _ refl (same_stop_loop t u f g o p heads sees.operands ends_alike)
         (skip_alike (eqb r 25) _ _ _ _ (apart r 25 l (omega arith))
         (skip_alike (eqb r 26) _ _ _ _ (apart r 26 l (omega arith))
         (skip_alike (eqb r 27) _ _ _ _ (apart r 27 l (omega arith))

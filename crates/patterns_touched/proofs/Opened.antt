@@ -12,7 +12,7 @@ use Rattle.ir_tree_laws.specs.Values.{region_at}
 use Rattle.patterns_laws.specs.Keeps.{given}
 use Rattle.patterns_laws.specs.Words.{named}
 use Rattle.patterns_base.specs.Looks.{Header, Ended, when, is_clean, known, ended, body}
-use Rattle.patterns_base.specs.Opening.{Loop, loop_from, reading, chosen, by_condition, once, by_end, rule_22, rule_23, rule_24}
+use Rattle.patterns_base.specs.Opening.{Loop, loop_from, reading, chosen, by_condition, once, by_end, open_branch, open_loop, stop_loop}
 use Rattle.patterns_touched.specs.Alike.{Same, ShowsAlike, shape_of, EndsAlike}
 use Rattle.patterns_touched.proofs.Rules.{given_alike, when_alike, if_alike, known_alike, number_alike}
 
@@ -72,8 +72,8 @@ module _ (t u : Operation) (f g : Place) (o p : Operation) (same : head o ≡ he
   condition_alike (c ∷ []) h = given_alike (known t c) (known u c) _ _ (known_alike t u c (h c (inl refl))) (λ k i. region_alike (cond (eqb k.1 0) 1 0))
   condition_alike (c ∷ d ∷ vs) h = refl
 
-  pub same_22 : Same (rule_22 t f o) (rule_22 u g p)
-  same_22 = when_alike _ _ _ _ (ap (λ (h : Header). named (codes "scf.if") h.name) same) (condition_alike (head o).operands operands ∙ ap (λ (h : Header). is_some (by_condition u g p h.operands)) same)
+  pub same_open_branch : Same (open_branch t f o) (open_branch u g p)
+  same_open_branch = when_alike _ _ _ _ (ap (λ (h : Header). named (codes "scf.if") h.name) same) (condition_alike (head o).operands operands ∙ ap (λ (h : Header). is_some (by_condition u g p h.operands)) same)
 
   -- loops
   loop_operands : (vs : List Value) (l : Loop) → loop_from vs ≡ Some l → In l.lower vs × (In l.upper vs × In l.step vs)
@@ -87,8 +87,8 @@ module _ (t u : Operation) (f g : Place) (o p : Operation) (same : head o ≡ he
   once_alike : (l : Loop) → Same (once t f o l) (once u g p l)
   once_alike l = given_both (body t o 0) (body u p 0) _ _ (body_alike 0) (λ x y i j. refl)
 
-  pub same_23 : Same (rule_23 t f o) (rule_23 u g p)
-  same_23 = when_alike _ _ _ _ (ap (λ (h : Header). named (codes "scf.for") h.name) same)
+  pub same_open_loop : Same (open_loop t f o) (open_loop u g p)
+  same_open_loop = when_alike _ _ _ _ (ap (λ (h : Header). named (codes "scf.for") h.name) same)
       (given_alike (loop_from (head o).operands) (loop_from (head p).operands) _ _ (ap (λ (h : Header). loop_from h.operands) same) (λ l e.
       let w = loop_operands (head o).operands l e in
       given_alike (known t l.lower) (known u l.lower) _ _ (known_alike t u l.lower (operands l.lower w.0)) (λ low i.
@@ -101,8 +101,8 @@ module _ (t u : Operation) (f g : Place) (o p : Operation) (same : head o ≡ he
   end_alike e d [] h = refl
   end_alike e d (c ∷ vs) h = when_alike _ _ _ _ (number_alike t u 0 c (h c (inl refl))) refl
 
-  pub same_24 : Same (rule_24 t f o) (rule_24 u g p)
-  same_24 = when_alike _ _ _ _ (ap (λ (h : Header). named (codes "scf.while") h.name) same)
+  pub same_stop_loop : Same (stop_loop t f o) (stop_loop u g p)
+  same_stop_loop = when_alike _ _ _ _ (ap (λ (h : Header). named (codes "scf.while") h.name) same)
       (given_both (body t o 0) (body u p 0) _ _ (body_alike 0) (λ e d i j.
       let a = body_ended t o 0 e i in
       let b = body_ended u p 0 d j in

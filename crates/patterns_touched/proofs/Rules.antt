@@ -19,8 +19,8 @@ use Rattle.patterns_laws.specs.Keeps.{given}
 use Rattle.patterns_laws.specs.Made.{i1}
 use Rattle.patterns_laws.specs.Words.{named, among, swapping, ignoring_zero, ignoring_one, cancelling, keeping, remainders, regrouping, extensions, index_casts}
 use Rattle.patterns_base.specs.Looks.{Header, One, Two, Three, when, is_clean, giver, source, source_among, is_of_constant, is_constant, constant_value, known, is_number, passes, type_of, is_of_type, one, one_from, two, two_from, three, three_from, predicate}
-use Rattle.patterns_base.specs.Folding.{is_all_ones, may_read, folded_to, is_to_swap, rule_2, rule_3, rule_4, rule_5, rule_6, rule_7, rule_8, rule_9, rule_10, rule_11, rule_12, rule_13, rule_14, rule_15, rule_16, rule_17, rule_18}
-use Rattle.patterns_base.specs.Casting.{resizing, unrealized, back_from, through_index, rule_19, rule_20, rule_21}
+use Rattle.patterns_base.specs.Folding.{is_all_ones, may_read, folded_to, is_to_swap, fold_to_constant, swap_constant, drop_zero, drop_one, drop_all_ones, cancel_itself, keep_itself, zero_remainder, regroup_constants, add_negative, compare_itself, mirror_comparison, compare_zero, choose_same, choose_known, choose_truth, choose_opposite}
+use Rattle.patterns_base.specs.Casting.{resizing, unrealized, back_from, through_index, extend_extension, cut_cast, cast_back}
 use Rattle.patterns_touched.specs.Alike.{Same, ShowsAlike, SeesAlike}
 
 -- ---- both there, or neither
@@ -149,9 +149,9 @@ module _ (t u : Operation) (n k : ℕ) (f g : Place) (o p : Operation) (same : h
   folded_alike (ty ∷ []) (Some c) = refl
   folded_alike (ty ∷ s ∷ ts) c = refl
 
-  pub same_2 : Same (rule_2 t n f o) (rule_2 u k g p)
-  same_2 =
-      subst (λ (q : Header). Same (rule_2 t n f o) (when (not (named (codes "arith.constant") q.name) && list_all (may_read u k g p) q.operands) (folded_to u k g p q.results (fold_of q.name q.properties (map (known u) q.operands) q.results)))) same
+  pub same_fold_to_constant : Same (fold_to_constant t n f o) (fold_to_constant u k g p)
+  same_fold_to_constant =
+      subst (λ (q : Header). Same (fold_to_constant t n f o) (when (not (named (codes "arith.constant") q.name) && list_all (may_read u k g p) q.operands) (folded_to u k g p q.results (fold_of q.name q.properties (map (known u) q.operands) q.results)))) same
       (when_alike _ _ _ _ (ap (λ b. not (named (codes "arith.constant") (head o).name) && b) (all_alike (may_read t n f o) (may_read u k g p) (head o).operands may_read_alike))
       (folded_alike (head o).results (fold_of (head o).name (head o).properties (map (known t) (head o).operands) (head o).results)
       ∙ ap (λ cs. is_some (folded_to u k g p (head o).results (fold_of (head o).name (head o).properties cs (head o).results))) (map_alike (known t) (known u) (head o).operands (λ v h. known_alike t u v (sees.operands v h)))))
@@ -163,80 +163,80 @@ module _ (t u : Operation) (n k : ℕ) (f g : Place) (o p : Operation) (same : h
   swap_alike : (q : Two) → ShowsAlike t u q.first → ShowsAlike t u q.second → is_to_swap t n f o q ≡ is_to_swap u k g p q
   swap_alike q s r = λ i. is_some (known_alike t u q.first s i) && not (constant_alike t u q.second r i)
 
-  pub same_3 : Same (rule_3 t n f o) (rule_3 u k g p)
-  same_3 = on_two_alike _ _ (λ q s r e. when_alike _ _ _ _ (ap (λ b. among swapping q.name && b) (swap_alike q s r)) refl)
+  pub same_swap_constant : Same (swap_constant t n f o) (swap_constant u k g p)
+  same_swap_constant = on_two_alike _ _ (λ q s r e. when_alike _ _ _ _ (ap (λ b. among swapping q.name && b) (swap_alike q s r)) refl)
 
-  pub same_4 : Same (rule_4 t n f o) (rule_4 u k g p)
-  same_4 = on_two_alike _ _ (λ q s r e. when_alike _ _ _ _ (ap (λ b. among ignoring_zero q.name && b) (number_alike t u 0 q.second r)) refl)
+  pub same_drop_zero : Same (drop_zero t n f o) (drop_zero u k g p)
+  same_drop_zero = on_two_alike _ _ (λ q s r e. when_alike _ _ _ _ (ap (λ b. among ignoring_zero q.name && b) (number_alike t u 0 q.second r)) refl)
 
-  pub same_5 : Same (rule_5 t n f o) (rule_5 u k g p)
-  same_5 = on_two_alike _ _ (λ q s r e. when_alike _ _ _ _ (ap (λ b. among ignoring_one q.name && b) (number_alike t u 1 q.second r)) refl)
+  pub same_drop_one : Same (drop_one t n f o) (drop_one u k g p)
+  same_drop_one = on_two_alike _ _ (λ q s r e. when_alike _ _ _ _ (ap (λ b. among ignoring_one q.name && b) (number_alike t u 1 q.second r)) refl)
 
-  pub same_6 : Same (rule_6 t n f o) (rule_6 u k g p)
-  same_6 = on_two_alike _ _ (λ q s r e. when_alike _ _ _ _ (ap (λ c. named (codes "arith.andi") q.name && passes (is_all_ones q.ty) c) (known_alike t u q.second r)) refl)
+  pub same_drop_all_ones : Same (drop_all_ones t n f o) (drop_all_ones u k g p)
+  same_drop_all_ones = on_two_alike _ _ (λ q s r e. when_alike _ _ _ _ (ap (λ c. named (codes "arith.andi") q.name && passes (is_all_ones q.ty) c) (known_alike t u q.second r)) refl)
 
-  pub same_7 : Same (rule_7 t n f o) (rule_7 u k g p)
-  same_7 = on_two_alike _ _ (λ q s r e. when_alike (among cancelling q.name && same_value q.first q.second) _ _ _ refl refl)
+  pub same_cancel_itself : Same (cancel_itself t n f o) (cancel_itself u k g p)
+  same_cancel_itself = on_two_alike _ _ (λ q s r e. when_alike (among cancelling q.name && same_value q.first q.second) _ _ _ refl refl)
 
-  pub same_8 : Same (rule_8 t n f o) (rule_8 u k g p)
-  same_8 = on_two_alike _ _ (λ q s r e. when_alike (among keeping q.name && same_value q.first q.second) _ _ _ refl refl)
+  pub same_keep_itself : Same (keep_itself t n f o) (keep_itself u k g p)
+  same_keep_itself = on_two_alike _ _ (λ q s r e. when_alike (among keeping q.name && same_value q.first q.second) _ _ _ refl refl)
 
-  pub same_9 : Same (rule_9 t n f o) (rule_9 u k g p)
-  same_9 = on_two_alike _ _ (λ q s r e. when_alike _ _ _ _ (ap (λ b. among remainders q.name && b) (number_alike t u 1 q.second r)) refl)
+  pub same_zero_remainder : Same (zero_remainder t n f o) (zero_remainder u k g p)
+  same_zero_remainder = on_two_alike _ _ (λ q s r e. when_alike _ _ _ _ (ap (λ b. among remainders q.name && b) (number_alike t u 1 q.second r)) refl)
 
   -- what a source of two operands shows
   inner_two : (v : Value) → In v (head o).operands → (name : List ℕ) (y : Header) → source t name v ≡ Some y → (q : Two) → two y ≡ Some q → ShowsAlike t u q.second
   inner_two v h name y e q i = (sees.inner v h y (source_gives t name v y e) q.second (two_operands y q i).1).0
 
-  pub same_10 : Same (rule_10 t n f o) (rule_10 u k g p)
-  same_10 = on_two_alike _ _ (λ q s r e. when_alike (among regrouping q.name) _ _ _ refl
+  pub same_regroup_constants : Same (regroup_constants t n f o) (regroup_constants u k g p)
+  same_regroup_constants = on_two_alike _ _ (λ q s r e. when_alike (among regrouping q.name) _ _ _ refl
       (given_alike (known t q.second) (known u q.second) _ _ (known_alike t u q.second r) (λ d i.
       given_alike (source t q.name q.first) (source u q.name q.first) _ _ (source_alike t u q.name q.first s) (λ y j.
       given_alike (two y) (two y) _ _ refl (λ z l.
       given_alike (known t z.second) (known u z.second) _ _ (known_alike t u z.second (inner_two q.first (two_operands (head o) q e).0 q.name y j z l)) (λ c m.
       given_alike (fold_of q.name [] (Some c ∷ Some d ∷ []) (q.ty ∷ [])) _ _ _ refl (λ v w. refl)))))))
 
-  pub same_11 : Same (rule_11 t n f o) (rule_11 u k g p)
-  same_11 = on_two_alike _ _ (λ q s r e. when_alike (named (codes "arith.subi") q.name) _ _ _ refl (given_alike (known t q.second) (known u q.second) _ _ (known_alike t u q.second r) (λ c i. refl)))
+  pub same_add_negative : Same (add_negative t n f o) (add_negative u k g p)
+  same_add_negative = on_two_alike _ _ (λ q s r e. when_alike (named (codes "arith.subi") q.name) _ _ _ refl (given_alike (known t q.second) (known u q.second) _ _ (known_alike t u q.second r) (λ c i. refl)))
 
   -- comparisons
   on_comparison_alike : (a b : Two → ℕ → Option (List Edit)) → ((q : Two) (asks : ℕ) → ShowsAlike t u q.first → ShowsAlike t u q.second → Same (a q asks) (b q asks))
       → Same (given (two (head o)) (λ q. when (named (codes "arith.cmpi") q.name) (given (predicate (head o)) (a q)))) (given (two (head p)) (λ q. when (named (codes "arith.cmpi") q.name) (given (predicate (head p)) (b q))))
   on_comparison_alike a b h = on_two_alike _ _ (λ q s r e. when_alike (named (codes "arith.cmpi") q.name) _ _ _ refl (given_alike (predicate (head o)) (predicate (head p)) (a q) (b q) (ap predicate same) (λ asks i. h q asks s r)))
 
-  pub same_12 : Same (rule_12 t n f o) (rule_12 u k g p)
-  same_12 = on_comparison_alike _ _ (λ q asks s r. when_alike (same_value q.first q.second) _ _ _ refl refl)
+  pub same_compare_itself : Same (compare_itself t n f o) (compare_itself u k g p)
+  same_compare_itself = on_comparison_alike _ _ (λ q asks s r. when_alike (same_value q.first q.second) _ _ _ refl refl)
 
-  pub same_13 : Same (rule_13 t n f o) (rule_13 u k g p)
-  same_13 = on_comparison_alike _ _ (λ q asks s r. when_alike _ _ _ _ (swap_alike q s r) refl)
+  pub same_mirror_comparison : Same (mirror_comparison t n f o) (mirror_comparison u k g p)
+  same_mirror_comparison = on_comparison_alike _ _ (λ q asks s r. when_alike _ _ _ _ (swap_alike q s r) refl)
 
-  pub same_14 : Same (rule_14 t n f o) (rule_14 u k g p)
-  same_14 = on_comparison_alike _ _ (λ q asks s r. when_alike _ _ _ _ (ap (λ b. b && (eqb asks 6 || eqb asks 9)) (number_alike t u 0 q.second r)) refl)
+  pub same_compare_zero : Same (compare_zero t n f o) (compare_zero u k g p)
+  same_compare_zero = on_comparison_alike _ _ (λ q asks s r. when_alike _ _ _ _ (ap (λ b. b && (eqb asks 6 || eqb asks 9)) (number_alike t u 0 q.second r)) refl)
 
   -- choices
   on_choice_alike : (a b : Three → Option (List Edit)) → ((q : Three) → In q.first (head o).operands → In q.second (head o).operands → In q.third (head o).operands → Same (a q) (b q))
       → Same (given (three (head o)) (λ q. when (named (codes "arith.select") q.name) (a q))) (given (three (head p)) (λ q. when (named (codes "arith.select") q.name) (b q)))
   on_choice_alike a b h = given_alike (three (head o)) (three (head p)) _ _ (ap three same) (λ q e. let w = three_operands (head o) q e in when_alike (named (codes "arith.select") q.name) _ _ _ refl (h q w.0 w.1.0 w.1.1))
 
-  pub same_15 : Same (rule_15 t n f o) (rule_15 u k g p)
-  same_15 = on_choice_alike _ _ (λ q s r w. when_alike (same_value q.second q.third) _ _ _ refl refl)
+  pub same_choose_same : Same (choose_same t n f o) (choose_same u k g p)
+  same_choose_same = on_choice_alike _ _ (λ q s r w. when_alike (same_value q.second q.third) _ _ _ refl refl)
 
-  pub same_16 : Same (rule_16 t n f o) (rule_16 u k g p)
-  same_16 = on_choice_alike _ _ (λ q s r w. given_alike (known t q.first) (known u q.first) _ _ (known_alike t u q.first (sees.operands q.first s)) (λ c i. refl))
+  pub same_choose_known : Same (choose_known t n f o) (choose_known u k g p)
+  same_choose_known = on_choice_alike _ _ (λ q s r w. given_alike (known t q.first) (known u q.first) _ _ (known_alike t u q.first (sees.operands q.first s)) (λ c i. refl))
 
-  pub same_17 : Same (rule_17 t n f o) (rule_17 u k g p)
-  same_17 = on_choice_alike _ _ (λ q s r w. when_alike _ _ _ _ (λ i. same_type q.ty i1 && (number_alike t u 1 q.second (sees.operands q.second r) i && number_alike t u 0 q.third (sees.operands q.third w) i)) refl)
+  pub same_choose_truth : Same (choose_truth t n f o) (choose_truth u k g p)
+  same_choose_truth = on_choice_alike _ _ (λ q s r w. when_alike _ _ _ _ (λ i. same_type q.ty i1 && (number_alike t u 1 q.second (sees.operands q.second r) i && number_alike t u 0 q.third (sees.operands q.third w) i)) refl)
 
-  pub same_18 : Same (rule_18 t n f o) (rule_18 u k g p)
-  same_18 = on_choice_alike _ _ (λ q s r w. given_alike (source t (codes "arith.xori") q.first) (source u (codes "arith.xori") q.first) _ _ (source_alike t u (codes "arith.xori") q.first (sees.operands q.first s)) (λ y i.
+  pub same_choose_opposite : Same (choose_opposite t n f o) (choose_opposite u k g p)
+  same_choose_opposite = on_choice_alike _ _ (λ q s r w. given_alike (source t (codes "arith.xori") q.first) (source u (codes "arith.xori") q.first) _ _ (source_alike t u (codes "arith.xori") q.first (sees.operands q.first s)) (λ y i.
       given_alike (two y) (two y) _ _ refl (λ z j. when_alike _ _ _ _ (number_alike t u 1 z.second (inner_two q.first s (codes "arith.xori") y i z j)) refl)))
 
   -- casts
   on_one_alike : (a b : One → Option (List Edit)) → ((q : One) → In q.first (head o).operands → Same (a q) (b q)) → Same (given (one (head o)) a) (given (one (head p)) b)
   on_one_alike a b h = given_alike (one (head o)) (one (head p)) a b (ap one same) (λ q e. h q (one_operand (head o) q e))
 
-  pub same_19 : Same (rule_19 t n f o) (rule_19 u k g p)
-  same_19 = on_one_alike _ _ (λ q s. when_alike (among extensions q.name) _ _ _ refl
+  pub same_extend_extension : Same (extend_extension t n f o) (extend_extension u k g p)
+  same_extend_extension = on_one_alike _ _ (λ q s. when_alike (among extensions q.name) _ _ _ refl
       (given_alike (source_among t extensions q.first) (source_among u extensions q.first) _ _ (among_alike t u extensions q.first (sees.operands q.first s)) (λ y i.
       given_alike (one y) (one y) _ _ refl (λ z j. when_alike (named q.name z.name || named (codes "arith.extsi") q.name) _ _ _ refl refl))))
 
@@ -244,8 +244,8 @@ module _ (t u : Operation) (n k : ℕ) (f g : Place) (o p : Operation) (same : h
   inner_type : (v : Value) → In v (head o).operands → (y : Header) → giver t v ≡ Some y → (q : One) → one y ≡ Some q → type_of t q.first ≡ type_of u q.first
   inner_type v h y e q i = (sees.inner v h y e q.first (one_operand y q i)).1
 
-  pub same_20 : Same (rule_20 t n f o) (rule_20 u k g p)
-  same_20 = on_one_alike _ _ (λ q s. when_alike (named (codes "arith.trunci") q.name) _ _ _ refl
+  pub same_cut_cast : Same (cut_cast t n f o) (cut_cast u k g p)
+  same_cut_cast = on_one_alike _ _ (λ q s. when_alike (named (codes "arith.trunci") q.name) _ _ _ refl
       (given_alike (source_among t resizing q.first) (source_among u resizing q.first) _ _ (among_alike t u resizing q.first (sees.operands q.first s)) (λ y i.
       given_alike (one y) (one y) _ _ refl (λ z j.
       if_alike (named (codes "arith.trunci") z.name) _ _ _ _ _ refl refl
@@ -264,5 +264,5 @@ module _ (t u : Operation) (n k : ℕ) (f g : Place) (o p : Operation) (same : h
       given_alike (source t q.name q.first) (source u q.name q.first) _ _ (source_alike t u q.name q.first (sees.operands q.first s)) (λ y i.
       given_alike (one y) (one y) _ _ refl (λ z j. when_alike (nat_le (type_width q.ty) (type_width z.ty)) _ _ _ refl (back_alike q s y (source_gives t q.name q.first y i) z j)))
 
-  pub same_21 : Same (rule_21 t n f o) (rule_21 u k g p)
-  same_21 = on_one_alike _ _ (λ q s. if_alike (named (codes "builtin.unrealized_conversion_cast") q.name) _ _ _ _ _ refl (unrealized_alike q s) (when_alike (among index_casts q.name) _ _ _ refl (through_alike q s)))
+  pub same_cast_back : Same (cast_back t n f o) (cast_back u k g p)
+  same_cast_back = on_one_alike _ _ (λ q s. if_alike (named (codes "builtin.unrealized_conversion_cast") q.name) _ _ _ _ _ refl (unrealized_alike q s) (when_alike (among index_casts q.name) _ _ _ refl (through_alike q s)))
