@@ -53,7 +53,7 @@ OfOne P = (k : BitsKind) (p : Entries) (a : ℕ) (v : Known) → IsOf k a → P 
 abbrev pub Swapping : List ℕ → Type 0
 Swapping name = OfTwo (λ k p a b v. given_by name p (type_of k) ((k, a) ∷ (k, b) ∷ []) ≡ Some v → given_by name p (type_of k) ((k, b) ∷ (k, a) ∷ []) ≡ Some v)
 
--- rules 4 and 5: with a second operand n, which is 0 or 1, an operation gives its first
+-- `drop-zero` and `drop-one`: with a second operand n, which is 0 or 1, an operation gives its first
 abbrev pub Ignoring : ℕ → List ℕ → Type 0
 Ignoring n name = OfOne (λ k p a v. given_by name p (type_of k) ((k, a) ∷ (k, n) ∷ []) ≡ Some v → (k, a) ≡ v)
 
