@@ -1,5 +1,6 @@
 pub mod Aims
 pub mod Leading
+pub mod Noting
 pub mod Replied
 pub mod Rising
 pub mod Seen

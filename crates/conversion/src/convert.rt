@@ -1,9 +1,11 @@
 //! Dialect conversion of the module of a bench.
-ghost use Rattle.std.specs.Prelude.{◌≡◌, true, OnOk};
+ghost use Rattle.std.specs.Prelude.{◌≡◌, [], true, MatchResult, OnOk};
 ghost use Rattle.ir_types.specs.Things.{Grows};
 ghost use Rattle.rewriter.specs.Machine.{Change};
 ghost use Rattle.rewriter.specs.Benched.{Does, Led};
+ghost use Rattle.rewriter.specs.Moves.{Recorded};
 ghost use Rattle.patterns_indexed.specs.Held.{module_held};
+ghost use Rattle.patterns_indexed.specs.runs.Runs.{Noted};
 ghost use Rattle.conversion_base.specs.Conversion.{conversion_of, has_no_cast};
 ghost use Rattle.conversion_base.specs.Targets.{IsNamedIn, aim_of};
 ghost use Rattle.conversion.specs.Benches.{seen};
@@ -36,6 +38,7 @@ pub fn convert<L: Analysis>(
     ensures none { OnOk result (has_no_cast (module_held bench.new.desk).tree ≡ true) }
     ensures grows { Grows bench.old.desk.ctx bench.new.desk.ctx }
     ensures led { Led L.meaning bench.old bench.new }
+    ensures journal { MatchResult result (λ _. Noted bench.old.desk bench.new.desk) (λ _. Recorded [] bench.old.desk bench.new.desk) }
 {
     led_benches_are_kept::<L>();
     bench.is_formed();

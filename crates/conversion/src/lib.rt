@@ -11,5 +11,5 @@ mod rewriting;
 mod rules;
 mod tried;
 
-pub use conversion_base::{laws, names, target};
+pub use conversion_base::{laws, names, rule, target};
 pub use rewriter as rewriter_bench;

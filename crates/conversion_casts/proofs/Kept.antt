@@ -1,4 +1,4 @@
--- Rule 21 applies at a cast of a tree where it applied before heads were changed and an operation was taken out, if neither
+-- Casting back applies at a cast of a tree where it applied before heads were changed and an operation was taken out, if neither
 -- its head nor that of what gives its operand was changed.
 use Rattle.std.proofs.Common.{◌≡◌, refl, ap, sym, ◌∙◌, subst, inl, inr, ◌⊎◌, ℕ, Bool, true, false, true≢false, cond, ◌&&◌, eqb, eq-eqb, List, [], ◌∷◌, Option, Some, None, option_map}
 use Rattle.std.specs.Option.{option_eq}
@@ -20,6 +20,7 @@ use Rattle.ir_tree_laws.proofs.Listed.{both}
 use Rattle.ir_tree_laws.proofs.Members.{stand, has_around}
 use Rattle.ir_event.specs.Modules.{Module}
 use Rattle.patterns_edits.specs.Contents.{Edit}
+use Rattle.patterns_base.specs.declared.rule.Rule.TheVariants.{CastBack}
 use Rattle.patterns_base.specs.Casting.{cast_back, unrealized, back_from, through_index}
 use Rattle.patterns_base.specs.Keeps.{given}
 use Rattle.patterns_base.specs.Looks.{Header, One, front_of, giver, in_front, is_clean, is_of_type, one, one_from, source, type_of, when}
@@ -34,13 +35,13 @@ use Rattle.conversion_base.proofs.Makes.{given_some, when_some}
 use Rattle.conversion_casts.proofs.Clean.{clean_alike}
 use Rattle.conversion_casts.proofs.From.{From, type_back}
 
--- ---- how rule 21 comes to apply at a cast
+-- ---- how casting back comes to apply at a cast
 
-edits_are : (m : Module) (x : ℕ) → edits_of 21 m x ≡ given (find x m.tree) (λ o. given (front_of x m.tree) (λ front. when (is_clean m.tree (head o)) (rule 21 m.tree m.next front o)))
+edits_are : (m : Module) (x : ℕ) → edits_of CastBack m x ≡ given (find x m.tree) (λ o. given (front_of x m.tree) (λ front. when (is_clean m.tree (head o)) (rule CastBack m.tree m.next front o)))
 unfolding edits_of
 edits_are m x = refl
 
-rule_is : (t : Operation) (n : ℕ) (front : Place) (o : Operation) → rule 21 t n front o ≡ cast_back t n front o
+rule_is : (t : Operation) (n : ℕ) (front : Place) (o : Operation) → rule CastBack t n front o ≡ cast_back t n front o
 unfolding rule
 rule_is t n front o = refl
 
@@ -91,13 +92,13 @@ module _ (t : Operation) (n : ℕ) (front : Place) (o : Operation) (p : One) whe
       go false k = (let none : Some (give (head o).id w.1.first) ≡ None = sym back ∙ k in absurd cc)
 
 -- at a cast it is that
-rule_at : (t : Operation) (n : ℕ) (front : Place) (o : Operation) (p : One) → one (head o) ≡ Some p → named cast_name p.name ≡ true → rule 21 t n front o ≡ unrealized t n front o p
+rule_at : (t : Operation) (n : ℕ) (front : Place) (o : Operation) (p : One) → one (head o) ≡ Some p → named cast_name p.name ≡ true → rule CastBack t n front o ≡ unrealized t n front o p
 rule_at t n front o p e c = rule_is t n front o ∙ ap (λ a. given a of) e ∙ ap (λ b. cond b (unrealized t n front o p) (when (among index_casts p.name) (through_index t n front o p))) c
   where
     of : One → Option (List Edit)
     of q = cond (named cast_name q.name) (unrealized t n front o q) (when (among index_casts q.name) (through_index t n front o q))
 
-way_at : (t : Operation) (n : ℕ) (front : Place) (o : Operation) (p : One) → one (head o) ≡ Some p → named cast_name p.name ≡ true → (es : List Edit) → rule 21 t n front o ≡ Some es → Way t p
+way_at : (t : Operation) (n : ℕ) (front : Place) (o : Operation) (p : One) → one (head o) ≡ Some p → named cast_name p.name ≡ true → (es : List Edit) → rule CastBack t n front o ≡ Some es → Way t p
 way_at t n front o p e c es r = way_from t n front o p es (sym (rule_at t n front o p e c) ∙ r)
 
 one_name : (name : List ℕ) (vs : List Value) (ts : List TypeTerm) (p : One) → one_from name vs ts ≡ Some p → (p.name ≡ name) × (vs ≡ p.first ∷ [])
@@ -121,7 +122,7 @@ record Collapses (m : Module) (x : ℕ) : Type 0 where
 named_cast : (x : ℕ) (t o : Operation) → is_cast x t ≡ true → find x t ≡ Some o → named cast_name (head o).name ≡ true
 named_cast x t o c f = sym (ap is_cast_found f) ∙ c
 
-collapses_from : (m : Module) (x : ℕ) (es : List Edit) → is_cast x m.tree ≡ true → edits_of 21 m x ≡ Some es → Collapses m x
+collapses_from : (m : Module) (x : ℕ) (es : List Edit) → is_cast x m.tree ≡ true → edits_of CastBack m x ≡ Some es → Collapses m x
 collapses_from m x es c e =
     let o = given_some (find x m.tree) _ es (sym (edits_are m x) ∙ e) in
     let f = given_some (front_of x m.tree) _ es o.2 in
@@ -141,15 +142,15 @@ collapses_from m x es c e =
       way = way_at m.tree m.next f.0 o.0 p.0 p.1 cast es w.1;
     }
 
-collapses_to : (m : Module) (x : ℕ) → is_cast x m.tree ≡ true → Collapses m x → edits_of 21 m x ≡ None → ⊥
+collapses_to : (m : Module) (x : ℕ) → is_cast x m.tree ≡ true → Collapses m x → edits_of CastBack m x ≡ None → ⊥
 collapses_to m x c k e =
     let name = one_name (head k.here).name (head k.here).operands (head k.here).results k.ends k.one_is in
     let cast = ap (named cast_name) name.0 ∙ named_cast x m.tree k.here c k.found in
     way_to m.tree m.next k.front k.here k.ends k.way (
     sym (rule_at m.tree m.next k.front k.here k.ends k.one_is cast)
-    ∙ sym (ap (λ b. when b (rule 21 m.tree m.next k.front k.here)) k.clean)
-    ∙ sym (ap (λ a. given a (λ front. when (is_clean m.tree (head k.here)) (rule 21 m.tree m.next front k.here))) k.at)
-    ∙ sym (ap (λ a. given a (λ o. given (front_of x m.tree) (λ front. when (is_clean m.tree (head o)) (rule 21 m.tree m.next front o)))) k.found)
+    ∙ sym (ap (λ b. when b (rule CastBack m.tree m.next k.front k.here)) k.clean)
+    ∙ sym (ap (λ a. given a (λ front. when (is_clean m.tree (head k.here)) (rule CastBack m.tree m.next front k.here))) k.at)
+    ∙ sym (ap (λ a. given a (λ o. given (front_of x m.tree) (λ front. when (is_clean m.tree (head o)) (rule CastBack m.tree m.next front o)))) k.found)
     ∙ sym (edits_are m x)
     ∙ e)
 
@@ -215,8 +216,8 @@ module _ (f : Header → Header) (results : (h : Header) → (f h).results ≡ h
             let cleans : is_clean n.tree (head w.now) ≡ is_clean m.tree (head w.now) = clean_alike n.tree m.tree w.now w.was (ap (λ x. find x n.tree) own ∙ w.found) (ap (λ x. find x m.tree) own ∙ w.found_was) w.same cast in
             (y, q, ap (option_map head) w.found_was ∙ ap Some (sym heads ∙ w.is), name, ap (is_clean m.tree) (sym w.is) ∙ sym cleans ∙ ap (is_clean n.tree) w.is ∙ clean, one_is, of_type_back ends.ty q.first ty))
 
-    pub rule_back : is_cast z n.tree ≡ true → is_cast z m.tree ≡ true → eqb (head m.tree).id z ≡ false → edits_of 21 m z ≡ None → edits_of 21 n z ≡ None
-    rule_back c b root none = go (edits_of 21 n z) refl
+    pub rule_back : is_cast z n.tree ≡ true → is_cast z m.tree ≡ true → eqb (head m.tree).id z ≡ false → edits_of CastBack m z ≡ None → edits_of CastBack n z ≡ None
+    rule_back c b root none = go (edits_of CastBack n z) refl
       where
         back : Collapses n z → Collapses m z
         back k =
@@ -240,6 +241,6 @@ module _ (f : Header → Header) (results : (h : Header) → (f h).results ≡ h
               way = way_back w.was w.found k.ends among_them (ap (named cast_name) name.0 ∙ named_cast z n.tree k.here c k.found) k.way;
             }
 
-        go : (a : Option (List Edit)) → edits_of 21 n z ≡ a → edits_of 21 n z ≡ None
+        go : (a : Option (List Edit)) → edits_of CastBack n z ≡ a → edits_of CastBack n z ≡ None
         go None i = i
         go (Some es) i = absurd (collapses_to m z b (back (collapses_from n z es c i)) none)

@@ -1,4 +1,4 @@
--- What a step at a cast leaves of the others: rule 21 applies to none of those before it, and no other is freed but those that
+-- What a step at a cast leaves of the others: casting back applies to none of those before it, and no other is freed but those that
 -- give its operands.
 use Rattle.std.proofs.Common.{◌≡◌, refl, ap, sym, ◌∙◌, subst, inl, inr, ◌⊎◌, ℕ, ◌+◌, Bool, true, false, true≢false, cond, not, ◌&&◌, eqb, eqb-true, List, [], ◌∷◌, map, Option, Some, None}
 use Rattle.std.specs.Prelude.{nat_le}
@@ -31,6 +31,7 @@ use Rattle.ir_event.specs.Modules.{Module}
 use Rattle.effects.specs.Dead.{is_unused}
 use Rattle.patterns_edits.specs.Contents.{Edit, all_edited, edited}
 use Rattle.patterns_edits.specs.Edits.{Erase}
+use Rattle.patterns_base.specs.declared.rule.Rule.TheVariants.{CastBack}
 use Rattle.patterns_base.specs.Looks.{Header}
 use Rattle.patterns_base.specs.Makes.{give, made_by}
 use Rattle.patterns_base.specs.Rewrites.{none, refused, becomes, edits_of, rewrite_by, rewrite_of}
@@ -53,10 +54,10 @@ pub data Step (m n : Module) (x : ℕ) : Type 0 where
   by_rule : is_unused x m.tree ≡ false → (v : Value) → n.tree ≡ without x (with_value_replaced (Result x 0) v m.tree) → Step m n x
 
 module _ (m n : Module) (x : ℕ) where
-  by_cast_back : is_cast x m.tree ≡ true → is_unused x m.tree ≡ false → rewrite_of 21 m x ≡ becomes n → Step m n x
+  by_cast_back : is_cast x m.tree ≡ true → is_unused x m.tree ≡ false → rewrite_of CastBack m x ≡ becomes n → Step m n x
   by_cast_back c u e =
-      let w = rewritten 21 m n x e in
-      let a = applies 21 m x w.0 w.1 in
+      let w = rewritten CastBack m n x e in
+      let a = applies CastBack m x w.0 w.1 in
       let o = cast_there x m.tree c in
       let same : o.0 ≡ a.here = (let two : Some o.0 ≡ Some a.here = sym o.1 ∙ a.found in cc) in
       let v = given_at m.tree m.next a.front a.here w.0 (ap (λ (z : Operation). named cast_name (head z).name) (sym same) ∙ o.2) a.is in
@@ -64,20 +65,20 @@ module _ (m n : Module) (x : ℕ) where
       let is : n ≡ all_edited (give x v.0) m = w.2 ∙ ap (λ es. all_edited es m) (v.1 ∙ ap (λ y. give y v.0) id) in
       by_rule u v.0 (ap (λ (q : Module). q.tree) is)
 
-  by_either : is_cast x m.tree ≡ true → (b : Bool) → is_unused x m.tree ≡ b → rewrite_or (cond b (becomes (edited (Erase x) m)) none) (rewrite_of 21 m x) ≡ becomes n → Step m n x
+  by_either : is_cast x m.tree ≡ true → (b : Bool) → is_unused x m.tree ≡ b → rewrite_or (cond b (becomes (edited (Erase x) m)) none) (rewrite_of CastBack m x) ≡ becomes n → Step m n x
   by_either c true u e = by_erasing u (ap (λ (q : Module). q.tree) (sym (becomes_is (edited (Erase x) m) n e)))
   by_either c false u e = by_cast_back c u e
 
   pub step_of : collapse m x ≡ becomes n → (is_inner x m ≡ true) × Step m n x
   step_of e = go (is_inner x m) refl e
     where
-      go : (b : Bool) → is_inner x m ≡ b → cond b (rewrite_or (unused_erased m x) (rewrite_of 21 m x)) none ≡ becomes n → (is_inner x m ≡ true) × Step m n x
+      go : (b : Bool) → is_inner x m ≡ b → cond b (rewrite_or (unused_erased m x) (rewrite_of CastBack m x)) none ≡ becomes n → (is_inner x m ≡ true) × Step m n x
       go true i k = (i, by_either (both (is_cast x m.tree) (not (eqb (head m.tree).id x)) i).0 (is_unused x m.tree) refl k)
       go false i k = absurd cc
 
 -- ---- no step
 
-rewrite_is : (m : Module) (x : ℕ) → rewrite_of 21 m x ≡ rewrite_by (edits_of 21 m x) m
+rewrite_is : (m : Module) (x : ℕ) → rewrite_of CastBack m x ≡ rewrite_by (edits_of CastBack m x) m
 unfolding rewrite_of
 rewrite_is m x = refl
 
@@ -90,26 +91,26 @@ no_edits m (Some es) e = absurd (go (nat_le (op_count m.tree + made_by es) most_
     go true false e = absurd cc
     go false b e = absurd cc
 
--- one that isn't taken away is no such cast, or used, and rule 21 doesn't apply to it
-pub none_parts : (m : Module) (x : ℕ) → collapse m x ≡ none → is_inner x m ≡ true → (is_unused x m.tree ≡ false) × (edits_of 21 m x ≡ None)
-none_parts m x e i = used (is_unused x m.tree) refl (sym (ap (λ b. cond b (rewrite_or (unused_erased m x) (rewrite_of 21 m x)) none) i) ∙ e)
+-- one that isn't taken away is no such cast, or used, and casting back doesn't apply to it
+pub none_parts : (m : Module) (x : ℕ) → collapse m x ≡ none → is_inner x m ≡ true → (is_unused x m.tree ≡ false) × (edits_of CastBack m x ≡ None)
+none_parts m x e i = used (is_unused x m.tree) refl (sym (ap (λ b. cond b (rewrite_or (unused_erased m x) (rewrite_of CastBack m x)) none) i) ∙ e)
   where
-    used : (b : Bool) → is_unused x m.tree ≡ b → rewrite_or (cond b (becomes (edited (Erase x) m)) none) (rewrite_of 21 m x) ≡ none → (is_unused x m.tree ≡ false) × (edits_of 21 m x ≡ None)
+    used : (b : Bool) → is_unused x m.tree ≡ b → rewrite_or (cond b (becomes (edited (Erase x) m)) none) (rewrite_of CastBack m x) ≡ none → (is_unused x m.tree ≡ false) × (edits_of CastBack m x ≡ None)
     used true u k = absurd cc
-    used false u k = (u, no_edits m (edits_of 21 m x) (sym (rewrite_is m x) ∙ k))
+    used false u k = (u, no_edits m (edits_of CastBack m x) (sym (rewrite_is m x) ∙ k))
 
-pub none_of_parts : (m : Module) (x : ℕ) → (is_inner x m ≡ true → (is_unused x m.tree ≡ false) × (edits_of 21 m x ≡ None)) → collapse m x ≡ none
+pub none_of_parts : (m : Module) (x : ℕ) → (is_inner x m ≡ true → (is_unused x m.tree ≡ false) × (edits_of CastBack m x ≡ None)) → collapse m x ≡ none
 none_of_parts m x f = go (is_inner x m) refl
   where
     go : (b : Bool) → is_inner x m ≡ b → collapse m x ≡ none
-    go false i = ap (λ b. cond b (rewrite_or (unused_erased m x) (rewrite_of 21 m x)) none) i
+    go false i = ap (λ b. cond b (rewrite_or (unused_erased m x) (rewrite_of CastBack m x)) none) i
     go true i =
         (let p = f i in
-        ap (λ b. cond b (rewrite_or (unused_erased m x) (rewrite_of 21 m x)) none) i
-        ∙ ap (λ b. rewrite_or (cond b (becomes (edited (Erase x) m)) none) (rewrite_of 21 m x)) p.0
+        ap (λ b. cond b (rewrite_or (unused_erased m x) (rewrite_of CastBack m x)) none) i
+        ∙ ap (λ b. rewrite_or (cond b (becomes (edited (Erase x) m)) none) (rewrite_of CastBack m x)) p.0
         ∙ rewrite_is m x ∙ ap (λ o. rewrite_by o m) p.1)
 
--- one that rule 21 doesn't collapse goes since it isn't used
+-- one that casting back doesn't collapse goes since it isn't used
 pub only_erased : (m n : Module) (x : ℕ) → NoRule x m → collapse m x ≡ becomes n → is_unused x m.tree ≡ true
 only_erased m n x r e = elim (bool_cases (is_unused x m.tree)) [
   | inl u ↦ u
@@ -192,7 +193,7 @@ module _ (m : Module) (w : IsWellFormed is_isolated m) where
     inner_back (by_erasing u is) z i = inner_was (λ h. h) (λ h. refl) (λ h. refl) (from_erased is) (root_kept (by_erasing u is)) z i
     inner_back (by_rule u v is) z i = inner_was (put_values (Result x 0) v) (λ h. refl) (λ h. refl) (from_replaced v is) (root_kept (by_rule u v is)) z i
 
-    -- rule 21 comes to apply to none, where the step erases; else to none before
+    -- casting back comes to apply to none, where the step erases; else to none before
     no_rule_kept : (s : Step m n x) → (z : ℕ) → (is_unused x m.tree ≡ true) ⊎ (precedes z x m.tree ≡ true) → NoRule z m → NoRule z n
     no_rule_kept (by_erasing u is) z h r i =
         let b = inner_back (by_erasing u is) z i in
@@ -225,7 +226,7 @@ module _ (m n : Module) (x : ℕ) (w : IsWellFormed is_isolated m) (e : collapse
   abbrev root : eqb (head m.tree).id x ≡ false
   root = not_false (eqb (head m.tree).id x) (both (is_cast x m.tree) (not (eqb (head m.tree).id x)) (step_of m n x e).0).1
 
-  -- rule 21 applies to none to which it didn't apply, where the step erases; else to none before
+  -- casting back applies to none to which it didn't apply, where the step erases; else to none before
   pub still_stuck : (z : ℕ) → (is_unused x m.tree ≡ true) ⊎ (precedes z x m.tree ≡ true) → NoRule z m → NoRule z n
   still_stuck z h r = no_rule_kept m w n x root (step_of m n x e).1 z h r
 

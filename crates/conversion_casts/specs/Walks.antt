@@ -5,6 +5,7 @@ use Rattle.ir_tree.specs.Ids.{find}
 use Rattle.ir_tree.specs.Meaning.{Operation}
 use Rattle.ir_tree_laws.specs.Members.{In}
 use Rattle.ir_event.specs.Modules.{Module}
+use Rattle.patterns_base.specs.declared.rule.Rule.TheVariants.{CastBack}
 use Rattle.patterns_base.specs.Rewrites.{Rewrite, none, edits_of}
 use Rattle.conversion_base.specs.Reconciling.{collapse, is_cast}
 use Rattle.conversion_casts.specs.Givers.{givers_of}
@@ -14,9 +15,9 @@ use Rattle.conversion_casts.specs.Waiting.{Took}
 abbrev pub is_inner : ℕ → Module → Bool
 is_inner x m = is_cast x m.tree && not (eqb (head m.tree).id x)
 
--- where it is, rule 21 doesn't apply
+-- where it is, casting back doesn't apply
 abbrev pub NoRule : ℕ → Module → Type 0
-NoRule x m = is_inner x m ≡ true → edits_of 21 m x ≡ None
+NoRule x m = is_inner x m ≡ true → edits_of CastBack m x ≡ None
 
 -- no operation stands in operation x, and these give its operands
 abbrev pub Gives : List ℕ → ℕ → Operation → Type 0

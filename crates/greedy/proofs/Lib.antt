@@ -1,3 +1,5 @@
+pub mod EachRule
+pub mod Noting
 pub mod Order
 pub mod Works
 pub mod Scans

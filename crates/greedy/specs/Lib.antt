@@ -1,5 +1,6 @@
 pub mod Outcomes
 pub mod Work
 pub mod Benches
+pub mod Noting
 pub mod Changes
 pub mod Lawful

@@ -33,8 +33,8 @@ fn events_from<L: Analysis>(
     Ok(events)
 }
 
-/// The operations of a bench's module at which the rules 1 to 24 may apply otherwise than before the events of its
-/// journal from one on, and some beside.
+/// The operations of a bench's module at which the rules of canonicalization may apply otherwise than before the events
+/// of its journal from one on, and some beside.
 ///
 /// Refusals: `Memory`.
 pub fn touched<L: Analysis>(

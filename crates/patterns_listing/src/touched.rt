@@ -69,9 +69,9 @@ pub fn touched_all(world: &World) -> Result<Vec<OpId>, Refusal>
     world.store.operations()
 }
 
-/// The operations of a world's module at which the rules 1 to 24 may apply otherwise than before events that led to it,
-/// and some beside. How many they are depends on what is near the events, and not on how large the module is, but for
-/// events that put something at the end of a block, which no rule does: after these all are listed.
+/// The operations of a world's module at which the rules of canonicalization may apply otherwise than before events that
+/// led to it, and some beside. How many they are depends on what is near the events, and not on how large the module is,
+/// but for events that put something at the end of a block, which no rule does: after these all are listed.
 ///
 /// Refusals: `Memory`.
 pub fn touched_by(alloc: Global, world: &World, events: &[Event]) -> Result<Vec<OpId>, Refusal>
