@@ -1,6 +1,9 @@
-//! Laws of the rules 2 to 21 and 25 to 28: the operations that a rule makes give the values that the old one gave.
+//! Laws of the rules on values: the operations that a rule makes give the values that the old one gave. And of the edits
+//! of all rules: none is refused for a reason.
+pub use patterns_free::laws::no_edit_is_refused;
 pub use patterns_laws::laws::{
-    fold_to_constant, swap_constant, drop_zero, drop_one, drop_all_ones, cancel_itself, keep_itself, zero_remainder, regroup_constants, add_negative, compare_itself,
-    mirror_comparison, compare_zero, choose_same, choose_known, choose_truth, choose_opposite, extend_extension, cut_cast, cast_back, expand_min_max,
-    expand_difference, expand_remainder, lower_index,
+    add_negative, cancel_itself, cast_back, choose_known, choose_opposite, choose_same,
+    choose_truth, compare_itself, compare_zero, cut_cast, drop_all_ones, drop_one, drop_zero,
+    expand_difference, expand_min_max, expand_remainder, extend_extension, fold_to_constant,
+    keep_itself, lower_index, mirror_comparison, regroup_constants, swap_constant, zero_remainder,
 };

@@ -1,4 +1,4 @@
--- What is read of an operation, and rule 28.
+-- What is read of an operation, and how one of arith is lowered.
 use Rattle.std.proofs.Common.{◌≡◌, refl, ap, sym, ℕ, ◌+◌, ◌++◌, List, [], ◌∷◌, map, Bool, ◌&&◌, ◌||◌, Some}
 use Rattle.ir_types.specs.Terms.{TypeTerm, AttrTerm}
 use Rattle.ir_tree.specs.declared.value.Value.{Value}
@@ -24,7 +24,7 @@ lowered_bare (region (block args os) rs) = ap (region (block (map lowered_type a
 pub op_bare : (o : Operation) (vs : List Value) → lowered_op (bare o) vs ≡ lowered_op o vs
 op_bare (op h rs) vs = ap (op (lowered_header h vs)) (lowered_bare rs)
 
--- whether rule 28 is one for an operation
+-- whether an operation is one of arith that is lowered
 abbrev pub applies_lower_index : Operation → Operation → Bool
 applies_lower_index t o = among index_users (head o).name && (any (map (is_index_value t) (head o).operands) || any (indices (head o).results))
 

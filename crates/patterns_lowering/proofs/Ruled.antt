@@ -1,4 +1,4 @@
--- What rules 28 to 30 come to at an operation that a node shows.
+-- What the rules that lower come to at an operation that a node shows.
 use Rattle.std.proofs.Common.{◌≡◌, refl, ap, sym, ◌∙◌, subst, ℕ, ◌+◌, ◌≤◌, List, [], ◌∷◌, ◌++◌, length, map, Bool, true, false, ◌&&◌, ◌||◌, Option, Some, None, arith}
 use Rattle.std.specs.Prelude.{codes, option_map, option_and_then, slice_get}
 use Rattle.std.specs.List.{list_all, range_with_len}
@@ -36,7 +36,7 @@ use Rattle.patterns_lowering.specs.declared.plan.Lowering.{Lowering}
 use Rattle.patterns_lowering.specs.declared.plan.Lowering.TheVariants as plan
 use Rattle.patterns_lowering.specs.Bare.{bare}
 use Rattle.patterns_lowering.specs.Meanings.{results_given, operation_lowered, loop_lowered, choice_lowered, lowering_meaning}
-use Rattle.patterns_lowering.specs.Planned.{AreTaken, IsCleanAt, IsLoweredBy, IsReadIn, IsReadOf, IsTaken, Rule}
+use Rattle.patterns_lowering.specs.Planned.{AreTaken, IsCleanAt, IsLoweredBy, IsReadIn, IsReadOf, IsTaken, Making}
 use Rattle.patterns_lowering.specs.Plans.{IsIndexed, IsIndexedChoice, IsIndexedLoop}
 use Rattle.patterns_lowering.proofs.Read.{bare_mapped, op_bare, lower_index_read}
 use Rattle.patterns_lowering.proofs.Shown.{Raw, bare_head, distinct_in, indexed_at, meant_there, none_there, raw, there_meant, types_few_at, types_known_at}
@@ -142,7 +142,7 @@ meant_results : (c : Things) (o : Op) → (head (meaning c o)).results ≡ map (
 meant_results c (op h rs) = refl
 
 -- no operation
-pub not_there : (makes : Rule) (w : World) (x : ℕ) → None ≡ option_map node_of (find x w.store.module_of.tree) → IsLoweredBy makes w x None
+pub not_there : (makes : Making) (w : World) (x : ℕ) → None ≡ option_map node_of (find x w.store.module_of.tree) → IsLoweredBy makes w x None
 not_there makes w x e o f = absurd (none_there w x o e f)
 
 module _ (w : World) (x : ℕ) (n : Node) (shown : Some n ≡ option_map node_of (find x w.store.module_of.tree)) where
@@ -156,7 +156,7 @@ module _ (w : World) (x : ℕ) (n : Node) (shown : Some n ≡ option_map node_of
   m = meaning w.ctx s.here
 
   -- what holds at the operation that is there
-  at : (makes : Rule) (p : Option Lowering) → ((k : ℕ) (front : Place) → option_map (lowering_meaning w.ctx k front) p ≡ makes t k front m) → IsLoweredBy makes w x p
+  at : (makes : Making) (p : Option Lowering) → ((k : ℕ) (front : Place) → option_map (lowering_meaning w.ctx k front) p ≡ makes t k front m) → IsLoweredBy makes w x p
   at makes p h o f k front = h k front ∙ ap (makes t k front) (sym (meant_there w x s.here o s.found f))
 
   named_as : (head m).name ≡ name_term w.ctx n.head.name
@@ -195,7 +195,7 @@ module _ (w : World) (x : ℕ) (n : Node) (shown : Some n ≡ option_map node_of
     pub unmarked_lower_choice : (b : Bool) → b ≡ any i.index_results.items → b ≡ false → IsLoweredBy lower_choice w x None
     unmarked_lower_choice b e f = at lower_choice None (λ k front. when_second _ _ _ (ap any (sym results_are) ∙ sym e ∙ f))
 
-    -- rule 28
+    -- an operation of arith
     pub is_lower_index : (b d : Bool) → b ≡ among index_users (name_term w.ctx n.head.name) → b ≡ true → d ≡ any i.index_operands.items || any i.index_results.items → d ≡ true → IsLoweredBy lower_index w x (Some (plan.Operation i))
     is_lower_index b d e f g h =
         at lower_index (Some (plan.Operation i))
@@ -203,7 +203,7 @@ module _ (w : World) (x : ℕ) (n : Node) (shown : Some n ≡ option_map node_of
         ∙ when_both _ _ _ (ap (among index_users) named_as ∙ sym e ∙ f) ((λ z. any (sym operands_are z) || any (sym results_are z)) ∙ sym g ∙ h)
         ∙ sym (lower_index_read t k front m))
 
-    -- ---- rule 29
+    -- ---- a loop
     shows : Shows w.ctx n m
     shows = ap (node_meaning w.ctx) s.node ∙ sym (node_shown w.ctx s.here)
 
@@ -264,7 +264,7 @@ module _ (w : World) (x : ℕ) (n : Node) (shown : Some n ≡ option_map node_of
       handed = ap length last.taken.handed ∙ loops_hand_on_all t m x last.ended (clean_of clean (codes "scf.for") b e f) last.is ∙ sym (op_results l.of was);
     }
 
-  -- ---- rule 30
+  -- ---- a choice
   no_first : (k : ℕ) (front : Place) → None ≡ body t m 0 → None ≡ given (body t m 0) (λ e. given (body t m 1) (λ f. Some (lowered_if t k front m e f)))
   no_first k front e = ap (λ b. given b (λ e. given (body t m 1) (λ f. Some (lowered_if t k front m e f)))) e
 

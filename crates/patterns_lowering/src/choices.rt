@@ -52,7 +52,7 @@ fn push_side(
     )
 }
 
-/// The edits of rule 30, for what was interned.
+/// The edits by which a choice is lowered, for what was interned.
 pub(crate) fn choice_edits(
     alloc: Global,
     ctx: &Context,

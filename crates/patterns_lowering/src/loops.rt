@@ -159,7 +159,7 @@ fn push_behind(
     )
 }
 
-/// The edits of rule 29, for what was interned.
+/// The edits by which a loop is lowered, for what was interned.
 pub(crate) fn loop_edits(
     alloc: Global,
     ctx: &Context,

@@ -39,7 +39,7 @@ pub(crate) fn push_made(
     put(edits, Edit::Make { place: *front, op })
 }
 
-/// The edits of rule 28, for what was interned.
+/// The edits by which an operation of arith is lowered, for what was interned.
 pub(crate) fn operation_edits(
     alloc: Global,
     ctx: &Context,

@@ -11,11 +11,11 @@ use ir_event::world::World;
 use ir_store::node::Node;
 use ir_types::ids::OpId;
 use ir_types::word::Word;
-use patterns_plans_base::sources::{source_like, source_of_extension, source_of_resizing};
-use patterns_plans_base::types::{is_of_type, type_width};
-use patterns_plans_base::words::{is_extension, is_index_cast, is_same_name};
 use patterns_reads::plan::Plan;
 use patterns_reads::shapes::{Single, one_of};
+use patterns_reads::sources::{source_like, source_of_extension, source_of_resizing};
+use patterns_reads::types::{is_of_type, type_width};
+use patterns_reads::words::{is_extension, is_index_cast, is_same_name};
 use std::alloc::{AllocError, Global};
 
 /// An extension of one by the same, or by zeros: one like that.

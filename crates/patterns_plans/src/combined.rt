@@ -8,12 +8,12 @@ use dialects_int::fold::fold;
 use ir_event::world::World;
 use ir_store::node::Node;
 use ir_types::word::Word;
-use patterns_plans_base::sources::source_like;
-use patterns_plans_base::types::{negated, type_width};
-use patterns_plans_base::words::{is_regrouping, word_name};
 use patterns_reads::known::known;
 use patterns_reads::plan::Plan;
 use patterns_reads::shapes::two_of;
+use patterns_reads::sources::source_like;
+use patterns_reads::types::{negated, type_width};
+use patterns_reads::words::{is_regrouping, word_name};
 use std::alloc::{AllocError, Global};
 
 /// A value with a constant, and the result with another: the value with the two.

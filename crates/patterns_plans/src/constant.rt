@@ -13,12 +13,12 @@ use ir_tree::uses::is_same;
 use ir_tree::value::Value;
 use ir_types::bits::Bits;
 use ir_types::word::Word;
-use patterns_plans_base::predicates::{holds_of_itself, predicate};
-use patterns_plans_base::words::{is_cancelling, is_remainder};
 use patterns_reads::known::{is_number, known};
 use patterns_reads::look::is_constant;
 use patterns_reads::plan::Plan;
+use patterns_reads::predicates::{holds_of_itself, predicate};
 use patterns_reads::shapes::two_of;
+use patterns_reads::words::{is_cancelling, is_remainder};
 use std::alloc::{AllocError, Global};
 
 /// What is known of a value, if it is no constant, or a clean one.

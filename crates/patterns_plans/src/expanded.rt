@@ -7,10 +7,10 @@ ghost use Rattle.patterns_plans.specs.Planned.{FitsIn, IsPlanned};
 use ir_event::world::World;
 use ir_store::node::Node;
 use ir_types::word::Word;
-use patterns_plans_base::types::all_ones;
-use patterns_plans_base::words::{asking, division};
 use patterns_reads::plan::Plan;
 use patterns_reads::shapes::two_of;
+use patterns_reads::types::all_ones;
+use patterns_reads::words::{asking, division};
 
 /// The greater or the lesser: a comparison and a choice.
 pub(crate) fn plan_expand_min_max(world: &World, node: &Node<'_>) -> Option<Plan>

@@ -15,11 +15,11 @@ use ir_tree::value::Value;
 use ir_types::ids::OpId;
 use ir_types::word::Word;
 use patterns_edits::edit::Edit;
-use patterns_plans_base::types::{all_ones, is_boolean};
-use patterns_plans_base::words::{ignores_one, ignores_zero, is_keeping};
 use patterns_reads::known::{is_number, known};
 use patterns_reads::plan::Plan;
 use patterns_reads::shapes::{three_of, two_of};
+use patterns_reads::types::{all_ones, is_boolean};
+use patterns_reads::words::{ignores_one, ignores_zero, is_keeping};
 use std::alloc::{AllocError, Global};
 
 /// A value is given for an operation's result, and the operation is erased.

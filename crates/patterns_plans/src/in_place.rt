@@ -9,12 +9,12 @@ use ir_store::node::Node;
 use ir_types::ids::OpId;
 use ir_types::word::Word;
 use patterns_edits::edit::Edit;
-use patterns_plans_base::predicates::{mirrored, predicate};
-use patterns_plans_base::words::is_swapping;
 use patterns_reads::known::{is_known, is_number, source};
 use patterns_reads::look::is_constant;
 use patterns_reads::plan::Plan;
+use patterns_reads::predicates::{mirrored, predicate};
 use patterns_reads::shapes::{three_of, two_of};
+use patterns_reads::words::is_swapping;
 use std::alloc::{AllocError, Global};
 
 /// A constant first and none second: swapped.

@@ -33,7 +33,7 @@ no_when b r e = ap (λ z. when z r) e
 no_number : (m : Operation) (v : Value) → None ≡ known m v → is_number m 0 v ≡ false
 no_number m v k = ap (passes (λ (k : Known). eqb k.1 0)) (sym k)
 
--- rule 22
+-- a branch that stands open
 pub no_open_branch_shape : (m : Operation) (front : Place) (o : Operation) → (length (head o).operands ≡ 1 → ⊥) → open_branch m front o ≡ None
 no_open_branch_shape m front o h = fails _ _ (go (head o).operands h)
   where
@@ -45,7 +45,7 @@ no_open_branch_shape m front o h = fails _ _ (go (head o).operands h)
 pub no_open_branch : (m : Operation) (front : Place) (o : Operation) (v : Value) → (head o).operands ≡ v ∷ [] → None ≡ known m v → open_branch m front o ≡ None
 no_open_branch m front o v e k = fails _ _ (ap (by_condition m front o) e ∙ no_given (known m v) _ k)
 
--- rule 23
+-- a loop that stands open
 pub no_open_loop_shape : (m : Operation) (front : Place) (o : Operation) → length (head o).operands < 2 → open_loop m front o ≡ None
 no_open_loop_shape m front o h = fails _ _ (go (head o).operands h)
   where
@@ -62,7 +62,7 @@ by_loop m front o v w (u ∷ l) (inr k) = fails_then (known m v) _ (λ low. no_g
 pub no_open_loop : (m : Operation) (front : Place) (o : Operation) (v w : Value) (l : List Value) → (head o).operands ≡ v ∷ w ∷ l → (None ≡ known m v) ⊎ (None ≡ known m w) → open_loop m front o ≡ None
 no_open_loop m front o v w l e k = fails _ _ (ap (λ l. given (loop_from l) (by_bounds m front o)) e ∙ by_loop m front o v w l k)
 
--- rule 24
+-- a loop that stops
 module _ (x : ℕ) (m : Operation) (front : Place) where
   by_body : (e : Option Ended) → e ≡ body_at x 0 m → ((o : Operation) → given e (λ e. by_end m front o e e.last.operands) ≡ None) → stop_loop_at x m front ≡ None
   by_body e k f = go (find x m) refl

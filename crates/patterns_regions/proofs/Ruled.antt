@@ -83,7 +83,7 @@ module _ (c : Things) (n : Node) (x : ℕ) (m : Operation) (front : Place) (at :
         go o i (Some empty) e = absurd cc
         go o i (Some (block args os)) e = ap (λ y. given (body m o r) (λ e. Some (opening y front e.before [] e.last.operands))) (sym i)
 
-  -- rule 22
+  -- a branch that stands open
   pub not_open_branch : (b : Bool) → b ≡ named (codes "scf.if") (name_term c n.head.name) → b ≡ false → None ≡ open_branch_at x m front
   not_open_branch b e f = viewed c n (find x m) (λ z. None ≡ given z (λ o. open_branch m front o)) at (λ rs s k. when_no b _ _ e f)
 
@@ -109,7 +109,7 @@ module _ (c : Things) (n : Node) (x : ℕ) (m : Operation) (front : Place) (at :
       ∙ ap (by_condition m front (here rs)) (sym g)
       ∙ when_yes b _ _ e f)
 
-  -- rule 23
+  -- a loop that stands open
   pub not_open_loop : (b : Bool) → b ≡ named (codes "scf.for") (name_term c n.head.name) → b ≡ false → None ≡ open_loop_at x m front
   not_open_loop b e f = viewed c n (find x m) (λ z. None ≡ given z (λ o. open_loop m front o)) at (λ rs s k. when_no b _ _ e f)
 
@@ -176,7 +176,7 @@ module _ (c : Things) (n : Node) (x : ℕ) (m : Operation) (front : Place) (at :
         ∙ ap (λ y. given (body m (here rs) 0) (λ e. Some (opening y front e.before (lower ∷ inits) e.last.operands))) (sym (found_id x m (here rs) k))
         ∙ ap (λ z. given z (by_times (here rs) (loop lower upper step inits))) g ∙ told (here rs) ∙ when_yes b _ _ e f)
 
-  -- rule 24
+  -- a loop that stops
   pub not_stop_loop : (b : Bool) → b ≡ named (codes "scf.while") (name_term c n.head.name) → b ≡ false → None ≡ stop_loop_at x m front
   not_stop_loop b e f = viewed c n (find x m) (λ z. None ≡ given z (λ o. stop_loop m front o)) at (λ rs s k. when_no b _ _ e f)
 

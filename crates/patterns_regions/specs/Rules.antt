@@ -20,7 +20,7 @@ opened_at x r t front values = given (body_at x r t) (λ e. Some (opening x fron
 abbrev pub chosen_at : ℕ → ℕ → Operation → Place → Option (List Edit)
 chosen_at x r t front = given (find x t) (λ o. given (region_at r (regions o)) (λ g. chosen t front o g r))
 
--- rules 22 to 24 at operation x
+-- the rules that open branches and loops, at operation x
 abbrev pub open_branch_at : ℕ → Operation → Place → Option (List Edit)
 open_branch_at x t front = given (find x t) (λ o. open_branch t front o)
 

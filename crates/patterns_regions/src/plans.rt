@@ -1,4 +1,4 @@
-//! Rules 22 to 24: branches that are known, and loops that are gone through once or not at all.
+//! Branches that are known, and loops that are gone through once or not at all.
 ghost use Rattle.std.specs.Prelude.{◌≡◌, ◌∷◌, ◌++◌, [], IfOk, IfSome, option_map};
 ghost use Rattle.patterns_edits.specs.Edits.{Erase};
 ghost use Rattle.patterns_reads.specs.Makes.{replacing, results_from};

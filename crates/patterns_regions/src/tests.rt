@@ -1,4 +1,4 @@
-//! Tests that rules 22 to 24 pass wherever they apply. They look at names, and ask for no memory.
+//! Tests that the rules that open branches and loops pass wherever they apply. They look at names, and ask for no memory.
 ghost use Rattle.std.specs.Prelude.{◌≡◌, false, None};
 ghost use Rattle.ir_tree.specs.declared.place.Place.{Place as At};
 ghost use Rattle.ir_tree.specs.Tree.{head};

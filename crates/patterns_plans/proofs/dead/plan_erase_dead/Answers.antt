@@ -1,6 +1,6 @@
 use Rattle.std.proofs.Common.{◌∙◌, ap, Some}
 use Rattle.ir_event.specs.Modules.{module_in}
-use Rattle.patterns_plans.proofs.Numbered.{none_dead, one_dead}
+use Rattle.patterns_plans.proofs.Headed.{none_dead, one_dead}
 use Rattle.patterns_plans.proofs.dead.plan_erase_dead.Goals as goal
 
 pub returns-then-not-dead_op-clause-edits : goal.returns-then-not-dead_op-clause-edits
