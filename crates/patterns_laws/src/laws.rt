@@ -1,9 +1,16 @@
 //! That rewrite rules keep values: for all values of the operands for which the old operations fold, the new ones give
-//! the same value, at every width. Each law is a function that does nothing: its contract is the law, and its name is the
-//! rule's word. In brackets stands where MLIR has the rule.
+//! the same value, at every width. Each law is a function that does nothing: its contract is the law, and its name is
+//! the rule's word. In brackets stands where MLIR has the rule.
 ghost use Rattle.std.specs.Prelude.{codes};
-ghost use Rattle.patterns_laws.specs.Words.{swapping, ignoring_zero, ignoring_one, cancelling, keeping, remainders, regrouping, index_casts, arithmetic, asking, dividing};
-ghost use Rattle.patterns_laws.specs.Keeps.{Each, Folding, Swapping, Ignoring, IgnoringOnes, Cancelling, KeepingItself, LeavingNothing, Regrouping, AddingTheNegative, ComparingItself, Mirroring, NotBelowZero, ChoosingOne, ChoosingByConstant, ChoosingTruth, ChoosingByOpposite, Extending, CuttingTwice, CuttingBack, ComingBack, Choosing, AddingTheComplement, Dividing, LoweringTwo, LoweringComparison, LoweringChoice, LoweringConstant};
+ghost use Rattle.patterns_laws.specs.Words.{swapping, ignoring_zero, ignoring_one, cancelling, keeping, remainders};
+ghost use Rattle.patterns_laws.specs.Words.{regrouping, index_casts, arithmetic, asking, dividing};
+ghost use Rattle.patterns_laws.specs.Keeps.{Each, Folding, Swapping, Ignoring, IgnoringOnes, Cancelling};
+ghost use Rattle.patterns_laws.specs.Keeps.{KeepingItself, LeavingNothing, Regrouping, AddingTheNegative};
+ghost use Rattle.patterns_laws.specs.Keeps.{ComparingItself, Mirroring, NotBelowZero, ChoosingOne};
+ghost use Rattle.patterns_laws.specs.Keeps.{ChoosingByConstant, ChoosingTruth, ChoosingByOpposite, Extending};
+ghost use Rattle.patterns_laws.specs.Keeps.{CuttingTwice, CuttingBack, ComingBack, Choosing, AddingTheComplement};
+ghost use Rattle.patterns_laws.specs.Keeps.{Dividing, LoweringTwo, LoweringComparison, LoweringChoice};
+ghost use Rattle.patterns_laws.specs.Keeps.{LoweringConstant};
 
 /// An operation that folds over its constant operands becomes that constant (`Operation::fold`).
 pub fn fold_to_constant()
