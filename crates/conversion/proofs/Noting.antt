@@ -9,7 +9,7 @@ use Rattle.rewriter.specs.Moves.{Recorded}
 use Rattle.rewriter.specs.Rolling.{Dropped}
 use Rattle.rewriter.proofs.Noted.{recorded_left, recorded_more, recorded_none, recorded_undone, recorded_whole}
 use Rattle.rewriter.proofs.Together.{marked_on}
-use Rattle.patterns_indexed.specs.runs.Runs.{Noted}
+use Rattle.patterns.specs.runs.Runs.{Noted}
 use Rattle.conversion.specs.declared.fault.Fault.{Fault}
 use Rattle.conversion.specs.States.{marked_desk}
 

@@ -4,8 +4,8 @@ use Rattle.ir_event.specs.Listener.{Listener}
 use Rattle.ir_event.specs.Modules.{Module}
 use Rattle.rewriter.proofs.Together.{Ages}
 use Rattle.rewriter.specs.Machine.{Answer, Change, Converted, DoneWith, Goes, IsAnswer, IsUnmade, Nothing, State, due_change, fault_reply}
-use Rattle.patterns_indexed.specs.Benched.{Benched, Led, state_of}
-use Rattle.patterns_indexed.specs.Held.{module_held, open_marks}
+use Rattle.patterns.specs.Benched.{Benched, Led, state_of}
+use Rattle.patterns.specs.Held.{module_held, open_marks}
 use Rattle.conversion_base.specs.Conversion.{Ended, converted, given_up}
 use Rattle.conversion.specs.Benches.{seen}
 use Rattle.conversion.specs.Converting.{conversion_reply, ended_as, ending}

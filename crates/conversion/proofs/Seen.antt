@@ -17,13 +17,13 @@ use Rattle.rewriter.proofs.Calls.{stepped, unstepped}
 use Rattle.rewriter.proofs.Told.{heard_none}
 use Rattle.rewriter.specs.Machine.{Goes, Nothing, Step}
 use Rattle.rewriter.specs.Wholes.{IsFinished}
-use Rattle.patterns_indexed.specs.Interned.{IsFull as AddedFull}
-use Rattle.patterns_indexed.specs.Applied.{Applied, Gave, IsReason}
-use Rattle.patterns_indexed.specs.Benched.{Benched, Keeps, Led, reply_of, state_of}
-use Rattle.patterns_indexed.specs.Held.{Held, module_held, open_marks}
+use Rattle.patterns.specs.Interned.{IsFull as AddedFull}
+use Rattle.patterns.specs.Applied.{Applied, Gave, IsReason}
+use Rattle.patterns.specs.Benched.{Benched, Keeps, Led, reply_of, state_of}
+use Rattle.patterns.specs.Held.{Held, module_held, open_marks}
 use Rattle.conversion_base.specs.Lists.{AllFit, edits_meaning}
-use Rattle.patterns_indexed.specs.runs.Edit.{Edit as Coded}
-use Rattle.patterns_indexed.specs.runs.Runs.{Along}
+use Rattle.patterns.specs.runs.Edit.{Edit as Coded}
+use Rattle.patterns.specs.runs.Runs.{Along}
 use Rattle.conversion_base.specs.Makes.{made_by}
 use Rattle.conversion_base.specs.Reconciling.{index_edits, index_rewrite}
 use Rattle.conversion_base.proofs.Collapsing.{one_made}

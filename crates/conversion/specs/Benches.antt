@@ -3,8 +3,8 @@ use Rattle.std.specs.Prelude.{[], ◌++◌}
 use Rattle.ir_types.specs.Sound.{Holds}
 use Rattle.ir_event.specs.Listener.{Listener}
 use Rattle.rewriter.proofs.Told.{heard_none, heard_more}
-use Rattle.patterns_indexed.specs.Benched.{Benched, Led}
-use Rattle.patterns_indexed.specs.Held.{Held, module_held, open_marks}
+use Rattle.patterns.specs.Benched.{Benched, Led}
+use Rattle.patterns.specs.Held.{Held, module_held, open_marks}
 use Rattle.conversion.specs.States.{State}
 
 -- its context, the module in contents, and the open marks

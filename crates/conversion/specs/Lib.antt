@@ -8,5 +8,5 @@ pub use Rattle.conversion_base.specs.Conversion
 pub use Rattle.conversion_base.specs.Rewrites
 pub use Rattle.conversion_base.specs.Rule
 pub use Rattle.conversion_base.specs.RuleNames
-pub use Rattle.patterns_indexed.specs.runs.Runs
+pub use Rattle.patterns.specs.runs.Runs
 pub use Rattle.rewriter.specs as rewriter_bench

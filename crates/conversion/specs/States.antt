@@ -5,7 +5,7 @@ use Rattle.ir_types.specs.declared.refusal.Refusal.{Refusal}
 use Rattle.ir_types.specs.declared.refusal.Refusal.TheVariants.{Memory, Full}
 use Rattle.ir_event.specs.Modules.{Module}
 use Rattle.rewriter.specs.Held.{Held}
-use Rattle.patterns_indexed.specs.runs.Runs.{Noted}
+use Rattle.patterns.specs.runs.Runs.{Noted}
 use Rattle.conversion_base.specs.Machine.{OpenMark}
 use Rattle.conversion_base.specs.Rewrites.{Rewrite, none, refused, becomes}
 use Rattle.conversion.specs.declared.tried.Tried.{Tried}

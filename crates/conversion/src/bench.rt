@@ -1,8 +1,6 @@
 //! A bench, for conversions.
 ghost use Rattle.std.specs.Prelude.{◌≡◌};
-ghost use Rattle.ir_event.specs.Modules.{module_in};
-ghost use Rattle.patterns_indexed.specs.Held.{module_held};
-ghost use Rattle.patterns_indexed.specs.Applied.{limit_reason};
+ghost use Rattle.patterns.specs.Held.{module_held};
 ghost use Rattle.conversion_base.specs.Makes.{made_by};
 ghost use Rattle.conversion_base.specs.Contents.{edited};
 ghost use Rattle.conversion_base.specs.Edits.{Erase};
@@ -18,29 +16,15 @@ use conversion_base::target::Target;
 use conversion_base::{accepted, legal};
 use conversion_casts::givers::givers;
 use ir_event::analysis::Analysis;
-use ir_event::world::World;
-use ir_tree::limits::MOST_OPS;
 use ir_types::ids::OpId;
 use ir_types::refusal::Refusal;
-use patterns_indexed::apply::apply;
-use patterns_indexed::runs::Bench;
-use patterns_indexed::runs::carry::carry_whole;
-use patterns_indexed::runs::edit::Edit;
+use patterns::apply::apply;
+use patterns::limits::limit_reason;
+use patterns::runs::Bench;
+use patterns::runs::carry::carry_whole;
+use patterns::runs::edit::Edit;
 use rewriter::finish::finish;
 use std::alloc::Global;
-
-/// Why a module can't have an operation more, if it can't: it would be too full, or no id is left.
-fn limit_reason(world: &World) -> Option<Refusal>
-    ensures { result ≡ limit_reason 1 (module_in world.now) }
-{
-    if world.store.op_count().saturating_add(1) > MOST_OPS {
-        return Some(Refusal::Full);
-    }
-    if u64::from(world.store.next_id()).saturating_add(1) > 4_294_967_295 {
-        return Some(Refusal::IdsExhausted);
-    }
-    None
-}
 
 /// Applies a rule at an operation, if it is there. The answer is whether it applied.
 pub(crate) fn apply_rule<L: Analysis>(
@@ -80,7 +64,7 @@ fn carry<L: Analysis>(bench: &mut Bench<L>, edits: &[Edit]) -> Result<bool, Refu
     ensures answers { Answers (carried_out (edits_meaning bench.old.desk.ctx edits.now) (module_held bench.old.desk)) result (seen bench.old) (seen bench.new) }
     ensures leads { Leads seen desk_of (LedOn L.meaning) bench.old bench.new }
 {
-    if let Some(refusal) = limit_reason(bench.world()) {
+    if let Some(refusal) = limit_reason(bench.world(), 1) {
         return Err(refusal);
     }
     let carried = carry_whole(bench, edits);

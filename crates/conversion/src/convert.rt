@@ -4,8 +4,8 @@ ghost use Rattle.ir_types.specs.Things.{Grows};
 ghost use Rattle.rewriter.specs.Machine.{Change};
 ghost use Rattle.rewriter.specs.Benched.{Does, Led};
 ghost use Rattle.rewriter.specs.Moves.{Recorded};
-ghost use Rattle.patterns_indexed.specs.Held.{module_held};
-ghost use Rattle.patterns_indexed.specs.runs.Runs.{Noted};
+ghost use Rattle.patterns.specs.Held.{module_held};
+ghost use Rattle.patterns.specs.runs.Runs.{Noted};
 ghost use Rattle.conversion_base.specs.Conversion.{conversion_of, has_no_cast};
 ghost use Rattle.conversion_base.specs.Targets.{IsNamedIn, aim_of};
 ghost use Rattle.conversion.specs.Benches.{seen};
@@ -16,8 +16,8 @@ use crate::fault::Fault;
 use crate::parts::convert_with;
 use conversion_base::target::Target;
 use ir_event::analysis::Analysis;
-use patterns_indexed::runs::Bench;
-use patterns_indexed::runs::laws::led_benches_are_kept;
+use patterns::runs::Bench;
+use patterns::runs::laws::led_benches_are_kept;
 use std::alloc::Global;
 
 /// Converts the module of a bench (Dialect Conversion, "Modes of Conversion"): each of its operations that isn't legal for a

@@ -5,7 +5,7 @@ use conversion_base::rule::Rule;
 use ir_event::analysis::Analysis;
 use ir_types::ids::OpId;
 use ir_types::refusal::Refusal;
-use patterns_indexed::runs::Bench;
+use patterns::runs::Bench;
 use std::alloc::Global;
 
 impl<L: Analysis> Rules for Bench<L> {

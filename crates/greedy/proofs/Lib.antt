@@ -6,3 +6,4 @@ pub mod Scans
 pub mod Comings
 pub mod Benches
 pub mod Changing
+mod Following

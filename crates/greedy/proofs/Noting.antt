@@ -8,7 +8,7 @@ use Rattle.rewriter.specs.Moves.{Recorded}
 use Rattle.rewriter.specs.Rolling.{Dropped}
 use Rattle.rewriter.proofs.Noted.{recorded_left, recorded_more, recorded_none, recorded_undone, recorded_whole}
 use Rattle.rewriter.proofs.Together.{marked_on}
-use Rattle.patterns_runs.specs.Runs.{Noted}
+use Rattle.patterns.specs.runs.Runs.{Noted}
 use Rattle.greedy.specs.Noting.{marked}
 
 pub noted_none : (h : Held) → Noted h h

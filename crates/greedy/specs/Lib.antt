@@ -4,3 +4,4 @@ pub mod Benches
 pub mod Noting
 pub mod Changes
 pub mod Lawful
+pub mod Following

@@ -5,4 +5,5 @@ pub mod bench;
 pub mod outcome;
 pub mod rewriting;
 pub mod run;
+mod walk;
 mod work;

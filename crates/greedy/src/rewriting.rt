@@ -8,12 +8,12 @@ ghost use Rattle.ir_event.specs.Modules.{Module};
 ghost use Rattle.rewriter_machine.specs.Machine.{OpenMark};
 ghost use Rattle.rewriter.specs.Held.{Held};
 ghost use Rattle.rewriter.specs.Rolling.{Dropped};
-ghost use Rattle.patterns_runs.specs.Runs.{Noted};
+ghost use Rattle.patterns.specs.runs.Runs.{Noted};
 ghost use Rattle.patterns_base.specs.Rewrites.{becomes, none};
 ghost use Rattle.patterns_base.specs.Canonicalization.{lowest};
 ghost use Rattle.greedy.specs.Noting.{marked};
 ghost use Rattle.greedy.specs.Outcomes.{Applied, Refuses};
-ghost use Rattle.greedy.specs.Work.{following};
+ghost use Rattle.greedy.specs.Following.{following};
 ghost use Rattle.patterns_orders.specs.Orders.{Orderly};
 ghost use Rattle.patterns_listing.specs.touching.Listing.{Touched};
 

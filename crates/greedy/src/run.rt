@@ -5,7 +5,7 @@ ghost use Rattle.ir_tree.specs.Ids.{has_id};
 ghost use Rattle.patterns_base.specs.Canonicalization.{next_rewrite};
 ghost use Rattle.greedy.specs.Outcomes.{Applied, ComeTo, IsCanonical, IsReason, Refuses, Stop, Tells};
 ghost use Rattle.rewriter.specs.Moves.{Recorded};
-ghost use Rattle.patterns_runs.specs.Runs.{Noted};
+ghost use Rattle.patterns.specs.runs.Runs.{Noted};
 ghost use Rattle.greedy.specs.Work.{IsWork, Right, CoversBut, Rewritten, StillWaits, waits};
 ghost use Rattle.patterns_listing.specs.touching.Sights.{is_listed};
 ghost use Rattle.patterns_listing.specs.touching.Listing.{Touched};

@@ -1,7 +1,7 @@
 use Rattle.std.proofs.Common.{sym, ◌∙◌}
 use Rattle.conversion_base.specs.Rewrites.{rewrite_of}
 use Rattle.conversion_base.proofs.Collapsing.{none_there}
-use Rattle.patterns_indexed.specs.Held.{module_held}
+use Rattle.patterns.specs.Held.{module_held}
 use Rattle.conversion.proofs.Seen.{answered, answered_none, here_or_gone, leads_applied, stay}
 use Rattle.conversion.proofs.bench.apply_rule.Goals as goal
 

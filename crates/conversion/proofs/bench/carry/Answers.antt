@@ -1,9 +1,9 @@
 use Rattle.std.proofs.Common.{ap, inl, refl, sym, ◌∙◌}
 use Rattle.conversion_base.specs.Lists.{edits_meaning}
 use Rattle.conversion_base.specs.Rewrites.{carried_out}
-use Rattle.patterns_indexed.specs.Applied.{limit_reason}
-use Rattle.patterns_indexed.specs.Held.{module_held}
-use Rattle.patterns_indexed.proofs.Carrying.{limited, unlimited}
+use Rattle.patterns.specs.Applied.{limit_reason}
+use Rattle.patterns.specs.Held.{module_held}
+use Rattle.patterns.proofs.Carrying.{limited, unlimited}
 use Rattle.conversion.proofs.Seen.{leads_along, made_so, refused_so, same_module, stay, wanted}
 use Rattle.conversion.proofs.bench.carry.Goals as goal
 

@@ -1,7 +1,7 @@
 use Rattle.std.proofs.Common.{inl, refl, Ok}
-use Rattle.patterns_indexed.specs.Benched.{state_of}
+use Rattle.patterns.specs.Benched.{state_of}
 use Rattle.conversion_base.specs.Edits.{Erase}
-use Rattle.patterns_indexed.proofs.of_runs.Carrying.{tried_by, unmade_by}
+use Rattle.patterns.proofs.of_runs.Carrying.{tried_by, unmade_by}
 use Rattle.conversion.proofs.Seen.{leads_on}
 use Rattle.conversion.proofs.bench.erase.Goals as goal
 

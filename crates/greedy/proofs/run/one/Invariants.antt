@@ -1,5 +1,5 @@
 use Rattle.std.proofs.Common.{◌≡◌}
-use Rattle.patterns_runs.specs.Runs.{Noted}
+use Rattle.patterns.specs.runs.Runs.{Noted}
 use Rattle.greedy.specs.Work.{Right, left}
 use Rattle.greedy.proofs.run.one.Given as goal
 

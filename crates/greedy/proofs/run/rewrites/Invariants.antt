@@ -1,6 +1,6 @@
 use Rattle.std.proofs.Common.{◌≡◌, ◌≤◌, ◌-◌}
 use Rattle.patterns_base.specs.Canonicalization.{canonical_from}
-use Rattle.patterns_runs.specs.Runs.{Noted}
+use Rattle.patterns.specs.runs.Runs.{Noted}
 use Rattle.greedy.specs.Work.{Right}
 use Rattle.greedy.proofs.run.rewrites.Given as goal
 

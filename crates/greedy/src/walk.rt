@@ -3,7 +3,7 @@ ghost use Rattle.std.specs.Prelude.{◌≡◌, ◌≤◌, ◌<◌, ◌+◌, true
 ghost use Rattle.ir_tree.specs.Ids.{HasDistinctIds, find as the_first, has_id};
 ghost use Rattle.ir_tree.specs.Tree.{head};
 ghost use Rattle.ir_tree_laws.specs.Reads.{precedes};
-ghost use Rattle.ir_store_walks.specs.Following.{HasFewRegions, count_of, first_inside, following as after};
+ghost use Rattle.greedy.specs.Following.{HasFewRegions, count_of, first_inside, following as after};
 
 use ir_store::store::Store;
 use ir_types::ids::OpId;
@@ -41,7 +41,7 @@ fn first_from(store: &Store, op: OpId, from: u32) -> Option<OpId>
 }
 
 /// The operation after an operation of the module in pre-order.
-pub fn following(store: &Store, op: OpId) -> Option<OpId>
+pub(crate) fn following(store: &Store, op: OpId) -> Option<OpId>
     requires there { has_id op store.now.module_of.tree ≡ true }
     requires distinct { HasDistinctIds store.now.module_of.tree }
     requires few { HasFewRegions store.now.module_of.tree }
@@ -65,7 +65,7 @@ pub fn following(store: &Store, op: OpId) -> Option<OpId>
 
 /// An operation that comes before an operation of the module in pre-order: the one before it in its block, or the one
 /// around it; the root has none.
-pub fn preceding(store: &Store, op: OpId) -> Option<OpId>
+pub(crate) fn preceding(store: &Store, op: OpId) -> Option<OpId>
     requires there { has_id op store.now.module_of.tree ≡ true }
     requires distinct { HasDistinctIds store.now.module_of.tree }
     ensures some { IfSome result (λ p. precedes p op store.now.module_of.tree ≡ true) }

@@ -1,7 +1,7 @@
 use Rattle.std.proofs.Common.{◌∙◌, sym, subst, ◌≤◌}
 use Rattle.ir_tree.specs.Ids.{find}
-use Rattle.ir_store_walks.proofs.Following.{inside_found, inside_none, inside_past}
-use Rattle.ir_store_walks.proofs.walk.first_from.Goals as goal
+use Rattle.greedy.proofs.Following.{inside_found, inside_none, inside_past}
+use Rattle.greedy.proofs.walk.first_from.Goals as goal
 
 pub returns-in-Some : goal.returns-in-Some
 returns-in-Some c = sym (c.regions.invariant ∙ inside_found c.regions.region (find c.args.op c.args.store.now.module_of.tree) c.in-Some.first (sym c.in-Some.ensures))

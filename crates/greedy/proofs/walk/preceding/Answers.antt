@@ -1,6 +1,6 @@
 use Rattle.std.proofs.Common.{sym}
-use Rattle.ir_store_walks.proofs.Following.{prev_precedes, parent_precedes, rootless}
-use Rattle.ir_store_walks.proofs.walk.preceding.Goals as goal
+use Rattle.greedy.proofs.Following.{prev_precedes, parent_precedes, rootless}
+use Rattle.greedy.proofs.walk.preceding.Goals as goal
 
 pub returns-in-Some-clause-some : goal.returns-in-Some-clause-some
 returns-in-Some-clause-some c = prev_precedes c.args.store.now.module_of.tree c.requires.distinct c.args.op c.in-Some.prev (sym c.in-Some.ensures)

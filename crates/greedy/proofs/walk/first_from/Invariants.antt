@@ -1,7 +1,7 @@
 use Rattle.std.proofs.Common.{◌≡◌, ◌-◌}
 use Rattle.ir_tree.specs.Ids.{find}
-use Rattle.ir_store_walks.specs.Following.{first_inside}
-use Rattle.ir_store_walks.proofs.walk.first_from.Given as goal
+use Rattle.greedy.specs.Following.{first_inside}
+use Rattle.greedy.proofs.walk.first_from.Given as goal
 
 abbrev pub invariant-regions : goal.invariant-regions
 invariant-regions l = first_inside l.from (find l.op l.store.module_of.tree) ≡ first_inside l.region (find l.op l.store.module_of.tree)

@@ -1,6 +1,6 @@
 use Rattle.std.proofs.Common.{◌∙◌, sym, arith}
-use Rattle.ir_store_walks.proofs.Following.{from_inside, from_behind, behind_root, up}
-use Rattle.ir_store_walks.proofs.walk.following.Goals as goal
+use Rattle.greedy.proofs.Following.{from_inside, from_behind, behind_root, up}
+use Rattle.greedy.proofs.walk.following.Goals as goal
 
 pub returns-in-Some : goal.returns-in-Some
 returns-in-Some c = sym (from_inside c.args.store.now.module_of.tree c.requires.distinct c.args.op c.in-Some.first c.requires.there (sym c.in-Some.ensures))

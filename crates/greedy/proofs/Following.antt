@@ -22,7 +22,7 @@ use Rattle.ir_tree_laws.proofs.Put.{child}
 use Rattle.ir_tree_laws.proofs.Neighbours.{prev_there}
 use Rattle.ir_tree_laws.proofs.Around.{around_there, place_of_member, member_of_place}
 use Rattle.ir_tree_laws.proofs.Values.{shape}
-use Rattle.ir_store_walks.specs.Following.{first_id, comes_next, following, regions_from, first_inside, behind, behind_of, height_of, HasFewRegions, count_of}
+use Rattle.greedy.specs.Following.{first_id, comes_next, following, regions_from, first_inside, behind, behind_of, height_of, HasFewRegions, count_of}
 
 there : ℕ → List ℕ → Bool
 there x xs = list_any (λ y. eqb y x) xs
