@@ -13,7 +13,16 @@ use Rattle.ir_tree.specs.Meaning.{Operation}
 use Rattle.op_registry.specs.Registry.{beside, row_of, own_of}
 use Rattle.op_registry.specs.Rows.{Row, rows}
 use Rattle.patterns_laws.specs.integers.Folds.{Known, rule_of, rules, fold_of, is_property}
-use Rattle.patterns_laws.specs.integers.declared.operations.Rule.{Rule}
+use Rattle.patterns_laws.specs.integers.declared.operations.Rule as integers
+use Rattle.patterns_base.specs.declared.rule.Rule.{Rule}
+use Rattle.patterns_base.specs.declared.rule.Rule.TheVariants.{EraseDead, FoldToConstant, SwapConstant, DropZero}
+use Rattle.patterns_base.specs.declared.rule.Rule.TheVariants.{DropOne, DropAllOnes, CancelItself, KeepItself}
+use Rattle.patterns_base.specs.declared.rule.Rule.TheVariants.{ZeroRemainder, RegroupConstants, AddNegative}
+use Rattle.patterns_base.specs.declared.rule.Rule.TheVariants.{CompareItself, MirrorComparison, CompareZero}
+use Rattle.patterns_base.specs.declared.rule.Rule.TheVariants.{ChooseSame, ChooseKnown, ChooseTruth, ChooseOpposite}
+use Rattle.patterns_base.specs.declared.rule.Rule.TheVariants.{ExtendExtension, CutCast, CastBack, OpenBranch}
+use Rattle.patterns_base.specs.declared.rule.Rule.TheVariants.{OpenLoop, StopLoop, ExpandMinMax, ExpandDifference}
+use Rattle.patterns_base.specs.declared.rule.Rule.TheVariants.{ExpandRemainder, LowerIndex, LowerLoop, LowerChoice}
 use Rattle.effects.specs.declared.kinds.EffectKinds.{EffectKinds}
 use Rattle.effects.specs.Effects.{effects_by, regions_effects}
 use Rattle.effects.specs.Dead.{is_unused, is_kept}
@@ -44,14 +53,14 @@ of_among P (w ∷ ws) name each h = by (bytes_eq name w) refl (λ more. of_among
     by false e more = more (grind arith)
 
 -- a name without a rule isn't among words that have it, nor the one word that has
-elsewhere : (r : ℕ) (ws : List (List ℕ)) (name : List ℕ) → Each (λ w. has_rule r w ≡ true) ws → has_rule r name ≡ false → among ws name ≡ false
+elsewhere : (r : Rule) (ws : List (List ℕ)) (name : List ℕ) → Each (λ w. has_rule r w ≡ true) ws → has_rule r name ≡ false → among ws name ≡ false
 elsewhere r ws name each lacks = by (among ws name) refl
   where
     by : (t : Bool) → among ws name ≡ t → t ≡ false
     by true e = sym (of_among (λ w. has_rule r w ≡ true) ws name each e) ∙ lacks
     by false e = refl
 
-another : (r : ℕ) (w name : List ℕ) → has_rule r w ≡ true → has_rule r name ≡ false → named w name ≡ false
+another : (r : Rule) (w name : List ℕ) → has_rule r w ≡ true → has_rule r name ≡ false → named w name ≡ false
 another r w name has lacks = by (bytes_eq name w) refl
   where
     by : (t : Bool) → bytes_eq name w ≡ t → t ≡ false
@@ -59,7 +68,7 @@ another r w name has lacks = by (bytes_eq name w) refl
     by false e = refl
 
 -- nothing stands beside it
-nothing_beside : {A : Type 0} (r : ℕ) (rows : List (List ℕ × A)) (name : List ℕ) → Each (λ (row : List ℕ × A). has_rule r row.0 ≡ true) rows → has_rule r name ≡ false → beside name rows ≡ None
+nothing_beside : {A : Type 0} (r : Rule) (rows : List (List ℕ × A)) (name : List ℕ) → Each (λ (row : List ℕ × A). has_rule r row.0 ≡ true) rows → has_rule r name ≡ false → beside name rows ≡ None
 nothing_beside r [] name each lacks = refl
 nothing_beside r (row ∷ more) name each lacks = by (bytes_eq name row.0) refl (nothing_beside r more name each.1 lacks)
   where
@@ -123,119 +132,119 @@ one_among ws h f e = one_none h.name h.operands h.results (λ p. when (among ws 
 two_beside : {A X : Type 0} (rows : List (List ℕ × A)) (h : Header) (f : Two → A → Option X) → beside h.name rows ≡ None → given (two h) (λ p. given (beside p.name rows) (f p)) ≡ None
 two_beside rows h f e = two_none h.name h.operands h.results (λ p. given (beside p.name rows) (f p)) (λ p s. ap (λ z. given z (f p)) (ap (λ name. beside name rows) s ∙ e))
 
-at_swap_constant : Each (λ w. has_rule 3 w ≡ true) swapping
+at_swap_constant : Each (λ w. has_rule SwapConstant w ≡ true) swapping
 unfolding rules_for table swapping
 at_swap_constant = (refl, (refl, (refl, (refl, (refl, (refl, (refl, (refl, (refl, tt)))))))))
 
-at_drop_zero : Each (λ w. has_rule 4 w ≡ true) ignoring_zero
+at_drop_zero : Each (λ w. has_rule DropZero w ≡ true) ignoring_zero
 unfolding rules_for table ignoring_zero
 at_drop_zero = (refl, (refl, (refl, (refl, (refl, (refl, (refl, tt)))))))
 
-at_drop_one : Each (λ w. has_rule 5 w ≡ true) ignoring_one
+at_drop_one : Each (λ w. has_rule DropOne w ≡ true) ignoring_one
 unfolding rules_for table ignoring_one
 at_drop_one = (refl, (refl, (refl, tt)))
 
-at_cancel_itself : Each (λ w. has_rule 7 w ≡ true) cancelling
+at_cancel_itself : Each (λ w. has_rule CancelItself w ≡ true) cancelling
 unfolding rules_for table cancelling
 at_cancel_itself = (refl, (refl, tt))
 
-at_keep_itself : Each (λ w. has_rule 8 w ≡ true) keeping
+at_keep_itself : Each (λ w. has_rule KeepItself w ≡ true) keeping
 unfolding rules_for table keeping
 at_keep_itself = (refl, (refl, (refl, (refl, (refl, (refl, tt))))))
 
-at_zero_remainder : Each (λ w. has_rule 9 w ≡ true) remainders
+at_zero_remainder : Each (λ w. has_rule ZeroRemainder w ≡ true) remainders
 unfolding rules_for table remainders
 at_zero_remainder = (refl, (refl, tt))
 
-at_regroup_constants : Each (λ w. has_rule 10 w ≡ true) regrouping
+at_regroup_constants : Each (λ w. has_rule RegroupConstants w ≡ true) regrouping
 unfolding rules_for table regrouping
 at_regroup_constants = (refl, (refl, (refl, (refl, (refl, tt)))))
 
-at_extend_extension : Each (λ w. has_rule 19 w ≡ true) extensions
+at_extend_extension : Each (λ w. has_rule ExtendExtension w ≡ true) extensions
 unfolding rules_for table extensions
 at_extend_extension = (refl, (refl, tt))
 
-at_cast_back : Each (λ w. has_rule 21 w ≡ true) index_casts
+at_cast_back : Each (λ w. has_rule CastBack w ≡ true) index_casts
 unfolding rules_for table index_casts
 at_cast_back = (refl, (refl, tt))
 
-at_lower_index : Each (λ w. has_rule 28 w ≡ true) index_users
+at_lower_index : Each (λ w. has_rule LowerIndex w ≡ true) index_users
 unfolding rules_for table index_users arithmetic
 at_lower_index = (refl, (refl, (refl, (refl, (refl, (refl, (refl, (refl, (refl, (refl, (refl, (refl, (refl, (refl, (refl, (refl, (refl, (refl, (refl, (refl, tt))))))))))))))))))))
 
-at_expand_min_max : Each (λ (row : List ℕ × ℕ). has_rule 25 row.0 ≡ true) asking
+at_expand_min_max : Each (λ (row : List ℕ × ℕ). has_rule ExpandMinMax row.0 ≡ true) asking
 unfolding rules_for table asking
 at_expand_min_max = (refl, (refl, (refl, (refl, tt))))
 
-at_expand_remainder : Each (λ (row : List ℕ × List ℕ). has_rule 27 row.0 ≡ true) dividing
+at_expand_remainder : Each (λ (row : List ℕ × List ℕ). has_rule ExpandRemainder row.0 ≡ true) dividing
 unfolding rules_for table dividing
 at_expand_remainder = (refl, (refl, tt))
 
-at_cast_back_unrealized : has_rule 21 (codes "builtin.unrealized_conversion_cast") ≡ true
+at_cast_back_unrealized : has_rule CastBack (codes "builtin.unrealized_conversion_cast") ≡ true
 unfolding rules_for table
 at_cast_back_unrealized = refl
 
-at_drop_all_ones : has_rule 6 (codes "arith.andi") ≡ true
+at_drop_all_ones : has_rule DropAllOnes (codes "arith.andi") ≡ true
 unfolding rules_for table
 at_drop_all_ones = refl
 
-at_add_negative : has_rule 11 (codes "arith.subi") ≡ true
+at_add_negative : has_rule AddNegative (codes "arith.subi") ≡ true
 unfolding rules_for table
 at_add_negative = refl
 
-at_compare_itself : has_rule 12 (codes "arith.cmpi") ≡ true
+at_compare_itself : has_rule CompareItself (codes "arith.cmpi") ≡ true
 unfolding rules_for table
 at_compare_itself = refl
 
-at_mirror_comparison : has_rule 13 (codes "arith.cmpi") ≡ true
+at_mirror_comparison : has_rule MirrorComparison (codes "arith.cmpi") ≡ true
 unfolding rules_for table
 at_mirror_comparison = refl
 
-at_compare_zero : has_rule 14 (codes "arith.cmpi") ≡ true
+at_compare_zero : has_rule CompareZero (codes "arith.cmpi") ≡ true
 unfolding rules_for table
 at_compare_zero = refl
 
-at_choose_same : has_rule 15 (codes "arith.select") ≡ true
+at_choose_same : has_rule ChooseSame (codes "arith.select") ≡ true
 unfolding rules_for table
 at_choose_same = refl
 
-at_choose_known : has_rule 16 (codes "arith.select") ≡ true
+at_choose_known : has_rule ChooseKnown (codes "arith.select") ≡ true
 unfolding rules_for table
 at_choose_known = refl
 
-at_choose_truth : has_rule 17 (codes "arith.select") ≡ true
+at_choose_truth : has_rule ChooseTruth (codes "arith.select") ≡ true
 unfolding rules_for table
 at_choose_truth = refl
 
-at_choose_opposite : has_rule 18 (codes "arith.select") ≡ true
+at_choose_opposite : has_rule ChooseOpposite (codes "arith.select") ≡ true
 unfolding rules_for table
 at_choose_opposite = refl
 
-at_cut_cast : has_rule 20 (codes "arith.trunci") ≡ true
+at_cut_cast : has_rule CutCast (codes "arith.trunci") ≡ true
 unfolding rules_for table
 at_cut_cast = refl
 
-at_open_branch : has_rule 22 (codes "scf.if") ≡ true
+at_open_branch : has_rule OpenBranch (codes "scf.if") ≡ true
 unfolding rules_for table
 at_open_branch = refl
 
-at_open_loop : has_rule 23 (codes "scf.for") ≡ true
+at_open_loop : has_rule OpenLoop (codes "scf.for") ≡ true
 unfolding rules_for table
 at_open_loop = refl
 
-at_stop_loop : has_rule 24 (codes "scf.while") ≡ true
+at_stop_loop : has_rule StopLoop (codes "scf.while") ≡ true
 unfolding rules_for table
 at_stop_loop = refl
 
-at_expand_difference : has_rule 26 (codes "arith.subi") ≡ true
+at_expand_difference : has_rule ExpandDifference (codes "arith.subi") ≡ true
 unfolding rules_for table
 at_expand_difference = refl
 
-at_lower_loop : has_rule 29 (codes "scf.for") ≡ true
+at_lower_loop : has_rule LowerLoop (codes "scf.for") ≡ true
 unfolding rules_for table
 at_lower_loop = refl
 
-at_lower_choice : has_rule 30 (codes "scf.if") ≡ true
+at_lower_choice : has_rule LowerChoice (codes "scf.if") ≡ true
 unfolding rules_for table
 at_lower_choice = refl
 
@@ -243,12 +252,12 @@ two_ways : {X : Type 0} (b c : Bool) (x y : Option X) → b ≡ false → c ≡ 
 two_ways true c x y h k = absurd (grind arith)
 two_ways false c x y h k = stopped c y k
 
--- ---- rule 2: what doesn't fold
+-- ---- what doesn't fold
 tail_of : {X : Type 0} → List X → List X
 tail_of [] = []
 tail_of (x ∷ xs) = xs
 
-at_fold_to_constant : Each (λ (row : List ℕ × Rule). has_rule 2 row.0 ≡ true) (tail_of rules)
+at_fold_to_constant : Each (λ (row : List ℕ × integers.Rule). has_rule FoldToConstant row.0 ≡ true) (tail_of rules)
 unfolding rules_for table rules tail_of
 at_fold_to_constant = (refl, (refl, (refl, (refl, (refl, (refl, (refl, (refl, (refl, (refl, (refl, (refl, (refl, (refl, (refl, (refl, (refl, (refl, (refl, (refl, (refl, (refl, (refl, (refl, tt))))))))))))))))))))))))
 
@@ -266,9 +275,9 @@ unfolded name p xs [] e = refl
 unfolded name p xs (ty ∷ []) e = rw (e) (both_none (list_all (is_property name) p) None None refl refl)
 unfolded name p xs (ty ∷ u ∷ us) e = refl
 
--- ---- rule 1: what has effects, or stays whatever it does
+-- ---- what has effects, or stays whatever it does
 abbrev Goes : List ℕ → Type 0
-Goes name = has_rule 1 name ≡ false → (k : EffectKinds) → (not (is_kept name) && dead.may_go (effects_by (own_of name) k)) ≡ false
+Goes name = has_rule EraseDead name ≡ false → (k : EffectKinds) → (not (is_kept name) && dead.may_go (effects_by (own_of name) k)) ≡ false
 
 pub beside_or : {A : Type 0} (P : List ℕ → Type 0) (rows : List (List ℕ × A)) (name : List ℕ) → Each (λ (row : List ℕ × A). P row.0) rows → (beside name rows ≡ None → P name) → P name
 beside_or P [] name each none = none refl
@@ -293,7 +302,7 @@ unlisted name e lacks k = rw (e) (and_false _ false refl)
 goes_of : (name : List ℕ) → Goes name
 goes_of name = beside_or Goes rows name at_erase_dead (unlisted name)
 
-goes_not : (t o : Operation) → has_rule 1 (head o).name ≡ false → may_go t o ≡ false
+goes_not : (t o : Operation) → has_rule EraseDead (head o).name ≡ false → may_go t o ≡ false
 unfolding may_go
 goes_not t (op h rs) lacks = and_false (is_unused h.id t) _ (goes_of h.name lacks (regions_effects own_of rs))
 
@@ -307,96 +316,96 @@ module _ (t : Operation) (n : ℕ) (front : Place) (o : Operation) where
   abbrev h : Header
   h = head o
 
-  abbrev Without : ℕ → Type 0
+  abbrev Without : Rule → Type 0
   Without r = has_rule r h.name ≡ false
 
-  none_swap_constant : Without 3 → swap_constant t n front o ≡ None
-  none_swap_constant lacks = two_among swapping h _ _ (elsewhere 3 swapping h.name at_swap_constant lacks)
+  none_swap_constant : Without SwapConstant → swap_constant t n front o ≡ None
+  none_swap_constant lacks = two_among swapping h _ _ (elsewhere SwapConstant swapping h.name at_swap_constant lacks)
 
-  none_drop_zero : Without 4 → drop_zero t n front o ≡ None
-  none_drop_zero lacks = two_among ignoring_zero h _ _ (elsewhere 4 ignoring_zero h.name at_drop_zero lacks)
+  none_drop_zero : Without DropZero → drop_zero t n front o ≡ None
+  none_drop_zero lacks = two_among ignoring_zero h _ _ (elsewhere DropZero ignoring_zero h.name at_drop_zero lacks)
 
-  none_drop_one : Without 5 → drop_one t n front o ≡ None
-  none_drop_one lacks = two_among ignoring_one h _ _ (elsewhere 5 ignoring_one h.name at_drop_one lacks)
+  none_drop_one : Without DropOne → drop_one t n front o ≡ None
+  none_drop_one lacks = two_among ignoring_one h _ _ (elsewhere DropOne ignoring_one h.name at_drop_one lacks)
 
-  none_cancel_itself : Without 7 → cancel_itself t n front o ≡ None
-  none_cancel_itself lacks = two_among cancelling h _ _ (elsewhere 7 cancelling h.name at_cancel_itself lacks)
+  none_cancel_itself : Without CancelItself → cancel_itself t n front o ≡ None
+  none_cancel_itself lacks = two_among cancelling h _ _ (elsewhere CancelItself cancelling h.name at_cancel_itself lacks)
 
-  none_keep_itself : Without 8 → keep_itself t n front o ≡ None
-  none_keep_itself lacks = two_among keeping h _ _ (elsewhere 8 keeping h.name at_keep_itself lacks)
+  none_keep_itself : Without KeepItself → keep_itself t n front o ≡ None
+  none_keep_itself lacks = two_among keeping h _ _ (elsewhere KeepItself keeping h.name at_keep_itself lacks)
 
-  none_zero_remainder : Without 9 → zero_remainder t n front o ≡ None
-  none_zero_remainder lacks = two_among remainders h _ _ (elsewhere 9 remainders h.name at_zero_remainder lacks)
+  none_zero_remainder : Without ZeroRemainder → zero_remainder t n front o ≡ None
+  none_zero_remainder lacks = two_among remainders h _ _ (elsewhere ZeroRemainder remainders h.name at_zero_remainder lacks)
 
-  none_regroup_constants : Without 10 → regroup_constants t n front o ≡ None
-  none_regroup_constants lacks = two_none h.name h.operands h.results _ (λ p s. stopped (among regrouping p.name) _ (ap (among regrouping) s ∙ elsewhere 10 regrouping h.name at_regroup_constants lacks))
+  none_regroup_constants : Without RegroupConstants → regroup_constants t n front o ≡ None
+  none_regroup_constants lacks = two_none h.name h.operands h.results _ (λ p s. stopped (among regrouping p.name) _ (ap (among regrouping) s ∙ elsewhere RegroupConstants regrouping h.name at_regroup_constants lacks))
 
-  none_drop_all_ones : Without 6 → drop_all_ones t n front o ≡ None
-  none_drop_all_ones lacks = two_none h.name h.operands h.results _ (λ p s. stopped_first (named (codes "arith.andi") p.name) _ _ (ap (named (codes "arith.andi")) s ∙ another 6 (codes "arith.andi") h.name at_drop_all_ones lacks))
+  none_drop_all_ones : Without DropAllOnes → drop_all_ones t n front o ≡ None
+  none_drop_all_ones lacks = two_none h.name h.operands h.results _ (λ p s. stopped_first (named (codes "arith.andi") p.name) _ _ (ap (named (codes "arith.andi")) s ∙ another DropAllOnes (codes "arith.andi") h.name at_drop_all_ones lacks))
 
-  none_add_negative : Without 11 → add_negative t n front o ≡ None
-  none_add_negative lacks = two_named (codes "arith.subi") h _ (another 11 (codes "arith.subi") h.name at_add_negative lacks)
+  none_add_negative : Without AddNegative → add_negative t n front o ≡ None
+  none_add_negative lacks = two_named (codes "arith.subi") h _ (another AddNegative (codes "arith.subi") h.name at_add_negative lacks)
 
-  none_compare_itself : Without 12 → compare_itself t n front o ≡ None
-  none_compare_itself lacks = two_named (codes "arith.cmpi") h _ (another 12 (codes "arith.cmpi") h.name at_compare_itself lacks)
+  none_compare_itself : Without CompareItself → compare_itself t n front o ≡ None
+  none_compare_itself lacks = two_named (codes "arith.cmpi") h _ (another CompareItself (codes "arith.cmpi") h.name at_compare_itself lacks)
 
-  none_mirror_comparison : Without 13 → mirror_comparison t n front o ≡ None
-  none_mirror_comparison lacks = two_named (codes "arith.cmpi") h _ (another 13 (codes "arith.cmpi") h.name at_mirror_comparison lacks)
+  none_mirror_comparison : Without MirrorComparison → mirror_comparison t n front o ≡ None
+  none_mirror_comparison lacks = two_named (codes "arith.cmpi") h _ (another MirrorComparison (codes "arith.cmpi") h.name at_mirror_comparison lacks)
 
-  none_compare_zero : Without 14 → compare_zero t n front o ≡ None
-  none_compare_zero lacks = two_named (codes "arith.cmpi") h _ (another 14 (codes "arith.cmpi") h.name at_compare_zero lacks)
+  none_compare_zero : Without CompareZero → compare_zero t n front o ≡ None
+  none_compare_zero lacks = two_named (codes "arith.cmpi") h _ (another CompareZero (codes "arith.cmpi") h.name at_compare_zero lacks)
 
-  none_expand_difference : Without 26 → expand_difference t n front o ≡ None
-  none_expand_difference lacks = two_named (codes "arith.subi") h _ (another 26 (codes "arith.subi") h.name at_expand_difference lacks)
+  none_expand_difference : Without ExpandDifference → expand_difference t n front o ≡ None
+  none_expand_difference lacks = two_named (codes "arith.subi") h _ (another ExpandDifference (codes "arith.subi") h.name at_expand_difference lacks)
 
-  none_choose_same : Without 15 → choose_same t n front o ≡ None
-  none_choose_same lacks = three_named (codes "arith.select") h _ (another 15 (codes "arith.select") h.name at_choose_same lacks)
+  none_choose_same : Without ChooseSame → choose_same t n front o ≡ None
+  none_choose_same lacks = three_named (codes "arith.select") h _ (another ChooseSame (codes "arith.select") h.name at_choose_same lacks)
 
-  none_choose_known : Without 16 → choose_known t n front o ≡ None
-  none_choose_known lacks = three_named (codes "arith.select") h _ (another 16 (codes "arith.select") h.name at_choose_known lacks)
+  none_choose_known : Without ChooseKnown → choose_known t n front o ≡ None
+  none_choose_known lacks = three_named (codes "arith.select") h _ (another ChooseKnown (codes "arith.select") h.name at_choose_known lacks)
 
-  none_choose_truth : Without 17 → choose_truth t n front o ≡ None
-  none_choose_truth lacks = three_named (codes "arith.select") h _ (another 17 (codes "arith.select") h.name at_choose_truth lacks)
+  none_choose_truth : Without ChooseTruth → choose_truth t n front o ≡ None
+  none_choose_truth lacks = three_named (codes "arith.select") h _ (another ChooseTruth (codes "arith.select") h.name at_choose_truth lacks)
 
-  none_choose_opposite : Without 18 → choose_opposite t n front o ≡ None
-  none_choose_opposite lacks = three_named (codes "arith.select") h _ (another 18 (codes "arith.select") h.name at_choose_opposite lacks)
+  none_choose_opposite : Without ChooseOpposite → choose_opposite t n front o ≡ None
+  none_choose_opposite lacks = three_named (codes "arith.select") h _ (another ChooseOpposite (codes "arith.select") h.name at_choose_opposite lacks)
 
-  none_extend_extension : Without 19 → extend_extension t n front o ≡ None
-  none_extend_extension lacks = one_among extensions h _ (elsewhere 19 extensions h.name at_extend_extension lacks)
+  none_extend_extension : Without ExtendExtension → extend_extension t n front o ≡ None
+  none_extend_extension lacks = one_among extensions h _ (elsewhere ExtendExtension extensions h.name at_extend_extension lacks)
 
-  none_cut_cast : Without 20 → cut_cast t n front o ≡ None
-  none_cut_cast lacks = one_named (codes "arith.trunci") h _ (another 20 (codes "arith.trunci") h.name at_cut_cast lacks)
+  none_cut_cast : Without CutCast → cut_cast t n front o ≡ None
+  none_cut_cast lacks = one_named (codes "arith.trunci") h _ (another CutCast (codes "arith.trunci") h.name at_cut_cast lacks)
 
-  none_cast_back : Without 21 → cast_back t n front o ≡ None
+  none_cast_back : Without CastBack → cast_back t n front o ≡ None
   none_cast_back lacks = one_none h.name h.operands h.results _ (λ p s. two_ways (named (codes "builtin.unrealized_conversion_cast") p.name) (among index_casts p.name) _ _
-      (ap (named (codes "builtin.unrealized_conversion_cast")) s ∙ another 21 (codes "builtin.unrealized_conversion_cast") h.name at_cast_back_unrealized lacks)
-      (ap (among index_casts) s ∙ elsewhere 21 index_casts h.name at_cast_back lacks))
+      (ap (named (codes "builtin.unrealized_conversion_cast")) s ∙ another CastBack (codes "builtin.unrealized_conversion_cast") h.name at_cast_back_unrealized lacks)
+      (ap (among index_casts) s ∙ elsewhere CastBack index_casts h.name at_cast_back lacks))
 
-  none_open_branch : Without 22 → open_branch t front o ≡ None
-  none_open_branch lacks = stopped (named (codes "scf.if") h.name) _ (another 22 (codes "scf.if") h.name at_open_branch lacks)
+  none_open_branch : Without OpenBranch → open_branch t front o ≡ None
+  none_open_branch lacks = stopped (named (codes "scf.if") h.name) _ (another OpenBranch (codes "scf.if") h.name at_open_branch lacks)
 
-  none_open_loop : Without 23 → open_loop t front o ≡ None
-  none_open_loop lacks = stopped (named (codes "scf.for") h.name) _ (another 23 (codes "scf.for") h.name at_open_loop lacks)
+  none_open_loop : Without OpenLoop → open_loop t front o ≡ None
+  none_open_loop lacks = stopped (named (codes "scf.for") h.name) _ (another OpenLoop (codes "scf.for") h.name at_open_loop lacks)
 
-  none_stop_loop : Without 24 → stop_loop t front o ≡ None
-  none_stop_loop lacks = stopped (named (codes "scf.while") h.name) _ (another 24 (codes "scf.while") h.name at_stop_loop lacks)
+  none_stop_loop : Without StopLoop → stop_loop t front o ≡ None
+  none_stop_loop lacks = stopped (named (codes "scf.while") h.name) _ (another StopLoop (codes "scf.while") h.name at_stop_loop lacks)
 
-  none_expand_min_max : Without 25 → expand_min_max t n front o ≡ None
-  none_expand_min_max lacks = two_beside asking h _ (nothing_beside 25 asking h.name at_expand_min_max lacks)
+  none_expand_min_max : Without ExpandMinMax → expand_min_max t n front o ≡ None
+  none_expand_min_max lacks = two_beside asking h _ (nothing_beside ExpandMinMax asking h.name at_expand_min_max lacks)
 
-  none_expand_remainder : Without 27 → expand_remainder t n front o ≡ None
-  none_expand_remainder lacks = two_beside dividing h _ (nothing_beside 27 dividing h.name at_expand_remainder lacks)
+  none_expand_remainder : Without ExpandRemainder → expand_remainder t n front o ≡ None
+  none_expand_remainder lacks = two_beside dividing h _ (nothing_beside ExpandRemainder dividing h.name at_expand_remainder lacks)
 
-  none_lower_index : Without 28 → lower_index t n front o ≡ None
-  none_lower_index lacks = stopped_first (among index_users h.name) _ _ (elsewhere 28 index_users h.name at_lower_index lacks)
+  none_lower_index : Without LowerIndex → lower_index t n front o ≡ None
+  none_lower_index lacks = stopped_first (among index_users h.name) _ _ (elsewhere LowerIndex index_users h.name at_lower_index lacks)
 
-  none_lower_loop : Without 29 → lower_loop t n front o ≡ None
-  none_lower_loop lacks = stopped_first (named (codes "scf.for") h.name) _ _ (another 29 (codes "scf.for") h.name at_lower_loop lacks)
+  none_lower_loop : Without LowerLoop → lower_loop t n front o ≡ None
+  none_lower_loop lacks = stopped_first (named (codes "scf.for") h.name) _ _ (another LowerLoop (codes "scf.for") h.name at_lower_loop lacks)
 
-  none_lower_choice : Without 30 → lower_choice t n front o ≡ None
-  none_lower_choice lacks = stopped_first (named (codes "scf.if") h.name) _ _ (another 30 (codes "scf.if") h.name at_lower_choice lacks)
+  none_lower_choice : Without LowerChoice → lower_choice t n front o ≡ None
+  none_lower_choice lacks = stopped_first (named (codes "scf.if") h.name) _ _ (another LowerChoice (codes "scf.if") h.name at_lower_choice lacks)
 
-  none_erase_dead : Without 1 → erase_dead t n front o ≡ None
+  none_erase_dead : Without EraseDead → erase_dead t n front o ≡ None
   none_erase_dead lacks = stopped (may_go t o) _ (goes_not t o lacks)
 
   nothing_to : (ts : List TypeTerm) (x : Option Known) → x ≡ None → folded_to t n front o ts x ≡ None
@@ -405,18 +414,40 @@ module _ (t : Operation) (n : ℕ) (front : Place) (o : Operation) where
   nothing_to (ty ∷ []) (Some k) e = absurd (grind arith)
   nothing_to (ty ∷ u ∷ us) x e = refl
 
-  none_fold_to_constant : Without 2 → fold_to_constant t n front o ≡ None
+  none_fold_to_constant : Without FoldToConstant → fold_to_constant t n front o ≡ None
   none_fold_to_constant lacks = stopped_or (named (codes "arith.constant") h.name) _ _
-      (λ e. nothing_to h.results _ (unfolded h.name h.properties _ h.results (first_is h.name e (nothing_beside 2 (tail_of rules) h.name at_fold_to_constant lacks))))
+      (λ e. nothing_to h.results _ (unfolded h.name h.properties _ h.results (first_is h.name e (nothing_beside FoldToConstant (tail_of rules) h.name at_fold_to_constant lacks))))
 
-pick : {X : Type 0} (r k : ℕ) (a b : Option X) → (r ≡ k → a ≡ None) → b ≡ None → (if eqb r k then a else b) ≡ None
-pick r k a b h rest = by (eqb r k) refl
-  where
-    by : (t : Bool) → eqb r k ≡ t → (if t then a else b) ≡ None
-    by true e = h (grind (arith, nat_tests))
-    by false e = rest
-
+-- where a rule isn't listed, it doesn't apply
 pub only_listed : OnlyListed
 unfolding rule
-only_listed r t n front o lacks =
-    pick r 1 _ _ (λ e. none_erase_dead t n front o (subst (λ k. has_rule k (head o).name ≡ false) e lacks)) (pick r 2 _ _ (λ e. none_fold_to_constant t n front o (subst (λ k. has_rule k (head o).name ≡ false) e lacks)) (pick r 3 _ _ (λ e. none_swap_constant t n front o (subst (λ k. has_rule k (head o).name ≡ false) e lacks)) (pick r 4 _ _ (λ e. none_drop_zero t n front o (subst (λ k. has_rule k (head o).name ≡ false) e lacks)) (pick r 5 _ _ (λ e. none_drop_one t n front o (subst (λ k. has_rule k (head o).name ≡ false) e lacks)) (pick r 6 _ _ (λ e. none_drop_all_ones t n front o (subst (λ k. has_rule k (head o).name ≡ false) e lacks)) (pick r 7 _ _ (λ e. none_cancel_itself t n front o (subst (λ k. has_rule k (head o).name ≡ false) e lacks)) (pick r 8 _ _ (λ e. none_keep_itself t n front o (subst (λ k. has_rule k (head o).name ≡ false) e lacks)) (pick r 9 _ _ (λ e. none_zero_remainder t n front o (subst (λ k. has_rule k (head o).name ≡ false) e lacks)) (pick r 10 _ _ (λ e. none_regroup_constants t n front o (subst (λ k. has_rule k (head o).name ≡ false) e lacks)) (pick r 11 _ _ (λ e. none_add_negative t n front o (subst (λ k. has_rule k (head o).name ≡ false) e lacks)) (pick r 12 _ _ (λ e. none_compare_itself t n front o (subst (λ k. has_rule k (head o).name ≡ false) e lacks)) (pick r 13 _ _ (λ e. none_mirror_comparison t n front o (subst (λ k. has_rule k (head o).name ≡ false) e lacks)) (pick r 14 _ _ (λ e. none_compare_zero t n front o (subst (λ k. has_rule k (head o).name ≡ false) e lacks)) (pick r 15 _ _ (λ e. none_choose_same t n front o (subst (λ k. has_rule k (head o).name ≡ false) e lacks)) (pick r 16 _ _ (λ e. none_choose_known t n front o (subst (λ k. has_rule k (head o).name ≡ false) e lacks)) (pick r 17 _ _ (λ e. none_choose_truth t n front o (subst (λ k. has_rule k (head o).name ≡ false) e lacks)) (pick r 18 _ _ (λ e. none_choose_opposite t n front o (subst (λ k. has_rule k (head o).name ≡ false) e lacks)) (pick r 19 _ _ (λ e. none_extend_extension t n front o (subst (λ k. has_rule k (head o).name ≡ false) e lacks)) (pick r 20 _ _ (λ e. none_cut_cast t n front o (subst (λ k. has_rule k (head o).name ≡ false) e lacks)) (pick r 21 _ _ (λ e. none_cast_back t n front o (subst (λ k. has_rule k (head o).name ≡ false) e lacks)) (pick r 22 _ _ (λ e. none_open_branch t n front o (subst (λ k. has_rule k (head o).name ≡ false) e lacks)) (pick r 23 _ _ (λ e. none_open_loop t n front o (subst (λ k. has_rule k (head o).name ≡ false) e lacks)) (pick r 24 _ _ (λ e. none_stop_loop t n front o (subst (λ k. has_rule k (head o).name ≡ false) e lacks)) (pick r 25 _ _ (λ e. none_expand_min_max t n front o (subst (λ k. has_rule k (head o).name ≡ false) e lacks)) (pick r 26 _ _ (λ e. none_expand_difference t n front o (subst (λ k. has_rule k (head o).name ≡ false) e lacks)) (pick r 27 _ _ (λ e. none_expand_remainder t n front o (subst (λ k. has_rule k (head o).name ≡ false) e lacks)) (pick r 28 _ _ (λ e. none_lower_index t n front o (subst (λ k. has_rule k (head o).name ≡ false) e lacks)) (pick r 29 _ _ (λ e. none_lower_loop t n front o (subst (λ k. has_rule k (head o).name ≡ false) e lacks)) (pick r 30 _ _ (λ e. none_lower_choice t n front o (subst (λ k. has_rule k (head o).name ≡ false) e lacks)) (refl))))))))))))))))))))))))))))))
+only_listed EraseDead = none_erase_dead
+only_listed FoldToConstant = none_fold_to_constant
+only_listed SwapConstant = none_swap_constant
+only_listed DropZero = none_drop_zero
+only_listed DropOne = none_drop_one
+only_listed DropAllOnes = none_drop_all_ones
+only_listed CancelItself = none_cancel_itself
+only_listed KeepItself = none_keep_itself
+only_listed ZeroRemainder = none_zero_remainder
+only_listed RegroupConstants = none_regroup_constants
+only_listed AddNegative = none_add_negative
+only_listed CompareItself = none_compare_itself
+only_listed MirrorComparison = none_mirror_comparison
+only_listed CompareZero = none_compare_zero
+only_listed ChooseSame = none_choose_same
+only_listed ChooseKnown = none_choose_known
+only_listed ChooseTruth = none_choose_truth
+only_listed ChooseOpposite = none_choose_opposite
+only_listed ExtendExtension = none_extend_extension
+only_listed CutCast = none_cut_cast
+only_listed CastBack = none_cast_back
+only_listed OpenBranch = none_open_branch
+only_listed OpenLoop = none_open_loop
+only_listed StopLoop = none_stop_loop
+only_listed ExpandMinMax = none_expand_min_max
+only_listed ExpandDifference = none_expand_difference
+only_listed ExpandRemainder = none_expand_remainder
+only_listed LowerIndex = none_lower_index
+only_listed LowerLoop = none_lower_loop
+only_listed LowerChoice = none_lower_choice

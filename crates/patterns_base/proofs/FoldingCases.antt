@@ -14,6 +14,12 @@ use Rattle.patterns_laws.specs.integers.Arithmetic as arithmetic
 use Rattle.patterns_laws.specs.integers.Folds as folds
 use Rattle.patterns_laws.specs.Made.{i1, i64}
 use Rattle.patterns_laws.specs.Words as named
+use Rattle.patterns_base.specs.declared.rule.Rule.TheVariants.{EraseDead, FoldToConstant, SwapConstant, DropZero}
+use Rattle.patterns_base.specs.declared.rule.Rule.TheVariants.{DropOne, DropAllOnes, CancelItself, KeepItself}
+use Rattle.patterns_base.specs.declared.rule.Rule.TheVariants.{ZeroRemainder, RegroupConstants, AddNegative}
+use Rattle.patterns_base.specs.declared.rule.Rule.TheVariants.{CompareItself, MirrorComparison, CompareZero}
+use Rattle.patterns_base.specs.declared.rule.Rule.TheVariants.{ChooseSame, ChooseKnown, ChooseTruth, ChooseOpposite}
+use Rattle.patterns_base.specs.declared.rule.Rule.TheVariants.{ExpandMinMax, ExpandDifference, ExpandRemainder}
 use Rattle.patterns_base.specs.Looks.{is_clean, may_go, known}
 use Rattle.patterns_base.specs.Casting.{resizing}
 use Rattle.patterns_base.specs.Rules.{rule}
@@ -22,7 +28,7 @@ use Rattle.patterns_base.proofs.Small.{i8, i32, Case, at_rule, answer, holding, 
 
 abbrev erase_dead_dead : Case
 erase_dead_dead =
-    at_rule 1 2
+    at_rule EraseDead 2
     (holding 3 (
     source 1 i32
     ∷ plain 2 (codes "arith.addi") (Result 1 0 ∷ Result 1 0 ∷ []) (i32 ∷ [])
@@ -31,7 +37,7 @@ erase_dead_dead =
 
 abbrev erase_dead_used : Case
 erase_dead_used =
-    at_rule 1 2
+    at_rule EraseDead 2
     (holding 4 (
     source 1 i32
     ∷ plain 2 (codes "arith.addi") (Result 1 0 ∷ Result 1 0 ∷ []) (i32 ∷ [])
@@ -41,7 +47,7 @@ erase_dead_used =
 
 abbrev fold_to_constant_i1_sum_wraps : Case
 fold_to_constant_i1_sum_wraps =
-    at_rule 2 3
+    at_rule FoldToConstant 3
     (holding 5 (
     number 1 i1 1
     ∷ number 2 i1 1
@@ -57,7 +63,7 @@ fold_to_constant_i1_sum_wraps =
 
 abbrev fold_to_constant_zero_alone : Case
 fold_to_constant_zero_alone =
-    at_rule 2 3
+    at_rule FoldToConstant 3
     (holding 5 (
     source 1 i32
     ∷ number 2 i32 0
@@ -73,7 +79,7 @@ fold_to_constant_zero_alone =
 
 abbrev fold_to_constant_division_by_zero : Case
 fold_to_constant_division_by_zero =
-    at_rule 2 3
+    at_rule FoldToConstant 3
     (holding 5 (
     number 1 i32 4
     ∷ number 2 i32 0
@@ -84,7 +90,7 @@ fold_to_constant_division_by_zero =
 
 abbrev fold_to_constant_bad_constant : Case
 fold_to_constant_bad_constant =
-    at_rule 2 3
+    at_rule FoldToConstant 3
     (holding 5 (
     source 1 i32
     ∷ kept 2 (codes "arith.constant") [] (i32 ∷ []) ((codes "other", IntegerOf i32 1) ∷ (codes "value", IntegerOf i32 0) ∷ [])
@@ -95,7 +101,7 @@ fold_to_constant_bad_constant =
 
 abbrev swap_constant_swaps : Case
 swap_constant_swaps =
-    at_rule 3 3
+    at_rule SwapConstant 3
     (holding 4 (
     number 1 i32 4
     ∷ source 2 i32
@@ -109,7 +115,7 @@ swap_constant_swaps =
 
 abbrev swap_constant_two_constants : Case
 swap_constant_two_constants =
-    at_rule 3 3
+    at_rule SwapConstant 3
     (holding 4 (
     number 1 i32 4
     ∷ number 2 i32 4
@@ -119,7 +125,7 @@ swap_constant_two_constants =
 
 abbrev swap_constant_bad_second_constant : Case
 swap_constant_bad_second_constant =
-    at_rule 3 3
+    at_rule SwapConstant 3
     (holding 4 (
     number 1 i32 4
     ∷ kept 2 (codes "arith.constant") [] (i32 ∷ []) ((codes "value", IntegerOf i64 0) ∷ [])
@@ -129,7 +135,7 @@ swap_constant_bad_second_constant =
 
 abbrev drop_zero_shift_by_zero : Case
 drop_zero_shift_by_zero =
-    at_rule 4 3
+    at_rule DropZero 3
     (holding 5 (
     source 1 i8
     ∷ number 2 i8 0
@@ -144,7 +150,7 @@ drop_zero_shift_by_zero =
 
 abbrev drop_zero_not_muli : Case
 drop_zero_not_muli =
-    at_rule 4 3
+    at_rule DropZero 3
     (holding 5 (
     source 1 i8
     ∷ number 2 i8 0
@@ -155,7 +161,7 @@ drop_zero_not_muli =
 
 abbrev drop_one_by_true : Case
 drop_one_by_true =
-    at_rule 5 3
+    at_rule DropOne 3
     (holding 5 (
     source 1 i1
     ∷ number 2 i1 1
@@ -170,7 +176,7 @@ drop_one_by_true =
 
 abbrev drop_all_ones_all_ones : Case
 drop_all_ones_all_ones =
-    at_rule 6 3
+    at_rule DropAllOnes 3
     (holding 5 (
     source 1 Index
     ∷ number 2 Index 18446744073709551615
@@ -185,7 +191,7 @@ drop_all_ones_all_ones =
 
 abbrev drop_all_ones_one_bit_short : Case
 drop_all_ones_one_bit_short =
-    at_rule 6 3
+    at_rule DropAllOnes 3
     (holding 5 (
     source 1 i8
     ∷ number 2 i8 127
@@ -196,7 +202,7 @@ drop_all_ones_one_bit_short =
 
 abbrev cancel_itself_itself : Case
 cancel_itself_itself =
-    at_rule 7 2
+    at_rule CancelItself 2
     (holding 4 (
     source 1 i8
     ∷ plain 2 (codes "arith.xori") (Result 1 0 ∷ Result 1 0 ∷ []) (i8 ∷ [])
@@ -210,7 +216,7 @@ cancel_itself_itself =
 
 abbrev keep_itself_itself : Case
 keep_itself_itself =
-    at_rule 8 2
+    at_rule KeepItself 2
     (holding 4 (
     source 1 i8
     ∷ plain 2 (codes "arith.minui") (Result 1 0 ∷ Result 1 0 ∷ []) (i8 ∷ [])
@@ -223,7 +229,7 @@ keep_itself_itself =
 
 abbrev zero_remainder_by_one : Case
 zero_remainder_by_one =
-    at_rule 9 3
+    at_rule ZeroRemainder 3
     (holding 5 (
     source 1 i8
     ∷ number 2 i8 1
@@ -239,7 +245,7 @@ zero_remainder_by_one =
 
 abbrev regroup_constants_sums : Case
 regroup_constants_sums =
-    at_rule 10 5
+    at_rule RegroupConstants 5
     (holding 7 (
     source 1 i8
     ∷ number 2 i8 100
@@ -260,7 +266,7 @@ regroup_constants_sums =
 
 abbrev regroup_constants_another_operation : Case
 regroup_constants_another_operation =
-    at_rule 10 5
+    at_rule RegroupConstants 5
     (holding 7 (
     source 1 i8
     ∷ number 2 i8 100
@@ -273,7 +279,7 @@ regroup_constants_another_operation =
 
 abbrev regroup_constants_constant_first : Case
 regroup_constants_constant_first =
-    at_rule 10 5
+    at_rule RegroupConstants 5
     (holding 7 (
     source 1 i8
     ∷ number 2 i8 100
@@ -286,7 +292,7 @@ regroup_constants_constant_first =
 
 abbrev add_negative_negated : Case
 add_negative_negated =
-    at_rule 11 3
+    at_rule AddNegative 3
     (holding 5 (
     source 1 i8
     ∷ number 2 i8 1
@@ -303,7 +309,7 @@ add_negative_negated =
 
 abbrev compare_itself_itself : Case
 compare_itself_itself =
-    at_rule 12 2
+    at_rule CompareItself 2
     (holding 4 (
     source 1 i8
     ∷ compared 2 3 (Result 1 0) (Result 1 0)
@@ -317,7 +323,7 @@ compare_itself_itself =
 
 abbrev compare_itself_not_itself : Case
 compare_itself_not_itself =
-    at_rule 12 2
+    at_rule CompareItself 2
     (holding 4 (
     source 1 i8
     ∷ compared 2 6 (Result 1 0) (Result 1 0)
@@ -331,7 +337,7 @@ compare_itself_not_itself =
 
 abbrev mirror_comparison_mirrored : Case
 mirror_comparison_mirrored =
-    at_rule 13 3
+    at_rule MirrorComparison 3
     (holding 4 (
     number 1 i8 3
     ∷ source 2 i8
@@ -345,7 +351,7 @@ mirror_comparison_mirrored =
 
 abbrev mirror_comparison_equal_stays : Case
 mirror_comparison_equal_stays =
-    at_rule 13 3
+    at_rule MirrorComparison 3
     (holding 4 (
     number 1 i8 3
     ∷ source 2 i8
@@ -359,7 +365,7 @@ mirror_comparison_equal_stays =
 
 abbrev compare_zero_below_zero : Case
 compare_zero_below_zero =
-    at_rule 14 3
+    at_rule CompareZero 3
     (holding 5 (
     source 1 i8
     ∷ number 2 i8 0
@@ -375,7 +381,7 @@ compare_zero_below_zero =
 
 abbrev compare_zero_at_least_zero : Case
 compare_zero_at_least_zero =
-    at_rule 14 3
+    at_rule CompareZero 3
     (holding 5 (
     source 1 i8
     ∷ number 2 i8 0
@@ -391,7 +397,7 @@ compare_zero_at_least_zero =
 
 abbrev compare_zero_signed : Case
 compare_zero_signed =
-    at_rule 14 3
+    at_rule CompareZero 3
     (holding 5 (
     source 1 i8
     ∷ number 2 i8 0
@@ -402,7 +408,7 @@ compare_zero_signed =
 
 abbrev choose_same_same : Case
 choose_same_same =
-    at_rule 15 3
+    at_rule ChooseSame 3
     (holding 5 (
     source 1 i1
     ∷ source 2 (Memref (Some 2 ∷ []) i8)
@@ -417,7 +423,7 @@ choose_same_same =
 
 abbrev choose_known_true : Case
 choose_known_true =
-    at_rule 16 4
+    at_rule ChooseKnown 4
     (holding 6 (
     number 1 i1 1
     ∷ source 2 i8
@@ -434,7 +440,7 @@ choose_known_true =
 
 abbrev choose_known_false : Case
 choose_known_false =
-    at_rule 16 4
+    at_rule ChooseKnown 4
     (holding 6 (
     number 1 i1 0
     ∷ source 2 i8
@@ -451,7 +457,7 @@ choose_known_false =
 
 abbrev choose_truth_itself : Case
 choose_truth_itself =
-    at_rule 17 4
+    at_rule ChooseTruth 4
     (holding 6 (
     source 1 i1
     ∷ number 2 i1 1
@@ -468,7 +474,7 @@ choose_truth_itself =
 
 abbrev choose_truth_wider : Case
 choose_truth_wider =
-    at_rule 17 4
+    at_rule ChooseTruth 4
     (holding 6 (
     source 1 i1
     ∷ number 2 i8 1
@@ -480,7 +486,7 @@ choose_truth_wider =
 
 abbrev choose_opposite_opposite : Case
 choose_opposite_opposite =
-    at_rule 18 6
+    at_rule ChooseOpposite 6
     (holding 7 (
     source 1 i1
     ∷ number 2 i1 1
@@ -500,7 +506,7 @@ choose_opposite_opposite =
 
 abbrev expand_min_max_maxui : Case
 expand_min_max_maxui =
-    at_rule 25 3
+    at_rule ExpandMinMax 3
     (holding 5 (
     source 1 i8
     ∷ source 2 i8
@@ -517,7 +523,7 @@ expand_min_max_maxui =
 
 abbrev expand_difference_index : Case
 expand_difference_index =
-    at_rule 26 3
+    at_rule ExpandDifference 3
     (holding 5 (
     source 1 Index
     ∷ source 2 Index
@@ -537,7 +543,7 @@ expand_difference_index =
 
 abbrev expand_remainder_remsi : Case
 expand_remainder_remsi =
-    at_rule 27 3
+    at_rule ExpandRemainder 3
     (holding 5 (
     source 1 i8
     ∷ source 2 i8
@@ -554,14 +560,14 @@ expand_remainder_remsi =
     ∷ [])))
 
 abbrev erase_dead_root : Case
-erase_dead_root = at_rule 1 0 (holding 2 (source 1 i32 ∷ [])) none
+erase_dead_root = at_rule EraseDead 0 (holding 2 (source 1 i32 ∷ [])) none
 
 abbrev erase_dead_not_there : Case
-erase_dead_not_there = at_rule 1 7 (holding 2 (source 1 i32 ∷ [])) none
+erase_dead_not_there = at_rule EraseDead 7 (holding 2 (source 1 i32 ∷ [])) none
 
 abbrev erase_dead_past_the_last_id : Case
 erase_dead_past_the_last_id =
-    at_rule 1 2
+    at_rule EraseDead 2
     (holding 4294967295 (
     source 1 i32
     ∷ plain 2 (codes "arith.addi") (Result 1 0 ∷ Result 1 0 ∷ []) (i32 ∷ [])
@@ -570,7 +576,7 @@ erase_dead_past_the_last_id =
 
 abbrev cancel_itself_last_id : Case
 cancel_itself_last_id =
-    at_rule 7 2
+    at_rule CancelItself 2
     (holding 4294967294 (
     source 1 i8
     ∷ plain 2 (codes "arith.xori") (Result 1 0 ∷ Result 1 0 ∷ []) (i8 ∷ [])
@@ -584,7 +590,7 @@ cancel_itself_last_id =
 
 abbrev cancel_itself_past_the_last_id : Case
 cancel_itself_past_the_last_id =
-    at_rule 7 2
+    at_rule CancelItself 2
     (holding 4294967295 (
     source 1 i8
     ∷ plain 2 (codes "arith.xori") (Result 1 0 ∷ Result 1 0 ∷ []) (i8 ∷ [])
@@ -594,7 +600,7 @@ cancel_itself_past_the_last_id =
 
 abbrev expand_min_max_second_past_the_last_id : Case
 expand_min_max_second_past_the_last_id =
-    at_rule 25 3
+    at_rule ExpandMinMax 3
     (holding 4294967294 (
     source 1 i8
     ∷ source 2 i8

@@ -13,6 +13,7 @@ use Rattle.patterns_laws.specs.integers.Arithmetic as arithmetic
 use Rattle.patterns_laws.specs.integers.Folds as folds
 use Rattle.patterns_laws.specs.Made.{i1, i64}
 use Rattle.patterns_laws.specs.Words as named
+use Rattle.patterns_base.specs.declared.rule.Rule.TheVariants.{LowerIndex, LowerLoop, LowerChoice}
 use Rattle.patterns_base.specs.Looks.{is_clean, may_go, known}
 use Rattle.patterns_base.specs.Casting.{resizing}
 use Rattle.patterns_base.specs.Rules.{rule}
@@ -21,7 +22,7 @@ use Rattle.patterns_base.proofs.Small.{i8, Case, at_rule, answer, body, holding,
 
 abbrev lower_index_sum : Case
 lower_index_sum =
-    at_rule 28 2
+    at_rule LowerIndex 2
     (holding 4 (
     source 1 Index
     ∷ whole 2 (codes "arith.addi") (Result 1 0 ∷ Result 1 0 ∷ []) (Index ∷ []) ((codes "overflowFlags", Overflow false true) ∷ []) ((codes "note", Flag) ∷ []) no_regions
@@ -38,7 +39,7 @@ lower_index_sum =
 
 abbrev lower_index_constant : Case
 lower_index_constant =
-    at_rule 28 1
+    at_rule LowerIndex 1
     (holding 3 (
     number 1 Index 18446744073709551615
     ∷ user 2 (Result 1 0)
@@ -51,7 +52,7 @@ lower_index_constant =
 
 abbrev lower_index_comparison : Case
 lower_index_comparison =
-    at_rule 28 2
+    at_rule LowerIndex 2
     (holding 4 (
     source 1 Index
     ∷ compared 2 2 (Result 1 0) (Result 1 0)
@@ -67,7 +68,7 @@ lower_index_comparison =
 
 abbrev lower_index_choice : Case
 lower_index_choice =
-    at_rule 28 3
+    at_rule LowerIndex 3
     (holding 5 (
     source 1 i1
     ∷ source 2 Index
@@ -86,7 +87,7 @@ lower_index_choice =
 
 abbrev lower_index_no_index : Case
 lower_index_no_index =
-    at_rule 28 2
+    at_rule LowerIndex 2
     (holding 4 (
     source 1 i8
     ∷ plain 2 (codes "arith.addi") (Result 1 0 ∷ Result 1 0 ∷ []) (i8 ∷ [])
@@ -96,7 +97,7 @@ lower_index_no_index =
 
 abbrev lower_loop_loop : Case
 lower_loop_loop =
-    at_rule 29 3
+    at_rule LowerLoop 3
     (holding 7 (
     source 1 Index
     ∷ source 2 i8
@@ -128,7 +129,7 @@ lower_loop_loop =
 
 abbrev lower_loop_no_index : Case
 lower_loop_no_index =
-    at_rule 29 2
+    at_rule LowerLoop 2
     (holding 4 (
     source 1 i8
     ∷ whole 2 (codes "scf.for") (Result 1 0 ∷ Result 1 0 ∷ Result 1 0 ∷ []) [] [] []
@@ -138,7 +139,7 @@ lower_loop_no_index =
 
 abbrev lower_choice_if : Case
 lower_choice_if =
-    at_rule 30 3
+    at_rule LowerChoice 3
     (holding 8 (
     source 1 i1
     ∷ source 2 Index
@@ -167,7 +168,7 @@ lower_choice_if =
 
 abbrev lower_choice_no_index : Case
 lower_choice_no_index =
-    at_rule 30 2
+    at_rule LowerChoice 2
     (holding 4 (
     source 1 i1
     ∷ whole 2 (codes "scf.if") (Result 1 0 ∷ []) [] [] []

@@ -12,6 +12,9 @@ use Rattle.rewriter_machine.specs.Contents.{Edit}
 use Rattle.rewriter_machine.specs.Edits.{Make}
 use Rattle.patterns_laws.specs.Keeps.{given}
 use Rattle.patterns_laws.specs.Words.{asking, dividing}
+use Rattle.patterns_base.specs.declared.rule.Rule.{Rule}
+use Rattle.patterns_base.specs.declared.rule.Rule.TheVariants.{FoldToConstant, ExpandMinMax, ExpandDifference}
+use Rattle.patterns_base.specs.declared.rule.Rule.TheVariants.{ExpandRemainder, LowerIndex, LowerLoop, LowerChoice}
 use Rattle.patterns_base.specs.Looks.{Ended, when, two, body}
 use Rattle.patterns_base.specs.Makes.{made_by}
 use Rattle.patterns_base.specs.Folding.{folded_to, fold_to_constant, expand_min_max, expand_difference, expand_remainder}
@@ -93,19 +96,11 @@ module _ (t : Operation) (n : ℕ) (front : Place) (o : Operation) where
 
 pub converting_rules_make : ConvertingRulesMake
 unfolding rule
-converting_rules_make = (
-  λ t n front o. (makes_fold_to_constant t n front o).each,
-  (
-    λ t n front o. (makes_expand_min_max t n front o).each,
-    (
-      λ t n front o. (makes_expand_difference t n front o).each,
-      (
-        λ t n front o. (makes_expand_remainder t n front o).each,
-        (
-          λ t n front o. (makes_lower_index t n front o).each,
-          (λ t n front o. (makes_lower_loop t n front o).each, (λ t n front o. (makes_lower_choice t n front o).each, tt)),
-        ),
-      ),
-    ),
-  ),
-)
+converting_rules_make FoldToConstant t n front o es listed = (makes_fold_to_constant t n front o).each es
+converting_rules_make ExpandMinMax t n front o es listed = (makes_expand_min_max t n front o).each es
+converting_rules_make ExpandDifference t n front o es listed = (makes_expand_difference t n front o).each es
+converting_rules_make ExpandRemainder t n front o es listed = (makes_expand_remainder t n front o).each es
+converting_rules_make LowerIndex t n front o es listed = (makes_lower_index t n front o).each es
+converting_rules_make LowerLoop t n front o es listed = (makes_lower_loop t n front o).each es
+converting_rules_make LowerChoice t n front o es listed = (makes_lower_choice t n front o).each es
+converting_rules_make _ t n front o es listed = absurd (grind arith)

@@ -13,6 +13,8 @@ use Rattle.patterns_laws.specs.integers.Arithmetic as arithmetic
 use Rattle.patterns_laws.specs.integers.Folds as folds
 use Rattle.patterns_laws.specs.Made.{i1, i64}
 use Rattle.patterns_laws.specs.Words as named
+use Rattle.patterns_base.specs.declared.rule.Rule.TheVariants.{ExtendExtension, CutCast, CastBack, OpenBranch}
+use Rattle.patterns_base.specs.declared.rule.Rule.TheVariants.{OpenLoop, StopLoop}
 use Rattle.patterns_base.specs.Looks.{is_clean, may_go, known}
 use Rattle.patterns_base.specs.Casting.{resizing}
 use Rattle.patterns_base.specs.Rules.{rule}
@@ -21,7 +23,7 @@ use Rattle.patterns_base.proofs.Small.{i8, i16, i32, i63, i65, Case, at_rule, an
 
 abbrev extend_extension_signed_of_unsigned : Case
 extend_extension_signed_of_unsigned =
-    at_rule 19 3
+    at_rule ExtendExtension 3
     (holding 5 (
     source 1 i8
     ∷ plain 2 (codes "arith.extui") (Result 1 0 ∷ []) (i16 ∷ [])
@@ -37,7 +39,7 @@ extend_extension_signed_of_unsigned =
 
 abbrev extend_extension_unsigned_of_signed : Case
 extend_extension_unsigned_of_signed =
-    at_rule 19 3
+    at_rule ExtendExtension 3
     (holding 5 (
     source 1 i8
     ∷ plain 2 (codes "arith.extsi") (Result 1 0 ∷ []) (i16 ∷ [])
@@ -48,7 +50,7 @@ extend_extension_unsigned_of_signed =
 
 abbrev cut_cast_cut_twice : Case
 cut_cast_cut_twice =
-    at_rule 20 3
+    at_rule CutCast 3
     (holding 5 (
     source 1 i32
     ∷ plain 2 (codes "arith.trunci") (Result 1 0 ∷ []) (i16 ∷ [])
@@ -64,7 +66,7 @@ cut_cast_cut_twice =
 
 abbrev cut_cast_back : Case
 cut_cast_back =
-    at_rule 20 3
+    at_rule CutCast 3
     (holding 5 (
     source 1 i8
     ∷ plain 2 (codes "arith.extsi") (Result 1 0 ∷ []) (i16 ∷ [])
@@ -79,7 +81,7 @@ cut_cast_back =
 
 abbrev cut_cast_another_width : Case
 cut_cast_another_width =
-    at_rule 20 3
+    at_rule CutCast 3
     (holding 5 (
     source 1 i8
     ∷ plain 2 (codes "arith.extsi") (Result 1 0 ∷ []) (i32 ∷ [])
@@ -90,7 +92,7 @@ cut_cast_another_width =
 
 abbrev cast_back_back_to_64 : Case
 cast_back_back_to_64 =
-    at_rule 21 3
+    at_rule CastBack 3
     (holding 5 (
     source 1 i64
     ∷ plain 2 (codes "arith.index_cast") (Result 1 0 ∷ []) (Index ∷ [])
@@ -105,7 +107,7 @@ cast_back_back_to_64 =
 
 abbrev rule_cast_back_65_bits : Case
 rule_cast_back_65_bits =
-    at_rule 21 3
+    at_rule CastBack 3
     (holding 5 (
     source 1 i65
     ∷ plain 2 (codes "arith.index_cast") (Result 1 0 ∷ []) (Index ∷ [])
@@ -116,7 +118,7 @@ rule_cast_back_65_bits =
 
 abbrev cast_back_index_through_65 : Case
 cast_back_index_through_65 =
-    at_rule 21 3
+    at_rule CastBack 3
     (holding 5 (
     source 1 Index
     ∷ plain 2 (codes "arith.index_castui") (Result 1 0 ∷ []) (i65 ∷ [])
@@ -131,7 +133,7 @@ cast_back_index_through_65 =
 
 abbrev cast_back_index_through_63 : Case
 cast_back_index_through_63 =
-    at_rule 21 3
+    at_rule CastBack 3
     (holding 5 (
     source 1 Index
     ∷ plain 2 (codes "arith.index_cast") (Result 1 0 ∷ []) (i63 ∷ [])
@@ -142,7 +144,7 @@ cast_back_index_through_63 =
 
 abbrev cast_back_unrealized : Case
 cast_back_unrealized =
-    at_rule 21 3
+    at_rule CastBack 3
     (holding 5 (
     source 1 i64
     ∷ bridged 2 Index (Result 1 0)
@@ -157,7 +159,7 @@ cast_back_unrealized =
 
 abbrev cast_back_unrealized_same : Case
 cast_back_unrealized_same =
-    at_rule 21 2
+    at_rule CastBack 2
     (holding 4 (
     source 1 i64
     ∷ bridged 2 i64 (Result 1 0)
@@ -170,7 +172,7 @@ cast_back_unrealized_same =
 
 abbrev open_branch_then : Case
 open_branch_then =
-    at_rule 22 3
+    at_rule OpenBranch 3
     (holding 9 (
     number 1 i1 1
     ∷ source 2 i8
@@ -192,7 +194,7 @@ open_branch_then =
 
 abbrev open_branch_no_else : Case
 open_branch_no_else =
-    at_rule 22 2
+    at_rule OpenBranch 2
     (holding 5 (
     number 1 i1 0
     ∷ whole 2 (codes "scf.if") (Result 1 0 ∷ []) [] [] []
@@ -205,7 +207,7 @@ open_branch_no_else =
 
 abbrev open_loop_never : Case
 open_loop_never =
-    at_rule 23 5
+    at_rule OpenLoop 5
     (holding 9 (
     number 1 i8 5
     ∷ number 2 i8 251
@@ -228,7 +230,7 @@ open_loop_never =
 
 abbrev open_loop_once : Case
 open_loop_once =
-    at_rule 23 5
+    at_rule OpenLoop 5
     (holding 9 (
     number 1 i8 100
     ∷ number 2 i8 127
@@ -252,7 +254,7 @@ open_loop_once =
 
 abbrev open_loop_once_hands_on_argument : Case
 open_loop_once_hands_on_argument =
-    at_rule 23 5
+    at_rule OpenLoop 5
     (holding 9 (
     number 1 Index 0
     ∷ number 2 Index 1
@@ -276,7 +278,7 @@ open_loop_once_hands_on_argument =
 
 abbrev open_loop_twice : Case
 open_loop_twice =
-    at_rule 23 5
+    at_rule OpenLoop 5
     (holding 9 (
     number 1 i8 0
     ∷ number 2 i8 2
@@ -293,7 +295,7 @@ open_loop_twice =
 
 abbrev open_loop_step_below_zero : Case
 open_loop_step_below_zero =
-    at_rule 23 5
+    at_rule OpenLoop 5
     (holding 9 (
     number 1 i8 0
     ∷ number 2 i8 2
@@ -310,7 +312,7 @@ open_loop_step_below_zero =
 
 abbrev stop_loop_false : Case
 stop_loop_false =
-    at_rule 24 2
+    at_rule StopLoop 2
     (holding 8 (
     source 1 i8
     ∷ whole 2 (codes "scf.while") (Result 1 0 ∷ []) (i8 ∷ []) [] []
@@ -330,7 +332,7 @@ stop_loop_false =
 
 abbrev stop_loop_true : Case
 stop_loop_true =
-    at_rule 24 2
+    at_rule StopLoop 2
     (holding 8 (
     source 1 i8
     ∷ whole 2 (codes "scf.while") (Result 1 0 ∷ []) (i8 ∷ []) [] []

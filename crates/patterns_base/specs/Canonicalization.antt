@@ -74,7 +74,8 @@ most_rewrites = 1000000
 
 -- at most so many rewrites of a module
 unfoldable pub canonicalization_of : ℕ → Module → Canonical
-canonicalization_of limit m = if nat_le 1 limit && nat_le limit most_rewrites then canonical_from limit 0 m else stopped BadLimit
+canonicalization_of limit m =
+    if nat_le 1 limit && nat_le limit most_rewrites then canonical_from limit 0 m else stopped BadLimit
 
 -- those of the table for a name
 abbrev pub greedy_rules_for : List ℕ → List Rule
@@ -82,4 +83,5 @@ greedy_rules_for name = filter is_canonical (rules_for name)
 
 -- that no others need be tried
 abbrev pub TableSuffices : Type 0
-TableSuffices = (m : Module) (x : ℕ) (o : Operation) → find x m.tree ≡ Some o → lowest m x ≡ first_rule (greedy_rules_for (head o).name) m x
+TableSuffices = (m : Module) (x : ℕ) (o : Operation) → find x m.tree ≡ Some o
+    → lowest m x ≡ first_rule (greedy_rules_for (head o).name) m x

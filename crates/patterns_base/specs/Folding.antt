@@ -1,6 +1,7 @@
--- Rules 1 to 18, 25 to 27: on values, their constants and what they are computed from. An operation that a rule makes
--- stands in front of x; the first of them has the id n. In brackets stands where MLIR has the rule.
-use Rattle.std.specs.Prelude.{ℕ, ◌+◌, List, [], ◌∷◌, codes, map, Bool, ◌&&◌, ◌||◌, not, eqb, if◌then◌else◌, Option, Some, None}
+-- Rules on values, their constants and what they are computed from, and those that expand. An operation that a rule
+-- makes stands in front of x; the first of them has the id n. In brackets stands where MLIR has the rule.
+use Rattle.std.specs.Prelude.{ℕ, ◌+◌, List, [], ◌∷◌, codes, map, Bool, ◌&&◌, ◌||◌, not, eqb, if◌then◌else◌, Option}
+use Rattle.std.specs.Prelude.{Some, None}
 use Rattle.std.specs.List.{list_all}
 use Rattle.ir_types.specs.Readings.{type_width}
 use Rattle.ir_types.specs.Terms.{TypeTerm, IntegerOf}
@@ -18,8 +19,10 @@ use Rattle.rewriter_machine.specs.Contents.{Edit}
 use Rattle.rewriter_machine.specs.Edits.{Make, Erase, SetOperand, SetAttr}
 use Rattle.patterns_laws.specs.Made.{i1, i64, constant, binary, comparison, choice}
 use Rattle.patterns_laws.specs.Keeps.{given, holds_of_itself, mirrored}
-use Rattle.patterns_laws.specs.Words.{named, among, swapping, ignoring_zero, ignoring_one, cancelling, keeping, remainders, regrouping, asking, dividing}
-use Rattle.patterns_base.specs.Looks.{Header, Two, Three, when, may_go, source, is_constant, known, is_known, is_number, passes, two, three, predicate}
+use Rattle.patterns_laws.specs.Words.{named, among, swapping, ignoring_zero, ignoring_one, cancelling, keeping}
+use Rattle.patterns_laws.specs.Words.{remainders, regrouping, asking, dividing}
+use Rattle.patterns_base.specs.Looks.{Header, Two, Three, when, may_go, source, is_constant, known, is_known}
+use Rattle.patterns_base.specs.Looks.{is_number, passes, two, three, predicate}
 use Rattle.patterns_base.specs.Makes.{give, give_new, give_constant}
 
 -- whether a known value has all bits set
@@ -57,7 +60,8 @@ module _ (t : Operation) (n : ℕ) (front : Place) (o : Operation) where
 
   -- `fold-to-constant`: no constant, and folds over its constant operands, then the constant (`Operation::fold`)
   abbrev pub fold_to_constant : Option (List Edit)
-  fold_to_constant = when (not (named (codes "arith.constant") h.name) && list_all may_read h.operands) (folded_to h.results (fold_of h.name h.properties (map (known t) h.operands) h.results))
+  fold_to_constant = when (not (named (codes "arith.constant") h.name) && list_all may_read h.operands)
+      (folded_to h.results (fold_of h.name h.properties (map (known t) h.operands) h.results))
 
   -- both operands swapped in place
   abbrev pub swap : Two → List Edit
@@ -81,11 +85,13 @@ module _ (t : Operation) (n : ℕ) (front : Place) (o : Operation) where
 
   -- `drop-all-ones`: all ones second, then the first (`AndIOp::fold`)
   abbrev pub drop_all_ones : Option (List Edit)
-  drop_all_ones = on_two (λ p. when (named (codes "arith.andi") p.name && passes (is_all_ones p.ty) (known t p.second)) (Some (give x p.first)))
+  drop_all_ones = on_two (λ p.
+      when (named (codes "arith.andi") p.name && passes (is_all_ones p.ty) (known t p.second)) (Some (give x p.first)))
 
   -- `cancel-itself`: a value and itself, then 0 (`SubIOp::fold`, `XOrIOp::fold`)
   abbrev pub cancel_itself : Option (List Edit)
-  cancel_itself = on_two (λ p. when (among cancelling p.name && same_value p.first p.second) (Some (give_constant front n x p.ty 0)))
+  cancel_itself = on_two (λ p.
+      when (among cancelling p.name && same_value p.first p.second) (Some (give_constant front n x p.ty 0)))
 
   -- `keep-itself`: a value and itself, then the value (`OpTrait::IsIdempotent`, `MaxSIOp::fold` and its like)
   abbrev pub keep_itself : Option (List Edit)
@@ -93,21 +99,27 @@ module _ (t : Operation) (n : ℕ) (front : Place) (o : Operation) where
 
   -- `zero-remainder`: a remainder by 1, then 0 (`RemSIOp::fold`, `RemUIOp::fold`)
   abbrev pub zero_remainder : Option (List Edit)
-  zero_remainder = on_two (λ p. when (among remainders p.name && is_number t 1 p.second) (Some (give_constant front n x p.ty 0)))
+  zero_remainder =
+      on_two (λ p. when (among remainders p.name && is_number t 1 p.second) (Some (give_constant front n x p.ty 0)))
 
   -- the constant c op d, and a op it
   abbrev pub regrouped : Two → Value → Known → Known → Option (List Edit)
-  regrouped p a c d = given (fold_of p.name [] (Some c ∷ Some d ∷ []) (p.ty ∷ [])) (λ k. Some (Make front (constant p.ty k.1) ∷ give_new front (n + 1) x (binary p.name p.ty a (Result n 0))))
+  regrouped p a c d = given (fold_of p.name [] (Some c ∷ Some d ∷ []) (p.ty ∷ []))
+      (λ k. Some (Make front (constant p.ty k.1) ∷ give_new front (n + 1) x (binary p.name p.ty a (Result n 0))))
 
-  -- `regroup-constants`: (a op c) op d, with constants c and d, then a op (c op d) (`AddIAddConstant`, `MulIMulIConstant`)
+  -- `regroup-constants`: (a op c) op d, with constants c and d, then a op (c op d) (`AddIAddConstant`,
+  -- `MulIMulIConstant`)
   abbrev pub regroup_constants : Option (List Edit)
   regroup_constants = on_two (λ p. when (among regrouping p.name)
-      (given (known t p.second) (λ d. given (source t p.name p.first) (λ y. given (two y) (λ q. given (known t q.second) (λ c. regrouped p q.first c d))))))
+      (given (known t p.second) (λ d. given (source t p.name p.first) (λ y. given (two y) (λ q.
+      given (known t q.second) (λ c. regrouped p q.first c d))))))
 
   -- `add-negative`: a - c, with a constant c, then a + (-c)
   abbrev pub add_negative : Option (List Edit)
   add_negative = on_two (λ p. when (named (codes "arith.subi") p.name)
-      (given (known t p.second) (λ c. Some (Make front (constant p.ty (difference_of (type_width p.ty) 0 c.1)) ∷ give_new front (n + 1) x (binary (codes "arith.addi") p.ty p.first (Result n 0))))))
+      (given (known t p.second) (λ c.
+      Some (Make front (constant p.ty (difference_of (type_width p.ty) 0 c.1))
+      ∷ give_new front (n + 1) x (binary (codes "arith.addi") p.ty p.first (Result n 0))))))
 
   -- something made of a comparison and its predicate's number
   abbrev pub on_comparison : (Two → ℕ → Option (List Edit)) → Option (List Edit)
@@ -115,15 +127,20 @@ module _ (t : Operation) (n : ℕ) (front : Place) (o : Operation) where
 
   -- `compare-itself`: a comparison of a value and itself, then true or false (`CmpIOp::fold`)
   abbrev pub compare_itself : Option (List Edit)
-  compare_itself = on_comparison (λ p asks. when (same_value p.first p.second) (Some (give_constant front n x p.ty (holds_of_itself asks))))
+  compare_itself = on_comparison
+      (λ p asks. when (same_value p.first p.second) (Some (give_constant front n x p.ty (holds_of_itself asks))))
 
-  -- `mirror-comparison`: a comparison of a constant first and none second, swapped and mirrored in place (`CmpIOp::fold`)
+  -- `mirror-comparison`: a comparison of a constant first and none second, swapped and mirrored in place
+  -- (`CmpIOp::fold`)
   abbrev pub mirror_comparison : Option (List Edit)
-  mirror_comparison = on_comparison (λ p asks. when (is_to_swap p) (Some (SetAttr x (codes "predicate") (IntegerOf i64 (mirrored asks)) ∷ swap p)))
+  mirror_comparison = on_comparison
+      (λ p asks. when (is_to_swap p) (Some (SetAttr x (codes "predicate") (IntegerOf i64 (mirrored asks)) ∷ swap p)))
 
   -- `compare-zero`: a comparison with 0, which nothing is below, then true or false
   abbrev pub compare_zero : Option (List Edit)
-  compare_zero = on_comparison (λ p asks. when (is_number t 0 p.second && (eqb asks 6 || eqb asks 9)) (Some (give_constant front n x p.ty (if eqb asks 9 then 1 else 0))))
+  compare_zero = on_comparison (λ p asks.
+      when (is_number t 0 p.second && (eqb asks 6 || eqb asks 9))
+      (Some (give_constant front n x p.ty (if eqb asks 9 then 1 else 0))))
 
   -- something made of a choice
   abbrev pub on_choice : (Three → Option (List Edit)) → Option (List Edit)
@@ -139,16 +156,22 @@ module _ (t : Operation) (n : ℕ) (front : Place) (o : Operation) where
 
   -- `choose-truth`: a choice between true and false, then the condition (`SelectOp::fold`)
   abbrev pub choose_truth : Option (List Edit)
-  choose_truth = on_choice (λ p. when (same_type p.ty i1 && (is_number t 1 p.second && is_number t 0 p.third)) (Some (give x p.first)))
+  choose_truth = on_choice
+      (λ p. when (same_type p.ty i1 && (is_number t 1 p.second && is_number t 0 p.third)) (Some (give x p.first)))
 
-  -- `choose-opposite`: a choice by the opposite of a condition, by the condition with both swapped in place (`SelectNotCond`)
+  -- `choose-opposite`: a choice by the opposite of a condition, by the condition with both swapped in place
+  -- (`SelectNotCond`)
   abbrev pub choose_opposite : Option (List Edit)
-  choose_opposite = on_choice (λ p. given (source t (codes "arith.xori") p.first) (λ y. given (two y) (λ q. when (is_number t 1 q.second)
+  choose_opposite = on_choice (λ p.
+      given (source t (codes "arith.xori") p.first) (λ y. given (two y) (λ q. when (is_number t 1 q.second)
       (Some (SetOperand x 0 q.first ∷ SetOperand x 1 p.third ∷ SetOperand x 2 p.second ∷ [])))))
 
-  -- `expand-min-max`: the greater or the lesser, then a comparison and a choice (`MaxMinIOpConverter` of `arith-expand`)
+  -- `expand-min-max`: the greater or the lesser, then a comparison and a choice (`MaxMinIOpConverter` of
+  -- `arith-expand`)
   abbrev pub expand_min_max : Option (List Edit)
-  expand_min_max = on_two (λ p. given (beside p.name asking) (λ asks. Some (Make front (comparison asks p.first p.second) ∷ give_new front (n + 1) x (choice p.ty (Result n 0) p.first p.second))))
+  expand_min_max = on_two (λ p. given (beside p.name asking) (λ asks.
+      Some (Make front (comparison asks p.first p.second)
+      ∷ give_new front (n + 1) x (choice p.ty (Result n 0) p.first p.second))))
 
   -- `expand-difference`: a - b, then a + ((b xor -1) + 1)
   abbrev pub expand_difference : Option (List Edit)

@@ -1,6 +1,7 @@
--- Rules 22 to 24: branches that are known, and loops that are gone through once or not at all. In brackets stands
--- where MLIR has the rule.
-use Rattle.std.specs.Prelude.{ℕ, List, [], ◌∷◌, ◌++◌, codes, map, eqb, Bool, ◌&&◌, pos, ◌+ℤ◌, int_lt, int_le, if◌then◌else◌, ℤ, Option, Some, None}
+-- Rules on branches that are known, and on loops that are gone through once or not at all. In brackets stands where
+-- MLIR has the rule.
+use Rattle.std.specs.Prelude.{ℕ, List, [], ◌∷◌, ◌++◌, codes, map, eqb, Bool, ◌&&◌, pos, ◌+ℤ◌, int_lt, int_le}
+use Rattle.std.specs.Prelude.{if◌then◌else◌, ℤ, Option, Some, None}
 use Rattle.ir_types.specs.Readings.{signed_of}
 use Rattle.ir_types.specs.Bits.{width_of}
 use Rattle.ir_types.specs.Terms.{TypeTerm, AttrTerm}
@@ -54,7 +55,8 @@ module _ (t : Operation) (front : Place) (o : Operation) where
 
   -- the region that a known condition chooses
   abbrev pub by_condition : List Value → Option (List Edit)
-  by_condition (c ∷ []) = given (known t c) (λ k. let r = if eqb k.1 0 then 1 else 0 in given (region_at r (regions o)) (λ g. chosen g r))
+  by_condition (c ∷ []) =
+      given (known t c) (λ k. let r = if eqb k.1 0 then 1 else 0 in given (region_at r (regions o)) (λ g. chosen g r))
   by_condition _ = None
 
   -- `open-branch`: an if by a known condition, then the block that it chooses (`RemoveStaticCondition`)
@@ -77,7 +79,8 @@ module _ (t : Operation) (front : Place) (o : Operation) where
   -- which of both known bounds and a known step tell; where lower isn't below upper, the step isn't looked at
   abbrev pub by_bounds : Loop → Option (List Edit)
   by_bounds l = given (known t l.lower) (λ low. given (known t l.upper) (λ high.
-      if int_lt (reading low) (reading high) then given (known t l.step) (λ step. when (goes_once (reading low) (reading high) (reading step)) (once l))
+      if int_lt (reading low) (reading high)
+      then given (known t l.step) (λ step. when (goes_once (reading low) (reading high) (reading step)) (once l))
       else Some (never l)))
 
   -- `open-loop`: a loop that is gone through once or never (`SimplifyTrivialLoops`)

@@ -24,13 +24,16 @@ pub data Rewrite : Type 0 where
 
 -- the edits of rule r at operation x, which is clean and not the root
 unfoldable pub edits_of : Rule → Module → ℕ → Option (List Edit)
-edits_of r m x = given (find x m.tree) (λ o. given (front_of x m.tree) (λ front. when (is_clean m.tree (head o)) (rule r m.tree m.next front o)))
+edits_of r m x = given (find x m.tree)
+    (λ o. given (front_of x m.tree) (λ front. when (is_clean m.tree (head o)) (rule r m.tree m.next front o)))
 
 -- what edits make of a module, where the operations with those that they make, and then the ids, are within their
 -- limits
 abbrev pub carried_out : List Edit → Module → Rewrite
 carried_out es m =
-    if nat_le (op_count m.tree + made_by es) most_ops then (if nat_le (m.next + made_by es) most_next then becomes (all_edited es m) else refused IdsExhausted) else refused Full
+    if nat_le (op_count m.tree + made_by es) most_ops
+    then (if nat_le (m.next + made_by es) most_next then becomes (all_edited es m) else refused IdsExhausted)
+    else refused Full
 
 -- what comes of a rule's edits, if there are some
 abbrev pub rewrite_by : Option (List Edit) → Module → Rewrite

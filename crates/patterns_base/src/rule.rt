@@ -1,6 +1,7 @@
 //! The rewrite rules by their names.
-ghost use Rattle.std.specs.Prelude.{◌≡◌, List, map, ℕ, length};
-ghost use Rattle.patterns_base.specs.RuleNames.{all_rules, by_number, by_word, is_canonical, is_converting, is_expanding, is_lowering, number_of, same_rule, word_of};
+ghost use Rattle.std.specs.Prelude.{◌≡◌};
+ghost use Rattle.patterns_base.specs.RuleNames.{all_rules, by_number, by_word, number_of, same_rule, word_of};
+ghost use Rattle.patterns_base.specs.RuleNames.{is_canonical, is_converting, is_expanding, is_lowering};
 
 /// A rewrite rule. Scripts name it by its number or its word; what it makes is its definition in `specs/Rules.antt`.
 #[derive(Clone, Copy, PartialEq, Eq)]
@@ -196,27 +197,15 @@ impl Rule {
     pub fn by_number(number: u32) -> Option<Rule>
         ensures { result ≡ by_number number }
     {
-        let mut rest = all_rules();
-        'rules: while let [rule, tail @ ..] = rest {
-            if u32::from(rule.number()) == number {
-                return Some(*rule);
-            }
-            rest = tail;
-        }
-        None
+        let mut rules = all_rules().iter().copied();
+        rules.find(|rule| u32::from(rule.number()) == number)
     }
 
     /// The rule of a word, if there is one.
     pub fn by_word(word: &[u8]) -> Option<Rule>
         ensures { result ≡ by_word word.now }
     {
-        let mut rest = all_rules();
-        'rules: while let [rule, tail @ ..] = rest {
-            if rule.word().as_bytes() == word {
-                return Some(*rule);
-            }
-            rest = tail;
-        }
-        None
+        let mut rules = all_rules().iter().copied();
+        rules.find(|rule| rule.word().as_bytes() == word)
     }
 }

@@ -1,4 +1,4 @@
--- Rules 4 to 6, 8, 15 to 17, 20 and 21: the result is given by a value that is there.
+-- Rules by which the result is given by a value that is there.
 use Rattle.std.proofs.Common.{◌≡◌, refl, ap, sym, ◌∙◌, subst, ℕ, ◌+◌, ◌≤◌, Bool, true, false, ◌&&◌, List, [], ◌∷◌, Option, Some, None, if◌then◌else◌, inl, inr}
 use Rattle.std.specs.Prelude.{codes, ◌==◌, nat_le}
 use Rattle.std.specs.Option.{option_eq}

@@ -1,4 +1,4 @@
--- Rules 1, 3, 13 and 18: an operation is erased, or changed in place.
+-- Rules that erase an operation, or change it in place.
 use Rattle.std.proofs.Common.{◌≡◌, refl, ap, sym, ◌∙◌, subst, ℕ, ◌+◌, Bool, true, false, ◌&&◌, not, cond, List, [], ◌∷◌, ◌++◌, length, Option, Some, None, inl, inr, eqb, eq-eqb, eqb-true, if◌then◌else◌}
 use Rattle.std.specs.Prelude.{codes, is_some, nat_lt, option_map}
 use Rattle.std.specs.List.{list_all}

@@ -1,4 +1,4 @@
--- Rules 22 to 24: blocks come in front of the operation that has them, or go with it.
+-- Branches and loops that are known: blocks come in front of the operation that has them, or go with it.
 use Rattle.std.proofs.Common.{◌≡◌, refl, ap, sym, ◌∙◌, subst, ℕ, ◌≤◌, Bool, true, false, List, [], ◌∷◌, length, map, Some, option_map, option_and_then, if◌then◌else◌, arith}
 use Rattle.std.specs.Prelude.{codes, eqb}
 use Rattle.std.proofs.lemmas.Slice.Eq.{bytes_eq-Decides}

@@ -1,7 +1,8 @@
--- Rewrites by the rules 1 to 24 are orderly.
+-- Rewrites by the rules of canonicalization are orderly.
 use Rattle.std.proofs.Common.{◌≡◌, refl, ap, sym, ◌∙◌, subst, ℕ, ◌+◌, ◌<◌, Bool, true, false, true≢false, eqb, eqb-true, List, [], ◌∷◌, ◌++◌, append-nil, Option, Some, None, inl, inr, cond, arith}
 use Rattle.std.specs.Prelude.{All, nat_le, option_map}
 use Rattle.std.specs.List.{IsDistinct}
+use Rattle.std.proofs.lemmas.List.Elements.{filter_passes}
 use Rattle.ir_types.specs.declared.refusal.Refusal.TheVariants.{Full, IdsExhausted}
 use Rattle.ir_tree.specs.declared.place.Place.{Place}
 use Rattle.ir_tree.specs.Tree.{head, regions}
@@ -15,7 +16,9 @@ use Rattle.ir_tree_laws.proofs.Formed.{ids_below}
 use Rattle.ir_tree_laws.proofs.Shift.{own_distinct}
 use Rattle.ir_event.specs.Modules.{Module}
 use Rattle.rewriter_machine.specs.Contents.{Edit, all_edited}
-use Rattle.patterns_base.specs.Keeps.{given, Each}
+use Rattle.patterns_base.specs.declared.rule.Rule.{Rule}
+use Rattle.patterns_base.specs.RuleNames.{all_rules, is_canonical}
+use Rattle.patterns_base.specs.Keeps.{given}
 use Rattle.patterns_base.specs.Looks.{when, is_clean, in_front, front_of}
 use Rattle.patterns_base.specs.Makes.{made_by}
 use Rattle.patterns_base.specs.Rules.{rule}
@@ -28,11 +31,11 @@ use Rattle.patterns_orders.proofs.Edits.{Still, Opens, names, still_stays, opens
 use Rattle.patterns_orders.proofs.Nearby.{Near, widths}
 use Rattle.patterns_orders.proofs.Order.{Listed}
 use Rattle.patterns_orders.proofs.Rootless.{unplaced}
-use Rattle.patterns_orders.proofs.Rules.{Goes, Fine, all_fine}
+use Rattle.patterns_orders.proofs.Rules.{Goes, Fine, IsFine, all_fine}
 use Rattle.patterns_orders.proofs.Starts.{Between, between, start, wide, Opened, opened}
 
 -- edits of a rule at an operation
-record Planned (r : ℕ) (m : Module) (x : ℕ) (es : List Edit) : Type 0 where
+record Planned (r : Rule) (m : Module) (x : ℕ) (es : List Edit) : Type 0 where
   here : Operation
   place : Place
   found : find x m.tree ≡ Some here
@@ -43,7 +46,7 @@ when_passed : {X : Type 0} (b : Bool) (r : Option X) (y : X) → when b r ≡ So
 when_passed true r y e = e
 when_passed false r y e = absurd cc
 
-planned : (r : ℕ) (m : Module) (x : ℕ) (es : List Edit) → edits_of r m x ≡ Some es → Planned r m x es
+planned : (r : Rule) (m : Module) (x : ℕ) (es : List Edit) → edits_of r m x ≡ Some es → Planned r m x es
 unfolding edits_of
 planned r m x es e = go (find x m.tree) refl (front_of x m.tree) refl e
   where
@@ -105,7 +108,7 @@ module _ (m : Module) (d : HasDistinctIds m.tree) (below : All (λ y. y < m.next
       w : Opened x m.tree o (wide s.first s.rest)
       w = opened x m.tree o d f id (front_inner x m.tree place d p) s.number s.args s.first s.rest s.there
 
-  rewrite_orderly : (r : ℕ) → ((t : Operation) (n : ℕ) (place : Place) (o : Operation) → Fine place o (rule r t n place o)) → (n : Module) → rewrite_of r m x ≡ becomes n → Orderly x m n
+  rewrite_orderly : (r : Rule) → IsFine r → (n : Module) → rewrite_of r m x ≡ becomes n → Orderly x m n
   unfolding rewrite_of
   rewrite_orderly r fine n e = go (edits_of r m x) refl e
     where
@@ -115,7 +118,7 @@ module _ (m : Module) (d : HasDistinctIds m.tree) (below : All (λ y. y < m.next
           let p = planned r m x es k in
           subst (Orderly x m) (carried es m n e) (edits_orderly es p.here p.place p.found p.front ((fine m.tree m.next p.place p.here).each es p.by))
 
-  first_orderly : (rs : List ℕ) → Each (λ r. (t : Operation) (n : ℕ) (place : Place) (o : Operation) → Fine place o (rule r t n place o)) rs → (n : Module) → first_rule rs m x ≡ becomes n → Orderly x m n
+  first_orderly : (rs : List Rule) → All (λ r. is_canonical r ≡ true) rs → (n : Module) → first_rule rs m x ≡ becomes n → Orderly x m n
   unfolding first_rule
   first_orderly [] h n e = absurd cc
   first_orderly (r ∷ rs) h n e = go (rewrite_of r m x) refl (first_orderly rs h.1 n) e
@@ -123,7 +126,7 @@ module _ (m : Module) (d : HasDistinctIds m.tree) (below : All (λ y. y < m.next
       go : (a : Rewrite) → rewrite_of r m x ≡ a → (first_rule rs m x ≡ becomes n → Orderly x m n) → or_else a (first_rule rs m x) ≡ becomes n → Orderly x m n
       go none k later e = later e
       go (refused f) k later e = absurd cc
-      go (becomes p) k later e = rewrite_orderly r h.0 n (k ∙ e)
+      go (becomes p) k later e = rewrite_orderly r (all_fine r h.0) n (k ∙ e)
 
   pub lowest_orderly : (n : Module) → lowest m x ≡ becomes n → Orderly x m n
-  lowest_orderly n e = first_orderly greedy_rules all_fine n e
+  lowest_orderly n e = first_orderly greedy_rules (filter_passes is_canonical all_rules) n e

@@ -1,4 +1,4 @@
--- Each of the rules 1 to 24 makes edits near its operation.
+-- Each rule of canonicalization makes edits near its operation.
 use Rattle.std.proofs.Common.{◌≡◌, refl, ap, sym, ◌∙◌, subst, ℕ, List, [], ◌∷◌, ◌++◌, append_assoc, Bool, true, false, cond, eqb, Option, Some, None, inl, inr, ◌⊎◌}
 use Rattle.std.specs.Prelude.{map, codes, nat_le, ◌||◌}
 use Rattle.ir_types.specs.Readings.{type_width}
@@ -11,7 +11,16 @@ use Rattle.ir_tree_laws.specs.Values.{region_at}
 use Rattle.dialects_int.specs.Folds.{Known}
 use Rattle.rewriter_machine.specs.Contents.{Edit}
 use Rattle.rewriter_machine.specs.Edits.{Erase, SetOperand}
-use Rattle.patterns_base.specs.Keeps.{given, Each}
+use Rattle.patterns_base.specs.declared.rule.Rule.{Rule}
+use Rattle.patterns_base.specs.declared.rule.Rule.TheVariants.{EraseDead, FoldToConstant, SwapConstant, DropZero}
+use Rattle.patterns_base.specs.declared.rule.Rule.TheVariants.{DropOne, DropAllOnes, CancelItself, KeepItself}
+use Rattle.patterns_base.specs.declared.rule.Rule.TheVariants.{ZeroRemainder, RegroupConstants, AddNegative}
+use Rattle.patterns_base.specs.declared.rule.Rule.TheVariants.{CompareItself, MirrorComparison, CompareZero}
+use Rattle.patterns_base.specs.declared.rule.Rule.TheVariants.{ChooseSame, ChooseKnown, ChooseTruth, ChooseOpposite}
+use Rattle.patterns_base.specs.declared.rule.Rule.TheVariants.{ExtendExtension, CutCast, CastBack, OpenBranch}
+use Rattle.patterns_base.specs.declared.rule.Rule.TheVariants.{OpenLoop, StopLoop}
+use Rattle.patterns_base.specs.RuleNames.{is_canonical}
+use Rattle.patterns_base.specs.Keeps.{given}
 use Rattle.patterns_base.specs.Words.{named, among, extensions}
 use Rattle.patterns_base.specs.Looks.{Header, One, Two, Ended, when, is_clean, is_number, is_of_type, source, source_among, known, ended, ended_by, body, one, two, three, predicate}
 use Rattle.patterns_base.specs.Makes.{give, give_body, replacing, moving, results_from, arguments_from, replaced}
@@ -19,7 +28,6 @@ use Rattle.patterns_base.specs.Folding.{folded_to, regrouped, erase_dead, fold_t
 use Rattle.patterns_base.specs.Casting.{resizing, recast, unrealized, back_from, through_index, extend_extension, cut_cast, cast_back}
 use Rattle.patterns_base.specs.Opening.{Loop, opened, chosen, by_condition, never, by_bounds, by_end, loop_from, open_branch, open_loop, stop_loop}
 use Rattle.patterns_base.specs.Rules.{rule}
-use Rattle.patterns_base.specs.Canonicalization.{greedy_rules}
 use Rattle.patterns_orders.proofs.Edits.{Still, Opens, names}
 use Rattle.patterns_orders.proofs.Starts.{wide}
 
@@ -246,9 +254,33 @@ module _ (t : Operation) (n : ℕ) (place : Place) (o : Operation) where
   fine_stop_loop = tested place o _ _ (of_known place o (body t o 0) _ (λ e k. ends e k e.last.operands))
 
 -- a rule's edits are near its operation
-abbrev pub IsFine : ℕ → Type 0
+abbrev pub IsFine : Rule → Type 0
 IsFine r = (t : Operation) (n : ℕ) (place : Place) (o : Operation) → Fine place o (rule r t n place o)
 
-pub all_fine : Each (λ r. (t : Operation) (n : ℕ) (place : Place) (o : Operation) → Fine place o (rule r t n place o)) greedy_rules
+pub all_fine : (r : Rule) → is_canonical r ≡ true → IsFine r
 unfolding rule
-all_fine = (fine_erase_dead, (fine_fold_to_constant, (fine_swap_constant, (fine_drop_zero, (fine_drop_one, (fine_drop_all_ones, (fine_cancel_itself, (fine_keep_itself, (fine_zero_remainder, (fine_regroup_constants, (fine_add_negative, (fine_compare_itself, (fine_mirror_comparison, (fine_compare_zero, (fine_choose_same, (fine_choose_known, (fine_choose_truth, (fine_choose_opposite, (fine_extend_extension, (fine_cut_cast, (fine_cast_back, (λ t n place o. fine_open_branch t n place o, (λ t n place o. fine_open_loop t n place o, (λ t n place o. fine_stop_loop t n place o, tt))))))))))))))))))))))))
+all_fine EraseDead canonical t n place o = fine_erase_dead t n place o
+all_fine FoldToConstant canonical t n place o = fine_fold_to_constant t n place o
+all_fine SwapConstant canonical t n place o = fine_swap_constant t n place o
+all_fine DropZero canonical t n place o = fine_drop_zero t n place o
+all_fine DropOne canonical t n place o = fine_drop_one t n place o
+all_fine DropAllOnes canonical t n place o = fine_drop_all_ones t n place o
+all_fine CancelItself canonical t n place o = fine_cancel_itself t n place o
+all_fine KeepItself canonical t n place o = fine_keep_itself t n place o
+all_fine ZeroRemainder canonical t n place o = fine_zero_remainder t n place o
+all_fine RegroupConstants canonical t n place o = fine_regroup_constants t n place o
+all_fine AddNegative canonical t n place o = fine_add_negative t n place o
+all_fine CompareItself canonical t n place o = fine_compare_itself t n place o
+all_fine MirrorComparison canonical t n place o = fine_mirror_comparison t n place o
+all_fine CompareZero canonical t n place o = fine_compare_zero t n place o
+all_fine ChooseSame canonical t n place o = fine_choose_same t n place o
+all_fine ChooseKnown canonical t n place o = fine_choose_known t n place o
+all_fine ChooseTruth canonical t n place o = fine_choose_truth t n place o
+all_fine ChooseOpposite canonical t n place o = fine_choose_opposite t n place o
+all_fine ExtendExtension canonical t n place o = fine_extend_extension t n place o
+all_fine CutCast canonical t n place o = fine_cut_cast t n place o
+all_fine CastBack canonical t n place o = fine_cast_back t n place o
+all_fine OpenBranch canonical t n place o = fine_open_branch t n place o
+all_fine OpenLoop canonical t n place o = fine_open_loop t n place o
+all_fine StopLoop canonical t n place o = fine_stop_loop t n place o
+all_fine _ canonical t n place o = absurd cc

@@ -10,11 +10,14 @@ use Rattle.patterns_base.specs.Canonicalization.{lowest}
 -- the operations before x stay, and those that stay are in the order in which they were
 pub record Orderly (x : ℕ) (m n : Module) : Type 0 where
   pub stays : (y : ℕ) → precedes y x m.tree ≡ true → has_id y n.tree ≡ true
-  pub order : (a b : ℕ) → has_id a m.tree ≡ true → has_id b m.tree ≡ true → has_id a n.tree ≡ true → has_id b n.tree ≡ true → precedes a b n.tree ≡ precedes a b m.tree
+  pub order : (a b : ℕ) → has_id a m.tree ≡ true → has_id b m.tree ≡ true → has_id a n.tree ≡ true
+      → has_id b n.tree ≡ true → precedes a b n.tree ≡ precedes a b m.tree
 
--- in a module whose ids are distinct and below the next free one, the lowest rule of 1 to 24 at an operation leaves it so
+-- in a module whose ids are distinct and below the next free one, the lowest rule of canonicalization that applies at
+-- an operation leaves it so
 abbrev pub RewritesAreOrderly : Type 0
-RewritesAreOrderly = (m : Module) → HasDistinctIds m.tree → All (λ y. y < m.next) (ids m.tree) → (x : ℕ) (n : Module) → lowest m x ≡ becomes n → Orderly x m n
+RewritesAreOrderly = (m : Module) → HasDistinctIds m.tree → All (λ y. y < m.next) (ids m.tree) → (x : ℕ) (n : Module)
+    → lowest m x ≡ becomes n → Orderly x m n
 
 -- no rule applies at the root
 abbrev pub RootHasNone : Type 0

@@ -1,5 +1,5 @@
--- At an operation that isn't listed each rule of 1 to 24 applies where it applied.
-use Rattle.std.proofs.Common.{◌≡◌, refl, ap, sym, ◌∙◌, subst, ℕ, zero, suc, ◌≤◌, Bool, true, false, true≢false, cond, ◌&&◌, not, eqb, eqb-true, List, [], ◌∷◌, map, Option, Some, None, inl, inr, arith}
+-- At an operation that isn't listed each rule of canonicalization applies where it applied.
+use Rattle.std.proofs.Common.{◌≡◌, refl, ap, sym, ◌∙◌, subst, ℕ, zero, suc, Bool, true, false, true≢false, ◌&&◌, not, List, [], ◌∷◌, map, Option, Some, None, inl, inr}
 use Rattle.std.specs.Prelude.{option_map, option_and_then, is_some}
 use Rattle.ir_types.specs.Things.{Things}
 use Rattle.ir_types.specs.Terms.{TypeTerm, AttrTerm}
@@ -23,6 +23,15 @@ use Rattle.effects.specs.Effects.{effects}
 use Rattle.effects.specs.Dead.{is_unused, is_kept, may_go as may_be_missed}
 use Rattle.listeners_surroundings.specs.Surroundings.{SurroundingsOf, surroundings}
 use Rattle.patterns_laws.specs.Keeps.{given}
+use Rattle.patterns_base.specs.declared.rule.Rule.{Rule}
+use Rattle.patterns_base.specs.declared.rule.Rule.TheVariants.{EraseDead, FoldToConstant, SwapConstant, DropZero}
+use Rattle.patterns_base.specs.declared.rule.Rule.TheVariants.{DropOne, DropAllOnes, CancelItself, KeepItself}
+use Rattle.patterns_base.specs.declared.rule.Rule.TheVariants.{ZeroRemainder, RegroupConstants, AddNegative}
+use Rattle.patterns_base.specs.declared.rule.Rule.TheVariants.{CompareItself, MirrorComparison, CompareZero}
+use Rattle.patterns_base.specs.declared.rule.Rule.TheVariants.{ChooseSame, ChooseKnown, ChooseTruth, ChooseOpposite}
+use Rattle.patterns_base.specs.declared.rule.Rule.TheVariants.{ExtendExtension, CutCast, CastBack, OpenBranch}
+use Rattle.patterns_base.specs.declared.rule.Rule.TheVariants.{OpenLoop, StopLoop}
+use Rattle.patterns_base.specs.RuleNames.{is_canonical}
 use Rattle.patterns_base.specs.Looks.{Header, when, may_go, is_clean, front_of, giver, type_of}
 use Rattle.patterns_base.specs.Rules.{rule}
 use Rattle.patterns_base.specs.Rewrites.{edits_of}
@@ -36,7 +45,7 @@ use Rattle.patterns_touched.proofs.Reaching.{all_far}
 use Rattle.patterns_touched.proofs.Tracked.{effects_stay}
 use Rattle.patterns_touched.proofs.Usings.{unused_stays}
 use Rattle.patterns_touched.proofs.Lasting.{lasts_stay, unreached_all, last_in, same_lasts}
-use Rattle.patterns_touched.proofs.Rules.{when_alike, if_alike, same_fold_to_constant, same_swap_constant, same_drop_zero, same_drop_one, same_drop_all_ones, same_cancel_itself, same_keep_itself, same_zero_remainder, same_regroup_constants, same_add_negative, same_compare_itself, same_mirror_comparison, same_compare_zero, same_choose_same, same_choose_known, same_choose_truth, same_choose_opposite, same_extend_extension, same_cut_cast, same_cast_back}
+use Rattle.patterns_touched.proofs.Rules.{when_alike, same_fold_to_constant, same_swap_constant, same_drop_zero, same_drop_one, same_drop_all_ones, same_cancel_itself, same_keep_itself, same_zero_remainder, same_regroup_constants, same_add_negative, same_compare_itself, same_mirror_comparison, same_compare_zero, same_choose_same, same_choose_known, same_choose_truth, same_choose_opposite, same_extend_extension, same_cut_cast, same_cast_back}
 use Rattle.patterns_touched.proofs.Opened.{given_both, same_open_branch, same_open_loop, same_stop_loop}
 use Rattle.patterns_touched.proofs.Unlisted.{found_surroundings, surroundings_found, there_found, found_there, outer_some, last_header, clean_alike, heads_alike, head_id, shows_alike}
 
@@ -48,9 +57,6 @@ map_member : {X Y : Type 0} (f g : X → Y) (xs : List X) → map f xs ≡ map g
 map_member f g [] e x h = absurd h
 map_member f g (y ∷ ys) e x (inl i) = let k : f y ≡ g y = cc in ap f i ∙ k ∙ ap g (sym i)
 map_member f g (y ∷ ys) e x (inr h) = let k : map f ys ≡ map g ys = cc in map_member f g ys k x h
-
-skip_alike : {X Y : Type 0} (b : Bool) (p q : Option X) (r s : Option Y) → b ≡ false → Same q s → Same (cond b p q) (cond b r s)
-skip_alike b p q r s e h = ap (λ c. is_some (cond c p q)) e ∙ h ∙ sym (ap (λ c. is_some (cond c r s)) e)
 
 none_from : {X Y : Type 0} (a : Option X) (b : Option Y) → Same a b → a ≡ None → b ≡ None
 none_from a None e h = refl
@@ -255,54 +261,43 @@ module _ (shown : ℕ → List Value) (c : Things) (es : List Event) (m n : Modu
     fronts = outer_some t dn x ∙ ap (λ a. is_some (option_and_then (λ (s : SurroundingsOf (List ℕ) TypeTerm AttrTerm). s.outer) a)) own ∙ sym (outer_some u dm x)
 
     -- ---- the rules
-    apart : (r k : ℕ) → r ≤ 24 → 25 ≤ k → eqb r k ≡ false
-    apart r k l g = not_so (eqb r k) (λ e. let i = eqb-true r k e in omega (arith, l, g, i))
-
-    rules_alike : (r : ℕ) → r ≤ 24 → (f g : Place) → Same (rule r t n.next f o) (rule r u m.next g p)
+    rules_alike : (r : Rule) → is_canonical r ≡ true → (f g : Place) → Same (rule r t n.next f o) (rule r u m.next g p)
     unfolding rule
-    rules_alike r l f g =
-        let a = n.next in
-        let b = m.next in
-        if_alike (eqb r 1) (eqb r 1) _ _ _ _ refl (when_alike _ _ _ _ dead_alike refl)
-        (if_alike (eqb r 2) (eqb r 2) _ _ _ _ refl (same_fold_to_constant t u a b f g o p heads sees)
-        (if_alike (eqb r 3) (eqb r 3) _ _ _ _ refl (same_swap_constant t u a b f g o p heads sees)
-        (if_alike (eqb r 4) (eqb r 4) _ _ _ _ refl (same_drop_zero t u a b f g o p heads sees)
-        (if_alike (eqb r 5) (eqb r 5) _ _ _ _ refl (same_drop_one t u a b f g o p heads sees)
-        (if_alike (eqb r 6) (eqb r 6) _ _ _ _ refl (same_drop_all_ones t u a b f g o p heads sees)
-        (if_alike (eqb r 7) (eqb r 7) _ _ _ _ refl (same_cancel_itself t u a b f g o p heads sees)
-        (if_alike (eqb r 8) (eqb r 8) _ _ _ _ refl (same_keep_itself t u a b f g o p heads sees)
-        (if_alike (eqb r 9) (eqb r 9) _ _ _ _ refl (same_zero_remainder t u a b f g o p heads sees)
-        (if_alike (eqb r 10) (eqb r 10) _ _ _ _ refl (same_regroup_constants t u a b f g o p heads sees)
-        (if_alike (eqb r 11) (eqb r 11) _ _ _ _ refl (same_add_negative t u a b f g o p heads sees)
-        (if_alike (eqb r 12) (eqb r 12) _ _ _ _ refl (same_compare_itself t u a b f g o p heads sees)
-        (if_alike (eqb r 13) (eqb r 13) _ _ _ _ refl (same_mirror_comparison t u a b f g o p heads sees)
-        (if_alike (eqb r 14) (eqb r 14) _ _ _ _ refl (same_compare_zero t u a b f g o p heads sees)
-        (if_alike (eqb r 15) (eqb r 15) _ _ _ _ refl (same_choose_same t u a b f g o p heads sees)
-        (if_alike (eqb r 16) (eqb r 16) _ _ _ _ refl (same_choose_known t u a b f g o p heads sees)
-        (if_alike (eqb r 17) (eqb r 17) _ _ _ _ refl (same_choose_truth t u a b f g o p heads sees)
-        (if_alike (eqb r 18) (eqb r 18) _ _ _ _ refl (same_choose_opposite t u a b f g o p heads sees)
-        (if_alike (eqb r 19) (eqb r 19) _ _ _ _ refl (same_extend_extension t u a b f g o p heads sees)
-        (if_alike (eqb r 20) (eqb r 20) _ _ _ _ refl (same_cut_cast t u a b f g o p heads sees)
-        (if_alike (eqb r 21) (eqb r 21) _ _ _ _ refl (same_cast_back t u a b f g o p heads sees)
-        (if_alike (eqb r 22) (eqb r 22) _ _ _ _ refl (same_open_branch t u f g o p heads sees.operands ends_alike)
-        (if_alike (eqb r 23) (eqb r 23) _ _ _ _ refl (same_open_loop t u f g o p heads sees.operands ends_alike)
-        (if_alike (eqb r 24) (eqb r 24) _ _ _ _ refl (same_stop_loop t u f g o p heads sees.operands ends_alike)
-        (skip_alike (eqb r 25) _ _ _ _ (apart r 25 l (omega arith))
-        (skip_alike (eqb r 26) _ _ _ _ (apart r 26 l (omega arith))
-        (skip_alike (eqb r 27) _ _ _ _ (apart r 27 l (omega arith))
-        (skip_alike (eqb r 28) _ _ _ _ (apart r 28 l (omega arith))
-        (skip_alike (eqb r 29) _ _ _ _ (apart r 29 l (omega arith))
-        (skip_alike (eqb r 30) _ _ _ _ (apart r 30 l (omega arith)) refl)))))))))))))))))))))))))))))
+    rules_alike EraseDead canonical f g = when_alike _ _ _ _ dead_alike refl
+    rules_alike FoldToConstant canonical f g = same_fold_to_constant t u n.next m.next f g o p heads sees
+    rules_alike SwapConstant canonical f g = same_swap_constant t u n.next m.next f g o p heads sees
+    rules_alike DropZero canonical f g = same_drop_zero t u n.next m.next f g o p heads sees
+    rules_alike DropOne canonical f g = same_drop_one t u n.next m.next f g o p heads sees
+    rules_alike DropAllOnes canonical f g = same_drop_all_ones t u n.next m.next f g o p heads sees
+    rules_alike CancelItself canonical f g = same_cancel_itself t u n.next m.next f g o p heads sees
+    rules_alike KeepItself canonical f g = same_keep_itself t u n.next m.next f g o p heads sees
+    rules_alike ZeroRemainder canonical f g = same_zero_remainder t u n.next m.next f g o p heads sees
+    rules_alike RegroupConstants canonical f g = same_regroup_constants t u n.next m.next f g o p heads sees
+    rules_alike AddNegative canonical f g = same_add_negative t u n.next m.next f g o p heads sees
+    rules_alike CompareItself canonical f g = same_compare_itself t u n.next m.next f g o p heads sees
+    rules_alike MirrorComparison canonical f g = same_mirror_comparison t u n.next m.next f g o p heads sees
+    rules_alike CompareZero canonical f g = same_compare_zero t u n.next m.next f g o p heads sees
+    rules_alike ChooseSame canonical f g = same_choose_same t u n.next m.next f g o p heads sees
+    rules_alike ChooseKnown canonical f g = same_choose_known t u n.next m.next f g o p heads sees
+    rules_alike ChooseTruth canonical f g = same_choose_truth t u n.next m.next f g o p heads sees
+    rules_alike ChooseOpposite canonical f g = same_choose_opposite t u n.next m.next f g o p heads sees
+    rules_alike ExtendExtension canonical f g = same_extend_extension t u n.next m.next f g o p heads sees
+    rules_alike CutCast canonical f g = same_cut_cast t u n.next m.next f g o p heads sees
+    rules_alike CastBack canonical f g = same_cast_back t u n.next m.next f g o p heads sees
+    rules_alike OpenBranch canonical f g = same_open_branch t u f g o p heads sees.operands ends_alike
+    rules_alike OpenLoop canonical f g = same_open_loop t u f g o p heads sees.operands ends_alike
+    rules_alike StopLoop canonical f g = same_stop_loop t u f g o p heads sees.operands ends_alike
+    rules_alike _ canonical f g = absurd cc
 
-    edits_alike : (r : ℕ) → r ≤ 24 → Same (edits_of r n x) (edits_of r m x)
+    edits_alike : (r : Rule) → is_canonical r ≡ true → Same (edits_of r n x) (edits_of r m x)
     unfolding edits_of
-    edits_alike r l =
+    edits_alike r canonical =
         ap (λ a. is_some (given a (λ q. given (front_of x t) (λ front. when (is_clean t (head q)) (rule r t n.next front q))))) is
-        ∙ given_both (front_of x t) (front_of x u) (λ front. when (is_clean t (head o)) (rule r t n.next front o)) (λ front. when (is_clean u (head p)) (rule r u m.next front p)) fronts (λ f g i j. when_alike _ _ _ _ cleans (rules_alike r l f g))
+        ∙ given_both (front_of x t) (front_of x u) (λ front. when (is_clean t (head o)) (rule r t n.next front o)) (λ front. when (is_clean u (head p)) (rule r u m.next front p)) fronts (λ f g i j. when_alike _ _ _ _ cleans (rules_alike r canonical f g))
         ∙ sym (ap (λ a. is_some (given a (λ q. given (front_of x u) (λ front. when (is_clean u (head q)) (rule r u m.next front q))))) was)
 
     stayed : Stayed m n x
-    stayed = record { was = found_there u x p was; applies = λ r k l. (none_from (edits_of r n x) (edits_of r m x) (edits_alike r l), none_from (edits_of r m x) (edits_of r n x) (sym (edits_alike r l))) }
+    stayed = record { was = found_there u x p was; applies = λ r canonical. (none_from (edits_of r n x) (edits_of r m x) (edits_alike r canonical), none_from (edits_of r m x) (edits_of r n x) (sym (edits_alike r canonical))) }
 
   pub touched_all : Touched m n listed
   touched_all x h unlisted =

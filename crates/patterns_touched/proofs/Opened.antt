@@ -1,4 +1,4 @@
--- Rules 22 to 24 apply alike at operations of two trees, where these show the same of the operands, have regions of one
+-- Rules on branches and loops apply alike at operations of two trees, where these show the same of the operands, have regions of one
 -- shape, and each of their blocks ends alike.
 use Rattle.std.proofs.Common.{◌≡◌, refl, ap, sym, ◌∙◌, ℕ, List, [], ◌∷◌, Bool, true, false, true≢false, eqb, cond, Option, Some, None, inl, inr}
 use Rattle.std.specs.Prelude.{codes, is_some, option_map, int_lt}

@@ -1,5 +1,5 @@
--- Rules 2 to 21 apply alike at operations of two trees that have one head, where both trees show the same of its
--- operands, and of what these are computed from.
+-- Rules on values and casts apply alike at operations of two trees that have one head, where both trees show the same of
+-- its operands, and of what these are computed from.
 use Rattle.std.proofs.Common.{◌≡◌, refl, ap, sym, ◌∙◌, subst, ℕ, List, [], ◌∷◌, Bool, true, false, ◌&&◌, ◌||◌, not, eqb, cond, Option, Some, None, inl, inr, map}
 use Rattle.std.specs.Prelude.{codes, is_some, nat_le}
 use Rattle.std.specs.List.{list_all}

@@ -22,7 +22,8 @@ pub record ShowsAlike (t u : Operation) (v : Value) : Type 0 where
 pub record SeesAlike (t u : Operation) (h : Header) : Type 0 where
   pub operands : (v : Value) → In v h.operands → ShowsAlike t u v
   pub types : (v : Value) → In v h.operands → type_of t v ≡ type_of u v
-  pub inner : (v : Value) → In v h.operands → (y : Header) → giver t v ≡ Some y → (w : Value) → In w y.operands → ShowsAlike t u w × (type_of t w ≡ type_of u w)
+  pub inner : (v : Value) → In v h.operands → (y : Header) → giver t v ≡ Some y → (w : Value) → In w y.operands
+      → ShowsAlike t u w × (type_of t w ≡ type_of u w)
 
 -- the last operation of the block of an operation's region, by the region's number
 abbrev pub last_of : Operation → ℕ → Option Header

@@ -14,25 +14,32 @@ ghost use Rattle.patterns_touched.specs.Sights.{ListsAround, ListsSeers, end_sig
 
 /// Events leave the surroundings of each operation that none of them reaches, as told from the module after them all.
 pub fn events_leave_what_they_do_not_reach()
-    ensures one { (c : Things) (e : Edit) (m n : Module) → Step c e m n → (y : ℕ) → reaches e y n.tree ≡ false → surroundings y n.tree ≡ surroundings y m.tree }
-    ensures all { (c : Things) (es : List Edit) (m n : Module) → Steps c es m n → (y : ℕ) → any_reaches es y n.tree ≡ false → surroundings y n.tree ≡ surroundings y m.tree }
+    ensures one { (c : Things) (e : Edit) (m n : Module) → Step c e m n → (y : ℕ) → reaches e y n.tree ≡ false
+        → surroundings y n.tree ≡ surroundings y m.tree }
+    ensures all { (c : Things) (es : List Edit) (m n : Module) → Steps c es m n → (y : ℕ) → any_reaches es y n.tree ≡ false
+        → surroundings y n.tree ≡ surroundings y m.tree }
 {}
 
 /// Operations that aren't listed see what they saw, where those that events reach are listed with their users and the
 /// users of these.
 pub fn unlisted_operations_see_the_same()
-    ensures { (c : Things) (es : List Edit) (m n : Module) (listed : List ℕ) → Steps c es m n → ListsSeers (λ y. any_reaches es y n.tree) listed n.tree → (x : ℕ) → is_listed x listed ≡ false → sight x n.tree ≡ sight x m.tree }
+    ensures { (c : Things) (es : List Edit) (m n : Module) (listed : List ℕ) → Steps c es m n
+        → ListsSeers (λ y. any_reaches es y n.tree) listed n.tree → (x : ℕ) → is_listed x listed ≡ false
+        → sight x n.tree ≡ sight x m.tree }
 {}
 
 /// What ends a block of an operation that isn't listed ended a block of it before, and is seen as it was, where what is
 /// around the ends that events reach, and around the ends that use a reached operation, is listed.
 pub fn unlisted_operations_keep_their_ends()
-    ensures { (c : Things) (es : List Edit) (m n : Module) (listed : List ℕ) → Steps c es m n → ListsAround (λ y. any_reaches es y n.tree) listed n.tree → (x : ℕ) → is_listed x listed ≡ false → (l : ℕ) → ends x l n.tree ≡ true
+    ensures { (c : Things) (es : List Edit) (m n : Module) (listed : List ℕ) → Steps c es m n
+        → ListsAround (λ y. any_reaches es y n.tree) listed n.tree → (x : ℕ) → is_listed x listed ≡ false
+        → (l : ℕ) → ends x l n.tree ≡ true
         → (ends x l m.tree ≡ true) × (end_sight l n.tree ≡ end_sight l m.tree) }
 {}
 
-/// At each operation that isn't listed each rule of 1 to 24 applies exactly where it applied before the events, where
-/// what `Lists` has is listed.
+/// At each operation that isn't listed each rule of canonicalization applies exactly where it applied before the
+/// events, where what `Lists` has is listed.
 pub fn rules_apply_alike_at_unlisted_operations()
-    ensures { (shown : ℕ → List Value) (c : Things) (es : List Edit) (m n : Module) (listed : List ℕ) → Leads shown c es m n → HasDistinctIds n.tree → Lists shown es listed n.tree → Touched m n listed }
+    ensures { (shown : ℕ → List Value) (c : Things) (es : List Edit) (m n : Module) (listed : List ℕ)
+        → Leads shown c es m n → HasDistinctIds n.tree → Lists shown es listed n.tree → Touched m n listed }
 {}
