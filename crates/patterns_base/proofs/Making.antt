@@ -12,7 +12,6 @@ use Rattle.rewriter_machine.specs.Contents.{Edit}
 use Rattle.rewriter_machine.specs.Edits.{Make}
 use Rattle.patterns_laws.specs.Keeps.{given}
 use Rattle.patterns_laws.specs.Words.{asking, dividing}
-use Rattle.patterns_base.specs.declared.rule.Rule.{Rule}
 use Rattle.patterns_base.specs.declared.rule.Rule.TheVariants.{FoldToConstant, ExpandMinMax, ExpandDifference}
 use Rattle.patterns_base.specs.declared.rule.Rule.TheVariants.{ExpandRemainder, LowerIndex, LowerLoop, LowerChoice}
 use Rattle.patterns_base.specs.Looks.{Ended, when, two, body}

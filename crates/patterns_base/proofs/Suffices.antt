@@ -54,7 +54,7 @@ unfolding all_rules rules_for table
 rows_rise = (refl, (refl, (refl, (refl, (refl, (refl, (refl, (refl, (refl, (refl, (refl, (refl, (refl, (refl, (refl, (refl, (refl, (refl, (refl, (refl, (refl, (refl, (refl, (refl, (refl, (refl, (refl, (refl, (refl, (refl, (refl, (refl, (refl, (refl, (refl, (refl, (refl, (refl, (refl, tt)))))))))))))))))))))))))))))))))))))))
 
 others_rise : (name : List ℕ) → beside name table ≡ None → Rises name
-unfolding rules_for
+unfolding all_rules rules_for
 others_rise name e = rw (e) refl
 
 rises : (name : List ℕ) → Rises name

@@ -124,7 +124,7 @@ module _ (t : Operation) (n : ℕ) (front : Place) (o : Operation) where
   give_lowered y c =
       let results = results_from y 0 h.results in
       bridges Index front index_results results
-          ++ replacing (results_from x 0 h.results) (crossed c index_results results) ++ Erase x ∷ []
+      ++ replacing (results_from x 0 h.results) (crossed c index_results results) ++ Erase x ∷ []
 
   -- the id of the operation on i64: its operands' casts have the first ones, and it the next
   abbrev pub lowered_id : ℕ
@@ -144,7 +144,7 @@ module _ (t : Operation) (n : ℕ) (front : Place) (o : Operation) where
   abbrev pub take_over : ℕ → ℕ → ℕ → Ended → List Value → List Value → List Edit
   take_over y r c e olds news =
       bridges i64 (before_in y r e.last.id) index_results (map (replaced olds news) e.last.operands)
-          ++ crossing e.last.id 0 c index_results
+      ++ crossing e.last.id 0 c index_results
 
   -- all operations of block r, the last of them too, brought there
   abbrev pub move_over : ℕ → ℕ → Ended → List Edit

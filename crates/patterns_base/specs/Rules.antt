@@ -36,30 +36,42 @@ table =
     ∷ (codes "func.return", [])
     ∷ (codes "arith.constant", EraseDead ∷ LowerIndex ∷ [])
     ∷ (codes "arith.addi", EraseDead ∷ FoldToConstant ∷ SwapConstant ∷ DropZero ∷ RegroupConstants ∷ LowerIndex ∷ [])
-    ∷ (codes "arith.subi", EraseDead ∷ FoldToConstant ∷ DropZero ∷ CancelItself ∷ AddNegative ∷ ExpandDifference
-    ∷ LowerIndex ∷ [])
+    ∷ (
+      codes "arith.subi",
+      EraseDead ∷ FoldToConstant ∷ DropZero ∷ CancelItself ∷ AddNegative ∷ ExpandDifference ∷ LowerIndex ∷ [],
+    )
     ∷ (codes "arith.muli", EraseDead ∷ FoldToConstant ∷ SwapConstant ∷ DropOne ∷ RegroupConstants ∷ LowerIndex ∷ [])
     ∷ (codes "arith.shli", EraseDead ∷ FoldToConstant ∷ DropZero ∷ LowerIndex ∷ [])
     ∷ (codes "arith.divsi", EraseDead ∷ FoldToConstant ∷ DropOne ∷ LowerIndex ∷ [])
     ∷ (codes "arith.divui", EraseDead ∷ FoldToConstant ∷ DropOne ∷ LowerIndex ∷ [])
     ∷ (codes "arith.remsi", EraseDead ∷ FoldToConstant ∷ ZeroRemainder ∷ ExpandRemainder ∷ LowerIndex ∷ [])
     ∷ (codes "arith.remui", EraseDead ∷ FoldToConstant ∷ ZeroRemainder ∷ ExpandRemainder ∷ LowerIndex ∷ [])
-    ∷ (codes "arith.andi", EraseDead ∷ FoldToConstant ∷ SwapConstant ∷ DropAllOnes ∷ KeepItself ∷ RegroupConstants
-    ∷ LowerIndex ∷ [])
-    ∷ (codes "arith.ori", EraseDead ∷ FoldToConstant ∷ SwapConstant ∷ DropZero ∷ KeepItself ∷ RegroupConstants
-    ∷ LowerIndex ∷ [])
-    ∷ (codes "arith.xori", EraseDead ∷ FoldToConstant ∷ SwapConstant ∷ DropZero ∷ CancelItself ∷ RegroupConstants
-    ∷ LowerIndex ∷ [])
+    ∷ (
+      codes "arith.andi",
+      EraseDead ∷ FoldToConstant ∷ SwapConstant ∷ DropAllOnes ∷ KeepItself ∷ RegroupConstants ∷ LowerIndex ∷ [],
+    )
+    ∷ (
+      codes "arith.ori",
+      EraseDead ∷ FoldToConstant ∷ SwapConstant ∷ DropZero ∷ KeepItself ∷ RegroupConstants ∷ LowerIndex ∷ [],
+    )
+    ∷ (
+      codes "arith.xori",
+      EraseDead ∷ FoldToConstant ∷ SwapConstant ∷ DropZero ∷ CancelItself ∷ RegroupConstants ∷ LowerIndex ∷ [],
+    )
     ∷ (codes "arith.shrsi", EraseDead ∷ FoldToConstant ∷ DropZero ∷ LowerIndex ∷ [])
     ∷ (codes "arith.shrui", EraseDead ∷ FoldToConstant ∷ DropZero ∷ LowerIndex ∷ [])
     ∷ (codes "arith.maxsi", EraseDead ∷ FoldToConstant ∷ SwapConstant ∷ KeepItself ∷ ExpandMinMax ∷ LowerIndex ∷ [])
     ∷ (codes "arith.maxui", EraseDead ∷ FoldToConstant ∷ SwapConstant ∷ KeepItself ∷ ExpandMinMax ∷ LowerIndex ∷ [])
     ∷ (codes "arith.minsi", EraseDead ∷ FoldToConstant ∷ SwapConstant ∷ KeepItself ∷ ExpandMinMax ∷ LowerIndex ∷ [])
     ∷ (codes "arith.minui", EraseDead ∷ FoldToConstant ∷ SwapConstant ∷ KeepItself ∷ ExpandMinMax ∷ LowerIndex ∷ [])
-    ∷ (codes "arith.cmpi", EraseDead ∷ FoldToConstant ∷ CompareItself ∷ MirrorComparison ∷ CompareZero ∷ LowerIndex
-    ∷ [])
-    ∷ (codes "arith.select", EraseDead ∷ FoldToConstant ∷ ChooseSame ∷ ChooseKnown ∷ ChooseTruth ∷ ChooseOpposite
-    ∷ LowerIndex ∷ [])
+    ∷ (
+      codes "arith.cmpi",
+      EraseDead ∷ FoldToConstant ∷ CompareItself ∷ MirrorComparison ∷ CompareZero ∷ LowerIndex ∷ [],
+    )
+    ∷ (
+      codes "arith.select",
+      EraseDead ∷ FoldToConstant ∷ ChooseSame ∷ ChooseKnown ∷ ChooseTruth ∷ ChooseOpposite ∷ LowerIndex ∷ [],
+    )
     ∷ (codes "arith.extsi", EraseDead ∷ FoldToConstant ∷ ExtendExtension ∷ [])
     ∷ (codes "arith.extui", EraseDead ∷ FoldToConstant ∷ ExtendExtension ∷ [])
     ∷ (codes "arith.trunci", EraseDead ∷ FoldToConstant ∷ CutCast ∷ [])
