@@ -7,6 +7,9 @@ pub mod Results
 pub mod Emptied
 pub mod Blocks
 pub mod Opened
+pub mod Arguments
+pub mod LoopTypes
+pub mod Loops
 pub mod Given
 pub mod New
 pub mod InPlace

@@ -46,7 +46,7 @@ module _ (m : Module) (o : Operation) (front : Place) (s : Spot m o front) where
   t = m.tree
 
   -- the last operation of a block is there
-  last_there : (r : ℕ) (e : Ended) → body m.tree o r ≡ Some e → option_map head (find e.last.id m.tree) ≡ Some e.last
+  pub last_there : (r : ℕ) (e : Ended) → body m.tree o r ≡ Some e → option_map head (find e.last.id m.tree) ≡ Some e.last
   last_there r e k =
       let n = ending t o r e k in
       let w = found_stands x t o s.found in
