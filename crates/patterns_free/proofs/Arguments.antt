@@ -11,11 +11,11 @@ use Rattle.ir_types.proofs.SameTerms.{type_is}
 use Rattle.ir_tree.specs.declared.value.Value.{Value}
 use Rattle.ir_tree.specs.declared.value.Value.TheVariants.{Arg}
 use Rattle.ir_tree.specs.declared.place.Place.{Place}
-use Rattle.ir_tree.specs.Tree.{HeadOf, OpOf, op, RegionsOf, no_regions, region, RegionOf, empty, block, OpsOf, no_ops, next, head, regions}
+use Rattle.ir_tree.specs.Tree.{OpOf, op, RegionsOf, no_regions, region, block, OpsOf, no_ops, next, head, regions}
 use Rattle.ir_tree.specs.Ids.{HasDistinctIds, find}
 use Rattle.ir_tree.specs.Frames.{owner_of}
 use Rattle.ir_tree.specs.Sites.{arguments, operands_visible, results_of, shows, visible}
-use Rattle.ir_tree.specs.Edits.{each_head, ops_each_head, put_value, put_values, region_each_head, regions_each_head, with_value_replaced}
+use Rattle.ir_tree.specs.Edits.{each_head, ops_each_head, put_value, put_values, region_each_head, regions_each_head}
 use Rattle.ir_tree.specs.Uses.{same_value, uses_of}
 use Rattle.ir_tree.specs.Meaning.{Operation}
 use Rattle.ir_tree.proofs.Heads.{head_find}
@@ -23,10 +23,10 @@ use Rattle.ir_tree.proofs.Replaced.{old_unused, others_stay, same_value_true}
 use Rattle.ir_tree_laws.specs.Members.{In}
 use Rattle.ir_tree_laws.specs.Reasons.{users_see}
 use Rattle.ir_tree_laws.specs.Stands.{StandOf, StepOf, sees as sees_from, stands}
-use Rattle.ir_tree_laws.specs.Values.{arguments_at, arguments_of, has_value, region_at, type_of_value}
+use Rattle.ir_tree_laws.specs.Values.{arguments_at, arguments_of, region_at, type_of_value}
 use Rattle.ir_tree_laws.proofs.Around.{around_there}
 use Rattle.ir_tree_laws.proofs.HeadForm.{replaced_keeps}
-use Rattle.ir_tree_laws.proofs.Listed.{all_each, both, both_hold, each_all, either, in_mapped, or_right}
+use Rattle.ir_tree_laws.proofs.Listed.{all_each, both, both_hold, each_all, either, or_right}
 use Rattle.ir_tree_laws.proofs.Members.{same_stand, stand}
 use Rattle.ir_tree_laws.proofs.Sees.{stands_operands, visible_there}
 use Rattle.ir_tree_laws.proofs.Values.{not_own}
@@ -35,10 +35,10 @@ use Rattle.rewriter_machine.specs.Contents.{Edit, all_edited, edited}
 use Rattle.rewriter_machine.specs.Edits.{Replace}
 use Rattle.patterns_edits.specs.Lists.{Free}
 use Rattle.patterns_edits.proofs.Body.{list_ids}
-use Rattle.patterns_edits.proofs.Given.{seen_is, seer, user}
+use Rattle.patterns_edits.proofs.Given.{seer, user}
 use Rattle.patterns_edits.proofs.Headed as headed
 use Rattle.patterns_edits.proofs.Made.{passes}
-use Rattle.patterns_edits.proofs.Plans.{HasFirst, StandsAt, sees}
+use Rattle.patterns_edits.proofs.Plans.{StandsAt, sees}
 use Rattle.patterns_base.specs.Looks.{Header}
 use Rattle.patterns_base.specs.Makes.{arguments_from, replaced, replacing}
 use Rattle.patterns_free.proofs.Results.{AreGiven, type_kept}

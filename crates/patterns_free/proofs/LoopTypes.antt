@@ -1,5 +1,5 @@
 -- The types that clean loops ask for: of the arguments of their blocks, of their results, and of what a condition hands on.
-use Rattle.std.proofs.Common.{◌≡◌, refl, ap, sym, ◌∙◌, subst, ℕ, List, [], ◌∷◌, length, map, Bool, true, false, not, ◌&&◌, ◌||◌, if◌then◌else◌, Option, Some, None, inl, inr}
+use Rattle.std.proofs.Common.{◌≡◌, refl, ap, sym, ◌∙◌, subst, ℕ, List, [], ◌∷◌, length, map, Bool, true, false, ◌&&◌, ◌||◌, if◌then◌else◌, Option, Some, None, inl, inr}
 use Rattle.std.specs.Prelude.{codes, drop, option_map, option_and_then, is_some, unwrap_or}
 use Rattle.std.specs.Option.{option_eq}
 use Rattle.std.specs.Str.{bytes_eq}
@@ -7,16 +7,15 @@ use Rattle.std.proofs.lemmas.Slice.Eq.{bytes_eq-Decides}
 use Rattle.ir_types.specs.Words.{is_isolated, is_table}
 use Rattle.ir_types.specs.Terms.{TypeTerm, AttrTerm}
 use Rattle.ir_types.specs.SameTypes.{same_type}
-use Rattle.ir_types.proofs.SameTerms.{type_is, type_refl}
 use Rattle.ir_tree.specs.declared.value.Value.{Value}
 use Rattle.ir_tree.specs.declared.place.Place.{Place}
 use Rattle.ir_tree.specs.Tree.{block, no_ops, head, regions}
 use Rattle.ir_tree.specs.Meaning.{Operation}
-use Rattle.ir_store.specs.Nodes.{node_of, regions_arguments}
+use Rattle.ir_store.specs.Nodes.{node_of}
 use Rattle.ir_tree_laws.specs.Members.{In}
 use Rattle.ir_tree_laws.specs.Reads.{ops_in}
 use Rattle.ir_tree_laws.specs.Stands.{StepOf, stands}
-use Rattle.ir_tree_laws.specs.Values.{region_at, type_of_value}
+use Rattle.ir_tree_laws.specs.Values.{type_of_value}
 use Rattle.ir_tree_laws.proofs.Listed.{both, neither}
 use Rattle.ir_tree_laws.proofs.Members.{found_stands, stand, stand_of_member}
 use Rattle.ir_tree_laws.proofs.Readings.{step}
@@ -26,7 +25,7 @@ use Rattle.op_registry.specs.Registry.{row_of}
 use Rattle.listeners_surroundings.specs.Surroundings.{last_name, surround}
 use Rattle.listeners_surroundings.proofs.Spots.{stands_in}
 use Rattle.ir_verify_base.specs.Types.{same_types}
-use Rattle.ir_verify_base.specs.Fits.{Known, Node, Surroundings, block_at, first_called, fits, function_type, is_named, is_the_number, there, types_fit}
+use Rattle.ir_verify_base.specs.Fits.{Known, Node, Surroundings, block_at, first_called, function_type, is_named, is_the_number, there, types_fit}
 use Rattle.ir_verify_base.specs.TypeRules.{any_differ, arguments_differ, is_no_number}
 use Rattle.ir_verify.specs.BlockRules.{breaks_9, ends_otherwise, isnt_wanted, last_at}
 use Rattle.ir_verify.specs.PlaceRules.{differ, ended_of, if_well_shaped, passed}
@@ -34,7 +33,7 @@ use Rattle.ir_event.specs.Modules.{Module}
 use Rattle.patterns_edits.proofs.Plans.{sees}
 use Rattle.patterns_base.specs.Looks.{Ended, body}
 use Rattle.patterns_yields.proofs.Ends.{Ending, ending, last_joined, names_at}
-use Rattle.patterns_yields.proofs.Unbroken.{Stand, Unbroken, clean_unbroken, node_head}
+use Rattle.patterns_yields.proofs.Unbroken.{Unbroken, clean_unbroken, node_head}
 use Rattle.patterns_free.proofs.Blocks.{block_is, row_there, unbroken_there}
 use Rattle.patterns_free.proofs.Given.{turned}
 use Rattle.patterns_free.proofs.Results.{AreGiven}

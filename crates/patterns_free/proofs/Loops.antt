@@ -1,26 +1,24 @@
 -- `open-loop` and `stop-loop`: the block of a loop that is gone through once, or whose condition is false, comes in front of it.
-use Rattle.std.proofs.Common.{◌≡◌, refl, ap, sym, ◌∙◌, subst, ℕ, zero, suc, ◌+◌, ◌<◌, ◌≤◌, Bool, true, false, ◌&&◌, List, [], ◌∷◌, ◌++◌, length, map, Option, Some, None, option_map, inl, inr, ◌⊎◌, if◌then◌else◌, arith}
-use Rattle.std.specs.Prelude.{codes, drop, int_lt, is_some, option_and_then, slice_get}
+use Rattle.std.proofs.Common.{◌≡◌, refl, ap, sym, ◌∙◌, subst, ℕ, zero, suc, ◌<◌, ◌≤◌, Bool, true, false, List, [], ◌∷◌, ◌++◌, length, map, Some, option_map, inl, inr, ◌⊎◌, if◌then◌else◌, arith}
+use Rattle.std.specs.Prelude.{codes, drop, int_lt, is_some, slice_get}
 use Rattle.std.proofs.lemmas.Slice.Eq.{bytes_eq-Decides}
 use Rattle.ir_types.specs.Words.{is_isolated, is_table}
-use Rattle.ir_types.specs.Terms.{TypeTerm, AttrTerm}
-use Rattle.ir_types.specs.SameTypes.{same_type}
+use Rattle.ir_types.specs.Terms.{TypeTerm}
 use Rattle.ir_tree.specs.declared.value.Value.{Value}
 use Rattle.ir_tree.specs.declared.value.Value.TheVariants.{Arg}
 use Rattle.ir_tree.specs.declared.place.Place.{Place}
-use Rattle.ir_tree.specs.Tree.{OpsOf, block, no_ops, next, head, regions}
+use Rattle.ir_tree.specs.Tree.{block, no_ops, next, head, regions}
 use Rattle.ir_tree.specs.Ids.{find}
 use Rattle.ir_tree.specs.Uses.{uses_of}
 use Rattle.ir_tree.specs.Meaning.{Operation}
 use Rattle.ir_tree_laws.specs.Members.{In}
-use Rattle.ir_tree_laws.specs.Values.{has_value, region_at, type_of_value}
+use Rattle.ir_tree_laws.specs.Values.{region_at, type_of_value}
 use Rattle.ir_tree_laws.proofs.Listed.{in_map, in_mapped}
 use Rattle.ir_tree_laws.proofs.Members.{joined_ops}
 use Rattle.ir_verify_base.specs.Types.{same_types}
 use Rattle.ir_verify_base.specs.Fits.{there}
 use Rattle.ir_event.specs.Modules.{Module}
 use Rattle.rewriter_machine.specs.Contents.{Edit}
-use Rattle.rewriter_machine.specs.Edits.{Erase}
 use Rattle.patterns_edits.specs.Lists.{Free}
 use Rattle.patterns_edits.proofs.Body.{list_ids}
 use Rattle.patterns_edits.proofs.Headed.{found_there}
@@ -29,7 +27,7 @@ use Rattle.patterns_base.specs.Keeps.{given}
 use Rattle.dialects_int.specs.Folds.{Known}
 use Rattle.patterns_base.specs.Words.{named}
 use Rattle.patterns_base.specs.Looks.{Ended, Header, body, is_number, known, when}
-use Rattle.patterns_base.specs.Makes.{arguments_from, give_body, replacing, results_from}
+use Rattle.patterns_base.specs.Makes.{give_body}
 use Rattle.patterns_base.specs.Opening.{Loop, by_bounds, by_end, goes_once, loop_from, never, once, opened, reading, open_loop, stop_loop}
 use Rattle.patterns_yields.specs.Yields.{IsCleanOf}
 use Rattle.patterns_yields.proofs.Ends.{Ending, ending}

@@ -2,7 +2,7 @@
 use Rattle.std.proofs.Common.{◌≡◌, refl, ap, sym, ◌∙◌, subst, ℕ, ◌+◌, ◌<◌, Bool, true, false, true≢false, eqb, eqb-true, List, [], ◌∷◌, ◌++◌, append-nil, Option, Some, None, inl, inr, cond, arith}
 use Rattle.std.specs.Prelude.{All, nat_le, option_map}
 use Rattle.std.specs.List.{IsDistinct}
-use Rattle.std.proofs.lemmas.List.Elements.{filter_passes}
+use Rattle.std.proofs.lemmas.List.Elements.{All-head, All-tail, filter_passes}
 use Rattle.ir_types.specs.declared.refusal.Refusal.TheVariants.{Full, IdsExhausted}
 use Rattle.ir_tree.specs.declared.place.Place.{Place}
 use Rattle.ir_tree.specs.Tree.{head, regions}
@@ -31,7 +31,7 @@ use Rattle.patterns_orders.proofs.Edits.{Still, Opens, names, still_stays, opens
 use Rattle.patterns_orders.proofs.Nearby.{Near, widths}
 use Rattle.patterns_orders.proofs.Order.{Listed}
 use Rattle.patterns_orders.proofs.Rootless.{unplaced}
-use Rattle.patterns_orders.proofs.Rules.{Goes, Fine, IsFine, all_fine}
+use Rattle.patterns_orders.proofs.Rules.{Goes, IsFine, all_fine}
 use Rattle.patterns_orders.proofs.Starts.{Between, between, start, wide, Opened, opened}
 
 -- edits of a rule at an operation
@@ -118,15 +118,18 @@ module _ (m : Module) (d : HasDistinctIds m.tree) (below : All (λ y. y < m.next
           let p = planned r m x es k in
           subst (Orderly x m) (carried es m n e) (edits_orderly es p.here p.place p.found p.front ((fine m.tree m.next p.place p.here).each es p.by))
 
-  first_orderly : (rs : List Rule) → All (λ r. is_canonical r ≡ true) rs → (n : Module) → first_rule rs m x ≡ becomes n → Orderly x m n
+  abbrev IsTried : Rule → Type 0
+  IsTried r = is_canonical r ≡ true
+
+  first_orderly : (rs : List Rule) → All IsTried rs → (n : Module) → first_rule rs m x ≡ becomes n → Orderly x m n
   unfolding first_rule
   first_orderly [] h n e = absurd cc
-  first_orderly (r ∷ rs) h n e = go (rewrite_of r m x) refl (first_orderly rs h.1 n) e
+  first_orderly (r ∷ rs) h n e = go (rewrite_of r m x) refl (first_orderly rs (All-tail IsTried r rs h) n) e
     where
       go : (a : Rewrite) → rewrite_of r m x ≡ a → (first_rule rs m x ≡ becomes n → Orderly x m n) → or_else a (first_rule rs m x) ≡ becomes n → Orderly x m n
       go none k later e = later e
       go (refused f) k later e = absurd cc
-      go (becomes p) k later e = rewrite_orderly r (all_fine r h.0) n (k ∙ e)
+      go (becomes p) k later e = rewrite_orderly r (all_fine r (All-head IsTried r rs h)) n (k ∙ e)
 
   pub lowest_orderly : (n : Module) → lowest m x ≡ becomes n → Orderly x m n
   lowest_orderly n e = first_orderly greedy_rules (filter_passes is_canonical all_rules) n e

@@ -11,6 +11,7 @@ use Rattle.ir_tree_laws.specs.Stands.{StandOf, place_in}
 use Rattle.ir_tree_laws.proofs.Members.{stand, itself, same_stand}
 use Rattle.ir_tree_laws.proofs.Around.{member_of_place}
 use Rattle.ir_event.specs.Modules.{Module}
+use Rattle.patterns_base.specs.declared.rule.Rule.{Rule}
 use Rattle.patterns_base.specs.Keeps.{given}
 use Rattle.patterns_base.specs.Looks.{when, is_clean, in_front, front_of}
 use Rattle.patterns_base.specs.Rules.{rule}
