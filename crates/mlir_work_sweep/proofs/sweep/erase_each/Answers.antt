@@ -1,6 +1,6 @@
 use Rattle.std.proofs.Common.{◌∙◌}
 use Rattle.rewriter.proofs.Together.{led_on}
-use Rattle.mlir_work_sweep.proofs.Sweeping.{erasing_more, erasing_noted, erasing_refused}
+use Rattle.mlir_work_sweep.proofs.Sweeping.{erasing_more, erasing_none, erasing_noted, erasing_refused}
 use Rattle.mlir_work_sweep.proofs.sweep.erase_each.Goals as goal
 
 pub returns-in-Err-clause-erases : goal.returns-in-Err-clause-erases
@@ -19,3 +19,6 @@ ops-preserved g c =
 pub returns-in-Err-clause-noted : goal.returns-in-Err-clause-noted
 returns-in-Err-clause-noted g c =
     erasing_noted g.L.Analysis.meaning c.args.ops.now.items c.ops.ops.items c.args.bench.now c.ops.bench c.erase.new.self c.ops.invariant c.in-Err.ensures.journal
+
+pub ops-init : goal.ops-init
+ops-init g c = erasing_none g.L.Analysis.meaning c.led_benches_are_kept.ensures.none c.args.ops.now.items c.args.bench.now
