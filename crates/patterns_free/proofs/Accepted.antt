@@ -32,6 +32,7 @@ use Rattle.patterns_free.proofs.Given.{HasRoom, free_drop_zero, free_drop_one, f
 use Rattle.patterns_free.proofs.New.{free_fold_to_constant, free_cancel_itself, free_zero_remainder, free_regroup_constants, free_add_negative, free_compare_itself, free_compare_zero, free_extend_extension, free_cut_cast, free_expand_min_max, free_expand_difference, free_expand_remainder}
 use Rattle.patterns_free.proofs.Opened.{free_open_branch}
 use Rattle.patterns_free.proofs.Loops.{free_open_loop, free_stop_loop}
+use Rattle.patterns_free.proofs.Indexed.{free_lower_index}
 use Rattle.patterns_free.proofs.InPlace.{free_erase_dead, free_swap_constant, free_mirror_comparison, free_choose_opposite}
 
 -- a rule's edits at a clean operation are accepted
@@ -68,7 +69,7 @@ each_rule StopLoop known m o front s es e room = free_stop_loop m o front s es e
 each_rule ExpandMinMax known m o front s es e room = free_expand_min_max m o front s es e room
 each_rule ExpandDifference known m o front s es e room = free_expand_difference m o front s es e room
 each_rule ExpandRemainder known m o front s es e room = free_expand_remainder m o front s es e room
-each_rule LowerIndex known m o front s es e room = absurd cc
+each_rule LowerIndex known m o front s es e room = free_lower_index m o front s es e room
 each_rule LowerLoop known m o front s es e room = absurd cc
 each_rule LowerChoice known m o front s es e room = absurd cc
 

@@ -1,5 +1,5 @@
 -- No edit of a rule is refused for a reason.
-use Rattle.std.specs.Prelude.{◌≡◌, ℕ, List, Bool, true, not, Some}
+use Rattle.std.specs.Prelude.{◌≡◌, ℕ, List, Bool, true, false, Some}
 use Rattle.ir_types.specs.Words.{is_isolated}
 use Rattle.ir_tree.specs.WellFormed.{IsWellFormed}
 use Rattle.ir_event.specs.Modules.{Module}
@@ -7,12 +7,14 @@ use Rattle.ir_event.specs.Step.{IsSorted}
 use Rattle.rewriter_machine.specs.Contents.{Edit}
 use Rattle.patterns_edits.specs.Lists.{Free}
 use Rattle.patterns_base.specs.declared.rule.Rule.{Rule}
-use Rattle.patterns_base.specs.RuleNames.{is_lowering}
+use Rattle.patterns_base.specs.declared.rule.Rule.TheVariants.{LowerChoice, LowerLoop}
 use Rattle.patterns_base.specs.Rewrites.{becomes, carried_out, edits_of}
 
--- the rules whose edits are known to be accepted: those that don't lower
+-- the rules whose edits are known to be accepted: those that lower no block
 abbrev pub is_accepted : Rule → Bool
-is_accepted r = not (is_lowering r)
+is_accepted LowerLoop = false
+is_accepted LowerChoice = false
+is_accepted r = true
 
 -- a rule is one of them
 abbrev pub IsAcceptedRule : Rule → Type 0
