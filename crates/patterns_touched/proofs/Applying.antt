@@ -24,34 +24,35 @@ use Rattle.effects.specs.Dead.{is_unused, is_kept, may_go as may_be_missed}
 use Rattle.listeners_surroundings.specs.Surroundings.{SurroundingsOf, surroundings}
 use Rattle.patterns_laws.specs.Keeps.{given}
 use Rattle.patterns_base.specs.declared.rule.Rule.{Rule}
-use Rattle.patterns_base.specs.declared.rule.Rule.TheVariants.{EraseDead, FoldToConstant, SwapConstant, DropZero}
-use Rattle.patterns_base.specs.declared.rule.Rule.TheVariants.{DropOne, DropAllOnes, CancelItself, KeepItself}
-use Rattle.patterns_base.specs.declared.rule.Rule.TheVariants.{ZeroRemainder, RegroupConstants, AddNegative}
-use Rattle.patterns_base.specs.declared.rule.Rule.TheVariants.{CompareItself, MirrorComparison, CompareZero}
-use Rattle.patterns_base.specs.declared.rule.Rule.TheVariants.{ChooseSame, ChooseKnown, ChooseTruth, ChooseOpposite}
-use Rattle.patterns_base.specs.declared.rule.Rule.TheVariants.{ExtendExtension, CutCast, CastBack, OpenBranch}
-use Rattle.patterns_base.specs.declared.rule.Rule.TheVariants.{OpenLoop, StopLoop}
-use Rattle.patterns_base.specs.RuleNames.{is_canonical}
+use Rattle.patterns_base.specs.RuleNames.{is_canonical, is_expanding, is_lowering}
 use Rattle.patterns_base.specs.Looks.{Header, when, may_go, is_clean, front_of, giver, type_of}
 use Rattle.patterns_base.specs.Rules.{rule}
 use Rattle.patterns_base.specs.Rewrites.{edits_of}
 use Rattle.patterns_touched.specs.Reached.{ends, any_reaches}
 use Rattle.patterns_touched.specs.Sights.{giver as giver_id, operands_of, Uses, is_listed, last_ids}
 use Rattle.patterns_touched.specs.Near.{Leads}
-use Rattle.patterns_touched.specs.Alike.{Same, ShowsAlike, SeesAlike, EndsAlike, last_of, shape_of}
+use Rattle.patterns_facts.specs.Alike.{Same, ShowsAlike, SeesAlike, EndsAlike, LooksAlike, last_of, shape_of}
+use Rattle.patterns_facts.proofs.Looking.{when_alike, given_both}
+use Rattle.patterns_facts.proofs.Facts.{facts}
 use Rattle.patterns_touched.specs.Listing.{Lists, Stayed, Touched}
 use Rattle.patterns_touched.proofs.Ending.{last_ends}
 use Rattle.patterns_touched.proofs.Reaching.{all_far}
 use Rattle.patterns_touched.proofs.Tracked.{effects_stay}
 use Rattle.patterns_touched.proofs.Usings.{unused_stays}
 use Rattle.patterns_touched.proofs.Lasting.{lasts_stay, unreached_all, last_in, same_lasts}
-use Rattle.patterns_touched.proofs.Rules.{when_alike, same_fold_to_constant, same_swap_constant, same_drop_zero, same_drop_one, same_drop_all_ones, same_cancel_itself, same_keep_itself, same_zero_remainder, same_regroup_constants, same_add_negative, same_compare_itself, same_mirror_comparison, same_compare_zero, same_choose_same, same_choose_known, same_choose_truth, same_choose_opposite, same_extend_extension, same_cut_cast, same_cast_back}
-use Rattle.patterns_touched.proofs.Opened.{given_both, same_open_branch, same_open_loop, same_stop_loop}
 use Rattle.patterns_touched.proofs.Unlisted.{found_surroundings, surroundings_found, there_found, found_there, outer_some, last_header, clean_alike, heads_alike, head_id, shows_alike}
 
 not_so : (b : Bool) → (b ≡ true → ⊥) → b ≡ false
 not_so true h = absurd (h refl)
 not_so false h = refl
+
+lowers_not : (r : Rule) → is_canonical r ≡ true → is_lowering r ≡ false
+lowers_not r canonical = go (is_expanding r) (is_lowering r) canonical
+  where
+    go : (a b : Bool) → (not a && not b) ≡ true → b ≡ false
+    go true b e = absurd cc
+    go false true e = absurd cc
+    go false false e = refl
 
 map_member : {X Y : Type 0} (f g : X → Y) (xs : List X) → map f xs ≡ map g xs → (x : X) → In x xs → f x ≡ g x
 map_member f g [] e x h = absurd h
@@ -261,33 +262,11 @@ module _ (shown : ℕ → List Value) (c : Things) (es : List Event) (m n : Modu
     fronts = outer_some t dn x ∙ ap (λ a. is_some (option_and_then (λ (s : SurroundingsOf (List ℕ) TypeTerm AttrTerm). s.outer) a)) own ∙ sym (outer_some u dm x)
 
     -- ---- the rules
+    looks : LooksAlike t u o p
+    looks = record { heads = heads; sees = sees; ends = ends_alike; goes = dead_alike }
+
     rules_alike : (r : Rule) → is_canonical r ≡ true → (f g : Place) → Same (rule r t n.next f o) (rule r u m.next g p)
-    unfolding rule
-    rules_alike EraseDead canonical f g = when_alike _ _ _ _ dead_alike refl
-    rules_alike FoldToConstant canonical f g = same_fold_to_constant t u n.next m.next f g o p heads sees
-    rules_alike SwapConstant canonical f g = same_swap_constant t u n.next m.next f g o p heads sees
-    rules_alike DropZero canonical f g = same_drop_zero t u n.next m.next f g o p heads sees
-    rules_alike DropOne canonical f g = same_drop_one t u n.next m.next f g o p heads sees
-    rules_alike DropAllOnes canonical f g = same_drop_all_ones t u n.next m.next f g o p heads sees
-    rules_alike CancelItself canonical f g = same_cancel_itself t u n.next m.next f g o p heads sees
-    rules_alike KeepItself canonical f g = same_keep_itself t u n.next m.next f g o p heads sees
-    rules_alike ZeroRemainder canonical f g = same_zero_remainder t u n.next m.next f g o p heads sees
-    rules_alike RegroupConstants canonical f g = same_regroup_constants t u n.next m.next f g o p heads sees
-    rules_alike AddNegative canonical f g = same_add_negative t u n.next m.next f g o p heads sees
-    rules_alike CompareItself canonical f g = same_compare_itself t u n.next m.next f g o p heads sees
-    rules_alike MirrorComparison canonical f g = same_mirror_comparison t u n.next m.next f g o p heads sees
-    rules_alike CompareZero canonical f g = same_compare_zero t u n.next m.next f g o p heads sees
-    rules_alike ChooseSame canonical f g = same_choose_same t u n.next m.next f g o p heads sees
-    rules_alike ChooseKnown canonical f g = same_choose_known t u n.next m.next f g o p heads sees
-    rules_alike ChooseTruth canonical f g = same_choose_truth t u n.next m.next f g o p heads sees
-    rules_alike ChooseOpposite canonical f g = same_choose_opposite t u n.next m.next f g o p heads sees
-    rules_alike ExtendExtension canonical f g = same_extend_extension t u n.next m.next f g o p heads sees
-    rules_alike CutCast canonical f g = same_cut_cast t u n.next m.next f g o p heads sees
-    rules_alike CastBack canonical f g = same_cast_back t u n.next m.next f g o p heads sees
-    rules_alike OpenBranch canonical f g = same_open_branch t u f g o p heads sees.operands ends_alike
-    rules_alike OpenLoop canonical f g = same_open_loop t u f g o p heads sees.operands ends_alike
-    rules_alike StopLoop canonical f g = same_stop_loop t u f g o p heads sees.operands ends_alike
-    rules_alike _ canonical f g = absurd cc
+    rules_alike r canonical f g = (facts r).alike (lowers_not r canonical) t u n.next m.next f g o p looks
 
     edits_alike : (r : Rule) → is_canonical r ≡ true → Same (edits_of r n x) (edits_of r m x)
     unfolding edits_of

@@ -7,8 +7,6 @@ pub mod Still
 pub mod Tracking
 pub mod Tracked
 pub mod Usings
-pub mod Rules
-pub mod Opened
 pub mod Lasting
 pub mod Unlisted
 pub mod Applying

@@ -2,5 +2,4 @@ pub mod Reached
 pub mod Sights
 pub mod Climbs
 pub mod Near
-pub mod Alike
 pub mod Listing

@@ -2,12 +2,12 @@
 use Rattle.std.specs.Prelude.{◌≡◌, ℕ, Bool, true, false, List, Option, Some, None, is_some, option_map}
 use Rattle.ir_types.specs.Terms.{TypeTerm, AttrTerm}
 use Rattle.ir_tree.specs.declared.value.Value.{Value}
-use Rattle.ir_tree.specs.Tree.{RegionOf, empty, block, regions}
+use Rattle.ir_tree.specs.Tree.{RegionOf, empty, block, head, regions}
 use Rattle.ir_tree.specs.Meaning.{Operation}
 use Rattle.ir_tree_laws.specs.Members.{In}
 use Rattle.ir_tree_laws.specs.Values.{region_at}
 use Rattle.patterns_laws.specs.Keeps.{given}
-use Rattle.patterns_base.specs.Looks.{Header, Ended, ended, giver, is_clean, type_of}
+use Rattle.patterns_base.specs.Looks.{Header, Ended, ended, giver, is_clean, may_go, type_of}
 
 -- there is both, or neither
 abbrev pub Same : {X Y : Type 0} → Option X → Option Y → Type 0
@@ -41,3 +41,10 @@ pub record EndsAlike (t u o p : Operation) : Type 0 where
   pub lasts : (r : ℕ) → last_of o r ≡ last_of p r
   pub clean : (r : ℕ) (h : Header) → last_of o r ≡ Some h → is_clean t h ≡ is_clean u h
   pub operands : (r : ℕ) (h : Header) → last_of o r ≡ Some h → (v : Value) → In v h.operands → ShowsAlike t u v
+
+-- all that a rule looks at: one head, the same shown of operands and of the ends of blocks, and both may go, or neither
+pub record LooksAlike (t u o p : Operation) : Type 0 where
+  pub heads : head o ≡ head p
+  pub sees : SeesAlike t u (head o)
+  pub ends : EndsAlike t u o p
+  pub goes : may_go t o ≡ may_go u p
