@@ -1,4 +1,5 @@
 -- All facts of each rule.
+use Rattle.std.proofs.Common.{◌≡◌, refl, Bool, true, false, ◌&&◌, not}
 use Rattle.patterns_base.specs.declared.rule.Rule.{Rule}
 use Rattle.patterns_base.specs.declared.rule.Rule.TheVariants.{EraseDead, FoldToConstant, SwapConstant, DropZero}
 use Rattle.patterns_base.specs.declared.rule.Rule.TheVariants.{DropOne, DropAllOnes, CancelItself, KeepItself}
@@ -8,6 +9,7 @@ use Rattle.patterns_base.specs.declared.rule.Rule.TheVariants.{ChooseSame, Choos
 use Rattle.patterns_base.specs.declared.rule.Rule.TheVariants.{ExtendExtension, CutCast, CastBack, OpenBranch}
 use Rattle.patterns_base.specs.declared.rule.Rule.TheVariants.{OpenLoop, StopLoop, ExpandMinMax, ExpandDifference}
 use Rattle.patterns_base.specs.declared.rule.Rule.TheVariants.{ExpandRemainder, LowerIndex, LowerLoop, LowerChoice}
+use Rattle.patterns_base.specs.RuleNames.{is_canonical, is_expanding, is_lowering}
 use Rattle.patterns_facts.specs.Facts.{Facts}
 use Rattle.patterns_facts.proofs.Erasing.{erase_dead_facts}
 use Rattle.patterns_facts.proofs.Pairs.{swap_constant_facts, drop_zero_facts, drop_one_facts, drop_all_ones_facts, cancel_itself_facts, keep_itself_facts, zero_remainder_facts}
@@ -50,3 +52,12 @@ facts ExpandRemainder = expand_remainder_facts
 facts LowerIndex = lower_index_facts
 facts LowerLoop = lower_loop_facts
 facts LowerChoice = lower_choice_facts
+
+-- a rule of canonicalization doesn't lower
+pub lowers_not : (r : Rule) → is_canonical r ≡ true → is_lowering r ≡ false
+lowers_not r canonical = go (is_expanding r) (is_lowering r) canonical
+  where
+    go : (a b : Bool) → (not a && not b) ≡ true → b ≡ false
+    go true b e = absurd cc
+    go false true e = absurd cc
+    go false false e = refl

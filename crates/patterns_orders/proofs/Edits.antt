@@ -17,6 +17,7 @@ use Rattle.ir_tree_laws.specs.Reasons.{with_id}
 use Rattle.ir_event.specs.Modules.{Module}
 use Rattle.rewriter_machine.specs.Contents.{Edit, tests, edited, all_edited}
 use Rattle.rewriter_machine.specs.Edits.{Insert, Make, Erase, Move, SetOperand, Replace, SetAttr, DropAttr, part_for}
+use Rattle.patterns_facts.specs.Near.{Still, Opens}
 use Rattle.patterns_orders.specs.Orders.{Orderly}
 use Rattle.patterns_orders.proofs.Cuts.{second, in_either, stretch_orderly}
 use Rattle.patterns_orders.proofs.Nearby.{Wide, widths, Near, near_headed, near_erased, near_put, near_moved}
@@ -32,27 +33,6 @@ pub record Stays (front stretch back : List ℕ) (n : Operation) : Type 0 where
 
 pub stays_orderly : (x : ℕ) (m n : Module) (front rest back : List ℕ) → HasDistinctIds m.tree → ids m.tree ≡ front ++ ((x ∷ rest) ++ back) → Stays front (x ∷ rest) back n.tree → Orderly x m n
 stays_orderly x m n front rest back d e s = stretch_orderly x m n front rest back s.kept d s.distinct e s.is s.order
-
--- ---- edits that move nothing: operations without regions are made in front of x, heads change, and x may be erased
--- at the end
-abbrev pub Still : ℕ → Place → List Edit → Type 0
-Still x place [] = Unit {0}
-Still x place (Make p o ∷ es) = (p ≡ place) × (regions o ≡ no_regions) × Still x place es
-Still x place (SetOperand y k v ∷ es) = Still x place es
-Still x place (Replace v w ∷ es) = Still x place es
-Still x place (SetAttr y k a ∷ es) = Still x place es
-Still x place (DropAttr y k ∷ es) = Still x place es
-Still x place (Erase y ∷ []) = y ≡ x
-Still x place (Erase y ∷ e ∷ es) = ⊥
-Still x place (Insert p o ∷ es) = ⊥
-Still x place (Move y p ∷ es) = ⊥
-
--- ---- edits that move operations of x in front of it, in order, and erase x
-abbrev pub Opens : ℕ → Place → List ℕ → List Edit → Type 0
-Opens x place ys (Replace v w ∷ es) = Opens x place ys es
-Opens x place (y ∷ ys) (Move z p ∷ es) = (z ≡ y) × (p ≡ place) × Opens x place ys es
-Opens x place [] (Erase y ∷ []) = y ≡ x
-Opens x place _ _ = ⊥
 
 ids_below : Module → Type 0
 ids_below m = (z : ℕ) → Listed z (ids m.tree) → z < m.next

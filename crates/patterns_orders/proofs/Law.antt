@@ -5,7 +5,8 @@ use Rattle.std.specs.List.{IsDistinct}
 use Rattle.std.proofs.lemmas.List.Elements.{All-head, All-tail, filter_passes}
 use Rattle.ir_types.specs.declared.refusal.Refusal.TheVariants.{Full, IdsExhausted}
 use Rattle.ir_tree.specs.declared.place.Place.{Place}
-use Rattle.ir_tree.specs.Tree.{head, regions}
+use Rattle.ir_types.specs.Terms.{TypeTerm, AttrTerm}
+use Rattle.ir_tree.specs.Tree.{OpsOf, no_ops, next, head, regions}
 use Rattle.ir_tree.specs.Ids.{ids, regions_ids, HasDistinctIds, find, op_count}
 use Rattle.ir_tree.specs.Limits.{most_ops, most_next}
 use Rattle.ir_tree.specs.Places.{place_of}
@@ -19,7 +20,7 @@ use Rattle.rewriter_machine.specs.Contents.{Edit, all_edited}
 use Rattle.patterns_base.specs.declared.rule.Rule.{Rule}
 use Rattle.patterns_base.specs.RuleNames.{all_rules, is_canonical}
 use Rattle.patterns_base.specs.Keeps.{given}
-use Rattle.patterns_base.specs.Looks.{when, is_clean, in_front, front_of}
+use Rattle.patterns_base.specs.Looks.{when, is_clean, in_front, front_of, ended_by}
 use Rattle.patterns_base.specs.Makes.{made_by}
 use Rattle.patterns_base.specs.Rules.{rule}
 use Rattle.patterns_base.specs.Rewrites.{Rewrite, none, refused, becomes, edits_of, rewrite_by, rewrite_of, carried_out}
@@ -27,12 +28,19 @@ use Rattle.patterns_base.specs.Canonicalization.{or_else, first_rule, greedy_rul
 use Rattle.patterns_orders.specs.Orders.{Orderly}
 use Rattle.patterns_orders.proofs.Cut.{own_ids, found_id}
 use Rattle.patterns_orders.proofs.Cuts.{left_in, right_in}
-use Rattle.patterns_orders.proofs.Edits.{Still, Opens, names, still_stays, opens_stays, stays_orderly}
+use Rattle.patterns_orders.proofs.Edits.{names, still_stays, opens_stays, stays_orderly}
 use Rattle.patterns_orders.proofs.Nearby.{Near, widths}
 use Rattle.patterns_orders.proofs.Order.{Listed}
 use Rattle.patterns_orders.proofs.Rootless.{unplaced}
-use Rattle.patterns_orders.proofs.Rules.{Goes, IsFine, all_fine}
+use Rattle.patterns_facts.specs.Facts.{IsNear}
+use Rattle.patterns_facts.specs.Near.{AreNear, Opens, Still}
+use Rattle.patterns_facts.proofs.Facts.{facts, lowers_not}
 use Rattle.patterns_orders.proofs.Starts.{Between, between, start, wide, Opened, opened}
+
+-- the operations of a block but the last
+before_last : (o : Operation) (os : OpsOf (List ℕ) TypeTerm AttrTerm) → (ended_by o os).before ≡ names (wide o os)
+before_last o no_ops = refl
+before_last o (next p os) = ap (λ l. (head o).id ∷ l) (before_last p os)
 
 -- edits of a rule at an operation
 record Planned (r : Rule) (m : Module) (x : ℕ) (es : List Edit) : Type 0 where
@@ -81,7 +89,7 @@ module _ (m : Module) (d : HasDistinctIds m.tree) (below : All (λ y. y < m.next
   under : (z : ℕ) → Listed z (ids m.tree) → z < m.next
   under z h = let s = present_stand [] m.tree z h in subst (λ y. y < m.next) s.2 (ids_below m.next m.tree below s.0 s.1)
 
-  edits_orderly : (es : List Edit) (o : Operation) (place : Place) → find x m.tree ≡ Some o → front_of x m.tree ≡ Some place → Goes place o es → Orderly x m (all_edited es m)
+  edits_orderly : (es : List Edit) (o : Operation) (place : Place) → find x m.tree ≡ Some o → front_of x m.tree ≡ Some place → AreNear place o es → Orderly x m (all_edited es m)
   edits_orderly es o place f p (inl s) =
       stays_orderly x m (all_edited es m) b.front (regions_ids (regions o)) b.back d (b.is ∙ ap (λ l. b.front ++ (l ++ b.back)) own)
       (still_stays x b.front b.back (regions_ids (regions o)) place (front_before x m.tree place p) m.next old es m [] (λ z h. absurd (true≢false (sym h))) (omega arith) under
@@ -100,7 +108,7 @@ module _ (m : Module) (d : HasDistinctIds m.tree) (below : All (λ y. y < m.next
       old z h = under z (subst (Listed z) (sym (b.is ∙ ap (λ l. b.front ++ (l ++ b.back)) own)) (right_in z b.front ((x ∷ regions_ids (regions o)) ++ b.back) (left_in z (x ∷ regions_ids (regions o)) b.back h)))
   edits_orderly es o place f p (inr s) =
       stays_orderly x m (all_edited es m) w.front (w.inner ++ (widths (wide s.first s.rest) ++ w.outer)) w.back d w.is
-      (opens_stays x w.front w.back w.inner w.outer place (front_before x m.tree place p) (wide s.first s.rest) es m (subst (IsDistinct eqb) w.own (own_distinct x m.tree o d f)) w.near (subst (λ y. Opens y place (names (wide s.first s.rest)) es) id s.opens))
+      (opens_stays x w.front w.back w.inner w.outer place (front_before x m.tree place p) (wide s.first s.rest) es m (subst (IsDistinct eqb) w.own (own_distinct x m.tree o d f)) w.near (subst (λ l. Opens x place l es) (before_last s.first s.rest) (subst (λ y. Opens y place (ended_by s.first s.rest).before es) id s.opens)))
     where
       id : (head o).id ≡ x
       id = found_id x m.tree o f
@@ -108,15 +116,15 @@ module _ (m : Module) (d : HasDistinctIds m.tree) (below : All (λ y. y < m.next
       w : Opened x m.tree o (wide s.first s.rest)
       w = opened x m.tree o d f id (front_inner x m.tree place d p) s.number s.args s.first s.rest s.there
 
-  rewrite_orderly : (r : Rule) → IsFine r → (n : Module) → rewrite_of r m x ≡ becomes n → Orderly x m n
+  rewrite_orderly : (r : Rule) → IsNear r → (n : Module) → rewrite_of r m x ≡ becomes n → Orderly x m n
   unfolding rewrite_of
-  rewrite_orderly r fine n e = go (edits_of r m x) refl e
+  rewrite_orderly r near n e = go (edits_of r m x) refl e
     where
       go : (a : Option (List Edit)) → edits_of r m x ≡ a → rewrite_by a m ≡ becomes n → Orderly x m n
       go None k e = absurd cc
       go (Some es) k e =
           let p = planned r m x es k in
-          subst (Orderly x m) (carried es m n e) (edits_orderly es p.here p.place p.found p.front ((fine m.tree m.next p.place p.here).each es p.by))
+          subst (Orderly x m) (carried es m n e) (edits_orderly es p.here p.place p.found p.front (near m.tree m.next p.place p.here es p.by))
 
   abbrev IsTried : Rule → Type 0
   IsTried r = is_canonical r ≡ true
@@ -129,7 +137,7 @@ module _ (m : Module) (d : HasDistinctIds m.tree) (below : All (λ y. y < m.next
       go : (a : Rewrite) → rewrite_of r m x ≡ a → (first_rule rs m x ≡ becomes n → Orderly x m n) → or_else a (first_rule rs m x) ≡ becomes n → Orderly x m n
       go none k later e = later e
       go (refused f) k later e = absurd cc
-      go (becomes p) k later e = rewrite_orderly r (all_fine r (All-head IsTried r rs h)) n (k ∙ e)
+      go (becomes p) k later e = rewrite_orderly r ((facts r).near (lowers_not r (All-head IsTried r rs h))) n (k ∙ e)
 
   pub lowest_orderly : (n : Module) → lowest m x ≡ becomes n → Orderly x m n
   lowest_orderly n e = first_orderly greedy_rules (filter_passes is_canonical all_rules) n e

@@ -6,5 +6,4 @@ pub mod Parts
 pub mod Edits
 pub mod Starts
 pub mod Rootless
-pub mod Rules
 pub mod Law

@@ -24,7 +24,7 @@ use Rattle.effects.specs.Dead.{is_unused, is_kept, may_go as may_be_missed}
 use Rattle.listeners_surroundings.specs.Surroundings.{SurroundingsOf, surroundings}
 use Rattle.patterns_laws.specs.Keeps.{given}
 use Rattle.patterns_base.specs.declared.rule.Rule.{Rule}
-use Rattle.patterns_base.specs.RuleNames.{is_canonical, is_expanding, is_lowering}
+use Rattle.patterns_base.specs.RuleNames.{is_canonical}
 use Rattle.patterns_base.specs.Looks.{Header, when, may_go, is_clean, front_of, giver, type_of}
 use Rattle.patterns_base.specs.Rules.{rule}
 use Rattle.patterns_base.specs.Rewrites.{edits_of}
@@ -33,7 +33,7 @@ use Rattle.patterns_touched.specs.Sights.{giver as giver_id, operands_of, Uses, 
 use Rattle.patterns_touched.specs.Near.{Leads}
 use Rattle.patterns_facts.specs.Alike.{Same, ShowsAlike, SeesAlike, EndsAlike, LooksAlike, last_of, shape_of}
 use Rattle.patterns_facts.proofs.Looking.{when_alike, given_both}
-use Rattle.patterns_facts.proofs.Facts.{facts}
+use Rattle.patterns_facts.proofs.Facts.{facts, lowers_not}
 use Rattle.patterns_touched.specs.Listing.{Lists, Stayed, Touched}
 use Rattle.patterns_touched.proofs.Ending.{last_ends}
 use Rattle.patterns_touched.proofs.Reaching.{all_far}
@@ -45,14 +45,6 @@ use Rattle.patterns_touched.proofs.Unlisted.{found_surroundings, surroundings_fo
 not_so : (b : Bool) → (b ≡ true → ⊥) → b ≡ false
 not_so true h = absurd (h refl)
 not_so false h = refl
-
-lowers_not : (r : Rule) → is_canonical r ≡ true → is_lowering r ≡ false
-lowers_not r canonical = go (is_expanding r) (is_lowering r) canonical
-  where
-    go : (a b : Bool) → (not a && not b) ≡ true → b ≡ false
-    go true b e = absurd cc
-    go false true e = absurd cc
-    go false false e = refl
 
 map_member : {X Y : Type 0} (f g : X → Y) (xs : List X) → map f xs ≡ map g xs → (x : X) → In x xs → f x ≡ g x
 map_member f g [] e x h = absurd h
