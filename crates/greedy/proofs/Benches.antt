@@ -23,7 +23,7 @@ use Rattle.patterns.specs.Held.{Held, module_held, module_at, open_marks, open_m
 use Rattle.rewriter.specs.Journals.{before}
 use Rattle.rewriter.specs.Moves.{all_noted}
 use Rattle.rewriter.specs.Mark.{Mark}
-use Rattle.patterns_orders.proofs.Order.{after_at, after_past, second_there}
+use Rattle.greedy.proofs.Listed.{after_at, after_past, second_there}
 use Rattle.greedy.specs.Benches.{Formed, Onward}
 use Rattle.greedy.specs.Following.{HasFewRegions, comes_next, following}
 

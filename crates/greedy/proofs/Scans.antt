@@ -17,10 +17,10 @@ use Rattle.patterns_base.specs.RuleNames.{all_rules, is_canonical}
 use Rattle.patterns_base.specs.Canonicalization.{or_else, first_rule, lowest, first_among, next_rewrite}
 use Rattle.greedy.specs.Outcomes.{Applied, Refuses}
 use Rattle.greedy.specs.Work.{waits, IsWork, Right, CoversBut, StillWaits, Taken, NoneWaits}
-use Rattle.patterns_listing.specs.touching.Sights.{is_listed}
-use Rattle.patterns_listing.specs.touching.Listing.{Touched}
+use Rattle.patterns_touched.specs.Sights.{is_listed}
+use Rattle.patterns_touched.specs.Listing.{Touched}
 use Rattle.greedy.proofs.EachRule.{of_each}
-use Rattle.patterns_orders.proofs.Order.{first_there, listed_at, listed_more, listed_past}
+use Rattle.greedy.proofs.Listed.{first_there, listed_at, listed_more, listed_past}
 
 -- a rewrite that there is
 becomes_none : (p : Module) → becomes p ≡ none → ⊥

@@ -5,3 +5,4 @@ pub mod Noting
 pub mod Changes
 pub mod Lawful
 pub mod Following
+pub mod Orders

@@ -6,8 +6,8 @@ use Rattle.ir_tree_laws.specs.Reads.{precedes}
 use Rattle.ir_event.specs.Modules.{Module}
 use Rattle.patterns_base.specs.Rewrites.{none}
 use Rattle.patterns_base.specs.Canonicalization.{lowest}
-use Rattle.patterns_orders.specs.Orders.{Orderly}
-use Rattle.patterns_listing.specs.touching.Sights.{is_listed}
+use Rattle.greedy.specs.Orders.{Orderly}
+use Rattle.patterns_touched.specs.Sights.{is_listed}
 
 -- ---- the worklist
 

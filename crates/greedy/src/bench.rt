@@ -21,7 +21,7 @@ use crate::walk::{following, preceding};
 use ir_types::ids::OpId;
 use ir_types::refusal::Refusal;
 use patterns::lowest::lowest;
-use patterns_listing::journal::touched;
+use patterns_touched::journal::touched;
 use rewriter::Bench;
 use rewriter::finish::finish;
 use rewriter::laws::led_benches_are_kept;
@@ -62,8 +62,8 @@ impl<L: Analysis> Rewriting for Bench<L> {
     ghost use Rattle.std.specs.Prelude.{length};
     ghost use Rattle.patterns.specs.Held.{module_at, module_held, open_marks};
     ghost use Rattle.patterns.specs.Interned.{IsFull};
-    ghost use Rattle.patterns_orders.proofs.Law.{lowest_orderly};
-    ghost use Rattle.patterns_orders.proofs.Rootless.{rootless};
+    ghost use Rattle.greedy.proofs.Law.{lowest_orderly};
+    ghost use Rattle.greedy.proofs.Rootless.{rootless};
     ghost use Rattle.greedy.specs.Benches.{Formed, Onward};
     ghost use Rattle.greedy.specs.Lawful.{full_stays, onward_stays, onward_through};
 

@@ -2,6 +2,7 @@
 #![tactic(auto)]
 
 pub mod bench;
+pub mod laws;
 pub mod outcome;
 pub mod rewriting;
 pub mod run;

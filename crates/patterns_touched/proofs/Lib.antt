@@ -10,3 +10,11 @@ pub mod Usings
 pub mod Lasting
 pub mod Unlisted
 pub mod Applying
+pub mod Leading
+mod Adding
+mod BlockEnds
+mod Using
+mod Climbing
+mod Reached
+mod Gathering
+mod Journaled

@@ -3,3 +3,6 @@ pub mod Sights
 pub mod Climbs
 pub mod Near
 pub mod Listing
+pub mod Shown
+pub mod Adding
+pub mod Parts

@@ -1,15 +1,18 @@
 //! Laws of what events leave. Each is a function that does nothing: its contract is the law.
-ghost use Rattle.std.specs.Prelude.{◌≡◌, ℕ, List, true, false};
+ghost use Rattle.std.specs.Prelude.{◌≡◌, ℕ, List, drop, true, false};
 ghost use Rattle.ir_types.specs.Things.{Things};
 ghost use Rattle.ir_event.specs.declared.event.Event.{Event as Edit};
-ghost use Rattle.ir_event.specs.Modules.{Module};
+ghost use Rattle.ir_event.specs.Modules.{Module, module_meaning};
 ghost use Rattle.ir_event.specs.Step.{Step, Steps};
 ghost use Rattle.listeners_surroundings.specs.Surroundings.{surroundings};
 ghost use Rattle.ir_tree.specs.declared.value.Value.{Value};
 ghost use Rattle.ir_tree.specs.Ids.{HasDistinctIds};
+ghost use Rattle.ir_store.specs.Stored.{Stored};
+ghost use Rattle.rewriter_journal.specs.Journals.{IsJournal, before};
 ghost use Rattle.patterns_touched.specs.Listing.{Lists, Touched};
 ghost use Rattle.patterns_touched.specs.Near.{Leads};
 ghost use Rattle.patterns_touched.specs.Reached.{any_reaches, ends, reaches};
+ghost use Rattle.patterns_touched.specs.Shown.{shown_operands};
 ghost use Rattle.patterns_touched.specs.Sights.{ListsAround, ListsSeers, end_sight, is_listed, sight};
 
 /// Events leave the surroundings of each operation that none of them reaches, as told from the module after them all.
@@ -42,4 +45,10 @@ pub fn unlisted_operations_keep_their_ends()
 pub fn rules_apply_alike_at_unlisted_operations()
     ensures { (shown : ℕ → List Value) (c : Things) (es : List Edit) (m n : Module) (listed : List ℕ)
         → Leads shown c es m n → HasDistinctIds n.tree → Lists shown es listed n.tree → Touched m n listed }
+{}
+
+/// The events of a journal from one on lead to what its store holds, and what they took still shows its operands.
+pub fn journals_lead()
+    ensures { (c : Things) (es : List Edit) (s : Stored) → IsJournal c es s → (k : ℕ)
+        → Leads (shown_operands s) c (drop k es) (before c (drop k es) s) (module_meaning c s.module_of) }
 {}
