@@ -1,6 +1,9 @@
 pub mod States
 pub mod Benches
 pub mod Converting
+pub mod Givers
+pub mod Waiting
+pub mod Walks
 pub use Rattle.conversion_base.specs.Targets
 pub use Rattle.conversion_base.specs.Legalization
 pub use Rattle.conversion_base.specs.Reconciling

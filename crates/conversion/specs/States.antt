@@ -12,7 +12,7 @@ use Rattle.conversion.specs.declared.tried.Tried.{Tried}
 use Rattle.conversion.specs.declared.fault.Fault.{Fault}
 use Rattle.conversion_base.specs.Conversion.{Ended, converted, given_up}
 use Rattle.conversion_base.specs.Legalization.{Outcome, legalised, failed, stopped}
-use Rattle.conversion_casts.specs.Waiting.{Freed}
+use Rattle.conversion.specs.Waiting.{Freed}
 
 -- the context, the module in contents, and the open marks, the newest first
 pub record State : Type 0 where

@@ -9,12 +9,12 @@ ghost use Rattle.conversion_base.specs.Rewrites.{becomes, carried_out, rewrite_o
 ghost use Rattle.conversion.specs.Benches.{LedOn, desk_of, seen};
 ghost use Rattle.conversion.specs.States.{Answers, Leads};
 
+use crate::givers::givers;
 use crate::rewriting::Rewriting;
 use conversion_base::casts::{index_edits, is_cast, is_inner_cast, is_unused};
 use conversion_base::rule::Rule;
 use conversion_base::target::Target;
 use conversion_base::{accepted, legal};
-use conversion_casts::givers::givers;
 use ir_event::analysis::Analysis;
 use ir_types::ids::OpId;
 use ir_types::refusal::Refusal;

@@ -7,14 +7,14 @@ ghost use Rattle.ir_tree.specs.Ids.{ids};
 ghost use Rattle.conversion_base.specs.Conversion.{ended};
 ghost use Rattle.conversion_base.specs.Listing.{HaveCasts, casts_among};
 ghost use Rattle.conversion_base.specs.Reconciling.{all_collapsed, collapse, collapsed, next_collapse};
-ghost use Rattle.conversion_casts.specs.Waiting.{ArePlaces, Freed};
-ghost use Rattle.conversion_casts.specs.Walks.{Taken, Walked};
+ghost use Rattle.conversion.specs.Waiting.{ArePlaces, Freed};
+ghost use Rattle.conversion.specs.Walks.{Taken, Walked};
 ghost use Rattle.conversion.specs.States.{AnswersBehind, Ends, FreedIf, Leads, Looked, none_of};
 
 use crate::fault::Fault;
+use crate::places::places_of;
 use crate::rewriting::Rewriting;
-use conversion_casts::places::places_of;
-use conversion_casts::walk::{Walk, free, start, take};
+use crate::walk::{Walk, free, start, take};
 use ir_types::ids::OpId;
 use ir_types::refusal::Refusal;
 use std::alloc::Global;

@@ -10,7 +10,7 @@ ghost use Rattle.conversion_base.specs.Rewrites.{rewrite_of};
 ghost use Rattle.conversion_base.specs.RuleNames.{is_converting};
 ghost use Rattle.conversion_base.specs.Targets.{IsAimIn, IsNamedIn, aim_of, is_accepted, is_legal};
 ghost use Rattle.conversion_base.specs.Reconciling.{collapse, index_rewrite, is_cast};
-ghost use Rattle.conversion_casts.specs.Walks.{Gives};
+ghost use Rattle.conversion.specs.Walks.{Gives};
 ghost use Rattle.conversion.specs.States.{State, Answers, Committed, Leads, RolledBack, marked, marked_desk};
 
 use conversion_base::rule::Rule;

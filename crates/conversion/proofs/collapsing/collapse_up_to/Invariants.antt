@@ -1,5 +1,5 @@
 use Rattle.conversion_base.specs.Listing.{HaveCasts}
-use Rattle.conversion_casts.specs.Walks.{Walked}
+use Rattle.conversion.specs.Walks.{Walked}
 use Rattle.conversion.specs.States.{Leads}
 use Rattle.conversion.proofs.Turns.{Collapsing}
 use Rattle.conversion.proofs.collapsing.collapse_up_to.Given as goal
