@@ -48,8 +48,8 @@ module _ (w : World) (h : Held) (ctx : w.ctx ≡ h.ctx) (store : w.store ≡ h.s
 
   -- an operation that isn't there isn't in the store either
   pub is_there : (b : Bool) → b ≡ has_id x w.store.module_of.tree → b ≡ true → has_id x (module_held h).tree ≡ false → ⊥
-  is_there b e is no =
-      let n : true ≡ false = sym is ∙ e ∙ sym (map_has_id (name_term w.ctx) (type_term w.ctx) (attr_term w.ctx) x w.store.module_of.tree) ∙ ap (λ (m : Module). has_id x m.tree) same_module ∙ no in
+  is_there b e is gone =
+      let n : true ≡ false = sym is ∙ e ∙ sym (map_has_id (name_term w.ctx) (type_term w.ctx) (attr_term w.ctx) x w.store.module_of.tree) ∙ ap (λ (m : Module). has_id x m.tree) same_module ∙ gone in
       absurd cc
 
   pub not_there : (rewrite : Rewrite) (c : Things) (b : Bool) → b ≡ has_id x w.store.module_of.tree → b ≡ false → IsReason rewrite x (module_held h) c NoSuchOp

@@ -37,7 +37,7 @@ filtered : (r : Rule) (rs : List Rule) (b : Bool) → is_canonical r ≡ b → g
 filtered r rs b e = ap (λ b. if b then r ∷ greedy rs else greedy rs) e
 
 pub past : (r : Rule) (m : Module) (x : ℕ) → is_canonical r ≡ false → (rs : List Rule) → first_rule (greedy (r ∷ rs)) m x ≡ first_rule (greedy rs) m x
-past r m x no rs = ap (λ z. first_rule z m x) (filtered r rs false no)
+past r m x untried rs = ap (λ z. first_rule z m x) (filtered r rs false untried)
 
 pub left_out : (r : Rule) (m : Module) (x : ℕ) → is_canonical r ≡ true → None ≡ edits_of r m x → (rs : List Rule) → first_rule (greedy (r ∷ rs)) m x ≡ first_rule (greedy rs) m x
 left_out r m x is e rs =

@@ -31,3 +31,11 @@ pub returns-in-StopLoop-clause-left_out : goal.returns-in-StopLoop-clause-left_o
 returns-in-StopLoop-clause-left_out c e =
     never c.args.world.now c.args.op c.args.rule (ap is_canonical c.in-StopLoop.is)
     (λ o f n front. when_stop_loop (module_in c.args.world.now).tree n front c.args.op o f None c.args.rule c.in-StopLoop.is (sym (c.may_stop.ensures front e)))
+
+pub returns-then-is_canonical : goal.returns-then-is_canonical
+returns-then-is_canonical c =
+    let tries = sym c.is_canonical.ensures ∙ c.if-is_canonical.true in
+    record {
+      tried = λ e. tries;
+      left_out = λ e. never c.args.world.now c.args.op c.args.rule tries (c.may_apply.ensures e);
+    }

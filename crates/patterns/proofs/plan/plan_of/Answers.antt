@@ -20,3 +20,10 @@ returns-in-StopLoop-clause-edits c =
     IfOk-weaker c.plan_stop_loop.result _ _
     (λ p h o f. when_stop_loop (module_in c.args.world.now).tree (module_in c.args.world.now).next c.args.front.now c.args.op o f _ c.args.rule c.in-StopLoop.is h)
     c.plan_stop_loop.ensures.edits
+
+pub returns-in_default : goal.returns-in_default
+returns-in_default c =
+    record {
+      edits = IfOk-weaker c.plan.result _ _ (λ p h o f. h o f (module_in c.args.world.now).next c.args.front.now) c.plan.ensures.edits;
+      of = c.plan.ensures.fit;
+    }
