@@ -8,8 +8,8 @@ bench/wrong_bodies/CRATE/NAME.control, changes the lines that the edit changes, 
 means what the contract says.
 
 Each control is put into a copy of its crate, which is checked with the words of rt, over a copy of what was kept of the
-crate's last check. Prints a line for each: that the crate is proved with it, or the first goal that isn't, and what else
-is wrong: an edit of the gate without a control, a control without its edit or of other lines. Libraries below that
+crate's last check. Prints a line for each: that the crate is proved with it, or the first goal that isn't, and what
+else is wrong: an edit of the gate without a control, a control without its edit or of other lines. Libraries below that
 aren't built are built first.
 
 usage: gate/controls.py [CRATE..]       (each crate whose edits the gate tries, or that has controls)"""

@@ -3,6 +3,7 @@ use Rattle.patterns_base.specs.Rewrites.{none}
 use Rattle.patterns_base.specs.Canonicalization.{next_rewrite}
 use Rattle.greedy.specs.Outcomes.{Applied, Refuses}
 use Rattle.greedy.specs.Work.{Right, Rewritten}
+use Rattle.greedy.proofs.Noting.{noted_more}
 use Rattle.greedy.proofs.Scans.{took_none, said, said_none, said_refuses, all_none, rewrote}
 use Rattle.greedy.proofs.run.one.Goals as goal
 
@@ -52,10 +53,10 @@ returns-clause-ok g c =
     subst (λ p. Applied (next_rewrite p) false p m) h (subst (λ a. Applied a false m m) (sym e) (refl, refl))
 
 pub returns-in-Err-renew-clause-onward : goal.returns-in-Err-renew-clause-onward
-returns-in-Err-renew-clause-onward g c = g.R.Rewriting.through _ _ _ c.waiting.invariant.1.1.1 c.lowest.ensures.onward
+returns-in-Err-renew-clause-onward g c = g.R.Rewriting.through _ _ _ c.waiting.invariant.1.1.1.0 c.lowest.ensures.onward
 
 pub returns-in-Err-clause-onward : goal.returns-in-Err-clause-onward
-returns-in-Err-clause-onward g c = g.R.Rewriting.through _ _ _ c.waiting.invariant.1.1.1 c.lowest.ensures.onward
+returns-in-Err-clause-onward g c = g.R.Rewriting.through _ _ _ c.waiting.invariant.1.1.1.0 c.lowest.ensures.onward
 
 pub waiting-preserved-in-Ok-false : goal.waiting-preserved-in-Ok-false
 waiting-preserved-in-Ok-false g c =
@@ -71,7 +72,22 @@ waiting-preserved-in-Ok-false g c =
         c.lowest.ensures.marks ∙ c.waiting.invariant.1.0,
         (
           subst (λ p. Right v.passed v.again.items p) h (took_none m c.in-Some.op w.passed w.again.items v.passed v.again.items r c.in-Some.ensures q.0),
-          g.R.Rewriting.through _ _ _ c.waiting.invariant.1.1.1 c.lowest.ensures.onward,
+          (
+            g.R.Rewriting.through _ _ _ c.waiting.invariant.1.1.1.0 c.lowest.ensures.onward,
+            noted_more _ _ _ c.waiting.invariant.1.1.1.1 c.lowest.ensures.journal,
+          ),
         ),
       ),
     )
+
+pub returns-in-Ok-clause-journal : goal.returns-in-Ok-clause-journal
+returns-in-Ok-clause-journal g c = noted_more _ _ _ c.waiting.invariant.1.1.1.1 c.lowest.ensures.journal
+
+pub returns-in-Err-renew-clause-journal : goal.returns-in-Err-renew-clause-journal
+returns-in-Err-renew-clause-journal g c = noted_more _ _ _ c.waiting.invariant.1.1.1.1 c.lowest.ensures.journal
+
+pub returns-in-Err-clause-journal : goal.returns-in-Err-clause-journal
+returns-in-Err-clause-journal g c = noted_more _ _ _ c.waiting.invariant.1.1.1.1 c.lowest.ensures.journal
+
+pub returns-clause-journal : goal.returns-clause-journal
+returns-clause-journal g c = c.waiting.invariant.1.1.1.1
