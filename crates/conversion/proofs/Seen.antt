@@ -17,7 +17,7 @@ use Rattle.rewriter.proofs.Calls.{stepped, unstepped}
 use Rattle.rewriter.proofs.Told.{heard_none}
 use Rattle.rewriter.specs.Machine.{Goes, Nothing, Step}
 use Rattle.rewriter.specs.Wholes.{IsFinished}
-use Rattle.patterns.specs.Interned.{IsFull as AddedFull}
+use Rattle.patterns.specs.runs.Interning.{IsFull as AddedFull}
 use Rattle.patterns.specs.Applied.{Applied, Gave, IsReason}
 use Rattle.patterns.specs.Benched.{Benched, Keeps, Led, reply_of, state_of}
 use Rattle.patterns.specs.Held.{Held, module_held, open_marks}

@@ -1,9 +1,11 @@
 -- Scans for the first rewrite, and what runs come to.
-use Rattle.std.proofs.Common.{◌≡◌, ◌≢◌, refl, ap, sym, ◌∙◌, subst, ℕ, zero, suc, ◌+◌, ◌≤◌, ◌<◌, inl, inr, Bool, true, false, cond, eqb, eqb-true, eq-eqb, List, [], ◌∷◌, Option, Some, None, true≢false, arith}
+use Rattle.std.proofs.Common.{◌≡◌, ◌≢◌, refl, ap, sym, ◌∙◌, subst, ℕ, zero, suc, ◌+◌, ◌≤◌, ◌<◌, inl, inr, ◌⊎◌, Bool, true, false, ◌||◌, cond, eqb, eqb-true, eq-eqb, List, [], ◌∷◌, Option, Some, None, true≢false, arith}
 use Rattle.std.specs.Prelude.{nat_le}
-use Rattle.std.specs.List.{filter}
+use Rattle.std.specs.List.{filter, list_any}
 use Rattle.ir_types.specs.declared.refusal.Refusal.{Refusal}
-use Rattle.ir_tree.specs.Ids.{ids, has_id, op_count}
+use Rattle.ir_tree.specs.Tree.{op, head}
+use Rattle.ir_tree.specs.Ids.{ids, regions_ids, has_id, op_count, HasDistinctIds}
+use Rattle.ir_tree.specs.Meaning.{Operation}
 use Rattle.ir_tree.specs.Limits.{most_ops, most_next}
 use Rattle.ir_tree_laws.specs.Reads.{comes_after, precedes}
 use Rattle.ir_tree_laws.proofs.Listed.{bool_cases}
@@ -20,6 +22,7 @@ use Rattle.greedy.specs.Work.{waits, IsWork, Right, CoversBut, StillWaits, Taken
 use Rattle.patterns_touched.specs.Sights.{is_listed}
 use Rattle.patterns_touched.specs.Listing.{Touched}
 use Rattle.greedy.proofs.EachRule.{of_each}
+use Rattle.greedy.proofs.Rootless.{rootless}
 use Rattle.greedy.proofs.Listed.{first_there, listed_at, listed_more, listed_past}
 
 -- a rewrite that there is
@@ -148,6 +151,25 @@ renewed m n x listed p a p2 a2 p3 a3 p4 a4 touched but s1 s2 here s3 all w = rec
             | inr q ↦ none_of n z (λ r c. (s.applies r c).1 (none_at m z q r c))
           ]
         ]
+  ];
+}
+
+-- ---- the worklist of the root alone: no rule applies there, and all others come after it
+root_or_behind : (m : Module) (t : Operation) (z : ℕ) → has_id z t ≡ true → (z ≡ (head t).id) ⊎ (precedes (head t).id z t ≡ true)
+root_or_behind m (op h rs) z e = elim (bool_cases (eqb h.id z)) [
+  | inl k ↦ inl (sym (eqb-true h.id z k))
+  | inr k ↦ inr (before_here m h.id z (regions_ids rs) (listed_past h.id z (regions_ids rs) k e))
+]
+
+root_there : (t : Operation) → has_id (head t).id t ≡ true
+root_there (op h rs) = ap (λ b. b || list_any (λ y. eqb y h.id) (regions_ids rs)) (eq-eqb h.id h.id refl)
+
+pub begun : (m : Module) → HasDistinctIds m.tree → Right (head m.tree).id [] m
+begun m d = record {
+  work = record { there = root_there m.tree; inside = λ y k. absurd (true≢false (sym k)); behind = λ y k. absurd (true≢false (sym k)); falls = tt };
+  covers = λ z h w. elim (root_or_behind m m.tree z h) [
+    | inl e ↦ subst (λ y. lowest m y ≡ none) (sym e) (rootless m d)
+    | inr k ↦ absurd (true≢false (sym (ap (λ b. b || is_listed z []) k) ∙ w))
   ];
 }
 

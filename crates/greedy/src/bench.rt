@@ -8,7 +8,7 @@ ghost use Rattle.rewriter.specs.Moves.{Recorded};
 ghost use Rattle.patterns.specs.runs.Runs.{Noted};
 ghost use Rattle.patterns.specs.Benched.{Does, Led};
 ghost use Rattle.patterns.specs.Held.{module_held};
-ghost use Rattle.patterns.specs.Interned.{IsFull};
+ghost use Rattle.patterns.specs.runs.Interning.{IsFull};
 ghost use Rattle.greedy.specs.Changes.{canonical_reply, canonicalizing};
 ghost use Rattle.greedy.specs.Outcomes.{IsReason};
 
@@ -61,9 +61,7 @@ fn outermost(store: &Store) -> OpId
 impl<L: Analysis> Rewriting for Bench<L> {
     ghost use Rattle.std.specs.Prelude.{length};
     ghost use Rattle.patterns.specs.Held.{module_at, module_held, open_marks};
-    ghost use Rattle.patterns.specs.Interned.{IsFull};
-    ghost use Rattle.greedy.proofs.Law.{lowest_orderly};
-    ghost use Rattle.greedy.proofs.Rootless.{rootless};
+    ghost use Rattle.patterns.specs.runs.Interning.{IsFull};
     ghost use Rattle.greedy.specs.Benches.{Formed, Onward};
     ghost use Rattle.greedy.specs.Lawful.{full_stays, onward_stays, onward_through};
 
@@ -81,9 +79,7 @@ impl<L: Analysis> Rewriting for Bench<L> {
 
     ghost distinct = { λ m f. f.distinct };
 
-    ghost rootless = { λ m f. rootless m f.distinct };
-
-    ghost orderly = { λ m x n f e. lowest_orderly m f.distinct f.below x n e };
+    ghost below = { λ m f. f.below };
 
     ghost onward = { Onward L.meaning };
 

@@ -1,7 +1,7 @@
 //! What the driver needs of a bench and of the rules.
-ghost use Rattle.std.specs.Prelude.{◌≡◌, ◌≢◌, ◌≤◌, IfOk, IfErr, OnErr, OnOk, IfSome, IfNone, ◌⊎◌, [], ◌∷◌, List, ℕ, true, false};
+ghost use Rattle.std.specs.Prelude.{◌≡◌, ◌≢◌, ◌<◌, ◌≤◌, All, IfOk, IfErr, OnErr, OnOk, IfSome, IfNone, ◌⊎◌, [], ◌∷◌, List, ℕ, true, false};
 ghost use Rattle.ir_types.specs.declared.refusal.Refusal.TheVariants.{Memory as NoMemory};
-ghost use Rattle.ir_tree.specs.Ids.{HasDistinctIds, has_id};
+ghost use Rattle.ir_tree.specs.Ids.{HasDistinctIds, has_id, ids};
 ghost use Rattle.ir_tree.specs.Tree.{head};
 ghost use Rattle.ir_tree_laws.specs.Reads.{precedes};
 ghost use Rattle.ir_event.specs.Modules.{Module};
@@ -9,12 +9,10 @@ ghost use Rattle.rewriter_machine.specs.Machine.{OpenMark};
 ghost use Rattle.rewriter.specs.Held.{Held};
 ghost use Rattle.rewriter.specs.Rolling.{Dropped};
 ghost use Rattle.patterns.specs.runs.Runs.{Noted};
-ghost use Rattle.patterns_base.specs.Rewrites.{becomes, none};
 ghost use Rattle.patterns_base.specs.Canonicalization.{lowest};
 ghost use Rattle.greedy.specs.Noting.{marked};
 ghost use Rattle.greedy.specs.Outcomes.{Applied, Refuses};
 ghost use Rattle.greedy.specs.Following.{following};
-ghost use Rattle.greedy.specs.Orders.{Orderly};
 ghost use Rattle.patterns_touched.specs.Listing.{Touched};
 
 use ir_types::ids::OpId;
@@ -36,14 +34,12 @@ pub trait Rewriting {
     /// The context, the module, the journal and the marks, in numbers.
     ghost desk: { Self → Held };
 
-    /// Which modules are held, and what the rules do with these.
+    /// Which modules are held: their ids are distinct, and below the next free one.
     ghost formed: { Module → Type 0 };
 
     ghost distinct: { (m : Module) → formed m → HasDistinctIds m.tree };
 
-    ghost rootless: { (m : Module) → formed m → lowest m (head m.tree).id ≡ none };
-
-    ghost orderly: { (m : Module) (x : ℕ) (n : Module) → formed m → lowest m x ≡ becomes n → Orderly x m n };
+    ghost below: { (m : Module) → formed m → All (λ y. y < m.next) (ids m.tree) };
 
     /// What its calls keep beside: of a bench, that its listeners are told of what leads from one module to the other.
     ghost onward: { Self → Self → Type 0 };
