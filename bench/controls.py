@@ -1,17 +1,18 @@
 #!/usr/bin/env python3
-"""Tries the controls of the gate's wrong bodies: right bodies that the prover must accept.
+"""Tries the controls of wrong bodies: right bodies that the prover must accept.
 
-An edit of the gate (crates/CRATE/must-fail/NAME.edit) says something of a contract only where it is refused for what its
-body means, and not for its form: an answer in proofs/ names the calls and branches of its function, so a body of another
-form may be refused however right it is. Its control, bench/wrong_bodies/controls/CRATE/NAME.edit, changes the lines that
-the edit changes, with the same calls and branches, and means what the contract says.
+A wrong body (crates/CRATE/must-fail/NAME.edit, or bench/wrong_bodies/CRATE/NAME.edit) says something of a contract only
+where it is refused for what it means, and not for its form: an answer in proofs/ names the calls and branches of its
+function, so a body of another form may be refused however right it is. Its control, controls/CRATE/NAME.edit in
+bench/wrong_bodies, changes the lines that the edit changes, with the same calls and branches, and means what the
+contract says. Each edit of the gate has one, and some of the others do.
 
-Each control is put into a copy of its crate, which is checked with the words of rt, over a copy of what was kept of the
-crate's last check. Prints a line for each: that the crate is proved with it, or the first goal that isn't, and what else
-is wrong: an edit of the gate without a control, a control without its edit or of other lines. Libraries below that
-aren't built are built first.
+Each control is put into a copy of its crate, which is checked with the words of rt, over a copy of what was kept of
+the crate's last check. Prints a line for each: that the crate is proved with it, or the first goal that isn't, and
+what else is wrong: an edit of the gate without a control, a control without its edit or of other lines. Libraries
+below that aren't built are built first.
 
-usage: bench/controls.py [CRATE..]      (each crate whose edits the gate tries)"""
+usage: bench/controls.py [CRATE..]      (each crate with controls, or whose edits the gate tries)"""
 import functools
 import importlib.machinery
 import importlib.util
@@ -22,7 +23,7 @@ import sys
 import tempfile
 
 ROOT = next(it for it in pathlib.Path(__file__).resolve().parents if (it / "crates.txt").is_file())
-CONTROLS = ROOT / "bench/wrong_bodies/controls"
+BODIES = ROOT / "bench/wrong_bodies"
 PLACES = ("file: ", "old: ")
 
 
@@ -69,11 +70,12 @@ def tried(rt, crate, control, kept):
 def try_all(rt, name):
     """Tries the controls of a crate, and gives for each edit or control whether all is well, and what to say."""
     crate = rt.Crate(str(ROOT / "crates" / name), str(ROOT), {})
-    edits, controls = edits_of(ROOT / "crates" / name / "must-fail"), edits_of(CONTROLS / name)
-    for it in edits.keys() - controls.keys():
+    gate, controls = edits_of(ROOT / "crates" / name / "must-fail"), edits_of(BODIES / "controls" / name)
+    edits = {**edits_of(BODIES / name), **gate}
+    for it in gate.keys() - controls.keys():
         yield it, False, "the edit of the gate has no control"
     for it in controls.keys() - edits.keys():
-        yield it, False, "the gate has no such edit"
+        yield it, False, "there is no such edit"
     both = [it for it in controls if it in edits]
     if both and any(it.build_rlib(["--jobs", "1"], anew=False) for it in crate.below()):
         yield from ((it, False, "not tried: a library below isn't proved") for it in both)
@@ -89,11 +91,17 @@ def try_all(rt, name):
                 yield it, False, "it changes other lines than its edit"
 
 
+def every():
+    """The crates with controls, or whose edits the gate tries."""
+    of_gate = {it.parents[1].name for it in ROOT.glob("crates/*/must-fail/*.edit")}
+    return sorted(of_gate | {it.parent.name for it in BODIES.glob("controls/*/*.edit")})
+
+
 def main(names):
     rt = toolchain()
     rt.rtlib.guarded()
     count = wrong = 0
-    for name in names or sorted({it.parent.parent.name for it in ROOT.glob("crates/*/must-fail/*.edit")}):
+    for name in names or every():
         for edit, is_well, said in try_all(rt, name):
             print(f"control {name}/{edit}: {said}", flush=True)
             count, wrong = count + 1, wrong + (not is_well)
