@@ -96,6 +96,12 @@ def try_all(rt, name):
                 yield it, False, "it changes other lines than its edit"
 
 
+def every():
+    """The crates with controls, or whose edits the gate tries."""
+    of_gate = {it.parents[1].name for it in ROOT.glob("crates/*/must-fail/*.edit")}
+    return sorted(of_gate | {it.parent.name for it in BODIES.glob("controls/*/*.edit")})
+
+
 def main(names):
     rt = toolchain()
     rt.rtlib.guarded()
