@@ -1,24 +1,24 @@
 -- A table that was made in order knows what the walk finds.
 use Rattle.std.proofs.Common.{◌≡◌, ℕ, List, [], ◌∷◌, Option, Some, None, inl, inr, refl, sym, ap, ◌∙◌, subst, map}
-use Rattle.ir.specs.trees.Ids.{ids, HasDistinctIds}
-use Rattle.ir.specs.trees.Meaning.{Operation}
-use Rattle.ir.specs.laws.Members.{In}
+use Rattle.ir_tree.specs.Ids.{ids, HasDistinctIds}
+use Rattle.ir_tree.specs.Meaning.{Operation}
+use Rattle.ir_tree_laws.specs.Members.{In}
 use Rattle.std.specs.Ordering.{nat_cmp}
 use Rattle.std.specs.Map.{lookup}
 use Rattle.std.specs.BTreeMap.{BTreeMap, is_at}
-use Rattle.ir.specs.types.declared.bits.Bits.{Bits}
+use Rattle.ir_types.specs.declared.bits.Bits.{Bits}
 use Rattle.dialects_int.specs.Folds.{known_of}
-use Rattle.ir.specs.types.Terms.{name_term, type_term, attr_term}
-use Rattle.ir.proofs.of_trees.Mapped.{map_ids}
-use Rattle.ir.specs.events.declared.world.World.{World}
-use Rattle.ir.specs.events.Modules.{module_in}
-use Rattle.ir.proofs.of_events.Steps.{formed_meaning}
-use Rattle.ir.specs.events.Heads.{heads}
+use Rattle.ir_types.specs.Terms.{name_term, type_term, attr_term}
+use Rattle.ir_tree.proofs.Mapped.{map_ids}
+use Rattle.ir_event.specs.declared.world.World.{World}
+use Rattle.ir_event.specs.Modules.{module_in}
+use Rattle.ir_event.proofs.Steps.{formed_meaning}
+use Rattle.ir_event.specs.Heads.{heads}
 use Rattle.constants.specs.Facts.{Header, Facts, look, folded, folded_if}
 use Rattle.constants.specs.Walk.{with_fact, walk, facts_of, AreOrdered}
 use Rattle.constants.proofs.Knowing.{listed}
 use Rattle.constants.proofs.Looked.{look_heads}
-use Rattle.ir.proofs.of_events.Flat.{heads_ids}
+use Rattle.ir_event.proofs.Flat.{heads_ids}
 use Rattle.constants.proofs.Ordering.{ordered_tree}
 use Rattle.constants.specs.Tables.{known_in, look_in, WalkedIds}
 

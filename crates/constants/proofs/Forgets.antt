@@ -3,8 +3,8 @@ use Rattle.std.proofs.Common.{◌≡◌, ◌≢◌, ◌<◌, ◌≤◌, ◌+◌,
 use Rattle.std.proofs.Math.Seq.{drop-cons}
 use Rattle.std.proofs.Math.ListN.{drop_of_length-le}
 use Rattle.std.proofs.lemmas.List.{drop-append-le}
-use Rattle.ir.specs.laws.Members.{In}
-use Rattle.ir.proofs.of_laws.Listed.{in_left, in_right, in_parts}
+use Rattle.ir_tree_laws.specs.Members.{In}
+use Rattle.ir_tree_laws.proofs.Listed.{in_left, in_right, in_parts}
 use Rattle.dialects_int.specs.Folds.{Known}
 use Rattle.constants.specs.Facts.{Header, Facts, value, AreLocal, folded_if}
 use Rattle.constants.specs.Walk.{with_fact}

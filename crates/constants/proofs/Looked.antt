@@ -3,13 +3,13 @@ use Rattle.std.proofs.Common.{◌≡◌, ℕ, List, [], ◌∷◌, ◌++◌, tru
 use Rattle.std.specs.Option.{option_map}
 use Rattle.std.specs.Prelude.{IsTrue}
 use Rattle.std.proofs.lemmas.Bool.Decides.{nat_tests}
-use Rattle.ir.specs.types.Words.{is_isolated}
-use Rattle.ir.specs.types.Terms.{TypeTerm, AttrTerm}
-use Rattle.ir.specs.trees.Tree.{op, RegionsOf, no_regions, region, RegionOf, empty, block, OpsOf, no_ops, next, head}
-use Rattle.ir.specs.trees.Ids.{HasDistinctIds, first_of, find, regions_find, region_find, ops_find}
-use Rattle.ir.specs.trees.Meaning.{Operation}
-use Rattle.ir.specs.trees.Sites.{operands_visible}
-use Rattle.ir.specs.events.Heads.{heads, regions_heads, region_heads, ops_heads}
+use Rattle.ir_types.specs.Words.{is_isolated}
+use Rattle.ir_types.specs.Terms.{TypeTerm, AttrTerm}
+use Rattle.ir_tree.specs.Tree.{op, RegionsOf, no_regions, region, RegionOf, empty, block, OpsOf, no_ops, next, head}
+use Rattle.ir_tree.specs.Ids.{HasDistinctIds, first_of, find, regions_find, region_find, ops_find}
+use Rattle.ir_tree.specs.Meaning.{Operation}
+use Rattle.ir_tree.specs.Sites.{operands_visible}
+use Rattle.ir_event.specs.Heads.{heads, regions_heads, region_heads, ops_heads}
 use Rattle.constants.specs.Facts.{Header, Facts, look, folded_if, AreLocal}
 use Rattle.constants.specs.Walk.{facts_of, look_among}
 use Rattle.constants.proofs.Walks.{walk_is_local, local_is_walk, value_same}

@@ -9,18 +9,18 @@ use Rattle.std.specs.BTreeMap.{BTreeMap, is_at}
 use Rattle.std.specs.BTreeMap as tree
 use Rattle.std.proofs.lemmas.Bool.Decides.{nat_tests}
 use Rattle.std.proofs.lemmas.List.Elements.{All-cons, All-nil}
-use Rattle.ir.specs.types.declared.bits.Bits.{Bits}
-use Rattle.ir.specs.types.Things.{Things}
-use Rattle.ir.specs.trees.Ids.{HasDistinctIds}
-use Rattle.ir.specs.trees.Meaning.{Operation}
-use Rattle.ir.specs.events.declared.row.Cell.TheVariants as cell
-use Rattle.ir.specs.trees.declared.value.Value.TheVariants.{Result}
-use Rattle.ir.specs.events.declared.row.Row.{Row as Line}
-use Rattle.ir.specs.events.Rows.{cell_meaning, rows_meaning, CellIsOf, RowIsOf, Shows}
+use Rattle.ir_types.specs.declared.bits.Bits.{Bits}
+use Rattle.ir_types.specs.Things.{Things}
+use Rattle.ir_tree.specs.Ids.{HasDistinctIds}
+use Rattle.ir_tree.specs.Meaning.{Operation}
+use Rattle.ir_event.specs.declared.row.Cell.TheVariants as cell
+use Rattle.ir_tree.specs.declared.value.Value.TheVariants.{Result}
+use Rattle.ir_event.specs.declared.row.Row.{Row as Line}
+use Rattle.ir_event.specs.Rows.{cell_meaning, rows_meaning, CellIsOf, RowIsOf, Shows}
 use Rattle.dialects_int.specs.Folds.{Known, known_of}
 use Rattle.constants.specs.Walk.{facts_of}
 use Rattle.constants.specs.Rows.{constants_of, constant_row, constants_rows}
-use Rattle.ir.proofs.of_events.ById.{look, Above, Rising, rising_same}
+use Rattle.ir_event.proofs.ById.{look, Above, Rising, rising_same}
 use Rattle.constants.proofs.Sorted.{constants_rising, constants_look}
 use Rattle.constants.specs.Tables.{known_in, cells_of}
 use Rattle.constants.proofs.Tables.{less_than, same_test}

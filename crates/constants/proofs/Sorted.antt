@@ -4,16 +4,16 @@ use Rattle.std.proofs.lemmas.Bool.{eq-eqb, ne_eqb, cases_eq}
 use Rattle.std.specs.List.{IsDistinct, AllByRecursion}
 use Rattle.std.proofs.lemmas.Map.Keys.{IsDistinct-head, IsDistinct-tail}
 use Rattle.std.proofs.Common.{◌++◌, true≢false, subst, map}
-use Rattle.ir.specs.trees.Ids.{ids, first_of, HasDistinctIds}
-use Rattle.ir.specs.trees.Meaning.{Operation}
-use Rattle.ir.specs.laws.Members.{In}
+use Rattle.ir_tree.specs.Ids.{ids, first_of, HasDistinctIds}
+use Rattle.ir_tree.specs.Meaning.{Operation}
+use Rattle.ir_tree_laws.specs.Members.{In}
 use Rattle.dialects_int.specs.Folds.{Known}
-use Rattle.ir.specs.events.Heads.{heads}
+use Rattle.ir_event.specs.Heads.{heads}
 use Rattle.constants.specs.Facts.{Header, Facts}
 use Rattle.constants.specs.Walk.{nothing, facts_of, met_after}
 use Rattle.constants.proofs.Walks.{walk_outside}
-use Rattle.ir.proofs.of_events.Flat.{heads_ids}
-use Rattle.ir.proofs.of_events.ById.{look, NotIn, Rising, AllApart, by_id_rising, by_id_look}
+use Rattle.ir_event.proofs.Flat.{heads_ids}
+use Rattle.ir_event.proofs.ById.{look, NotIn, Rising, AllApart, by_id_rising, by_id_look}
 use Rattle.constants.specs.Rows.{pair_if, known_among, constants_of}
 
 pair_look : (x y : ℕ) (k : Option Known) (rest : List (ℕ × Known)) → look x (pair_if y k ++ rest) ≡ cond (eqb x y) (first_of k (look x rest)) (look x rest)

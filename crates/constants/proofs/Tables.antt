@@ -8,8 +8,8 @@ use Rattle.std.specs.BTreeMap.{BTreeMap, is_at}
 use Rattle.std.specs.BTreeMap as tree
 use Rattle.std.proofs.lemmas.Bool.{eq-eqb, ne_eqb}
 use Rattle.std.proofs.lemmas.List.{take_more, map-append}
-use Rattle.ir.specs.types.declared.bits.Bits.{Bits}
-use Rattle.ir.specs.trees.declared.value.Value.{Value}
+use Rattle.ir_types.specs.declared.bits.Bits.{Bits}
+use Rattle.ir_tree.specs.declared.value.Value.{Value}
 use Rattle.dialects_int.specs.Folds.{known_of}
 use Rattle.constants.specs.Facts.{Facts, known, knowns}
 use Rattle.constants.specs.Walk.{with_fact}

@@ -1,11 +1,11 @@
 -- The listener agrees with the module after an event that it followed.
 use Rattle.std.proofs.Common.{◌≡◌, ◌≤◌, ◌+◌, ℕ, sym, ap, ◌∙◌, subst, arith}
-use Rattle.ir.specs.types.Things.{Things}
-use Rattle.ir.specs.events.declared.event.Event.{Event}
-use Rattle.ir.specs.events.declared.event.Event.TheVariants.{Put, Take, SetOperand, SetEntry, Shift}
-use Rattle.ir.specs.events.Modules.{Module}
-use Rattle.ir.specs.events.Step.{Step}
-use Rattle.ir.specs.events.Heads.{heads}
+use Rattle.ir_types.specs.Things.{Things}
+use Rattle.ir_event.specs.declared.event.Event.{Event}
+use Rattle.ir_event.specs.declared.event.Event.TheVariants.{Put, Take, SetOperand, SetEntry, Shift}
+use Rattle.ir_event.specs.Modules.{Module}
+use Rattle.ir_event.specs.Step.{Step}
+use Rattle.ir_event.specs.Heads.{heads}
 use Rattle.constants.specs.Facts.{Facts, look, folded_if, AreLocal}
 use Rattle.constants.specs.Walk.{facts_of}
 use Rattle.constants.specs.Reached.{reached, most_over, most_looks}

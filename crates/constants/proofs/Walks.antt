@@ -1,9 +1,9 @@
 -- A walk's facts agree with the operations, and no other facts do.
 use Rattle.std.proofs.Common.{◌≡◌, ◌≢◌, ℕ, List, [], ◌∷◌, ◌++◌, Option, Some, None, ◌⊎◌, inl, inr, refl, sym, ap, ◌∙◌, subst, cond, eqb}
 use Rattle.std.proofs.lemmas.Bool.{eq-eqb, ne_eqb, cases_eq}
-use Rattle.ir.specs.trees.declared.value.Value.{Value}
-use Rattle.ir.specs.trees.declared.value.Value.TheVariants.{Result, Arg}
-use Rattle.ir.specs.laws.Members.{In}
+use Rattle.ir_tree.specs.declared.value.Value.{Value}
+use Rattle.ir_tree.specs.declared.value.Value.TheVariants.{Result, Arg}
+use Rattle.ir_tree_laws.specs.Members.{In}
 use Rattle.dialects_int.specs.Folds.{Known, fold_of}
 use Rattle.constants.specs.Facts.{Header, Facts, known, knowns, folded, folded_if, AreLocal}
 use Rattle.constants.specs.Walk.{nothing, with_fact, walk, look_among, AllMet, AreOrdered, met_after}

@@ -1,7 +1,7 @@
 -- What the listener means.
 use Rattle.std.specs.Prelude.{◌≡◌, ℕ, false, None}
-use Rattle.ir.specs.trees.Ids.{HasDistinctIds}
-use Rattle.ir.specs.events.Listener.{Listener}
+use Rattle.ir_tree.specs.Ids.{HasDistinctIds}
+use Rattle.ir_event.specs.Listener.{Listener}
 use Rattle.constants.specs.Walk.{facts_of}
 use Rattle.constants.specs.Rows.{constants_rows}
 use Rattle.constants.specs.Reached.{most_looks}

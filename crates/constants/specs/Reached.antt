@@ -1,12 +1,12 @@
 -- Which operations an event reaches, and how often they may be looked at.
 use Rattle.std.specs.Prelude.{ℕ, ◌+◌, ◌*◌, ◌==◌, eqb, if◌then◌else◌, Bool, false, ◌||◌, ◌&&◌, List, [], ◌∷◌, length, is_some}
 use Rattle.std.specs.List.{list_any}
-use Rattle.ir.specs.trees.declared.value.Value.{Value}
-use Rattle.ir.specs.trees.declared.value.Value.TheVariants.{Result, Arg}
-use Rattle.ir.specs.events.declared.event.Event.{Event}
-use Rattle.ir.specs.events.Modules.{Module}
-use Rattle.ir.specs.events.Bounds.{op_of}
-use Rattle.ir.specs.events.Heads.{heads}
+use Rattle.ir_tree.specs.declared.value.Value.{Value}
+use Rattle.ir_tree.specs.declared.value.Value.TheVariants.{Result, Arg}
+use Rattle.ir_event.specs.declared.event.Event.{Event}
+use Rattle.ir_event.specs.Modules.{Module}
+use Rattle.ir_event.specs.Bounds.{op_of}
+use Rattle.ir_event.specs.Heads.{heads}
 use Rattle.constants.specs.Facts.{Header, Facts}
 use Rattle.constants.specs.Walk.{facts_of}
 

@@ -3,17 +3,17 @@ use Rattle.std.specs.Prelude.{◌≡◌, ℕ, ◌+◌, ◌≤◌, List, [], ◌�
 use Rattle.std.specs.Ordering.{nat_cmp}
 use Rattle.std.specs.BTreeMap.{BTreeMap}
 use Rattle.std.specs.BTreeMap as tree
-use Rattle.ir.specs.types.declared.bits.Bits.{Bits}
-use Rattle.ir.specs.trees.Meaning.{Operation}
-use Rattle.ir.specs.events.declared.event.Event.{Event}
-use Rattle.ir.specs.events.declared.event.Event.TheVariants.{Put, Take, SetOperand, SetEntry, Shift}
-use Rattle.ir.specs.events.declared.row.Cell.{Cell}
-use Rattle.ir.specs.events.declared.row.Cell.TheVariants.{Val, Bits as BitsCell}
-use Rattle.ir.specs.trees.declared.value.Value.TheVariants.{Result}
-use Rattle.ir.specs.events.declared.world.World.{World}
-use Rattle.ir.specs.events.Modules.{module_in}
+use Rattle.ir_types.specs.declared.bits.Bits.{Bits}
+use Rattle.ir_tree.specs.Meaning.{Operation}
+use Rattle.ir_event.specs.declared.event.Event.{Event}
+use Rattle.ir_event.specs.declared.event.Event.TheVariants.{Put, Take, SetOperand, SetEntry, Shift}
+use Rattle.ir_event.specs.declared.row.Cell.{Cell}
+use Rattle.ir_event.specs.declared.row.Cell.TheVariants.{Val, Bits as BitsCell}
+use Rattle.ir_tree.specs.declared.value.Value.TheVariants.{Result}
+use Rattle.ir_event.specs.declared.world.World.{World}
+use Rattle.ir_event.specs.Modules.{module_in}
 use Rattle.dialects_int.specs.Folds.{known_of}
-use Rattle.ir.specs.events.Heads.{heads}
+use Rattle.ir_event.specs.Heads.{heads}
 use Rattle.constants.specs.Facts.{Header, Facts, look, value, AreLocal}
 use Rattle.constants.specs.Walk.{with_fact, facts_of, AreOrdered}
 use Rattle.constants.specs.Reached.{uses_among, reached, most_over}

@@ -1,20 +1,20 @@
 //! The listener that keeps the known values.
 ghost use Rattle.std.specs.Prelude.{◌≡◌, ◌≤◌, ◌+◌, ◌⊎◌, ℕ, true};
-ghost use Rattle.ir.specs.events.Modules.{Module, things_in, module_in, shown_in};
-ghost use Rattle.ir.specs.events.Listener.{Told, ShowsTaken};
-ghost use Rattle.ir.specs.events.Step.{Step};
+ghost use Rattle.ir_event.specs.Modules.{Module, things_in, module_in, shown_in};
+ghost use Rattle.ir_event.specs.Listener.{Told, ShowsTaken};
+ghost use Rattle.ir_event.specs.Step.{Step};
 ghost use Rattle.constants.specs.Tables.{teaches_nothing};
 
 use crate::collect::enter_module;
 use crate::follow::follow;
 use crate::report::lines;
-use ir::events::analysis::Analysis;
-use ir::events::event::Event;
-use ir::events::row::{Kind, Memory, ReportFault, Row};
-use ir::events::view::View;
-use ir::events::world::World;
-use ir::types::bits::Bits;
-use ir::types::ids::OpId;
+use ir_event::analysis::Analysis;
+use ir_event::event::Event;
+use ir_event::row::{Kind, Memory, ReportFault, Row};
+use ir_event::view::View;
+use ir_event::world::World;
+use ir_types::bits::Bits;
+use ir_types::ids::OpId;
 use std::alloc::Global;
 use std::collections::BTreeMap;
 

@@ -1,6 +1,6 @@
 //! The table follows an event.
 ghost use Rattle.std.specs.Prelude.{◌≡◌, ◌≤◌, ◌+◌, true};
-ghost use Rattle.ir.specs.events.Modules.{module_in};
+ghost use Rattle.ir_event.specs.Modules.{module_in};
 ghost use Rattle.constants.specs.Facts.{value};
 ghost use Rattle.dialects_int.specs.Folds.{known_of};
 ghost use Rattle.constants.specs.Trails.{IsThere};
@@ -10,10 +10,10 @@ use crate::forget::forget_from;
 use crate::learn::learn_from;
 use crate::table::{drop_fact, fact};
 use crate::users::folded;
-use ir::events::event::Event;
-use ir::events::view::View;
-use ir::types::bits::Bits;
-use ir::types::ids::OpId;
+use ir_event::event::Event;
+use ir_event::view::View;
+use ir_types::bits::Bits;
+use ir_types::ids::OpId;
 use std::alloc::Global;
 use std::collections::BTreeMap;
 

@@ -2,13 +2,13 @@
 ghost use Rattle.std.specs.Prelude.{◌≡◌, ◌++◌, ◌∷◌, [], OnOk, IfOk, map};
 ghost use Rattle.std.specs.Ordering.{nat_cmp};
 ghost use Rattle.std.specs.BTreeMap as tree;
-ghost use Rattle.ir.specs.events.declared.row.Row.{Row as Line};
+ghost use Rattle.ir_event.specs.declared.row.Row.{Row as Line};
 ghost use Rattle.constants.specs.Tables.{cells_of};
 
-use ir::events::row::{Cell, Row};
-use ir::trees::value::Value;
-use ir::types::bits::Bits;
-use ir::types::ids::OpId;
+use ir_event::row::{Cell, Row};
+use ir_tree::value::Value;
+use ir_types::bits::Bits;
+use ir_types::ids::OpId;
 use std::alloc::{AllocError, Global};
 use std::collections::BTreeMap;
 

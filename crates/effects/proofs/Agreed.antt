@@ -2,25 +2,25 @@
 use Rattle.std.proofs.Common.{◌≡◌, ℕ, Option, Some, None, refl, sym, ap, ◌∙◌, subst, eqb}
 use Rattle.std.specs.Prelude.{option_map}
 use Rattle.std.specs.List.{IsDistinct}
-use Rattle.ir.specs.types.Things.{Things}
-use Rattle.ir.specs.types.Terms.{name_term, type_term, attr_term}
-use Rattle.ir.specs.trees.Tree.{Op, op, head}
-use Rattle.ir.specs.trees.Ids.{find, first_of, HasDistinctIds}
-use Rattle.ir.specs.trees.Edits.{at, put_operand, change_part, change_entry}
-use Rattle.ir.specs.trees.Meaning.{Operation, meaning, key_before}
-use Rattle.ir.proofs.of_trees.Heads.{alike_operand, alike_entry}
-use Rattle.ir.proofs.of_trees.Mapped.{map_find, map_ids}
-use Rattle.ir.specs.events.declared.event.Event.{Event}
-use Rattle.ir.specs.events.declared.event.Event.TheVariants.{Put, Take, SetOperand, SetEntry, Shift}
-use Rattle.ir.specs.events.Modules.{Module, Node, module_in, shown_in}
-use Rattle.ir.specs.events.declared.world.World.{World}
-use Rattle.ir.specs.events.store.Nodes.{node_of}
-use Rattle.ir.specs.events.store.Nodes.{Node as Numbered}
+use Rattle.ir_types.specs.Things.{Things}
+use Rattle.ir_types.specs.Terms.{name_term, type_term, attr_term}
+use Rattle.ir_tree.specs.Tree.{Op, op, head}
+use Rattle.ir_tree.specs.Ids.{find, first_of, HasDistinctIds}
+use Rattle.ir_tree.specs.Edits.{at, put_operand, change_part, change_entry}
+use Rattle.ir_tree.specs.Meaning.{Operation, meaning, key_before}
+use Rattle.ir_tree.proofs.Heads.{alike_operand, alike_entry}
+use Rattle.ir_tree.proofs.Mapped.{map_find, map_ids}
+use Rattle.ir_event.specs.declared.event.Event.{Event}
+use Rattle.ir_event.specs.declared.event.Event.TheVariants.{Put, Take, SetOperand, SetEntry, Shift}
+use Rattle.ir_event.specs.Modules.{Module, Node, module_in, shown_in}
+use Rattle.ir_event.specs.declared.world.World.{World}
+use Rattle.ir_event.specs.store.Nodes.{node_of}
+use Rattle.ir_event.specs.store.Nodes.{Node as Numbered}
 use Rattle.std.specs.FinMap.{get}
-use Rattle.ir.specs.events.Step.{Step}
-use Rattle.ir.specs.types.Words.{is_table}
+use Rattle.ir_event.specs.Step.{Step}
+use Rattle.ir_types.specs.Words.{is_table}
 use Rattle.effects.specs.Spots.{spots, Rows}
-use Rattle.ir.specs.registry.Registry.{own_of}
+use Rattle.op_registry.specs.Registry.{own_of}
 use Rattle.effects.specs.Effects.{own_by}
 use Rattle.effects.specs.Following.{Whole, PutIn, Followed, PutAll}
 use Rattle.effects.proofs.Spotted.{mapped_spots}

@@ -1,8 +1,8 @@
 -- Changes of a table, each by one row and a walk up.
 use Rattle.std.proofs.Common.{◌≡◌, ℕ, ◌+◌, List, ◌∷◌, Bool, true, false, true≢false, Option, Some, None, refl, sym, ap, ◌∙◌, subst, arith, cond, ◌&&◌, inl}
 use Rattle.std.specs.Bool.{OnTrue}
-use Rattle.ir.specs.registry.declared.own.Own.{Own}
-use Rattle.ir.specs.registry.declared.own.Own.TheVariants.{Pure, Only, Recursive, Unknown}
+use Rattle.op_registry.specs.declared.own.Own.{Own}
+use Rattle.op_registry.specs.declared.own.Own.TheVariants.{Pure, Only, Recursive, Unknown}
 use Rattle.effects.specs.declared.row.Row.{Row}
 use Rattle.effects.specs.Effects.{Effect, unknown, allocate, free, read, write, has, none, own_kinds, is_recursive}
 use Rattle.effects.specs.Spots.{Spot, one_if, is_in, Apart, Rows, given, count_of, with_row, Holds}

@@ -3,9 +3,9 @@ use Rattle.std.proofs.Common.{◌≡◌, ℕ, ◌+◌, ◌-◌, ◌≤◌, ◌<�
 use Rattle.std.specs.Prelude.{nat_lt}
 use Rattle.std.specs.Map.{lookup, set_value}
 use Rattle.std.proofs.lemmas.Bool.{eq-eqb, cases_eq}
-use Rattle.ir.proofs.of_trees.Moves.{neither}
+use Rattle.ir_tree.proofs.Moves.{neither}
 use Rattle.effects.specs.declared.kinds.EffectKinds.{EffectKinds}
-use Rattle.ir.specs.registry.declared.own.Own.{Own}
+use Rattle.op_registry.specs.declared.own.Own.{Own}
 use Rattle.effects.specs.declared.row.Counts.{Counts}
 use Rattle.effects.specs.declared.row.Row.{Row}
 use Rattle.effects.specs.Effects.{Effect, unknown, allocate, free, read, write, has, none, own_kinds, is_recursive, is_none, union}

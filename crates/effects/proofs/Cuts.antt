@@ -1,18 +1,18 @@
 -- The operations of a tree in a list, with one operation, and what is inside it, cut out.
 use Rattle.std.proofs.Common.{◌≡◌, ℕ, ◌+◌, List, [], ◌∷◌, ◌++◌, Option, Some, None, refl, sym, ap, ◌∙◌, subst, map}
 use Rattle.std.proofs.lemmas.List.{map-append}
-use Rattle.ir.specs.trees.declared.place.Place.{Place}
-use Rattle.ir.specs.trees.Tree.{HeadOf, OpOf, op, RegionsOf, no_regions, region, RegionOf, empty, block, OpsOf, no_ops, next, head}
-use Rattle.ir.specs.trees.Ids.{find, HasDistinctIds}
-use Rattle.ir.specs.trees.Places.{first_id, place_of, without}
-use Rattle.ir.specs.laws.Members.{In}
-use Rattle.ir.specs.laws.Stands.{StepOf, StandOf, stand_id, stands, regions_stands, region_stands, ops_stands, place_in, left_step, left_stand, dropping}
-use Rattle.ir.proofs.of_laws.Readings.{step}
-use Rattle.ir.proofs.of_laws.Members.{stand, stand_found}
-use Rattle.ir.proofs.of_laws.Around.{member_of_place}
-use Rattle.ir.proofs.of_laws.Without.{same_head}
-use Rattle.ir.proofs.of_laws.Stretches.{part}
-use Rattle.ir.specs.registry.declared.own.Own.{Own}
+use Rattle.ir_tree.specs.declared.place.Place.{Place}
+use Rattle.ir_tree.specs.Tree.{HeadOf, OpOf, op, RegionsOf, no_regions, region, RegionOf, empty, block, OpsOf, no_ops, next, head}
+use Rattle.ir_tree.specs.Ids.{find, HasDistinctIds}
+use Rattle.ir_tree.specs.Places.{first_id, place_of, without}
+use Rattle.ir_tree_laws.specs.Members.{In}
+use Rattle.ir_tree_laws.specs.Stands.{StepOf, StandOf, stand_id, stands, regions_stands, region_stands, ops_stands, place_in, left_step, left_stand, dropping}
+use Rattle.ir_tree_laws.proofs.Readings.{step}
+use Rattle.ir_tree_laws.proofs.Members.{stand, stand_found}
+use Rattle.ir_tree_laws.proofs.Around.{member_of_place}
+use Rattle.ir_tree_laws.proofs.Without.{same_head}
+use Rattle.ir_tree_laws.proofs.Stretches.{part}
+use Rattle.op_registry.specs.declared.own.Own.{Own}
 use Rattle.effects.specs.Spots.{Spot, spots, regions_spots, region_spots, ops_spots}
 
 -- the operation that is found stands at a place; the list has it and what is inside between a front and a back,

@@ -2,24 +2,24 @@
 use Rattle.std.proofs.Common.{◌≡◌, ℕ, List, [], ◌∷◌, ◌++◌, Option, Some, None, refl, sym, ap, ◌∙◌, subst, map, inl, inr}
 use Rattle.std.specs.Prelude.{option_map}
 use Rattle.std.specs.FinMap as finmap
-use Rattle.ir.specs.trees.declared.place.Place.{Place}
-use Rattle.ir.specs.trees.Tree.{Head, Op, OpOf, op, head}
-use Rattle.ir.specs.trees.Ids.{ids, find, first_of, HasDistinctIds}
-use Rattle.ir.specs.trees.Places.{place_of}
-use Rattle.ir.specs.laws.Members.{In}
-use Rattle.ir.specs.laws.Reads.{parent_of}
-use Rattle.ir.specs.laws.Stands.{StepOf, StandOf, stand_id, stands, place_in}
-use Rattle.ir.proofs.of_laws.Around.{member_of_place, place_of_member}
-use Rattle.ir.proofs.of_laws.Listed.{in_mapped}
-use Rattle.ir.proofs.of_laws.Members.{same_stand, stand, stand_found}
-use Rattle.ir.specs.events.store.Nodes.{Node, node_of}
-use Rattle.ir.specs.events.store.Stored.{Stored}
-use Rattle.ir.specs.registry.declared.own.Own.{Own}
+use Rattle.ir_tree.specs.declared.place.Place.{Place}
+use Rattle.ir_tree.specs.Tree.{Head, Op, OpOf, op, head}
+use Rattle.ir_tree.specs.Ids.{ids, find, first_of, HasDistinctIds}
+use Rattle.ir_tree.specs.Places.{place_of}
+use Rattle.ir_tree_laws.specs.Members.{In}
+use Rattle.ir_tree_laws.specs.Reads.{parent_of}
+use Rattle.ir_tree_laws.specs.Stands.{StepOf, StandOf, stand_id, stands, place_in}
+use Rattle.ir_tree_laws.proofs.Around.{member_of_place, place_of_member}
+use Rattle.ir_tree_laws.proofs.Listed.{in_mapped}
+use Rattle.ir_tree_laws.proofs.Members.{same_stand, stand, stand_found}
+use Rattle.ir_event.specs.store.Nodes.{Node, node_of}
+use Rattle.ir_event.specs.store.Stored.{Stored}
+use Rattle.op_registry.specs.declared.own.Own.{Own}
 use Rattle.effects.specs.Spots.{Spot, spots}
-use Rattle.ir.specs.events.Heads.{heads}
+use Rattle.ir_event.specs.Heads.{heads}
 use Rattle.effects.specs.Found.{head_at, parent_at, with_head, heads_by, with_spot, spots_by}
 use Rattle.effects.proofs.Cuts.{around, spot_in, stand_spots}
-use Rattle.ir.proofs.of_events.Flat.{heads_ids}
+use Rattle.ir_event.proofs.Flat.{heads_ids}
 use Rattle.effects.proofs.Headed.{head_in, stand_heads}
 use Rattle.effects.proofs.Spotted.{spots_ids}
 

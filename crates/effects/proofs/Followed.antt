@@ -3,37 +3,37 @@ use Rattle.std.proofs.Common.{◌≡◌, ℕ, ◌+◌, List, [], ◌∷◌, ◌+
 use Rattle.std.specs.Prelude.{option_map, option_and_then, not}
 use Rattle.std.specs.Bool.{OnTrue}
 use Rattle.std.specs.List.{IsDistinct}
-use Rattle.ir.specs.types.Things.{Things}
-use Rattle.ir.specs.types.Terms.{TypeTerm, AttrTerm, name_term, type_term, attr_term}
-use Rattle.ir.specs.types.Words.{is_table}
-use Rattle.ir.specs.trees.declared.value.Value.{Value}
-use Rattle.ir.specs.trees.declared.place.Place.{Place}
-use Rattle.ir.specs.trees.Tree.{HeadOf, OpOf, Op, op, RegionsOf, no_regions, region, empty, block, no_ops, next, head, regions}
-use Rattle.ir.specs.trees.Ids.{find, HasDistinctIds}
-use Rattle.ir.specs.trees.Edits.{at, put_operand, change_part, change_entry}
-use Rattle.ir.specs.trees.Meaning.{Operation, meaning, key_before}
-use Rattle.ir.proofs.of_trees.Heads.{alike_operand, alike_entry, entry_operands}
-use Rattle.ir.specs.laws.Members.{In}
-use Rattle.ir.specs.laws.Stands.{stands}
-use Rattle.ir.specs.laws.Changes.{operand_at, HoldNone, Takes, SetsOperand, Shifts}
-use Rattle.ir.proofs.of_laws.Listed.{in_map}
-use Rattle.ir.proofs.of_laws.Members.{found_stands}
-use Rattle.ir.specs.events.declared.event.Event.{Event}
-use Rattle.ir.specs.events.declared.event.Event.TheVariants.{Put, Take, SetOperand, SetEntry, Shift}
-use Rattle.ir.specs.events.Modules.{Module, Node}
-use Rattle.ir.specs.events.Listener.{ShowsTaken, is_take}
-use Rattle.ir.specs.events.store.Nodes.{node_of}
+use Rattle.ir_types.specs.Things.{Things}
+use Rattle.ir_types.specs.Terms.{TypeTerm, AttrTerm, name_term, type_term, attr_term}
+use Rattle.ir_types.specs.Words.{is_table}
+use Rattle.ir_tree.specs.declared.value.Value.{Value}
+use Rattle.ir_tree.specs.declared.place.Place.{Place}
+use Rattle.ir_tree.specs.Tree.{HeadOf, OpOf, Op, op, RegionsOf, no_regions, region, empty, block, no_ops, next, head, regions}
+use Rattle.ir_tree.specs.Ids.{find, HasDistinctIds}
+use Rattle.ir_tree.specs.Edits.{at, put_operand, change_part, change_entry}
+use Rattle.ir_tree.specs.Meaning.{Operation, meaning, key_before}
+use Rattle.ir_tree.proofs.Heads.{alike_operand, alike_entry, entry_operands}
+use Rattle.ir_tree_laws.specs.Members.{In}
+use Rattle.ir_tree_laws.specs.Stands.{stands}
+use Rattle.ir_tree_laws.specs.Changes.{operand_at, HoldNone, Takes, SetsOperand, Shifts}
+use Rattle.ir_tree_laws.proofs.Listed.{in_map}
+use Rattle.ir_tree_laws.proofs.Members.{found_stands}
+use Rattle.ir_event.specs.declared.event.Event.{Event}
+use Rattle.ir_event.specs.declared.event.Event.TheVariants.{Put, Take, SetOperand, SetEntry, Shift}
+use Rattle.ir_event.specs.Modules.{Module, Node}
+use Rattle.ir_event.specs.Listener.{ShowsTaken, is_take}
+use Rattle.ir_event.specs.store.Nodes.{node_of}
 use Rattle.effects.proofs.Agreed.{ShowsAll}
-use Rattle.ir.specs.events.Step.{Step}
-use Rattle.ir.specs.events.Bounds.{op_of}
+use Rattle.ir_event.specs.Step.{Step}
+use Rattle.ir_event.specs.Bounds.{op_of}
 use Rattle.effects.proofs.Changes.{on_true_is}
 use Rattle.effects.specs.Spots.{one_if}
 use Rattle.effects.specs.Dead.{is_kept}
-use Rattle.ir.specs.events.Heads.{heads, regions_heads, all_operands}
+use Rattle.ir_event.specs.Heads.{heads, regions_heads, all_operands}
 use Rattle.effects.specs.Counts.{Counts, results_among, Counted, Raised, AllEntered, EnteredWith, LeftWith, Exchanged, CountsFollowed, kept_by}
-use Rattle.ir.proofs.of_events.ById.{look}
+use Rattle.ir_event.proofs.ById.{look}
 use Rattle.effects.proofs.Shown.{look_each}
-use Rattle.ir.proofs.of_events.Flat.{heads_ids}
+use Rattle.ir_event.proofs.Flat.{heads_ids}
 use Rattle.effects.proofs.Headed.{cut_heads, heads_tagged, each_heads, mapped_heads, unused_among, head_in, stand_heads}
 use Rattle.effects.proofs.Tallies.{tallied, Different, put_tally, take_tally, moved_tally, same_tally, set_tally, begun_tally, mapped_tally}
 

@@ -1,12 +1,12 @@
 -- Effects that nobody would miss, as a walk comes to them.
 use Rattle.std.proofs.Common.{◌≡◌, refl, ap, sym, ◌∙◌, ℕ, zero, suc, ◌+◌, ◌*◌, ◌<◌, ◌≤◌, if◌then◌else◌, Bool, true, false, ◌&&◌, ◌||◌, not, Option, Some, None, option_map, arith}
 use Rattle.std.specs.Prelude.{option_and_then}
-use Rattle.ir.specs.trees.Tree.{OpOf, op, OpsOf, next, RegionsOf, no_regions, region, RegionOf, empty, block, head, regions, region_count}
-use Rattle.ir.specs.trees.Ids.{HasDistinctIds, find}
-use Rattle.ir.specs.trees.Places.{first_id}
-use Rattle.ir.specs.laws.Reads.{ops_in, next_of, first_at}
-use Rattle.ir.specs.laws.Values.{region_at}
-use Rattle.ir.specs.registry.declared.own.Own.{Own}
+use Rattle.ir_tree.specs.Tree.{OpOf, op, OpsOf, next, RegionsOf, no_regions, region, RegionOf, empty, block, head, regions, region_count}
+use Rattle.ir_tree.specs.Ids.{HasDistinctIds, find}
+use Rattle.ir_tree.specs.Places.{first_id}
+use Rattle.ir_tree_laws.specs.Reads.{ops_in, next_of, first_at}
+use Rattle.ir_tree_laws.specs.Values.{region_at}
+use Rattle.op_registry.specs.declared.own.Own.{Own}
 use Rattle.effects.specs.declared.kinds.EffectKinds.{EffectKinds}
 use Rattle.effects.specs.Dead.{may_go}
 use Rattle.effects.specs.Effects.{effects, regions_effects, region_effects, ops_effects, union, is_recursive, own_kinds}

@@ -11,27 +11,27 @@ use Rattle.std.specs.BTreeMap as tree
 use Rattle.std.proofs.lemmas.Bool.{eqb-true}
 use Rattle.std.proofs.lemmas.Bool.Decides.{nat_tests}
 use Rattle.std.proofs.lemmas.List.Elements.{All-cons, All-nil}
-use Rattle.ir.specs.types.Things.{Things}
-use Rattle.ir.specs.trees.Tree.{head}
-use Rattle.ir.specs.trees.Ids.{HasDistinctIds, find}
-use Rattle.ir.specs.trees.Meaning.{Operation}
-use Rattle.ir.proofs.of_laws.Members.{found_stands}
-use Rattle.ir.specs.events.declared.row.Cell.TheVariants as cell
-use Rattle.ir.specs.events.declared.row.Row.{Row as Line}
-use Rattle.ir.specs.events.Rows.{Op, cell_meaning, rows_meaning, CellIsOf, RowIsOf, Shows}
-use Rattle.ir.specs.registry.Registry.{own_of}
+use Rattle.ir_types.specs.Things.{Things}
+use Rattle.ir_tree.specs.Tree.{head}
+use Rattle.ir_tree.specs.Ids.{HasDistinctIds, find}
+use Rattle.ir_tree.specs.Meaning.{Operation}
+use Rattle.ir_tree_laws.proofs.Members.{found_stands}
+use Rattle.ir_event.specs.declared.row.Cell.TheVariants as cell
+use Rattle.ir_event.specs.declared.row.Row.{Row as Line}
+use Rattle.ir_event.specs.Rows.{Op, cell_meaning, rows_meaning, CellIsOf, RowIsOf, Shows}
+use Rattle.op_registry.specs.Registry.{own_of}
 use Rattle.effects.specs.declared.row.Row.{Row}
 use Rattle.effects.specs.Effects.{effects}
 use Rattle.effects.specs.Dead.{is_unused, is_kept, may_go, is_dead}
 use Rattle.effects.specs.Spots.{spots, one_if}
 use Rattle.effects.specs.Walks.{row_at}
 use Rattle.effects.specs.Following.{Whole}
-use Rattle.ir.specs.events.Heads.{heads, all_operands}
+use Rattle.ir_event.specs.Heads.{heads, all_operands}
 use Rattle.effects.specs.Counts.{Counts, results_among, Counted, is_zero}
-use Rattle.ir.specs.events.Rows.{by_id}
+use Rattle.ir_event.specs.Rows.{by_id}
 use Rattle.effects.specs.Reports.{of_each, those, cell_of, dead_of, dead_rows}
 use Rattle.effects.specs.Listed.{judged}
-use Rattle.ir.proofs.of_events.ById.{look, Above, Rising, rising_same}
+use Rattle.ir_event.proofs.ById.{look, Above, Rising, rising_same}
 use Rattle.effects.proofs.Shown.{each_look, each_rising, shown_found}
 use Rattle.effects.proofs.Headed.{unused_is}
 use Rattle.effects.proofs.Reporting.{less_than, same_test}

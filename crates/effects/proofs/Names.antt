@@ -4,11 +4,11 @@ use Rattle.std.specs.Prelude.{not}
 use Rattle.std.specs.List.{list_any, list_all, filter}
 use Rattle.std.specs.Str.{bytes_eq}
 use Rattle.std.proofs.lemmas.Slice.Eq.{bytes_eq-Decides}
-use Rattle.ir.proofs.of_laws.Listed.{both}
-use Rattle.ir.specs.registry.declared.definition.Trait.{Trait}
-use Rattle.ir.specs.registry.declared.definition.Trait.TheVariants.{Terminator, Symbol}
-use Rattle.ir.specs.registry.Rows.{Row, rows}
-use Rattle.ir.specs.registry.Registry.{beside, row_of, is_among, trait_in, has_trait}
+use Rattle.ir_tree_laws.proofs.Listed.{both}
+use Rattle.op_registry.specs.declared.definition.Trait.{Trait}
+use Rattle.op_registry.specs.declared.definition.Trait.TheVariants.{Terminator, Symbol}
+use Rattle.op_registry.specs.Rows.{Row, rows}
+use Rattle.op_registry.specs.Registry.{beside, row_of, is_among, trait_in, has_trait}
 use Rattle.effects.specs.Dead.{is_kept}
 
 abbrev Named : Type 0

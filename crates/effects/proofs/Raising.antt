@@ -1,8 +1,8 @@
 -- Uses counted one after another.
 use Rattle.std.proofs.Common.{◌≡◌, ℕ, ◌+◌, ◌-◌, List, [], ◌∷◌, ◌++◌, Option, Some, None, refl, ap, ◌∙◌, subst, arith, Bool}
 use Rattle.std.specs.Prelude.{option_map}
-use Rattle.ir.specs.trees.declared.value.Value.{Value}
-use Rattle.ir.specs.trees.Tree.{HeadOf}
+use Rattle.ir_tree.specs.declared.value.Value.{Value}
+use Rattle.ir_tree.specs.Tree.{HeadOf}
 use Rattle.effects.specs.Counts.{Counts, results_among, Raised, Lowered, AllEntered}
 use Rattle.effects.proofs.Headed.{among_joined}
 

@@ -13,24 +13,24 @@ use Rattle.std.specs.BTreeMap as tree
 use Rattle.std.proofs.lemmas.Bool.{eq-eqb, ne_eqb}
 use Rattle.std.proofs.lemmas.List.{map-append}
 use Rattle.std.proofs.lemmas.List.Elements.{All-cons, All-nil, All-append}
-use Rattle.ir.specs.types.Things.{Things}
-use Rattle.ir.specs.trees.Ids.{HasDistinctIds}
-use Rattle.ir.specs.trees.Meaning.{Operation}
-use Rattle.ir.specs.events.declared.row.Cell.{Cell}
-use Rattle.ir.specs.events.declared.row.Cell.TheVariants as cell
-use Rattle.ir.specs.events.declared.row.Row.{Row as Line}
-use Rattle.ir.specs.events.Rows.{CellTerm, Op, Tag, cell_meaning, rows_meaning, CellIsOf, RowIsOf, Shows}
+use Rattle.ir_types.specs.Things.{Things}
+use Rattle.ir_tree.specs.Ids.{HasDistinctIds}
+use Rattle.ir_tree.specs.Meaning.{Operation}
+use Rattle.ir_event.specs.declared.row.Cell.{Cell}
+use Rattle.ir_event.specs.declared.row.Cell.TheVariants as cell
+use Rattle.ir_event.specs.declared.row.Row.{Row as Line}
+use Rattle.ir_event.specs.Rows.{CellTerm, Op, Tag, cell_meaning, rows_meaning, CellIsOf, RowIsOf, Shows}
 use Rattle.effects.specs.declared.kinds.EffectKinds.{EffectKinds}
 use Rattle.effects.specs.declared.row.Row.{Row}
 use Rattle.effects.specs.Effects.{effects}
 use Rattle.effects.specs.Spots.{spots}
 use Rattle.effects.specs.Walks.{row_at}
-use Rattle.ir.specs.registry.Registry.{own_of}
+use Rattle.op_registry.specs.Registry.{own_of}
 use Rattle.effects.specs.Following.{Whole}
-use Rattle.ir.specs.events.Rows.{by_id}
+use Rattle.ir_event.specs.Rows.{by_id}
 use Rattle.effects.specs.Reports.{of_each, having, tag_if, cells_of, effects_of, effects_rows}
 use Rattle.effects.specs.Listed.{said}
-use Rattle.ir.proofs.of_events.ById.{look, Above, Rising, rising_same}
+use Rattle.ir_event.proofs.ById.{look, Above, Rising, rising_same}
 use Rattle.effects.proofs.Shown.{each_look, each_rising, shown_found}
 
 -- ---- the entries of a map

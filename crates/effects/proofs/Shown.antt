@@ -5,25 +5,25 @@ use Rattle.std.specs.List.{IsDistinct, AllByRecursion, list_any}
 use Rattle.std.proofs.lemmas.Bool.{eq-eqb, ne_eqb, cases_eq}
 use Rattle.std.proofs.lemmas.List.{map-append}
 use Rattle.std.proofs.lemmas.Map.Keys.{IsDistinct-head, IsDistinct-tail}
-use Rattle.ir.specs.trees.Tree.{OpOf, op, RegionsOf, no_regions, region, RegionOf, empty, block, OpsOf, no_ops, next}
-use Rattle.ir.specs.trees.Ids.{ids, regions_ids, region_ids, ops_ids, HasDistinctIds, find}
-use Rattle.ir.specs.laws.Stands.{StepOf, StandOf, stand_id, stands, regions_stands, region_stands, ops_stands, stand_in}
-use Rattle.ir.proofs.of_laws.Readings.{step, stands_ids, stands_find}
+use Rattle.ir_tree.specs.Tree.{OpOf, op, RegionsOf, no_regions, region, RegionOf, empty, block, OpsOf, no_ops, next}
+use Rattle.ir_tree.specs.Ids.{ids, regions_ids, region_ids, ops_ids, HasDistinctIds, find}
+use Rattle.ir_tree_laws.specs.Stands.{StepOf, StandOf, stand_id, stands, regions_stands, region_stands, ops_stands, stand_in}
+use Rattle.ir_tree_laws.proofs.Readings.{step, stands_ids, stands_find}
 use Rattle.std.proofs.lemmas.Bool.Decides.{nat_tests}
 use Rattle.effects.specs.declared.kinds.EffectKinds.{EffectKinds}
-use Rattle.ir.specs.registry.declared.own.Own.{Own}
+use Rattle.op_registry.specs.declared.own.Own.{Own}
 use Rattle.effects.specs.declared.row.Row.{Row}
 use Rattle.effects.specs.Effects.{Effect, unknown, allocate, free, read, write, has}
-use Rattle.ir.specs.laws.Members.{In}
+use Rattle.ir_tree_laws.specs.Members.{In}
 use Rattle.effects.specs.Spots.{Spot, spots, Lacks, Rows, has_at, count_at, row_has, weight}
 use Rattle.effects.specs.Following.{Whole}
 use Rattle.effects.specs.Effects.{effects}
-use Rattle.ir.specs.events.Rows.{by_id}
+use Rattle.ir_event.specs.Rows.{by_id}
 use Rattle.effects.specs.Reports.{of_each}
 use Rattle.effects.proofs.Tables.{spot_of}
 use Rattle.effects.proofs.Spotted.{spot_ids, spots_ids}
 use Rattle.effects.proofs.Laws.{listed, regions_listed, region_listed, ops_listed, law}
-use Rattle.ir.proofs.of_events.ById.{look, Rising, NotIn, AllApart, by_id_rising, by_id_look}
+use Rattle.ir_event.proofs.ById.{look, Rising, NotIn, AllApart, by_id_rising, by_id_look}
 
 abbrev Pair : Type 0
 Pair = ℕ × EffectKinds

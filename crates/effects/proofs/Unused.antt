@@ -3,33 +3,33 @@ use Rattle.std.proofs.Common.{◌≡◌, refl, ap, sym, ◌∙◌, subst, ℕ, �
 use Rattle.std.specs.Prelude.{slice_get, is_some, option_and_then, nat_lt, nat_le}
 use Rattle.std.specs.List.{list_all}
 use Rattle.std.proofs.lemmas.Bool.{leb-true}
-use Rattle.ir.specs.types.Things.{Things}
-use Rattle.ir.specs.types.Terms.{name_term, type_term, attr_term}
-use Rattle.ir.specs.trees.declared.value.Value.{Value}
-use Rattle.ir.specs.trees.declared.value.Value.TheVariants.{Result, Arg}
-use Rattle.ir.specs.trees.Tree.{HeadOf, OpOf, Op, op, RegionsOf, no_regions, region, RegionOf, empty, block, OpsOf, no_ops, next, head}
-use Rattle.ir.specs.trees.Ids.{HasDistinctIds, find}
-use Rattle.ir.specs.trees.Uses.{uses_of, operand_uses, same_value}
-use Rattle.ir.specs.trees.Limits.{op_fits, head_fits, items_fit, most_items, most_regions, all_arguments_pass}
-use Rattle.ir.specs.trees.Tree.{region_count}
-use Rattle.ir.specs.trees.Maps.{map_head, map_tree, map_regions, map_region, map_ops}
-use Rattle.ir.specs.trees.Meaning.{meaning, isolated_in}
-use Rattle.ir.proofs.of_trees.Mapped.{map_find}
-use Rattle.ir.proofs.of_trees.Replaced.{same_value_refl, same_value_true}
-use Rattle.ir.specs.laws.Stands.{StandOf, stand_id, stands, sees, gather}
-use Rattle.ir.specs.laws.Members.{In}
-use Rattle.ir.proofs.of_laws.Listed.{bool_cases, all_each, each_all, both}
-use Rattle.ir.proofs.of_laws.Readings.{stands_every, stands_uses}
-use Rattle.ir.proofs.of_laws.Members.{found_stands}
-use Rattle.ir.proofs.of_laws.HeadForm.{used_here, in_gather}
-use Rattle.ir.proofs.of_laws.Formed.{from_formed}
-use Rattle.ir.proofs.of_laws.Values.{seen_by}
-use Rattle.ir.proofs.of_laws.Reverted.{got_below}
-use Rattle.ir.specs.events.store.Nodes.{Node, node_of}
-use Rattle.ir.specs.events.declared.world.World.{World}
-use Rattle.ir.specs.events.Heads.{heads, all_operands}
-use Rattle.ir.specs.registry.declared.own.Own.{Own}
-use Rattle.ir.specs.registry.Registry.{own_of}
+use Rattle.ir_types.specs.Things.{Things}
+use Rattle.ir_types.specs.Terms.{name_term, type_term, attr_term}
+use Rattle.ir_tree.specs.declared.value.Value.{Value}
+use Rattle.ir_tree.specs.declared.value.Value.TheVariants.{Result, Arg}
+use Rattle.ir_tree.specs.Tree.{HeadOf, OpOf, Op, op, RegionsOf, no_regions, region, RegionOf, empty, block, OpsOf, no_ops, next, head}
+use Rattle.ir_tree.specs.Ids.{HasDistinctIds, find}
+use Rattle.ir_tree.specs.Uses.{uses_of, operand_uses, same_value}
+use Rattle.ir_tree.specs.Limits.{op_fits, head_fits, items_fit, most_items, most_regions, all_arguments_pass}
+use Rattle.ir_tree.specs.Tree.{region_count}
+use Rattle.ir_tree.specs.Maps.{map_head, map_tree, map_regions, map_region, map_ops}
+use Rattle.ir_tree.specs.Meaning.{meaning, isolated_in}
+use Rattle.ir_tree.proofs.Mapped.{map_find}
+use Rattle.ir_tree.proofs.Replaced.{same_value_refl, same_value_true}
+use Rattle.ir_tree_laws.specs.Stands.{StandOf, stand_id, stands, sees, gather}
+use Rattle.ir_tree_laws.specs.Members.{In}
+use Rattle.ir_tree_laws.proofs.Listed.{bool_cases, all_each, each_all, both}
+use Rattle.ir_tree_laws.proofs.Readings.{stands_every, stands_uses}
+use Rattle.ir_tree_laws.proofs.Members.{found_stands}
+use Rattle.ir_tree_laws.proofs.HeadForm.{used_here, in_gather}
+use Rattle.ir_tree_laws.proofs.Formed.{from_formed}
+use Rattle.ir_tree_laws.proofs.Values.{seen_by}
+use Rattle.ir_tree_laws.proofs.Reverted.{got_below}
+use Rattle.ir_event.specs.store.Nodes.{Node, node_of}
+use Rattle.ir_event.specs.declared.world.World.{World}
+use Rattle.ir_event.specs.Heads.{heads, all_operands}
+use Rattle.op_registry.specs.declared.own.Own.{Own}
+use Rattle.op_registry.specs.Registry.{own_of}
 use Rattle.effects.specs.Counts.{results_among}
 use Rattle.effects.specs.Dead.{is_result_of, is_unused, is_kept, may_go, dead_in, dead_at}
 use Rattle.effects.specs.Effects.{effects, regions_effects, region_effects, ops_effects, effects_by, union, own_by}

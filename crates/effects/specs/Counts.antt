@@ -3,18 +3,18 @@ use Rattle.std.specs.Prelude.{◌≡◌, ℕ, ◌+◌, ◌-◌, nat_lt, List, []
 use Rattle.std.specs.Ordering.{nat_cmp}
 use Rattle.std.specs.BTreeMap.{BTreeMap}
 use Rattle.std.specs.BTreeMap as tree
-use Rattle.ir.specs.types.Things.{Things}
-use Rattle.ir.specs.types.Terms.{name_term}
-use Rattle.ir.specs.trees.declared.value.Value.{Value}
-use Rattle.ir.specs.trees.Tree.{HeadOf, head}
-use Rattle.ir.specs.trees.Ids.{find}
-use Rattle.ir.specs.trees.Meaning.{Operation}
-use Rattle.ir.specs.events.declared.event.Event.{Event}
-use Rattle.ir.specs.events.declared.event.Event.TheVariants.{Put, Take, SetOperand, SetEntry, Shift}
-use Rattle.ir.specs.events.Modules.{Node}
+use Rattle.ir_types.specs.Things.{Things}
+use Rattle.ir_types.specs.Terms.{name_term}
+use Rattle.ir_tree.specs.declared.value.Value.{Value}
+use Rattle.ir_tree.specs.Tree.{HeadOf, head}
+use Rattle.ir_tree.specs.Ids.{find}
+use Rattle.ir_tree.specs.Meaning.{Operation}
+use Rattle.ir_event.specs.declared.event.Event.{Event}
+use Rattle.ir_event.specs.declared.event.Event.TheVariants.{Put, Take, SetOperand, SetEntry, Shift}
+use Rattle.ir_event.specs.Modules.{Node}
 use Rattle.effects.specs.Spots.{one_if}
 use Rattle.effects.specs.Dead.{is_result_of, is_kept}
-use Rattle.ir.specs.events.Heads.{heads, all_operands}
+use Rattle.ir_event.specs.Heads.{heads, all_operands}
 
 -- a table of counts: that of an operation, if it has one
 abbrev pub Counts : Type 0

@@ -1,12 +1,12 @@
 -- The effects of operations (Rationale, "Side Effects & Speculation"; Traits, "RecursiveMemoryEffects").
 use Rattle.std.specs.Prelude.{ℕ, Bool, true, false, ◌||◌, not, if◌then◌else◌}
-use Rattle.ir.specs.types.Things.{Things}
-use Rattle.ir.specs.types.Terms.{name_term}
-use Rattle.ir.specs.trees.Tree.{OpOf, op, RegionsOf, no_regions, region, RegionOf, empty, block, OpsOf, no_ops, next}
+use Rattle.ir_types.specs.Things.{Things}
+use Rattle.ir_types.specs.Terms.{name_term}
+use Rattle.ir_tree.specs.Tree.{OpOf, op, RegionsOf, no_regions, region, RegionOf, empty, block, OpsOf, no_ops, next}
 use Rattle.effects.specs.declared.kinds.EffectKinds.{EffectKinds}
-use Rattle.ir.specs.registry.declared.own.Own.{Own}
-use Rattle.ir.specs.registry.declared.own.Own.TheVariants.{Pure, Only, Recursive, Unknown}
-use Rattle.ir.specs.registry.Registry.{own_of}
+use Rattle.op_registry.specs.declared.own.Own.{Own}
+use Rattle.op_registry.specs.declared.own.Own.TheVariants.{Pure, Only, Recursive, Unknown}
+use Rattle.op_registry.specs.Registry.{own_of}
 
 -- one effect
 pub data Effect : Type 0 where

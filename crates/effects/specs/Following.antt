@@ -1,10 +1,10 @@
 -- How a table follows events.
 use Rattle.std.specs.Prelude.{◌≡◌, ℕ, List, [], ◌∷◌, Option, Some, None}
-use Rattle.ir.specs.events.declared.event.Event.{Event}
-use Rattle.ir.specs.events.declared.event.Event.TheVariants.{Put, Take, SetOperand, SetEntry, Shift}
-use Rattle.ir.specs.events.Modules.{Node}
-use Rattle.ir.specs.registry.declared.own.Own.{Own}
-use Rattle.ir.specs.registry.Registry.{own_of}
+use Rattle.ir_event.specs.declared.event.Event.{Event}
+use Rattle.ir_event.specs.declared.event.Event.TheVariants.{Put, Take, SetOperand, SetEntry, Shift}
+use Rattle.ir_event.specs.Modules.{Node}
+use Rattle.op_registry.specs.declared.own.Own.{Own}
+use Rattle.op_registry.specs.Registry.{own_of}
 use Rattle.effects.specs.Effects.{none}
 use Rattle.effects.specs.Spots.{Spot, Apart, Childless, Rows, Holds}
 

@@ -1,10 +1,10 @@
 -- The operations of a store by their ids.
 use Rattle.std.specs.Prelude.{ℕ, List, [], ◌∷◌, Option, Some, None, option_map}
-use Rattle.ir.specs.trees.Tree.{Head}
-use Rattle.ir.specs.laws.Reads.{parent_of}
-use Rattle.ir.specs.events.store.Nodes.{Node, node_of}
-use Rattle.ir.specs.events.store.Stored.{Stored, known}
-use Rattle.ir.specs.registry.declared.own.Own.{Own}
+use Rattle.ir_tree.specs.Tree.{Head}
+use Rattle.ir_tree_laws.specs.Reads.{parent_of}
+use Rattle.ir_event.specs.store.Nodes.{Node, node_of}
+use Rattle.ir_event.specs.store.Stored.{Stored, known}
+use Rattle.op_registry.specs.declared.own.Own.{Own}
 use Rattle.effects.specs.Spots.{Spot}
 
 -- the head of an operation that a store knows

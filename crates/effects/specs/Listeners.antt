@@ -1,15 +1,15 @@
 -- What the listeners mean.
 use Rattle.std.specs.Prelude.{◌≡◌, ℕ, ◌+◌, false, None, unwrap_or}
-use Rattle.ir.specs.trees.declared.place.Place.{Place}
-use Rattle.ir.specs.trees.Ids.{HasDistinctIds}
-use Rattle.ir.specs.trees.Meaning.{Operation}
-use Rattle.ir.specs.laws.Reads.{around}
-use Rattle.ir.specs.events.declared.event.Event.{Event}
-use Rattle.ir.specs.events.declared.event.Event.TheVariants.{Put, Take, SetOperand, SetEntry, Shift}
-use Rattle.ir.specs.events.Modules.{Module}
-use Rattle.ir.specs.events.Bounds.{operands_of}
-use Rattle.ir.specs.events.Listener.{Listener}
-use Rattle.ir.specs.registry.Registry.{own_of}
+use Rattle.ir_tree.specs.declared.place.Place.{Place}
+use Rattle.ir_tree.specs.Ids.{HasDistinctIds}
+use Rattle.ir_tree.specs.Meaning.{Operation}
+use Rattle.ir_tree_laws.specs.Reads.{around}
+use Rattle.ir_event.specs.declared.event.Event.{Event}
+use Rattle.ir_event.specs.declared.event.Event.TheVariants.{Put, Take, SetOperand, SetEntry, Shift}
+use Rattle.ir_event.specs.Modules.{Module}
+use Rattle.ir_event.specs.Bounds.{operands_of}
+use Rattle.ir_event.specs.Listener.{Listener}
+use Rattle.op_registry.specs.Registry.{own_of}
 use Rattle.effects.specs.declared.effects.Effects.{Effects}
 use Rattle.effects.specs.declared.dead.Dead.{Dead}
 use Rattle.effects.specs.Spots.{spots}

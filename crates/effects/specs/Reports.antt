@@ -1,12 +1,12 @@
 -- The reports: what is true of each operation of a tree, in order of the ids.
 use Rattle.std.specs.Prelude.{ℕ, List, [], ◌∷◌, ◌++◌, map, Bool, if◌then◌else◌}
-use Rattle.ir.specs.trees.Tree.{OpOf}
-use Rattle.ir.specs.trees.Meaning.{Operation}
-use Rattle.ir.specs.laws.Stands.{stand_id, stands}
-use Rattle.ir.specs.events.Rows.{RowTerm, Op, Tag, by_id}
-use Rattle.ir.specs.events.Tags.{tag_number}
-use Rattle.ir.specs.events.declared.tag.Tag.TheVariants as word
-use Rattle.ir.specs.registry.Registry.{own_of}
+use Rattle.ir_tree.specs.Tree.{OpOf}
+use Rattle.ir_tree.specs.Meaning.{Operation}
+use Rattle.ir_tree_laws.specs.Stands.{stand_id, stands}
+use Rattle.ir_event.specs.Rows.{RowTerm, Op, Tag, by_id}
+use Rattle.ir_event.specs.Tags.{tag_number}
+use Rattle.ir_event.specs.declared.tag.Tag.TheVariants as word
+use Rattle.op_registry.specs.Registry.{own_of}
 use Rattle.effects.specs.declared.kinds.EffectKinds.{EffectKinds}
 use Rattle.effects.specs.Effects.{effects, is_none}
 use Rattle.effects.specs.Dead.{is_dead}

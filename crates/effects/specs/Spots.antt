@@ -1,9 +1,9 @@
 -- Operations in a list, each with the one around it, and a table that keeps their effects.
 use Rattle.std.specs.Prelude.{◌≡◌, ℕ, ◌+◌, List, [], ◌∷◌, ◌++◌, eqb, nat_lt, Bool, false, ◌&&◌, if◌then◌else◌, Option, Some, None}
-use Rattle.ir.specs.laws.Members.{In}
-use Rattle.ir.specs.trees.Tree.{OpOf, op, RegionsOf, no_regions, region, RegionOf, empty, block, OpsOf, no_ops, next}
+use Rattle.ir_tree_laws.specs.Members.{In}
+use Rattle.ir_tree.specs.Tree.{OpOf, op, RegionsOf, no_regions, region, RegionOf, empty, block, OpsOf, no_ops, next}
 use Rattle.effects.specs.declared.kinds.EffectKinds.{EffectKinds}
-use Rattle.ir.specs.registry.declared.own.Own.{Own}
+use Rattle.op_registry.specs.declared.own.Own.{Own}
 use Rattle.effects.specs.declared.row.Counts.{Counts}
 use Rattle.effects.specs.declared.row.Row.{Row}
 use Rattle.effects.specs.Effects.{Effect, unknown, allocate, free, read, write, has, own_kinds, is_recursive}

@@ -10,8 +10,8 @@ ghost use Rattle.effects.specs.Found.{head_at, parent_at, spots_by, with_spot};
 use crate::own::own;
 use crate::row::Row;
 use crate::table::put;
-use ir::events::world::World;
-use ir::types::ids::OpId;
+use ir_event::world::World;
+use ir_types::ids::OpId;
 use std::collections::BTreeMap;
 
 /// Puts in the operations of a world's module. It is false where memory was refused.

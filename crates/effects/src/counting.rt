@@ -1,18 +1,18 @@
 //! The counts follow an event.
 ghost use Rattle.std.specs.Prelude.{◌≡◌, ◌≤◌, ◌+◌, Some, true};
 ghost use Rattle.std.specs.Bool.{OnTrue};
-ghost use Rattle.ir.specs.events.Looks.{one_more};
-ghost use Rattle.ir.specs.events.Modules.{Node as Shown, shown_in};
-ghost use Rattle.ir.specs.events.Bounds.{op_of};
-ghost use Rattle.ir.specs.events.Listener.{is_take};
+ghost use Rattle.ir_event.specs.Looks.{one_more};
+ghost use Rattle.ir_event.specs.Modules.{Node as Shown, shown_in};
+ghost use Rattle.ir_event.specs.Bounds.{op_of};
+ghost use Rattle.ir_event.specs.Listener.{is_take};
 ghost use Rattle.effects.specs.Dead.{is_kept};
 ghost use Rattle.effects.specs.Counts.{counts_in, EnteredWith, LeftWith, CountsFollowed};
 
 use crate::counts::{exchange, put, take};
 use crate::tally::is_kept;
-use ir::events::event::Event;
-use ir::events::view::View;
-use ir::types::ids::OpId;
+use ir_event::event::Event;
+use ir_event::view::View;
+use ir_types::ids::OpId;
 use std::collections::BTreeMap;
 
 /// Puts in an operation that is shown. It is false where it isn't, or memory was refused.

@@ -5,8 +5,8 @@ ghost use Rattle.std.specs.Bool.{OnTrue};
 ghost use Rattle.effects.specs.Counts.{counts_in, with_count, Raised, Lowered, Entered, EnteredWith, LeftWith, Exchanged};
 ghost use Rattle.effects.specs.Spots.{one_if};
 
-use ir::trees::value::Value;
-use ir::types::ids::OpId;
+use ir_tree::value::Value;
+use ir_types::ids::OpId;
 use std::collections::BTreeMap;
 
 /// The count of an operation.

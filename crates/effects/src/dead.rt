@@ -1,22 +1,22 @@
 //! The listener that keeps the dead operations.
 ghost use Rattle.std.specs.Prelude.{◌≡◌, ◌≤◌, ◌+◌, ◌⊎◌, ℕ, None, true};
 ghost use Rattle.std.specs.Bool.{OnTrue};
-ghost use Rattle.ir.specs.events.Modules.{Module, things_in, module_in, shown_in};
-ghost use Rattle.ir.specs.events.Listener.{Told, ShowsTaken, is_take};
-ghost use Rattle.ir.specs.events.Step.{Step};
+ghost use Rattle.ir_event.specs.Modules.{Module, things_in, module_in, shown_in};
+ghost use Rattle.ir_event.specs.Listener.{Told, ShowsTaken, is_take};
+ghost use Rattle.ir_event.specs.Step.{Step};
 ghost use Rattle.effects.specs.Counts.{counts_in, Counted};
 
 use crate::counting::follow_counts;
 use crate::effects::Effects;
 use crate::report::dead_lines;
 use crate::tally::{enter_all, raise_each};
-use ir::events::analysis::Analysis;
-use ir::events::event::Event;
-use ir::events::row as report;
-use ir::events::row::{Kind, Memory, ReportFault};
-use ir::events::view::View;
-use ir::events::world::World;
-use ir::types::ids::OpId;
+use ir_event::analysis::Analysis;
+use ir_event::event::Event;
+use ir_event::row as report;
+use ir_event::row::{Kind, Memory, ReportFault};
+use ir_event::view::View;
+use ir_event::world::World;
+use ir_types::ids::OpId;
 use std::alloc::Global;
 use std::collections::BTreeMap;
 

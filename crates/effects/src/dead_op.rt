@@ -1,9 +1,9 @@
 //! Whether one operation of a module is dead, without a listener and without memory.
 ghost use Rattle.std.specs.Prelude.{◌≡◌, ◌≤◌, IfSome, option_map};
-ghost use Rattle.ir.specs.trees.Tree.{region_count, head};
-ghost use Rattle.ir.specs.trees.Ids.{find};
-ghost use Rattle.ir.specs.events.store.Nodes.{node_of};
-ghost use Rattle.ir.specs.events.Modules.{module_in};
+ghost use Rattle.ir_tree.specs.Tree.{region_count, head};
+ghost use Rattle.ir_tree.specs.Ids.{find};
+ghost use Rattle.ir_event.specs.store.Nodes.{node_of};
+ghost use Rattle.ir_event.specs.Modules.{module_in};
 ghost use Rattle.effects.specs.Dead.{dead_at, may_go};
 ghost use Rattle.effects.specs.Effects.{own_by, own_kinds};
 ghost use Rattle.effects.specs.Idle.{AreUnused, idle_at, idle_ops};
@@ -12,11 +12,11 @@ ghost use Rattle.effects.specs.Within.{list_at, regions_of};
 use crate::kinds::{EffectKinds, recursive};
 use crate::own::own;
 use crate::tally::is_kept;
-use ir::events::store::node::Node;
-use ir::events::world::World;
-use ir::registry::own::Own;
-use ir::trees::value::Value;
-use ir::types::ids::OpId;
+use ir_event::store::node::Node;
+use ir_event::world::World;
+use ir_tree::value::Value;
+use ir_types::ids::OpId;
+use op_registry::own::Own;
 
 /// What an operation has, if it is in the module.
 fn shown(world: &World, op: OpId) -> Option<Node<'_>>

@@ -1,20 +1,20 @@
 //! The listener that keeps the effects of operations.
 ghost use Rattle.std.specs.Prelude.{◌≡◌, ◌≤◌, ◌+◌, ◌⊎◌, true};
-ghost use Rattle.ir.specs.events.Modules.{Module, things_in, module_in, shown_in};
-ghost use Rattle.ir.specs.events.Listener.{Told, ShowsTaken, is_take};
-ghost use Rattle.ir.specs.events.Step.{Step};
+ghost use Rattle.ir_event.specs.Modules.{Module, things_in, module_in, shown_in};
+ghost use Rattle.ir_event.specs.Listener.{Told, ShowsTaken, is_take};
+ghost use Rattle.ir_event.specs.Step.{Step};
 
 use crate::collect::put_module;
 use crate::follow::follow;
 use crate::report::lines;
 use crate::row::Row;
-use ir::events::analysis::Analysis;
-use ir::events::event::Event;
-use ir::events::row as report;
-use ir::events::row::{Kind, Memory, ReportFault};
-use ir::events::view::View;
-use ir::events::world::World;
-use ir::types::ids::OpId;
+use ir_event::analysis::Analysis;
+use ir_event::event::Event;
+use ir_event::row as report;
+use ir_event::row::{Kind, Memory, ReportFault};
+use ir_event::view::View;
+use ir_event::world::World;
+use ir_types::ids::OpId;
 use std::alloc::Global;
 use std::collections::BTreeMap;
 

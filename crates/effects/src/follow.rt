@@ -1,20 +1,20 @@
 //! The table of effects follows an event.
 ghost use Rattle.std.specs.Prelude.{◌≡◌, ◌≤◌, ◌+◌, option_map, true};
 ghost use Rattle.std.specs.Bool.{OnTrue};
-ghost use Rattle.ir.specs.registry.Registry.{own_of};
-ghost use Rattle.ir.specs.events.Looks.{one_more};
-ghost use Rattle.ir.specs.events.Modules.{shown_in};
-ghost use Rattle.ir.specs.events.Listener.{is_take};
+ghost use Rattle.op_registry.specs.Registry.{own_of};
+ghost use Rattle.ir_event.specs.Looks.{one_more};
+ghost use Rattle.ir_event.specs.Modules.{shown_in};
+ghost use Rattle.ir_event.specs.Listener.{is_take};
 ghost use Rattle.effects.specs.Walks.{row_at};
 ghost use Rattle.effects.specs.Following.{Followed};
 
 use crate::own::own;
 use crate::row::Row;
 use crate::table::{put, shift, take};
-use ir::events::event::Event;
-use ir::events::view::View;
-use ir::registry::own::Own;
-use ir::types::ids::OpId;
+use ir_event::event::Event;
+use ir_event::view::View;
+use ir_types::ids::OpId;
+use op_registry::own::Own;
 use std::collections::BTreeMap;
 
 /// What an operation that is shown has by itself.

@@ -3,7 +3,7 @@ ghost use Rattle.std.specs.Prelude.{◌≡◌};
 ghost use Rattle.effects.specs.Effects.{none, own_kinds, is_recursive, is_none};
 ghost use Rattle.effects.specs.Walks.{minus};
 
-use ir::registry::own::Own;
+use op_registry::own::Own;
 
 /// Which effects an operation has (Rationale, "Side Effects & Speculation").
 #[derive(Clone, Copy)]

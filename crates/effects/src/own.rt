@@ -2,10 +2,10 @@
 ghost use Rattle.std.specs.Prelude.{◌≡◌};
 ghost use Rattle.effects.specs.Effects.{own_by};
 
-use ir::registry::own::Own;
-use ir::registry::registry::Registry;
-use ir::types::context::Context;
-use ir::types::ids::NameId;
+use ir_types::context::Context;
+use ir_types::ids::NameId;
+use op_registry::own::Own;
+use op_registry::registry::Registry;
 
 /// What an operation of a name has by itself.
 pub(crate) fn own(ctx: &Context, registry: &Registry, name: NameId) -> Own

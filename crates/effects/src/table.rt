@@ -7,8 +7,8 @@ ghost use Rattle.effects.specs.Following.{Whole, PutIn, TakenOut, ShiftedTo};
 
 use crate::row::Row;
 use crate::walk::{drop_row, gain, lose, row_of, write};
-use ir::registry::own::Own;
-use ir::types::ids::OpId;
+use ir_types::ids::OpId;
+use op_registry::own::Own;
 use std::collections::BTreeMap;
 
 /// Adds a row, or writes it in place of another. It is false where memory was refused.

@@ -1,19 +1,19 @@
 //! The counts of a module, by two walks: one gives each operation a count, and one counts the operands.
 ghost use Rattle.std.specs.Prelude.{◌≡◌, []};
 ghost use Rattle.std.specs.Bool.{OnTrue};
-ghost use Rattle.ir.specs.types.Terms.{name_term};
+ghost use Rattle.ir_types.specs.Terms.{name_term};
 ghost use Rattle.effects.specs.Dead.{is_kept};
-ghost use Rattle.ir.specs.events.Heads.{all_operands};
+ghost use Rattle.ir_event.specs.Heads.{all_operands};
 ghost use Rattle.effects.specs.Found.{head_at, heads_by, with_head};
 ghost use Rattle.effects.specs.Counts.{counts_in, kept_by, Raised, AllEntered};
 
 use crate::counts::{enter, raise_all};
-use ir::events::store::store::Store;
-use ir::events::world::World;
-use ir::registry::definition::Trait;
-use ir::registry::registry::Registry;
-use ir::types::context::Context;
-use ir::types::ids::{NameId, OpId};
+use ir_event::store::store::Store;
+use ir_event::world::World;
+use ir_types::context::Context;
+use ir_types::ids::{NameId, OpId};
+use op_registry::definition::Trait;
+use op_registry::registry::Registry;
 use std::collections::BTreeMap;
 
 /// Whether an operation of a name stays whatever it does: a terminator, or what defines a symbol, as modules and

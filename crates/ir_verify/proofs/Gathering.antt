@@ -1,8 +1,8 @@
 -- What rules look at is what is gathered, in contents.
 use Rattle.std.proofs.Common.{◌≡◌, refl, ap, ◌∙◌, ℕ, List, [], ◌∷◌, map, Option, Some, None}
 use Rattle.std.specs.Prelude.{option_map}
-use Rattle.ir.specs.types.Things.{Things}
-use Rattle.ir.specs.types.Terms.{name_term, type_term, attr_term}
+use Rattle.ir_types.specs.Things.{Things}
+use Rattle.ir_types.specs.Terms.{name_term, type_term, attr_term}
 use Rattle.ir_verify_base.specs.Around.{Around}
 use Rattle.ir_verify_base.specs.Outer.{Outer}
 use Rattle.ir_verify_base.specs.Mapped.{map_outer}

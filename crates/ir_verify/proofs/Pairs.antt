@@ -9,14 +9,14 @@ use Rattle.std.specs.Cmp.{nat_cmp_is}
 use Rattle.std.specs.List.{AllByRecursion}
 use Rattle.std.specs.List.Sorted.{IsStrictlySortedBy}
 use Rattle.std.specs.FinMap.Entries.{put, by_order, find, below_all, is_sorted}
-use Rattle.ir.specs.trees.Meaning.{Operation}
-use Rattle.ir.specs.laws.Members.{In}
-use Rattle.ir.specs.laws.Stands.{StandOf, stand_id, stands}
-use Rattle.ir.proofs.of_laws.Listed.{bool_cases, in_left, in_right, in_parts, in_map, in_mapped}
+use Rattle.ir_tree.specs.Meaning.{Operation}
+use Rattle.ir_tree_laws.specs.Members.{In}
+use Rattle.ir_tree_laws.specs.Stands.{StandOf, stand_id, stands}
+use Rattle.ir_tree_laws.proofs.Listed.{bool_cases, in_left, in_right, in_parts, in_map, in_mapped}
 use Rattle.ir_verify_base.specs.Surroundings.{surround}
 use Rattle.ir_verify_base.specs.Facts.{sorted_in, sorted_facts}
 use Rattle.ir_verify_base.proofs.SortedFacts.{tied, left, right, unfound, found, is_in_order}
-use Rattle.ir.specs.registry.Registry.{row_of}
+use Rattle.op_registry.specs.Registry.{row_of}
 use Rattle.ir_verify.specs.Breaks.{told_in, numbers_from, broken}
 use Rattle.ir_verify.specs.Diagnostics.{rule_rows, rows_of, diagnostics_of}
 use Rattle.ir_verify.specs.Pairs.{ArePairs, pair_cmp, pair_row}

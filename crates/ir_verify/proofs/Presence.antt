@@ -1,10 +1,10 @@
 -- An operation about which there is a set of rules is there, and one about which there is none isn't.
 use Rattle.std.proofs.Common.{◌≡◌, refl, sym, ap, ◌∙◌, ℕ, true, false, Option, Some, None, inl, inr}
 use Rattle.std.specs.Prelude.{option_map}
-use Rattle.ir.specs.types.Terms.{name_term, type_term, attr_term}
-use Rattle.ir.specs.trees.Ids.{has_id}
-use Rattle.ir.proofs.of_laws.Contents.{map_has_id}
-use Rattle.ir.proofs.of_laws.Listed.{bool_cases}
+use Rattle.ir_types.specs.Terms.{name_term, type_term, attr_term}
+use Rattle.ir_tree.specs.Ids.{has_id}
+use Rattle.ir_tree_laws.proofs.Contents.{map_has_id}
+use Rattle.ir_tree_laws.proofs.Listed.{bool_cases}
 use Rattle.ir_verify_base.specs.events.declared.world.World.{World}
 use Rattle.ir_verify_base.specs.events.Modules.{module_in}
 use Rattle.ir_verify_base.specs.Surroundings.{SurroundingsOf, surroundings}

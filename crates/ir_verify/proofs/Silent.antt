@@ -1,8 +1,8 @@
 -- An operation that isn't listed breaks no rule.
 use Rattle.std.proofs.Common.{◌≡◌, ap, false, Option, Some, None}
 use Rattle.std.specs.Prelude.{is_some}
-use Rattle.ir.specs.registry.Rows.{Row}
-use Rattle.ir.specs.registry.Registry.{row_of}
+use Rattle.op_registry.specs.Rows.{Row}
+use Rattle.op_registry.specs.Registry.{row_of}
 use Rattle.ir_verify_base.specs.Fits.{Surroundings}
 use Rattle.ir_verify.specs.declared.rules.RuleSet.{RuleSet}
 use Rattle.ir_verify.specs.Breaks.{told_in}

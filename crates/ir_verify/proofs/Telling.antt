@@ -7,12 +7,12 @@ use Rattle.std.specs.declared.cmp.Ordering.TheVariants.{Less, Equal, Greater}
 use Rattle.std.specs.FinMap.Entries.{put, by_order}
 use Rattle.std.proofs.lemmas.List.{map-append}
 use Rattle.std.proofs.lemmas.List.Elements.{All-nil, All-cons, All-head, All-tail, All-append}
-use Rattle.ir.specs.types.Things.{Things}
-use Rattle.ir.specs.trees.Meaning.{Operation}
-use Rattle.ir.specs.laws.Stands.{StandOf, stand_id, stands}
-use Rattle.ir.proofs.of_laws.Listed.{bool_cases}
-use Rattle.ir.specs.registry.Rows.{Row}
-use Rattle.ir.specs.registry.Registry.{row_of}
+use Rattle.ir_types.specs.Things.{Things}
+use Rattle.ir_tree.specs.Meaning.{Operation}
+use Rattle.ir_tree_laws.specs.Stands.{StandOf, stand_id, stands}
+use Rattle.ir_tree_laws.proofs.Listed.{bool_cases}
+use Rattle.op_registry.specs.Rows.{Row}
+use Rattle.op_registry.specs.Registry.{row_of}
 use Rattle.ir_verify_base.specs.events.declared.row.Cell.{Cell}
 use Rattle.ir_verify_base.specs.events.declared.row.Cell.TheVariants.{Op, Rule}
 use Rattle.ir_verify_base.specs.events.declared.row.Row.{Row as Line}

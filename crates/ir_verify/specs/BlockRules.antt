@@ -1,11 +1,11 @@
 -- The rules on the blocks of an operation of right form.
 use Rattle.std.specs.Prelude.{if◌then◌else◌, ℕ, List, codes, length, Bool, true, not, ◌==◌, ◌&&◌, ◌||◌, Option, Some, None, option_and_then, is_some, is_none, slice_get}
 use Rattle.std.specs.Str.{bytes_eq}
-use Rattle.ir.specs.types.Words.{is_listed}
-use Rattle.ir.specs.registry.declared.definition.Trait.TheVariants.{Terminator}
-use Rattle.ir.specs.registry.Rows.{Row, RegionRow}
-use Rattle.ir.specs.registry.Registry.{has_trait}
-use Rattle.ir.specs.registry.Properties.{string_of}
+use Rattle.ir_types.specs.Words.{is_listed}
+use Rattle.op_registry.specs.declared.definition.Trait.TheVariants.{Terminator}
+use Rattle.op_registry.specs.Rows.{Row, RegionRow}
+use Rattle.op_registry.specs.Registry.{has_trait}
+use Rattle.op_registry.specs.Properties.{string_of}
 use Rattle.ir_verify_base.specs.Fits.{Node, Surroundings, is_named, property, block_at, any_region}
 
 -- the name of the last operation of the block of region k

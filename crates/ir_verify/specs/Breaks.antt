@@ -1,7 +1,7 @@
 -- The rules that an operation breaks.
 use Rattle.std.specs.Prelude.{ℕ, ◌+◌, List, [], ◌∷◌, Bool, true, false, ◌&&◌, Option, Some, None}
-use Rattle.ir.specs.registry.Rows.{Row}
-use Rattle.ir.specs.registry.Registry.{row_of}
+use Rattle.op_registry.specs.Rows.{Row}
+use Rattle.op_registry.specs.Registry.{row_of}
 use Rattle.ir_verify_base.specs.Fits.{Surroundings}
 use Rattle.ir_verify_base.specs.Shapes.{breaks_1, breaks_3, breaks_5, breaks_12, breaks_13, is_well_shaped}
 use Rattle.ir_verify_base.specs.TypeRules.{breaks_2, breaks_4, breaks_7, breaks_14, breaks_18, breaks_19, breaks_20, breaks_24}

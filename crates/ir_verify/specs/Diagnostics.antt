@@ -1,9 +1,9 @@
 -- The analysis of diagnostics: which operations of a tree break which rules.
 use Rattle.std.specs.Prelude.{◌≡◌, ℕ, List, [], ◌∷◌, ◌++◌, true, false, Option, option_map}
-use Rattle.ir.specs.types.declared.refusal.Refusal.{Refusal}
-use Rattle.ir.specs.types.declared.refusal.Refusal.TheVariants.{NoSuchOp, Memory}
-use Rattle.ir.specs.trees.Ids.{has_id}
-use Rattle.ir.specs.trees.Meaning.{Operation}
+use Rattle.ir_types.specs.declared.refusal.Refusal.{Refusal}
+use Rattle.ir_types.specs.declared.refusal.Refusal.TheVariants.{NoSuchOp, Memory}
+use Rattle.ir_tree.specs.Ids.{has_id}
+use Rattle.ir_tree.specs.Meaning.{Operation}
 use Rattle.ir_verify_base.specs.events.Rows.{RowTerm, Op, Rule}
 use Rattle.ir_verify_base.specs.Surroundings.{surroundings}
 use Rattle.ir_verify_base.specs.Facts.{sorted_facts}

@@ -2,11 +2,11 @@
 use Rattle.std.specs.Prelude.{if◌then◌else◌, ℕ, List, [], ◌∷◌, codes, drop, Bool, true, false, not, ◌&&◌, ◌||◌, Option, Some, None, option_map, option_and_then}
 use Rattle.std.specs.Str.{bytes_eq}
 use Rattle.std.specs.List.{list_any}
-use Rattle.ir.specs.types.Terms.{TypeTerm}
-use Rattle.ir.specs.types.Words.{is_listed}
-use Rattle.ir.specs.registry.declared.definition.Trait.TheVariants.{Terminator}
-use Rattle.ir.specs.registry.Rows.{Row}
-use Rattle.ir.specs.registry.Registry.{row_of, has_trait}
+use Rattle.ir_types.specs.Terms.{TypeTerm}
+use Rattle.ir_types.specs.Words.{is_listed}
+use Rattle.op_registry.specs.declared.definition.Trait.TheVariants.{Terminator}
+use Rattle.op_registry.specs.Rows.{Row}
+use Rattle.op_registry.specs.Registry.{row_of, has_trait}
 use Rattle.ir_verify_base.specs.Types.{same_types}
 use Rattle.ir_verify_base.specs.Fits.{Node, Outer, Surroundings, is_named, block_at, there, function_type}
 use Rattle.ir_verify_base.specs.Shapes.{is_well_shaped}

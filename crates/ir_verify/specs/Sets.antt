@@ -1,6 +1,6 @@
 -- Sets of rules, as numbers of 24 bits.
 use Rattle.std.specs.Prelude.{ℕ, zero, suc, ◌+◌, ◌*◌, ◌/◌, ◌%◌, List, [], ◌∷◌, Bool, true, false, not, ◌==◌}
-use Rattle.ir.specs.registry.Registry.{row_of}
+use Rattle.op_registry.specs.Registry.{row_of}
 use Rattle.ir_verify.specs.declared.rules.RuleSet.{RuleSet}
 use Rattle.ir_verify_base.specs.Fits.{Surroundings}
 use Rattle.ir_verify.specs.Breaks.{told_in, numbers_from}

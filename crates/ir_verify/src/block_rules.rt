@@ -1,25 +1,25 @@
 //! The rules on the blocks of an operation of right form.
 ghost use Rattle.std.specs.Prelude.{◌≡◌, ◌==◌, Some, map, length, not, slice_get, option_and_then};
 ghost use Rattle.std.specs.Option.{option_map};
-ghost use Rattle.ir.specs.types.Terms.{name_term};
-ghost use Rattle.ir.specs.types.WordNames.{word_bytes};
-ghost use Rattle.ir.specs.registry.Registry.{region_row, row_from};
-ghost use Rattle.ir.specs.registry.Properties.{string_of as string_in};
+ghost use Rattle.ir_types.specs.Terms.{name_term};
+ghost use Rattle.ir_types.specs.WordNames.{word_bytes};
+ghost use Rattle.op_registry.specs.Registry.{region_row, row_from};
+ghost use Rattle.op_registry.specs.Properties.{string_of as string_in};
 ghost use Rattle.ir_verify_base.specs.events.Modules.{NodeIsOf};
 ghost use Rattle.ir_verify_base.specs.Gathered.{AroundIsOf};
 ghost use Rattle.ir_verify_base.specs.Numbers.{node_in, around_in};
 ghost use Rattle.ir_verify_base.specs.Fits as fits;
 ghost use Rattle.ir_verify.specs.BlockRules as rules;
 
-use ir::registry::definition::{OpDef, RegionRule, Trait};
-use ir::registry::registry::Registry;
-use ir::types::context::Context;
-use ir::types::ids::NameId;
-use ir::types::word::Word;
+use ir_types::context::Context;
+use ir_types::ids::NameId;
+use ir_types::word::Word;
 use ir_verify_base::around::Around;
 use ir_verify_base::node::{has_block, is_named, property};
 use ir_verify_base::properties::string_of;
 use ir_verify_base::store::node::Node;
+use op_registry::definition::{OpDef, RegionRule, Trait};
+use op_registry::registry::Registry;
 
 /// The name of the last operation of the block of a region.
 fn last(ctx: &Context, around: &Around<'_>, region: u32) -> Option<NameId>
@@ -38,7 +38,7 @@ fn last_of(_ctx: &Context, lasts: &[Option<NameId>], region: u32) -> Option<Name
 }
 
 /// Rule 6: a region that must have a block has none.
-#[tactic(auto, unfolding(ir::registry::specs::Registry::row_from))]
+#[tactic(auto, unfolding(op_registry::specs::Registry::row_from))]
 pub(crate) fn breaks_6(ctx: &Context, def: &OpDef, around: &Around<'_>) -> bool
     requires { AroundIsOf ctx.now around.now }
     ensures { result ≡ rules.breaks_6 (row_from def.now) (around_in ctx.now around.now) }

@@ -1,13 +1,13 @@
 //! Which rules an operation breaks.
 ghost use Rattle.std.specs.Prelude.{◌≡◌, ◌≤◌, ◌+◌, Some, MatchResult};
-ghost use Rattle.ir.specs.trees.Ids.{find};
+ghost use Rattle.ir_tree.specs.Ids.{find};
 ghost use Rattle.ir_verify_base.specs.events.Modules.{module_in};
 ghost use Rattle.ir_verify_base.specs.Gathered.{gather_looks, tree_in};
 ghost use Rattle.ir_verify.specs.Diagnostics.{broken_at, Unchecked};
 
 use crate::rules::RuleSet;
-use ir::types::ids::OpId;
-use ir::types::refusal::Refusal;
+use ir_types::ids::OpId;
+use ir_types::refusal::Refusal;
 use ir_verify_base::events::view::View;
 use ir_verify_base::events::world::World;
 use ir_verify_base::fact::fact_at;

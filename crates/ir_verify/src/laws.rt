@@ -1,6 +1,6 @@
 //! Laws of diagnostics. Each is a function that does nothing: its contract is the law.
 ghost use Rattle.std.specs.Prelude.{◌≡◌, ℕ, List, map};
-ghost use Rattle.ir.specs.trees.Meaning.{Operation};
+ghost use Rattle.ir_tree.specs.Meaning.{Operation};
 ghost use Rattle.ir_verify.specs.Diagnostics.{diagnostics_of};
 ghost use Rattle.ir_verify.specs.Pairs.{ArePairs, pair_row};
 

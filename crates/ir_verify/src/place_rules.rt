@@ -2,11 +2,11 @@
 ghost use Rattle.std.specs.Prelude.{◌≡◌, IfSome, Some, List, ℕ, [], ◌∷◌, map, drop, codes, option_and_then};
 ghost use Rattle.std.specs.List.{All};
 ghost use Rattle.std.specs.Option.{option_map};
-ghost use Rattle.ir.specs.types.Things.{IsType};
-ghost use Rattle.ir.specs.types.Terms.{name_term, type_term};
-ghost use Rattle.ir.specs.types.WordNames.{word_bytes};
-ghost use Rattle.ir.specs.registry.declared.definition.Trait.TheVariants.{Terminator};
-ghost use Rattle.ir.specs.registry.Registry.{has_trait, row_from, row_of};
+ghost use Rattle.ir_types.specs.Things.{IsType};
+ghost use Rattle.ir_types.specs.Terms.{name_term, type_term};
+ghost use Rattle.ir_types.specs.WordNames.{word_bytes};
+ghost use Rattle.op_registry.specs.declared.definition.Trait.TheVariants.{Terminator};
+ghost use Rattle.op_registry.specs.Registry.{has_trait, row_from, row_of};
 ghost use Rattle.ir_verify_base.specs.Outer.{Outer as Gathered};
 ghost use Rattle.ir_verify_base.specs.events.Modules.{NodeIsOf};
 ghost use Rattle.ir_verify_base.specs.Gathered.{AroundIsOf};
@@ -14,16 +14,16 @@ ghost use Rattle.ir_verify_base.specs.Numbers.{typed, node_in, outer_in, around_
 ghost use Rattle.ir_verify_base.specs.Fits as fits;
 ghost use Rattle.ir_verify.specs.PlaceRules as rules;
 
-use ir::registry::definition::{OpDef, Trait};
-use ir::registry::registry::Registry;
-use ir::types::context::Context;
-use ir::types::ids::{NameId, TypeId};
-use ir::types::word::Word;
+use ir_types::context::Context;
+use ir_types::ids::{NameId, TypeId};
+use ir_types::word::Word;
 use ir_verify_base::around::{Around, Outer};
 use ir_verify_base::node::{block, function_type, is_named};
 use ir_verify_base::shapes::is_well_shaped;
 use ir_verify_base::store::node::Node;
 use ir_verify_base::types::same_types;
+use op_registry::definition::{OpDef, Trait};
+use op_registry::registry::Registry;
 
 /// Rule 10: a terminator isn't the last operation of its block.
 pub(crate) fn breaks_10(ctx: &Context, registry: &Registry, around: &Around<'_>) -> bool
@@ -49,7 +49,7 @@ fn is_inside(_ctx: &Context, outer: &Option<Outer<'_>>) -> bool
 }
 
 /// Rule 11: a terminator stands in a listed operation that the row doesn't name.
-#[tactic(auto, unfolding(ir::registry::specs::Registry::row_from))]
+#[tactic(auto, unfolding(op_registry::specs::Registry::row_from))]
 pub(crate) fn breaks_11(
     ctx: &Context,
     registry: &Registry,

@@ -5,8 +5,8 @@ ghost use Rattle.ir_verify.specs.Sets.{rules_in};
 ghost use Rattle.ir_verify.specs.Reports.{rule_cells, rules_cells, all_cells};
 
 use crate::rules::RuleSet;
-use ir::trees::value::Value;
-use ir::types::ids::OpId;
+use ir_tree::value::Value;
+use ir_types::ids::OpId;
 use ir_verify_base::events::row::{Cell, Row};
 use std::alloc::{AllocError, Global};
 use std::collections::BTreeMap;

@@ -1,10 +1,10 @@
 //! The rules that an operation breaks.
 ghost use Rattle.std.specs.Prelude.{◌≡◌, ◌≤◌, ◌<◌, ◌^◌, [], ◌∷◌, ◌++◌, IfOk, OnOk, length, true, false};
-ghost use Rattle.ir.specs.types.Terms.{name_term};
+ghost use Rattle.ir_types.specs.Terms.{name_term};
 ghost use Rattle.ir_verify_base.specs.Gathered.{AroundIsOf};
 ghost use Rattle.ir_verify.specs.Breaks.{told_of, numbers_from};
 ghost use Rattle.ir_verify_base.specs.Fits.{Surroundings};
-ghost use Rattle.ir.specs.registry.Registry.{row_from};
+ghost use Rattle.op_registry.specs.Registry.{row_from};
 ghost use Rattle.ir_verify_base.specs.Numbers.{around_in, node_in};
 ghost use Rattle.ir_verify.specs.Sets.{has_any, packed, rules_in, set_of, with_bit};
 ghost use Rattle.ir_verify_base.specs.Shapes as shapes;
@@ -13,11 +13,8 @@ use crate::block_rules::{breaks_6, breaks_8, breaks_9, breaks_21, breaks_22};
 use crate::place_rules::{
     breaks_10, breaks_11, breaks_15, breaks_16, breaks_17, breaks_23, definition, ended,
 };
-use ir::registry::definition::OpDef;
-use ir::registry::laws::listed_has_row;
-use ir::registry::registry::Registry;
-use ir::types::context::Context;
-use ir::types::ids::NameId;
+use ir_types::context::Context;
+use ir_types::ids::NameId;
 use ir_verify_base::around::Around;
 use ir_verify_base::fact::Fact;
 use ir_verify_base::memref_rules::{breaks_20, breaks_24};
@@ -25,6 +22,9 @@ use ir_verify_base::shapes::{breaks_1, breaks_3, breaks_5, breaks_12, breaks_13,
 use ir_verify_base::type_rules::{
     breaks_2, breaks_4, breaks_7, breaks_14, breaks_18, breaks_19, known_of,
 };
+use op_registry::definition::OpDef;
+use op_registry::laws::listed_has_row;
+use op_registry::registry::Registry;
 use std::alloc::{AllocError, Global};
 
 /// A set of rules.

@@ -3,15 +3,15 @@ use Rattle.std.specs.Prelude.{if◌then◌else◌, ℕ, ◌+◌, List, [], ◌�
 use Rattle.std.specs.List.{list_all}
 use Rattle.std.specs.Str.{bytes_eq}
 use Rattle.std.specs.Option.{option_eq}
-use Rattle.ir.specs.types.Terms.{TypeTerm, AttrTerm}
-use Rattle.ir.specs.registry.declared.definition.TypeRule.{TypeRule}
-use Rattle.ir.specs.registry.declared.definition.TypeRule.TheVariants as type
-use Rattle.ir.specs.registry.Rows.{TypesRow, RegionRow, Row}
-use Rattle.ir.specs.registry.Registry.{beside}
-use Rattle.ir.specs.registry.Properties.{type_of}
+use Rattle.ir_types.specs.Terms.{TypeTerm, AttrTerm}
+use Rattle.op_registry.specs.declared.definition.TypeRule.{TypeRule}
+use Rattle.op_registry.specs.declared.definition.TypeRule.TheVariants as type
+use Rattle.op_registry.specs.Rows.{TypesRow, RegionRow, Row}
+use Rattle.op_registry.specs.Registry.{beside}
+use Rattle.op_registry.specs.Properties.{type_of}
 use Rattle.listeners_surroundings.specs.Nodes.{NodeOf}
 use Rattle.listeners_surroundings.specs.Surroundings.{SurroundingsOf, OuterOf}
-use Rattle.ir.specs.types.SameTypes.{same_type, function_of}
+use Rattle.ir_types.specs.SameTypes.{same_type, function_of}
 use Rattle.ir_verify_base.specs.Types.{same_types, is_integer, is_index, is_number, is_boolean, is_memref}
 
 -- what rules look at, in contents

@@ -1,11 +1,11 @@
 -- What rules look at, given by the numbers of a context.
 use Rattle.std.specs.Prelude.{◌≡◌, ℕ, List, map, Option, option_map, IfSome}
 use Rattle.std.specs.List.{All}
-use Rattle.ir.specs.types.Things.{Things, IsType}
-use Rattle.ir.specs.types.Terms.{TypeTerm, name_term, type_term, attr_term}
+use Rattle.ir_types.specs.Things.{Things, IsType}
+use Rattle.ir_types.specs.Terms.{TypeTerm, name_term, type_term, attr_term}
 use Rattle.listeners_surroundings.specs.Nodes.{Node as NumberNode}
-use Rattle.ir.specs.registry.declared.definition.OpDef.{OpDef}
-use Rattle.ir.specs.registry.Registry.{row_from}
+use Rattle.op_registry.specs.declared.definition.OpDef.{OpDef}
+use Rattle.op_registry.specs.Registry.{row_from}
 use Rattle.listeners_surroundings.specs.declared.around.Around.{Around}
 use Rattle.listeners_surroundings.specs.declared.around.Outer.{Outer}
 use Rattle.listeners_surroundings.specs.Mapped.{map_node}

@@ -1,9 +1,9 @@
 -- The rules on an operation's own form: counts and properties. The others look at an operation of right form alone.
 use Rattle.std.specs.Prelude.{ℕ, ◌-◌, List, length, Bool, false, not, ◌==◌, ◌&&◌, ◌||◌, is_some, Option, Some, None}
 use Rattle.std.specs.List.{list_any}
-use Rattle.ir.specs.types.Terms.{AttrTerm}
-use Rattle.ir.specs.registry.Rows.{Row, PropertyRow}
-use Rattle.ir.specs.registry.Properties.{is_allowed}
+use Rattle.ir_types.specs.Terms.{AttrTerm}
+use Rattle.op_registry.specs.Rows.{Row, PropertyRow}
+use Rattle.op_registry.specs.Properties.{is_allowed}
 use Rattle.ir_verify_base.specs.Fits.{Node, property, count_fits}
 
 -- how many operands there are after the fixed ones

@@ -2,10 +2,10 @@
 use Rattle.std.specs.Prelude.{if◌then◌else◌, ℕ, pos, List, [], ◌∷◌, codes, length, Bool, true, false, not, ◌==◌, ◌&&◌, ◌||◌, nat_le, Option, Some, None, option_and_then}
 use Rattle.std.specs.Ordering.{int_eq}
 use Rattle.std.specs.Cmp.Lexicographic.{pointwise}
-use Rattle.ir.specs.types.Terms.{TypeTerm, AttrTerm, DenseArray}
-use Rattle.ir.specs.registry.Rows.{Row, RegionRow}
-use Rattle.ir.specs.registry.Properties.{integer_of}
-use Rattle.ir.specs.types.SameTypes.{same_type}
+use Rattle.ir_types.specs.Terms.{TypeTerm, AttrTerm, DenseArray}
+use Rattle.op_registry.specs.Rows.{Row, RegionRow}
+use Rattle.op_registry.specs.Properties.{integer_of}
+use Rattle.ir_types.specs.SameTypes.{same_type}
 use Rattle.ir_verify_base.specs.Types.{width_of, is_index, is_number, memref_of}
 use Rattle.ir_verify_base.specs.Fits.{Node, Surroundings, Known, known_of, is_named, property, block_at, any_region, there, types_fit}
 

@@ -2,9 +2,9 @@
 use Rattle.std.specs.Prelude.{ℕ, ◌+◌, length, List, [], ◌∷◌, Bool, true, false, ◌==◌, ◌||◌, Option, Some, None}
 use Rattle.std.specs.Option.{option_eq}
 use Rattle.std.specs.Cmp.Lexicographic.{pointwise}
-use Rattle.ir.specs.types.declared.node.Sign.TheVariants.{Signless}
-use Rattle.ir.specs.types.Terms.{TypeTerm, Integer, Index, Memref}
-use Rattle.ir.specs.types.SameTypes.{same_type}
+use Rattle.ir_types.specs.declared.node.Sign.TheVariants.{Signless}
+use Rattle.ir_types.specs.Terms.{TypeTerm, Integer, Index, Memref}
+use Rattle.ir_types.specs.SameTypes.{same_type}
 
 -- whether two lists of types, which there may be, are one
 abbrev pub same_types : List (Option TypeTerm) → List (Option TypeTerm) → Bool

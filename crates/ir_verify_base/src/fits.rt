@@ -2,17 +2,17 @@
 ghost use Rattle.std.specs.Prelude.{◌≡◌, IfSome, Some, ◌+◌, ◌≤◌, length};
 ghost use Rattle.std.specs.List.{All, list_all};
 ghost use Rattle.std.specs.Option.{option_eq, option_map};
-ghost use Rattle.ir.specs.types.Things.{IsType};
-ghost use Rattle.ir.specs.types.Terms.{type_term};
-ghost use Rattle.ir.specs.registry.Registry.{types_row};
+ghost use Rattle.ir_types.specs.Things.{IsType};
+ghost use Rattle.ir_types.specs.Terms.{type_term};
+ghost use Rattle.op_registry.specs.Registry.{types_row};
 ghost use Rattle.ir_verify_base.specs.Numbers.{typed, known_in, AreKnown};
-ghost use Rattle.ir.specs.types.SameTypes.{same_type};
+ghost use Rattle.ir_types.specs.SameTypes.{same_type};
 ghost use Rattle.ir_verify_base.specs.Fits as fits;
 
 use crate::types::{is_boolean, is_index, is_integer, is_memref, is_number, same, same_types};
-use ir::registry::definition::{TypeRule, Types};
-use ir::types::context::Context;
-use ir::types::ids::TypeId;
+use ir_types::context::Context;
+use ir_types::ids::TypeId;
+use op_registry::definition::{TypeRule, Types};
 
 /// What the types of an operation may be compared with.
 #[derive(Clone, Copy)]

@@ -4,9 +4,9 @@ ghost use Rattle.std.specs.List.{All};
 ghost use Rattle.std.specs.Option.{option_map};
 ghost use Rattle.std.specs.Ordering.{int_eq};
 ghost use Rattle.std.specs.Cmp.Lexicographic.{pointwise};
-ghost use Rattle.ir.specs.types.Things.{Things, IsType, TypeIsOf};
-ghost use Rattle.ir.specs.types.Terms.{TypeTerm, AttrTerm, attr_from, type_at, type_from, type_term};
-ghost use Rattle.ir.specs.types.WordNames.{word_bytes};
+ghost use Rattle.ir_types.specs.Things.{Things, IsType, TypeIsOf};
+ghost use Rattle.ir_types.specs.Terms.{TypeTerm, AttrTerm, attr_from, type_at, type_from, type_term};
+ghost use Rattle.ir_types.specs.WordNames.{word_bytes};
 ghost use Rattle.listeners_surroundings.specs.events.Modules.{NodeIsOf};
 ghost use Rattle.listeners_surroundings.specs.Gathered.{AroundIsOf};
 ghost use Rattle.ir_verify_base.specs.Numbers.{typed, node_in, around_in};
@@ -16,13 +16,13 @@ ghost use Rattle.ir_verify_base.specs.TypeRules as rules;
 
 use crate::node::{is_named, property};
 use crate::types::same;
-use ir::registry::things::{attr_of, type_of};
-use ir::types::context::Context;
-use ir::types::ids::TypeId;
-use ir::types::node::{AttrNode, TypeNode};
-use ir::types::word::Word;
+use ir_types::context::Context;
+use ir_types::ids::TypeId;
+use ir_types::node::{AttrNode, TypeNode};
+use ir_types::word::Word;
 use listeners_surroundings::around::Around;
 use listeners_surroundings::node::Node;
+use op_registry::things::{attr_of, type_of};
 
 /// What a memref type says.
 #[derive(Clone, Copy)]

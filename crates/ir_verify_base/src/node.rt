@@ -2,20 +2,20 @@
 ghost use Rattle.std.specs.Prelude.{◌≡◌, IfSome, map, is_some};
 ghost use Rattle.std.specs.List.{All};
 ghost use Rattle.std.specs.Option.{option_map};
-ghost use Rattle.ir.specs.types.Things.{IsAttr, IsType};
-ghost use Rattle.ir.specs.types.Terms.{attr_term, type_term};
-ghost use Rattle.ir.specs.types.WordNames.{word_bytes};
+ghost use Rattle.ir_types.specs.Things.{IsAttr, IsType};
+ghost use Rattle.ir_types.specs.Terms.{attr_term, type_term};
+ghost use Rattle.ir_types.specs.WordNames.{word_bytes};
 ghost use Rattle.listeners_surroundings.specs.events.Modules.{NodeIsOf};
 ghost use Rattle.ir_verify_base.specs.Numbers.{node_in};
 ghost use Rattle.ir_verify_base.specs.Fits as fits;
 
-use ir::registry::signature::{Signature, signature_of, type_in};
-use ir::types::context::Context;
-use ir::types::ids::{AttrId, TypeId};
-use ir::types::things::attr_of;
-use ir::types::word::Word;
+use ir_types::context::Context;
+use ir_types::ids::{AttrId, TypeId};
+use ir_types::things::attr_of;
+use ir_types::word::Word;
 use listeners_surroundings::node::Node;
 use listeners_surroundings::properties::entry;
+use op_registry::signature::{Signature, signature_of, type_in};
 
 /// Whether an operation has a name.
 pub fn is_named(ctx: &Context, node: &Node<'_>, word: Word) -> bool

@@ -1,21 +1,21 @@
 //! The rules on an operation's own form: counts and properties.
 ghost use Rattle.std.specs.Prelude.{◌≡◌, map};
 ghost use Rattle.std.specs.List.{list_any};
-ghost use Rattle.ir.specs.types.Things.{Things};
-ghost use Rattle.ir.specs.registry.Registry.{property_row, row_from};
+ghost use Rattle.ir_types.specs.Things.{Things};
+ghost use Rattle.op_registry.specs.Registry.{property_row, row_from};
 ghost use Rattle.listeners_surroundings.specs.events.Modules.{NodeIsOf};
 ghost use Rattle.ir_verify_base.specs.Numbers.{node_in};
 ghost use Rattle.ir_verify_base.specs.Shapes as shapes;
 
 use crate::fits::count_fits;
 use crate::node::property;
-use ir::registry::definition::{OpDef, Property};
-use ir::registry::property::allows;
-use ir::types::context::Context;
+use ir_types::context::Context;
 use listeners_surroundings::node::Node;
+use op_registry::definition::{OpDef, Property};
+use op_registry::property::allows;
 
 /// How many operands there are after the fixed ones.
-#[tactic(auto, unfolding(ir::registry::specs::Registry::row_from))]
+#[tactic(auto, unfolding(op_registry::specs::Registry::row_from))]
 fn initial_count(def: &OpDef, node: &Node<'_>) -> usize
     ensures { (c : Things) → result ≡ shapes.initial_count (row_from def.now) (node_in c node.now) }
 {
@@ -40,7 +40,7 @@ pub fn breaks_3(_ctx: &Context, def: &OpDef, node: &Node<'_>) -> bool
 }
 
 /// Rule 5: the number of regions isn't the row's.
-#[tactic(auto, unfolding(ir::registry::specs::Registry::row_from))]
+#[tactic(auto, unfolding(op_registry::specs::Registry::row_from))]
 pub fn breaks_5(_ctx: &Context, def: &OpDef, node: &Node<'_>) -> bool
     ensures { result ≡ shapes.breaks_5 (row_from def.now) (node_in _ctx.now node.now) }
 {
@@ -48,7 +48,7 @@ pub fn breaks_5(_ctx: &Context, def: &OpDef, node: &Node<'_>) -> bool
 }
 
 /// Rule 12: a property that the row requires is missing.
-#[tactic(auto, unfolding(ir::registry::specs::Registry::row_from))]
+#[tactic(auto, unfolding(op_registry::specs::Registry::row_from))]
 pub fn breaks_12(ctx: &Context, def: &OpDef, node: &Node<'_>) -> bool
     requires { NodeIsOf ctx.now node.now }
     ensures { result ≡ shapes.breaks_12 (row_from def.now) (node_in ctx.now node.now) }
@@ -78,7 +78,7 @@ fn is_missing(ctx: &Context, wanted: &Property, node: &Node<'_>) -> bool
 }
 
 /// Rule 13: a property of the row is of the wrong kind.
-#[tactic(auto, unfolding(ir::registry::specs::Registry::row_from))]
+#[tactic(auto, unfolding(op_registry::specs::Registry::row_from))]
 pub fn breaks_13(ctx: &Context, def: &OpDef, node: &Node<'_>) -> bool
     requires { NodeIsOf ctx.now node.now }
     ensures { result ≡ shapes.breaks_13 (row_from def.now) (node_in ctx.now node.now) }

@@ -2,11 +2,11 @@
 ghost use Rattle.std.specs.Prelude.{◌≡◌, IfSome, Some, ℕ, List, [], map, length, drop, not, unwrap_or, option_and_then};
 ghost use Rattle.std.specs.List.{All};
 ghost use Rattle.std.specs.Option.{option_map};
-ghost use Rattle.ir.specs.types.Things.{Things, IsType, TypeIsOf, IsAttr};
-ghost use Rattle.ir.specs.types.Terms.{TypeTerm, AttrTerm, attr_from, attr_term, type_at, type_from, type_term};
-ghost use Rattle.ir.specs.types.WordNames.{word_bytes};
-ghost use Rattle.ir.specs.registry.Registry.{region_row, row_from};
-ghost use Rattle.ir.specs.registry.Properties.{integer_of as integer_in};
+ghost use Rattle.ir_types.specs.Things.{Things, IsType, TypeIsOf, IsAttr};
+ghost use Rattle.ir_types.specs.Terms.{TypeTerm, AttrTerm, attr_from, attr_term, type_at, type_from, type_term};
+ghost use Rattle.ir_types.specs.WordNames.{word_bytes};
+ghost use Rattle.op_registry.specs.Registry.{region_row, row_from};
+ghost use Rattle.op_registry.specs.Properties.{integer_of as integer_in};
 ghost use Rattle.listeners_surroundings.specs.events.Modules.{NodeIsOf};
 ghost use Rattle.listeners_surroundings.specs.Gathered.{AroundIsOf};
 ghost use Rattle.ir_verify_base.specs.Numbers.{typed, known_in, node_in, around_in, AreKnown, AreKnownOf};
@@ -17,13 +17,13 @@ ghost use Rattle.ir_verify_base.specs.TypeRules as rules;
 use crate::fits::{Known, types_fit};
 use crate::node::{block, function_type, is_named, property};
 use crate::types::{is_index, is_number, same, width_of};
-use ir::registry::definition::{OpDef, RegionRule, TypeRule};
-use ir::registry::property::integer_of;
-use ir::types::context::Context;
-use ir::types::ids::TypeId;
-use ir::types::word::Word;
+use ir_types::context::Context;
+use ir_types::ids::TypeId;
+use ir_types::word::Word;
 use listeners_surroundings::around::Around;
 use listeners_surroundings::node::Node;
+use op_registry::definition::{OpDef, RegionRule, TypeRule};
+use op_registry::property::integer_of;
 
 /// What the types of an operation may be compared with.
 pub fn known_of<'a>(ctx: &'a Context, def: &OpDef, around: &'a Around<'_>) -> Known<'a>
@@ -97,7 +97,7 @@ fn inputs_of<'a>(ctx: &'a Context, node: &Node<'_>) -> &'a [TypeId]
 
 /// Rule 2: the first operand that the row calls a number is none, or an operand's type isn't what the row
 /// calls it.
-#[tactic(auto, unfolding(ir::registry::specs::Registry::row_from))]
+#[tactic(auto, unfolding(op_registry::specs::Registry::row_from))]
 pub fn breaks_2(ctx: &Context, def: &OpDef, around: &Around<'_>, known: &Known<'_>) -> bool
     requires around { AroundIsOf ctx.now around.now }
     requires known { AreKnownOf ctx.now def.now around.now known.now }
@@ -117,7 +117,7 @@ fn is_no_number(ctx: &Context, ty: Option<TypeId>) -> bool
 }
 
 /// Rule 4: a result's type isn't what the row calls it.
-#[tactic(auto, unfolding(ir::registry::specs::Registry::row_from))]
+#[tactic(auto, unfolding(op_registry::specs::Registry::row_from))]
 pub fn breaks_4(ctx: &Context, def: &OpDef, around: &Around<'_>, known: &Known<'_>) -> bool
     requires around { AroundIsOf ctx.now around.now }
     requires known { AreKnownOf ctx.now def.now around.now known.now }
@@ -127,7 +127,7 @@ pub fn breaks_4(ctx: &Context, def: &OpDef, around: &Around<'_>, known: &Known<'
 }
 
 /// Rule 7: the types of the arguments of a block aren't what the row calls them.
-#[tactic(auto, unfolding(ir::registry::specs::Registry::row_from))]
+#[tactic(auto, unfolding(op_registry::specs::Registry::row_from))]
 pub fn breaks_7(ctx: &Context, def: &OpDef, around: &Around<'_>, known: &Known<'_>) -> bool
     requires around { AroundIsOf ctx.now around.now }
     requires known { AreKnownOf ctx.now def.now around.now known.now }

@@ -2,19 +2,19 @@
 ghost use Rattle.std.specs.Prelude.{◌≡◌, IfSome, Some, List, map, length};
 ghost use Rattle.std.specs.List.{All};
 ghost use Rattle.std.specs.Option.{option_map};
-ghost use Rattle.ir.specs.types.SameTypes.{same_type};
-ghost use Rattle.ir.specs.types.Things.{IsType};
-ghost use Rattle.ir.specs.types.Terms.{TypeTerm, type_from, type_term};
+ghost use Rattle.ir_types.specs.SameTypes.{same_type};
+ghost use Rattle.ir_types.specs.Things.{IsType};
+ghost use Rattle.ir_types.specs.Terms.{TypeTerm, type_from, type_term};
 ghost use Rattle.ir_verify_base.specs.Numbers.{typed};
 ghost use Rattle.ir_verify_base.specs.Types as types;
 
-use ir::registry::things::type_of;
-use ir::types::context::Context;
-use ir::types::ids::TypeId;
-use ir::types::node::{Sign, TypeNode};
+use ir_types::context::Context;
+use ir_types::ids::TypeId;
+use ir_types::node::{Sign, TypeNode};
+use op_registry::things::type_of;
 
 /// Whether two types are one.
-#[tactic(auto, using(ir::types::proofs::SameTerms::same_numbers))]
+#[tactic(auto, using(ir_types::proofs::SameTerms::same_numbers))]
 pub fn same(ctx: &Context, a: TypeId, b: TypeId) -> bool
     requires a { IsType ctx.now a }
     requires b { IsType ctx.now b }

@@ -12,7 +12,7 @@ use Rattle.std.specs.Map as entries
 use Rattle.std.specs.BTreeMap.{BTreeMap, is_at, insert_entry}
 use Rattle.std.specs.BTreeMap as tree
 use Rattle.std.proofs.lemmas.Bool.{ne_eqb}
-use Rattle.ir.specs.trees.declared.value.Value.{Value}
+use Rattle.ir_tree.specs.declared.value.Value.{Value}
 use Rattle.listeners.specs.declared.key.Use.{Use}
 use Rattle.listeners.specs.declared.key.Key.{Key}
 use Rattle.listeners.specs.declared.user.User.{User}

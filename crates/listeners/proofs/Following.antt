@@ -4,36 +4,36 @@ use Rattle.std.specs.Prelude.{option_map}
 use Rattle.std.proofs.lemmas.List.Elements.{All-cons, All-nil}
 use Rattle.std.specs.FinMap as finmap
 use Rattle.std.specs.List.{All}
-use Rattle.ir.specs.types.Things.{Things}
-use Rattle.ir.specs.types.Terms.{name_term, type_term, attr_term}
-use Rattle.ir.specs.trees.Tree.{HeadOf, OpOf, op, Op as Tree, head}
-use Rattle.ir.specs.trees.Ids.{HasDistinctIds, find, first_of}
-use Rattle.ir.specs.trees.Edits.{at, change_entry, change_part, with_operand}
-use Rattle.ir.specs.laws.Changes.{Takes}
-use Rattle.ir.proofs.of_events.Operands.{holder}
-use Rattle.ir.specs.trees.Meaning.{Operation, key_before, meaning}
-use Rattle.ir.specs.trees.Places.{place_of, without}
-use Rattle.ir.specs.trees.declared.place.Part.{Part}
-use Rattle.ir.specs.trees.declared.place.Part.TheVariants.{Props, Attrs}
-use Rattle.ir.specs.trees.declared.place.Place.{Place}
-use Rattle.ir.specs.trees.declared.value.Value.{Value}
-use Rattle.ir.proofs.of_trees.Mapped.{map_find}
-use Rattle.ir.specs.laws.Members.{In}
-use Rattle.ir.specs.laws.Stands.{StandOf, stands, place_in}
-use Rattle.ir.proofs.of_laws.Around.{member_of_place}
-use Rattle.ir.proofs.of_laws.Listed.{bool_cases}
-use Rattle.ir.proofs.of_laws.Members.{same_stand, stand, stand_found}
-use Rattle.ir.specs.store.Nodes.{Node as Numbers, node_of}
-use Rattle.ir.specs.store.Stored.{Stored, known}
-use Rattle.ir.specs.events.declared.event.Event.{Event}
-use Rattle.ir.specs.events.declared.event.Event.TheVariants.{Put, Take, SetOperand, SetEntry, Shift}
-use Rattle.ir.specs.events.declared.row.Cell.{Cell}
-use Rattle.ir.specs.events.declared.row.Cell.TheVariants.{Val, Op, Num}
-use Rattle.ir.specs.events.declared.row.Row.{Row}
-use Rattle.ir.specs.events.Listener.{ShowsTaken}
-use Rattle.ir.specs.events.Modules.{Module, Node, module_meaning}
-use Rattle.ir.specs.events.Rows.{cell_meaning, row_meaning, rows_meaning, CellIsOf, RowIsOf, Shows}
-use Rattle.ir.specs.events.Step.{Step}
+use Rattle.ir_types.specs.Things.{Things}
+use Rattle.ir_types.specs.Terms.{name_term, type_term, attr_term}
+use Rattle.ir_tree.specs.Tree.{HeadOf, OpOf, op, Op as Tree, head}
+use Rattle.ir_tree.specs.Ids.{HasDistinctIds, find, first_of}
+use Rattle.ir_tree.specs.Edits.{at, change_entry, change_part, with_operand}
+use Rattle.ir_tree_laws.specs.Changes.{Takes}
+use Rattle.ir_event.proofs.Operands.{holder}
+use Rattle.ir_tree.specs.Meaning.{Operation, key_before, meaning}
+use Rattle.ir_tree.specs.Places.{place_of, without}
+use Rattle.ir_tree.specs.declared.place.Part.{Part}
+use Rattle.ir_tree.specs.declared.place.Part.TheVariants.{Props, Attrs}
+use Rattle.ir_tree.specs.declared.place.Place.{Place}
+use Rattle.ir_tree.specs.declared.value.Value.{Value}
+use Rattle.ir_tree.proofs.Mapped.{map_find}
+use Rattle.ir_tree_laws.specs.Members.{In}
+use Rattle.ir_tree_laws.specs.Stands.{StandOf, stands, place_in}
+use Rattle.ir_tree_laws.proofs.Around.{member_of_place}
+use Rattle.ir_tree_laws.proofs.Listed.{bool_cases}
+use Rattle.ir_tree_laws.proofs.Members.{same_stand, stand, stand_found}
+use Rattle.ir_store.specs.Nodes.{Node as Numbers, node_of}
+use Rattle.ir_store.specs.Stored.{Stored, known}
+use Rattle.ir_event.specs.declared.event.Event.{Event}
+use Rattle.ir_event.specs.declared.event.Event.TheVariants.{Put, Take, SetOperand, SetEntry, Shift}
+use Rattle.ir_event.specs.declared.row.Cell.{Cell}
+use Rattle.ir_event.specs.declared.row.Cell.TheVariants.{Val, Op, Num}
+use Rattle.ir_event.specs.declared.row.Row.{Row}
+use Rattle.ir_event.specs.Listener.{ShowsTaken}
+use Rattle.ir_event.specs.Modules.{Module, Node, module_meaning}
+use Rattle.ir_event.specs.Rows.{cell_meaning, row_meaning, rows_meaning, CellIsOf, RowIsOf, Shows}
+use Rattle.ir_event.specs.Step.{Step}
 use Rattle.listeners.specs.declared.key.Use.{Use}
 use Rattle.listeners.specs.declared.key.Key.{Key}
 use Rattle.listeners.specs.Uses.{in_order, operand_uses, uses_in, all_uses, use_row}

@@ -3,7 +3,7 @@ use Rattle.std.proofs.Common.{◌≡◌, refl, ap, sym, ◌∙◌, ℕ, ◌+◌,
 use Rattle.std.proofs.lemmas.Bool.{cases_eq, ne_eqb}
 use Rattle.std.proofs.Common.{⊎_elim}
 use Rattle.std.specs.Ordering.{is_gt}
-use Rattle.ir.specs.trees.declared.value.Value.{Value}
+use Rattle.ir_tree.specs.declared.value.Value.{Value}
 use Rattle.listeners.specs.declared.key.Use.{Use}
 use Rattle.listeners.specs.Uses.{operand_uses, use_cmp, put_use, in_order}
 use Rattle.listeners.specs.Others.{is_other, only, others}

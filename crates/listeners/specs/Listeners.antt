@@ -1,6 +1,6 @@
 -- What each listener means.
 use Rattle.std.specs.Prelude.{◌≡◌, false, None}
-use Rattle.ir.specs.events.Listener.{Listener}
+use Rattle.ir_event.specs.Listener.{Listener}
 use Rattle.listeners.specs.declared.uses.Uses.{Uses}
 use Rattle.listeners.specs.Uses.{all_uses, in_order, uses_rows}
 use Rattle.listeners.specs.Tables.{table_uses}

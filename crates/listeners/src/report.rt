@@ -1,6 +1,6 @@
 //! The rows of a table of uses.
 ghost use Rattle.std.specs.Prelude.{◌≡◌, [], ◌∷◌, ◌++◌, map, IfOk, OnOk};
-ghost use Rattle.ir.specs.events.declared.row.Row.{Row as Line};
+ghost use Rattle.ir_event.specs.declared.row.Row.{Row as Line};
 ghost use Rattle.listeners.specs.Uses.{in_order};
 ghost use Rattle.listeners.specs.Keys.{keys_of, key_cells, value_at};
 ghost use Rattle.listeners.specs.Tables.{table_uses};
@@ -8,8 +8,8 @@ ghost use Rattle.listeners.specs.Tables.{table_uses};
 use crate::gather::push_changed;
 use crate::key::Key;
 use crate::table::Table;
-use ir::events::row::{Cell, Row};
-use ir::trees::value::Value;
+use ir_event::row::{Cell, Row};
+use ir_tree::value::Value;
 use std::alloc::{AllocError, Global};
 
 /// The keys of the uses, in order.

@@ -1,8 +1,8 @@
 //! The listener that keeps the uses of values.
 ghost use Rattle.std.specs.Prelude.{◌≡◌, ◌≤◌, ◌+◌, ◌⊎◌, true, IfOk};
-ghost use Rattle.ir.specs.events.Modules.{Module, things_in, module_in, shown_in};
-ghost use Rattle.ir.specs.events.Listener.{Told, ShowsTaken};
-ghost use Rattle.ir.specs.events.Step.{Step};
+ghost use Rattle.ir_event.specs.Modules.{Module, things_in, module_in, shown_in};
+ghost use Rattle.ir_event.specs.Listener.{Told, ShowsTaken};
+ghost use Rattle.ir_event.specs.Step.{Step};
 ghost use Rattle.listeners.specs.Following.{adds_no_use};
 ghost use Rattle.listeners.specs.Uses.{all_uses, in_order};
 ghost use Rattle.listeners.specs.Tables.{table_uses};
@@ -12,11 +12,11 @@ use crate::follow::follow;
 use crate::listing::Listing;
 use crate::report::rows_of_table;
 use crate::table::Table;
-use ir::events::analysis::Analysis;
-use ir::events::event::Event;
-use ir::events::row::{Kind, Memory, ReportFault, Row};
-use ir::events::view::View;
-use ir::events::world::World;
+use ir_event::analysis::Analysis;
+use ir_event::event::Event;
+use ir_event::row::{Kind, Memory, ReportFault, Row};
+use ir_event::view::View;
+use ir_event::world::World;
 use std::alloc::{AllocError, Global};
 
 /// The analysis `uses`: each use of each value, in order.

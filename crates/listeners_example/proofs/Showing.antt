@@ -2,12 +2,12 @@
 use Rattle.std.proofs.Common.{◌≡◌, refl, sym, ap, ◌∙◌, subst, ℕ, List, [], ◌∷◌, length, map}
 use Rattle.std.specs.List.{All}
 use Rattle.std.proofs.lemmas.List.Elements.{All-nil, All-cons, All-head, All-tail}
-use Rattle.ir.specs.types.Things.{Things}
-use Rattle.ir.specs.trees.Meaning.{Operation}
-use Rattle.ir.specs.events.declared.row.Cell.{Cell}
-use Rattle.ir.specs.events.declared.row.Cell.TheVariants.{Num}
-use Rattle.ir.specs.events.declared.row.Row.{Row as Line}
-use Rattle.ir.specs.events.Rows.{cell_meaning, rows_meaning, CellIsOf, RowIsOf, Shows}
+use Rattle.ir_types.specs.Things.{Things}
+use Rattle.ir_tree.specs.Meaning.{Operation}
+use Rattle.ir_event.specs.declared.row.Cell.{Cell}
+use Rattle.ir_event.specs.declared.row.Cell.TheVariants.{Num}
+use Rattle.ir_event.specs.declared.row.Row.{Row as Line}
+use Rattle.ir_event.specs.Rows.{cell_meaning, rows_meaning, CellIsOf, RowIsOf, Shows}
 use Rattle.listeners_surroundings.specs.Facts.{kept_facts}
 use Rattle.listeners_example.specs.declared.additions.IsAddition.{IsAddition}
 use Rattle.listeners_example.specs.Additions.{is_addition, holds, additions_of}

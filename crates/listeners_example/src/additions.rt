@@ -1,21 +1,21 @@
 //! A listener that counts additions.
 ghost use Rattle.std.specs.Prelude.{◌≡◌, ◌∷◌, [], true, map, IfOk};
-ghost use Rattle.ir.specs.events.declared.row.Cell.TheVariants.{Num};
-ghost use Rattle.ir.specs.events.declared.row.Row.{Row as Line};
+ghost use Rattle.ir_event.specs.declared.row.Cell.TheVariants.{Num};
+ghost use Rattle.ir_event.specs.declared.row.Row.{Row as Line};
 
-use ir::events::analysis::Analysis;
-use ir::events::event::Event;
-use ir::events::row::{Cell, Kind, Memory, ReportFault, Row};
-use ir::events::view::View;
-use ir::events::world::World;
-use ir::registry::registry::Registry;
-use ir::trees::value::Value;
-use ir::types::context::Context;
-use ir::types::ids::{NameId, OpId};
-use ir::types::word::Word;
+use ir_event::analysis::Analysis;
+use ir_event::event::Event;
+use ir_event::row::{Cell, Kind, Memory, ReportFault, Row};
+use ir_event::view::View;
+use ir_event::world::World;
+use ir_tree::value::Value;
+use ir_types::context::Context;
+use ir_types::ids::{NameId, OpId};
+use ir_types::word::Word;
 use listeners_surroundings::around::Around;
 use listeners_surroundings::fact::Fact;
 use listeners_surroundings::kept::Kept;
+use op_registry::registry::Registry;
 use std::alloc::{AllocError, Global};
 
 /// Whether an operation is an addition.

@@ -1,12 +1,12 @@
 -- An operand is a use, and lists that are the same at each member are one.
 use Rattle.std.proofs.Common.{◌≡◌, refl, ap, sym, ◌∙◌, ℕ, ◌+◌, Bool, true, false, cond, eq-eqb, List, [], ◌∷◌, ◌++◌, map, inl, inr}
-use Rattle.ir.specs.trees.declared.value.Value.{Value}
-use Rattle.ir.specs.trees.declared.value.Value.TheVariants.{Result, Arg}
-use Rattle.ir.specs.trees.Tree.{OpOf, head}
-use Rattle.ir.specs.trees.Uses.{same_value, operand_uses, uses_of}
-use Rattle.ir.specs.laws.Stands.{StandOf, stand_id, stands, gather}
-use Rattle.ir.specs.laws.Members.{In}
-use Rattle.ir.proofs.of_laws.Readings.{stands_uses}
+use Rattle.ir_tree.specs.declared.value.Value.{Value}
+use Rattle.ir_tree.specs.declared.value.Value.TheVariants.{Result, Arg}
+use Rattle.ir_tree.specs.Tree.{OpOf, head}
+use Rattle.ir_tree.specs.Uses.{same_value, operand_uses, uses_of}
+use Rattle.ir_tree_laws.specs.Stands.{StandOf, stand_id, stands, gather}
+use Rattle.ir_tree_laws.specs.Members.{In}
+use Rattle.ir_tree_laws.proofs.Readings.{stands_uses}
 
 -- what is the same at each member gives the same list
 pub same_map : {X Y : Type 0} (f g : X → Y) (xs : List X) → ((x : X) → In x xs → f x ≡ g x) → map f xs ≡ map g xs

@@ -1,12 +1,12 @@
 -- An operation whose name says that nothing is kept about it.
 use Rattle.std.proofs.Common.{◌≡◌, ap, sym, ◌∙◌, ℕ, List, Bool, true, false, cond, Some, None}
 use Rattle.std.specs.Prelude.{option_map, option_and_then}
-use Rattle.ir.specs.types.Things.{Things}
-use Rattle.ir.specs.types.Terms.{TypeTerm, AttrTerm, name_term, type_term, attr_term}
-use Rattle.ir.specs.trees.Ids.{HasDistinctIds, has_id}
-use Rattle.ir.specs.trees.Meaning.{meaning}
-use Rattle.ir.specs.events.store.Nodes.{Node, node_of}
-use Rattle.ir.specs.events.store.Stored.{Stored, known}
+use Rattle.ir_types.specs.Things.{Things}
+use Rattle.ir_types.specs.Terms.{TypeTerm, AttrTerm, name_term, type_term, attr_term}
+use Rattle.ir_tree.specs.Ids.{HasDistinctIds, has_id}
+use Rattle.ir_tree.specs.Meaning.{meaning}
+use Rattle.ir_event.specs.store.Nodes.{Node, node_of}
+use Rattle.ir_event.specs.store.Stored.{Stored, known}
 use Rattle.listeners_surroundings.specs.Surroundings.{SurroundingsOf, surround, surroundings}
 use Rattle.listeners_surroundings.specs.Mapped.{map_surroundings}
 use Rattle.listeners_surroundings.specs.Facts.{if_kept, kept_of}

@@ -3,11 +3,11 @@ use Rattle.std.specs.Prelude.{◌≡◌, ℕ, ◌+◌, ◌*◌, List, [], ◌∷
 use Rattle.std.specs.List.{list_any, filter}
 use Rattle.std.specs.Ordering.{nat_cmp}
 use Rattle.std.specs.FinMap.Entries.{put}
-use Rattle.ir.specs.trees.Tree.{OpOf, head, regions, region_count}
-use Rattle.ir.specs.trees.Ids.{find}
-use Rattle.ir.specs.laws.Stands.{StandOf, stand_id, stands}
+use Rattle.ir_tree.specs.Tree.{OpOf, head, regions, region_count}
+use Rattle.ir_tree.specs.Ids.{find}
+use Rattle.ir_tree_laws.specs.Stands.{StandOf, stand_id, stands}
 use Rattle.listeners_surroundings.specs.Surroundings.{SurroundingsOf, surround, surroundings}
-use Rattle.ir.specs.events.declared.event.Event.{Event}
+use Rattle.ir_event.specs.declared.event.Event.{Event}
 use Rattle.listeners_surroundings.specs.Near.{near}
 
 -- whether an operation is one of a list

@@ -1,16 +1,16 @@
 -- What an operation is and has around it, as it is gathered.
 use Rattle.std.specs.Prelude.{if◌then◌else◌, ℕ, zero, suc, ◌+◌, ◌*◌, List, [], ◌∷◌, length, map, Option, Some, None, option_map, option_and_then, IfSome}
 use Rattle.std.specs.List.{All}
-use Rattle.ir.specs.types.Things.{Things, IsType}
-use Rattle.ir.specs.trees.Tree.{OpOf, Op, head, regions, region_count}
-use Rattle.ir.specs.laws.Reads.{ops_at}
-use Rattle.ir.specs.laws.Stands.{stand_of}
-use Rattle.ir.specs.types.Terms.{TypeTerm, AttrTerm, name_term, type_term, attr_term}
-use Rattle.ir.specs.trees.Ids.{find}
-use Rattle.ir.specs.events.declared.event.Event.{Event}
-use Rattle.ir.specs.events.declared.event.Event.TheVariants.{Put, Take, SetOperand, SetEntry, Shift}
-use Rattle.ir.specs.events.Modules.{NodeIsOf}
-use Rattle.ir.specs.events.declared.world.World.{World}
+use Rattle.ir_types.specs.Things.{Things, IsType}
+use Rattle.ir_tree.specs.Tree.{OpOf, Op, head, regions, region_count}
+use Rattle.ir_tree_laws.specs.Reads.{ops_at}
+use Rattle.ir_tree_laws.specs.Stands.{stand_of}
+use Rattle.ir_types.specs.Terms.{TypeTerm, AttrTerm, name_term, type_term, attr_term}
+use Rattle.ir_tree.specs.Ids.{find}
+use Rattle.ir_event.specs.declared.event.Event.{Event}
+use Rattle.ir_event.specs.declared.event.Event.TheVariants.{Put, Take, SetOperand, SetEntry, Shift}
+use Rattle.ir_event.specs.Modules.{NodeIsOf}
+use Rattle.ir_event.specs.declared.world.World.{World}
 use Rattle.listeners_surroundings.specs.declared.around.Around.{Around}
 use Rattle.listeners_surroundings.specs.declared.around.Outer.{Outer}
 use Rattle.listeners_surroundings.specs.Mapped.{map_surroundings}

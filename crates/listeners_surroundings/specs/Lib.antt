@@ -3,6 +3,6 @@ pub mod Near
 pub mod Facts
 pub mod Mapped
 pub mod Gathered
-pub use Rattle.ir.specs.events.store.Nodes
-pub use Rattle.ir.specs.events.store.Stored
-pub use Rattle.ir.specs.events as events
+pub use Rattle.ir_event.specs.store.Nodes
+pub use Rattle.ir_event.specs.store.Stored
+pub use Rattle.ir_event.specs as events

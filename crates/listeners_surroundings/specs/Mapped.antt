@@ -1,7 +1,7 @@
 -- Surroundings with names, types and attributes changed.
 use Rattle.std.specs.Prelude.{map, option_map}
-use Rattle.ir.specs.trees.Maps.{map_head}
-use Rattle.ir.specs.events.store.Nodes.{NodeOf}
+use Rattle.ir_tree.specs.Maps.{map_head}
+use Rattle.ir_event.specs.store.Nodes.{NodeOf}
 use Rattle.listeners_surroundings.specs.Surroundings.{SurroundingsOf, OuterOf}
 
 -- what an operation has, with f of its name and its keys, g of its types and h of its attributes

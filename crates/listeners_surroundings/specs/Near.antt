@@ -1,10 +1,10 @@
 -- The operations near an event.
 use Rattle.std.specs.Prelude.{ℕ, List, [], ◌∷◌, Option, Some, None, option_and_then}
-use Rattle.ir.specs.trees.Tree.{OpOf, RegionsOf, no_regions, region, regions}
-use Rattle.ir.specs.trees.Ids.{find}
-use Rattle.ir.specs.laws.Reads.{ops_in, last_id, last_at, prev_of}
-use Rattle.ir.specs.events.declared.event.Event.{Event}
-use Rattle.ir.specs.events.declared.event.Event.TheVariants.{Put, Take, SetOperand, SetEntry, Shift}
+use Rattle.ir_tree.specs.Tree.{OpOf, RegionsOf, no_regions, region, regions}
+use Rattle.ir_tree.specs.Ids.{find}
+use Rattle.ir_tree_laws.specs.Reads.{ops_in, last_id, last_at, prev_of}
+use Rattle.ir_event.specs.declared.event.Event.{Event}
+use Rattle.ir_event.specs.declared.event.Event.TheVariants.{Put, Take, SetOperand, SetEntry, Shift}
 
 -- a list of what there is
 abbrev pub if_any : {X : Type 0} → Option X → List X → List X

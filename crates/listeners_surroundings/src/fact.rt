@@ -2,9 +2,9 @@
 ghost use Rattle.std.specs.Prelude.{◌≡◌, ◌≤◌, ◌+◌, [], ◌∷◌, List, Option, Bool, ℕ, IfOk, OnOk, OnErr, true, false};
 ghost use Rattle.std.specs.Ordering.{nat_cmp};
 ghost use Rattle.std.specs.BTreeMap.{get};
-ghost use Rattle.ir.specs.types.Terms.{TypeTerm, AttrTerm, name_term};
-ghost use Rattle.ir.specs.trees.Ids.{find, has_id};
-ghost use Rattle.ir.specs.events.Modules.{module_in};
+ghost use Rattle.ir_types.specs.Terms.{TypeTerm, AttrTerm, name_term};
+ghost use Rattle.ir_tree.specs.Ids.{find, has_id};
+ghost use Rattle.ir_event.specs.Modules.{module_in};
 ghost use Rattle.listeners_surroundings.specs.Surroundings.{SurroundingsOf};
 ghost use Rattle.listeners_surroundings.specs.Near.{near, somes, if_any, lasts_in};
 ghost use Rattle.listeners_surroundings.specs.Facts.{is_one_of, fact_of, if_kept, kept_of, Renewed, most_looks};
@@ -12,11 +12,11 @@ ghost use Rattle.listeners_surroundings.specs.Gathered.{AroundIsOf, gathered_in,
 
 use crate::around::Around;
 use crate::gather::{around_of, gather, shown};
-use ir::events::event::Event;
-use ir::events::registry::registry::Registry;
-use ir::events::view::View;
-use ir::types::context::Context;
-use ir::types::ids::{NameId, OpId};
+use ir_event::event::Event;
+use ir_event::registry::registry::Registry;
+use ir_event::view::View;
+use ir_types::context::Context;
+use ir_types::ids::{NameId, OpId};
 use std::alloc::{AllocError, Global};
 use std::collections::BTreeMap;
 

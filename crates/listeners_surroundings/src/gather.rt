@@ -1,21 +1,21 @@
 //! What an operation is and has around it is gathered from a view.
 ghost use Rattle.std.specs.Prelude.{◌≡◌, ◌≤◌, ◌<◌, ◌+◌, ◌*◌, ◌^◌, true, Some, None, IfOk, OnErr, IfSome, length, map, option_map, option_and_then};
 ghost use Rattle.std.specs.List.{All};
-ghost use Rattle.ir.specs.types.Things.{IsType};
-ghost use Rattle.ir.specs.trees.Ids.{find, has_id};
-ghost use Rattle.ir.specs.events.store.Nodes.{node_of};
-ghost use Rattle.ir.specs.events.store.Stored.{known};
-ghost use Rattle.ir.specs.laws.Values.{type_of_value, has_value};
-ghost use Rattle.ir.specs.events.Modules.{NodeIsOf};
+ghost use Rattle.ir_types.specs.Things.{IsType};
+ghost use Rattle.ir_tree.specs.Ids.{find, has_id};
+ghost use Rattle.ir_event.specs.store.Nodes.{node_of};
+ghost use Rattle.ir_event.specs.store.Stored.{known};
+ghost use Rattle.ir_tree_laws.specs.Values.{type_of_value, has_value};
+ghost use Rattle.ir_event.specs.Modules.{NodeIsOf};
 ghost use Rattle.listeners_surroundings.specs.Surroundings.{surroundings};
 ghost use Rattle.listeners_surroundings.specs.Gathered.{AroundIsOf, gathered, outer_in, tree_in, last_name_at, from_on, outer_at, gather_looks};
 ghost use Rattle.listeners_surroundings.specs.declared.around.Outer.{Outer as GatheredOuter};
 
 use crate::around::{Around, Outer};
-use ir::events::store::node::Node;
-use ir::events::view::View;
-use ir::trees::value::Value;
-use ir::types::ids::{NameId, OpId, TypeId};
+use ir_event::store::node::Node;
+use ir_event::view::View;
+use ir_tree::value::Value;
+use ir_types::ids::{NameId, OpId, TypeId};
 use std::alloc::{AllocError, Global};
 
 /// What an operation of the module that the view shows is and has around it, or none where it isn't there. Memory is

@@ -8,6 +8,6 @@ pub mod kept;
 pub mod laws;
 pub mod properties;
 
-pub use ir::events;
-pub use ir::events::store;
-pub use ir::events::store::node;
+pub use ir_event as events;
+pub use ir_event::store;
+pub use ir_event::store::node;

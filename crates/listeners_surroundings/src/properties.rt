@@ -3,18 +3,18 @@ ghost use Rattle.std.specs.Prelude.{◌≡◌, IfSome, List, [], ℕ, map, slice
 ghost use Rattle.std.specs.List.{All};
 ghost use Rattle.std.specs.Option.{option_map};
 ghost use Rattle.std.specs.Str.{bytes_eq};
-ghost use Rattle.ir.specs.types.Things.{Things, IsName, IsAttr, AttrIsOf};
-ghost use Rattle.ir.specs.types.Terms.{TypeTerm, AttrTerm, attr_from, attr_term, name_term};
-ghost use Rattle.ir.specs.types.WordNames.{word_bytes};
-ghost use Rattle.ir.specs.trees.Maps.{map_entry};
-ghost use Rattle.ir.specs.events.registry.Registry.{beside};
-ghost use Rattle.ir.specs.events.registry.Properties as properties;
+ghost use Rattle.ir_types.specs.Things.{Things, IsName, IsAttr, AttrIsOf};
+ghost use Rattle.ir_types.specs.Terms.{TypeTerm, AttrTerm, attr_from, attr_term, name_term};
+ghost use Rattle.ir_types.specs.WordNames.{word_bytes};
+ghost use Rattle.ir_tree.specs.Maps.{map_entry};
+ghost use Rattle.ir_event.specs.registry.Registry.{beside};
+ghost use Rattle.ir_event.specs.registry.Properties as properties;
 
-use ir::types::context::Context;
-use ir::types::ids::{AttrId, NameId};
-use ir::types::node::AttrNode;
-use ir::types::things::attr_of;
-use ir::types::word::Word;
+use ir_types::context::Context;
+use ir_types::ids::{AttrId, NameId};
+use ir_types::node::AttrNode;
+use ir_types::things::attr_of;
+use ir_types::word::Word;
 
 /// The attribute at a key of a dictionary, if there is one.
 pub fn entry(ctx: &Context, entries: &[(NameId, AttrId)], key: Word) -> Option<AttrId>

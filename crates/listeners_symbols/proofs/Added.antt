@@ -2,15 +2,15 @@
 use Rattle.std.proofs.Common.{◌≡◌, refl, ap, sym, ◌∙◌, subst, ℕ, Bool, true, false, true≢false, ◌||◌, eqb, eq-eqb, eqb-true, List, [], ◌∷◌, Option, Some, None, inl, inr}
 use Rattle.std.specs.Prelude.{option_map, is_some, IfSome}
 use Rattle.std.specs.List.{list_any}
-use Rattle.ir.specs.types.Things.{Things}
-use Rattle.ir.specs.trees.Ids.{ids, has_id}
-use Rattle.ir.specs.trees.Meaning.{Operation}
-use Rattle.ir.specs.laws.Stands.{stands, stand_of}
-use Rattle.ir.proofs.of_laws.Listed.{bool_cases, neither}
-use Rattle.ir.proofs.of_laws.Members.{member}
-use Rattle.ir.proofs.of_laws.Around.{stand_present}
-use Rattle.ir.specs.events.declared.world.World.{World}
-use Rattle.ir.specs.events.Modules.{module_in}
+use Rattle.ir_types.specs.Things.{Things}
+use Rattle.ir_tree.specs.Ids.{ids, has_id}
+use Rattle.ir_tree.specs.Meaning.{Operation}
+use Rattle.ir_tree_laws.specs.Stands.{stands, stand_of}
+use Rattle.ir_tree_laws.proofs.Listed.{bool_cases, neither}
+use Rattle.ir_tree_laws.proofs.Members.{member}
+use Rattle.ir_tree_laws.proofs.Around.{stand_present}
+use Rattle.ir_event.specs.declared.world.World.{World}
+use Rattle.ir_event.specs.Modules.{module_in}
 use Rattle.listeners_symbols.specs.Roles.{Stand, role, role_of}
 use Rattle.listeners_symbols.specs.Table.{Table, Says, Keeps, Renewed, AreRight, Added, RoleIsOf, role_meaning}
 

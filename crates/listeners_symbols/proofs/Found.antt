@@ -9,11 +9,11 @@ use Rattle.std.specs.BTreeMap.{is_at}
 use Rattle.std.specs.BTreeSet.{contains}
 use Rattle.std.proofs.lemmas.List.Elements.{All-push, All-head, All-tail}
 use Rattle.std.proofs.lemmas.List.Folds.{list_any-append}
-use Rattle.ir.specs.types.Things.{Things, IsAttr}
-use Rattle.ir.specs.types.Terms.{AttrTerm, Symbol, attr_term, name_term}
-use Rattle.ir.specs.types.Sound.{IsSound}
-use Rattle.ir.proofs.of_types.Terms.{attr_term_one}
-use Rattle.ir.proofs.of_laws.Listed.{bool_cases}
+use Rattle.ir_types.specs.Things.{Things, IsAttr}
+use Rattle.ir_types.specs.Terms.{AttrTerm, Symbol, attr_term, name_term}
+use Rattle.ir_types.specs.Sound.{IsSound}
+use Rattle.ir_types.proofs.Terms.{attr_term_one}
+use Rattle.ir_tree_laws.proofs.Listed.{bool_cases}
 use Rattle.listeners_symbols.specs.declared.role.Reference.{Reference}
 use Rattle.listeners_symbols.specs.declared.references.Found.{Found}
 use Rattle.listeners_symbols.specs.Roles.{has_parts}

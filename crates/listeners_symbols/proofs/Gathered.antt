@@ -3,25 +3,25 @@ use Rattle.std.proofs.Common.{◌≡◌, refl, ap, sym, ◌∙◌, subst, ℕ, B
 use Rattle.std.specs.Prelude.{option_map, is_some}
 use Rattle.std.specs.List.{IsDistinct}
 use Rattle.std.specs.FinMap as finmap
-use Rattle.ir.specs.types.Things.{Things}
-use Rattle.ir.specs.types.Terms.{TypeTerm, AttrTerm, name_term, type_term, attr_term}
-use Rattle.ir.specs.types.Words.{is_table}
-use Rattle.ir.specs.trees.declared.place.Place.{Place}
-use Rattle.ir.specs.trees.Tree.{Op, op, head}
-use Rattle.ir.specs.trees.Ids.{HasDistinctIds, find, first_of}
-use Rattle.ir.specs.trees.Places.{place_of}
-use Rattle.ir.specs.trees.Meaning.{Operation, meaning}
-use Rattle.ir.proofs.of_trees.Mapped.{map_find, map_place, map_ids}
+use Rattle.ir_types.specs.Things.{Things}
+use Rattle.ir_types.specs.Terms.{TypeTerm, AttrTerm, name_term, type_term, attr_term}
+use Rattle.ir_types.specs.Words.{is_table}
+use Rattle.ir_tree.specs.declared.place.Place.{Place}
+use Rattle.ir_tree.specs.Tree.{Op, op, head}
+use Rattle.ir_tree.specs.Ids.{HasDistinctIds, find, first_of}
+use Rattle.ir_tree.specs.Places.{place_of}
+use Rattle.ir_tree.specs.Meaning.{Operation, meaning}
+use Rattle.ir_tree.proofs.Mapped.{map_find, map_place, map_ids}
 use Rattle.listeners_surroundings.specs.Nodes.{Node, node_of}
 use Rattle.listeners_surroundings.specs.Stored.{known}
-use Rattle.ir.specs.laws.Reads.{parent_of}
-use Rattle.ir.specs.laws.Values.{type_of_value}
-use Rattle.ir.specs.laws.Stands.{StepOf, stand_id, stands, stand_of, table_in, place_in}
-use Rattle.ir.specs.laws.Members.{In}
-use Rattle.ir.proofs.of_laws.Members.{stand, stand_of_member, same_stand, stand_found}
-use Rattle.ir.proofs.of_laws.Around.{around_there, member_of_place, place_of_member, present_stand}
-use Rattle.ir.specs.events.declared.world.World.{World}
-use Rattle.ir.specs.events.Modules.{module_in}
+use Rattle.ir_tree_laws.specs.Reads.{parent_of}
+use Rattle.ir_tree_laws.specs.Values.{type_of_value}
+use Rattle.ir_tree_laws.specs.Stands.{StepOf, stand_id, stands, stand_of, table_in, place_in}
+use Rattle.ir_tree_laws.specs.Members.{In}
+use Rattle.ir_tree_laws.proofs.Members.{stand, stand_of_member, same_stand, stand_found}
+use Rattle.ir_tree_laws.proofs.Around.{around_there, member_of_place, place_of_member, present_stand}
+use Rattle.ir_event.specs.declared.world.World.{World}
+use Rattle.ir_event.specs.Modules.{module_in}
 use Rattle.listeners_surroundings.proofs.Reading.{head_shown}
 use Rattle.listeners_symbols.specs.declared.role.Role.{Role as Numbers}
 use Rattle.listeners_symbols.specs.declared.role.Tables.{Tables}

@@ -2,19 +2,19 @@
 use Rattle.std.proofs.Common.{◌≡◌, refl, ap, sym, ◌∙◌, ℕ, ◌+◌, ◌≤◌, true, length, Option, Some, None, arith}
 use Rattle.std.specs.Prelude.{option_map}
 use Rattle.std.specs.FinMap as finmap
-use Rattle.ir.specs.types.Terms.{name_term, type_term, attr_term}
-use Rattle.ir.specs.trees.Tree.{Op, op, head}
-use Rattle.ir.specs.trees.Ids.{find, first_of}
-use Rattle.ir.specs.trees.Meaning.{meaning, Operation}
-use Rattle.ir.proofs.of_trees.Mapped.{map_find}
+use Rattle.ir_types.specs.Terms.{name_term, type_term, attr_term}
+use Rattle.ir_tree.specs.Tree.{Op, op, head}
+use Rattle.ir_tree.specs.Ids.{find, first_of}
+use Rattle.ir_tree.specs.Meaning.{meaning, Operation}
+use Rattle.ir_tree.proofs.Mapped.{map_find}
 use Rattle.listeners_surroundings.specs.Stored.{known}
-use Rattle.ir.specs.events.declared.event.Event.{Event}
-use Rattle.ir.specs.events.declared.event.Event.TheVariants.{Put, Take, SetOperand, SetEntry, Shift}
-use Rattle.ir.specs.events.declared.world.World.{World}
-use Rattle.ir.specs.events.Bounds.{op_of, operand_count, operands_of}
-use Rattle.ir.specs.events.Listener.{is_take}
-use Rattle.ir.specs.events.Modules.{Module, module_in}
-use Rattle.ir.specs.events.Step.{Step}
+use Rattle.ir_event.specs.declared.event.Event.{Event}
+use Rattle.ir_event.specs.declared.event.Event.TheVariants.{Put, Take, SetOperand, SetEntry, Shift}
+use Rattle.ir_event.specs.declared.world.World.{World}
+use Rattle.ir_event.specs.Bounds.{op_of, operand_count, operands_of}
+use Rattle.ir_event.specs.Listener.{is_take}
+use Rattle.ir_event.specs.Modules.{Module, module_in}
+use Rattle.ir_event.specs.Step.{Step}
 use Rattle.listeners_symbols.proofs.Agreed.{op_there, found_there}
 
 -- as many operands as in what an operation stands for

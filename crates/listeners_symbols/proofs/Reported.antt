@@ -17,29 +17,29 @@ use Rattle.std.proofs.lemmas.Cmp.{nat_cmp_total}
 use Rattle.std.proofs.lemmas.List.{map-append}
 use Rattle.std.proofs.lemmas.List.Elements.{All-head, All-tail, All-cons, All-nil}
 use lib.Dec.{T}
-use Rattle.ir.specs.types.Things.{Things, Grows, IsName, IsType, IsAttr}
-use Rattle.ir.specs.types.Sound.{Holds, IsSound}
-use Rattle.ir.specs.types.Terms.{TypeTerm, AttrTerm, name_term, type_term, attr_term}
-use Rattle.ir.proofs.of_types.Growth.{name_is, name_refl}
-use Rattle.ir.proofs.of_types.Terms.{name_stays, attr_stays, name_term_one, type_term_one}
-use Rattle.ir.specs.trees.Meaning.{Operation}
-use Rattle.ir.specs.laws.Stands.{stand_id, stands, stand_in}
-use Rattle.ir.proofs.of_laws.Listed.{bool_cases}
-use Rattle.ir.specs.events.declared.row.Cell.{Cell}
-use Rattle.ir.specs.events.declared.row.Cell.TheVariants as cell
-use Rattle.ir.specs.events.declared.row.Row.{Row}
-use Rattle.ir.specs.events.Rows.{Op, Name, Path, Tag, IsSymbol, cell_meaning, rows_meaning, CellIsOf, RowIsOf, Shows}
+use Rattle.ir_types.specs.Things.{Things, Grows, IsName, IsType, IsAttr}
+use Rattle.ir_types.specs.Sound.{Holds, IsSound}
+use Rattle.ir_types.specs.Terms.{TypeTerm, AttrTerm, name_term, type_term, attr_term}
+use Rattle.ir_types.proofs.Growth.{name_is, name_refl}
+use Rattle.ir_types.proofs.Terms.{name_stays, attr_stays, name_term_one, type_term_one}
+use Rattle.ir_tree.specs.Meaning.{Operation}
+use Rattle.ir_tree_laws.specs.Stands.{stand_id, stands, stand_in}
+use Rattle.ir_tree_laws.proofs.Listed.{bool_cases}
+use Rattle.ir_event.specs.declared.row.Cell.{Cell}
+use Rattle.ir_event.specs.declared.row.Cell.TheVariants as cell
+use Rattle.ir_event.specs.declared.row.Row.{Row}
+use Rattle.ir_event.specs.Rows.{Op, Name, Path, Tag, IsSymbol, cell_meaning, rows_meaning, CellIsOf, RowIsOf, Shows}
 use Rattle.listeners_symbols.specs.declared.role.Role.{Role as Numbers}
 use Rattle.listeners_symbols.specs.declared.role.Reference.{Reference}
 use Rattle.listeners_symbols.specs.declared.role.Call.{Call}
 use Rattle.listeners_symbols.specs.declared.role.Signature.{Signature}
-use Rattle.ir.specs.types.SameTypes.{same_type}
+use Rattle.ir_types.specs.SameTypes.{same_type}
 use Rattle.listeners_symbols.specs.Roles.{Stand, role, role_of}
 use Rattle.listeners_symbols.specs.Symbols.{RolesOf, roles_in, roles_by_id, DefinitionOf, defined, definitions, says_table, function_at, LineOf, Definition, Duplicate, Use, Unresolved, Mismatch, first_defined, is_duplicate, look_in, resolve, fits, definition_lines, duplicate_lines, reference_line, reference_lines, all_reference_lines, mismatch_line, call_line, mismatch_lines, lines_with, symbol_lines, line_cells, symbol_rows}
 use Rattle.listeners_symbols.specs.Table.{reference_of, call_numbers, signature_numbers, role_numbers, map_reference, map_call, map_signature, role_meaning, call_meaning, RoleIsOf, ReferenceIsOf, CallIsOf, SignatureIsOf, Keeps, IsKept}
 use Rattle.listeners_symbols.specs.Listeners.{kept_at}
 use Rattle.listeners_symbols.specs.Lines.{numbered, numbers_at, cells_of, lines_cells}
-use Rattle.ir.proofs.of_types.SameTerms.{type_is, type_refl}
+use Rattle.ir_types.proofs.SameTerms.{type_is, type_refl}
 use Rattle.listeners_symbols.proofs.Agreed.{name_more, attr_more}
 use Rattle.listeners_symbols.proofs.Lines.{same_test}
 

@@ -4,9 +4,9 @@ use Rattle.std.specs.Ordering.{nat_cmp, ordering_then}
 use Rattle.std.specs.declared.cmp.Ordering.{Ordering}
 use Rattle.std.specs.BTreeMap.{BTreeMap}
 use Rattle.std.specs.BTreeMap as tree
-use Rattle.ir.specs.events.declared.row.Cell.{Cell}
-use Rattle.ir.specs.events.declared.row.Cell.TheVariants as cell
-use Rattle.ir.specs.events.declared.row.Row.{Row}
+use Rattle.ir_event.specs.declared.row.Cell.{Cell}
+use Rattle.ir_event.specs.declared.row.Cell.TheVariants as cell
+use Rattle.ir_event.specs.declared.row.Row.{Row}
 use Rattle.listeners_symbols.specs.declared.role.Role.{Role as Numbers}
 use Rattle.listeners_symbols.specs.Table.{role_numbers}
 use Rattle.listeners_symbols.specs.Listeners.{kept_at}

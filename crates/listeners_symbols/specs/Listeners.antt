@@ -4,8 +4,8 @@ use Rattle.std.specs.Ordering.{nat_cmp}
 use Rattle.std.specs.BTreeMap.{BTreeMap}
 use Rattle.std.specs.BTreeMap as tree
 use Rattle.ir_types.proofs.Growth.{grows_trans}
-use Rattle.ir.specs.events.Bounds.{operands_of}
-use Rattle.ir.specs.events.Listener.{Listener}
+use Rattle.ir_event.specs.Bounds.{operands_of}
+use Rattle.ir_event.specs.Listener.{Listener}
 use Rattle.listeners_symbols.specs.declared.role.Role.{Role as Numbers}
 use Rattle.listeners_symbols.specs.declared.symbols.Symbols.{Symbols}
 use Rattle.listeners_symbols.specs.Symbols.{symbol_rows}

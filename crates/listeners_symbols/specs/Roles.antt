@@ -4,15 +4,15 @@ use Rattle.std.specs.Prelude.{ℕ, List, [], ◌∷◌, ◌++◌, map, codes, Bo
 use Rattle.std.specs.List.{list_any}
 use Rattle.std.specs.Str.{bytes_eq}
 use Rattle.std.specs.Cmp.Lexicographic.{pointwise}
-use Rattle.ir.specs.types.Terms.{TypeTerm, AttrTerm, IntegerOf, String, TypeOf, Flag, Array, Dictionary, Symbol, DenseArray, Overflow, AttrTerms, no_attrs, next_attr, EntryTerms, no_entries, next_entry}
-use Rattle.ir.specs.types.Words.{is_table}
-use Rattle.ir.specs.trees.Tree.{HeadOf, head}
-use Rattle.ir.specs.trees.Meaning.{Operation}
-use Rattle.ir.specs.laws.Values.{type_of_value}
-use Rattle.ir.specs.laws.Stands.{StepOf, StandOf, stand_of, table_in}
-use Rattle.ir.specs.registry.Registry.{beside}
-use Rattle.ir.specs.registry.Properties.{string_of, type_of}
-use Rattle.ir.specs.types.SameTypes.{function_of}
+use Rattle.ir_types.specs.Terms.{TypeTerm, AttrTerm, IntegerOf, String, TypeOf, Flag, Array, Dictionary, Symbol, DenseArray, Overflow, AttrTerms, no_attrs, next_attr, EntryTerms, no_entries, next_entry}
+use Rattle.ir_types.specs.Words.{is_table}
+use Rattle.ir_tree.specs.Tree.{HeadOf, head}
+use Rattle.ir_tree.specs.Meaning.{Operation}
+use Rattle.ir_tree_laws.specs.Values.{type_of_value}
+use Rattle.ir_tree_laws.specs.Stands.{StepOf, StandOf, stand_of, table_in}
+use Rattle.op_registry.specs.Registry.{beside}
+use Rattle.op_registry.specs.Properties.{string_of, type_of}
+use Rattle.ir_types.specs.SameTypes.{function_of}
 
 -- a symbol reference: the attribute, and its parts
 abbrev pub ReferenceOf : Type 0 → Type 0 → Type 0

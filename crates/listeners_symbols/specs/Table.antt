@@ -1,18 +1,18 @@
 -- Roles in numbers of a context, and tables of them.
 use Rattle.std.specs.Prelude.{◌≡◌, ◌⊎◌, ℕ, List, map, eqb, Bool, true, false, if◌then◌else◌, Option, Some, None, option_map, is_some, IfSome}
 use Rattle.std.specs.List.{All, list_any}
-use Rattle.ir.specs.types.Things.{Things, IsName, IsType, IsAttr, Grows}
-use Rattle.ir.specs.types.Terms.{TypeTerm, AttrTerm, name_term, type_term, attr_term}
-use Rattle.ir.specs.types.Sound.{IsSound}
-use Rattle.ir.specs.trees.Tree.{HeadOf, Op, head}
-use Rattle.ir.specs.trees.Maps.{map_head}
-use Rattle.ir.specs.trees.Meaning.{Operation}
-use Rattle.ir.specs.trees.Ids.{find, has_id}
-use Rattle.ir.specs.laws.Reads.{parent_of}
-use Rattle.ir.specs.events.declared.event.Event.{Event}
-use Rattle.ir.specs.events.declared.event.Event.TheVariants.{Put, Take, SetOperand, SetEntry, Shift}
-use Rattle.ir.specs.events.Rows.{IsSymbol}
-use Rattle.ir.specs.events.declared.world.World.{World}
+use Rattle.ir_types.specs.Things.{Things, IsName, IsType, IsAttr, Grows}
+use Rattle.ir_types.specs.Terms.{TypeTerm, AttrTerm, name_term, type_term, attr_term}
+use Rattle.ir_types.specs.Sound.{IsSound}
+use Rattle.ir_tree.specs.Tree.{HeadOf, Op, head}
+use Rattle.ir_tree.specs.Maps.{map_head}
+use Rattle.ir_tree.specs.Meaning.{Operation}
+use Rattle.ir_tree.specs.Ids.{find, has_id}
+use Rattle.ir_tree_laws.specs.Reads.{parent_of}
+use Rattle.ir_event.specs.declared.event.Event.{Event}
+use Rattle.ir_event.specs.declared.event.Event.TheVariants.{Put, Take, SetOperand, SetEntry, Shift}
+use Rattle.ir_event.specs.Rows.{IsSymbol}
+use Rattle.ir_event.specs.declared.world.World.{World}
 use Rattle.listeners_symbols.specs.declared.role.Role.{Role as Numbers}
 use Rattle.listeners_symbols.specs.declared.role.Reference.{Reference}
 use Rattle.listeners_symbols.specs.declared.role.Call.{Call}

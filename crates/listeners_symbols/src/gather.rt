@@ -1,14 +1,14 @@
 //! What an operation has to do with symbols is gathered from a view, with at most two looks and one for each operand.
 ghost use Rattle.std.specs.Prelude.{◌≡◌, ◌≤◌, ◌+◌, ℕ, List, Option, Some, true, IfOk, IfSome, is_some, length, map, option_map};
 ghost use Rattle.std.specs.List.{All};
-ghost use Rattle.ir.specs.types.Things.{IsName, IsType};
-ghost use Rattle.ir.specs.types.Terms.{TypeTerm, type_term, name_term};
-ghost use Rattle.ir.specs.laws.Reads.{parent_of};
-ghost use Rattle.ir.specs.laws.Values.{type_of_value};
+ghost use Rattle.ir_types.specs.Things.{IsName, IsType};
+ghost use Rattle.ir_types.specs.Terms.{TypeTerm, type_term, name_term};
+ghost use Rattle.ir_tree_laws.specs.Reads.{parent_of};
+ghost use Rattle.ir_tree_laws.specs.Values.{type_of_value};
 ghost use Rattle.listeners_surroundings.specs.Nodes.{node_of};
 ghost use Rattle.listeners_surroundings.specs.Stored.{known};
-ghost use Rattle.ir.specs.events.Bounds.{operand_count};
-ghost use Rattle.ir.specs.events.Modules.{NodeIsOf, module_in};
+ghost use Rattle.ir_event.specs.Bounds.{operand_count};
+ghost use Rattle.ir_event.specs.Modules.{NodeIsOf, module_in};
 ghost use Rattle.listeners_symbols.specs.Roles.{call_of as call_from};
 ghost use Rattle.listeners_symbols.specs.Listeners.{kept_at};
 ghost use Rattle.listeners_symbols.specs.Table.{CallIsOf, IsReadAs, IsRight, call_meaning, head_meaning, tables_for, tables_in, tree_in};
@@ -16,10 +16,10 @@ ghost use Rattle.listeners_symbols.specs.Table.{CallIsOf, IsReadAs, IsRight, cal
 use crate::properties::{callee_of, function_of, is_private, symbol_of};
 use crate::references::references_of;
 use crate::role::{Call, Role, Tables};
-use ir::events::view::View;
-use ir::trees::value::Value;
-use ir::types::context::Context;
-use ir::types::ids::{NameId, OpId, TypeId};
+use ir_event::view::View;
+use ir_tree::value::Value;
+use ir_types::context::Context;
+use ir_types::ids::{NameId, OpId, TypeId};
 use listeners_surroundings::node::Node;
 use std::alloc::{AllocError, Global};
 use std::collections::BTreeMap;

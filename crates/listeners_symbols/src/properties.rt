@@ -2,24 +2,24 @@
 ghost use Rattle.std.specs.Prelude.{◌≡◌, IfSome, IfOk, List, [], ℕ, map, slice_index_or};
 ghost use Rattle.std.specs.List.{All};
 ghost use Rattle.std.specs.Option.{option_map, option_and_then};
-ghost use Rattle.ir.specs.types.Things.{Things, IsName, IsAttr, IsType, AttrIsOf};
-ghost use Rattle.ir.specs.types.Terms.{TypeTerm, AttrTerm, attr_from, attr_term, name_term, type_term};
-ghost use Rattle.ir.specs.types.WordNames.{word_bytes};
-ghost use Rattle.ir.specs.registry.Properties as properties;
-ghost use Rattle.ir.specs.registry.Registry.{beside};
-ghost use Rattle.ir.specs.events.Modules.{NodeIsOf};
+ghost use Rattle.ir_types.specs.Things.{Things, IsName, IsAttr, IsType, AttrIsOf};
+ghost use Rattle.ir_types.specs.Terms.{TypeTerm, AttrTerm, attr_from, attr_term, name_term, type_term};
+ghost use Rattle.ir_types.specs.WordNames.{word_bytes};
+ghost use Rattle.op_registry.specs.Properties as properties;
+ghost use Rattle.op_registry.specs.Registry.{beside};
+ghost use Rattle.ir_event.specs.Modules.{NodeIsOf};
 ghost use Rattle.listeners_symbols.specs.Roles as roles;
 ghost use Rattle.listeners_symbols.specs.Table.{head_meaning, signature_meaning, SignatureIsOf};
 
 use crate::role::Signature;
-use ir::registry::signature;
-use ir::types::context::Context;
-use ir::types::ids::{AttrId, NameId, TypeId};
-use ir::types::node::AttrNode;
-use ir::types::things::attr_of;
-use ir::types::word::Word;
+use ir_types::context::Context;
+use ir_types::ids::{AttrId, NameId, TypeId};
+use ir_types::node::AttrNode;
+use ir_types::things::attr_of;
+use ir_types::word::Word;
 use listeners_surroundings::node::Node;
 use listeners_surroundings::properties::{entry, string_of};
+use op_registry::signature;
 use std::alloc::{AllocError, Global};
 
 /// The name that an operation has as a symbol.

@@ -2,9 +2,9 @@
 ghost use Rattle.std.specs.Prelude.{◌≡◌, ◌++◌, ◌∷◌, [], eqb, map, option_map, OnOk, IfOk};
 ghost use Rattle.std.specs.Ordering.{nat_cmp};
 ghost use Rattle.std.specs.BTreeMap as tree;
-ghost use Rattle.ir.specs.events.declared.row.Cell.TheVariants as cell;
-ghost use Rattle.ir.specs.events.declared.tag.Tag.TheVariants as word;
-ghost use Rattle.ir.specs.events.Tags.{tag_number};
+ghost use Rattle.ir_event.specs.declared.row.Cell.TheVariants as cell;
+ghost use Rattle.ir_event.specs.declared.tag.Tag.TheVariants as word;
+ghost use Rattle.ir_event.specs.Tags.{tag_number};
 ghost use Rattle.listeners_symbols.specs.Symbols.{all_reference_lines, call_line, definition_lines, duplicate_lines, is_duplicate, mismatch_line, mismatch_lines, reference_line, reference_lines, symbol_lines, lines_with};
 ghost use Rattle.listeners_symbols.specs.Table.{call_numbers, reference_of};
 ghost use Rattle.listeners_symbols.specs.Lines.{cells_of, lines_cells, numbered, numbers_at};
@@ -12,10 +12,10 @@ ghost use Rattle.listeners_symbols.specs.Lines.{cells_of, lines_cells, numbered,
 use crate::definitions::{Definition, Definitions, definitions_of};
 use crate::resolve::{fits, resolve};
 use crate::role::{Call, Role};
-use ir::events::row::{Cell, Row};
-use ir::events::tag::Tag;
-use ir::trees::value::Value;
-use ir::types::ids::{AttrId, NameId, OpId};
+use ir_event::row::{Cell, Row};
+use ir_event::tag::Tag;
+use ir_tree::value::Value;
+use ir_types::ids::{AttrId, NameId, OpId};
 use std::alloc::{AllocError, Global};
 use std::collections::BTreeMap;
 

@@ -2,19 +2,19 @@
 ghost use Rattle.std.specs.Prelude.{◌≡◌, ◌≤◌, ◌+◌, Some, true, option_map, OnOk, IfOk};
 ghost use Rattle.listeners_surroundings.specs.Nodes.{node_of};
 ghost use Rattle.listeners_surroundings.specs.Stored.{known};
-ghost use Rattle.ir.specs.events.Bounds.{op_of, operand_count};
-ghost use Rattle.ir.specs.events.Listener.{is_take};
-ghost use Rattle.ir.specs.events.Modules.{module_in};
+ghost use Rattle.ir_event.specs.Bounds.{op_of, operand_count};
+ghost use Rattle.ir_event.specs.Listener.{is_take};
+ghost use Rattle.ir_event.specs.Modules.{module_in};
 ghost use Rattle.listeners_symbols.specs.Listeners.{kept_at};
 ghost use Rattle.listeners_symbols.specs.Table.{Added, Followed, Keeps, OperandFollowed, Renewed};
 
 use crate::gather::gather;
 use crate::properties::callee_of;
 use crate::role::Role;
-use ir::events::event::Event;
-use ir::events::view::View;
-use ir::events::world::World;
-use ir::types::ids::OpId;
+use ir_event::event::Event;
+use ir_event::view::View;
+use ir_event::world::World;
+use ir_types::ids::OpId;
 use listeners_surroundings::node::Node;
 use std::alloc::{AllocError, Global};
 use std::collections::BTreeMap;

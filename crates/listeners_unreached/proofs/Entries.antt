@@ -5,8 +5,8 @@ use Rattle.std.specs.List.Sorted.{IsStrictlySortedBy}
 use Rattle.std.specs.Ordering.{nat_cmp, is_eq}
 use Rattle.std.specs.Map.{lookup, keys_of}
 use Rattle.std.specs.BTreeMap.{is_at}
-use Rattle.ir.specs.laws.Members.{In}
-use Rattle.ir.proofs.of_laws.Listed.{bool_cases}
+use Rattle.ir_tree_laws.specs.Members.{In}
+use Rattle.ir_tree_laws.proofs.Listed.{bool_cases}
 use Rattle.listeners_symbols.specs.declared.role.Role.{Role as Numbers}
 use Rattle.listeners_symbols.specs.Table.{role_numbers}
 use Rattle.listeners_symbols.specs.Lines.{numbered}

@@ -1,8 +1,8 @@
 -- The rounds come to the least set.
 use Rattle.std.proofs.Common.{◌≡◌, refl, ap, sym, ◌∙◌, subst, ℕ, zero, suc, ◌≤◌, ◌<◌, Bool, true, false, true≢false, cond, not, ◌&&◌, ◌||◌, eqb, eq-eqb, eqb-true, List, [], ◌∷◌, length, filter, inl, inr, ◌⊎◌, arith}
 use Rattle.std.proofs.lemmas.Bool.Decides.{leb_tells}
-use Rattle.ir.specs.laws.Members.{In}
-use Rattle.ir.proofs.of_laws.Listed.{in_filter, in_filtered, both, both_hold, all_each, each_all, any_one, one_any}
+use Rattle.ir_tree_laws.specs.Members.{In}
+use Rattle.ir_tree_laws.proofs.Listed.{in_filter, in_filtered, both, both_hold, all_each, each_all, any_one, one_any}
 use Rattle.listeners_unreached.specs.Reached.{IsReached, reached, among, lives, joins, rounds, reached_ones}
 
 pub in_among : (x : ℕ) (xs : List ℕ) → In x xs → among x xs ≡ true

@@ -7,14 +7,14 @@ use Rattle.std.specs.Ordering.{nat_cmp}
 use Rattle.std.specs.BTreeMap.{BTreeMap}
 use Rattle.std.specs.BTreeMap as tree
 use Rattle.std.proofs.lemmas.List.Elements.{All-head, All-tail}
-use Rattle.ir.specs.types.Things.{Things, IsName}
-use Rattle.ir.specs.types.Sound.{IsSound}
-use Rattle.ir.specs.types.Terms.{name_term, attr_term}
-use Rattle.ir.specs.trees.Ids.{HasDistinctIds}
-use Rattle.ir.specs.trees.Meaning.{Operation}
-use Rattle.ir.specs.laws.Members.{In}
-use Rattle.ir.specs.laws.Stands.{stands, stand_of}
-use Rattle.ir.proofs.of_laws.Members.{member}
+use Rattle.ir_types.specs.Things.{Things, IsName}
+use Rattle.ir_types.specs.Sound.{IsSound}
+use Rattle.ir_types.specs.Terms.{name_term, attr_term}
+use Rattle.ir_tree.specs.Ids.{HasDistinctIds}
+use Rattle.ir_tree.specs.Meaning.{Operation}
+use Rattle.ir_tree_laws.specs.Members.{In}
+use Rattle.ir_tree_laws.specs.Stands.{stands, stand_of}
+use Rattle.ir_tree_laws.proofs.Members.{member}
 use Rattle.listeners_symbols.specs.declared.role.Role.{Role as Numbers}
 use Rattle.listeners_symbols.specs.declared.role.Reference.{Reference}
 use Rattle.listeners_symbols.specs.Roles.{Stand, role_of}

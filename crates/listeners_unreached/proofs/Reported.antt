@@ -7,16 +7,16 @@ use Rattle.std.specs.BTreeMap.{BTreeMap}
 use Rattle.std.specs.BTreeMap as tree
 use Rattle.std.proofs.lemmas.List.{map-append}
 use Rattle.std.proofs.lemmas.List.Elements.{All-cons, All-nil}
-use Rattle.ir.specs.types.Things.{Things, Grows, IsName}
-use Rattle.ir.specs.types.Sound.{Holds, IsSound}
-use Rattle.ir.specs.types.Terms.{name_term}
-use Rattle.ir.proofs.of_types.Terms.{name_stays}
-use Rattle.ir.specs.trees.Ids.{HasDistinctIds, ids}
-use Rattle.ir.specs.trees.Meaning.{Operation}
-use Rattle.ir.proofs.of_laws.Listed.{bool_cases}
-use Rattle.ir.specs.events.declared.row.Cell.TheVariants as cell
-use Rattle.ir.specs.events.declared.row.Row.{Row}
-use Rattle.ir.specs.events.Rows.{Op, Name, cell_meaning, rows_meaning, CellIsOf, RowIsOf, Shows}
+use Rattle.ir_types.specs.Things.{Things, Grows, IsName}
+use Rattle.ir_types.specs.Sound.{Holds, IsSound}
+use Rattle.ir_types.specs.Terms.{name_term}
+use Rattle.ir_types.proofs.Terms.{name_stays}
+use Rattle.ir_tree.specs.Ids.{HasDistinctIds, ids}
+use Rattle.ir_tree.specs.Meaning.{Operation}
+use Rattle.ir_tree_laws.proofs.Listed.{bool_cases}
+use Rattle.ir_event.specs.declared.row.Cell.TheVariants as cell
+use Rattle.ir_event.specs.declared.row.Row.{Row}
+use Rattle.ir_event.specs.Rows.{Op, Name, cell_meaning, rows_meaning, CellIsOf, RowIsOf, Shows}
 use Rattle.listeners_symbols.specs.declared.role.Role.{Role as Numbers}
 use Rattle.listeners_symbols.specs.Symbols.{definitions}
 use Rattle.listeners_symbols.specs.Table.{role_numbers, RoleIsOf, Keeps, IsKept}

@@ -3,14 +3,14 @@ use Rattle.std.proofs.Common.{◌≡◌, refl, ap, sym, ◌∙◌, subst, ℕ, z
 use Rattle.std.specs.Prelude.{OnOk, IfOk, option_map, option_to_list, is_some}
 use Rattle.std.specs.Map.{keys_of}
 use Rattle.std.specs.BTreeMap.{BTreeMap}
-use Rattle.ir.specs.laws.Members.{In}
+use Rattle.ir_tree_laws.specs.Members.{In}
 use Rattle.listeners_symbols.specs.declared.role.Role.{Role as Numbers}
 use Rattle.listeners_symbols.specs.Roles.{ReferenceOf}
 use Rattle.listeners_symbols.specs.Symbols.{RoleAt, DefinitionOf, look_in}
 use Rattle.listeners_symbols.specs.Table.{role_numbers}
 use Rattle.listeners_symbols.specs.Lines.{numbers_at}
 use Rattle.listeners_symbols.specs.Listeners.{kept_at}
-use Rattle.ir.proofs.of_laws.Listed.{in_left}
+use Rattle.ir_tree_laws.proofs.Listed.{in_left}
 use Rattle.listeners_unreached.specs.Reached.{IsReached}
 use Rattle.listeners_unreached.specs.Unreached.{says_definition, prefixes, targets, reached_from}
 use Rattle.listeners_unreached.specs.Marking.{Left, Marks, Removed, IsDone}

@@ -1,7 +1,7 @@
 -- The rows that a table of roles gives, in numbers.
 use Rattle.std.specs.Prelude.{ℕ, List, map, Bool, is_none}
-use Rattle.ir.specs.events.declared.row.Cell.{Cell}
-use Rattle.ir.specs.events.declared.row.Cell.TheVariants as cell
+use Rattle.ir_event.specs.declared.row.Cell.{Cell}
+use Rattle.ir_event.specs.declared.row.Cell.TheVariants as cell
 use Rattle.listeners_unreached.specs.Unreached.{line_cells}
 use Rattle.listeners_unreached.specs.Marking.{Left}
 

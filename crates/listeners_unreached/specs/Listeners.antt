@@ -1,9 +1,9 @@
 -- What the listener means.
 use Rattle.std.specs.Prelude.{◌≡◌, ◌+◌, false, None}
 use Rattle.ir_types.proofs.Growth.{grows_trans}
-use Rattle.ir.specs.trees.Ids.{HasDistinctIds}
-use Rattle.ir.specs.events.Bounds.{operands_of}
-use Rattle.ir.specs.events.Listener.{Listener}
+use Rattle.ir_tree.specs.Ids.{HasDistinctIds}
+use Rattle.ir_event.specs.Bounds.{operands_of}
+use Rattle.ir_event.specs.Listener.{Listener}
 use Rattle.listeners_symbols.specs.Table.{IsKept}
 use Rattle.listeners_symbols.specs.Listeners.{kept_at}
 use Rattle.listeners_unreached.specs.declared.unreached.Unreached.{Unreached}

@@ -3,7 +3,7 @@ use Rattle.std.specs.Prelude.{◌≡◌, ◌⊎◌, ◌*◌, ◌+◌, ℕ, List,
 use Rattle.std.specs.Ordering.{nat_cmp}
 use Rattle.std.specs.BTreeMap.{BTreeMap, btree_map_len}
 use Rattle.std.specs.BTreeMap as tree
-use Rattle.ir.specs.laws.Members.{In}
+use Rattle.ir_tree_laws.specs.Members.{In}
 use Rattle.listeners_symbols.specs.Roles.{RoleOf}
 use Rattle.listeners_symbols.specs.Symbols.{RolesOf, RoleAt, DefinitionOf}
 use Rattle.listeners_unreached.specs.Reached.{IsReached}

@@ -2,7 +2,7 @@
 ghost use Rattle.std.specs.Prelude.{◌≡◌, ◌++◌, ◌∷◌, [], OnOk, IfOk};
 ghost use Rattle.std.specs.Ordering.{nat_cmp};
 ghost use Rattle.std.specs.BTreeMap as tree;
-ghost use Rattle.ir.specs.events.declared.row.Cell.TheVariants.{Op, Name};
+ghost use Rattle.ir_event.specs.declared.row.Cell.TheVariants.{Op, Name};
 ghost use Rattle.listeners_symbols.specs.Symbols.{definitions};
 ghost use Rattle.listeners_symbols.specs.Table.{role_numbers};
 ghost use Rattle.listeners_symbols.specs.Lines.{cells_of, numbered, numbers_at};
@@ -14,9 +14,9 @@ ghost use Rattle.listeners_unreached.specs.Unreached.{line_of, lines_with};
 
 use crate::marking::unreached;
 use crate::waiting::private_name;
-use ir::events::row::{Cell, Row};
-use ir::trees::value::Value;
-use ir::types::ids::{NameId, OpId};
+use ir_event::row::{Cell, Row};
+use ir_tree::value::Value;
+use ir_types::ids::{NameId, OpId};
 use listeners_symbols::role::Role;
 use std::alloc::{AllocError, Global};
 use std::collections::BTreeMap;

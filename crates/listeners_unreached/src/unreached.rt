@@ -2,12 +2,12 @@
 ghost use Rattle.std.specs.Prelude.{◌≡◌, true};
 
 use crate::report::lines;
-use ir::events::analysis::Analysis;
-use ir::events::event::Event;
-use ir::events::row::{Kind, Memory, ReportFault, Row};
-use ir::events::view::View;
-use ir::events::world::World;
-use ir::types::ids::OpId;
+use ir_event::analysis::Analysis;
+use ir_event::event::Event;
+use ir_event::row::{Kind, Memory, ReportFault, Row};
+use ir_event::view::View;
+use ir_event::world::World;
+use ir_types::ids::OpId;
 use listeners_symbols::role::Role;
 use listeners_symbols::table::{follow, tabulate};
 use std::alloc::Global;

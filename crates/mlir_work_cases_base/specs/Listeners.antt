@@ -1,8 +1,8 @@
 -- What the listeners mean that watch what is told.
 use Rattle.std.specs.Prelude.{◌≡◌, List, [], Some, false, ◌||◌}
-use Rattle.ir.specs.trees.Meaning.{Operation}
-use Rattle.ir.specs.events.Listener.{Listener}
-use Rattle.ir.specs.events.Rows.{RowTerm}
+use Rattle.ir_tree.specs.Meaning.{Operation}
+use Rattle.ir_event.specs.Listener.{Listener}
+use Rattle.ir_event.specs.Rows.{RowTerm}
 use Rattle.mlir_work_cases_base.specs.declared.witness.Witness.{Witness}
 use Rattle.mlir_work_cases_base.specs.declared.at_most.AtMost.{AtMost}
 

@@ -1,11 +1,11 @@
 //! A listener around another one, which counts how often that looks.
 ghost use Rattle.std.specs.Prelude.{◌≡◌, true};
 
-use ir::events::analysis::Analysis;
-use ir::events::event::Event;
-use ir::events::row::{Kind, Memory, ReportFault, Row};
-use ir::events::view::View;
-use ir::events::world::World;
+use ir_event::analysis::Analysis;
+use ir_event::event::Event;
+use ir_event::row::{Kind, Memory, ReportFault, Row};
+use ir_event::view::View;
+use ir_event::world::World;
 
 /// The analysis of the listener inside. It turns stale where that looks more often than so many times when it is told
 /// of an event, and it tells it nothing more then, until it begins again.

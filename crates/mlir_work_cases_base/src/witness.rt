@@ -2,14 +2,14 @@
 ghost use Rattle.std.specs.Prelude.{◌≡◌, true};
 
 use crate::events::text_of;
-use ir::events::analysis::Analysis;
-use ir::events::event::Event;
-use ir::events::row::{Kind, Memory, ReportFault, Row};
-use ir::events::view::View;
-use ir::events::world::World;
-use ir::trees::place::Place;
-use ir::trees::value::Value;
-use ir::types::ids::{AttrId, OpId};
+use ir_event::analysis::Analysis;
+use ir_event::event::Event;
+use ir_event::row::{Kind, Memory, ReportFault, Row};
+use ir_event::view::View;
+use ir_event::world::World;
+use ir_tree::place::Place;
+use ir_tree::value::Value;
+use ir_types::ids::{AttrId, OpId};
 use std::alloc::Global;
 
 /// What a witness goes by.

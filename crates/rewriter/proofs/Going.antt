@@ -1,12 +1,12 @@
 -- How a bench goes where a call is made: as the machine has it.
 use Rattle.std.proofs.Common.{◌≡◌, ◌≢◌, ◌∙◌, sym, ap, subst, refl, inl, inr, ◌⊎◌, List, [], ◌∷◌, Some, None, Result, Ok, Err, IsTrue}
 use Rattle.std.specs.Prelude.{OnOk, OnErr}
-use Rattle.ir.specs.types.declared.refusal.Refusal.{Refusal}
-use Rattle.ir.specs.types.declared.refusal.Refusal.TheVariants.{Memory}
-use Rattle.ir.specs.store.Stored.{Stored}
-use Rattle.ir.specs.events.declared.event.Event.{Event}
-use Rattle.ir.specs.events.Listener.{Listener}
-use Rattle.ir.specs.events.Modules.{Module, module_meaning}
+use Rattle.ir_types.specs.declared.refusal.Refusal.{Refusal}
+use Rattle.ir_types.specs.declared.refusal.Refusal.TheVariants.{Memory}
+use Rattle.ir_store.specs.Stored.{Stored}
+use Rattle.ir_event.specs.declared.event.Event.{Event}
+use Rattle.ir_event.specs.Listener.{Listener}
+use Rattle.ir_event.specs.Modules.{Module, module_meaning}
 use Rattle.rewriter_desk.specs.Contents.{NumberedEdit, Edit, edit_meaning, edited, edit_reason, tests_in}
 use Rattle.rewriter_desk.specs.Edits.{edited_by, reason_by}
 use Rattle.rewriter_desk.specs.Machine.{OpenMark, Do, Reply, Done, Refused, Nothing, Answer, IsAnswer, due_edit, accepted, grows, grows_under, refused}

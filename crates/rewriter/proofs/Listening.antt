@@ -3,16 +3,16 @@ use Rattle.std.proofs.Common.{◌≡◌, ◌∙◌, sym, ap, subst, refl, inl, i
 use Rattle.std.specs.Prelude.{MatchResult, IsErrOf, IfOk, IfErr, OnOk, OnErr, All}
 use Rattle.std.specs.List.{find}
 use Rattle.std.specs.Option.{option_map}
-use Rattle.ir.specs.types.Things.{Things}
-use Rattle.ir.specs.types.declared.refusal.Refusal.{Refusal}
-use Rattle.ir.specs.types.declared.refusal.Refusal.TheVariants.{KindTaken, Memory, NoSuchKind, Stale}
-use Rattle.ir.specs.events.Listener.{Listener}
-use Rattle.ir.specs.events.Modules.{Module, module_meaning, things_in, module_in}
-use Rattle.ir.specs.events.declared.world.World.{World}
-use Rattle.ir.proofs.of_events.Kept.{kept_attached, kept_detached, kept_begun, kept_not_begun}
-use Rattle.ir.specs.events.Panels.{AllKept, AttachedLast, BegunAgain, Detached, HandedBack, NotBegunAgain, IsListener, has_kind, is_kind}
-use Rattle.ir.specs.events.Rows.{RowTerm, RowIsOf, Shows, rows_meaning}
-use Rattle.ir.specs.events.declared.row.Row.{Row}
+use Rattle.ir_types.specs.Things.{Things}
+use Rattle.ir_types.specs.declared.refusal.Refusal.{Refusal}
+use Rattle.ir_types.specs.declared.refusal.Refusal.TheVariants.{KindTaken, Memory, NoSuchKind, Stale}
+use Rattle.ir_event.specs.Listener.{Listener}
+use Rattle.ir_event.specs.Modules.{Module, module_meaning, things_in, module_in}
+use Rattle.ir_event.specs.declared.world.World.{World}
+use Rattle.ir_event.proofs.Kept.{kept_attached, kept_detached, kept_begun, kept_not_begun}
+use Rattle.ir_event.specs.Panels.{AllKept, AttachedLast, BegunAgain, Detached, HandedBack, NotBegunAgain, IsListener, has_kind, is_kind}
+use Rattle.ir_event.specs.Rows.{RowTerm, RowIsOf, Shows, rows_meaning}
+use Rattle.ir_event.specs.declared.row.Row.{Row}
 use Rattle.rewriter_desk.specs.Machine.{State, OpenMark, Attach, Detach, Resync, Report, Reply, Done, Refused, Shows as ShownBeside, Nothing, Rows, Goes}
 use Rattle.rewriter_desk.specs.Panels.{shown, all_shown, has_kind as kind_among, is_kind as is_shown_kind}
 use Rattle.rewriter_desk.specs.Held.{Held, module_held, open_marks}

@@ -2,7 +2,7 @@
 use Rattle.std.proofs.Common.{◌≡◌, ◌≢◌, ◌∙◌, sym, ap, subst, refl, ℕ, suc, ◌+◌, List, [], ◌∷◌, ◌++◌, length, take, drop, Bool, true, false, cond, IsTrue, arith}
 use Rattle.std.specs.Prelude.{reverse, map, filter}
 use Rattle.std.proofs.lemmas.List.{reverse-append, drop-take}
-use Rattle.ir.specs.events.declared.event.Event.{Event}
+use Rattle.ir_event.specs.declared.event.Event.{Event}
 use Rattle.rewriter_desk.specs.Contents.{Edit}
 use Rattle.rewriter_desk.specs.Machine.{OpenMark, counted_marks, grows_under}
 use Rattle.rewriter_desk.specs.declared.mark.Mark.{Mark}

@@ -7,11 +7,11 @@ use Rattle.std.proofs.lemmas.List.{length-map, map-append, take-map, drop-map}
 use Rattle.std.proofs.lemmas.Bool.{ltb-true, lt-ltb}
 use Rattle.std.proofs.lemmas.List.Folds.{find_at}
 use Rattle.std.proofs.lemmas.Option.{none-some, slice_get_within}
-use Rattle.ir.specs.types.Things.{Things}
-use Rattle.ir.specs.events.declared.event.Event.{Event}
-use Rattle.ir.specs.events.Modules.{Module, Node}
-use Rattle.ir.specs.events.Listener.{Listener}
-use Rattle.ir.specs.events.Panels.{AllTold, AllFollowed, AttachedLast, IsListener, is_kind as has_this_kind, has_kind as panel_has, Detached, BegunAgain}
+use Rattle.ir_types.specs.Things.{Things}
+use Rattle.ir_event.specs.declared.event.Event.{Event}
+use Rattle.ir_event.specs.Modules.{Module, Node}
+use Rattle.ir_event.specs.Listener.{Listener}
+use Rattle.ir_event.specs.Panels.{AllTold, AllFollowed, AttachedLast, IsListener, is_kind as has_this_kind, has_kind as panel_has, Detached, BegunAgain}
 use Rattle.rewriter_desk.specs.Panels.{Shown, IsSame, Ages, shown, all_shown, is_kind, has_kind, Attached as AttachedShown, Detached as DetachedShown, BegunAgain as BegunShown}
 
 pub within_some : {X : Type 0} (xs : List X) (i : ℕ) → i < length xs → None ≡ slice_get xs i → ⊥

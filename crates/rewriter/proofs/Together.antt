@@ -1,16 +1,16 @@
 -- Events that are made one after another, and what they come to.
 use Rattle.std.specs.Prelude.{OnOk, OnErr}
 use Rattle.std.proofs.Common.{◌≡◌, ◌≢◌, ◌∙◌, sym, ap, subst, refl, ◌⊎◌, inl, inr, ℕ, List, [], ◌∷◌, ◌++◌, Bool, true, false, Option, Some, None, Result, Ok, Err, ◌↔◌, IsTrue, length, append-nil}
-use Rattle.ir.specs.types.Things.{Things}
-use Rattle.ir.specs.types.Sound.{Holds}
-use Rattle.ir.specs.types.declared.refusal.Refusal.{Refusal}
-use Rattle.ir.specs.types.declared.refusal.Refusal.TheVariants.{Memory}
-use Rattle.ir.specs.trees.Meaning.{isolated_in}
-use Rattle.ir.specs.trees.WellFormed.{IsWellFormed, Module as Numbered}
-use Rattle.ir.specs.store.Stored.{Stored}
-use Rattle.ir.specs.events.declared.event.Event.{Event}
-use Rattle.ir.specs.events.Listener.{Listener}
-use Rattle.ir.specs.events.Modules.{Module, module_meaning}
+use Rattle.ir_types.specs.Things.{Things}
+use Rattle.ir_types.specs.Sound.{Holds}
+use Rattle.ir_types.specs.declared.refusal.Refusal.{Refusal}
+use Rattle.ir_types.specs.declared.refusal.Refusal.TheVariants.{Memory}
+use Rattle.ir_tree.specs.Meaning.{isolated_in}
+use Rattle.ir_tree.specs.WellFormed.{IsWellFormed, Module as Numbered}
+use Rattle.ir_store.specs.Stored.{Stored}
+use Rattle.ir_event.specs.declared.event.Event.{Event}
+use Rattle.ir_event.specs.Listener.{Listener}
+use Rattle.ir_event.specs.Modules.{Module, module_meaning}
 use Rattle.rewriter_desk.specs.Contents.{NumberedEdit, edit_meaning, edited, edit_reason, tests_in}
 use Rattle.rewriter_desk.specs.Edits.{edited_by, reason_by}
 use Rattle.rewriter_desk.specs.Machine.{State, OpenMark, Do, Step, Commit, Rollback, Reply, Done, Refused, Nothing, Goes, accepted}

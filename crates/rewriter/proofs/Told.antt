@@ -1,18 +1,18 @@
 -- Listeners that were told of what led from one bench to another.
 use Rattle.std.proofs.Common.{◌≡◌, sym, ap, subst, refl, List, [], ◌∷◌, ◌++◌, inl}
 use Rattle.std.specs.Prelude.{option_map}
-use Rattle.ir.specs.types.Things.{Things, Grows}
-use Rattle.ir.specs.types.Sound.{Holds}
+use Rattle.ir_types.specs.Things.{Things, Grows}
+use Rattle.ir_types.specs.Sound.{Holds}
 use Rattle.ir_types.proofs.Growth.{grows_refl, grows_trans}
-use Rattle.ir.specs.trees.Meaning.{meaning as op_meaning}
-use Rattle.ir.specs.store.Nodes.{node_of}
-use Rattle.ir.specs.store.Stored.{Stored, known}
-use Rattle.ir.specs.events.declared.event.Event.{Event}
-use Rattle.ir.specs.events.declared.world.World.{World}
-use Rattle.ir.specs.events.Modules.{Module, module_meaning, things_in, module_in, shown_in}
-use Rattle.ir.specs.events.Listener.{Listener, ShowsTaken, Followed}
-use Rattle.ir.specs.events.Panels.{AllTold, AllFollowed}
-use Rattle.ir.specs.events.Step.{Step, Steps}
+use Rattle.ir_tree.specs.Meaning.{meaning as op_meaning}
+use Rattle.ir_store.specs.Nodes.{node_of}
+use Rattle.ir_store.specs.Stored.{Stored, known}
+use Rattle.ir_event.specs.declared.event.Event.{Event}
+use Rattle.ir_event.specs.declared.world.World.{World}
+use Rattle.ir_event.specs.Modules.{Module, module_meaning, things_in, module_in, shown_in}
+use Rattle.ir_event.specs.Listener.{Listener, ShowsTaken, Followed}
+use Rattle.ir_event.specs.Panels.{AllTold, AllFollowed}
+use Rattle.ir_event.specs.Step.{Step, Steps}
 use Rattle.ir_event.proofs.Follows.{zip_self, follow_none, all_none, all_told, all_more, all_kept}
 use Rattle.ir_event.proofs.Steps.{step_stays}
 use Rattle.rewriter_desk.specs.Panels.{AllAge, all_shown}

@@ -2,11 +2,11 @@
 use Rattle.std.proofs.Common.{◌≡◌, ◌∙◌, sym, ap, subst, refl, ℕ, ◌-◌, ◌<◌, ◌≤◌, List, [], ◌∷◌, ◌++◌, length, take, drop, arith, append_assoc, append-nil, length-append}
 use Rattle.std.proofs.Math.Seq.{drop-append_seam}
 use Rattle.std.proofs.lemmas.List.{take-append-le, take_all}
-use Rattle.ir.specs.events.declared.event.Event.{Event}
-use Rattle.ir.specs.events.declared.world.World.{World}
-use Rattle.ir.specs.events.Modules.{module_meaning, things_in, module_in, shown_in}
-use Rattle.ir.specs.events.Listener.{Listener}
-use Rattle.ir.specs.events.Panels.{AllTold}
+use Rattle.ir_event.specs.declared.event.Event.{Event}
+use Rattle.ir_event.specs.declared.world.World.{World}
+use Rattle.ir_event.specs.Modules.{module_meaning, things_in, module_in, shown_in}
+use Rattle.ir_event.specs.Listener.{Listener}
+use Rattle.ir_event.specs.Panels.{AllTold}
 use Rattle.rewriter_desk.specs.Journals.{before, inverses, undone_all}
 use Rattle.rewriter_desk.specs.Held.{Held, Within, module_at, open_marks}
 use Rattle.rewriter_desk.specs.Moves.{Undone}

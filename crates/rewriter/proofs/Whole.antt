@@ -1,22 +1,22 @@
 -- An operation that is inserted whole, or not at all.
 use Rattle.std.specs.Prelude.{nat_le}
 use Rattle.std.proofs.Common.{◌≡◌, ◌≢◌, ◌∙◌, sym, ap, subst, refl, ◌⊎◌, inl, inr, ℕ, ◌+◌, List, [], ◌∷◌, Bool, true, false, Option, Some, None, IsTrue}
-use Rattle.ir.specs.types.Things.{Things}
-use Rattle.ir.specs.types.Sound.{Holds}
-use Rattle.ir.specs.types.Reasons.{first_reason}
-use Rattle.ir.specs.types.declared.refusal.Refusal.{Refusal}
-use Rattle.ir.specs.types.declared.refusal.Refusal.TheVariants.{Memory, NoSuchOp, NotVisible, NoSuchIndex, Full, IdsExhausted, TooDeepHere}
-use Rattle.ir.specs.trees.declared.place.Place.{Place}
-use Rattle.ir.specs.trees.Tree.{Op, op, head}
-use Rattle.ir.specs.trees.Ids.{IsNumberedFrom, has_id, op_count}
-use Rattle.ir.specs.trees.Limits.{depth, every, most_ops, most_next, op_fits}
-use Rattle.ir.specs.trees.Meaning.{isolated_in, meaning}
-use Rattle.ir.specs.trees.Places.{put}
-use Rattle.ir.specs.trees.Sites.{operands_visible}
-use Rattle.ir.specs.laws.Reads.{around}
-use Rattle.ir.specs.laws.Reasons.{unless, has_place, fits_around}
-use Rattle.ir.specs.events.Listener.{Listener}
-use Rattle.ir.specs.events.Modules.{Module}
+use Rattle.ir_types.specs.Things.{Things}
+use Rattle.ir_types.specs.Sound.{Holds}
+use Rattle.ir_types.specs.Reasons.{first_reason}
+use Rattle.ir_types.specs.declared.refusal.Refusal.{Refusal}
+use Rattle.ir_types.specs.declared.refusal.Refusal.TheVariants.{Memory, NoSuchOp, NotVisible, NoSuchIndex, Full, IdsExhausted, TooDeepHere}
+use Rattle.ir_tree.specs.declared.place.Place.{Place}
+use Rattle.ir_tree.specs.Tree.{Op, op, head}
+use Rattle.ir_tree.specs.Ids.{IsNumberedFrom, has_id, op_count}
+use Rattle.ir_tree.specs.Limits.{depth, every, most_ops, most_next, op_fits}
+use Rattle.ir_tree.specs.Meaning.{isolated_in, meaning}
+use Rattle.ir_tree.specs.Places.{put}
+use Rattle.ir_tree.specs.Sites.{operands_visible}
+use Rattle.ir_tree_laws.specs.Reads.{around}
+use Rattle.ir_tree_laws.specs.Reasons.{unless, has_place, fits_around}
+use Rattle.ir_event.specs.Listener.{Listener}
+use Rattle.ir_event.specs.Modules.{Module}
 use Rattle.rewriter_desk.specs.Contents.{Edit, NumberedEdit, edit_meaning, edit_reason, tests_in}
 use Rattle.rewriter_desk.specs.Edits.{Insert, edited_by, insert_reason, reason_by}
 use Rattle.rewriter_desk.specs.Machine.{State, OpenMark, Do, Reply, DoneAs, Refused, Nothing, Goes, due_edit, grows_under}

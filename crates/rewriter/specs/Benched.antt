@@ -1,12 +1,12 @@
 -- What a bench holds, and what its calls make of it.
 use Rattle.std.specs.Prelude.{ℕ, List, [], ◌∷◌, drop, Result, Ok, Err, MatchResult}
-use Rattle.ir.specs.types.declared.refusal.Refusal.{Refusal}
-use Rattle.ir.specs.types.Things.{Grows}
-use Rattle.ir.specs.store.Stored.{Stored}
-use Rattle.ir.specs.events.declared.event.Event.{Event}
-use Rattle.ir.specs.events.Listener.{Listener}
-use Rattle.ir.specs.events.Panels.{AllFollowed, AllKept}
-use Rattle.ir.specs.events.Step.{Steps}
+use Rattle.ir_types.specs.declared.refusal.Refusal.{Refusal}
+use Rattle.ir_types.specs.Things.{Grows}
+use Rattle.ir_store.specs.Stored.{Stored}
+use Rattle.ir_event.specs.declared.event.Event.{Event}
+use Rattle.ir_event.specs.Listener.{Listener}
+use Rattle.ir_event.specs.Panels.{AllFollowed, AllKept}
+use Rattle.ir_event.specs.Step.{Steps}
 use Rattle.rewriter_desk.specs.Machine.{State, Call, Reply, Done, DoneAs, Refused, Nothing, Goes}
 use Rattle.rewriter_desk.specs.Panels.{all_shown}
 use Rattle.rewriter_desk.specs.Journals.{inverses}

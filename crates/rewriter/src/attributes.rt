@@ -1,25 +1,25 @@
 //! Entries of operations are set and taken out, in the dictionary in which their key belongs.
 ghost use Rattle.std.specs.Prelude.{◌≡◌, is_some, None, Some, OnOk, OnErr, IfSome};
-ghost use Rattle.ir.specs.types.Things.{IsName, IsAttr};
-ghost use Rattle.ir.specs.trees.Edits.{entry_at};
-ghost use Rattle.ir.specs.trees.Meaning.{key_before_in};
-ghost use Rattle.ir.specs.store.Calls.{after_entry};
+ghost use Rattle.ir_types.specs.Things.{IsName, IsAttr};
+ghost use Rattle.ir_tree.specs.Edits.{entry_at};
+ghost use Rattle.ir_tree.specs.Meaning.{key_before_in};
+ghost use Rattle.ir_store.specs.Calls.{after_entry};
 ghost use Rattle.rewriter_desk.specs.Contents.{edit_meaning, tests_in};
 ghost use Rattle.rewriter_desk.specs.Edits.{DropAttr, SetAttr, part_for};
-ghost use Rattle.ir.specs.laws.Reasons.{set_entry_reason};
+ghost use Rattle.ir_tree_laws.specs.Reasons.{set_entry_reason};
 ghost use Rattle.rewriter_desk.specs.Machine.{Do};
 ghost use Rattle.rewriter_desk.specs.Moves.{IsAnswered};
 ghost use Rattle.rewriter.specs.Benched.{Does, Keeps, Led, Made, reply_of};
 
 use crate::bench::Bench;
 use crate::marks::settle;
-use ir::events::analysis::Analysis;
-use ir::store::store::Store;
-use ir::trees::place::Part;
-use ir::trees::sound::comes_before;
-use ir::types::context::Context;
-use ir::types::ids::{AttrId, NameId, OpId};
-use ir::types::refusal::Refusal;
+use ir_event::analysis::Analysis;
+use ir_store::store::Store;
+use ir_tree::place::Part;
+use ir_tree::sound::comes_before;
+use ir_types::context::Context;
+use ir_types::ids::{AttrId, NameId, OpId};
+use ir_types::refusal::Refusal;
 
 /// Whether one of some entries is at a key.
 fn has_entry(ctx: &Context, entries: &[(NameId, AttrId)], key: NameId) -> bool

@@ -1,31 +1,31 @@
 //! The bench.
 ghost use Rattle.std.specs.Prelude.{◌≡◌, [], length, slice_get, ◌↔◌, ◌≢◌, ◌<◌, ◌⊎◌, IsTrue, OnErr, IfErr, IfOk, IsOk, Some, true, None};
 ghost use Rattle.std.specs.List.{All};
-ghost use Rattle.ir.specs.types.Things.{TypeIsOf, AttrIsOf};
-ghost use Rattle.ir.specs.types.Interning.{with_name, with_type, with_attr, knows_name, knows_type, knows_attr};
-ghost use Rattle.ir.specs.types.Reasons.{IsRefusedFor, name_reason, type_reason, attr_reason};
-ghost use Rattle.ir.specs.types.Sound.{IsSound};
-ghost use Rattle.ir.specs.trees.Ids.{HasDistinctIds, ids};
-ghost use Rattle.ir.specs.trees.Meaning.{IsSoundIn, isolated_in};
-ghost use Rattle.ir.specs.trees.WellFormed.{IsWellFormed, fault};
-ghost use Rattle.ir.specs.store.Calls.{Loaded};
-ghost use Rattle.ir.specs.events.Modules.{things_in};
+ghost use Rattle.ir_types.specs.Things.{TypeIsOf, AttrIsOf};
+ghost use Rattle.ir_types.specs.Interning.{with_name, with_type, with_attr, knows_name, knows_type, knows_attr};
+ghost use Rattle.ir_types.specs.Reasons.{IsRefusedFor, name_reason, type_reason, attr_reason};
+ghost use Rattle.ir_types.specs.Sound.{IsSound};
+ghost use Rattle.ir_tree.specs.Ids.{HasDistinctIds, ids};
+ghost use Rattle.ir_tree.specs.Meaning.{IsSoundIn, isolated_in};
+ghost use Rattle.ir_tree.specs.WellFormed.{IsWellFormed, fault};
+ghost use Rattle.ir_store.specs.Calls.{Loaded};
+ghost use Rattle.ir_event.specs.Modules.{things_in};
 ghost use Rattle.rewriter_desk.specs.Journals.{IsJournal, IsSlotted};
 ghost use Rattle.rewriter_desk.specs.Moves.{Grown};
 ghost use Rattle.rewriter.specs.Benched.{Led};
 ghost use Rattle.rewriter.specs.Rolling.{IsSettled, Settled};
 
 use crate::marks::settle;
-use ir::events::analysis::Analysis;
-use ir::events::event::Event;
-use ir::events::panel::Panel;
-use ir::events::world::World;
-use ir::registry::registry::Registry;
-use ir::trees::tree::TreeOp;
-use ir::types::context::Context;
-use ir::types::ids::{AttrId, NameId, TypeId};
-use ir::types::node::{AttrNode, TypeNode};
-use ir::types::refusal::Refusal;
+use ir_event::analysis::Analysis;
+use ir_event::event::Event;
+use ir_event::panel::Panel;
+use ir_event::world::World;
+use ir_tree::tree::TreeOp;
+use ir_types::context::Context;
+use ir_types::ids::{AttrId, NameId, TypeId};
+use ir_types::node::{AttrNode, TypeNode};
+use ir_types::refusal::Refusal;
+use op_registry::registry::Registry;
 use rewriter_desk::desk::Desk;
 use rewriter_laws::journal_laws::stores_stay_slotted;
 use std::alloc::Global;
@@ -43,7 +43,7 @@ impl<L> Model for Bench<L> {
     ghost use Rattle.rewriter.specs.Benched.{Benched};
     ghost use Rattle.rewriter.specs.Rolling.{IsSettled};
     ghost use Rattle.std.specs.Coded.{codes};
-    ghost use Rattle.ir.specs.store.Stored.{stored_code};
+    ghost use Rattle.ir_store.specs.Stored.{stored_code};
 
     ghost Value = { Benched L };
 

@@ -10,9 +10,9 @@ use crate::bench::Bench;
 use crate::faults::erase_fault;
 use crate::finish::finish;
 use crate::laws::led_benches_are_kept;
-use ir::events::analysis::Analysis;
-use ir::types::ids::OpId;
-use ir::types::refusal::Refusal;
+use ir_event::analysis::Analysis;
+use ir_types::ids::OpId;
+use ir_types::refusal::Refusal;
 use rewriter_laws::turns::erasing_by_last;
 
 /// Takes an operation and those inside it, the last in pre-order first, where nothing stands against it.

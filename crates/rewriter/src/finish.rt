@@ -4,7 +4,7 @@ ghost use Rattle.rewriter.specs.Benched.{Heard, Led};
 ghost use Rattle.rewriter.specs.Wholes.{IsFinished};
 
 use crate::bench::Bench;
-use ir::events::analysis::Analysis;
+use ir_event::analysis::Analysis;
 
 /// Drops the newest mark. The module stays, or the one of the mark is held again.
 pub fn finish<L: Analysis>(bench: &mut Bench<L>, stays: bool)

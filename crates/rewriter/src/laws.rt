@@ -1,11 +1,11 @@
 //! Laws of benches. Each is a function that does nothing: its contract is the law.
 ghost use Rattle.std.specs.Prelude.{List, [], ◌++◌};
-ghost use Rattle.ir.specs.types.Sound.{Holds};
-ghost use Rattle.ir.specs.events.declared.event.Event.{Event as Change};
+ghost use Rattle.ir_types.specs.Sound.{Holds};
+ghost use Rattle.ir_event.specs.declared.event.Event.{Event as Change};
 ghost use Rattle.rewriter_desk.specs.Panels.{AllAge, all_shown};
 ghost use Rattle.rewriter.specs.Benched.{Benched, Heard, IsKept, Led};
 
-use ir::events::analysis::Analysis;
+use ir_event::analysis::Analysis;
 
 /// Where listeners were told of the events that led from one module to another, each that agreed with the one agrees
 /// with the other or is stale, and none that was stale is fresh. A bench leads to itself by no events, and being led

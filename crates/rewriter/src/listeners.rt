@@ -1,7 +1,7 @@
 //! Listeners of a bench. Attaching, dropping, beginning anew and asking them is no edit, and a rollback doesn't undo it.
 ghost use Rattle.std.specs.Prelude.{◌≡◌, true, false, OnOk, OnErr, IfErr, IsErrOf, MatchResult};
-ghost use Rattle.ir.specs.events.Panels.{AttachedLast, BegunAgain, Detached, HandedBack, IsListener, NotBegunAgain, has_kind};
-ghost use Rattle.ir.specs.events.Rows.{RowIsOf, rows_meaning};
+ghost use Rattle.ir_event.specs.Panels.{AttachedLast, BegunAgain, Detached, HandedBack, IsListener, NotBegunAgain, has_kind};
+ghost use Rattle.ir_event.specs.Rows.{RowIsOf, rows_meaning};
 ghost use Rattle.std.specs.Prelude.{All, IfOk};
 ghost use Rattle.rewriter_desk.specs.Machine.{Attach, Detach, Done, Goes, Nothing, Refused, Report, Resync, Rows};
 ghost use Rattle.rewriter_desk.specs.Panels.{shown};
@@ -9,9 +9,9 @@ ghost use Rattle.rewriter_desk.specs.Held.{module_held};
 ghost use Rattle.rewriter.specs.Benched.{Does, IsKept, attach_reply_of, reply_of, state_of};
 
 use crate::bench::Bench;
-use ir::events::analysis::Analysis;
-use ir::events::row::{Kind, Row};
-use ir::types::refusal::Refusal;
+use ir_event::analysis::Analysis;
+use ir_event::row::{Kind, Row};
+use ir_types::refusal::Refusal;
 
 impl<L: Analysis> Bench<L> {
     /// Begins a listener and adds it last, or hands it back.

@@ -1,8 +1,8 @@
 //! The headers of an operation made one after another.
 ghost use Rattle.std.specs.Prelude.{◌≡◌, ◌≢◌, ◌⊎◌, None, OnOk};
-ghost use Rattle.ir.specs.types.declared.refusal.Refusal.TheVariants.{Memory as WantOfMemory, NotVisible as Unseen};
-ghost use Rattle.ir.specs.trees.Ids.{IsNumberedFrom};
-ghost use Rattle.ir.specs.trees.Meaning.{IsSoundIn};
+ghost use Rattle.ir_types.specs.declared.refusal.Refusal.TheVariants.{Memory as WantOfMemory, NotVisible as Unseen};
+ghost use Rattle.ir_tree.specs.Ids.{IsNumberedFrom};
+ghost use Rattle.ir_tree.specs.Meaning.{IsSoundIn};
 ghost use Rattle.rewriter_desk.specs.Contents.{tests_in};
 ghost use Rattle.rewriter_desk.specs.Edits.{Insert, edited_by, reason_by};
 ghost use Rattle.rewriter.specs.Moves.{IsAnswered};
@@ -13,10 +13,10 @@ ghost use Rattle.rewriter.specs.Trying.{AreHeadersOf, Tries};
 use crate::bench::Bench;
 use crate::headers::headers_of;
 use crate::laws::led_benches_are_kept;
-use ir::events::analysis::Analysis;
-use ir::trees::place::Place;
-use ir::trees::tree::TreeOp;
-use ir::types::refusal::Refusal;
+use ir_event::analysis::Analysis;
+use ir_tree::place::Place;
+use ir_tree::tree::TreeOp;
+use ir_types::refusal::Refusal;
 use rewriter_laws::laws::{headers_are_bare, inserting_is_making};
 use rewriter_laws::turns::inserts_are_tried;
 

@@ -1,20 +1,20 @@
 -- Laws of journals.
 use Rattle.std.proofs.Common.{◌≡◌, ℕ, ◌≤◌, List, [], ◌∷◌, ◌++◌, drop, Option, Some, None, true}
-use Rattle.ir.specs.types.Sound.{IsSound}
-use Rattle.ir.specs.types.Things.{Things, Grows}
-use Rattle.ir.specs.trees.declared.place.Part.{Part}
-use Rattle.ir.specs.trees.declared.place.Place.{Place}
-use Rattle.ir.specs.trees.declared.value.Value.{Value}
-use Rattle.ir.specs.trees.Tree.{Op}
-use Rattle.ir.specs.trees.Meaning.{IsSoundIn, isolated_in, key_before_in}
-use Rattle.ir.specs.laws.Reasons.{holds_none, set_entry_reason}
-use Rattle.ir.specs.store.Calls.{Releases, after_entry, after_operand, after_put, after_shift, after_take}
-use Rattle.ir.specs.store.Stored.{Stored}
-use Rattle.ir.specs.events.declared.event.Event.{Event}
-use Rattle.ir.specs.events.Modules.{Module, module_meaning}
-use Rattle.ir.specs.events.Step.{IsOperandStep}
-use Rattle.ir.specs.events.Edits.{IsEntryStep, IsPutStep, IsShiftStep, IsTakeStep}
-use Rattle.ir.specs.events.Undoing.{CameFrom, undone}
+use Rattle.ir_types.specs.Sound.{IsSound}
+use Rattle.ir_types.specs.Things.{Things, Grows}
+use Rattle.ir_tree.specs.declared.place.Part.{Part}
+use Rattle.ir_tree.specs.declared.place.Place.{Place}
+use Rattle.ir_tree.specs.declared.value.Value.{Value}
+use Rattle.ir_tree.specs.Tree.{Op}
+use Rattle.ir_tree.specs.Meaning.{IsSoundIn, isolated_in, key_before_in}
+use Rattle.ir_tree_laws.specs.Reasons.{holds_none, set_entry_reason}
+use Rattle.ir_store.specs.Calls.{Releases, after_entry, after_operand, after_put, after_shift, after_take}
+use Rattle.ir_store.specs.Stored.{Stored}
+use Rattle.ir_event.specs.declared.event.Event.{Event}
+use Rattle.ir_event.specs.Modules.{Module, module_meaning}
+use Rattle.ir_event.specs.Step.{IsOperandStep}
+use Rattle.ir_event.specs.Edits.{IsEntryStep, IsPutStep, IsShiftStep, IsTakeStep}
+use Rattle.ir_event.specs.Undoing.{CameFrom, undone}
 use Rattle.rewriter_laws.specs.Journals.{IsJournal, IsSlotted, IsStoreOf, IsTidy, Noted, before}
 use Rattle.rewriter_laws.proofs.Noting as noting
 use Rattle.rewriter_laws.proofs.Ended as ended

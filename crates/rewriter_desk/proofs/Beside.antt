@@ -2,22 +2,22 @@
 use Rattle.std.proofs.Common.{◌≡◌, ◌∙◌, ap, sym, refl, ℕ, List, Option, Some, None, subst}
 use Rattle.std.specs.Prelude.{option_map, option_and_then, IfOk, IfSome, Result, Ok, Err}
 use Rattle.ir_text.specs.declared.error.ReadError.{ReadError}
-use Rattle.ir.specs.types.Things.{Things, IsType}
-use Rattle.ir.specs.types.Terms.{name_term, type_term, attr_term}
-use Rattle.ir.specs.trees.declared.value.Value.{Value}
-use Rattle.ir.specs.trees.Tree.{Op}
-use Rattle.ir.specs.trees.Ids.{IsNumberedFrom}
-use Rattle.ir.specs.trees.Meaning.{Operation, meaning}
-use Rattle.ir.proofs.of_trees.Mapped.{map_ids}
-use Rattle.ir.specs.laws.Values.{type_of_value}
-use Rattle.ir.proofs.of_laws.Contents.{map_type_of_value}
-use Rattle.ir.specs.events.declared.world.World.{World}
-use Rattle.ir.specs.events.Modules.{module_in}
+use Rattle.ir_types.specs.Things.{Things, IsType}
+use Rattle.ir_types.specs.Terms.{name_term, type_term, attr_term}
+use Rattle.ir_tree.specs.declared.value.Value.{Value}
+use Rattle.ir_tree.specs.Tree.{Op}
+use Rattle.ir_tree.specs.Ids.{IsNumberedFrom}
+use Rattle.ir_tree.specs.Meaning.{Operation, meaning}
+use Rattle.ir_tree.proofs.Mapped.{map_ids}
+use Rattle.ir_tree_laws.specs.Values.{type_of_value}
+use Rattle.ir_tree_laws.proofs.Contents.{map_type_of_value}
+use Rattle.ir_event.specs.declared.world.World.{World}
+use Rattle.ir_event.specs.Modules.{module_in}
 use Rattle.ir_text.specs.Public.{IsOnly, IsNone}
 use Rattle.ir_text.specs.Public.{free_term, free_bound, bound_term, value_named}
 use Rattle.ir_text.specs.Public.{BoundTerm}
 use Rattle.ir_text.specs.Public.{SpellsOp}
-use Rattle.ir.proofs.of_events.Typed.{value_known}
+use Rattle.ir_event.proofs.Typed.{value_known}
 use Rattle.rewriter_desk.specs.Texts.{SpellsBeside, free_in}
 
 -- the types of a world's values are of its context

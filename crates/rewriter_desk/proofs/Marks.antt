@@ -2,9 +2,9 @@
 use Rattle.std.proofs.Common.{◌≡◌, Bool, ℕ, ◌+◌, ◌-◌, ◌≤◌, List, [], ◌∷◌, ◌++◌, length, take, drop, get_or, map, refl, sym, ap, ◌∙◌, arith}
 use Rattle.std.specs.Prelude.{reverse}
 use Rattle.std.proofs.lemmas.List.{map-append, reverse-append, take_more, take_all}
-use Rattle.ir.specs.types.Things.{Things}
-use Rattle.ir.specs.store.Stored.{Stored}
-use Rattle.ir.specs.events.declared.event.Event.{Event}
+use Rattle.ir_types.specs.Things.{Things}
+use Rattle.ir_store.specs.Stored.{Stored}
+use Rattle.ir_event.specs.declared.event.Event.{Event}
 use Rattle.rewriter_machine.specs.Machine.{OpenMark}
 use Rattle.rewriter_laws.specs.Journals.{IsJournal, before}
 use Rattle.rewriter_desk.specs.declared.mark.Mark.{Mark}

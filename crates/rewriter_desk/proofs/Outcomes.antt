@@ -8,20 +8,20 @@ use Rattle.std.proofs.lemmas.Bool.Decides.{nat_tests}
 use Rattle.std.proofs.lemmas.Cmp.{nat_cmp_total}
 use Rattle.std.proofs.lemmas.List.{drop-append-le}
 use Rattle.std.proofs.Math.Seq.{drop-nil}
-use Rattle.ir.specs.types.declared.refusal.Refusal.{Refusal}
-use Rattle.ir.specs.types.Sound.{IsSound}
-use Rattle.ir.specs.types.Things.{Things, Grows}
-use Rattle.ir.specs.trees.Ids.{find, has_id}
-use Rattle.ir.specs.trees.Tree.{Op}
-use Rattle.ir.specs.trees.WellFormed.{Module}
-use Rattle.ir.specs.store.Calls.{Releases, gone_left}
-use Rattle.ir.specs.store.Stored.{Gone, Stored, known, none_gone}
-use Rattle.ir.specs.events.declared.event.Event.{Event}
-use Rattle.ir.proofs.of_events.Shown.{known_there, none_found}
-use Rattle.ir.specs.events.Listener.{ShowsTaken}
-use Rattle.ir.specs.events.Modules.{module_meaning}
-use Rattle.ir.specs.events.Step.{Step, inverse_of}
-use Rattle.ir.specs.events.Undoing.{CameFrom, undone}
+use Rattle.ir_types.specs.declared.refusal.Refusal.{Refusal}
+use Rattle.ir_types.specs.Sound.{IsSound}
+use Rattle.ir_types.specs.Things.{Things, Grows}
+use Rattle.ir_tree.specs.Ids.{find, has_id}
+use Rattle.ir_tree.specs.Tree.{Op}
+use Rattle.ir_tree.specs.WellFormed.{Module}
+use Rattle.ir_store.specs.Calls.{Releases, gone_left}
+use Rattle.ir_store.specs.Stored.{Gone, Stored, known, none_gone}
+use Rattle.ir_event.specs.declared.event.Event.{Event}
+use Rattle.ir_event.proofs.Shown.{known_there, none_found}
+use Rattle.ir_event.specs.Listener.{ShowsTaken}
+use Rattle.ir_event.specs.Modules.{module_meaning}
+use Rattle.ir_event.specs.Step.{Step, inverse_of}
+use Rattle.ir_event.specs.Undoing.{CameFrom, undone}
 use Rattle.rewriter_laws.specs.Journals.{IsJournal, IsSlotted, IsStoreOf, Noted, before, undone_all}
 use Rattle.rewriter_desk.specs.declared.mark.Mark.{Mark}
 use Rattle.rewriter_desk.specs.Held.{Held, IsGood, Within, module_at, module_held, open_mark, open_marks, shown_of}

@@ -4,14 +4,14 @@ use Rattle.std.specs.Prelude.{nat_lt}
 use Rattle.std.specs.List.{All}
 use Rattle.std.specs.FinMap as finmap
 use Rattle.std.proofs.lemmas.Bool.{cases_Bool, cond-false, cond-true}
-use Rattle.ir.specs.types.Things.{Things}
-use Rattle.ir.specs.trees.Tree.{Op, op}
-use Rattle.ir.specs.trees.Ids.{ids}
-use Rattle.ir.specs.trees.Meaning.{IsSoundIn, isolated_in}
-use Rattle.ir.specs.trees.WellFormed.{IsWellFormed, Module}
-use Rattle.ir.specs.store.Stored.{Stored}
-use Rattle.ir.specs.store.Calls.{Releases}
-use Rattle.ir.specs.events.Facts.{HeldIsSound}
+use Rattle.ir_types.specs.Things.{Things}
+use Rattle.ir_tree.specs.Tree.{Op, op}
+use Rattle.ir_tree.specs.Ids.{ids}
+use Rattle.ir_tree.specs.Meaning.{IsSoundIn, isolated_in}
+use Rattle.ir_tree.specs.WellFormed.{IsWellFormed, Module}
+use Rattle.ir_store.specs.Stored.{Stored}
+use Rattle.ir_store.specs.Calls.{Releases}
+use Rattle.ir_event.specs.Facts.{HeldIsSound}
 
 module _ (c : Things) (from : ℕ) (s u : Stored) (r : Releases from s u) where
   held_was : (y : ℕ) (o : Op) → finmap.get u.held y ≡ Some o → finmap.get s.held y ≡ Some o

@@ -1,11 +1,11 @@
 -- What a desk holds.
 use Rattle.std.specs.Prelude.{◌≡◌, ℕ, ◌≤◌, List, [], ◌∷◌, length, drop, map, reverse, Option, option_map}
-use Rattle.ir.specs.types.Things.{Things}
-use Rattle.ir.specs.trees.Meaning.{meaning}
-use Rattle.ir.specs.store.Nodes.{node_of}
-use Rattle.ir.specs.store.Stored.{Stored, known}
-use Rattle.ir.specs.events.declared.event.Event.{Event}
-use Rattle.ir.specs.events.Modules.{Module, Node, module_meaning}
+use Rattle.ir_types.specs.Things.{Things}
+use Rattle.ir_tree.specs.Meaning.{meaning}
+use Rattle.ir_store.specs.Nodes.{node_of}
+use Rattle.ir_store.specs.Stored.{Stored, known}
+use Rattle.ir_event.specs.declared.event.Event.{Event}
+use Rattle.ir_event.specs.Modules.{Module, Node, module_meaning}
 use Rattle.rewriter_machine.specs.Machine.{OpenMark}
 use Rattle.rewriter_laws.specs.Journals.{IsJournal, IsSlotted, before}
 use Rattle.rewriter_desk.specs.declared.mark.Mark.{Mark}

@@ -1,15 +1,15 @@
 -- Edits of a desk, and events that are undone.
 use Rattle.std.specs.Prelude.{◌≡◌, ◌≢◌, ◌≤◌, ℕ, List, [], ◌∷◌, ◌++◌, length, Option, Some, None, ◌⊎◌, Result, Ok, Err, MatchResult}
 use Rattle.std.specs.FinMap as map
-use Rattle.ir.specs.types.declared.refusal.Refusal.{Refusal}
-use Rattle.ir.specs.types.declared.refusal.Refusal.TheVariants.{Memory}
-use Rattle.ir.specs.types.Things.{Grows}
-use Rattle.ir.specs.store.Calls.{Loaded, Releases}
-use Rattle.ir.specs.store.Stored.{Stored}
-use Rattle.ir.specs.events.declared.event.Event.{Event}
-use Rattle.ir.specs.events.Listener.{ShowsTaken}
-use Rattle.ir.specs.events.Step.{Step, inverse_of}
-use Rattle.ir.specs.events.Undoing.{undone}
+use Rattle.ir_types.specs.declared.refusal.Refusal.{Refusal}
+use Rattle.ir_types.specs.declared.refusal.Refusal.TheVariants.{Memory}
+use Rattle.ir_types.specs.Things.{Grows}
+use Rattle.ir_store.specs.Calls.{Loaded, Releases}
+use Rattle.ir_store.specs.Stored.{Stored}
+use Rattle.ir_event.specs.declared.event.Event.{Event}
+use Rattle.ir_event.specs.Listener.{ShowsTaken}
+use Rattle.ir_event.specs.Step.{Step, inverse_of}
+use Rattle.ir_event.specs.Undoing.{undone}
 use Rattle.rewriter_laws.specs.Journals.{IsTidy}
 use Rattle.rewriter_desk.specs.declared.mark.Mark.{Mark}
 use Rattle.rewriter_desk.specs.Held.{Held, module_at, module_held, open_marks, shown_of}

@@ -1,6 +1,6 @@
 //! The desk: a world with its journal and its marks.
 ghost use Rattle.std.specs.Prelude.{◌≡◌, ◌≢◌, ◌<◌, ◌-◌, ◌↔◌, ◌∷◌, [], length, not, is_some, slice_get, IsTrue, OnOk, OnErr, IfSome, IfNone};
-ghost use Rattle.ir.specs.events.Modules.{things_in};
+ghost use Rattle.ir_event.specs.Modules.{things_in};
 ghost use Rattle.rewriter_laws.specs.Journals.{IsSlotted};
 ghost use Rattle.rewriter_desk.specs.Held.{IsGood, Within, module_held, open_marks};
 ghost use Rattle.rewriter_desk.specs.Marked.{counted_among, mark_reason, with_mark, IsNewest, Closed};
@@ -9,9 +9,9 @@ ghost use Rattle.rewriter_desk.specs.Moves.{HoldsModuleAlone, HoldsNone, IsAnswe
 use crate::claims::keep;
 use crate::mark::Mark;
 use crate::release::release;
-use ir::events::event::{Event, inverse};
-use ir::events::world::World;
-use ir::types::refusal::Refusal;
+use ir_event::event::{Event, inverse};
+use ir_event::world::World;
+use ir_types::refusal::Refusal;
 use std::alloc::Global;
 use std::marker::Model;
 
@@ -26,7 +26,7 @@ pub struct Desk {
 impl Model for Desk {
     ghost use Rattle.rewriter_desk.specs.Held.{Held, IsGood};
     ghost use Rattle.std.specs.Coded.{codes};
-    ghost use Rattle.ir.specs.store.Stored.{stored_code};
+    ghost use Rattle.ir_store.specs.Stored.{stored_code};
 
     ghost Value = { Held };
 

@@ -1,8 +1,8 @@
 //! What is held of a world's module is given up.
 ghost use Rattle.std.specs.Prelude.{◌≡◌};
-ghost use Rattle.ir.specs.store.Calls.{Releases};
+ghost use Rattle.ir_store.specs.Calls.{Releases};
 
-use ir::events::world::World;
+use ir_event::world::World;
 
 /// Gives up the held operations with an id from `from` on, and from 0 on the slots of keys that were taken out.
 pub(crate) fn release(world: &mut World, from: u32)

@@ -4,26 +4,26 @@ use Rattle.std.specs.Prelude.{nat_lt}
 use Rattle.std.specs.Option.{option_eq}
 use Rattle.std.proofs.lemmas.Bool.{lt-ltb}
 use Rattle.std.proofs.lemmas.List.{length-set}
-use Rattle.ir.specs.types.declared.refusal.Refusal.TheVariants.{NoSuchValue, NotVisible, NoSuchIndex, TypeDiffers}
-use Rattle.ir.specs.trees.declared.value.Value.{Value}
-use Rattle.ir.specs.trees.Tree.{HeadOf, OpOf, head}
-use Rattle.ir.specs.trees.Ids.{HasDistinctIds, find}
-use Rattle.ir.specs.trees.Uses.{same_value, operand_uses, uses_of}
-use Rattle.ir.specs.trees.Sites.{visible}
-use Rattle.ir.specs.trees.Edits.{each_head, at, put_operand, with_operand}
-use Rattle.ir.specs.trees.WellFormed.{ModuleOf, IsWellFormed}
-use Rattle.ir.proofs.of_trees.Heads.{head_find, head_visible, alike_operand}
-use Rattle.ir.specs.laws.Members.{In}
-use Rattle.ir.specs.laws.Stands.{StandOf, stand_id, stands, sees}
-use Rattle.ir.specs.laws.Values.{has_value, type_of_value}
-use Rattle.ir.specs.laws.Reasons.{value_reason, operand_reason, set_operand_reason, users_see}
-use Rattle.ir.proofs.of_laws.Listed.{all_each, in_left}
-use Rattle.ir.proofs.of_laws.Readings.{stands_uses}
-use Rattle.ir.proofs.of_laws.Members.{found_stands, stand_found}
-use Rattle.ir.proofs.of_laws.Sees.{visible_there}
-use Rattle.ir.proofs.of_laws.Values.{seen_by}
-use Rattle.ir.proofs.of_laws.Reasoned.{no_unless}
-use Rattle.ir.proofs.of_laws.HeadForm.{operand_keeps}
+use Rattle.ir_types.specs.declared.refusal.Refusal.TheVariants.{NoSuchValue, NotVisible, NoSuchIndex, TypeDiffers}
+use Rattle.ir_tree.specs.declared.value.Value.{Value}
+use Rattle.ir_tree.specs.Tree.{HeadOf, OpOf, head}
+use Rattle.ir_tree.specs.Ids.{HasDistinctIds, find}
+use Rattle.ir_tree.specs.Uses.{same_value, operand_uses, uses_of}
+use Rattle.ir_tree.specs.Sites.{visible}
+use Rattle.ir_tree.specs.Edits.{each_head, at, put_operand, with_operand}
+use Rattle.ir_tree.specs.WellFormed.{ModuleOf, IsWellFormed}
+use Rattle.ir_tree.proofs.Heads.{head_find, head_visible, alike_operand}
+use Rattle.ir_tree_laws.specs.Members.{In}
+use Rattle.ir_tree_laws.specs.Stands.{StandOf, stand_id, stands, sees}
+use Rattle.ir_tree_laws.specs.Values.{has_value, type_of_value}
+use Rattle.ir_tree_laws.specs.Reasons.{value_reason, operand_reason, set_operand_reason, users_see}
+use Rattle.ir_tree_laws.proofs.Listed.{all_each, in_left}
+use Rattle.ir_tree_laws.proofs.Readings.{stands_uses}
+use Rattle.ir_tree_laws.proofs.Members.{found_stands, stand_found}
+use Rattle.ir_tree_laws.proofs.Sees.{visible_there}
+use Rattle.ir_tree_laws.proofs.Values.{seen_by}
+use Rattle.ir_tree_laws.proofs.Reasoned.{no_unless}
+use Rattle.ir_tree_laws.proofs.HeadForm.{operand_keeps}
 use Rattle.rewriter_machine.specs.Edits.{TestsOf, Replace, reason_by}
 use Rattle.rewriter_laws.specs.Replacing.{all_set}
 use Rattle.rewriter_laws.proofs.Left.{of_gather, user, head_each}

@@ -4,11 +4,11 @@ use Rattle.std.proofs.lemmas.Bool.{eq-eqb}
 use Rattle.std.specs.Prelude.{◌==◌}
 use Rattle.std.specs.Option.{option_eq}
 use Rattle.std.specs.Cmp.Lexicographic.{pointwise}
-use Rattle.ir.specs.types.declared.node.Sign.{Sign}
-use Rattle.ir.specs.types.declared.node.Sign.TheVariants.{Signless, Signed, Unsigned}
-use Rattle.ir.specs.types.Terms.{TypeTerm, Integer, Index, Function, Memref, TypeTerms, no_types, next_type}
-use Rattle.ir.specs.types.Same.{same_sign}
-use Rattle.ir.specs.types.SameTypes.{same_type, same_terms}
+use Rattle.ir_types.specs.declared.node.Sign.{Sign}
+use Rattle.ir_types.specs.declared.node.Sign.TheVariants.{Signless, Signed, Unsigned}
+use Rattle.ir_types.specs.Terms.{TypeTerm, Integer, Index, Function, Memref, TypeTerms, no_types, next_type}
+use Rattle.ir_types.specs.Same.{same_sign}
+use Rattle.ir_types.specs.SameTypes.{same_type, same_terms}
 
 same_dimensions : (ds : List (Option ℕ)) → pointwise (option_eq ◌==◌) ds ds ≡ true
 same_dimensions [] = refl

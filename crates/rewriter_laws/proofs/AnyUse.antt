@@ -4,29 +4,29 @@ use Rattle.std.specs.Prelude.{slice_set, slice_get, option_and_then, is_some}
 use Rattle.std.specs.List.{IsDistinct}
 use Rattle.std.specs.Option.{option_eq}
 use Rattle.std.proofs.lemmas.Map.Keys.{IsDistinct-tail}
-use Rattle.ir.specs.types.declared.refusal.Refusal.TheVariants.{NoSuchValue, NotVisible, TypeDiffers}
-use Rattle.ir.specs.trees.declared.value.Value.{Value}
-use Rattle.ir.specs.trees.declared.value.Value.TheVariants.{Result, Arg}
-use Rattle.ir.specs.trees.Tree.{HeadOf, OpOf, op, RegionsOf, no_regions, region, empty, block, head}
-use Rattle.ir.specs.trees.Ids.{HasDistinctIds, find}
-use Rattle.ir.specs.trees.Uses.{same_value, operand_uses, uses_of}
-use Rattle.ir.specs.trees.Sites.{visible}
-use Rattle.ir.specs.trees.Edits.{each_head, regions_each_head, at, put_operand, with_operand, put_value, put_values, with_value_replaced}
-use Rattle.ir.specs.trees.WellFormed.{ModuleOf, IsWellFormed}
-use Rattle.ir.proofs.of_trees.Heads.{head_find, head_visible, alike_operand}
-use Rattle.ir.proofs.of_trees.Replaced.{same_value_true}
-use Rattle.ir.specs.laws.Members.{In}
-use Rattle.ir.specs.laws.Stands.{StandOf, stand_id, stands, gather, sees}
-use Rattle.ir.specs.laws.Values.{region_at, arguments_of, arguments_at, type_of_value, has_value}
-use Rattle.ir.specs.laws.Reasons.{set_operand_reason, users_see}
-use Rattle.ir.proofs.of_laws.Listed.{bool_cases, in_parts, one_any, all_each, each_all, both}
-use Rattle.ir.proofs.of_laws.Readings.{stands_ids, stands_uses}
-use Rattle.ir.proofs.of_laws.Members.{same_stand}
-use Rattle.ir.proofs.of_laws.Sees.{visible_there}
-use Rattle.ir.proofs.of_laws.Formed.{from_formed}
-use Rattle.ir.proofs.of_laws.Reasoned.{no_unless}
-use Rattle.ir.proofs.of_laws.HeadForm.{in_gather, operand_keeps}
-use Rattle.ir.specs.store.Using.{same_use, is_use}
+use Rattle.ir_types.specs.declared.refusal.Refusal.TheVariants.{NoSuchValue, NotVisible, TypeDiffers}
+use Rattle.ir_tree.specs.declared.value.Value.{Value}
+use Rattle.ir_tree.specs.declared.value.Value.TheVariants.{Result, Arg}
+use Rattle.ir_tree.specs.Tree.{HeadOf, OpOf, op, RegionsOf, no_regions, region, empty, block, head}
+use Rattle.ir_tree.specs.Ids.{HasDistinctIds, find}
+use Rattle.ir_tree.specs.Uses.{same_value, operand_uses, uses_of}
+use Rattle.ir_tree.specs.Sites.{visible}
+use Rattle.ir_tree.specs.Edits.{each_head, regions_each_head, at, put_operand, with_operand, put_value, put_values, with_value_replaced}
+use Rattle.ir_tree.specs.WellFormed.{ModuleOf, IsWellFormed}
+use Rattle.ir_tree.proofs.Heads.{head_find, head_visible, alike_operand}
+use Rattle.ir_tree.proofs.Replaced.{same_value_true}
+use Rattle.ir_tree_laws.specs.Members.{In}
+use Rattle.ir_tree_laws.specs.Stands.{StandOf, stand_id, stands, gather, sees}
+use Rattle.ir_tree_laws.specs.Values.{region_at, arguments_of, arguments_at, type_of_value, has_value}
+use Rattle.ir_tree_laws.specs.Reasons.{set_operand_reason, users_see}
+use Rattle.ir_tree_laws.proofs.Listed.{bool_cases, in_parts, one_any, all_each, each_all, both}
+use Rattle.ir_tree_laws.proofs.Readings.{stands_ids, stands_uses}
+use Rattle.ir_tree_laws.proofs.Members.{same_stand}
+use Rattle.ir_tree_laws.proofs.Sees.{visible_there}
+use Rattle.ir_tree_laws.proofs.Formed.{from_formed}
+use Rattle.ir_tree_laws.proofs.Reasoned.{no_unless}
+use Rattle.ir_tree_laws.proofs.HeadForm.{in_gather, operand_keeps}
+use Rattle.ir_store.specs.Using.{same_use, is_use}
 use Rattle.rewriter_machine.specs.Edits.{TestsOf, Replace, reason_by}
 use Rattle.rewriter_laws.proofs.Setting.{apart, unequal, unchanged, twice, agree}
 use Rattle.rewriter_laws.proofs.Left.{gather_same, of_gather, head_each, user, uses_here, uses_then, elsewhere, uses_set}

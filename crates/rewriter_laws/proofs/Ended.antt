@@ -1,12 +1,12 @@
 -- Journals with an event more at the end, and the stores behind them.
 use Rattle.std.proofs.Common.{◌≡◌, refl, ap, sym, ◌∙◌, subst, ℕ, zero, suc, ◌≤◌, List, [], ◌∷◌, ◌++◌, drop, arith}
-use Rattle.ir.specs.types.Things.{Things}
-use Rattle.ir.specs.store.Stored.{Stored}
-use Rattle.ir.specs.events.declared.event.Event.{Event}
-use Rattle.ir.specs.events.Modules.{Module, module_meaning}
-use Rattle.ir.specs.events.Step.{Step, Steps, inverse_of}
-use Rattle.ir.specs.events.Undoing.{CameFrom, undone}
-use Rattle.ir.proofs.of_events.Undoing.{led_back, undone_step}
+use Rattle.ir_types.specs.Things.{Things}
+use Rattle.ir_store.specs.Stored.{Stored}
+use Rattle.ir_event.specs.declared.event.Event.{Event}
+use Rattle.ir_event.specs.Modules.{Module, module_meaning}
+use Rattle.ir_event.specs.Step.{Step, Steps, inverse_of}
+use Rattle.ir_event.specs.Undoing.{CameFrom, undone}
+use Rattle.ir_event.proofs.Undoing.{led_back, undone_step}
 use Rattle.rewriter_laws.specs.Journals.{IsForward, IsJournal, IsStoreOf, Noted, before, inverses, undone_all}
 use Rattle.rewriter_laws.proofs.Carries.{Carries}
 use Rattle.rewriter_laws.proofs.Undoings.{came_too, carries_undone, falls, same_module, store_undone}

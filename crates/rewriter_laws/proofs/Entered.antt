@@ -4,22 +4,22 @@ use Rattle.std.proofs.lemmas.Bool.{cases_eq, eq-eqb, ne_eqb}
 use Rattle.std.specs.Prelude.{option_map, is_some}
 use Rattle.std.specs.List.{list_any}
 use Rattle.std.specs.FinMap as finmap
-use Rattle.ir.specs.types.Things.{Things, IsName}
-use Rattle.ir.specs.types.Sound.{IsSound}
-use Rattle.ir.specs.trees.declared.value.Value.{Value}
-use Rattle.ir.specs.trees.declared.place.Part.{Part}
-use Rattle.ir.specs.trees.declared.place.Part.TheVariants.{Props, Attrs}
-use Rattle.ir.specs.trees.Tree.{Head, Op, op, head}
-use Rattle.ir.specs.trees.Ids.{find, first_of, has_id}
-use Rattle.ir.specs.trees.Edits.{at, change_entry, change_part, each_head, part_of, put_operand}
-use Rattle.ir.specs.trees.Meaning.{IsSoundIn, key_before_in}
-use Rattle.ir.specs.trees.WellFormed.{Module as Numbered}
-use Rattle.ir.proofs.of_trees.Heads.{Alike, alike_entry, alike_operand, head_find, head_ids}
-use Rattle.ir.proofs.of_laws.Listed.{either, or_left, or_right}
-use Rattle.ir.proofs.of_events.Sounds.{found_sound}
-use Rattle.ir.specs.store.Slots.{gone_after, has_key}
-use Rattle.ir.specs.store.Stored.{Gone, Stored, change_gone, has_entry, has_slot, is_some_with, stands}
-use Rattle.ir.specs.store.Calls.{after_entry, after_operand}
+use Rattle.ir_types.specs.Things.{Things, IsName}
+use Rattle.ir_types.specs.Sound.{IsSound}
+use Rattle.ir_tree.specs.declared.value.Value.{Value}
+use Rattle.ir_tree.specs.declared.place.Part.{Part}
+use Rattle.ir_tree.specs.declared.place.Part.TheVariants.{Props, Attrs}
+use Rattle.ir_tree.specs.Tree.{Head, Op, op, head}
+use Rattle.ir_tree.specs.Ids.{find, first_of, has_id}
+use Rattle.ir_tree.specs.Edits.{at, change_entry, change_part, each_head, part_of, put_operand}
+use Rattle.ir_tree.specs.Meaning.{IsSoundIn, key_before_in}
+use Rattle.ir_tree.specs.WellFormed.{Module as Numbered}
+use Rattle.ir_tree.proofs.Heads.{Alike, alike_entry, alike_operand, head_find, head_ids}
+use Rattle.ir_tree_laws.proofs.Listed.{either, or_left, or_right}
+use Rattle.ir_event.proofs.Sounds.{found_sound}
+use Rattle.ir_store.specs.Slots.{gone_after, has_key}
+use Rattle.ir_store.specs.Stored.{Gone, Stored, change_gone, has_entry, has_slot, is_some_with, stands}
+use Rattle.ir_store.specs.Calls.{after_entry, after_operand}
 use Rattle.rewriter_laws.proofs.Maps.{gone_here, gone_other, mapped_is}
 use Rattle.rewriter_laws.proofs.Keys.{after_none, after_other, has_put, part_keeps}
 use Rattle.rewriter_laws.proofs.Trees.{found_id}

@@ -2,25 +2,25 @@
 use Rattle.std.proofs.Common.{◌≡◌, refl, ap, sym, ◌∙◌, subst, ℕ, List, [], ◌∷◌, length, Option, Some, None}
 use Rattle.std.proofs.lemmas.Bool.{lt-ltb}
 use Rattle.std.specs.Prelude.{option_map}
-use Rattle.ir.specs.types.Things.{Things, Grows}
-use Rattle.ir.specs.types.Sound.{IsSound}
-use Rattle.ir.specs.types.Terms.{name_term, type_term, attr_term}
-use Rattle.ir.proofs.of_types.Terms.{attr_stays, name_stays}
-use Rattle.ir.specs.trees.declared.place.Part.{Part}
-use Rattle.ir.specs.trees.Edits.{with_entry}
-use Rattle.ir.specs.trees.Meaning.{IsSoundIn, key_before, key_before_in}
-use Rattle.ir.proofs.of_trees.MappedEdits.{map_with_entry}
-use Rattle.ir.proofs.of_trees.Meanings.{apart, stable, stays_sound}
-use Rattle.ir.proofs.of_trees.SoundEdits.{entry_sound}
-use Rattle.ir.specs.store.Stored.{Stored}
-use Rattle.ir.specs.store.Calls.{after_entry}
-use Rattle.ir.specs.events.declared.event.Event.{Event}
-use Rattle.ir.specs.events.declared.event.Event.TheVariants.{Put, Take, SetOperand, SetEntry, Shift}
-use Rattle.ir.specs.events.Modules.{Module, module_meaning}
-use Rattle.ir.specs.events.Step.{EventIsOf, IsAttrOrNone, Step}
-use Rattle.ir.proofs.of_events.Growing.{formed_stays, held_stays, module_stays}
-use Rattle.ir.proofs.of_events.Steps.{step_stays}
-use Rattle.ir.specs.events.Undoing.{CameFrom, Keeps, undone}
+use Rattle.ir_types.specs.Things.{Things, Grows}
+use Rattle.ir_types.specs.Sound.{IsSound}
+use Rattle.ir_types.specs.Terms.{name_term, type_term, attr_term}
+use Rattle.ir_types.proofs.Terms.{attr_stays, name_stays}
+use Rattle.ir_tree.specs.declared.place.Part.{Part}
+use Rattle.ir_tree.specs.Edits.{with_entry}
+use Rattle.ir_tree.specs.Meaning.{IsSoundIn, key_before, key_before_in}
+use Rattle.ir_tree.proofs.MappedEdits.{map_with_entry}
+use Rattle.ir_tree.proofs.Meanings.{apart, stable, stays_sound}
+use Rattle.ir_tree.proofs.SoundEdits.{entry_sound}
+use Rattle.ir_store.specs.Stored.{Stored}
+use Rattle.ir_store.specs.Calls.{after_entry}
+use Rattle.ir_event.specs.declared.event.Event.{Event}
+use Rattle.ir_event.specs.declared.event.Event.TheVariants.{Put, Take, SetOperand, SetEntry, Shift}
+use Rattle.ir_event.specs.Modules.{Module, module_meaning}
+use Rattle.ir_event.specs.Step.{EventIsOf, IsAttrOrNone, Step}
+use Rattle.ir_event.proofs.Growing.{formed_stays, held_stays, module_stays}
+use Rattle.ir_event.proofs.Steps.{step_stays}
+use Rattle.ir_event.specs.Undoing.{CameFrom, Keeps, undone}
 use Rattle.rewriter_laws.specs.Journals.{IsJournal, IsStoreOf, before, undone_all}
 use Rattle.rewriter_laws.proofs.Ended.{store_behind}
 use Rattle.rewriter_laws.proofs.Noting.{attr_is}

@@ -4,19 +4,19 @@ use Rattle.std.proofs.lemmas.Bool.{cases_Bool, eq-eqb, eqb-true, ne_eqb, cond-fa
 use Rattle.std.proofs.lemmas.List.Elements.{recursion_from_All}
 use Rattle.std.proofs.lemmas.List.Folds.{list_any-append}
 use Rattle.std.specs.List.{AllByRecursion}
-use Rattle.ir.specs.types.Things.{Things, IsName, IsAttr}
-use Rattle.ir.specs.types.Sound.{IsSound}
-use Rattle.ir.specs.types.Terms.{name_term}
-use Rattle.ir.proofs.of_types.Terms.{name_term_one}
-use Rattle.ir.specs.trees.declared.place.Part.{Part}
-use Rattle.ir.specs.trees.declared.place.Part.TheVariants.{Props, Attrs}
-use Rattle.ir.specs.trees.Tree.{Op, op, head}
-use Rattle.ir.specs.trees.Edits.{change_entry, drop_entry, entry_at, part_of, put_entry, same_key}
-use Rattle.ir.specs.trees.Meaning.{IsSoundIn, key_before_in}
-use Rattle.ir.proofs.of_laws.Keys.{keys_ordered}
-use Rattle.ir.proofs.of_laws.Listed.{either, or_left, or_right}
-use Rattle.ir.specs.store.Slots.{gone_after, has_key, is_gone, keep_gone}
-use Rattle.ir.proofs.of_events.Nodes.{node_known}
+use Rattle.ir_types.specs.Things.{Things, IsName, IsAttr}
+use Rattle.ir_types.specs.Sound.{IsSound}
+use Rattle.ir_types.specs.Terms.{name_term}
+use Rattle.ir_types.proofs.Terms.{name_term_one}
+use Rattle.ir_tree.specs.declared.place.Part.{Part}
+use Rattle.ir_tree.specs.declared.place.Part.TheVariants.{Props, Attrs}
+use Rattle.ir_tree.specs.Tree.{Op, op, head}
+use Rattle.ir_tree.specs.Edits.{change_entry, drop_entry, entry_at, part_of, put_entry, same_key}
+use Rattle.ir_tree.specs.Meaning.{IsSoundIn, key_before_in}
+use Rattle.ir_tree_laws.proofs.Keys.{keys_ordered}
+use Rattle.ir_tree_laws.proofs.Listed.{either, or_left, or_right}
+use Rattle.ir_store.specs.Slots.{gone_after, has_key, is_gone, keep_gone}
+use Rattle.ir_event.proofs.Nodes.{node_known}
 
 or_none : (b : Bool) → (b || false) ≡ b
 or_none true = refl

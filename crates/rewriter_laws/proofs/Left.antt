@@ -3,17 +3,17 @@ use Rattle.std.proofs.Common.{◌≡◌, refl, ap, sym, ◌∙◌, subst, ℕ, s
 use Rattle.std.specs.Prelude.{slice_set}
 use Rattle.std.specs.List.{IsDistinct}
 use Rattle.std.proofs.lemmas.Map.Keys.{IsDistinct-tail}
-use Rattle.ir.specs.trees.declared.value.Value.{Value}
-use Rattle.ir.specs.trees.Tree.{HeadOf, OpOf, op, head}
-use Rattle.ir.specs.trees.Ids.{HasDistinctIds}
-use Rattle.ir.specs.trees.Uses.{same_value, operand_uses, uses_of}
-use Rattle.ir.specs.trees.Edits.{each_head, at, put_operand, with_operand}
-use Rattle.ir.proofs.of_trees.Heads.{head_ids, alike_operand}
-use Rattle.ir.specs.laws.Members.{In}
-use Rattle.ir.specs.laws.Stands.{StandOf, stand_id, stands, gather, edit_stand}
-use Rattle.ir.proofs.of_laws.Listed.{in_parts}
-use Rattle.ir.proofs.of_laws.Readings.{stands_ids, stands_uses}
-use Rattle.ir.proofs.of_laws.Heads.{each_stands}
+use Rattle.ir_tree.specs.declared.value.Value.{Value}
+use Rattle.ir_tree.specs.Tree.{HeadOf, OpOf, op, head}
+use Rattle.ir_tree.specs.Ids.{HasDistinctIds}
+use Rattle.ir_tree.specs.Uses.{same_value, operand_uses, uses_of}
+use Rattle.ir_tree.specs.Edits.{each_head, at, put_operand, with_operand}
+use Rattle.ir_tree.proofs.Heads.{head_ids, alike_operand}
+use Rattle.ir_tree_laws.specs.Members.{In}
+use Rattle.ir_tree_laws.specs.Stands.{StandOf, stand_id, stands, gather, edit_stand}
+use Rattle.ir_tree_laws.proofs.Listed.{in_parts}
+use Rattle.ir_tree_laws.proofs.Readings.{stands_ids, stands_uses}
+use Rattle.ir_tree_laws.proofs.Heads.{each_stands}
 use Rattle.rewriter_laws.specs.Replacing.{all_set}
 use Rattle.rewriter_laws.proofs.Setting.{apart, unequal}
 

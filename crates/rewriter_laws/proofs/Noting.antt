@@ -3,33 +3,33 @@ use Rattle.std.proofs.Common.{◌≡◌, refl, ap, sym, ◌∙◌, subst, ℕ, B
 use Rattle.std.proofs.lemmas.Bool.{lt-ltb}
 use Rattle.std.specs.Prelude.{option_map, is_some}
 use Rattle.std.specs.FinMap as finmap
-use Rattle.ir.specs.types.Things.{Things}
-use Rattle.ir.specs.types.Terms.{name_term, type_term, attr_term}
-use Rattle.ir.specs.types.declared.refusal.Refusal.TheVariants.{NoSuchKey}
-use Rattle.ir.specs.trees.declared.value.Value.{Value}
-use Rattle.ir.specs.trees.declared.place.Place.{Place}
-use Rattle.ir.specs.trees.declared.place.Part.{Part}
-use Rattle.ir.specs.trees.Tree.{Op, head}
-use Rattle.ir.specs.trees.Ids.{find, has_id}
-use Rattle.ir.specs.trees.Edits.{entry_at, part_of}
-use Rattle.ir.specs.trees.Meaning.{IsSoundIn, is_attr, key_before, key_before_in, meaning}
-use Rattle.ir.proofs.of_trees.Mapped.{map_find}
-use Rattle.ir.proofs.of_trees.SoundEdits.{entry_sound, operand_sound, put_sound, without_sound}
-use Rattle.ir.specs.laws.Reasons.{entry_reason, found_entry_reason, set_entry_reason, unless, with_id}
-use Rattle.ir.proofs.of_laws.Contents.{map_entry_in}
-use Rattle.ir.specs.store.Slots.{has_key}
-use Rattle.ir.specs.store.Stored.{Stored, none_gone}
-use Rattle.ir.specs.store.Calls.{after_entry, after_operand, after_put, after_shift, after_take, hold}
-use Rattle.ir.specs.events.declared.event.Event.{Event}
-use Rattle.ir.specs.events.declared.event.Event.TheVariants.{Put, Take, SetOperand, SetEntry, Shift}
-use Rattle.ir.specs.events.Modules.{module_meaning}
-use Rattle.ir.specs.events.Step.{IsAttrOrNone, IsOperandStep, Step}
-use Rattle.ir.proofs.of_events.Shown.{known_there}
-use Rattle.ir.proofs.of_events.Sounds.{found_sound, renamed_sound, shifted_sound}
-use Rattle.ir.proofs.of_events.Steps.{formed_numbers}
-use Rattle.ir.specs.events.Edits.{IsEntryStep, IsPutStep, IsShiftStep, IsTakeStep}
-use Rattle.ir.specs.events.Undoing.{undone}
-use Rattle.ir.proofs.of_events.Taking.{held_now, hold_sound}
+use Rattle.ir_types.specs.Things.{Things}
+use Rattle.ir_types.specs.Terms.{name_term, type_term, attr_term}
+use Rattle.ir_types.specs.declared.refusal.Refusal.TheVariants.{NoSuchKey}
+use Rattle.ir_tree.specs.declared.value.Value.{Value}
+use Rattle.ir_tree.specs.declared.place.Place.{Place}
+use Rattle.ir_tree.specs.declared.place.Part.{Part}
+use Rattle.ir_tree.specs.Tree.{Op, head}
+use Rattle.ir_tree.specs.Ids.{find, has_id}
+use Rattle.ir_tree.specs.Edits.{entry_at, part_of}
+use Rattle.ir_tree.specs.Meaning.{IsSoundIn, is_attr, key_before, key_before_in, meaning}
+use Rattle.ir_tree.proofs.Mapped.{map_find}
+use Rattle.ir_tree.proofs.SoundEdits.{entry_sound, operand_sound, put_sound, without_sound}
+use Rattle.ir_tree_laws.specs.Reasons.{entry_reason, found_entry_reason, set_entry_reason, unless, with_id}
+use Rattle.ir_tree_laws.proofs.Contents.{map_entry_in}
+use Rattle.ir_store.specs.Slots.{has_key}
+use Rattle.ir_store.specs.Stored.{Stored, none_gone}
+use Rattle.ir_store.specs.Calls.{after_entry, after_operand, after_put, after_shift, after_take, hold}
+use Rattle.ir_event.specs.declared.event.Event.{Event}
+use Rattle.ir_event.specs.declared.event.Event.TheVariants.{Put, Take, SetOperand, SetEntry, Shift}
+use Rattle.ir_event.specs.Modules.{module_meaning}
+use Rattle.ir_event.specs.Step.{IsAttrOrNone, IsOperandStep, Step}
+use Rattle.ir_event.proofs.Shown.{known_there}
+use Rattle.ir_event.proofs.Sounds.{found_sound, renamed_sound, shifted_sound}
+use Rattle.ir_event.proofs.Steps.{formed_numbers}
+use Rattle.ir_event.specs.Edits.{IsEntryStep, IsPutStep, IsShiftStep, IsTakeStep}
+use Rattle.ir_event.specs.Undoing.{undone}
+use Rattle.ir_event.proofs.Taking.{held_now, hold_sound}
 use Rattle.rewriter_laws.specs.Journals.{IsJournal, IsSlotted, IsStoreOf, Noted}
 use Rattle.rewriter_laws.proofs.Maps.{cut_other, hold_other, mapped_is, set_other}
 use Rattle.rewriter_laws.proofs.Keys.{part_key}

@@ -1,8 +1,8 @@
 -- Members of lists that are joined, and tests that are passed in turn.
 use Rattle.std.proofs.Common.{◌≡◌, refl, ap, ◌∙◌, Bool, true, List, [], ◌∷◌, ◌++◌, Option, None, inl, inr}
-use Rattle.ir.specs.types.declared.refusal.Refusal.{Refusal}
-use Rattle.ir.specs.laws.Members.{In}
-use Rattle.ir.specs.laws.Reasons.{unless}
+use Rattle.ir_types.specs.declared.refusal.Refusal.{Refusal}
+use Rattle.ir_tree_laws.specs.Members.{In}
+use Rattle.ir_tree_laws.specs.Reasons.{unless}
 
 pub in_middle : {X : Type 0} (us vs : List X) (u : X) → In u (us ++ u ∷ vs)
 in_middle [] vs u = inl refl

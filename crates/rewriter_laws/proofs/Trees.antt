@@ -3,19 +3,19 @@ use Rattle.std.proofs.Common.{◌≡◌, refl, ap, sym, ◌∙◌, subst, ℕ, B
 use Rattle.std.proofs.lemmas.Bool.{cases_Bool, ne_eqb}
 use Rattle.std.specs.Prelude.{option_map}
 use Rattle.std.specs.List.{list_any}
-use Rattle.ir.specs.trees.Tree.{OpOf, op, RegionsOf, no_regions, region, empty, block, no_ops, next, head, regions}
-use Rattle.ir.specs.trees.Ids.{HasDistinctIds, ids, has_id, find, regions_find, first_of}
-use Rattle.ir.specs.trees.Places.{without}
-use Rattle.ir.proofs.of_trees.Moves.{absent_parts}
-use Rattle.ir.proofs.of_trees.Returns.{absent_join}
-use Rattle.ir.specs.laws.Members.{In}
-use Rattle.ir.specs.laws.Reasons.{hold_none}
-use Rattle.ir.specs.laws.Stands.{StepOf, StandOf, stand_id, stand_in, stands}
-use Rattle.ir.proofs.of_laws.Around.{absent_find, present_stand, stand_present}
-use Rattle.ir.proofs.of_laws.Edited.{head_stays, taken_order}
-use Rattle.ir.proofs.of_laws.Members.{stand, within, member, found_stands, stand_found}
-use Rattle.ir.proofs.of_laws.Readings.{stands_find}
-use Rattle.ir.proofs.of_events.Shown.{none_found}
+use Rattle.ir_tree.specs.Tree.{OpOf, op, RegionsOf, no_regions, region, empty, block, no_ops, next, head, regions}
+use Rattle.ir_tree.specs.Ids.{HasDistinctIds, ids, has_id, find, regions_find, first_of}
+use Rattle.ir_tree.specs.Places.{without}
+use Rattle.ir_tree.proofs.Moves.{absent_parts}
+use Rattle.ir_tree.proofs.Returns.{absent_join}
+use Rattle.ir_tree_laws.specs.Members.{In}
+use Rattle.ir_tree_laws.specs.Reasons.{hold_none}
+use Rattle.ir_tree_laws.specs.Stands.{StepOf, StandOf, stand_id, stand_in, stands}
+use Rattle.ir_tree_laws.proofs.Around.{absent_find, present_stand, stand_present}
+use Rattle.ir_tree_laws.proofs.Edited.{head_stays, taken_order}
+use Rattle.ir_tree_laws.proofs.Members.{stand, within, member, found_stands, stand_found}
+use Rattle.ir_tree_laws.proofs.Readings.{stands_find}
+use Rattle.ir_event.proofs.Shown.{none_found}
 
 first_none : {X : Type 0} (a : Option X) → first_of a None ≡ a
 first_none None = refl

@@ -3,43 +3,43 @@ use Rattle.std.proofs.Common.{◌≡◌, refl, ap, sym, ◌∙◌, subst, ℕ, �
 use Rattle.std.specs.Prelude.{option_map}
 use Rattle.std.specs.List.{All, list_any}
 use Rattle.std.specs.FinMap as finmap
-use Rattle.ir.specs.types.Things.{Things}
-use Rattle.ir.specs.types.Terms.{name_term, type_term, attr_term}
-use Rattle.ir.specs.trees.declared.place.Place.{Place}
-use Rattle.ir.specs.trees.declared.place.Part.{Part}
-use Rattle.ir.specs.trees.Tree.{Head, Op, OpOf, head}
-use Rattle.ir.specs.trees.Ids.{HasDistinctIds, find, has_id, ids}
-use Rattle.ir.specs.trees.Edits.{at, put_operand}
-use Rattle.ir.specs.trees.Meaning.{key_before, meaning}
-use Rattle.ir.specs.trees.Places.{put, put_here, shifted, without}
-use Rattle.ir.specs.trees.WellFormed.{Module as Numbered}
-use Rattle.ir.proofs.of_trees.Heads.{alike_operand, head_ids}
-use Rattle.ir.proofs.of_trees.Mapped.{map_find}
-use Rattle.ir.proofs.of_trees.MappedEdits.{map_without}
-use Rattle.ir.proofs.of_trees.Meanings.{apart}
-use Rattle.ir.proofs.of_trees.SoundEdits.{without_sound}
-use Rattle.ir.specs.laws.Changes.{Takes, entry_in}
-use Rattle.ir.specs.laws.Reasons.{holds_none, leads_inside}
-use Rattle.ir.specs.laws.Restores.{MayRetract}
-use Rattle.ir.specs.laws.Stands.{dropping}
-use Rattle.ir.proofs.of_laws.Around.{present_stand}
-use Rattle.ir.proofs.of_laws.Changed.{may_retract}
-use Rattle.ir.proofs.of_laws.Contents.{from_retract}
-use Rattle.ir.proofs.of_laws.Formed.{ids_below}
-use Rattle.ir.proofs.of_laws.Shift.{is_put, shift_distinct, shift_found, shift_rest}
-use Rattle.ir.proofs.of_laws.Without.{same_head}
-use Rattle.ir.specs.store.Shifting.{CanRelink}
-use Rattle.ir.specs.store.Stored.{Stored}
-use Rattle.ir.specs.store.Calls.{after_operand, after_shift, hold}
-use Rattle.ir.specs.events.declared.event.Event.{Event}
-use Rattle.ir.specs.events.declared.event.Event.TheVariants.{Put, Take, SetOperand, SetEntry, Shift}
-use Rattle.ir.specs.events.Modules.{Module, module_meaning}
-use Rattle.ir.specs.events.Step.{Step}
-use Rattle.ir.proofs.of_events.Sounds.{found_sound}
-use Rattle.ir.proofs.of_events.Undone.{relink_undone}
-use Rattle.ir.specs.events.Undoing.{CameFrom, Keeps, undone}
-use Rattle.ir.proofs.of_events.Taking.{held_now}
-use Rattle.ir.proofs.of_events.Undoing.{led_back, undone_formed, undone_held, undone_sound}
+use Rattle.ir_types.specs.Things.{Things}
+use Rattle.ir_types.specs.Terms.{name_term, type_term, attr_term}
+use Rattle.ir_tree.specs.declared.place.Place.{Place}
+use Rattle.ir_tree.specs.declared.place.Part.{Part}
+use Rattle.ir_tree.specs.Tree.{Head, Op, OpOf, head}
+use Rattle.ir_tree.specs.Ids.{HasDistinctIds, find, has_id, ids}
+use Rattle.ir_tree.specs.Edits.{at, put_operand}
+use Rattle.ir_tree.specs.Meaning.{key_before, meaning}
+use Rattle.ir_tree.specs.Places.{put, put_here, shifted, without}
+use Rattle.ir_tree.specs.WellFormed.{Module as Numbered}
+use Rattle.ir_tree.proofs.Heads.{alike_operand, head_ids}
+use Rattle.ir_tree.proofs.Mapped.{map_find}
+use Rattle.ir_tree.proofs.MappedEdits.{map_without}
+use Rattle.ir_tree.proofs.Meanings.{apart}
+use Rattle.ir_tree.proofs.SoundEdits.{without_sound}
+use Rattle.ir_tree_laws.specs.Changes.{Takes, entry_in}
+use Rattle.ir_tree_laws.specs.Reasons.{holds_none, leads_inside}
+use Rattle.ir_tree_laws.specs.Restores.{MayRetract}
+use Rattle.ir_tree_laws.specs.Stands.{dropping}
+use Rattle.ir_tree_laws.proofs.Around.{present_stand}
+use Rattle.ir_tree_laws.proofs.Changed.{may_retract}
+use Rattle.ir_tree_laws.proofs.Contents.{from_retract}
+use Rattle.ir_tree_laws.proofs.Formed.{ids_below}
+use Rattle.ir_tree_laws.proofs.Shift.{is_put, shift_distinct, shift_found, shift_rest}
+use Rattle.ir_tree_laws.proofs.Without.{same_head}
+use Rattle.ir_store.specs.Shifting.{CanRelink}
+use Rattle.ir_store.specs.Stored.{Stored}
+use Rattle.ir_store.specs.Calls.{after_operand, after_shift, hold}
+use Rattle.ir_event.specs.declared.event.Event.{Event}
+use Rattle.ir_event.specs.declared.event.Event.TheVariants.{Put, Take, SetOperand, SetEntry, Shift}
+use Rattle.ir_event.specs.Modules.{Module, module_meaning}
+use Rattle.ir_event.specs.Step.{Step}
+use Rattle.ir_event.proofs.Sounds.{found_sound}
+use Rattle.ir_event.proofs.Undone.{relink_undone}
+use Rattle.ir_event.specs.Undoing.{CameFrom, Keeps, undone}
+use Rattle.ir_event.proofs.Taking.{held_now}
+use Rattle.ir_event.proofs.Undoing.{led_back, undone_formed, undone_held, undone_sound}
 use Rattle.rewriter_laws.specs.Journals.{IsForward, IsStoreOf}
 use Rattle.rewriter_laws.proofs.Maps.{cut_other, hold_other}
 use Rattle.rewriter_laws.proofs.Trees.{absent_too, found_op, found_present, moved_head}

@@ -1,17 +1,17 @@
 -- Journals: the events that led to what a store holds, so that each can be undone in its turn.
 use Rattle.std.specs.Prelude.{◌≡◌, ℕ, ◌≤◌, true, false, List, [], ◌∷◌, ◌++◌, length, drop, None, is_some}
 use Rattle.std.specs.FinMap as map
-use Rattle.ir.specs.types.Things.{Things}
-use Rattle.ir.specs.types.Sound.{IsSound}
-use Rattle.ir.specs.trees.Meaning.{IsSoundIn, isolated_in}
-use Rattle.ir.specs.trees.WellFormed.{IsWellFormed}
-use Rattle.ir.specs.store.Stored.{Stored, known}
-use Rattle.ir.specs.events.declared.event.Event.{Event}
-use Rattle.ir.specs.events.declared.event.Event.TheVariants.{Put, Take, SetOperand, SetEntry, Shift}
-use Rattle.ir.specs.events.Facts.{HeldIsSound}
-use Rattle.ir.specs.events.Modules.{Module, module_meaning}
-use Rattle.ir.specs.events.Step.{inverse_of}
-use Rattle.ir.specs.events.Undoing.{CameFrom, undone}
+use Rattle.ir_types.specs.Things.{Things}
+use Rattle.ir_types.specs.Sound.{IsSound}
+use Rattle.ir_tree.specs.Meaning.{IsSoundIn, isolated_in}
+use Rattle.ir_tree.specs.WellFormed.{IsWellFormed}
+use Rattle.ir_store.specs.Stored.{Stored, known}
+use Rattle.ir_event.specs.declared.event.Event.{Event}
+use Rattle.ir_event.specs.declared.event.Event.TheVariants.{Put, Take, SetOperand, SetEntry, Shift}
+use Rattle.ir_event.specs.Facts.{HeldIsSound}
+use Rattle.ir_event.specs.Modules.{Module, module_meaning}
+use Rattle.ir_event.specs.Step.{inverse_of}
+use Rattle.ir_event.specs.Undoing.{CameFrom, undone}
 
 -- an event as an edit gives it: what is put has a new id, and what is taken keeps its own
 abbrev pub IsForward : Event → Type 0

@@ -1,22 +1,22 @@
 //! Laws of journals. Each is a function that does nothing: its contract is the law.
 ghost use Rattle.std.specs.Prelude.{◌≡◌, ◌≤◌, ℕ, List, [], ◌∷◌, ◌++◌, length, drop, Bool, true, Option, Some, None};
-ghost use Rattle.ir.specs.types.Things.{Things, Grows};
-ghost use Rattle.ir.specs.types.Sound.{IsSound};
-ghost use Rattle.ir.specs.trees.declared.place.Part.{Part as Dictionary};
-ghost use Rattle.ir.specs.trees.declared.place.Place.{Place as Spot};
-ghost use Rattle.ir.specs.trees.declared.value.Value.{Value as TreeValue};
-ghost use Rattle.ir.specs.trees.Tree.{Op};
-ghost use Rattle.ir.specs.trees.Meaning.{IsSoundIn, key_before_in};
-ghost use Rattle.ir.specs.trees.WellFormed.{IsWellFormed};
-ghost use Rattle.ir.specs.laws.Reasons.{holds_none, set_entry_reason};
-ghost use Rattle.ir.specs.store.Stored.{Stored};
-ghost use Rattle.ir.specs.store.Calls.{Loaded, Releases, after_entry, after_operand, after_put, after_shift, after_take};
-ghost use Rattle.ir.specs.events.declared.event.Event.{Event as Edit};
-ghost use Rattle.ir.specs.events.declared.world.World.{World as Whole};
-ghost use Rattle.ir.specs.events.Modules.{Module, module_meaning};
-ghost use Rattle.ir.specs.events.Step.{IsOperandStep, Steps, inverse_of};
-ghost use Rattle.ir.specs.events.Edits.{IsEntryStep, IsPutStep, IsShiftStep, IsTakeStep};
-ghost use Rattle.ir.specs.events.Undoing.{CameFrom, undone};
+ghost use Rattle.ir_types.specs.Things.{Things, Grows};
+ghost use Rattle.ir_types.specs.Sound.{IsSound};
+ghost use Rattle.ir_tree.specs.declared.place.Part.{Part as Dictionary};
+ghost use Rattle.ir_tree.specs.declared.place.Place.{Place as Spot};
+ghost use Rattle.ir_tree.specs.declared.value.Value.{Value as TreeValue};
+ghost use Rattle.ir_tree.specs.Tree.{Op};
+ghost use Rattle.ir_tree.specs.Meaning.{IsSoundIn, key_before_in};
+ghost use Rattle.ir_tree.specs.WellFormed.{IsWellFormed};
+ghost use Rattle.ir_tree_laws.specs.Reasons.{holds_none, set_entry_reason};
+ghost use Rattle.ir_store.specs.Stored.{Stored};
+ghost use Rattle.ir_store.specs.Calls.{Loaded, Releases, after_entry, after_operand, after_put, after_shift, after_take};
+ghost use Rattle.ir_event.specs.declared.event.Event.{Event as Edit};
+ghost use Rattle.ir_event.specs.declared.world.World.{World as Whole};
+ghost use Rattle.ir_event.specs.Modules.{Module, module_meaning};
+ghost use Rattle.ir_event.specs.Step.{IsOperandStep, Steps, inverse_of};
+ghost use Rattle.ir_event.specs.Edits.{IsEntryStep, IsPutStep, IsShiftStep, IsTakeStep};
+ghost use Rattle.ir_event.specs.Undoing.{CameFrom, undone};
 ghost use Rattle.rewriter_laws.specs.Journals.{IsForward, IsJournal, IsSlotted, IsStoreOf, IsTidy, Noted, before, inverses, undone_all};
 
 /// What is true of a store in its context is true of that of a world, and stays so where an event is undone, where the

@@ -2,10 +2,10 @@
 use Rattle.std.proofs.Common.{◌≡◌, refl, ap, sym, ◌∙◌, subst, ℕ, zero, suc, Bool, true, false, cond, List, [], ◌∷◌, Option, Some, None, Result, Ok, Err, ◌⊎◌, inl, inr, slice_get}
 use Rattle.std.specs.Prelude.{nat_lt, slice_set}
 use Rattle.std.specs.List.{find}
-use Rattle.ir.specs.types.declared.refusal.Refusal.{Refusal}
-use Rattle.ir.specs.types.declared.refusal.Refusal.TheVariants.{Full, Memory, Stale, NoSuchKind, KindTaken, TooManyMarks}
-use Rattle.ir.specs.events.Modules.{Module}
-use Rattle.ir.proofs.of_events.Follows.{zip_self}
+use Rattle.ir_types.specs.declared.refusal.Refusal.{Refusal}
+use Rattle.ir_types.specs.declared.refusal.Refusal.TheVariants.{Full, Memory, Stale, NoSuchKind, KindTaken, TooManyMarks}
+use Rattle.ir_event.specs.Modules.{Module}
+use Rattle.ir_event.proofs.Follows.{zip_self}
 use Rattle.rewriter_machine.specs.Edits.{Insert, Make, Erase, Move, SetOperand, Replace, SetAttr, DropAttr}
 use Rattle.rewriter_machine.specs.Contents.{Edit, edit_reason}
 use Rattle.rewriter_machine.specs.Machine.{OpenMark, State, Outcome, Fault, Transformation, Call, Do, Change, Mark, Step, Commit, Rollback, Attach, Detach, Resync, Report, Print, Reply, Done, DoneAs, DoneWith, Refused, RefusedOn, Shows, Nothing, Rows, Answer, due, refused, showing, marked, due_edit, due_change, due_commit, due_rollback, due_report, fault_reply, most_marks, counted_marks, IsUnmade, Goes, accepted}

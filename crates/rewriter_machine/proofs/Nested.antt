@@ -2,7 +2,7 @@
 -- gives the module back that was held when its mark was made.
 use Rattle.std.proofs.Common.{◌≡◌, refl, ap, sym, ◌∙◌, subst, ℕ, zero, suc, true, false, List, [], ◌∷◌, ◌++◌, length, Option, Some, None, inl, inr}
 use Rattle.std.specs.Prelude.{option_and_then}
-use Rattle.ir.specs.events.Modules.{Module}
+use Rattle.ir_event.specs.Modules.{Module}
 use Rattle.rewriter_machine.specs.Machine.{OpenMark, State, Call, Do, Change, Mark, Step, Commit, Rollback, Attach, Detach, Resync, Report, Print, Reply, Done, DoneAs, DoneWith, Refused, RefusedOn, Shows, Answer, due_rollback, Goes}
 use Rattle.rewriter_machine.specs.Runs.{Answered, Runs, Gives, level, level_after, level_answered, lower, IsNested, IsMarking}
 use Rattle.rewriter_machine.proofs.Answers.{refused_leaves, accepted_gives}

@@ -1,25 +1,25 @@
 -- An edit that is one event, and against which no reason stands, is a step of what the module stands for.
 use Rattle.std.proofs.Common.{◌≡◌, refl, ap, sym, ◌∙◌, subst, ℕ, true, length, Option, Some, None, slice_get}
 use Rattle.std.specs.Prelude.{nat_lt, option_and_then, is_some}
-use Rattle.ir.specs.types.Things.{Things}
-use Rattle.ir.specs.trees.declared.value.Value.{Value}
-use Rattle.ir.specs.trees.Tree.{Op, head}
-use Rattle.ir.specs.trees.Ids.{find}
-use Rattle.ir.specs.trees.Meaning.{IsSoundIn, isolated_in}
-use Rattle.ir.specs.trees.WellFormed.{IsWellFormed, Module as Numbered}
-use Rattle.ir.specs.events.tree_laws.Changes.{operand_at}
-use Rattle.ir.specs.events.tree_laws.Reasons.{set_operand_reason}
-use Rattle.ir.proofs.of_events.of_tree_laws.Reasoned.{no_operand_reason}
-use Rattle.ir.proofs.of_events.of_tree_laws.HeadForm.{set_operand_keeps}
-use Rattle.ir.proofs.of_events.of_tree_laws.Values.{got}
+use Rattle.ir_types.specs.Things.{Things}
+use Rattle.ir_tree.specs.declared.value.Value.{Value}
+use Rattle.ir_tree.specs.Tree.{Op, head}
+use Rattle.ir_tree.specs.Ids.{find}
+use Rattle.ir_tree.specs.Meaning.{IsSoundIn, isolated_in}
+use Rattle.ir_tree.specs.WellFormed.{IsWellFormed, Module as Numbered}
+use Rattle.ir_event.specs.tree_laws.Changes.{operand_at}
+use Rattle.ir_event.specs.tree_laws.Reasons.{set_operand_reason}
+use Rattle.ir_event.proofs.of_tree_laws.Reasoned.{no_operand_reason}
+use Rattle.ir_event.proofs.of_tree_laws.HeadForm.{set_operand_keeps}
+use Rattle.ir_event.proofs.of_tree_laws.Values.{got}
 use Rattle.std.proofs.lemmas.Bool.{ltb-true}
-use Rattle.ir.specs.events.declared.event.Event.{Event}
-use Rattle.ir.specs.events.declared.event.Event.TheVariants as event
-use Rattle.ir.specs.events.Modules.{Module, module_meaning}
-use Rattle.ir.specs.events.Step as steps
-use Rattle.ir.proofs.of_events.Steps.{operand_steps}
-use Rattle.ir.proofs.of_events.Stepped.{put_steps, shift_steps}
-use Rattle.ir.proofs.of_events.Entered.{entry_steps}
+use Rattle.ir_event.specs.declared.event.Event.{Event}
+use Rattle.ir_event.specs.declared.event.Event.TheVariants as event
+use Rattle.ir_event.specs.Modules.{Module, module_meaning}
+use Rattle.ir_event.specs.Step as steps
+use Rattle.ir_event.proofs.Steps.{operand_steps}
+use Rattle.ir_event.proofs.Stepped.{put_steps, shift_steps}
+use Rattle.ir_event.proofs.Entered.{entry_steps}
 use Rattle.rewriter_machine.specs.Edits.{Insert, Make, Erase, Move, SetOperand, Replace, SetAttr, DropAttr, part_for, edited_by, reason_by}
 use Rattle.rewriter_machine.specs.Contents.{tests_in, NumberedEdit, EditIsOf, edit_meaning, edited, IsElementary}
 use Rattle.rewriter_machine.proofs.Numbers.{edited_meaning}

@@ -1,22 +1,22 @@
 -- Edits of a module as data: what each makes of a module, and why one is refused.
 use Rattle.std.specs.Prelude.{ℕ, ◌+◌, nat_le, eqb, Bool, not, ◌||◌, Option, Some, None, is_some, if◌then◌else◌}
 use Rattle.std.specs.Option.{option_eq}
-use Rattle.ir.specs.types.declared.refusal.Refusal.{Refusal}
-use Rattle.ir.specs.types.declared.refusal.Refusal.TheVariants.{NoSuchOp, NoSuchValue, HasUses, NotVisible, TypeDiffers, NoSuchIndex, IsRoot, Full, IdsExhausted, TooDeepHere}
-use Rattle.ir.specs.trees.declared.value.Value.{Value}
-use Rattle.ir.specs.trees.declared.place.Place.{Place}
-use Rattle.ir.specs.trees.declared.place.Part.{Part}
-use Rattle.ir.specs.trees.declared.place.Part.TheVariants.{Props, Attrs}
-use Rattle.ir.specs.trees.Tree.{HeadOf, OpOf, head}
-use Rattle.ir.specs.trees.Ids.{find, has_id, op_count}
-use Rattle.ir.specs.trees.Sites.{operands_visible}
-use Rattle.ir.specs.trees.Limits.{depth, every, most_ops, most_next, op_fits}
-use Rattle.ir.specs.trees.Edits.{with_operand, with_value_replaced, with_entry, entry_at}
-use Rattle.ir.specs.trees.Places.{put, without, shifted}
-use Rattle.ir.specs.trees.WellFormed.{ModuleOf}
-use Rattle.ir.specs.events.tree_laws.Values.{type_of_value, has_value}
-use Rattle.ir.specs.events.tree_laws.Reads.{around}
-use Rattle.ir.specs.events.tree_laws.Reasons.{unless, has_place, fits_around, with_id, put_reason, unused_outside, users_see, set_operand_reason, set_entry_reason, shift_reason}
+use Rattle.ir_types.specs.declared.refusal.Refusal.{Refusal}
+use Rattle.ir_types.specs.declared.refusal.Refusal.TheVariants.{NoSuchOp, NoSuchValue, HasUses, NotVisible, TypeDiffers, NoSuchIndex, IsRoot, Full, IdsExhausted, TooDeepHere}
+use Rattle.ir_tree.specs.declared.value.Value.{Value}
+use Rattle.ir_tree.specs.declared.place.Place.{Place}
+use Rattle.ir_tree.specs.declared.place.Part.{Part}
+use Rattle.ir_tree.specs.declared.place.Part.TheVariants.{Props, Attrs}
+use Rattle.ir_tree.specs.Tree.{HeadOf, OpOf, head}
+use Rattle.ir_tree.specs.Ids.{find, has_id, op_count}
+use Rattle.ir_tree.specs.Sites.{operands_visible}
+use Rattle.ir_tree.specs.Limits.{depth, every, most_ops, most_next, op_fits}
+use Rattle.ir_tree.specs.Edits.{with_operand, with_value_replaced, with_entry, entry_at}
+use Rattle.ir_tree.specs.Places.{put, without, shifted}
+use Rattle.ir_tree.specs.WellFormed.{ModuleOf}
+use Rattle.ir_event.specs.tree_laws.Values.{type_of_value, has_value}
+use Rattle.ir_event.specs.tree_laws.Reads.{around}
+use Rattle.ir_event.specs.tree_laws.Reasons.{unless, has_place, fits_around, with_id, put_reason, unused_outside, users_see, set_operand_reason, set_entry_reason, shift_reason}
 
 -- the tests of names, keys and types by which modules are edited
 pub record TestsOf (N T : Type 0) : Type 0 where

@@ -5,4 +5,4 @@ pub mod Machine
 pub mod Runs
 pub mod Spots
 pub mod Commands
-pub use Rattle.ir.specs.events as events
+pub use Rattle.ir_event.specs as events

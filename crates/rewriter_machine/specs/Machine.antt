@@ -2,12 +2,12 @@
 -- analysis may turn stale where it is told of an edit. All else is determined.
 use Rattle.std.specs.Prelude.{◌≡◌, ℕ, nat_lt, length, List, [], ◌∷◌, Bool, true, false, ◌⊎◌, Option, Some, None, Result, Ok, Err, if◌then◌else◌, filter, IsTrue}
 use Rattle.std.specs.List.{find}
-use Rattle.ir.specs.types.declared.refusal.Refusal.{Refusal}
-use Rattle.ir.specs.types.declared.refusal.Refusal.TheVariants.{Full, Memory, Stale, NoSuchKind, KindTaken, TooManyMarks, NoMark}
-use Rattle.ir.specs.trees.Tree.{head}
-use Rattle.ir.specs.trees.Meaning.{Operation}
-use Rattle.ir.specs.events.Modules.{Module}
-use Rattle.ir.specs.events.Rows.{RowTerm}
+use Rattle.ir_types.specs.declared.refusal.Refusal.{Refusal}
+use Rattle.ir_types.specs.declared.refusal.Refusal.TheVariants.{Full, Memory, Stale, NoSuchKind, KindTaken, TooManyMarks, NoMark}
+use Rattle.ir_tree.specs.Tree.{head}
+use Rattle.ir_tree.specs.Meaning.{Operation}
+use Rattle.ir_event.specs.Modules.{Module}
+use Rattle.ir_event.specs.Rows.{RowTerm}
 use Rattle.rewriter_machine.specs.Edits.{Insert, Make, Erase, Move, SetOperand, Replace, SetAttr, DropAttr}
 use Rattle.rewriter_machine.specs.Contents.{Edit, edited, edit_reason}
 use Rattle.rewriter_machine.specs.Panels.{Shown, AllAge, has_kind, is_kind, Attached, Detached, BegunAgain}

@@ -1,9 +1,9 @@
 -- The attached analyses: what may be seen of them, and what calls make of them.
 use Rattle.std.specs.Prelude.{◌≡◌, ℕ, List, [], ◌∷◌, ◌++◌, Bool, true, false, ◌==◌, Some, is_some, map, position, remove, slice_get, slice_set}
 use Rattle.std.specs.List.{AllZip}
-use Rattle.ir.specs.trees.Meaning.{Operation}
-use Rattle.ir.specs.events.Rows.{RowTerm}
-use Rattle.ir.specs.events.Listener.{Listener}
+use Rattle.ir_tree.specs.Meaning.{Operation}
+use Rattle.ir_event.specs.Rows.{RowTerm}
+use Rattle.ir_event.specs.Listener.{Listener}
 
 -- what may be seen of a listener: its kind, its analysis, and whether it has given up
 pub record Shown : Type 0 where

@@ -1,6 +1,6 @@
 -- Lists of calls, with their replies.
 use Rattle.std.specs.Prelude.{◌≡◌, ℕ, zero, suc, List, [], ◌∷◌, Bool, true, false, Option, Some, None, Ok, option_and_then}
-use Rattle.ir.specs.events.Modules.{Module}
+use Rattle.ir_event.specs.Modules.{Module}
 use Rattle.rewriter_machine.specs.Contents.{edited, edit_reason}
 use Rattle.rewriter_machine.specs.Machine.{OpenMark, State, Outcome, Call, Do, Change, Mark, Step, Commit, Rollback, Attach, Detach, Resync, Report, Print, Reply, Done, DoneAs, DoneWith, Refused, RefusedOn, Shows, Goes}
 

@@ -3,4 +3,4 @@
 
 pub mod laws;
 
-pub use ir::events;
+pub use ir_event as events;

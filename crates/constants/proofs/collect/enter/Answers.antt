@@ -1,5 +1,5 @@
 use Rattle.std.proofs.Common.{◌≡◌, subst}
-use Rattle.ir.specs.events.declared.world.World.{World}
+use Rattle.ir_event.specs.declared.world.World.{World}
 use Rattle.dialects_int.specs.Folds.{known_of}
 use Rattle.constants.specs.Trails.{IsThere}
 use Rattle.constants.specs.Facts.{value}

@@ -1,6 +1,6 @@
 use Rattle.std.proofs.Common.{◌≡◌, true, sym, subst}
-use Rattle.ir.specs.events.declared.event.Event.{Event}
-use Rattle.ir.specs.events.Modules.{module_in}
+use Rattle.ir_event.specs.declared.event.Event.{Event}
+use Rattle.ir_event.specs.Modules.{module_in}
 use Rattle.constants.specs.Tables.{known_in, look_in, FactsFollowed, LooksFollowed}
 use Rattle.constants.proofs.follow.follow.Goals as goal
 

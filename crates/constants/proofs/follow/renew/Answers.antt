@@ -1,5 +1,5 @@
 use Rattle.std.proofs.Common.{◌≡◌, true, false, refl, rules}
-use Rattle.ir.specs.events.Modules.{module_in}
+use Rattle.ir_event.specs.Modules.{module_in}
 use Rattle.constants.proofs.Updating.{trail_there, broken_looks, whole_looks}
 use Rattle.constants.proofs.Forgetful.{never}
 use Rattle.constants.proofs.Finding.{learnt_in}

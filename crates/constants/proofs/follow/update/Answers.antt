@@ -1,6 +1,6 @@
 use Rattle.std.proofs.Common.{◌≡◌, true, subst}
-use Rattle.ir.specs.events.Modules.{module_in}
-use Rattle.ir.specs.events.declared.world.World.{World}
+use Rattle.ir_event.specs.Modules.{module_in}
+use Rattle.ir_event.specs.declared.world.World.{World}
 use Rattle.constants.proofs.Settled.{settled_local, settled_looks, renewed_looks}
 use Rattle.constants.specs.Tables.{known_in, look_in, Updated, LooksRenewed}
 use Rattle.constants.proofs.follow.update.Goals as goal

@@ -1,5 +1,5 @@
 use Rattle.std.proofs.Common.{◌≡◌, ◌++◌, map}
-use Rattle.ir.specs.events.declared.row.Row.{Row}
+use Rattle.ir_event.specs.declared.row.Row.{Row}
 use Rattle.constants.specs.Tables.{cells_of}
 use Rattle.constants.proofs.report.push_lines.Given as goal
 

@@ -1,5 +1,5 @@
 use Rattle.std.proofs.Common.{sym, ◌∙◌, ap}
-use Rattle.ir.specs.events.declared.world.World.{World}
+use Rattle.ir_event.specs.declared.world.World.{World}
 use Rattle.constants.proofs.Using.{not_shown, properties_known, results_known, folds_as}
 use Rattle.constants.specs.Tables.{known_in}
 use Rattle.constants.proofs.users.folded.Goals as goal

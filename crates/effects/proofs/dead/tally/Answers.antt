@@ -1,5 +1,5 @@
 use Rattle.std.proofs.Common.{◌≡◌, true, subst, rules, ◌∙◌}
-use Rattle.ir.specs.events.Heads.{all_operands}
+use Rattle.ir_event.specs.Heads.{all_operands}
 use Rattle.effects.specs.Counts.{counts_in, kept_by, AllEntered, Raised}
 use Rattle.effects.proofs.Changes.{on_true_is, on_true_more}
 use Rattle.effects.proofs.Followed.{begun_counts}

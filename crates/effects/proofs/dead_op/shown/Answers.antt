@@ -1,6 +1,6 @@
 use Rattle.std.proofs.Common.{◌∙◌, ap, sym, option_map}
-use Rattle.ir.specs.events.store.Nodes.{node_of}
-use Rattle.ir.proofs.of_laws.Around.{absent_find}
+use Rattle.ir_event.specs.store.Nodes.{node_of}
+use Rattle.ir_tree_laws.proofs.Around.{absent_find}
 use Rattle.effects.proofs.Reached.{known_there}
 use Rattle.effects.proofs.dead_op.shown.Goals as goal
 

@@ -1,6 +1,6 @@
 use Rattle.std.proofs.Common.{◌≡◌, ◌++◌, map}
-use Rattle.ir.specs.events.declared.row.Row.{Row}
-use Rattle.ir.specs.events.declared.row.Cell.TheVariants.{Op}
+use Rattle.ir_event.specs.declared.row.Row.{Row}
+use Rattle.ir_event.specs.declared.row.Cell.TheVariants.{Op}
 use Rattle.effects.specs.Counts.{counts_in}
 use Rattle.effects.specs.Reports.{cell_of, those}
 use Rattle.effects.specs.Listed.{judged}

@@ -1,6 +1,6 @@
 use Rattle.std.proofs.Common.{refl, ap, ◌∙◌, subst, []}
 use Rattle.std.specs.Prelude.{option_map}
-use Rattle.ir.specs.events.store.Nodes.{Node}
+use Rattle.ir_event.specs.store.Nodes.{Node}
 use Rattle.effects.specs.Found.{with_head}
 use Rattle.effects.specs.Counts.{counts_in, kept_by, Entered, AllEntered}
 use Rattle.effects.proofs.Changes.{on_true_more}

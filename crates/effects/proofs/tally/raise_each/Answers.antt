@@ -1,7 +1,7 @@
 use Rattle.std.proofs.Common.{◌≡◌, ◌+◌, ◌≤◌, ◌∷◌, [], true, sym, ap, ◌∙◌, subst, rules, drop, length}
 use Rattle.std.proofs.lemmas.List.{at_drop_more}
 use Rattle.std.proofs.Math.ListN.{drop_of_length-le}
-use Rattle.ir.specs.events.Heads.{all_operands}
+use Rattle.ir_event.specs.Heads.{all_operands}
 use Rattle.effects.specs.Counts.{counts_in, Raised}
 use Rattle.effects.specs.Found.{head_at, heads_by, with_head}
 use Rattle.effects.proofs.Changes.{on_true_is}

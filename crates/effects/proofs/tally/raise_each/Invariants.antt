@@ -1,5 +1,5 @@
 use Rattle.std.proofs.Common.{drop}
-use Rattle.ir.specs.events.Heads.{all_operands}
+use Rattle.ir_event.specs.Heads.{all_operands}
 use Rattle.effects.specs.Counts.{Counts, counts_in, Raised}
 use Rattle.effects.specs.Found.{head_at, heads_by}
 use Rattle.effects.proofs.tally.raise_each.Given as goal

@@ -1,6 +1,6 @@
 use Rattle.std.proofs.Common.{◌∙◌, ap}
-use Rattle.ir.specs.types.Terms.{name_term}
-use Rattle.ir.specs.registry.Registry.{row_of}
+use Rattle.ir_types.specs.Terms.{name_term}
+use Rattle.op_registry.specs.Registry.{row_of}
 use Rattle.ir_verify.proofs.place_rules.definition.Goals as goal
 
 pub returns : goal.returns

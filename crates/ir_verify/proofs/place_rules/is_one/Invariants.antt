@@ -1,6 +1,6 @@
 use Rattle.std.proofs.Common.{◌≡◌, length, map}
-use Rattle.ir.specs.types.Terms.{name_term}
-use Rattle.ir.specs.types.WordNames.{word_bytes}
+use Rattle.ir_types.specs.Terms.{name_term}
+use Rattle.ir_types.specs.WordNames.{word_bytes}
 use Rattle.ir_verify.specs.PlaceRules.{is_one}
 use Rattle.ir_verify.proofs.place_rules.is_one.Given as goal
 

@@ -1,7 +1,7 @@
 use Rattle.std.proofs.Common.{◌∙◌, sym, ap, refl}
 use Rattle.std.specs.Prelude.{is_some}
-use Rattle.ir.specs.types.Terms.{name_term}
-use Rattle.ir.specs.registry.Registry.{row_of}
+use Rattle.ir_types.specs.Terms.{name_term}
+use Rattle.op_registry.specs.Registry.{row_of}
 use Rattle.ir_verify.proofs.Silent.{silent}
 use Rattle.ir_verify.proofs.rules.may_break.Goals as goal
 

@@ -1,5 +1,5 @@
 use Rattle.std.proofs.Common.{◌∙◌, sym, [], ◌∷◌}
-use Rattle.ir.specs.registry.Registry.{row_from}
+use Rattle.op_registry.specs.Registry.{row_from}
 use Rattle.ir_verify_base.specs.Numbers.{node_in}
 use Rattle.ir_verify_base.specs.Shapes.{breaks_1, breaks_3, breaks_5, breaks_12, breaks_13, is_well_shaped}
 use Rattle.ir_verify.specs.Sets.{packed}

@@ -1,5 +1,5 @@
 use Rattle.std.proofs.Common.{◌∙◌, [], ◌∷◌}
-use Rattle.ir.specs.registry.Registry.{row_from}
+use Rattle.op_registry.specs.Registry.{row_from}
 use Rattle.ir_verify_base.specs.Numbers.{around_in}
 use Rattle.ir_verify_base.specs.Shapes.{is_well_shaped}
 use Rattle.ir_verify_base.specs.TypeRules.{breaks_2, breaks_4, breaks_7, breaks_14, breaks_18, breaks_19, breaks_20, breaks_24}

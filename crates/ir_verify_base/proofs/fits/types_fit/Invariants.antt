@@ -1,6 +1,6 @@
 use Rattle.std.proofs.Common.{◌≡◌, length}
 use Rattle.std.specs.List.{All}
-use Rattle.ir.specs.types.Things.{IsType}
+use Rattle.ir_types.specs.Things.{IsType}
 use Rattle.ir_verify_base.specs.Numbers.{typed, known_in}
 use Rattle.ir_verify_base.specs.Fits.{first_fit}
 use Rattle.ir_verify_base.proofs.fits.types_fit.Given as goal

@@ -1,6 +1,6 @@
 use Rattle.std.proofs.Common.{◌≡◌, length, map}
 use Rattle.std.specs.List.{list_any}
-use Rattle.ir.specs.registry.Registry.{property_row}
+use Rattle.op_registry.specs.Registry.{property_row}
 use Rattle.ir_verify_base.specs.Numbers.{node_in}
 use Rattle.ir_verify_base.specs.Shapes.{is_wrong}
 use Rattle.ir_verify_base.proofs.shapes.any_wrong.Given as goal

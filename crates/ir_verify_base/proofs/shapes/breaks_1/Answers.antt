@@ -1,6 +1,6 @@
 use Rattle.std.proofs.Common.{◌∙◌, ap, length}
 use Rattle.std.specs.Prelude.{not}
-use Rattle.ir.specs.registry.Registry.{types_row, row_from}
+use Rattle.op_registry.specs.Registry.{types_row, row_from}
 use Rattle.ir_verify_base.specs.Fits.{count_fits}
 use Rattle.ir_verify_base.proofs.shapes.breaks_1.Goals as goal
 

@@ -1,8 +1,8 @@
 use Rattle.std.proofs.Common.{◌∙◌, ap, sym, length}
 use Rattle.std.proofs.lemmas.List.{length-map}
 use Rattle.std.specs.Prelude.{not}
-use Rattle.ir.specs.types.Terms.{type_term}
-use Rattle.ir.specs.registry.Registry.{types_row, row_from}
+use Rattle.ir_types.specs.Terms.{type_term}
+use Rattle.op_registry.specs.Registry.{types_row, row_from}
 use Rattle.ir_verify_base.specs.Fits.{count_fits}
 use Rattle.ir_verify_base.proofs.shapes.breaks_3.Goals as goal
 

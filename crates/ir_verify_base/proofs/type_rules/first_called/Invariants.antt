@@ -1,6 +1,6 @@
 use Rattle.std.proofs.Common.{◌≡◌, length}
 use Rattle.std.specs.List.{All}
-use Rattle.ir.specs.types.Things.{Things, IsType}
+use Rattle.ir_types.specs.Things.{Things, IsType}
 use Rattle.ir_verify_base.specs.Numbers.{typed}
 use Rattle.ir_verify_base.specs.Fits.{first_called}
 use Rattle.ir_verify_base.proofs.type_rules.first_called.Given as goal

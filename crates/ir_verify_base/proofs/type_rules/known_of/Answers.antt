@@ -2,10 +2,10 @@ use Rattle.std.proofs.Common.{◌≡◌, ◌∙◌, sym, ap, subst, Some, map, d
 use Rattle.std.proofs.lemmas.List.{drop-map}
 use Rattle.std.specs.List.{All}
 use Rattle.std.proofs.lemmas.List.Elements.{All-drop}
-use Rattle.ir.specs.types.Things.{Things, IsType}
-use Rattle.ir.specs.types.Terms.{type_term}
-use Rattle.ir.specs.registry.Registry.{row_from}
-use Rattle.ir.specs.registry.declared.definition.TypeRule.TheVariants as type
+use Rattle.ir_types.specs.Things.{Things, IsType}
+use Rattle.ir_types.specs.Terms.{type_term}
+use Rattle.op_registry.specs.Registry.{row_from}
+use Rattle.op_registry.specs.declared.definition.TypeRule.TheVariants as type
 use Rattle.ir_verify_base.specs.Fits.{first_called}
 use Rattle.ir_verify_base.specs.Numbers.{typed}
 use Rattle.ir_verify_base.proofs.type_rules.known_of.Goals as goal

@@ -1,6 +1,6 @@
 use Rattle.std.proofs.Common.{◌≡◌, length}
 use Rattle.std.specs.List.{All}
-use Rattle.ir.specs.types.Things.{IsType}
+use Rattle.ir_types.specs.Things.{IsType}
 use Rattle.ir_verify_base.specs.Numbers.{typed}
 use Rattle.ir_verify_base.specs.Types.{same_types}
 use Rattle.ir_verify_base.proofs.types.same_types.Given as goal

@@ -1,5 +1,5 @@
 use Rattle.std.proofs.Common.{◌≡◌, ◌++◌, map, drop}
-use Rattle.ir.specs.events.declared.row.Row.{Row}
+use Rattle.ir_event.specs.declared.row.Row.{Row}
 use Rattle.listeners.specs.Keys.{key_cells}
 use Rattle.listeners.proofs.report.rows_of_keys.Given as goal
 

@@ -1,6 +1,6 @@
 use Rattle.std.proofs.Common.{◌∙◌, sym, ap, Some}
 use Rattle.std.specs.Prelude.{option_map}
-use Rattle.ir.specs.events.declared.world.World.{World}
+use Rattle.ir_event.specs.declared.world.World.{World}
 use Rattle.listeners_surroundings.specs.declared.around.Around.{Around}
 use Rattle.listeners_surroundings.specs.Gathered.{gathered_in, tree_in}
 use Rattle.listeners_surroundings.proofs.Following.{fact_gathered}

@@ -1,10 +1,10 @@
 use Rattle.std.proofs.Common.{◌∙◌, sym, ap, refl, None, Some, arith}
 use Rattle.std.specs.Prelude.{option_map, option_and_then}
-use Rattle.ir.specs.types.Terms.{name_term}
-use Rattle.ir.specs.trees.Ids.{has_id}
-use Rattle.ir.specs.events.store.Nodes.{node_of}
-use Rattle.ir.specs.events.store.Stored.{known}
-use Rattle.ir.specs.events.declared.world.World.{World}
+use Rattle.ir_types.specs.Terms.{name_term}
+use Rattle.ir_tree.specs.Ids.{has_id}
+use Rattle.ir_event.specs.store.Nodes.{node_of}
+use Rattle.ir_event.specs.store.Stored.{known}
+use Rattle.ir_event.specs.declared.world.World.{World}
 use Rattle.listeners_surroundings.specs.Surroundings.{surroundings}
 use Rattle.listeners_surroundings.specs.Facts.{if_kept}
 use Rattle.listeners_surroundings.specs.Gathered.{gather_looks, gathered_in, tree_in}

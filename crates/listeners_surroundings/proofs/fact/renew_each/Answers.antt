@@ -1,8 +1,8 @@
 use Rattle.std.proofs.Common.{◌∙◌, ◌+◌, ◌-◌, ◌≤◌, sym, ap, subst, length, take, drop, arith}
 use Rattle.std.specs.Ordering.{nat_cmp}
 use Rattle.std.specs.BTreeMap.{get}
-use Rattle.ir.specs.events.Modules.{module_in}
-use Rattle.ir.specs.events.declared.world.World.{World}
+use Rattle.ir_event.specs.Modules.{module_in}
+use Rattle.ir_event.specs.declared.world.World.{World}
 use Rattle.listeners_surroundings.specs.Near.{if_any, somes}
 use Rattle.listeners_surroundings.specs.Facts.{kept_of, Renewed}
 use Rattle.listeners_surroundings.specs.Gathered.{gathers_for, tree_in}

@@ -1,7 +1,7 @@
 use Rattle.std.proofs.Common.{◌≡◌, ◌+◌, ◌≤◌, ℕ, Option, drop}
 use Rattle.std.specs.Ordering.{nat_cmp}
 use Rattle.std.specs.BTreeMap.{get}
-use Rattle.ir.specs.events.Modules.{module_in}
+use Rattle.ir_event.specs.Modules.{module_in}
 use Rattle.listeners_surroundings.specs.Near.{somes}
 use Rattle.listeners_surroundings.specs.Facts.{kept_of, Renewed}
 use Rattle.listeners_surroundings.specs.Gathered.{gathers_for, tree_in}

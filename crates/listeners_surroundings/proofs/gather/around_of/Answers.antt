@@ -1,11 +1,11 @@
 use Rattle.std.proofs.Common.{◌≡◌, ◌∙◌, sym, ap, subst, true, map, length, arith}
 use Rattle.std.specs.Prelude.{option_map, option_and_then, IfSome}
 use Rattle.std.specs.List.{All}
-use Rattle.ir.specs.events.Modules.{NodeIsOf}
+use Rattle.ir_event.specs.Modules.{NodeIsOf}
 use Rattle.listeners_surroundings.specs.declared.around.Outer.{Outer}
-use Rattle.ir.specs.laws.Values.{type_of_value, has_value}
-use Rattle.ir.specs.events.declared.world.World.{World}
-use Rattle.ir.proofs.of_events.Nodes.{known_node}
+use Rattle.ir_tree_laws.specs.Values.{type_of_value, has_value}
+use Rattle.ir_event.specs.declared.world.World.{World}
+use Rattle.ir_event.proofs.Nodes.{known_node}
 use Rattle.listeners_surroundings.specs.Gathered.{tree_in, last_name_at, from_on, outer_in, outer_at}
 use Rattle.listeners_surroundings.proofs.Reading.{present, all_gathered, looks_counted, operands_there, few_regions}
 use Rattle.listeners_surroundings.proofs.gather.around_of.Goals as goal

@@ -1,9 +1,9 @@
 use Rattle.std.proofs.Common.{◌∙◌, sym, ap, refl, arith}
 use Rattle.std.specs.Prelude.{option_map}
-use Rattle.ir.specs.trees.Ids.{has_id}
-use Rattle.ir.specs.events.store.Nodes.{node_of}
-use Rattle.ir.specs.events.store.Stored.{known}
-use Rattle.ir.specs.events.declared.world.World.{World}
+use Rattle.ir_tree.specs.Ids.{has_id}
+use Rattle.ir_event.specs.store.Nodes.{node_of}
+use Rattle.ir_event.specs.store.Stored.{known}
+use Rattle.ir_event.specs.declared.world.World.{World}
 use Rattle.listeners_surroundings.specs.Gathered.{tree_in, gather_looks}
 use Rattle.listeners_surroundings.proofs.Reading.{nothing_around}
 use Rattle.listeners_surroundings.proofs.gather.gather.Goals as goal

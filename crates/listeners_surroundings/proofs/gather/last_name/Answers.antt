@@ -1,8 +1,8 @@
 use Rattle.std.proofs.Common.{◌∙◌, sym, ap, Some}
 use Rattle.std.specs.Prelude.{option_map}
-use Rattle.ir.specs.events.store.Nodes.{node_of}
-use Rattle.ir.specs.events.store.Stored.{known}
-use Rattle.ir.specs.events.declared.world.World.{World}
+use Rattle.ir_event.specs.store.Nodes.{node_of}
+use Rattle.ir_event.specs.store.Stored.{known}
+use Rattle.ir_event.specs.declared.world.World.{World}
 use Rattle.listeners_surroundings.proofs.Reading.{no_last, last_unshown, last_shown}
 use Rattle.listeners_surroundings.proofs.gather.last_name.Goals as goal
 

@@ -1,5 +1,5 @@
 use Rattle.std.proofs.Common.{sym}
-use Rattle.ir.proofs.of_events.Typed.{value_known}
+use Rattle.ir_event.proofs.Typed.{value_known}
 use Rattle.listeners_surroundings.proofs.gather.type_of.Goals as goal
 
 pub returns-clause-known : goal.returns-clause-known

@@ -1,7 +1,7 @@
 use Rattle.std.proofs.Common.{◌+◌, sym, ◌∙◌, arith, drop, [], ◌∷◌}
 use Rattle.std.specs.Ordering.{nat_cmp}
 use Rattle.std.specs.BTreeMap.{get}
-use Rattle.ir.specs.events.Modules.{module_in}
+use Rattle.ir_event.specs.Modules.{module_in}
 use Rattle.listeners_surroundings.specs.Facts.{kept_of}
 use Rattle.listeners_surroundings.proofs.Tables.{renewed_also, renewed_as, renewed_in, renewed_none, drop_next, drop_end}
 use Rattle.listeners_surroundings.proofs.kept.renew_all.Goals as goal

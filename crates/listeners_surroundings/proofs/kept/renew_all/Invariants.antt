@@ -1,7 +1,7 @@
 use Rattle.std.proofs.Common.{◌≡◌, ℕ, Option, drop}
 use Rattle.std.specs.Ordering.{nat_cmp}
 use Rattle.std.specs.BTreeMap.{get}
-use Rattle.ir.specs.events.Modules.{module_in}
+use Rattle.ir_event.specs.Modules.{module_in}
 use Rattle.listeners_surroundings.specs.Facts.{kept_of, Renewed}
 use Rattle.listeners_surroundings.proofs.kept.renew_all.Given as goal
 

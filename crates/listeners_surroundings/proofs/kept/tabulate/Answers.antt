@@ -1,9 +1,9 @@
 use Rattle.std.proofs.Common.{◌∙◌, sym, refl}
 use Rattle.std.specs.Ordering.{nat_cmp}
 use Rattle.std.specs.BTreeMap.{get}
-use Rattle.ir.specs.types.Terms.{name_term, type_term, attr_term}
-use Rattle.ir.proofs.of_trees.Mapped.{map_ids}
-use Rattle.ir.specs.events.Modules.{module_in}
+use Rattle.ir_types.specs.Terms.{name_term, type_term, attr_term}
+use Rattle.ir_tree.proofs.Mapped.{map_ids}
+use Rattle.ir_event.specs.Modules.{module_in}
 use Rattle.listeners_surroundings.specs.Gathered.{tree_in}
 use Rattle.listeners_surroundings.proofs.Tables.{all_renewed, renewed_in}
 use Rattle.listeners_surroundings.proofs.kept.tabulate.Goals as goal

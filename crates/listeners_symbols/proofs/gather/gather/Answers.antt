@@ -1,13 +1,13 @@
 use Rattle.std.proofs.Common.{◌≡◌, ◌∙◌, ap, sym, subst, map}
 use Rattle.std.specs.Prelude.{option_map, Result, Ok, Err, IfOk}
-use Rattle.ir.specs.types.Terms.{name_term}
-use Rattle.ir.specs.types.Words.{is_table}
-use Rattle.ir.specs.types.Things.{Things}
-use Rattle.ir.specs.laws.Reads.{parent_of}
-use Rattle.ir.specs.laws.Values.{type_of_value}
-use Rattle.ir.specs.events.Modules.{NodeIsOf, module_in}
-use Rattle.ir.specs.events.declared.world.World.{World}
-use Rattle.ir.proofs.of_events.Nodes.{known_node}
+use Rattle.ir_types.specs.Terms.{name_term}
+use Rattle.ir_types.specs.Words.{is_table}
+use Rattle.ir_types.specs.Things.{Things}
+use Rattle.ir_tree_laws.specs.Reads.{parent_of}
+use Rattle.ir_tree_laws.specs.Values.{type_of_value}
+use Rattle.ir_event.specs.Modules.{NodeIsOf, module_in}
+use Rattle.ir_event.specs.declared.world.World.{World}
+use Rattle.ir_event.proofs.Nodes.{known_node}
 use Rattle.listeners_symbols.specs.Listeners.{kept_at}
 use Rattle.listeners_symbols.specs.Roles.{call_of}
 use Rattle.listeners_symbols.specs.Table.{IsReadAs, call_meaning, head_meaning, tables_for, tree_in}

@@ -2,12 +2,12 @@ use Rattle.std.proofs.Common.{◌≡◌, sym, Some, None, Option}
 use Rattle.std.specs.Prelude.{IfOk}
 use Rattle.std.specs.Option.{ok_or}
 use Rattle.std.proofs.Common.{subst, ℕ}
-use Rattle.ir.specs.types.Things.{IsType}
-use Rattle.ir.specs.laws.Values.{type_of_value}
+use Rattle.ir_types.specs.Things.{IsType}
+use Rattle.ir_tree_laws.specs.Values.{type_of_value}
 use Rattle.std.specs.declared.alloc.AllocError.{AllocError}
-use Rattle.ir.specs.events.declared.world.World.{World}
-use Rattle.ir.specs.trees.declared.value.Value.{Value}
-use Rattle.ir.proofs.of_events.Typed.{value_known}
+use Rattle.ir_event.specs.declared.world.World.{World}
+use Rattle.ir_tree.specs.declared.value.Value.{Value}
+use Rattle.ir_event.proofs.Typed.{value_known}
 use Rattle.listeners_symbols.proofs.gather.type_of.Goals as goal
 
 known_or : (w : World) (v : Value) (e : AllocError) (o : Option ℕ) → o ≡ type_of_value v w.store.module_of.tree → IfOk (ok_or o e) (λ t. IsType w.ctx t)

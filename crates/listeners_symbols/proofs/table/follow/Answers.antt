@@ -1,6 +1,6 @@
 use Rattle.std.proofs.Common.{sym, subst}
 use Rattle.std.specs.Prelude.{OnOk}
-use Rattle.ir.specs.events.Modules.{module_in}
+use Rattle.ir_event.specs.Modules.{module_in}
 use Rattle.listeners_symbols.specs.Listeners.{kept_at}
 use Rattle.listeners_symbols.specs.Table.{Followed}
 use Rattle.listeners_symbols.proofs.table.follow.Goals as goal

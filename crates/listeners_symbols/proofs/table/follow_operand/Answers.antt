@@ -1,8 +1,8 @@
 use Rattle.std.proofs.Common.{refl, ap, sym, ◌∙◌, subst, inr}
-use Rattle.ir.specs.types.Things.{Things}
-use Rattle.ir.specs.events.Modules.{NodeIsOf}
-use Rattle.ir.specs.events.declared.world.World.{World}
-use Rattle.ir.proofs.of_events.Nodes.{known_node}
+use Rattle.ir_types.specs.Things.{Things}
+use Rattle.ir_event.specs.Modules.{NodeIsOf}
+use Rattle.ir_event.specs.declared.world.World.{World}
+use Rattle.ir_event.proofs.Nodes.{known_node}
 use Rattle.listeners_symbols.specs.Roles.{callee_of}
 use Rattle.listeners_symbols.specs.Table.{head_meaning}
 use Rattle.listeners_symbols.proofs.Gathered.{shown_head}

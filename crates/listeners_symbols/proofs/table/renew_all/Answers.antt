@@ -1,5 +1,5 @@
 use Rattle.std.proofs.Common.{sym, ◌+◌, ◌∷◌, ◌∙◌, arith, drop}
-use Rattle.ir.specs.events.Modules.{module_in}
+use Rattle.ir_event.specs.Modules.{module_in}
 use Rattle.listeners_surroundings.proofs.Tables.{drop_next, drop_end}
 use Rattle.listeners_symbols.specs.Listeners.{kept_at}
 use Rattle.listeners_symbols.proofs.Added.{added_one, added_none, added_as, renewed_in}

@@ -1,7 +1,7 @@
 use Rattle.std.proofs.Common.{◌∙◌, sym, refl}
-use Rattle.ir.specs.types.Terms.{name_term, type_term, attr_term}
-use Rattle.ir.proofs.of_trees.Mapped.{map_ids}
-use Rattle.ir.specs.events.Modules.{module_in}
+use Rattle.ir_types.specs.Terms.{name_term, type_term, attr_term}
+use Rattle.ir_tree.proofs.Mapped.{map_ids}
+use Rattle.ir_event.specs.Modules.{module_in}
 use Rattle.listeners_symbols.specs.Listeners.{kept_at}
 use Rattle.listeners_symbols.specs.Table.{tree_in}
 use Rattle.listeners_symbols.proofs.Added.{all_added, added_in}

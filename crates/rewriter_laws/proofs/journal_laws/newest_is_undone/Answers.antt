@@ -1,5 +1,5 @@
-use Rattle.ir.specs.events.Modules.{module_meaning}
-use Rattle.ir.specs.events.Undoing.{undone}
+use Rattle.ir_event.specs.Modules.{module_meaning}
+use Rattle.ir_event.specs.Undoing.{undone}
 use Rattle.rewriter_laws.proofs.Ended.{before_last, journal_last}
 use Rattle.rewriter_laws.proofs.Undoings.{falls}
 use Rattle.rewriter_laws.proofs.journal_laws.newest_is_undone.Goals as goal

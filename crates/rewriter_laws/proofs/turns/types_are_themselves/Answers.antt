@@ -1,4 +1,4 @@
-use Rattle.ir.specs.types.Terms.{type_term}
+use Rattle.ir_types.specs.Terms.{type_term}
 use Rattle.rewriter_laws.proofs.AnyType.{same_itself}
 use Rattle.rewriter_laws.proofs.turns.types_are_themselves.Goals as goal
 

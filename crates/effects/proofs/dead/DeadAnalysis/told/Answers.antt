@@ -1,9 +1,9 @@
 use Rattle.std.proofs.Common.{◌≡◌, ◌||◌, true≢false, Some, refl, sym, ◌∙◌, inl, inr, subst, rules}
 use Rattle.std.specs.Prelude.{not}
 use Rattle.std.specs.Bool.{OnTrue}
-use Rattle.ir.specs.events.Modules.{module_in, shown_in}
-use Rattle.ir.specs.events.Bounds.{op_of}
-use Rattle.ir.specs.events.declared.world.World.{World}
+use Rattle.ir_event.specs.Modules.{module_in, shown_in}
+use Rattle.ir_event.specs.Bounds.{op_of}
+use Rattle.ir_event.specs.declared.world.World.{World}
 use Rattle.effects.specs.Counts.{counts_in, CountsFollowed}
 use Rattle.effects.specs.Listeners.{effects_listener}
 use Rattle.effects.proofs.Agreed.{shown_there}

@@ -1,7 +1,7 @@
 use Rattle.std.proofs.Common.{inl}
 use Rattle.std.specs.Ordering.{nat_cmp}
 use Rattle.std.specs.BTreeMap.{get}
-use Rattle.ir.specs.events.Modules.{things_in, module_in}
+use Rattle.ir_event.specs.Modules.{things_in, module_in}
 use Rattle.listeners_surroundings.proofs.Tables.{renewed_keeps}
 use Rattle.listeners_surroundings.proofs.kept.Kept.told.Goals as goal
 
