@@ -211,12 +211,12 @@ tried_whole f r start stepped here end e m c well w is =
 module _ {S : Type 0} (state : S → State) (desk : S → Held) (led : S → S → Type 0) (more : (a b c : S) → led a b → led b c → led a c) where
   pub leads_whole : (start stepped here end : S) → state stepped ≡ marked (state start) → led start stepped → Leads state desk led stepped here → led here end → (well : Bool) → Closed well (state here) (state end)
       → ((desk start).marks ≡ [] → (desk start).journal ≡ []) → desk stepped ≡ marked_desk (desk start) → ((desk here).marks ≢ [] → Dropped well (desk here) (desk end)) → Leads state desk led start end
-  leads_whole start stepped here end e l h k well is none begun dropped =
+  leads_whole start stepped here end e l h k well is unmarked begun dropped =
       let closed = is (record { marked = (state start).held; counted = false }) (state start).marks (noted (state start) (state stepped) (state here) e h.marks) in
       record {
         grows = subst (λ (d : Things). Grows (state start).things d) (sym (ap (λ (s : State). s.things) closed)) (subst (λ (s : State). Grows s.things (state here).things) e h.grows);
         marks = ap (λ (s : State). s.marks) closed;
-        noted = noted_closed (desk start) (desk stepped) (desk here) (desk end) none begun h.noted well dropped;
+        noted = noted_closed (desk start) (desk stepped) (desk here) (desk end) unmarked begun h.noted well dropped;
         told = more start here end (more start stepped here l h.told) k;
       }
 
@@ -229,6 +229,6 @@ is_not true h = refl
 is_not false h = sym h
 
 -- a list that isn't empty, where its first is known
-pub rest_at : {X : Type 0} {d : X} (xs : List X) (x : X) → 1 ≤ length xs → x ≡ get_or xs 0 d → xs ≡ x ∷ take (length xs - 1) (drop 1 xs)
-rest_at [] x l is = absurd (omega (arith, l))
-rest_at (y ∷ xs) x l is = λ i. sym is i ∷ sym (take_all (length (y ∷ xs) - 1) xs (omega arith)) i
+pub rest_at : {X : Type 0} (xs : List X) (x d : X) → 1 ≤ length xs → x ≡ get_or xs 0 d → xs ≡ x ∷ take (length xs - 1) (drop 1 xs)
+rest_at [] x d l is = absurd (omega (arith, l))
+rest_at (y ∷ xs) x d l is = λ i. sym is i ∷ sym (take_all (length (y ∷ xs) - 1) xs (omega arith)) i

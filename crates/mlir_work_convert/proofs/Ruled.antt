@@ -22,20 +22,20 @@ one_joined done r None = refl
 one_joined done r (Some rs) = ap Some (sym (append_assoc done (r ∷ []) rs))
 
 -- the first number names a rule
-pub rules_more : {d : ℕ} (all xs : List ℕ) (n : ℕ) (r : Rule) (done more : List Rule) → 1 ≤ length xs → n ≡ get_or xs 0 d → joined done (rules_of xs) ≡ rules_of all → Some r ≡ by_number n → more ≡ done ++ r ∷ []
+pub rules_more : (all xs : List ℕ) (n d : ℕ) (r : Rule) (done more : List Rule) → 1 ≤ length xs → n ≡ get_or xs 0 d → joined done (rules_of xs) ≡ rules_of all → Some r ≡ by_number n → more ≡ done ++ r ∷ []
     → joined more (rules_of (take (length xs - 1) (drop 1 xs))) ≡ rules_of all
-rules_more all xs n r done more l z h is e =
+rules_more all xs n d r done more l z h is e =
     let rest = take (length xs - 1) (drop 1 xs) in
     ap (λ rs. joined rs (rules_of rest)) e ∙ sym (one_joined done r (rules_of rest))
     ∙ ap (λ o. joined done (option_and_then (λ r. option_map (λ rs. r ∷ rs) (rules_of rest)) o)) is
-    ∙ sym (ap (λ ys. joined done (rules_of ys)) (rest_at xs n l z)) ∙ h
+    ∙ sym (ap (λ ys. joined done (rules_of ys)) (rest_at xs n d l z)) ∙ h
 
 -- it names none
-pub rules_stop : {d : ℕ} (all xs : List ℕ) (n : ℕ) (done : List Rule) → 1 ≤ length xs → n ≡ get_or xs 0 d → joined done (rules_of xs) ≡ rules_of all → None ≡ by_number n → None ≡ rules_of all
-rules_stop all xs n done l z h is =
+pub rules_stop : (all xs : List ℕ) (n d : ℕ) (done : List Rule) → 1 ≤ length xs → n ≡ get_or xs 0 d → joined done (rules_of xs) ≡ rules_of all → None ≡ by_number n → None ≡ rules_of all
+rules_stop all xs n d done l z h is =
     let rest = take (length xs - 1) (drop 1 xs) in
     ap (λ o. joined done (option_and_then (λ r. option_map (λ rs. r ∷ rs) (rules_of rest)) o)) is
-    ∙ sym (ap (λ ys. joined done (rules_of ys)) (rest_at xs n l z)) ∙ h
+    ∙ sym (ap (λ ys. joined done (rules_of ys)) (rest_at xs n d l z)) ∙ h
 
 -- none is left
 pub rules_done : (all xs : List ℕ) (done : List Rule) → length xs < 1 → joined done (rules_of xs) ≡ rules_of all → Some done ≡ rules_of all
