@@ -1,7 +1,9 @@
 """The program, and what goes into it and comes out.
 
-It is crates/mlir_work/out/mlir_work, unless the environment names another one in MLIR_WORK, with its words. There
-`reference` stands for bench/reference, which answers the same, slowly, and wants nothing built."""
+It is the one that ./run starts, of dist/ or built here (tools/sources.py), unless the environment names another one in
+MLIR_WORK, with its words. There `reference` stands for bench/reference, which answers the same, slowly, and wants
+nothing built."""
+import functools
 import os
 import pathlib
 import re
@@ -10,9 +12,10 @@ import subprocess
 import sys
 import tempfile
 
-ROOT = pathlib.Path(__file__).resolve().parent.parent
-BUILT = ROOT / "crates/mlir_work/out/mlir_work"
-HELP = ROOT / "bench/help.txt"
+import sources
+
+ROOT = sources.ROOT
+HELP = ROOT / "tools/help.txt"
 DIVIDER = b"// -----"
 MOST_SCRIPT = 16 * 1024 * 1024
 BLANKS = b" \t\r"
@@ -26,6 +29,12 @@ class Fault(Exception):
     """There is no program to run, or the files are no input; says why."""
 
 
+@functools.lru_cache(maxsize=None)
+def of_sources():
+    """The program of these sources, if there is one, or the one that these tools are installed with."""
+    return os.environ.get("MLIR_WORK_INSTALLED") or sources.program()
+
+
 def words():
     """The program's words, and what its environment has besides."""
     named = os.environ.get("MLIR_WORK")
@@ -34,9 +43,9 @@ def words():
         return [sys.executable, "-m", "reference"], paths
     if named:
         return shlex.split(named), {}
-    if not BUILT.exists():
-        raise Fault(f"{BUILT} isn't built: `./run --help` builds it, or MLIR_WORK names another program")
-    return [str(BUILT)], {}
+    if not of_sources():
+        raise Fault("there is no program of these sources: `./run --help` builds it, or MLIR_WORK names another one")
+    return [str(of_sources())], {}
 
 
 def joined(module, script):

@@ -1,10 +1,5 @@
 """Modules as plain trees: operations with ids, values by their owner's id."""
-import pathlib
-import sys
-
-sys.path.insert(0, str(pathlib.Path(__file__).resolve().parents[2] / "crates" / "ir_text_cases"))
-import printing  # noqa: E402
-import rules  # noqa: E402
+from . import printing, rules
 
 INDEX = ("index",)
 
@@ -31,7 +26,8 @@ class Op:
     def copy(self):
         """A copy; types and attributes can't be changed, so they are shared."""
         made = Op(self.name, self.operands, self.results, self.props, self.attrs)
-        made.id, made.regions = self.id, [block and Block(block.args, [op.copy() for op in block.ops]) for block in self.regions]
+        made.id, made.regions = self.id, [block and Block(block.args, [op.copy() for op in block.ops])
+                                          for block in self.regions]
         return made
 
     def blocks(self):
@@ -50,7 +46,8 @@ def walk(op):
 
 
 class Where:
-    """Where an operation stands: the operation around it, the number of the region, and how many stand in front of it."""
+    """Where an operation stands: the operation around it, the number of the region, and how many stand in front of
+    it."""
 
     def __init__(self, parent, region, index):
         self.parent, self.region, self.index = parent, region, index
@@ -155,13 +152,6 @@ class Outer(rules.Outer):
 
     def type_of(self, numbers):
         return self.module.type_of(("v" if len(numbers) == 2 else "a",) + numbers, self.ops)
-
-
-def type_of_read(value, outer):
-    return outer.type_of(value[1]) if value[0] == "outer" else TYPE_OF(value, outer)
-
-
-TYPE_OF, rules.type_of = rules.type_of, type_of_read
 
 
 def read_op(text, module):

@@ -1,12 +1,12 @@
-"""What the tests stand on: the tools, over the program where it is built, and else over bench/reference, which is called
-here for speed, in place of a process for each run."""
+"""What the tests stand on: the tools, over the program where it is built, and else over bench/reference, which is
+called here for speed, in place of a process for each run."""
 import os
 import pathlib
 import sys
 
 sys.dont_write_bytecode = True
 ROOT = pathlib.Path(__file__).resolve().parents[2]
-sys.path.insert(0, str(ROOT / "tools"))
+sys.path[:0] = [str(ROOT / "tools"), str(ROOT / "gate")]
 sys.path.append(str(ROOT / "bench"))
 
 import program  # noqa: E402
@@ -19,7 +19,7 @@ def referred(text):
     return status, out.decode()
 
 
-if "MLIR_WORK" not in os.environ and not program.BUILT.exists():
+if "MLIR_WORK" not in os.environ and not program.of_sources():
     os.environ["MLIR_WORK"] = "reference"
     program.written = referred
 
@@ -29,6 +29,6 @@ import explain  # noqa: E402, F401
 import forms  # noqa: E402, F401
 import listing  # noqa: E402, F401
 import mistakes  # noqa: E402, F401
-import refusals  # noqa: E402, F401
 import session  # noqa: E402, F401
 import targets  # noqa: E402, F401
+from compare import refusals  # noqa: E402, F401

@@ -1,5 +1,5 @@
 -- The table of known values, and how it follows an event.
-use Rattle.std.specs.Prelude.{◌≡◌, ℕ, ◌+◌, ◌≤◌, List, [], ◌∷◌, map, Option, None}
+use Rattle.std.specs.Prelude.{◌≡◌, ℕ, ◌+◌, ◌≤◌, List, [], ◌∷◌, map, Option, None, Bool, true, false}
 use Rattle.std.specs.Ordering.{nat_cmp}
 use Rattle.std.specs.BTreeMap.{BTreeMap}
 use Rattle.std.specs.BTreeMap as tree
@@ -42,6 +42,14 @@ users_of us = map (λ (u : ℕ × ℕ). u.0) us
 -- facts that agreed with operations that differ at x alone agree with these, where it is done
 abbrev pub Updated : Type 0 → (ℕ → Option Header) → ℕ → Facts → Facts → Type 0
 Updated done ops x a b = IsThere ops x → (was : ℕ → Option Header) → SameBut x was ops → AreLocal was a → done → AreLocal ops b
+
+-- whether nothing can be learnt by an event: a table that follows it takes no memory
+abbrev pub teaches_nothing : Event → Bool
+teaches_nothing (Put x place fresh) = false
+teaches_nothing (Take x place fresh) = true
+teaches_nothing (SetOperand x k old new) = false
+teaches_nothing (SetEntry x part key old new) = false
+teaches_nothing (Shift x old new) = true
 
 -- facts followed an event, where these operations are there now
 abbrev pub FactsFollowed : Type 0 → (ℕ → Option Header) → Event → Facts → Facts → Type 0

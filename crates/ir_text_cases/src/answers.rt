@@ -3,11 +3,10 @@ ghost use Rattle.ir_tree.specs.Meaning.{IsSoundIn};
 
 use crate::near::near_of;
 use crate::pieces::{bytes_of, first};
-use crate::shown::{put_cut, refused, shown, shown_op};
+use crate::shown::{refused, shown, shown_op};
 use crate::tokens::front;
 use ir_text::printer::print;
-use ir_text::reader::{parse_attr, read, read_op};
-use ir_tree::numbered::numbered;
+use ir_text::reader::{parse_attr, read_op};
 use ir_tree::sound::sound;
 use ir_tree::tree::TreeOp;
 use ir_types::context::Context;
@@ -57,23 +56,6 @@ fn text_of(alloc: Global, ctx: &Context, tree: &TreeOp) -> Result<String, Refusa
     Ok(shown(alloc, text.as_slice())?)
 }
 
-fn module_text(alloc: Global, ctx: &Context, tree: &TreeOp) -> Result<String, Refusal>
-    requires { IsSoundIn ctx.now tree.now }
-{
-    if numbered(tree, 0) {
-        text_of(alloc, ctx, tree)
-    } else {
-        Ok(format!(in alloc; "its ids are not 0, 1, ..")?)
-    }
-}
-
-fn module(alloc: Global, ctx: &mut Context, bytes: &[u8]) -> Result<String, Refusal> {
-    match read(alloc, ctx, bytes) {
-        Ok(tree) => module_text(alloc, ctx, &tree),
-        Err(error) => refused(alloc, error),
-    }
-}
-
 fn operation_text(alloc: Global, ctx: &Context, op: &TreeOp) -> Result<String, Refusal>
     requires { IsSoundIn ctx.now op.now }
 {
@@ -93,27 +75,6 @@ fn operation(
         Ok(op) => operation_text(alloc, ctx, &op),
         Err(error) => refused(alloc, error),
     }
-}
-
-fn cut(alloc: Global, ctx: &mut Context, front: &[u8], out: &mut String) -> Result<(), Refusal> {
-    let answer = read(alloc, ctx, front).map(|_| ());
-    put_cut(out, answer)?;
-    Ok(())
-}
-
-/// A text cut behind each of its bytes.
-fn cuts(alloc: Global, ctx: &mut Context, bytes: &[u8], out: &mut String) -> Result<(), Refusal> {
-    for length in 0..bytes.len() {
-        let (front, _) = bytes.split_at(length);
-        cut(alloc, ctx, front, out)?;
-    }
-    Ok(())
-}
-
-fn all_cuts(alloc: Global, ctx: &mut Context, bytes: &[u8]) -> Result<String, Refusal> {
-    let mut out = String::new(alloc);
-    cuts(alloc, ctx, bytes, &mut out)?;
-    Ok(out)
 }
 
 fn number_in(alloc: Global, ctx: &mut Context, bytes: &[u8]) -> Option<AttrId> {
@@ -146,8 +107,6 @@ fn answer_bytes(
 ) -> Result<String, Refusal> {
     match kind {
         "attr" => attribute(alloc, ctx, bytes),
-        "cut" => all_cuts(alloc, ctx, bytes),
-        "module" => module(alloc, ctx, bytes),
         "token" => front(alloc, bytes),
         _ => operation(alloc, ctx, kind, bytes),
     }
@@ -162,8 +121,8 @@ fn answer_in(alloc: Global, ctx: &mut Context, line: &str) -> Result<String, Ref
     answer_bytes(alloc, ctx, kind, bytes.as_slice())
 }
 
-/// The answer to a line: `attr`, `module`, `cut`, `token`, or the module around an operation as `9/32/-`, and a text; or
-/// `same` and two attributes.
+/// The answer to a line: `attr`, `token`, or the module around an operation as `9/32/-`, and a text; or `same` and two
+/// attributes.
 pub fn answer(alloc: Global, line: &str) -> Result<String, Refusal> {
     let mut ctx = Context::new(alloc)?;
     answer_in(alloc, &mut ctx, line)

@@ -1,4 +1,4 @@
-//! Answers the texts that standard input has, one a line, one answer a line. `cases.py` beside this folder writes
+//! Answers the texts that standard input has, one a line, one answer a line. `bench/cases/ir_text_cases.py` writes
 //! both tables.
 #![tactic(auto)]
 

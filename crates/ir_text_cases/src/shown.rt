@@ -109,15 +109,3 @@ pub fn shown_op(alloc: Global, op: &TreeOp, text: &[u8]) -> Result<String, Alloc
     put_all(&mut out, op, text)?;
     Ok(out)
 }
-
-/// Whether a text is read, or the number of its refusal, and where.
-pub fn put_cut(out: &mut String, answer: Result<(), ReadError>) -> Result<(), AllocError> {
-    match answer {
-        Ok(()) => out.push_str("read "),
-        Err(ReadError::Refused { refusal, offset }) => {
-            let number = refusal.number();
-            write!(out, "{number}@{offset} ")
-        }
-        Err(_) => out.push_str("lost "),
-    }
-}

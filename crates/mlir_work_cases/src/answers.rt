@@ -1,5 +1,5 @@
 //! The answer to a line.
-use crate::{lines, options, readers, replies, runs, traces, writers};
+use crate::{lines, readers, replies, runs, traces, writers};
 use mlir_work_cases_base::texts::first;
 use std::alloc::{AllocError, Global};
 
@@ -10,6 +10,7 @@ fn read(alloc: Global, text: &str) -> Result<String, AllocError> {
         "slice" => readers::read_slice(alloc, rest),
         "counted" => readers::read_so_many(alloc, rest),
         "busy" => readers::read_nothing(alloc),
+        "halting" => readers::read_haltingly(alloc, rest),
         _ => readers::read_slowly(alloc, rest),
     }
 }
@@ -31,7 +32,6 @@ pub fn answer(alloc: Global, line: &str) -> Result<String, AllocError> {
             lines::answer(alloc, call, rest)
         }
         "long" => lines::is_too_long(alloc, rest),
-        "words" => options::answer(alloc, rest),
         "refusal" => replies::displayed(alloc, rest),
         "read" => read(alloc, rest),
         "write" => write(alloc, rest),

@@ -6,7 +6,6 @@
 mod answers;
 mod boxes;
 mod lines;
-mod options;
 mod readers;
 mod replies;
 mod runs;

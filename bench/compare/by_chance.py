@@ -1,0 +1,328 @@
+#!/usr/bin/env python3
+"""Compares a program with the rules (bench/reference) over cases by chance, the status and every byte of each: texts
+that are cut and changed, modules of files that are, short scripts, and long ones with listings, over all commands, up
+to sixteen marks and all seven listeners. Each case comes from the seed and its own number alone, so that one is had
+again by `--first`.
+
+usage: bench/compare/by_chance.py PROGRAM [CASES [SEED]] [--first N] [--processes N] [--only KIND,..]
+                                  [--without COMMAND,..] [--table] [--files FILE..]
+
+CASES is 20000, SEED 1 and the processes are one where they aren't given. The kinds are text, file, script, long and
+conversions; the last, scripts of conversions that fit their module, is there with `--only` alone. Without files the
+cases of files are texts too. A program that hasn't a command is compared without it. With `--table` the program is the
+one built from crates/mlir_work_cases, which runs many cases in one process; else each case is one. The seed is printed,
+what a case costs, how conversions were replied to, and each difference, whole; the status is 1 where there is one."""
+import argparse
+import collections
+import concurrent.futures
+import os
+import pathlib
+import random
+import re
+import subprocess
+import sys
+import time
+
+sys.dont_write_bytecode = True
+sys.path.append(str(pathlib.Path(__file__).resolve().parents[1]))  # bench/, where the other rooms are
+
+import script_lines  # noqa: E402
+from reference import chance, script  # noqa: E402
+from reference.lines import given, told  # noqa: E402
+from reference.module import rules, text_of  # noqa: E402
+
+DIVIDER = b"// -----\n"
+# Of a hundred cases.
+MIX = {"text": 45, "file": 25, "script": 26, "long": 4}
+ALL_KINDS = (*MIX, "conversions")
+BATCH, MOST_SHOWN = 500, 3
+# Words that are put in the place of others, or between them.
+WORDS = """i32 i64 index i1 i129 si8 ui128 memref<?x4xi32> () ({ }) ({}) ({^bb0: }) ^bb1: ^bb0(%a: <{ }> { } ( ) [ ] = :
+:2 , -> - // /// # % @f @f::@g %0 %1 %arg0 %0#0 %0#1 %v1.0 %a1.0.0 "test.a" "func.func" "scf.if" "arith.addi"
+"func.return" "builtin.module" true false unit 0 1 -1 255 0xFF 128 340282366920938463463374607431768211456 1.5 "" "\\0a"
+"\\ " array<i32: 1> dense<1> #arith.overflow<nsw> sym_name value callee loc("x") f32 vector<4xi8> !t.x
+affine_map<(d0)->(d0)> ! ^ \x00 \xff \xc3\xa9 \x0b""".encode("latin-1").split()
+TOKEN = re.compile(rb'"(?:[^"\\\n]|\\.)*"|[%@#!^]?[A-Za-z0-9_$.]+|\s+|->|[^\sA-Za-z0-9]', re.S)
+CONVERTED = re.compile(r"(?m)^[0-9]+ (converted|refused 5[1-4] \w+)")
+Case = collections.namedtuple("Case", "kind text brief limit answer commands")
+
+
+# Texts that are changed.
+
+def changed_bytes(maker, text):
+    at, end = sorted(maker.randrange(len(text) + 1) for _ in range(2))
+    byte = bytes([maker.choice(b'%@#"(){}[]<>:,=-\n /\\xi0129az_.$^!\x00\xff\xc3')])
+    how = maker.randrange(6)
+    if how == 0:
+        return text[:at]
+    if how == 1:
+        return text[:at] + text[at + 1:]
+    if how == 2:
+        return text[:at] + byte + text[at:]
+    if how == 3:
+        return text[:at] + byte + text[at + 1:]
+    if how == 4:
+        return text[:at] + text[end:]
+    return text[:end] + text[at:]
+
+
+def changed_words(maker, text):
+    words = TOKEN.findall(text)
+    if not words:
+        return maker.choice(WORDS)
+    at, other = maker.randrange(len(words)), maker.randrange(len(words))
+    how = maker.randrange(6)
+    if how == 0:
+        words[at] = maker.choice(WORDS)
+    elif how == 1:
+        words.insert(at, maker.choice(WORDS) + b" ")
+    elif how == 2:
+        words[at], words[other] = words[other], words[at]
+    elif how == 3:
+        words[at] = words[other]
+    elif how == 4:
+        del words[at]
+    else:
+        number = re.fullmatch(rb"[0-9]+", words[at])
+        words[at] = b"%d" % (int(number[0]) + maker.choice([-1, 1, 2**31, 2**64]) if number else maker.randrange(300))
+    return b"".join(words)
+
+
+def changed_lines(maker, text):
+    lines = text.split(b"\n")
+    at, other = maker.randrange(len(lines)), maker.randrange(len(lines))
+    how = maker.randrange(4)
+    if how == 0:
+        del lines[at]
+    elif how == 1:
+        lines.insert(other, lines[at])
+    elif how == 2:
+        lines[at], lines[other] = lines[other], lines[at]
+    else:
+        lines.insert(other, lines.pop(at))
+    return b"\n".join(lines)
+
+
+def changed(maker, text):
+    """A text that is changed at up to four places; one of ten isn't."""
+    for _ in range(maker.choice([0, 1, 1, 1, 1, 1, 2, 2, 3, 4])):
+        text = maker.choice([changed_bytes, changed_words, changed_words, changed_lines])(maker, text)
+    return text
+
+
+# Scripts.
+
+def made(maker, most):
+    """The text of a module."""
+    taste = maker.choice(sorted(chance.TASTES))
+    return text_of(chance.module(maker, maker.randrange(2, most), maker.choice([0, 0, 0.1, 0.3]), taste)).encode()
+
+
+def asked(maker, known):
+    """A few lines that ask what a module is, or rewrite it."""
+    asks = ["print"] + [f"report {kind}" for kind in script.BOXES]
+    lines = maker.sample(asks, maker.randrange(1, 4))
+    if maker.random() < 0.3:
+        lines += [maker.choice([script_lines.rewriting(maker) if "convert" in known else "canon", "sweep"]), "print"]
+    return lines
+
+
+class Runs:
+    """A run by the rules over lines that are made as it goes."""
+
+    def __init__(self, text, known, limit, brief):
+        self.run, self.brief = script.Run(script.read(text), script.BOXES, known, limit), brief
+        self.lines, self.count, self.out, self.status = [], 0, [], 0
+
+    def obey(self, line):
+        self.lines.append(line)
+        for kept in script.lines_of(line.encode("latin-1")):
+            self.count += 1
+            reply, is_listed = self.run.reply(kept) if kept is not None else (" refused 60 BadCommand\n", True)
+            if reply.startswith(" refused"):
+                self.status = 1
+            self.out.append(f"{self.count}{reply}" + (self.run.all_rows() if is_listed and not self.brief else ""))
+
+    def case(self, kind, text, limit):
+        answer = self.status, "".join(self.out).encode()
+        return Case(kind, text + DIVIDER + "\n".join(self.lines).encode("latin-1"), self.brief, limit, answer,
+                    self.count)
+
+
+def a_text(maker, known, text, kind):
+    """A text that is read, or isn't; with a few lines behind it."""
+    text = changed(maker, text)
+    if text and not text.endswith(b"\n"):
+        text += b"\n"
+    text = text.replace(DIVIDER, b"// ----\n")
+    try:
+        runs = Runs(text, known, script.LIMIT, True)
+    except rules.Refused as fault:
+        said = f"module refused {script.printing.refusal(fault)}\n".encode()
+        return Case(kind, text + DIVIDER + b"print\n", True, script.LIMIT, (3, said), 0)
+    except rules.Open:
+        # That it is refused is said, but not by which number.
+        return Case(kind, text + DIVIDER + b"print\n", True, script.LIMIT, (3, None), 0)
+    for line in asked(maker, known):
+        runs.obey(line)
+    return runs.case(kind, text, script.LIMIT)
+
+
+def a_script(maker, known, most, ops, brief):
+    """A script of so many commands at most; one in forty opens all the marks that there may be, and one more."""
+    text, limit = made(maker, ops), maker.choice([script.LIMIT] * 4 + [1, 2]) if brief else script.LIMIT
+    runs = Runs(text, known, limit, brief)
+    scripter, deep = chance.Scripter(maker, runs.run), maker.random() < 0.025
+    for _ in range(17 if deep else 0):
+        runs.obey("begin")
+        if maker.random() < 0.5:
+            runs.obey(script_lines.line_of(maker, scripter))
+    for _ in range(maker.randrange(1, most)):
+        runs.obey(script_lines.line_of(maker, scripter))
+    for _ in range(maker.randrange(18) if deep else 0):
+        runs.obey(maker.choice(["rollback", "rollback", "commit"]))
+    for line in asked(maker, known) if brief else []:
+        runs.obey(line)
+    return runs.case("long" if not brief else "script", text, limit)
+
+
+def conversions(maker, known):
+    """A script of conversions, most of which fit their module."""
+    ops, odd = maker.randrange(2, 40), maker.choice([0, 0.1, 0.3])
+    text = text_of(chance.module(maker, ops, odd, maker.choice(["any", "any", "constants"]))).encode()
+    runs = Runs(text, known, script.LIMIT, maker.random() < 1 / 3)
+    for _ in range(maker.randrange(1, 6)):
+        for line in script_lines.conversions(maker, runs.run.module):
+            runs.obey(line)
+    return runs.case("conversions", text, script.LIMIT)
+
+
+def case_of(number, seed, known, files, only=()):
+    """The case with a number, or none where the rules leave it open."""
+    maker = random.Random(f"{seed} {number}")
+    kind = maker.choice([kind for kind in only or MIX for _ in range(1 if only else MIX[kind])])
+    try:
+        if kind == "conversions":
+            return conversions(maker, known)
+        if kind == "file" and files:
+            return a_text(maker, known, maker.choice(files), "file")
+        if kind in ("file", "text"):
+            return a_text(maker, known, made(maker, 10), "text")
+        if kind == "script":
+            return a_script(maker, known, 6, 10, True)
+        return a_script(maker, known, script_lines.MOST_COMMANDS, script_lines.MOST_OPS, False)
+    except rules.Open:
+        return None
+
+
+# The program.
+
+def alone(program, case):
+    words = ["--brief"] * case.brief + (["--limit", str(case.limit)] if case.limit != script.LIMIT else [])
+    ran = subprocess.run([program, *words], input=case.text, stdout=subprocess.PIPE, stderr=subprocess.DEVNULL)
+    return ran.returncode, ran.stdout
+
+
+def line_of_table(case):
+    how = f"limited {case.limit}" if case.limit != script.LIMIT else "brief" if case.brief else "full"
+    return f"run {','.join(script.BOXES)} {how} {given(case.text)}\n"
+
+
+def of_table(program, cases):
+    """The lines that a table's program answers, in one process."""
+    ran = subprocess.run([program], input="".join(map(line_of_table, cases)).encode(), stdout=subprocess.PIPE,
+                         check=True)
+    return ran.stdout.decode().split("\n")
+
+
+def is_answer(case, status, out):
+    if case.answer[1] is None:
+        return status == 3 and re.fullmatch(rb"module refused ([1-9]|1[0-4]) [A-Za-z0-9]+ at [0-9]+\n", out)
+    return (status, out) == case.answer
+
+
+def is_told(case, line):
+    if case.answer[1] is None:
+        return re.fullmatch(r"3 \[module refused ([1-9]|1[0-4]) [A-Za-z0-9]+ at [0-9]+\\n\]", line)
+    return line == f"{case.answer[0]} {told(case.answer[1])}"
+
+
+def show(number, case, found):
+    wanted = case.answer[1].decode() if case.answer[1] is not None else "a refusal of the module"
+    print(f"case {number} ({case.kind}{', --brief' * case.brief}, --limit "
+          f"{case.limit}):\n{case.text.decode('latin-1')}\n"
+          f"--- the program: {found}\n--- the rules: {case.answer[0]}\n{wanted}", flush=True)
+
+
+def part(words, files, numbers):
+    """Compares the cases of some numbers: how many of each kind, how many commands, how conversions were replied to,
+    what differs, and the seconds of this process."""
+    began, counts, wrong = time.process_time(), collections.Counter(), []
+    known = script.ALL - set(words.without.split(","))
+    cases = [(number, case_of(number, words.seed, known, files, words.only)) for number in numbers]
+    cases = [(number, case) for number, case in cases if case is not None]
+    lines = of_table(words.program, [case for _, case in cases]) if words.table else None
+    for place, (number, case) in enumerate(cases):
+        counts[case.kind] += 1
+        counts["refused"] += case.answer[0] == 3
+        counts["commands"] += case.commands
+        counts.update(CONVERTED.findall((case.answer[1] or b"").decode()))
+        found = lines[place] if words.table else alone(words.program, case)
+        if not (is_told(case, found) if words.table else is_answer(case, *found)):
+            wrong.append((number, case, found))
+    return counts, wrong, time.process_time() - began
+
+
+def total(counts):
+    return sum(counts[kind] for kind in ALL_KINDS)
+
+
+def told_counts(counts):
+    kinds = ", ".join(f"{counts[kind]:,} {kind}" for kind in ALL_KINDS if counts[kind])
+    replies = ", ".join(f"{times:,} {reply}" for reply, times in sorted(counts.items())
+                        if CONVERTED.match(f"1 {reply}"))
+    return (f"{total(counts):,} cases ({kinds}) with {counts['commands']:,} commands, {counts['refused']:,} modules "
+            f"refused; of conversions {replies or 'none'}")
+
+
+def options():
+    """What the command line asks."""
+    as_it_stands = argparse.RawDescriptionHelpFormatter
+    reader = argparse.ArgumentParser(description=__doc__, usage=argparse.SUPPRESS, formatter_class=as_it_stands)
+    reader.add_argument("program")
+    reader.add_argument("cases", nargs="?", type=int, default=20000)
+    reader.add_argument("seed", nargs="?", type=int, default=1)
+    reader.add_argument("--first", type=int, default=0)
+    reader.add_argument("--processes", type=int, default=1)
+    reader.add_argument("--only", default=(), type=lambda word: word.split(","))
+    reader.add_argument("--without", default="")
+    reader.add_argument("--table", action="store_true")
+    reader.add_argument("--files", nargs="*", default=[])
+    return reader.parse_args()
+
+
+def main():
+    words = options()
+    files = [text for text in (pathlib.Path(name).read_bytes() for name in sorted(words.files)) if len(text) < 8192]
+    end = words.first + words.cases
+    print(f"seed {words.seed}, cases {words.first:,} to {end - 1:,}, {len(files)} files, process {os.getpid()}",
+          flush=True)
+    counts, wrong, spent, began = collections.Counter(), 0, 0, time.time()
+    with concurrent.futures.ProcessPoolExecutor(words.processes) as pool:
+        parts = [range(at, min(at + BATCH, end)) for at in range(words.first, end, BATCH)]
+        compared = pool.map(part, [words] * len(parts), [files] * len(parts), parts)
+        for place, (more, differ, seconds) in enumerate(compared, 1):
+            counts, wrong, spent = counts + more, wrong + len(differ), spent + seconds
+            for it in differ[:MOST_SHOWN]:
+                show(*it)
+            if place % 10 == 0:
+                print(f"{total(counts):,} cases, {wrong} differences, {time.time() - began:.0f} s", flush=True)
+    here, each = os.times(), 1e3 / max(total(counts), 1)
+    print(f"{told_counts(counts)}: {wrong or 'no'} difference{'s' * (wrong > 1)}; {spent * each:.1f} ms a case by the "
+          f"rules, "
+          f"{(here.children_user + here.children_system - spent) * each:.1f} by the program and its start")
+    return 1 if wrong else 0
+
+
+if __name__ == "__main__":
+    sys.exit(main())

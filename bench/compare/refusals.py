@@ -1,0 +1,68 @@
+#!/usr/bin/env python3
+"""The inputs of docs/REFUSALS.md and docs/VERIFIER.md. Run at the top of the repository it asks mlir-opt what it says
+of each, and fails where that isn't what stands there:
+
+    bench/compare/refusals.py [MLIR_OPT]     (mlir-opt-22; where it isn't installed, it says so)
+
+bench/cases/mlir_work_cases.py makes a case of each."""
+import pathlib
+import re
+import shutil
+import subprocess
+import sys
+import tempfile
+
+RULE = re.compile(r"^### V\d+: .*?^```mlir\n(.*?)^```\n\n(.*?)\n\n", re.M | re.S)
+SAYS = re.compile(r"`(#\d+ V\d+)`; `mlir-opt` at (\d+:\d+): (`+)(.*)\3")
+NAMED = {b"n": b"\n", b"r": b"\r", b"t": b"\t"}
+
+
+def bytes_of(text):
+    r"""The bytes of an input: `\n`, `\r`, `\t` and `\xff` are bytes, and another backslash stands for itself."""
+    def byte(found):
+        word = found.group(1)
+        return NAMED.get(word) or bytes([int(word[1:], 16)])
+    return re.sub(rb"\\([nrt]|x[0-9a-f]{2})", byte, text.encode())
+
+
+def rows(page=pathlib.Path("docs/REFUSALS.md")):
+    """Each input, what the program says, and what mlir-opt says, or None where it isn't asked."""
+    for line in page.read_text().splitlines():
+        cells = [cell.strip() for cell in line.strip("|").split(" | ")]
+        if line.startswith("| `") and len(cells) in (2, 3):
+            yield bytes_of(cells[0].strip("`")), cells[1].strip("`"), cells[2].strip("`") if len(cells) == 3 else None
+
+
+def broken(page=pathlib.Path("docs/VERIFIER.md")):
+    """Each input of a rule, the row of `report diagnostics`, and what mlir-opt says."""
+    for text, says in RULE.findall(page.read_text()):
+        row, place, _, message = SAYS.fullmatch(" ".join(says.split())).groups()
+        yield text.encode(), row, f"{place}: {message.strip()}"
+
+
+def said_by(tool, text):
+    """The first error, as `line:column: message`."""
+    with tempfile.NamedTemporaryFile(suffix=".mlir") as file:
+        file.write(text)
+        file.flush()
+        ran = subprocess.run([tool, "--allow-unregistered-dialect", file.name], capture_output=True)
+        found = re.search(re.escape(file.name) + r":(\d+:\d+): error: (.*)", ran.stderr.decode(errors="replace"))
+    return (f"{found.group(1)}: {found.group(2)}" if found else "*reads it*" if ran.returncode == 0
+            else f"status {ran.returncode}")
+
+
+def main():
+    tool = shutil.which(sys.argv[1] if len(sys.argv) > 1 else "mlir-opt-22")
+    asked = [(text, want) for text, _, want in [*rows(), *broken()] if want is not None]
+    if not tool:
+        print(f"{len(asked)} inputs; mlir-opt isn't there, and was not asked")
+        return
+    wrong = [(text, want, said) for text, want in asked if (said := said_by(tool, text)) != want]
+    for text, want, said in wrong:
+        print(f"{text!r}: {said}, and not {want}")
+    print(f"{len(asked)} inputs, {len(wrong)} differ")
+    sys.exit(bool(wrong))
+
+
+if __name__ == "__main__":
+    main()

@@ -1,0 +1,104 @@
+"""Lines of scripts by chance: edits, rewrites, conversions that fit a module, marks, and lines that are no commands.
+by_chance.py makes its scripts of them."""
+from reference import script
+from reference.module import walk
+
+MOST_COMMANDS, MOST_OPS = 24, 18
+# Lines that are no commands, or say what isn't there; and blanks, comments and lines that stay what they are.
+ODD = [
+    "jump", "erase", "erase 3", "erase #3 x", "erase #4294967296", "move #1", "move #2 before", "insert end #0 0",
+    "insert end #0", "set-operand #1 0", "set-attr #1 k", 'set-attr #1 "a"b 1', 'set-attr #1 "" 1', "set-attr #1 k f32",
+    'set-attr #1 k [1, "a", {b, c = @f}]', 'drop-attr #1 "k"', "drop-attr #1 k l", "replace %v1.0",
+    "replace %v1.0 %a1.0",
+    "begin x", "commit 1", "rollback #1", 'insert before #1 %0 = "test.a"() : () -> ()', "// a comment", "",
+    " \terase\t#2  \r", 'insert end #0 0 "test.a"(%v99.0) : (i32) -> ()',
+    'insert end #0 0 "test.a"() : () -> () "test.b"() : () -> ()', 'insert end #0 0 "test.a"()', "report uses",
+    "report kind9", "report use", "print", "resync kind7", "detach kind7",
+    'insert start #0 0 %a:2 = "test.a"() ({ ^bb0(%b: i8): "test.b"(%b) : (i8) -> () }, {}) {k} : () -> (i1, i2)']
+
+RULES = [2, 25, 26, 27, 28, 29, 30]
+CAST = "builtin.unrealized_conversion_cast"
+NAMES ="""arith.maxsi arith.minui arith.subi arith.remsi arith.remui arith.addi arith.constant arith.cmpi scf.for scf.if
+func.func func.return builtin.module scf.yield test.a arith.index_cast memref.load""".split()
+INDEXED = ",".join(f"arith.{word}" for word in"""constant addi subi muli cmpi select divsi divui remsi andi ori xori
+shli shrsi shrui maxsi minui""".split())
+TARGETS = ["illegal arith.remsi,arith.remui rules 27",
+           "illegal arith.maxsi,arith.maxui,arith.minsi,arith.minui rules 25", "illegal arith.subi rules 26",
+           "illegal arith.remsi,arith.remui,arith.subi rules 2,27,26", f"dynamic {INDEXED} rules 28",
+           f"dynamic {INDEXED},scf.for,scf.if rules 28,29,30", "dynamic scf.for rules 29", "dynamic scf.if rules 30",
+           "dynamic scf.for,scf.if,arith.constant rules 30,29,28", "legal test.a rules 2"]
+# What rules replace at any type, what they replace where something is an index, and what they make.
+ALWAYS = {f"arith.{word}" for word in "remsi remui subi maxsi maxui minsi minui".split()}
+REPLACED = set(INDEXED.split(",")) | ALWAYS | {"scf.for", "scf.if"}
+MADE = {f"arith.{word}" for word in "constant cmpi select xori addi subi muli divsi divui index_cast".split()}
+MADE |= {"scf.for", "scf.if", "scf.yield"}
+
+
+def rewriting(maker):
+    """A canonicalization or a conversion."""
+    if maker.random() < 0.5:
+        return maker.choice(["canon", "canon", "canon limit 1", "canon limit 3", "canon limit 0", "canon limit"])
+    return conversion(maker)
+
+
+def conversion(maker):
+    if maker.random() < 0.7:
+        return f"convert partial {maker.choice(TARGETS)}" + maker.choice(["", "", ",2", " depth 1", " depth 2"])
+    return f"convert {maker.choice(['partial', 'partial', 'full'])} {clauses(maker, *parts(maker, NAMES))}"
+
+
+def parts(maker, names):
+    """Three lists of some names, none of which stands twice."""
+    names = maker.sample(names, maker.randrange(1, min(len(names), 12) + 1))
+    cuts = sorted(maker.randrange(len(names) + 1) for _ in range(2))
+    return names[:cuts[0]], names[cuts[0]:cuts[1]], names[cuts[1]:]
+
+
+def clauses(maker, legal, illegal, dynamic):
+    """The clauses of a target, in any order, with some rules and maybe a depth."""
+    lists = {"legal": legal, "illegal": illegal, "dynamic": dynamic}
+    words = [f"{word} {','.join(them)}" for word, them in lists.items() if them]
+    count = maker.choice([len(RULES)] * 3 + [*range(1, len(RULES) + 1)])
+    words.append("rules " + ",".join(map(str, maker.sample(RULES, count))))
+    words += [f"depth {maker.choice([1, 2, 3, 4, 16])}"] * (maker.random() < 0.6)
+    maker.shuffle(words)
+    return " ".join(words)
+
+
+def fitting(maker, module):
+    """A conversion with operations of a module in all three lists: some of those that rules replace are illegal or
+    dynamic, and of the others most are legal."""
+    names = {op.name.decode() for op in walk(module.root)} | MADE
+    names.discard(CAST)
+    illegal = set(maker.sample(sorted(ALWAYS & names), maker.randrange(len(ALWAYS & names) + 1)))
+    dynamic = set(maker.sample(sorted(REPLACED - illegal), maker.randrange(len(REPLACED - illegal) + 1)))
+    if maker.random() < 0.1:
+        illegal |= {maker.choice(sorted(names - dynamic))}
+    mode = maker.choice(["partial", "full"])
+    others = sorted(names - illegal - dynamic)
+    left_out = maker.choice([0, 0, 0, 1]) if mode == "full" else maker.randrange(len(others) + 1)
+    legal = maker.sample(others, max(0, len(others) - left_out))
+    return f"convert {mode} {clauses(maker, legal, sorted(illegal), sorted(dynamic))}"
+
+
+def conversions(maker, module):
+    """A conversion, which fits the module most of the time, and what stands around it."""
+    line = fitting(maker, module) if maker.random() < 0.8 else conversion(maker)
+    behind = maker.choice([[], ["rollback"], ["report constants"], ["report dead"]])
+    return maker.choice([[], [], ["begin"]]) + [line] + behind
+
+
+def line_of(maker, scripter):
+    """A line of a script, of which `scripter` makes edits and marks."""
+    part = maker.random()
+    if maker.random() < 0.3:
+        return rewriting(maker)
+    if part < 0.62:
+        return scripter.edit()
+    if part < 0.8:
+        return scripter.mark()
+    if part < 0.9:
+        return maker.choice(ODD)
+    if part < 0.98:
+        return maker.choice(["resync", "resync", "resync", "report"]) + " " + maker.choice(script.BOXES)
+    return f"detach {maker.choice(script.BOXES)}"

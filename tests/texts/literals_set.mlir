@@ -1,0 +1,1620 @@
+"a"() : () -> ()
+// -----
+set-attr #1 a -340282366920938463463374607431768211455 : i1
+set-attr #1 a - 340282366920938463463374607431768211455 : i1
+set-attr #1 a -170141183460469231731687303715884105728 : i1
+set-attr #1 a - 170141183460469231731687303715884105728 : i1
+set-attr #1 a -9223372036854775809 : i1
+set-attr #1 a - 9223372036854775809 : i1
+set-attr #1 a -9223372036854775808 : i1
+set-attr #1 a - 9223372036854775808 : i1
+set-attr #1 a -2 : i1
+set-attr #1 a - 2 : i1
+set-attr #1 a -1 : i1
+print
+set-attr #1 a - 1 : i1
+print
+set-attr #1 a 0x0 : i1
+print
+set-attr #1 a 1 : i1
+print
+set-attr #1 a 0x1 : i1
+print
+set-attr #1 a 2 : i1
+set-attr #1 a 0x2 : i1
+set-attr #1 a 3 : i1
+set-attr #1 a 0x3 : i1
+set-attr #1 a 9223372036854775807 : i1
+set-attr #1 a 0x7fffffffffffffff : i1
+set-attr #1 a 9223372036854775808 : i1
+set-attr #1 a 0x8000000000000000 : i1
+set-attr #1 a 18446744073709551616 : i1
+set-attr #1 a 0x10000000000000000 : i1
+set-attr #1 a 170141183460469231731687303715884105728 : i1
+set-attr #1 a 0x80000000000000000000000000000000 : i1
+set-attr #1 a 340282366920938463463374607431768211455 : i1
+set-attr #1 a 0xffffffffffffffffffffffffffffffff : i1
+set-attr #1 a -340282366920938463463374607431768211455 : si1
+set-attr #1 a - 340282366920938463463374607431768211455 : si1
+set-attr #1 a -170141183460469231731687303715884105728 : si1
+set-attr #1 a - 170141183460469231731687303715884105728 : si1
+set-attr #1 a -9223372036854775809 : si1
+set-attr #1 a - 9223372036854775809 : si1
+set-attr #1 a -9223372036854775808 : si1
+set-attr #1 a - 9223372036854775808 : si1
+set-attr #1 a -2 : si1
+set-attr #1 a - 2 : si1
+set-attr #1 a -1 : si1
+print
+set-attr #1 a - 1 : si1
+print
+set-attr #1 a 0x0 : si1
+print
+set-attr #1 a 1 : si1
+set-attr #1 a 0x1 : si1
+set-attr #1 a 2 : si1
+set-attr #1 a 0x2 : si1
+set-attr #1 a 3 : si1
+set-attr #1 a 0x3 : si1
+set-attr #1 a 9223372036854775807 : si1
+set-attr #1 a 0x7fffffffffffffff : si1
+set-attr #1 a 9223372036854775808 : si1
+set-attr #1 a 0x8000000000000000 : si1
+set-attr #1 a 18446744073709551616 : si1
+set-attr #1 a 0x10000000000000000 : si1
+set-attr #1 a 170141183460469231731687303715884105728 : si1
+set-attr #1 a 0x80000000000000000000000000000000 : si1
+set-attr #1 a 340282366920938463463374607431768211455 : si1
+set-attr #1 a 0xffffffffffffffffffffffffffffffff : si1
+set-attr #1 a -340282366920938463463374607431768211455 : ui1
+set-attr #1 a - 340282366920938463463374607431768211455 : ui1
+set-attr #1 a -170141183460469231731687303715884105728 : ui1
+set-attr #1 a - 170141183460469231731687303715884105728 : ui1
+set-attr #1 a -9223372036854775809 : ui1
+set-attr #1 a - 9223372036854775809 : ui1
+set-attr #1 a -9223372036854775808 : ui1
+set-attr #1 a - 9223372036854775808 : ui1
+set-attr #1 a -2 : ui1
+set-attr #1 a - 2 : ui1
+set-attr #1 a -1 : ui1
+set-attr #1 a - 1 : ui1
+set-attr #1 a 0x0 : ui1
+print
+set-attr #1 a 1 : ui1
+print
+set-attr #1 a 0x1 : ui1
+print
+set-attr #1 a 2 : ui1
+set-attr #1 a 0x2 : ui1
+set-attr #1 a 3 : ui1
+set-attr #1 a 0x3 : ui1
+set-attr #1 a 9223372036854775807 : ui1
+set-attr #1 a 0x7fffffffffffffff : ui1
+set-attr #1 a 9223372036854775808 : ui1
+set-attr #1 a 0x8000000000000000 : ui1
+set-attr #1 a 18446744073709551616 : ui1
+set-attr #1 a 0x10000000000000000 : ui1
+set-attr #1 a 170141183460469231731687303715884105728 : ui1
+set-attr #1 a 0x80000000000000000000000000000000 : ui1
+set-attr #1 a 340282366920938463463374607431768211455 : ui1
+set-attr #1 a 0xffffffffffffffffffffffffffffffff : ui1
+set-attr #1 a -340282366920938463463374607431768211455 : i2
+set-attr #1 a - 340282366920938463463374607431768211455 : i2
+set-attr #1 a -170141183460469231731687303715884105728 : i2
+set-attr #1 a - 170141183460469231731687303715884105728 : i2
+set-attr #1 a -9223372036854775809 : i2
+set-attr #1 a - 9223372036854775809 : i2
+set-attr #1 a -9223372036854775808 : i2
+set-attr #1 a - 9223372036854775808 : i2
+set-attr #1 a -4 : i2
+set-attr #1 a - 4 : i2
+set-attr #1 a -3 : i2
+set-attr #1 a - 3 : i2
+set-attr #1 a -2 : i2
+print
+set-attr #1 a - 2 : i2
+print
+set-attr #1 a -1 : i2
+print
+set-attr #1 a - 1 : i2
+print
+set-attr #1 a 0x0 : i2
+print
+set-attr #1 a 1 : i2
+print
+set-attr #1 a 0x1 : i2
+print
+set-attr #1 a 2 : i2
+print
+set-attr #1 a 0x2 : i2
+print
+set-attr #1 a 3 : i2
+print
+set-attr #1 a 0x3 : i2
+print
+set-attr #1 a 4 : i2
+set-attr #1 a 0x4 : i2
+set-attr #1 a 5 : i2
+set-attr #1 a 0x5 : i2
+set-attr #1 a 9223372036854775807 : i2
+set-attr #1 a 0x7fffffffffffffff : i2
+set-attr #1 a 9223372036854775808 : i2
+set-attr #1 a 0x8000000000000000 : i2
+set-attr #1 a 18446744073709551616 : i2
+set-attr #1 a 0x10000000000000000 : i2
+set-attr #1 a 170141183460469231731687303715884105728 : i2
+set-attr #1 a 0x80000000000000000000000000000000 : i2
+set-attr #1 a 340282366920938463463374607431768211455 : i2
+set-attr #1 a 0xffffffffffffffffffffffffffffffff : i2
+set-attr #1 a -340282366920938463463374607431768211455 : si2
+set-attr #1 a - 340282366920938463463374607431768211455 : si2
+set-attr #1 a -170141183460469231731687303715884105728 : si2
+set-attr #1 a - 170141183460469231731687303715884105728 : si2
+set-attr #1 a -9223372036854775809 : si2
+set-attr #1 a - 9223372036854775809 : si2
+set-attr #1 a -9223372036854775808 : si2
+set-attr #1 a - 9223372036854775808 : si2
+set-attr #1 a -4 : si2
+set-attr #1 a - 4 : si2
+set-attr #1 a -3 : si2
+set-attr #1 a - 3 : si2
+set-attr #1 a -2 : si2
+print
+set-attr #1 a - 2 : si2
+print
+set-attr #1 a -1 : si2
+print
+set-attr #1 a - 1 : si2
+print
+set-attr #1 a 0x0 : si2
+print
+set-attr #1 a 1 : si2
+print
+set-attr #1 a 0x1 : si2
+print
+set-attr #1 a 2 : si2
+set-attr #1 a 0x2 : si2
+set-attr #1 a 3 : si2
+set-attr #1 a 0x3 : si2
+set-attr #1 a 4 : si2
+set-attr #1 a 0x4 : si2
+set-attr #1 a 5 : si2
+set-attr #1 a 0x5 : si2
+set-attr #1 a 9223372036854775807 : si2
+set-attr #1 a 0x7fffffffffffffff : si2
+set-attr #1 a 9223372036854775808 : si2
+set-attr #1 a 0x8000000000000000 : si2
+set-attr #1 a 18446744073709551616 : si2
+set-attr #1 a 0x10000000000000000 : si2
+set-attr #1 a 170141183460469231731687303715884105728 : si2
+set-attr #1 a 0x80000000000000000000000000000000 : si2
+set-attr #1 a 340282366920938463463374607431768211455 : si2
+set-attr #1 a 0xffffffffffffffffffffffffffffffff : si2
+set-attr #1 a -340282366920938463463374607431768211455 : ui2
+set-attr #1 a - 340282366920938463463374607431768211455 : ui2
+set-attr #1 a -170141183460469231731687303715884105728 : ui2
+set-attr #1 a - 170141183460469231731687303715884105728 : ui2
+set-attr #1 a -9223372036854775809 : ui2
+set-attr #1 a - 9223372036854775809 : ui2
+set-attr #1 a -9223372036854775808 : ui2
+set-attr #1 a - 9223372036854775808 : ui2
+set-attr #1 a -4 : ui2
+set-attr #1 a - 4 : ui2
+set-attr #1 a -3 : ui2
+set-attr #1 a - 3 : ui2
+set-attr #1 a -2 : ui2
+set-attr #1 a - 2 : ui2
+set-attr #1 a -1 : ui2
+set-attr #1 a - 1 : ui2
+set-attr #1 a 0x0 : ui2
+print
+set-attr #1 a 1 : ui2
+print
+set-attr #1 a 0x1 : ui2
+print
+set-attr #1 a 2 : ui2
+print
+set-attr #1 a 0x2 : ui2
+print
+set-attr #1 a 3 : ui2
+print
+set-attr #1 a 0x3 : ui2
+print
+set-attr #1 a 4 : ui2
+set-attr #1 a 0x4 : ui2
+set-attr #1 a 5 : ui2
+set-attr #1 a 0x5 : ui2
+set-attr #1 a 9223372036854775807 : ui2
+set-attr #1 a 0x7fffffffffffffff : ui2
+set-attr #1 a 9223372036854775808 : ui2
+set-attr #1 a 0x8000000000000000 : ui2
+set-attr #1 a 18446744073709551616 : ui2
+set-attr #1 a 0x10000000000000000 : ui2
+set-attr #1 a 170141183460469231731687303715884105728 : ui2
+set-attr #1 a 0x80000000000000000000000000000000 : ui2
+set-attr #1 a 340282366920938463463374607431768211455 : ui2
+set-attr #1 a 0xffffffffffffffffffffffffffffffff : ui2
+set-attr #1 a -340282366920938463463374607431768211455 : i8
+set-attr #1 a - 340282366920938463463374607431768211455 : i8
+set-attr #1 a -170141183460469231731687303715884105728 : i8
+set-attr #1 a - 170141183460469231731687303715884105728 : i8
+set-attr #1 a -9223372036854775809 : i8
+set-attr #1 a - 9223372036854775809 : i8
+set-attr #1 a -9223372036854775808 : i8
+set-attr #1 a - 9223372036854775808 : i8
+set-attr #1 a -256 : i8
+set-attr #1 a - 256 : i8
+set-attr #1 a -129 : i8
+set-attr #1 a - 129 : i8
+set-attr #1 a -128 : i8
+print
+set-attr #1 a - 128 : i8
+print
+set-attr #1 a -1 : i8
+print
+set-attr #1 a - 1 : i8
+print
+set-attr #1 a 0x0 : i8
+print
+set-attr #1 a 1 : i8
+print
+set-attr #1 a 0x1 : i8
+print
+set-attr #1 a 127 : i8
+print
+set-attr #1 a 0x7f : i8
+print
+set-attr #1 a 128 : i8
+print
+set-attr #1 a 0x80 : i8
+print
+set-attr #1 a 255 : i8
+print
+set-attr #1 a 0xff : i8
+print
+set-attr #1 a 0x100 : i8
+set-attr #1 a 257 : i8
+set-attr #1 a 0x101 : i8
+set-attr #1 a 9223372036854775807 : i8
+set-attr #1 a 0x7fffffffffffffff : i8
+set-attr #1 a 9223372036854775808 : i8
+set-attr #1 a 0x8000000000000000 : i8
+set-attr #1 a 18446744073709551616 : i8
+set-attr #1 a 0x10000000000000000 : i8
+set-attr #1 a 170141183460469231731687303715884105728 : i8
+set-attr #1 a 0x80000000000000000000000000000000 : i8
+set-attr #1 a 340282366920938463463374607431768211455 : i8
+set-attr #1 a 0xffffffffffffffffffffffffffffffff : i8
+set-attr #1 a -340282366920938463463374607431768211455 : si8
+set-attr #1 a - 340282366920938463463374607431768211455 : si8
+set-attr #1 a -170141183460469231731687303715884105728 : si8
+set-attr #1 a - 170141183460469231731687303715884105728 : si8
+set-attr #1 a -9223372036854775809 : si8
+set-attr #1 a - 9223372036854775809 : si8
+set-attr #1 a -9223372036854775808 : si8
+set-attr #1 a - 9223372036854775808 : si8
+set-attr #1 a -256 : si8
+set-attr #1 a - 256 : si8
+set-attr #1 a -129 : si8
+set-attr #1 a - 129 : si8
+set-attr #1 a -128 : si8
+print
+set-attr #1 a - 128 : si8
+print
+set-attr #1 a -1 : si8
+print
+set-attr #1 a - 1 : si8
+print
+set-attr #1 a 0x0 : si8
+print
+set-attr #1 a 1 : si8
+print
+set-attr #1 a 0x1 : si8
+print
+set-attr #1 a 127 : si8
+print
+set-attr #1 a 0x7f : si8
+print
+set-attr #1 a 128 : si8
+set-attr #1 a 0x80 : si8
+set-attr #1 a 255 : si8
+set-attr #1 a 0xff : si8
+set-attr #1 a 256 : si8
+set-attr #1 a 0x100 : si8
+set-attr #1 a 257 : si8
+set-attr #1 a 0x101 : si8
+set-attr #1 a 9223372036854775807 : si8
+set-attr #1 a 0x7fffffffffffffff : si8
+set-attr #1 a 9223372036854775808 : si8
+set-attr #1 a 0x8000000000000000 : si8
+set-attr #1 a 18446744073709551616 : si8
+set-attr #1 a 0x10000000000000000 : si8
+set-attr #1 a 170141183460469231731687303715884105728 : si8
+set-attr #1 a 0x80000000000000000000000000000000 : si8
+set-attr #1 a 340282366920938463463374607431768211455 : si8
+set-attr #1 a 0xffffffffffffffffffffffffffffffff : si8
+set-attr #1 a -340282366920938463463374607431768211455 : ui8
+set-attr #1 a - 340282366920938463463374607431768211455 : ui8
+set-attr #1 a -170141183460469231731687303715884105728 : ui8
+set-attr #1 a - 170141183460469231731687303715884105728 : ui8
+set-attr #1 a -9223372036854775809 : ui8
+set-attr #1 a - 9223372036854775809 : ui8
+set-attr #1 a -9223372036854775808 : ui8
+set-attr #1 a - 9223372036854775808 : ui8
+set-attr #1 a -256 : ui8
+set-attr #1 a - 256 : ui8
+set-attr #1 a -129 : ui8
+set-attr #1 a - 129 : ui8
+set-attr #1 a -128 : ui8
+set-attr #1 a - 128 : ui8
+set-attr #1 a -1 : ui8
+set-attr #1 a - 1 : ui8
+set-attr #1 a 0x0 : ui8
+print
+set-attr #1 a 1 : ui8
+print
+set-attr #1 a 0x1 : ui8
+print
+set-attr #1 a 127 : ui8
+print
+set-attr #1 a 0x7f : ui8
+print
+set-attr #1 a 128 : ui8
+print
+set-attr #1 a 0x80 : ui8
+print
+set-attr #1 a 255 : ui8
+print
+set-attr #1 a 0xff : ui8
+print
+set-attr #1 a 256 : ui8
+set-attr #1 a 0x100 : ui8
+set-attr #1 a 257 : ui8
+set-attr #1 a 0x101 : ui8
+set-attr #1 a 9223372036854775807 : ui8
+set-attr #1 a 0x7fffffffffffffff : ui8
+set-attr #1 a 9223372036854775808 : ui8
+set-attr #1 a 0x8000000000000000 : ui8
+set-attr #1 a 18446744073709551616 : ui8
+set-attr #1 a 0x10000000000000000 : ui8
+set-attr #1 a 170141183460469231731687303715884105728 : ui8
+set-attr #1 a 0x80000000000000000000000000000000 : ui8
+set-attr #1 a 340282366920938463463374607431768211455 : ui8
+set-attr #1 a 0xffffffffffffffffffffffffffffffff : ui8
+set-attr #1 a -340282366920938463463374607431768211455 : i16
+set-attr #1 a - 340282366920938463463374607431768211455 : i16
+set-attr #1 a -170141183460469231731687303715884105728 : i16
+set-attr #1 a - 170141183460469231731687303715884105728 : i16
+set-attr #1 a -9223372036854775809 : i16
+set-attr #1 a - 9223372036854775809 : i16
+set-attr #1 a -9223372036854775808 : i16
+set-attr #1 a - 9223372036854775808 : i16
+set-attr #1 a -65536 : i16
+set-attr #1 a - 65536 : i16
+set-attr #1 a -32769 : i16
+set-attr #1 a - 32769 : i16
+set-attr #1 a -32768 : i16
+print
+set-attr #1 a - 32768 : i16
+print
+set-attr #1 a -1 : i16
+print
+set-attr #1 a - 1 : i16
+print
+set-attr #1 a 0x0 : i16
+print
+set-attr #1 a 1 : i16
+print
+set-attr #1 a 0x1 : i16
+print
+set-attr #1 a 32767 : i16
+print
+set-attr #1 a 0x7fff : i16
+print
+set-attr #1 a 32768 : i16
+print
+set-attr #1 a 0x8000 : i16
+print
+set-attr #1 a 65535 : i16
+print
+set-attr #1 a 0xffff : i16
+print
+set-attr #1 a 65536 : i16
+set-attr #1 a 0x10000 : i16
+set-attr #1 a 65537 : i16
+set-attr #1 a 0x10001 : i16
+set-attr #1 a 9223372036854775807 : i16
+set-attr #1 a 0x7fffffffffffffff : i16
+set-attr #1 a 9223372036854775808 : i16
+set-attr #1 a 0x8000000000000000 : i16
+set-attr #1 a 18446744073709551616 : i16
+set-attr #1 a 0x10000000000000000 : i16
+set-attr #1 a 170141183460469231731687303715884105728 : i16
+set-attr #1 a 0x80000000000000000000000000000000 : i16
+set-attr #1 a 340282366920938463463374607431768211455 : i16
+set-attr #1 a 0xffffffffffffffffffffffffffffffff : i16
+set-attr #1 a -340282366920938463463374607431768211455 : si16
+set-attr #1 a - 340282366920938463463374607431768211455 : si16
+set-attr #1 a -170141183460469231731687303715884105728 : si16
+set-attr #1 a - 170141183460469231731687303715884105728 : si16
+set-attr #1 a -9223372036854775809 : si16
+set-attr #1 a - 9223372036854775809 : si16
+set-attr #1 a -9223372036854775808 : si16
+set-attr #1 a - 9223372036854775808 : si16
+set-attr #1 a -65536 : si16
+set-attr #1 a - 65536 : si16
+set-attr #1 a -32769 : si16
+set-attr #1 a - 32769 : si16
+set-attr #1 a -32768 : si16
+print
+set-attr #1 a - 32768 : si16
+print
+set-attr #1 a -1 : si16
+print
+set-attr #1 a - 1 : si16
+print
+set-attr #1 a 0x0 : si16
+print
+set-attr #1 a 1 : si16
+print
+set-attr #1 a 0x1 : si16
+print
+set-attr #1 a 32767 : si16
+print
+set-attr #1 a 0x7fff : si16
+print
+set-attr #1 a 32768 : si16
+set-attr #1 a 0x8000 : si16
+set-attr #1 a 65535 : si16
+set-attr #1 a 0xffff : si16
+set-attr #1 a 65536 : si16
+set-attr #1 a 0x10000 : si16
+set-attr #1 a 65537 : si16
+set-attr #1 a 0x10001 : si16
+set-attr #1 a 9223372036854775807 : si16
+set-attr #1 a 0x7fffffffffffffff : si16
+set-attr #1 a 9223372036854775808 : si16
+set-attr #1 a 0x8000000000000000 : si16
+set-attr #1 a 18446744073709551616 : si16
+set-attr #1 a 0x10000000000000000 : si16
+set-attr #1 a 170141183460469231731687303715884105728 : si16
+set-attr #1 a 0x80000000000000000000000000000000 : si16
+set-attr #1 a 340282366920938463463374607431768211455 : si16
+set-attr #1 a 0xffffffffffffffffffffffffffffffff : si16
+set-attr #1 a -340282366920938463463374607431768211455 : ui16
+set-attr #1 a - 340282366920938463463374607431768211455 : ui16
+set-attr #1 a -170141183460469231731687303715884105728 : ui16
+set-attr #1 a - 170141183460469231731687303715884105728 : ui16
+set-attr #1 a -9223372036854775809 : ui16
+set-attr #1 a - 9223372036854775809 : ui16
+set-attr #1 a -9223372036854775808 : ui16
+set-attr #1 a - 9223372036854775808 : ui16
+set-attr #1 a -65536 : ui16
+set-attr #1 a - 65536 : ui16
+set-attr #1 a -32769 : ui16
+set-attr #1 a - 32769 : ui16
+set-attr #1 a -32768 : ui16
+set-attr #1 a - 32768 : ui16
+set-attr #1 a -1 : ui16
+set-attr #1 a - 1 : ui16
+set-attr #1 a 0x0 : ui16
+print
+set-attr #1 a 1 : ui16
+print
+set-attr #1 a 0x1 : ui16
+print
+set-attr #1 a 32767 : ui16
+print
+set-attr #1 a 0x7fff : ui16
+print
+set-attr #1 a 32768 : ui16
+print
+set-attr #1 a 0x8000 : ui16
+print
+set-attr #1 a 65535 : ui16
+print
+set-attr #1 a 0xffff : ui16
+print
+set-attr #1 a 65536 : ui16
+set-attr #1 a 0x10000 : ui16
+set-attr #1 a 65537 : ui16
+set-attr #1 a 0x10001 : ui16
+set-attr #1 a 9223372036854775807 : ui16
+set-attr #1 a 0x7fffffffffffffff : ui16
+set-attr #1 a 9223372036854775808 : ui16
+set-attr #1 a 0x8000000000000000 : ui16
+set-attr #1 a 18446744073709551616 : ui16
+set-attr #1 a 0x10000000000000000 : ui16
+set-attr #1 a 170141183460469231731687303715884105728 : ui16
+set-attr #1 a 0x80000000000000000000000000000000 : ui16
+set-attr #1 a 340282366920938463463374607431768211455 : ui16
+set-attr #1 a 0xffffffffffffffffffffffffffffffff : ui16
+set-attr #1 a -340282366920938463463374607431768211455 : i32
+set-attr #1 a - 340282366920938463463374607431768211455 : i32
+set-attr #1 a -170141183460469231731687303715884105728 : i32
+set-attr #1 a - 170141183460469231731687303715884105728 : i32
+set-attr #1 a -9223372036854775809 : i32
+set-attr #1 a - 9223372036854775809 : i32
+set-attr #1 a -9223372036854775808 : i32
+set-attr #1 a - 9223372036854775808 : i32
+set-attr #1 a -4294967296 : i32
+set-attr #1 a - 4294967296 : i32
+set-attr #1 a -2147483649 : i32
+set-attr #1 a - 2147483649 : i32
+set-attr #1 a -2147483648 : i32
+print
+set-attr #1 a - 2147483648 : i32
+print
+set-attr #1 a -1 : i32
+print
+set-attr #1 a - 1 : i32
+print
+set-attr #1 a 0x0 : i32
+print
+set-attr #1 a 1 : i32
+print
+set-attr #1 a 0x1 : i32
+print
+set-attr #1 a 2147483647 : i32
+print
+set-attr #1 a 0x7fffffff : i32
+print
+set-attr #1 a 2147483648 : i32
+print
+set-attr #1 a 0x80000000 : i32
+print
+set-attr #1 a 4294967295 : i32
+print
+set-attr #1 a 0xffffffff : i32
+print
+set-attr #1 a 4294967296 : i32
+set-attr #1 a 0x100000000 : i32
+set-attr #1 a 4294967297 : i32
+set-attr #1 a 0x100000001 : i32
+set-attr #1 a 9223372036854775807 : i32
+set-attr #1 a 0x7fffffffffffffff : i32
+set-attr #1 a 9223372036854775808 : i32
+set-attr #1 a 0x8000000000000000 : i32
+set-attr #1 a 18446744073709551616 : i32
+set-attr #1 a 0x10000000000000000 : i32
+set-attr #1 a 170141183460469231731687303715884105728 : i32
+set-attr #1 a 0x80000000000000000000000000000000 : i32
+set-attr #1 a 340282366920938463463374607431768211455 : i32
+set-attr #1 a 0xffffffffffffffffffffffffffffffff : i32
+set-attr #1 a -340282366920938463463374607431768211455 : si32
+set-attr #1 a - 340282366920938463463374607431768211455 : si32
+set-attr #1 a -170141183460469231731687303715884105728 : si32
+set-attr #1 a - 170141183460469231731687303715884105728 : si32
+set-attr #1 a -9223372036854775809 : si32
+set-attr #1 a - 9223372036854775809 : si32
+set-attr #1 a -9223372036854775808 : si32
+set-attr #1 a - 9223372036854775808 : si32
+set-attr #1 a -4294967296 : si32
+set-attr #1 a - 4294967296 : si32
+set-attr #1 a -2147483649 : si32
+set-attr #1 a - 2147483649 : si32
+set-attr #1 a -2147483648 : si32
+print
+set-attr #1 a - 2147483648 : si32
+print
+set-attr #1 a -1 : si32
+print
+set-attr #1 a - 1 : si32
+print
+set-attr #1 a 0x0 : si32
+print
+set-attr #1 a 1 : si32
+print
+set-attr #1 a 0x1 : si32
+print
+set-attr #1 a 2147483647 : si32
+print
+set-attr #1 a 0x7fffffff : si32
+print
+set-attr #1 a 2147483648 : si32
+set-attr #1 a 0x80000000 : si32
+set-attr #1 a 4294967295 : si32
+set-attr #1 a 0xffffffff : si32
+set-attr #1 a 4294967296 : si32
+set-attr #1 a 0x100000000 : si32
+set-attr #1 a 4294967297 : si32
+set-attr #1 a 0x100000001 : si32
+set-attr #1 a 9223372036854775807 : si32
+set-attr #1 a 0x7fffffffffffffff : si32
+set-attr #1 a 9223372036854775808 : si32
+set-attr #1 a 0x8000000000000000 : si32
+set-attr #1 a 18446744073709551616 : si32
+set-attr #1 a 0x10000000000000000 : si32
+set-attr #1 a 170141183460469231731687303715884105728 : si32
+set-attr #1 a 0x80000000000000000000000000000000 : si32
+set-attr #1 a 340282366920938463463374607431768211455 : si32
+set-attr #1 a 0xffffffffffffffffffffffffffffffff : si32
+set-attr #1 a -340282366920938463463374607431768211455 : ui32
+set-attr #1 a - 340282366920938463463374607431768211455 : ui32
+set-attr #1 a -170141183460469231731687303715884105728 : ui32
+set-attr #1 a - 170141183460469231731687303715884105728 : ui32
+set-attr #1 a -9223372036854775809 : ui32
+set-attr #1 a - 9223372036854775809 : ui32
+set-attr #1 a -9223372036854775808 : ui32
+set-attr #1 a - 9223372036854775808 : ui32
+set-attr #1 a -4294967296 : ui32
+set-attr #1 a - 4294967296 : ui32
+set-attr #1 a -2147483649 : ui32
+set-attr #1 a - 2147483649 : ui32
+set-attr #1 a -2147483648 : ui32
+set-attr #1 a - 2147483648 : ui32
+set-attr #1 a -1 : ui32
+set-attr #1 a - 1 : ui32
+set-attr #1 a 0x0 : ui32
+print
+set-attr #1 a 1 : ui32
+print
+set-attr #1 a 0x1 : ui32
+print
+set-attr #1 a 2147483647 : ui32
+print
+set-attr #1 a 0x7fffffff : ui32
+print
+set-attr #1 a 2147483648 : ui32
+print
+set-attr #1 a 0x80000000 : ui32
+print
+set-attr #1 a 4294967295 : ui32
+print
+set-attr #1 a 0xffffffff : ui32
+print
+set-attr #1 a 4294967296 : ui32
+set-attr #1 a 0x100000000 : ui32
+set-attr #1 a 4294967297 : ui32
+set-attr #1 a 0x100000001 : ui32
+set-attr #1 a 9223372036854775807 : ui32
+set-attr #1 a 0x7fffffffffffffff : ui32
+set-attr #1 a 9223372036854775808 : ui32
+set-attr #1 a 0x8000000000000000 : ui32
+set-attr #1 a 18446744073709551616 : ui32
+set-attr #1 a 0x10000000000000000 : ui32
+set-attr #1 a 170141183460469231731687303715884105728 : ui32
+set-attr #1 a 0x80000000000000000000000000000000 : ui32
+set-attr #1 a 340282366920938463463374607431768211455 : ui32
+set-attr #1 a 0xffffffffffffffffffffffffffffffff : ui32
+set-attr #1 a -340282366920938463463374607431768211455 : i63
+set-attr #1 a - 340282366920938463463374607431768211455 : i63
+set-attr #1 a -170141183460469231731687303715884105728 : i63
+set-attr #1 a - 170141183460469231731687303715884105728 : i63
+set-attr #1 a -9223372036854775809 : i63
+set-attr #1 a - 9223372036854775809 : i63
+set-attr #1 a -9223372036854775808 : i63
+set-attr #1 a - 9223372036854775808 : i63
+set-attr #1 a -4611686018427387905 : i63
+set-attr #1 a - 4611686018427387905 : i63
+set-attr #1 a -4611686018427387904 : i63
+print
+set-attr #1 a - 4611686018427387904 : i63
+print
+set-attr #1 a -1 : i63
+print
+set-attr #1 a - 1 : i63
+print
+set-attr #1 a 0x0 : i63
+print
+set-attr #1 a 1 : i63
+print
+set-attr #1 a 0x1 : i63
+print
+set-attr #1 a 4611686018427387903 : i63
+print
+set-attr #1 a 0x3fffffffffffffff : i63
+print
+set-attr #1 a 4611686018427387904 : i63
+print
+set-attr #1 a 0x4000000000000000 : i63
+print
+set-attr #1 a 9223372036854775807 : i63
+print
+set-attr #1 a 0x7fffffffffffffff : i63
+print
+set-attr #1 a 9223372036854775808 : i63
+set-attr #1 a 0x8000000000000000 : i63
+set-attr #1 a 9223372036854775809 : i63
+set-attr #1 a 0x8000000000000001 : i63
+set-attr #1 a 18446744073709551616 : i63
+set-attr #1 a 0x10000000000000000 : i63
+set-attr #1 a 170141183460469231731687303715884105728 : i63
+set-attr #1 a 0x80000000000000000000000000000000 : i63
+set-attr #1 a 340282366920938463463374607431768211455 : i63
+set-attr #1 a 0xffffffffffffffffffffffffffffffff : i63
+set-attr #1 a -340282366920938463463374607431768211455 : si63
+set-attr #1 a - 340282366920938463463374607431768211455 : si63
+set-attr #1 a -170141183460469231731687303715884105728 : si63
+set-attr #1 a - 170141183460469231731687303715884105728 : si63
+set-attr #1 a -9223372036854775809 : si63
+set-attr #1 a - 9223372036854775809 : si63
+set-attr #1 a -9223372036854775808 : si63
+set-attr #1 a - 9223372036854775808 : si63
+set-attr #1 a -4611686018427387905 : si63
+set-attr #1 a - 4611686018427387905 : si63
+set-attr #1 a -4611686018427387904 : si63
+print
+set-attr #1 a - 4611686018427387904 : si63
+print
+set-attr #1 a -1 : si63
+print
+set-attr #1 a - 1 : si63
+print
+set-attr #1 a 0x0 : si63
+print
+set-attr #1 a 1 : si63
+print
+set-attr #1 a 0x1 : si63
+print
+set-attr #1 a 4611686018427387903 : si63
+print
+set-attr #1 a 0x3fffffffffffffff : si63
+print
+set-attr #1 a 4611686018427387904 : si63
+set-attr #1 a 0x4000000000000000 : si63
+set-attr #1 a 9223372036854775807 : si63
+set-attr #1 a 0x7fffffffffffffff : si63
+set-attr #1 a 9223372036854775808 : si63
+set-attr #1 a 0x8000000000000000 : si63
+set-attr #1 a 9223372036854775809 : si63
+set-attr #1 a 0x8000000000000001 : si63
+set-attr #1 a 18446744073709551616 : si63
+set-attr #1 a 0x10000000000000000 : si63
+set-attr #1 a 170141183460469231731687303715884105728 : si63
+set-attr #1 a 0x80000000000000000000000000000000 : si63
+set-attr #1 a 340282366920938463463374607431768211455 : si63
+set-attr #1 a 0xffffffffffffffffffffffffffffffff : si63
+set-attr #1 a -340282366920938463463374607431768211455 : ui63
+set-attr #1 a - 340282366920938463463374607431768211455 : ui63
+set-attr #1 a -170141183460469231731687303715884105728 : ui63
+set-attr #1 a - 170141183460469231731687303715884105728 : ui63
+set-attr #1 a -9223372036854775809 : ui63
+set-attr #1 a - 9223372036854775809 : ui63
+set-attr #1 a -9223372036854775808 : ui63
+set-attr #1 a - 9223372036854775808 : ui63
+set-attr #1 a -4611686018427387905 : ui63
+set-attr #1 a - 4611686018427387905 : ui63
+set-attr #1 a -4611686018427387904 : ui63
+set-attr #1 a - 4611686018427387904 : ui63
+set-attr #1 a -1 : ui63
+set-attr #1 a - 1 : ui63
+set-attr #1 a 0x0 : ui63
+print
+set-attr #1 a 1 : ui63
+print
+set-attr #1 a 0x1 : ui63
+print
+set-attr #1 a 4611686018427387903 : ui63
+print
+set-attr #1 a 0x3fffffffffffffff : ui63
+print
+set-attr #1 a 4611686018427387904 : ui63
+print
+set-attr #1 a 0x4000000000000000 : ui63
+print
+set-attr #1 a 9223372036854775807 : ui63
+print
+set-attr #1 a 0x7fffffffffffffff : ui63
+print
+set-attr #1 a 9223372036854775808 : ui63
+set-attr #1 a 0x8000000000000000 : ui63
+set-attr #1 a 9223372036854775809 : ui63
+set-attr #1 a 0x8000000000000001 : ui63
+set-attr #1 a 18446744073709551616 : ui63
+set-attr #1 a 0x10000000000000000 : ui63
+set-attr #1 a 170141183460469231731687303715884105728 : ui63
+set-attr #1 a 0x80000000000000000000000000000000 : ui63
+set-attr #1 a 340282366920938463463374607431768211455 : ui63
+set-attr #1 a 0xffffffffffffffffffffffffffffffff : ui63
+set-attr #1 a -340282366920938463463374607431768211455 : i64
+set-attr #1 a - 340282366920938463463374607431768211455 : i64
+set-attr #1 a -170141183460469231731687303715884105728 : i64
+set-attr #1 a - 170141183460469231731687303715884105728 : i64
+set-attr #1 a -18446744073709551616 : i64
+set-attr #1 a - 18446744073709551616 : i64
+set-attr #1 a -9223372036854775809 : i64
+set-attr #1 a - 9223372036854775809 : i64
+set-attr #1 a -9223372036854775808 : i64
+print
+set-attr #1 a - 9223372036854775808 : i64
+print
+set-attr #1 a - 1 : i64
+print
+set-attr #1 a 0x0 : i64
+print
+set-attr #1 a 1 : i64
+print
+set-attr #1 a 0x1 : i64
+print
+set-attr #1 a 9223372036854775807 : i64
+print
+set-attr #1 a 0x7fffffffffffffff : i64
+print
+set-attr #1 a 9223372036854775808 : i64
+print
+set-attr #1 a 0x8000000000000000 : i64
+print
+set-attr #1 a 18446744073709551615 : i64
+print
+set-attr #1 a 0xffffffffffffffff : i64
+print
+set-attr #1 a 18446744073709551616 : i64
+set-attr #1 a 0x10000000000000000 : i64
+set-attr #1 a 18446744073709551617 : i64
+set-attr #1 a 0x10000000000000001 : i64
+set-attr #1 a 170141183460469231731687303715884105728 : i64
+set-attr #1 a 0x80000000000000000000000000000000 : i64
+set-attr #1 a 340282366920938463463374607431768211455 : i64
+set-attr #1 a 0xffffffffffffffffffffffffffffffff : i64
+set-attr #1 a -340282366920938463463374607431768211455 : si64
+set-attr #1 a - 340282366920938463463374607431768211455 : si64
+set-attr #1 a -170141183460469231731687303715884105728 : si64
+set-attr #1 a - 170141183460469231731687303715884105728 : si64
+set-attr #1 a -18446744073709551616 : si64
+set-attr #1 a - 18446744073709551616 : si64
+set-attr #1 a -9223372036854775809 : si64
+set-attr #1 a - 9223372036854775809 : si64
+set-attr #1 a -9223372036854775808 : si64
+print
+set-attr #1 a - 9223372036854775808 : si64
+print
+set-attr #1 a -1 : si64
+print
+set-attr #1 a - 1 : si64
+print
+set-attr #1 a 0x0 : si64
+print
+set-attr #1 a 1 : si64
+print
+set-attr #1 a 0x1 : si64
+print
+set-attr #1 a 9223372036854775807 : si64
+print
+set-attr #1 a 0x7fffffffffffffff : si64
+print
+set-attr #1 a 9223372036854775808 : si64
+set-attr #1 a 0x8000000000000000 : si64
+set-attr #1 a 18446744073709551615 : si64
+set-attr #1 a 0xffffffffffffffff : si64
+set-attr #1 a 18446744073709551616 : si64
+set-attr #1 a 0x10000000000000000 : si64
+set-attr #1 a 18446744073709551617 : si64
+set-attr #1 a 0x10000000000000001 : si64
+set-attr #1 a 170141183460469231731687303715884105728 : si64
+set-attr #1 a 0x80000000000000000000000000000000 : si64
+set-attr #1 a 340282366920938463463374607431768211455 : si64
+set-attr #1 a 0xffffffffffffffffffffffffffffffff : si64
+set-attr #1 a -340282366920938463463374607431768211455 : ui64
+set-attr #1 a - 340282366920938463463374607431768211455 : ui64
+set-attr #1 a -170141183460469231731687303715884105728 : ui64
+set-attr #1 a - 170141183460469231731687303715884105728 : ui64
+set-attr #1 a -18446744073709551616 : ui64
+set-attr #1 a - 18446744073709551616 : ui64
+set-attr #1 a -9223372036854775809 : ui64
+set-attr #1 a - 9223372036854775809 : ui64
+set-attr #1 a -9223372036854775808 : ui64
+set-attr #1 a - 9223372036854775808 : ui64
+set-attr #1 a -1 : ui64
+set-attr #1 a - 1 : ui64
+set-attr #1 a 0x0 : ui64
+print
+set-attr #1 a 1 : ui64
+print
+set-attr #1 a 0x1 : ui64
+print
+set-attr #1 a 9223372036854775807 : ui64
+print
+set-attr #1 a 0x7fffffffffffffff : ui64
+print
+set-attr #1 a 9223372036854775808 : ui64
+print
+set-attr #1 a 0x8000000000000000 : ui64
+print
+set-attr #1 a 18446744073709551615 : ui64
+print
+set-attr #1 a 0xffffffffffffffff : ui64
+print
+set-attr #1 a 18446744073709551616 : ui64
+set-attr #1 a 0x10000000000000000 : ui64
+set-attr #1 a 18446744073709551617 : ui64
+set-attr #1 a 0x10000000000000001 : ui64
+set-attr #1 a 170141183460469231731687303715884105728 : ui64
+set-attr #1 a 0x80000000000000000000000000000000 : ui64
+set-attr #1 a 340282366920938463463374607431768211455 : ui64
+set-attr #1 a 0xffffffffffffffffffffffffffffffff : ui64
+set-attr #1 a -340282366920938463463374607431768211455 : i65
+set-attr #1 a - 340282366920938463463374607431768211455 : i65
+set-attr #1 a -170141183460469231731687303715884105728 : i65
+set-attr #1 a - 170141183460469231731687303715884105728 : i65
+set-attr #1 a -36893488147419103232 : i65
+set-attr #1 a - 36893488147419103232 : i65
+set-attr #1 a -18446744073709551617 : i65
+set-attr #1 a - 18446744073709551617 : i65
+set-attr #1 a -18446744073709551616 : i65
+print
+set-attr #1 a - 18446744073709551616 : i65
+print
+set-attr #1 a -9223372036854775809 : i65
+print
+set-attr #1 a - 9223372036854775809 : i65
+print
+set-attr #1 a -9223372036854775808 : i65
+print
+set-attr #1 a - 9223372036854775808 : i65
+print
+set-attr #1 a -1 : i65
+print
+set-attr #1 a - 1 : i65
+print
+set-attr #1 a 0x0 : i65
+print
+set-attr #1 a 1 : i65
+print
+set-attr #1 a 0x1 : i65
+print
+set-attr #1 a 9223372036854775807 : i65
+print
+set-attr #1 a 0x7fffffffffffffff : i65
+print
+set-attr #1 a 9223372036854775808 : i65
+print
+set-attr #1 a 0x8000000000000000 : i65
+print
+set-attr #1 a 18446744073709551615 : i65
+print
+set-attr #1 a 0xffffffffffffffff : i65
+print
+set-attr #1 a 18446744073709551616 : i65
+print
+set-attr #1 a 0x10000000000000000 : i65
+print
+set-attr #1 a 36893488147419103231 : i65
+print
+set-attr #1 a 0x1ffffffffffffffff : i65
+print
+set-attr #1 a 36893488147419103232 : i65
+set-attr #1 a 0x20000000000000000 : i65
+set-attr #1 a 36893488147419103233 : i65
+set-attr #1 a 0x20000000000000001 : i65
+set-attr #1 a 170141183460469231731687303715884105728 : i65
+set-attr #1 a 0x80000000000000000000000000000000 : i65
+set-attr #1 a 340282366920938463463374607431768211455 : i65
+set-attr #1 a 0xffffffffffffffffffffffffffffffff : i65
+set-attr #1 a -340282366920938463463374607431768211455 : si65
+set-attr #1 a - 340282366920938463463374607431768211455 : si65
+set-attr #1 a -170141183460469231731687303715884105728 : si65
+set-attr #1 a - 170141183460469231731687303715884105728 : si65
+set-attr #1 a -36893488147419103232 : si65
+set-attr #1 a - 36893488147419103232 : si65
+set-attr #1 a -18446744073709551617 : si65
+set-attr #1 a - 18446744073709551617 : si65
+set-attr #1 a -18446744073709551616 : si65
+print
+set-attr #1 a - 18446744073709551616 : si65
+print
+set-attr #1 a -9223372036854775809 : si65
+print
+set-attr #1 a - 9223372036854775809 : si65
+print
+set-attr #1 a -9223372036854775808 : si65
+print
+set-attr #1 a - 9223372036854775808 : si65
+print
+set-attr #1 a -1 : si65
+print
+set-attr #1 a - 1 : si65
+print
+set-attr #1 a 0x0 : si65
+print
+set-attr #1 a 1 : si65
+print
+set-attr #1 a 0x1 : si65
+print
+set-attr #1 a 9223372036854775807 : si65
+print
+set-attr #1 a 0x7fffffffffffffff : si65
+print
+set-attr #1 a 9223372036854775808 : si65
+print
+set-attr #1 a 0x8000000000000000 : si65
+print
+set-attr #1 a 18446744073709551615 : si65
+print
+set-attr #1 a 0xffffffffffffffff : si65
+print
+set-attr #1 a 18446744073709551616 : si65
+set-attr #1 a 0x10000000000000000 : si65
+set-attr #1 a 36893488147419103231 : si65
+set-attr #1 a 0x1ffffffffffffffff : si65
+set-attr #1 a 36893488147419103232 : si65
+set-attr #1 a 0x20000000000000000 : si65
+set-attr #1 a 36893488147419103233 : si65
+set-attr #1 a 0x20000000000000001 : si65
+set-attr #1 a 170141183460469231731687303715884105728 : si65
+set-attr #1 a 0x80000000000000000000000000000000 : si65
+set-attr #1 a 340282366920938463463374607431768211455 : si65
+set-attr #1 a 0xffffffffffffffffffffffffffffffff : si65
+set-attr #1 a -340282366920938463463374607431768211455 : ui65
+set-attr #1 a - 340282366920938463463374607431768211455 : ui65
+set-attr #1 a -170141183460469231731687303715884105728 : ui65
+set-attr #1 a - 170141183460469231731687303715884105728 : ui65
+set-attr #1 a -36893488147419103232 : ui65
+set-attr #1 a - 36893488147419103232 : ui65
+set-attr #1 a -18446744073709551617 : ui65
+set-attr #1 a - 18446744073709551617 : ui65
+set-attr #1 a -18446744073709551616 : ui65
+set-attr #1 a - 18446744073709551616 : ui65
+set-attr #1 a -9223372036854775809 : ui65
+set-attr #1 a - 9223372036854775809 : ui65
+set-attr #1 a -9223372036854775808 : ui65
+set-attr #1 a - 9223372036854775808 : ui65
+set-attr #1 a -1 : ui65
+set-attr #1 a - 1 : ui65
+set-attr #1 a 0x0 : ui65
+print
+set-attr #1 a 1 : ui65
+print
+set-attr #1 a 0x1 : ui65
+print
+set-attr #1 a 9223372036854775807 : ui65
+print
+set-attr #1 a 0x7fffffffffffffff : ui65
+print
+set-attr #1 a 9223372036854775808 : ui65
+print
+set-attr #1 a 0x8000000000000000 : ui65
+print
+set-attr #1 a 18446744073709551615 : ui65
+print
+set-attr #1 a 0xffffffffffffffff : ui65
+print
+set-attr #1 a 18446744073709551616 : ui65
+print
+set-attr #1 a 0x10000000000000000 : ui65
+print
+set-attr #1 a 36893488147419103231 : ui65
+print
+set-attr #1 a 0x1ffffffffffffffff : ui65
+print
+set-attr #1 a 36893488147419103232 : ui65
+set-attr #1 a 0x20000000000000000 : ui65
+set-attr #1 a 36893488147419103233 : ui65
+set-attr #1 a 0x20000000000000001 : ui65
+set-attr #1 a 170141183460469231731687303715884105728 : ui65
+set-attr #1 a 0x80000000000000000000000000000000 : ui65
+set-attr #1 a 340282366920938463463374607431768211455 : ui65
+set-attr #1 a 0xffffffffffffffffffffffffffffffff : ui65
+set-attr #1 a -340282366920938463463374607431768211455 : i127
+set-attr #1 a - 340282366920938463463374607431768211455 : i127
+set-attr #1 a -170141183460469231731687303715884105728 : i127
+set-attr #1 a - 170141183460469231731687303715884105728 : i127
+set-attr #1 a -85070591730234615865843651857942052865 : i127
+set-attr #1 a - 85070591730234615865843651857942052865 : i127
+set-attr #1 a -85070591730234615865843651857942052864 : i127
+print
+set-attr #1 a - 85070591730234615865843651857942052864 : i127
+print
+set-attr #1 a -9223372036854775809 : i127
+print
+set-attr #1 a - 9223372036854775809 : i127
+print
+set-attr #1 a -9223372036854775808 : i127
+print
+set-attr #1 a - 9223372036854775808 : i127
+print
+set-attr #1 a -1 : i127
+print
+set-attr #1 a - 1 : i127
+print
+set-attr #1 a 0x0 : i127
+print
+set-attr #1 a 1 : i127
+print
+set-attr #1 a 0x1 : i127
+print
+set-attr #1 a 9223372036854775807 : i127
+print
+set-attr #1 a 0x7fffffffffffffff : i127
+print
+set-attr #1 a 9223372036854775808 : i127
+print
+set-attr #1 a 0x8000000000000000 : i127
+print
+set-attr #1 a 18446744073709551616 : i127
+print
+set-attr #1 a 0x10000000000000000 : i127
+print
+set-attr #1 a 85070591730234615865843651857942052863 : i127
+print
+set-attr #1 a 0x3fffffffffffffffffffffffffffffff : i127
+print
+set-attr #1 a 85070591730234615865843651857942052864 : i127
+print
+set-attr #1 a 0x40000000000000000000000000000000 : i127
+print
+set-attr #1 a 170141183460469231731687303715884105727 : i127
+print
+set-attr #1 a 0x7fffffffffffffffffffffffffffffff : i127
+print
+set-attr #1 a 170141183460469231731687303715884105728 : i127
+set-attr #1 a 0x80000000000000000000000000000000 : i127
+set-attr #1 a 170141183460469231731687303715884105729 : i127
+set-attr #1 a 0x80000000000000000000000000000001 : i127
+set-attr #1 a 340282366920938463463374607431768211455 : i127
+set-attr #1 a 0xffffffffffffffffffffffffffffffff : i127
+set-attr #1 a -340282366920938463463374607431768211455 : si127
+set-attr #1 a - 340282366920938463463374607431768211455 : si127
+set-attr #1 a -170141183460469231731687303715884105728 : si127
+set-attr #1 a - 170141183460469231731687303715884105728 : si127
+set-attr #1 a -85070591730234615865843651857942052865 : si127
+set-attr #1 a - 85070591730234615865843651857942052865 : si127
+set-attr #1 a -85070591730234615865843651857942052864 : si127
+print
+set-attr #1 a - 85070591730234615865843651857942052864 : si127
+print
+set-attr #1 a -9223372036854775809 : si127
+print
+set-attr #1 a - 9223372036854775809 : si127
+print
+set-attr #1 a -9223372036854775808 : si127
+print
+set-attr #1 a - 9223372036854775808 : si127
+print
+set-attr #1 a -1 : si127
+print
+set-attr #1 a - 1 : si127
+print
+set-attr #1 a 0x0 : si127
+print
+set-attr #1 a 1 : si127
+print
+set-attr #1 a 0x1 : si127
+print
+set-attr #1 a 9223372036854775807 : si127
+print
+set-attr #1 a 0x7fffffffffffffff : si127
+print
+set-attr #1 a 9223372036854775808 : si127
+print
+set-attr #1 a 0x8000000000000000 : si127
+print
+set-attr #1 a 18446744073709551616 : si127
+print
+set-attr #1 a 0x10000000000000000 : si127
+print
+set-attr #1 a 85070591730234615865843651857942052863 : si127
+print
+set-attr #1 a 0x3fffffffffffffffffffffffffffffff : si127
+print
+set-attr #1 a 85070591730234615865843651857942052864 : si127
+set-attr #1 a 0x40000000000000000000000000000000 : si127
+set-attr #1 a 170141183460469231731687303715884105727 : si127
+set-attr #1 a 0x7fffffffffffffffffffffffffffffff : si127
+set-attr #1 a 170141183460469231731687303715884105728 : si127
+set-attr #1 a 0x80000000000000000000000000000000 : si127
+set-attr #1 a 170141183460469231731687303715884105729 : si127
+set-attr #1 a 0x80000000000000000000000000000001 : si127
+set-attr #1 a 340282366920938463463374607431768211455 : si127
+set-attr #1 a 0xffffffffffffffffffffffffffffffff : si127
+set-attr #1 a -340282366920938463463374607431768211455 : ui127
+set-attr #1 a - 340282366920938463463374607431768211455 : ui127
+set-attr #1 a -170141183460469231731687303715884105728 : ui127
+set-attr #1 a - 170141183460469231731687303715884105728 : ui127
+set-attr #1 a -85070591730234615865843651857942052865 : ui127
+set-attr #1 a - 85070591730234615865843651857942052865 : ui127
+set-attr #1 a -85070591730234615865843651857942052864 : ui127
+set-attr #1 a - 85070591730234615865843651857942052864 : ui127
+set-attr #1 a -9223372036854775809 : ui127
+set-attr #1 a - 9223372036854775809 : ui127
+set-attr #1 a -9223372036854775808 : ui127
+set-attr #1 a - 9223372036854775808 : ui127
+set-attr #1 a -1 : ui127
+set-attr #1 a - 1 : ui127
+set-attr #1 a 0x0 : ui127
+print
+set-attr #1 a 1 : ui127
+print
+set-attr #1 a 0x1 : ui127
+print
+set-attr #1 a 9223372036854775807 : ui127
+print
+set-attr #1 a 0x7fffffffffffffff : ui127
+print
+set-attr #1 a 9223372036854775808 : ui127
+print
+set-attr #1 a 0x8000000000000000 : ui127
+print
+set-attr #1 a 18446744073709551616 : ui127
+print
+set-attr #1 a 0x10000000000000000 : ui127
+print
+set-attr #1 a 85070591730234615865843651857942052863 : ui127
+print
+set-attr #1 a 0x3fffffffffffffffffffffffffffffff : ui127
+print
+set-attr #1 a 85070591730234615865843651857942052864 : ui127
+print
+set-attr #1 a 0x40000000000000000000000000000000 : ui127
+print
+set-attr #1 a 170141183460469231731687303715884105727 : ui127
+print
+set-attr #1 a 0x7fffffffffffffffffffffffffffffff : ui127
+print
+set-attr #1 a 170141183460469231731687303715884105728 : ui127
+set-attr #1 a 0x80000000000000000000000000000000 : ui127
+set-attr #1 a 170141183460469231731687303715884105729 : ui127
+set-attr #1 a 0x80000000000000000000000000000001 : ui127
+set-attr #1 a 340282366920938463463374607431768211455 : ui127
+set-attr #1 a 0xffffffffffffffffffffffffffffffff : ui127
+set-attr #1 a -340282366920938463463374607431768211456 : i128
+set-attr #1 a - 340282366920938463463374607431768211456 : i128
+set-attr #1 a -340282366920938463463374607431768211455 : i128
+set-attr #1 a - 340282366920938463463374607431768211455 : i128
+set-attr #1 a -170141183460469231731687303715884105729 : i128
+set-attr #1 a - 170141183460469231731687303715884105729 : i128
+set-attr #1 a -170141183460469231731687303715884105728 : i128
+print
+set-attr #1 a - 170141183460469231731687303715884105728 : i128
+print
+set-attr #1 a -9223372036854775809 : i128
+print
+set-attr #1 a - 9223372036854775809 : i128
+print
+set-attr #1 a -9223372036854775808 : i128
+print
+set-attr #1 a - 9223372036854775808 : i128
+print
+set-attr #1 a -1 : i128
+print
+set-attr #1 a - 1 : i128
+print
+set-attr #1 a 0x0 : i128
+print
+set-attr #1 a 1 : i128
+print
+set-attr #1 a 0x1 : i128
+print
+set-attr #1 a 9223372036854775807 : i128
+print
+set-attr #1 a 0x7fffffffffffffff : i128
+print
+set-attr #1 a 9223372036854775808 : i128
+print
+set-attr #1 a 0x8000000000000000 : i128
+print
+set-attr #1 a 18446744073709551616 : i128
+print
+set-attr #1 a 0x10000000000000000 : i128
+print
+set-attr #1 a 170141183460469231731687303715884105727 : i128
+print
+set-attr #1 a 0x7fffffffffffffffffffffffffffffff : i128
+print
+set-attr #1 a 170141183460469231731687303715884105728 : i128
+print
+set-attr #1 a 0x80000000000000000000000000000000 : i128
+print
+set-attr #1 a 340282366920938463463374607431768211455 : i128
+print
+set-attr #1 a 0xffffffffffffffffffffffffffffffff : i128
+print
+set-attr #1 a 340282366920938463463374607431768211456 : i128
+set-attr #1 a 0x100000000000000000000000000000000 : i128
+set-attr #1 a 340282366920938463463374607431768211457 : i128
+set-attr #1 a 0x100000000000000000000000000000001 : i128
+set-attr #1 a -340282366920938463463374607431768211456 : si128
+set-attr #1 a - 340282366920938463463374607431768211456 : si128
+set-attr #1 a -340282366920938463463374607431768211455 : si128
+set-attr #1 a - 340282366920938463463374607431768211455 : si128
+set-attr #1 a -170141183460469231731687303715884105729 : si128
+set-attr #1 a - 170141183460469231731687303715884105729 : si128
+set-attr #1 a -170141183460469231731687303715884105728 : si128
+print
+set-attr #1 a - 170141183460469231731687303715884105728 : si128
+print
+set-attr #1 a -9223372036854775809 : si128
+print
+set-attr #1 a - 9223372036854775809 : si128
+print
+set-attr #1 a -9223372036854775808 : si128
+print
+set-attr #1 a - 9223372036854775808 : si128
+print
+set-attr #1 a -1 : si128
+print
+set-attr #1 a - 1 : si128
+print
+set-attr #1 a 0x0 : si128
+print
+set-attr #1 a 1 : si128
+print
+set-attr #1 a 0x1 : si128
+print
+set-attr #1 a 9223372036854775807 : si128
+print
+set-attr #1 a 0x7fffffffffffffff : si128
+print
+set-attr #1 a 9223372036854775808 : si128
+print
+set-attr #1 a 0x8000000000000000 : si128
+print
+set-attr #1 a 18446744073709551616 : si128
+print
+set-attr #1 a 0x10000000000000000 : si128
+print
+set-attr #1 a 170141183460469231731687303715884105727 : si128
+print
+set-attr #1 a 0x7fffffffffffffffffffffffffffffff : si128
+print
+set-attr #1 a 170141183460469231731687303715884105728 : si128
+set-attr #1 a 0x80000000000000000000000000000000 : si128
+set-attr #1 a 340282366920938463463374607431768211455 : si128
+set-attr #1 a 0xffffffffffffffffffffffffffffffff : si128
+set-attr #1 a 340282366920938463463374607431768211456 : si128
+set-attr #1 a 0x100000000000000000000000000000000 : si128
+set-attr #1 a 340282366920938463463374607431768211457 : si128
+set-attr #1 a 0x100000000000000000000000000000001 : si128
+set-attr #1 a -340282366920938463463374607431768211456 : ui128
+set-attr #1 a - 340282366920938463463374607431768211456 : ui128
+set-attr #1 a -340282366920938463463374607431768211455 : ui128
+set-attr #1 a - 340282366920938463463374607431768211455 : ui128
+set-attr #1 a -170141183460469231731687303715884105729 : ui128
+set-attr #1 a - 170141183460469231731687303715884105729 : ui128
+set-attr #1 a -170141183460469231731687303715884105728 : ui128
+set-attr #1 a - 170141183460469231731687303715884105728 : ui128
+set-attr #1 a -9223372036854775809 : ui128
+set-attr #1 a - 9223372036854775809 : ui128
+set-attr #1 a -9223372036854775808 : ui128
+set-attr #1 a - 9223372036854775808 : ui128
+set-attr #1 a -1 : ui128
+set-attr #1 a - 1 : ui128
+set-attr #1 a 0x0 : ui128
+print
+set-attr #1 a 1 : ui128
+print
+set-attr #1 a 0x1 : ui128
+print
+set-attr #1 a 9223372036854775807 : ui128
+print
+set-attr #1 a 0x7fffffffffffffff : ui128
+print
+set-attr #1 a 9223372036854775808 : ui128
+print
+set-attr #1 a 0x8000000000000000 : ui128
+print
+set-attr #1 a 18446744073709551616 : ui128
+print
+set-attr #1 a 0x10000000000000000 : ui128
+print
+set-attr #1 a 170141183460469231731687303715884105727 : ui128
+print
+set-attr #1 a 0x7fffffffffffffffffffffffffffffff : ui128
+print
+set-attr #1 a 170141183460469231731687303715884105728 : ui128
+print
+set-attr #1 a 0x80000000000000000000000000000000 : ui128
+print
+set-attr #1 a 340282366920938463463374607431768211455 : ui128
+print
+set-attr #1 a 0xffffffffffffffffffffffffffffffff : ui128
+print
+set-attr #1 a 340282366920938463463374607431768211456 : ui128
+set-attr #1 a 0x100000000000000000000000000000000 : ui128
+set-attr #1 a 340282366920938463463374607431768211457 : ui128
+set-attr #1 a 0x100000000000000000000000000000001 : ui128
+set-attr #1 a -9223372036854775809 : index
+set-attr #1 a - 9223372036854775809 : index
+set-attr #1 a -9223372036854775809
+set-attr #1 a - 9223372036854775809
+set-attr #1 a -9223372036854775808 : index
+print
+set-attr #1 a - 9223372036854775808 : index
+print
+set-attr #1 a -9223372036854775808
+print
+set-attr #1 a - 9223372036854775808
+print
+set-attr #1 a -1 : index
+print
+set-attr #1 a - 1 : index
+print
+set-attr #1 a 0x0 : index
+print
+set-attr #1 a 0
+print
+set-attr #1 a 0x0
+print
+set-attr #1 a 1 : index
+print
+set-attr #1 a 0x1 : index
+print
+set-attr #1 a 1
+print
+set-attr #1 a 0x1
+print
+set-attr #1 a 9223372036854775807 : index
+print
+set-attr #1 a 0x7fffffffffffffff : index
+print
+set-attr #1 a 9223372036854775807
+print
+set-attr #1 a 0x7fffffffffffffff
+print
+set-attr #1 a 9223372036854775808 : index
+set-attr #1 a 0x8000000000000000 : index
+set-attr #1 a 9223372036854775808
+print
+set-attr #1 a 0x8000000000000000
+print
+set-attr #1 a 18446744073709551615 : index
+set-attr #1 a 0xffffffffffffffff : index
+set-attr #1 a 18446744073709551615
+print
+set-attr #1 a 0xffffffffffffffff
+print
+set-attr #1 a 18446744073709551616 : index
+set-attr #1 a 0x10000000000000000 : index
+set-attr #1 a 0x10000000000000000
+set-attr #1 a 170141183460469231731687303715884105728 : index
+set-attr #1 a 0x80000000000000000000000000000000 : index
+set-attr #1 a 170141183460469231731687303715884105728
+set-attr #1 a 0x80000000000000000000000000000000
+set-attr #1 a -170141183460469231731687303715884105728 : index
+set-attr #1 a - 170141183460469231731687303715884105728 : index
+set-attr #1 a -170141183460469231731687303715884105728
+set-attr #1 a - 170141183460469231731687303715884105728
+set-attr #1 a 340282366920938463463374607431768211455 : index
+set-attr #1 a 0xffffffffffffffffffffffffffffffff : index
+set-attr #1 a 340282366920938463463374607431768211455
+set-attr #1 a 0xffffffffffffffffffffffffffffffff
+set-attr #1 a 340282366920938463463374607431768211456
+set-attr #1 a -340282366920938463463374607431768211456
+set-attr #1 a [ - 340282366920938463463374607431768211456]
+set-attr #1 a 340282366920938463463374607431768211456 : i8
+set-attr #1 a -340282366920938463463374607431768211456 : i8
+set-attr #1 a [ - 340282366920938463463374607431768211456 : i8]
+set-attr #1 a [ - 340282366920938463463374607431768211456 : i128]
+set-attr #1 a [ - 340282366920938463463374607431768211456 : ui128]
+set-attr #1 a [ - 340282366920938463463374607431768211456 : si128]
+set-attr #1 a 340282366920938463463374607431768211456 : index
+set-attr #1 a -340282366920938463463374607431768211456 : index
+set-attr #1 a [ - 340282366920938463463374607431768211456 : index]
+set-attr #1 a 340282366920938463463374607431768211456 : i129
+set-attr #1 a -340282366920938463463374607431768211456 : i129
+set-attr #1 a [ - 340282366920938463463374607431768211456 : i129]
+set-attr #1 a 340282366920938463463374607431768211456 : f32
+set-attr #1 a -340282366920938463463374607431768211456 : f32
+set-attr #1 a [ - 340282366920938463463374607431768211456 : f32]
+set-attr #1 a 340282366920938463463374607431768211456 : () -> ()
+set-attr #1 a -340282366920938463463374607431768211456 : () -> ()
+set-attr #1 a [ - 340282366920938463463374607431768211456 : () -> ()]
+set-attr #1 a 340282366920938463463374607431768211456 $
+set-attr #1 a -340282366920938463463374607431768211456 $
+set-attr #1 a [ - 340282366920938463463374607431768211456 $]
+set-attr #1 a 340282366920938463463374607431768211456 x
+set-attr #1 a -340282366920938463463374607431768211456 x
+set-attr #1 a [ - 340282366920938463463374607431768211456 x]
+set-attr #1 a -0x100000000000000000000000000000000
+set-attr #1 a [ - 0x100000000000000000000000000000000]
+set-attr #1 a 0x100000000000000000000000000000000 : i8
+set-attr #1 a -0x100000000000000000000000000000000 : i8
+set-attr #1 a [ - 0x100000000000000000000000000000000 : i8]
+set-attr #1 a -0x100000000000000000000000000000000 : i128
+set-attr #1 a [ - 0x100000000000000000000000000000000 : i128]
+set-attr #1 a -0x100000000000000000000000000000000 : ui128
+set-attr #1 a [ - 0x100000000000000000000000000000000 : ui128]
+set-attr #1 a -0x100000000000000000000000000000000 : si128
+set-attr #1 a [ - 0x100000000000000000000000000000000 : si128]
+set-attr #1 a 0x100000000000000000000000000000000 : index
+set-attr #1 a -0x100000000000000000000000000000000 : index
+set-attr #1 a [ - 0x100000000000000000000000000000000 : index]
+set-attr #1 a 0x100000000000000000000000000000000 : i129
+set-attr #1 a -0x100000000000000000000000000000000 : i129
+set-attr #1 a [ - 0x100000000000000000000000000000000 : i129]
+set-attr #1 a 0x100000000000000000000000000000000 : f32
+set-attr #1 a -0x100000000000000000000000000000000 : f32
+set-attr #1 a [ - 0x100000000000000000000000000000000 : f32]
+set-attr #1 a 0x100000000000000000000000000000000 : () -> ()
+set-attr #1 a -0x100000000000000000000000000000000 : () -> ()
+set-attr #1 a [ - 0x100000000000000000000000000000000 : () -> ()]
+set-attr #1 a 0x100000000000000000000000000000000 $
+set-attr #1 a -0x100000000000000000000000000000000 $
+set-attr #1 a [ - 0x100000000000000000000000000000000 $]
+set-attr #1 a 0x100000000000000000000000000000000 x
+set-attr #1 a -0x100000000000000000000000000000000 x
+set-attr #1 a [ - 0x100000000000000000000000000000000 x]
+set-attr #1 a 999999999999999999999999999999999999999999999999999999999999
+set-attr #1 a -999999999999999999999999999999999999999999999999999999999999
+set-attr #1 a [ - 999999999999999999999999999999999999999999999999999999999999]
+set-attr #1 a 999999999999999999999999999999999999999999999999999999999999 : i8
+set-attr #1 a -999999999999999999999999999999999999999999999999999999999999 : i8
+set-attr #1 a [ - 999999999999999999999999999999999999999999999999999999999999 : i8]
+set-attr #1 a 999999999999999999999999999999999999999999999999999999999999 : i128
+set-attr #1 a -999999999999999999999999999999999999999999999999999999999999 : i128
+set-attr #1 a [ - 999999999999999999999999999999999999999999999999999999999999 : i128]
+set-attr #1 a 999999999999999999999999999999999999999999999999999999999999 : ui128
+set-attr #1 a -999999999999999999999999999999999999999999999999999999999999 : ui128
+set-attr #1 a [ - 999999999999999999999999999999999999999999999999999999999999 : ui128]
+set-attr #1 a 999999999999999999999999999999999999999999999999999999999999 : si128
+set-attr #1 a -999999999999999999999999999999999999999999999999999999999999 : si128
+set-attr #1 a [ - 999999999999999999999999999999999999999999999999999999999999 : si128]
+set-attr #1 a 999999999999999999999999999999999999999999999999999999999999 : index
+set-attr #1 a -999999999999999999999999999999999999999999999999999999999999 : index
+set-attr #1 a [ - 999999999999999999999999999999999999999999999999999999999999 : index]
+set-attr #1 a 999999999999999999999999999999999999999999999999999999999999 : i129
+set-attr #1 a -999999999999999999999999999999999999999999999999999999999999 : i129
+set-attr #1 a [ - 999999999999999999999999999999999999999999999999999999999999 : i129]
+set-attr #1 a 999999999999999999999999999999999999999999999999999999999999 : f32
+set-attr #1 a -999999999999999999999999999999999999999999999999999999999999 : f32
+set-attr #1 a [ - 999999999999999999999999999999999999999999999999999999999999 : f32]
+set-attr #1 a 999999999999999999999999999999999999999999999999999999999999 : () -> ()
+set-attr #1 a -999999999999999999999999999999999999999999999999999999999999 : () -> ()
+set-attr #1 a [ - 999999999999999999999999999999999999999999999999999999999999 : () -> ()]
+set-attr #1 a 999999999999999999999999999999999999999999999999999999999999 $
+set-attr #1 a -999999999999999999999999999999999999999999999999999999999999 $
+set-attr #1 a [ - 999999999999999999999999999999999999999999999999999999999999 $]
+set-attr #1 a 999999999999999999999999999999999999999999999999999999999999 x
+set-attr #1 a -999999999999999999999999999999999999999999999999999999999999 x
+set-attr #1 a [ - 999999999999999999999999999999999999999999999999999999999999 x]
+set-attr #1 a 0xffffffffffffffffffffffffffffffffffffffff
+set-attr #1 a -0xffffffffffffffffffffffffffffffffffffffff
+set-attr #1 a [ - 0xffffffffffffffffffffffffffffffffffffffff]
+set-attr #1 a 0xffffffffffffffffffffffffffffffffffffffff : i8
+set-attr #1 a -0xffffffffffffffffffffffffffffffffffffffff : i8
+set-attr #1 a [ - 0xffffffffffffffffffffffffffffffffffffffff : i8]
+set-attr #1 a 0xffffffffffffffffffffffffffffffffffffffff : i128
+set-attr #1 a -0xffffffffffffffffffffffffffffffffffffffff : i128
+set-attr #1 a [ - 0xffffffffffffffffffffffffffffffffffffffff : i128]
+set-attr #1 a 0xffffffffffffffffffffffffffffffffffffffff : ui128
+set-attr #1 a -0xffffffffffffffffffffffffffffffffffffffff : ui128
+set-attr #1 a [ - 0xffffffffffffffffffffffffffffffffffffffff : ui128]
+set-attr #1 a 0xffffffffffffffffffffffffffffffffffffffff : si128
+set-attr #1 a -0xffffffffffffffffffffffffffffffffffffffff : si128
+set-attr #1 a [ - 0xffffffffffffffffffffffffffffffffffffffff : si128]
+set-attr #1 a 0xffffffffffffffffffffffffffffffffffffffff : index
+set-attr #1 a -0xffffffffffffffffffffffffffffffffffffffff : index
+set-attr #1 a [ - 0xffffffffffffffffffffffffffffffffffffffff : index]
+set-attr #1 a 0xffffffffffffffffffffffffffffffffffffffff : i129
+set-attr #1 a -0xffffffffffffffffffffffffffffffffffffffff : i129
+set-attr #1 a [ - 0xffffffffffffffffffffffffffffffffffffffff : i129]
+set-attr #1 a 0xffffffffffffffffffffffffffffffffffffffff : f32
+set-attr #1 a -0xffffffffffffffffffffffffffffffffffffffff : f32
+set-attr #1 a [ - 0xffffffffffffffffffffffffffffffffffffffff : f32]
+set-attr #1 a 0xffffffffffffffffffffffffffffffffffffffff : () -> ()
+set-attr #1 a -0xffffffffffffffffffffffffffffffffffffffff : () -> ()
+set-attr #1 a [ - 0xffffffffffffffffffffffffffffffffffffffff : () -> ()]
+set-attr #1 a 0xffffffffffffffffffffffffffffffffffffffff $
+set-attr #1 a -0xffffffffffffffffffffffffffffffffffffffff $
+set-attr #1 a [ - 0xffffffffffffffffffffffffffffffffffffffff $]
+set-attr #1 a 0xffffffffffffffffffffffffffffffffffffffff x
+set-attr #1 a -0xffffffffffffffffffffffffffffffffffffffff x
+set-attr #1 a [ - 0xffffffffffffffffffffffffffffffffffffffff x]
+set-attr #1 a 0xFFFFFFFFFFFFFFFFFFFFFFFFFFFFFFFF : ui128
+print
+set-attr #1 a -0 : ui8
+print
+set-attr #1 a 0000000000000000000000000000000000000000000000000000000000001 : i8
+print
+set-attr #1 a 0x0010
+print
+set-attr #1 a 16 : i64
+print
+set-attr #1 a 1 : memref<i8>
+set-attr #1 a -1 : (i8) -> i8
+set-attr #1 a [1 : memref<?xindex>]
+set-attr #1 a 99999999999999999999 $
+set-attr #1 a 99999999999999999999 x
+set-attr #1 a [1, 2 : i1]
+set-attr #1 a 256 : i0
+set-attr #1 a 256 : f32
+set-attr #1 a 1 : true
+set-attr #1 a 1 : 2
+set-attr #1 a 1 : [
+set-attr #1 a 1 :
+set-attr #1 a 1 : -1
+set-attr #1 a - i8
+set-attr #1 a -"a"
+set-attr #1 a 1 : $
+set-attr #1 a - $
+set-attr #1 a 256 : i8 $

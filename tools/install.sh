@@ -1,0 +1,45 @@
+#!/bin/sh
+# Installs what `./run` starts: the program `mlir_work`, the prompt `mlir-work` over it, which wants Python 3, a man
+# page, and completions for bash and zsh. MLIR_WORK names another program to be installed.
+#
+# usage: tools/install.sh PREFIX
+set -eu
+[ $# -eq 1 ] || { sed -n '2,5s/^# \{0,1\}//p' "$0" >&2; exit 2; }
+mkdir -p "$1"
+prefix=$(cd "$1" && pwd)
+here=$(cd "$(dirname "$(readlink -f "$0")")/.." && pwd)
+program=${MLIR_WORK-$(python3 "$here/tools/sources.py" --program)}
+share=$prefix/share/mlir_work
+
+mkdir -p "$prefix/bin" "$share/tools" "$share/docs" "$share/dist" "$prefix/share/man/man1" \
+    "$prefix/share/bash-completion/completions" "$prefix/share/zsh/site-functions"
+cp "$program" "$prefix/bin/mlir_work.new"
+chmod 755 "$prefix/bin/mlir_work.new"
+mv "$prefix/bin/mlir_work.new" "$prefix/bin/mlir_work"
+cp "$here"/tools/*.py "$share/tools"
+cp "$here/docs/REFUSALS.md" "$share/docs"
+[ ! -f "$here/dist/MANIFEST" ] || cp "$here/dist/MANIFEST" "$share/dist"
+
+# All of these are made of one table, the help of the program that is installed.
+"$prefix/bin/mlir_work" --help >"$share/tools/help.txt"
+version=$(sed -n 's/^## \([^ ]*\).*/\1/p' "$here/CHANGELOG.md" | head -n 1)
+made() {
+    python3 "$here/tools/manual.py" "$1" "$share/tools/help.txt" "$version"
+}
+made man >"$prefix/share/man/man1/mlir_work.1"
+ln -sf mlir_work.1 "$prefix/share/man/man1/mlir-work.1"
+made bash >"$prefix/share/bash-completion/completions/mlir_work"
+ln -sf mlir_work "$prefix/share/bash-completion/completions/mlir-work"
+made zsh >"$prefix/share/zsh/site-functions/_mlir_work"
+
+cat >"$prefix/bin/mlir-work" <<'END'
+#!/bin/sh
+# A prompt over a module: mlir-work MODULE [SCRIPT]
+prefix=$(cd "$(dirname "$(readlink -f "$0")")/.." && pwd)
+if [ "${1-}" = --version ]; then
+    exec python3 "$prefix/share/mlir_work/tools/sources.py" --version "$prefix/bin/mlir_work"
+fi
+MLIR_WORK_INSTALLED=$prefix/bin/mlir_work exec python3 "$prefix/share/mlir_work/tools/session.py" "$@"
+END
+chmod 755 "$prefix/bin/mlir-work"
+echo "installed in $prefix: bin/mlir_work, bin/mlir-work, share/man/man1/mlir_work.1, completions for bash and zsh"
