@@ -37,7 +37,11 @@ fn all_givers(alloc: Global, values: &[Value]) -> Result<Vec<OpId>, AllocError>
 }
 
 /// The operations that give operands of an operation of the module, if no operation stands in it.
-pub(crate) fn givers(alloc: Global, world: &World, op: OpId) -> Result<Option<Vec<OpId>>, AllocError>
+pub(crate) fn givers(
+    alloc: Global,
+    world: &World,
+    op: OpId,
+) -> Result<Option<Vec<OpId>>, AllocError>
     ensures { IfOk result (λ g. IfSome g (λ v. Gives v.items op (module_in world.now).tree)) }
 {
     let Some(node) = shown(world, op) else {

@@ -264,7 +264,7 @@ module _ (x : ℕ) (front : Place) (args : List TypeTerm) (held : List ℕ) wher
       no_head (Some h) = ap (λ vs. Some (record h { operands = vs })) (none_changed h.operands)
   outcome (v ∷ vs) (ty ∷ tys) done m h is g n at unused =
       let next_one = outcome vs tys (done ++ ty ∷ []) (edited (Replace (Arg x 0 n) v) m) (taking_after m h v g.0.0 n) (is ∙ sym (append_assoc done (ty ∷ []) tys)) (given_after m h v g.0.0 n vs tys g.1) (n + 1)
-          (let e = length-append done (ty ∷ []) in omega (arith, e, at)) (unused_after m h v g.0.0 n unused) in
+      (let e = length-append done (ty ∷ []) in omega (arith, e, at)) (unused_after m h v g.0.0 n unused) in
       record {
         free = λ es k. replace_free m h v g.0.0 n done ty tys is at g.0.1.0 g.0.1.1 g.0.1.2 (replacing (arguments_from x (n + 1) vs) vs ++ es) (next_one.free es k);
         taking = next_one.taking;

@@ -141,7 +141,6 @@ module _ (x : ℕ) (front : Place) (B : ℕ → Type 0) where
       only w (inl i) = seen w (inl i)
       only w (inr i) = absurd i
 
-
 -- the results of x, of some types, are given by those of operation y, which are of the lowered ones, through casts
 module _ (x y : ℕ) (front : Place) where
   abbrev pub AreLowered : ℕ → List TypeTerm → Module → Type 0

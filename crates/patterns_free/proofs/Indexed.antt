@@ -161,7 +161,7 @@ module _ (m : Module) (o : Operation) (front : Place) (s : Spot m o front) where
       let new = lowered_op o (crossed m.next ms os) in
       let left = b.rooms (marked (indices rs) + 1) (record { ops = omega (arith, ops, many); ids = omega (arith, ids, many) }) in
       let one = made_one x front (λ z. has_id z m.tree ≡ true) m1 b.stood new (lowered_holds_none (regions o)) (lowered_fits o (crossed m.next ms os) (crossed_length m.next ms os wide) (own_fits m o front s))
-          (crossed_seen x front i64 m.next ms os m1 b.made) (marked (indices rs)) left in
+      (crossed_seen x front i64 m.next ms os m1 b.made) (marked (indices rs)) left in
       let m2 = edited (Make front new) m1 in
       let there = there_is is_isolated x front m (stands_there m o front s) in
       let header : option_map head (find x m2.tree) ≡ Some (head o) = (one.stays b.present).heads x there ∙ (b.stays (λ z h. h)).heads x there ∙ ap (option_map head) s.found in

@@ -239,8 +239,8 @@ condition_types m o front s name e k =
         let node_name = ap (λ h. h.name) (node_head o) ∙ name in
         let last_is : last_at 0 outer ≡ Some (head n.last).name = ap (option_and_then (λ last. last)) (names_at (regions o) 0 ∙ ap (option_map (λ g. option_and_then last_name (ops_in g))) n.block) ∙ last_joined n.front n.last in
         let y : (head n.last).name ≡ codes "scf.condition" = (bytes_eq-Decides (head n.last).name (codes "scf.condition")).0
-            (not_no (bytes_eq (head n.last).name (codes "scf.condition"))
-            (sym (ap (isnt_wanted (codes "scf.condition")) last_is) ∙ and_no (is_some (block_at 0 (node_of o))) _ (ap is_some (block_is o 0 (block n.args _) n.block)) (while_ends outer node_name u.ends))) in
+        (not_no (bytes_eq (head n.last).name (codes "scf.condition"))
+        (sym (ap (isnt_wanted (codes "scf.condition")) last_is) ∙ and_no (is_some (block_at 0 (node_of o))) _ (ap is_some (block_is o 0 (block n.args _) n.block)) (while_ends outer node_name u.ends))) in
         let found = row_there (row_of (codes "scf.condition")) condition_listed in
         let z = surround m.tree inner in
         let v = clean_unbroken m.tree inner found.0 n.clean inner_stood (ap row_of y ∙ found.1) in

@@ -301,10 +301,10 @@ module _ {N T A : Type 0} where
         go (next q os) f g = absurd cc
         go no_ops f g =
             let blocks : Some (block i.step_in.args (joined_ops i.step_in.front (next i.here i.step_in.rest))) ≡ Some (block l.step_in.args (joined_ops l.step_in.front (next o l.step_in.rest))) =
-                sym (shape after i.here i.step_in i.path i.there) ∙ (λ j. region_at ((i.region ∙ sym l.region) j) (regions (same j).here)) ∙ shape after o l.step_in l.path l.there in
+            sym (shape after i.here i.step_in i.path i.there) ∙ (λ j. region_at ((i.region ∙ sym l.region) j) (regions (same j).here)) ∙ shape after o l.step_in l.path l.there in
             let lists : joined_ops i.step_in.front (next i.here i.step_in.rest) ≡ joined_ops l.step_in.front (next o l.step_in.rest) = cc in
             let all : i.step_in.front ++ i.here ∷ listed i.step_in.rest ≡ l.step_in.front ++ o ∷ [] =
-                sym (listed_joined i.step_in.front (next i.here i.step_in.rest)) ∙ ap listed lists ∙ listed_joined l.step_in.front (next o l.step_in.rest) ∙ ap (λ z. l.step_in.front ++ o ∷ listed z) f in
+            sym (listed_joined i.step_in.front (next i.here i.step_in.rest)) ∙ ap listed lists ∙ listed_joined l.step_in.front (next o l.step_in.rest) ∙ ap (λ z. l.step_in.front ++ o ∷ listed z) f in
             elim (in_parts i.here l.step_in.front (o ∷ []) (subst (In i.here) all (in_right i.here i.step_in.front (i.here ∷ listed i.step_in.rest) (inl refl)))) [
               | inl k ↦ record { here = o; step_in = l.step_in; path = l.path; there = l.there; id = refl; first = i.here; among = k; is = i.id }
               | inr k ↦ elim k [
