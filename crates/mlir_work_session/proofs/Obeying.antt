@@ -22,8 +22,8 @@ use Rattle.rewriter.specs.Panels.{Shown, is_kind, has_kind, shown}
 use Rattle.rewriter.specs.Spots.{Spot, spot_place}
 use Rattle.mlir_work_session.specs.Texts.{NotRead}
 use Rattle.greedy.specs.Changes.{canonicalizing}
-use Rattle.mlir_work_convert.specs.Converting.{conversion}
-use Rattle.mlir_work_sweep.specs.Sweep.{sweeping}
+use Rattle.mlir_work_transforms.specs.Converting.{conversion}
+use Rattle.mlir_work_transforms.specs.Sweep.{sweeping}
 use Rattle.mlir_work_session.specs.declared.manner.Manner.{Manner}
 use Rattle.mlir_work_session.specs.Machine.{AsksIn, Obeys, limit_or, shows_text}
 use Rattle.mlir_work_session.specs.RowText.{rows_text}

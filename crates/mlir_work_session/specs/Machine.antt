@@ -9,8 +9,8 @@ use Rattle.rewriter.specs.Machine.{Done, DoneAs, DoneWith, Refused, RefusedOn, S
 pub use Rattle.rewriter.specs.Machine.{State}
 use Rattle.mlir_work_script.specs.Outcomes.{outcome_of}
 use Rattle.greedy.specs.Changes.{canonicalizing}
-use Rattle.mlir_work_convert.specs.Converting.{conversion}
-use Rattle.mlir_work_sweep.specs.Sweep.{sweeping}
+use Rattle.mlir_work_transforms.specs.Converting.{conversion}
+use Rattle.mlir_work_transforms.specs.Sweep.{sweeping}
 use Rattle.mlir_work_session.specs.RowText.{rows_text}
 use Rattle.mlir_work_session.specs.declared.manner.Manner.{Manner}
 use Rattle.mlir_work_session.specs.declared.reply.Reply.{Reply}

@@ -4,15 +4,15 @@ ghost use Rattle.rewriter.specs.Commands.{Replied};
 ghost use Rattle.rewriter.specs.Machine.{fault_reply};
 ghost use Rattle.rewriter.specs.Benched.{id_reply_of, reply_of};
 ghost use Rattle.greedy.specs.Changes.{canonical_reply};
-ghost use Rattle.mlir_work_convert.specs.Converting.{conversion_reply};
-ghost use Rattle.mlir_work_sweep.specs.Sweep.{sweep_reply};
+ghost use Rattle.mlir_work_transforms.specs.Converting.{conversion_reply};
+ghost use Rattle.mlir_work_transforms.specs.Sweep.{sweep_reply};
 ghost use Rattle.mlir_work_session.specs.Machine.{response_of};
 
 use crate::reply::Reply;
 use greedy::outcome::Outcome as Ended;
 use ir_types::ids::OpId;
 use ir_types::refusal::Refusal;
-use mlir_work_convert::fault::Fault;
+use mlir_work_transforms::fault::Fault;
 use mlir_work_script::outcome::Outcome;
 
 /// The reply to a call that changes.

@@ -11,9 +11,8 @@ use crate::reply::Reply;
 use crate::replying::{reply_canonical, reply_converted, reply_swept};
 use greedy::bench::canonicalize;
 use ir_event::analysis::Analysis;
-use mlir_work_convert::convert;
 use mlir_work_script::clauses::Clauses;
-use mlir_work_sweep::sweep;
+use mlir_work_transforms::{convert, sweep};
 use rewriter::Bench;
 use rewriter::laws::led_benches_are_kept;
 use std::alloc::Global;
@@ -28,7 +27,7 @@ fn limit_of(manner: &Manner, limit: Option<u32>) -> u32
     }
 }
 
-/// Rewrites by the rules 1 to 24 until none applies any more, or so many times.
+/// Rewrites by the rules of canonicalization until none applies any more, or so many times.
 pub(crate) fn canon<L: Analysis>(
     alloc: Global,
     manner: &Manner,

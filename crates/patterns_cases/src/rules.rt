@@ -2,7 +2,8 @@
 use ir_types::ids::OpId;
 use mlir_work_cases_base::texts::{bytes, first, put_all_shown, small};
 use mlir_work_cases_base::witness::Witness;
-use patterns_indexed::apply::apply;
+use patterns::apply::apply;
+use patterns::rule::Rule;
 use rewriter_cases_base::Bench;
 use rewriter_cases_base::worlds::{bench_from, text_of};
 use std::alloc::{AllocError, Global};
@@ -16,12 +17,9 @@ fn put_applied(
     rule: u32,
     op: OpId,
 ) -> Result<(), AllocError> {
-    let Ok(rule) = u8::try_from(rule) else {
+    let Some(rule) = Rule::by_number(rule) else {
         return out.push_str("no rule");
     };
-    if rule < 1 || rule > 30 {
-        return out.push_str("no rule");
-    }
     match apply(alloc, bench, rule, op) {
         Ok(true) => out.push_str("applied"),
         Ok(false) => out.push_str("none"),

@@ -2,7 +2,7 @@ use Rattle.std.proofs.Common.{refl}
 use Rattle.rewriter.specs.Commands as command
 use Rattle.rewriter.specs.Machine as call
 use Rattle.mlir_work_script.specs.Clauses.{clauses_of, target_of}
-use Rattle.mlir_work_convert.specs.Converting.{conversion}
+use Rattle.mlir_work_transforms.specs.Converting.{conversion}
 use Rattle.mlir_work_session.proofs.Obeying.{obeys_plain}
 use Rattle.mlir_work_session.proofs.transforming.convert.Goals as goal
 

@@ -1,7 +1,7 @@
 use Rattle.std.proofs.Common.{refl}
 use Rattle.rewriter.specs.Commands as command
 use Rattle.rewriter.specs.Machine as call
-use Rattle.mlir_work_sweep.specs.Sweep.{sweeping}
+use Rattle.mlir_work_transforms.specs.Sweep.{sweeping}
 use Rattle.mlir_work_session.proofs.Obeying.{obeys_plain}
 use Rattle.mlir_work_session.proofs.transforming.sweep.Goals as goal
 

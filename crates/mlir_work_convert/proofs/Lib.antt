@@ -1,4 +1,0 @@
-pub mod Converted
-pub mod Listed
-pub mod Named
-pub mod Ruled

@@ -1,5 +1,0 @@
-use Rattle.mlir_work_convert.proofs.Named.{named_so}
-use Rattle.mlir_work_convert.proofs.names.intern.Goals as goal
-
-pub returns-in-Ok-clause-named : goal.returns-in-Ok-clause-named
-returns-in-Ok-clause-named g c = named_so c.args.bytes.now c.args.bench.now.desk.ctx c.name-named.new.self.desk.ctx c.in-Ok.name c.in-Ok.ensures.ok

@@ -1,3 +1,0 @@
-pub mod Interned
-pub use Rattle.conversion.specs.Converting
-pub use Rattle.conversion.specs.declared.fault.Fault

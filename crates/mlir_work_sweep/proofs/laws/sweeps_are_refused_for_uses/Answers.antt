@@ -1,5 +1,0 @@
-use Rattle.mlir_work_sweep.proofs.Order.{sweep_for_uses}
-use Rattle.mlir_work_sweep.proofs.laws.sweeps_are_refused_for_uses.Goals as goal
-
-pub returns : goal.returns
-returns c = sweep_for_uses

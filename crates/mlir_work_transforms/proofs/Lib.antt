@@ -1,0 +1,6 @@
+pub mod Sweeping
+pub mod Order
+pub mod Converted
+pub mod Listed
+pub mod Named
+pub mod Ruled

@@ -1,0 +1,18 @@
+use Rattle.std.proofs.Common.{◌≡◌, ◌++◌, List, ℕ}
+use Rattle.std.specs.Option.{option_copied}
+use Rattle.mlir_work_script.specs.Items.{items_behind}
+use Rattle.mlir_work_script.proofs.Listed.{left_of}
+use Rattle.mlir_work_transforms.specs.Interned.{AreNumbers, Interned}
+use Rattle.mlir_work_transforms.proofs.names.names_in.Given as goal
+
+-- the names that were passed have numbers, and with those that are left they are all
+abbrev pub invariant-items : goal.invariant-items
+invariant-items g l = record {
+  interned : Interned g.L.Analysis.meaning l.initial.bench l.bench;
+  done : List (List ℕ);
+  named : AreNumbers l.bench.desk.ctx l.numbers done;
+  whole : done ++ items_behind (option_copied l.rest) ≡ items_behind (option_copied l.fn.names);
+}
+
+abbrev pub decreases-items : goal.decreases-items
+decreases-items g l = left_of (option_copied l.rest)

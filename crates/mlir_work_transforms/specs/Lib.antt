@@ -1,0 +1,5 @@
+pub mod Sweep
+pub mod Erasing
+pub mod Interned
+pub use Rattle.conversion.specs.Converting
+pub use Rattle.conversion.specs.declared.fault.Fault

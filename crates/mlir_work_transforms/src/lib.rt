@@ -1,0 +1,12 @@
+//! The commands that transform the module of a bench, beside canonicalization: a sweep of the private symbols that nothing
+//! reaches, and a conversion for the target that clauses say.
+#![tactic(auto)]
+
+pub mod convert;
+pub mod laws;
+mod names;
+mod rules;
+pub mod sweep;
+mod target;
+
+pub use conversion::fault;
