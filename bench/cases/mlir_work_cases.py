@@ -26,6 +26,7 @@ from reference.lines import Table, given, told  # noqa: E402
 sys.path.append(str(pathlib.Path("tests").resolve()))
 import golden  # noqa: E402
 
+VERSION = re.search(rb"(?m)^## (\S+)", pathlib.Path("CHANGELOG.md").read_bytes())[1]
 TABLE, GOLDEN = Table(), golden.Collected()
 case = TABLE.case
 
@@ -705,7 +706,9 @@ def command_lines():
         wrong(words.split(), b"unexpected argument '%s' found" % word.encode() + usage + more)
     for words in ("--help", "-h", "--brief --help"):
         GOLDEN.case(words.split(), b"", (0, help_text))
-    for words in ("--nonsense", "x", "-b", "--version", "-V"):
+    for words in ("--version", "-V"):
+        GOLDEN.case([words], b"", (0, b"mlir_work %s\n" % VERSION))
+    for words in ("--nonsense", "x", "-b"):
         wrong([words], b"unexpected argument '%s' found" % words.encode() + usage + more)
     wrong(["--brief", "--brief"], b"the argument '--brief' cannot be used multiple times" + usage + more)
     # The example of the help.
