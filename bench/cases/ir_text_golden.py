@@ -102,7 +102,7 @@ class Golden:
         self.cases.case(["--brief"], text, answer, True)
 
     def attribute(self, part, text):
-        """An attribute behind `set-attr`, and in a module where no line can have it as it stands. Whether it's there."""
+        """An attribute behind `set-attr`, and in a module where no line can have it so. Whether it is there."""
         if len(text) >= MOST_HELD:
             return False
         held = is_held(text)
