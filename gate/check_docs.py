@@ -2,7 +2,7 @@
 """Checks README.md, docs/*.md, crates/*/README.md and bench/wrong_bodies/README.md:
 
   - each path of a file, a folder or a crate in backticks is there (NAME, CRATE and their like stand for any);
-  - a line has at most 120 columns, a cell of a table at most 200 (a row of a table can't be broken);
+  - a line has at most 120 columns, of Python, shell and C too; a cell of a table at most 200 (its row can't be broken);
   - the picture of docs/ARCHITECTURE.md has each crate of crates/, and crates.txt no other, each above those it names;
   - bench/wrong_bodies/README.md lists each edit that the prover must refuse, and docs/PROMISES.md says how many there
     are, and names in its last column no other.
@@ -80,6 +80,15 @@ def wrong_in(page):
             yield False, f"{at}: {line.strip()[:150]}"
 
 
+def long_lines():
+    """Lines of programs beside the crates that are too long."""
+    for path in sorted(it for folder in ("bench", "gate", "tools") for it in (root / folder).rglob("*")):
+        if path.suffix in {".py", ".sh", ".c"}:
+            for number, line in enumerate(path.read_text().splitlines(), 1):
+                if len(line) > COLUMNS:
+                    yield f"{path}:{number}: {len(line)} columns"
+
+
 def crates_apart():
     """Where the picture or crates.txt have other crates than there are, or a crate stands on one above it."""
     drawn = {word for line in (root / "docs/ARCHITECTURE.md").read_text().splitlines() if line.startswith("    ")
@@ -113,7 +122,8 @@ def edits_apart():
 
 def main():
     found = [it for page in pages() for it in wrong_in(page)]
-    wrong = [text for is_wrong, text in found if is_wrong] + list(crates_apart()) + list(edits_apart())
+    wrong = [text for is_wrong, text in found if is_wrong]
+    wrong += [*long_lines(), *crates_apart(), *edits_apart()]
     for text in wrong:
         print(text)
     for text in (text for is_wrong, text in found if not is_wrong):

@@ -1,13 +1,13 @@
 #!/usr/bin/env python3
-"""Types the commands of README.md, docs/GUIDE.md, docs/REFUSALS.md and examples/README.md as they stand there, in a folder
-that has what is at the top of the repository, and looks at what they write. A command on those pages that isn't known
-here is a fault, and so is one that is known and isn't there. (What is typed in a session of docs/GUIDE.md is typed by
-tools/tests/test_pages.py.)
+"""Types the commands of README.md, docs/GUIDE.md, docs/REFUSALS.md and examples/README.md as they stand there, in a
+folder that has what is at the top of the repository, and looks at what they write. A command on those pages that isn't
+known here is a fault, and so is one that is known and isn't there. (What is typed in a session of docs/GUIDE.md is
+typed by tools/tests/test_pages.py.)
 
 usage: gate/check_guide.py [--all]     with --all also those that take minutes, since they build
 
-The program is the built one, or that of MLIR_WORK (tools/program.py). A command that wants `mlir-opt` is typed where one
-is installed, mlir-opt-22 before another."""
+The program is the built one, or that of MLIR_WORK (tools/program.py). A command that wants `mlir-opt` is typed where
+one is installed, mlir-opt-22 before another."""
 import os
 import pathlib
 import re
@@ -33,8 +33,8 @@ SESSION = "ids\ndead\nhelp\n"
 
 
 class Typed:
-    """How a command is typed (`line`, where it isn't as it stands), what is typed to it, a part of what it has to write,
-    its status, and what it wants: a tool that may not be installed, or minutes."""
+    """How a command is typed (`line`, where it isn't as it stands), what is typed to it, a part of what it has to
+    write, its status, and what it wants: a tool that may not be installed, or minutes."""
 
     def __init__(self, writes, line=None, given="", status=0, wants="", folder="."):
         self.writes, self.line, self.given, self.status = writes, line, given, status

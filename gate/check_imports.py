@@ -1,8 +1,9 @@
 #!/usr/bin/env python3
-"""Checks what crates hand on whole (`pub use ir_tree as trees`, `pub use Rattle.ir_tree.proofs as of_trees`; docs/WORKING.md):
+"""Checks what crates hand on whole (`pub use ir_tree as trees`, `pub use Rattle.ir_tree.proofs as of_trees`;
+docs/WORKING.md):
 
-  - no definition, and no `ghost use` of code, leads by imports to a file that takes lemmas from a crate which hands them
-    on whole: the prover refuses that (`contract-cites-code`), but only once the crate is checked whole;
+  - no definition, and no `ghost use` of code, leads by imports to a file that takes lemmas from a crate which hands
+    them on whole: the prover refuses that (`contract-cites-code`), but only once the crate is checked whole;
   - nothing is handed on that no crate takes from there.
 
 It reads imports alone, in a second, and wants nothing built.
@@ -24,7 +25,8 @@ class Imports:
 
     def __init__(self):
         self.crates = sorted(path.name for path in root.iterdir() if path.is_dir())
-        self.texts = {path: path.read_text() for it in ("*/specs/**/*.antt", "*/proofs/**/*.antt", "*/src/**/*.rt") for path in root.glob(it)}
+        self.texts = {path: path.read_text() for it in ("*/specs/**/*.antt", "*/proofs/**/*.antt", "*/src/**/*.rt")
+                      for path in root.glob(it)}
         self.files, self.handed = {}, {}
         for path, text in self.texts.items():
             crate, part, *inside = path.relative_to(root).with_suffix("").parts
@@ -39,7 +41,8 @@ class Imports:
         by_another = False
         while True:
             words = name.split(".")
-            head = next((it for it in (".".join(words[:end]) for end in range(len(words), 3, -1)) if it in self.handed), None)
+            head = next((it for it in (".".join(words[:end]) for end in range(len(words), 3, -1)) if it in self.handed),
+                        None)
             if not head:
                 return name, by_another
             by_another |= ".proofs." in head
@@ -84,7 +87,8 @@ def unused(imports):
 
 def main():
     imports = Imports()
-    wrong = [" -> ".join(str(it.relative_to(root)) for it in way) + ": lemmas that a crate hands on whole" for way in leading(imports)]
+    wrong = [" -> ".join(str(it.relative_to(root)) for it in way) + ": lemmas that a crate hands on whole"
+             for way in leading(imports)]
     wrong += [f"{name}: handed on, and taken by none" for name in unused(imports)]
     for line in wrong:
         print(line)

@@ -1,16 +1,16 @@
 #!/usr/bin/env python3
 """Runs the gate and prints what it took, as the rows of a table of docs/GATE.md.
 
-usage: gate/gate.py [LOG [CRATE..]]   runs `rt ci` at the top of the repository, or for these crates and those below
-                               them, and keeps what it prints in LOG (else gate.log in a temporary folder); then prints
-                               wall and processor time, and for each crate the seconds of processor time of its own
-                               check, its tests and its edits. It ends with the gate's status.
-       gate/gate.py --table LOG.times..       prints the table of earlier runs again, of all of them together: what one
-                               run proved, a later one on that machine keeps
+usage: gate/gate.py [LOG [CRATE..]]       runs `rt ci` at the top of the repository, or for these crates and those below
+                                          them, and keeps what it prints in LOG (else gate.log in a temporary folder);
+                                          then prints wall and processor time, and for each crate the seconds of
+                                          processor time of its own check, its tests and its edits. It ends with the
+                                          gate's status.
+       gate/gate.py --table LOG.times..   prints the table of earlier runs again, of all of them together: what one run
+                                          proved, a later one on that machine keeps
 
-The gate prints no times of its own, so its processes are looked at twice a second, and each is counted with what it had used
-when it was last seen. Only those that it started are counted, but others beside it make it slower.
-"""
+The gate prints no times of its own, so its processes are looked at twice a second, and each is counted with what it had
+used when it was last seen. Only those that it started are counted, but others beside it make it slower. """
 import collections
 import json
 import os
@@ -82,14 +82,16 @@ def table(times):
         edits[crate] = sum(it.endswith(".edit") for it in os.listdir(folder)) if os.path.isdir(folder) else 0
     rows = ["| Crate | Itself | Built | Its tests | Its edits |", "|---|---|---|---|---|"]
     for crate in sorted(spent, key=lambda it: -sum(spent[it].values())):
-        of = {kind: f"{spent[crate][kind]:.0f}" if spent[crate][kind] else "" for kind in ("itself", "build", "tests", "edits")}
+        of = {kind: f"{spent[crate][kind]:.0f}" if spent[crate][kind] else ""
+              for kind in ("itself", "build", "tests", "edits")}
         count = f" ({edits[crate]})" if of["edits"] else ""
         rows.append(f"| `{crate}` | {of['itself']} | {of['build']} | {of['tests']} | {of['edits']}{count} |")
     total = collections.Counter()
     for it in spent.values():
         total.update(it)
     whole = {kind: f"{total[kind]:.0f}" for kind in ("itself", "build", "tests", "edits")}
-    rows.append(f"| all | {whole['itself']} | {whole['build']} | {whole['tests']} | {whole['edits']} ({sum(edits.values())}) |")
+    rows.append(f"| all | {whole['itself']} | {whole['build']} | {whole['tests']} | {whole['edits']} "
+                f"({sum(edits.values())}) |")
     return rows
 
 
@@ -123,7 +125,8 @@ def main():
         json.dump(times, it)
     with open(log) as it:
         last = (re.findall(r"^\d+ passed, \d+ failed$", it.read(), re.M) or ["no last line"])[-1]
-    print(f"{last}; wall {times['wall'] / 60:.1f} min, processor {times['processor'] / 60:.1f} min, on {os.cpu_count()} processors; log {log}")
+    print(f"{last}; wall {times['wall'] / 60:.1f} min, processor {times['processor'] / 60:.1f} min, on "
+          f"{os.cpu_count()} processors; log {log}")
     print("\n".join(table(times)))
     return gate.returncode
 

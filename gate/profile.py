@@ -1,13 +1,15 @@
 #!/usr/bin/env python3
 """Prints what each function of a crate costs in a check.
 
-usage: gate/profile.py CRATE [N]          checks the crate from nothing, by one job, and prints its N dearest functions (20)
-       gate/profile.py --of FOLDER [N]    reads the work that a check with `--jobs 1 --incremental FOLDER` kept in a new folder
+usage: gate/profile.py CRATE [N]          checks the crate from nothing, by one job, and prints its N dearest
+                                          functions (20)
+       gate/profile.py --of FOLDER [N]    reads the work that a check with `--jobs 1 --incremental FOLDER` kept, in a
+                                          folder that was new
 
-The libraries below the crate must be built (`rt check` in its folder once). A module's seconds are the time between its file and
-the one before it, so with more than one job, or over work that was kept before, they mean nothing. `Lts` is the size of the code
-(exits times the values alive across them), `Proof` the search for goals, `Answers` what is written by hand.
-"""
+The libraries below the crate must be built (`rt check` in its folder once). A module's seconds are the time between its
+file and the one before it, so with more than one job, or over work that was kept before, they mean nothing. `Lts` is
+the size of the code (exits times the values alive across them), `Proof` the search for goals, `Answers` what is written
+by hand. """
 import collections
 import glob
 import os
@@ -16,13 +18,15 @@ import shutil
 import subprocess
 import sys
 
-PARTS = "Code Lts Statement Proof Answers Met Layout Symbol Key Goals Invariants Reads TheLink TheLinks Tie Steps".split()
+PARTS = """Code Lts Statement Proof Answers Met Layout Symbol Key Goals Invariants Reads TheLink TheLinks Tie
+Steps""".split()
 
 
 def modules(folder):
     """Returns the modules in the order in which they were kept, each with its seconds."""
     kept = glob.glob(f"{folder}/antt-checked*/")[0]
-    times = sorted((os.stat(kept + it).st_mtime, it.removesuffix(".oantt")) for it in os.listdir(kept) if it.endswith(".oantt"))
+    times = sorted((os.stat(kept + it).st_mtime, it.removesuffix(".oantt")) for it in os.listdir(kept)
+                   if it.endswith(".oantt"))
     return [(after[0] - before[0], after[1]) for before, after in zip(times, times[1:])]
 
 

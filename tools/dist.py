@@ -1,8 +1,8 @@
 """The program as it is shipped: `tools/dist.sh` puts it into dist/, or compares it with what was built here.
 
-Only what was proved is put there: the program in `crates/mlir_work/out`, which `./run` or `.ci/run` built of these sources
-(`tools/sources.py`). It is shipped without its symbols and section headers, which no run reads: so two builds of the same
-sources, in whatever folders, are the same bytes. `dist/MANIFEST` has a line for each of
+Only what was proved is put there: the program in `crates/mlir_work/out`, which `./run` or `.ci/run` built of these
+sources (`tools/sources.py`). It is shipped without its symbols and section headers, which no run reads: so two builds
+of the same sources, in whatever folders, are the same bytes. `dist/MANIFEST` has a line for each of
 
     version    of CHANGELOG.md
     sources    the digest of the sources that it was made of
@@ -58,7 +58,7 @@ def built():
 
 def agree_on_version():
     """Stops where the program that was built says another version than CHANGELOG.md."""
-    ran = subprocess.run([sources.BUILT, "--version"], stdout=subprocess.PIPE, stderr=subprocess.DEVNULL, text=True, check=False)
+    ran = subprocess.run([sources.BUILT, "--version"], capture_output=True, text=True, check=False)
     if not ran.returncode and ran.stdout.split()[1:] != [version()]:
         sys.exit(f"the program says {ran.stdout.strip()}, and CHANGELOG.md {version()}")
 
@@ -83,7 +83,8 @@ def compare():
         return
     shipped, (program, _) = sources.unpacked(), built()
     if program != shipped:
-        place = next((at for at, (one, other) in enumerate(zip(program, shipped)) if one != other), min(len(program), len(shipped)))
+        pairs = enumerate(zip(program, shipped))
+        place = next((at for at, (one, other) in pairs if one != other), min(len(program), len(shipped)))
         sys.exit(f"dist/ says that it is of these sources, but what was built of them is another program: "
                  f"{len(program)} bytes and {len(shipped)}, first different at byte {place}")
 

@@ -1,6 +1,6 @@
 #!/bin/sh
-# Installs what `./run` starts: the program `mlir_work`, the prompt `mlir-work` over it, which wants Python 3, a man page,
-# and completions for bash and zsh. MLIR_WORK names another program to be installed.
+# Installs what `./run` starts: the program `mlir_work`, the prompt `mlir-work` over it, which wants Python 3, a man
+# page, and completions for bash and zsh. MLIR_WORK names another program to be installed.
 #
 # usage: tools/install.sh PREFIX
 set -eu

@@ -97,9 +97,9 @@ class Run:
 
 
 class Names:
-    """What a script calls values, by how they are printed behind the `%`: `arg0` and `arg0:` are an argument, `5` is the
-    result of the sixth operation that has results, `5#1` one of several, and `5:2` all of them. `owners` has the numbers
-    of these operations, in order, and `arguments` what those are called."""
+    """What a script calls values, by how they are printed behind the `%`: `arg0` and `arg0:` are an argument, `5` is
+    the result of the sixth operation that has results, `5#1` one of several, and `5:2` all of them. `owners` has the
+    numbers of these operations, in order, and `arguments` what those are called."""
 
     def __init__(self, owners, arguments):
         self.owners, self.arguments = owners, arguments

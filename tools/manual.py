@@ -1,5 +1,5 @@
-"""The man page and the completions of shells, made of the text of `mlir_work --help`, so that there is one table of options
-and commands.
+"""The man page and the completions of shells, made of the text of `mlir_work --help`, so that there is one table of
+options and commands.
 
 usage: tools/manual.py man|bash|zsh [HELP [VERSION]]     (HELP is a file, tools/help.txt where none is named)"""
 import pathlib
@@ -29,8 +29,9 @@ def man(text, version):
     about, _, rest = text.partition("\nUsage: ")
     usage, _, rest = rest.partition("\n")
     found = [f'.TH MLIR_WORK 1 "" "mlir_work {version}"', ".SH NAME",
-             f"{PROGRAM} \\- {plain(' '.join(about.split('.')[0].split()).replace('Edits', 'edits'))}", ".SH SYNOPSIS", plain(usage), ".br",
-             f"{PROMPT} MODULE [SCRIPT]", ".SH DESCRIPTION", plain(about.strip()), ".PP",
+             f"{PROGRAM} \\- {plain(' '.join(about.split('.')[0].split()).replace('Edits', 'edits'))}",
+             ".SH SYNOPSIS", plain(usage), ".br", f"{PROMPT} MODULE [SCRIPT]",
+             ".SH DESCRIPTION", plain(about.strip()), ".PP",
              f"{PROMPT} is a prompt over a module: it takes one command after another, and `help` there lists them."]
     for part in rest.strip("\n").split("\n\n"):
         title = re.match(r"([A-Z][\w ]*):\n|(?=(Commands), )", part)
@@ -45,7 +46,8 @@ def bash(text, _):
     """Completion for bash: the options of the program, and files for the prompt."""
     words = " ".join(f"--{word}" for _, word, _, _ in options(text))
     return f"""_{PROGRAM}() {{
-    [ "${{COMP_WORDS[COMP_CWORD-1]}}" = --limit ] || COMPREPLY=($(compgen -W "{words}" -- "${{COMP_WORDS[COMP_CWORD]}}"))
+    [ "${{COMP_WORDS[COMP_CWORD-1]}}" = --limit ] ||
+        COMPREPLY=($(compgen -W "{words}" -- "${{COMP_WORDS[COMP_CWORD]}}"))
 }}
 complete -F _{PROGRAM} {PROGRAM}
 complete -f -X '!*.@(mlir|script)' -o plusdirs {PROMPT}
@@ -55,7 +57,8 @@ complete -f -X '!*.@(mlir|script)' -o plusdirs {PROMPT}
 def zsh(text, _):
     """Completion for zsh."""
     quoted = [about.replace("'", "").replace("[", "\\[").replace("]", "\\]") for *_, about in options(text)]
-    rows = [f"  '--{word}[{about}]{':' + takes if takes else ''}'" for (_, word, takes, _), about in zip(options(text), quoted)]
+    rows = [f"  '--{word}[{about}]{':' + takes if takes else ''}'"
+            for (_, word, takes, _), about in zip(options(text), quoted)]
     return f"""#compdef {PROGRAM} {PROMPT}
 if [[ $service = {PROMPT} ]]; then
   _arguments '--help[Print help]' '--version[Print version]' '*:file:_files'

@@ -1,8 +1,8 @@
 """The program, and what goes into it and comes out.
 
 It is the one that ./run starts, of dist/ or built here (tools/sources.py), unless the environment names another one in
-MLIR_WORK, with its words. There `reference` stands for bench/reference, which answers the same, slowly, and wants nothing
-built."""
+MLIR_WORK, with its words. There `reference` stands for bench/reference, which answers the same, slowly, and wants
+nothing built."""
 import functools
 import os
 import pathlib

@@ -7,8 +7,8 @@ Besides the commands of a script there are these, each on a line of its own:
 
   ids          the module with the number of each operation in the margin, and values as a script names them
   at #N [K]    the same, but only the K lines (3) before and behind operation #N
-  diff         what changed in it since the last `diff`, or since the beginning; what a `canon`, a `convert` or a `sweep`
-               changed stands behind it by itself
+  diff         what changed in it since the last `diff`, or since the beginning; what a `canon`, a `convert` or a
+               `sweep` changed stands behind it by itself
   KIND [WORD]  `report KIND`; with a WORD, as #3 or %v2.0, only the rows in which it stands
   undo         the last edit was never typed
   save FILE    what was typed and accepted is written as a script

@@ -1,8 +1,9 @@
-"""Whole runs with some listeners, and what they write by the rules (bench/reference); mlir_work_cases.py makes cases of them.
+"""Whole runs with some listeners, and what they write by the rules (bench/reference); mlir_work_cases.py makes cases of
+them.
 
 For diagnostics there are the cases of verifier_cases.py. For each other listener there are modules by hand, modules by
-chance, and scripts that set operands; for all seven together edits by hand that change rows elsewhere, and scripts of edits,
-marks and rollbacks with all rows after each command. By chance is from the seed below."""
+chance, and scripts that set operands; for all seven together edits by hand that change rows elsewhere, and scripts of
+edits, marks and rollbacks with all rows after each command. By chance is from the seed below."""
 import random
 
 import verifier_cases
@@ -27,11 +28,13 @@ class Cases:
 
 
 def function(name, ty, args, body, more=""):
-    return f'"func.func"() <{{function_type = {ty}, sym_name = "{name}"{more}}}> ({{\n^bb0{args}:\n{body}}}) : () -> ()\n'
+    return (f'"func.func"() <{{function_type = {ty}, sym_name = "{name}"{more}}}> ({{\n^bb0{args}:\n{body}}}) : () -> '
+            f'()\n')
 
 
 def declared(name, ty="() -> ()"):
-    return f'"func.func"() <{{function_type = {ty}, sym_name = "{name}", sym_visibility = "private"}}> ({{}}) : () -> ()\n'
+    return (f'"func.func"() <{{function_type = {ty}, sym_name = "{name}", sym_visibility = "private"}}> ({{}}) : () '
+            f'-> ()\n')
 
 
 def module(name, body):
@@ -41,7 +44,8 @@ def module(name, body):
 def known(*values):
     """Constants %0, %1, .."""
     return "".join(f'%{k} = "arith.constant"() <{{value = {value}}}> : () -> {ty}\n'
-                   for k, (value, ty) in enumerate((it, "i1" if it in ("true", "false") else it.split(" : ")[1]) for it in values))
+                   for k, (value, ty) in enumerate((it, "i1" if it in ("true", "false") else it.split(" : ")[1])
+                                                   for it in values))
 
 
 CALL = '"func.call"() <{callee = @f}> : () -> ()\n'
@@ -52,51 +56,70 @@ PRIVATE = ', sym_visibility = "private"'
 # Modules with their rows of one kind, written by hand.
 BY_HAND = {
     "symbols": [
-        (declared("f") + declared("f", "(i32) -> ()") + function("g", "() -> ()", "", CALL + '"func.return"() : () -> ()\n'),
+        (declared("f") + declared("f", "(i32) -> ()")
+         + function("g", "() -> ()", "", CALL + '"func.return"() : () -> ()\n'),
          ["def #0 @f #1", "def #0 @f #2", "def #0 @g #3", "duplicate #0 @f #2", "use #4 @f #1"]),
         # The nearest table around counts, for a nested module the one around it; nothing is looked for further out.
         (declared("f") + module("m", CALL), ["def #0 @f #1", "def #0 @m #2", "unresolved #3 @f"]),
-        (declared("f") + module("m", declared("f", "(i32) -> ()") + CALL), ["def #0 @f #1", "def #0 @m #2", "def #2 @f #3", "use #4 @f #3", "mismatch #4 #3"]),
+        (declared("f") + module("m", declared("f", "(i32) -> ()") + CALL),
+         ["def #0 @f #1", "def #0 @m #2", "def #2 @f #3", "use #4 @f #3", "mismatch #4 #3"]),
         (module("m", declared("f")) + '"test.a"() {k = @m::@f, l = [@m, {a = @m::@g, b = @m::@f}]} : () -> ()\n',
          ["def #0 @m #1", "def #1 @f #2", "use #3 @m::@f #2", "use #3 @m #1", "unresolved #3 @m::@g"]),
         # A further part resolves in a module alone.
-        (function("f", "() -> ()", "", declared("g") + '"func.return"() : () -> ()\n') + '"test.a"() {k = @f::@g} : () -> ()\n', ["def #0 @f #1", "unresolved #4 @f::@g"]),
+        (function("f", "() -> ()", "", declared("g") + '"func.return"() : () -> ()\n')
+         + '"test.a"() {k = @f::@g} : () -> ()\n', ["def #0 @f #1", "unresolved #4 @f::@g"]),
         # A definition stands right inside a module, and its name is a string property.
-        ('"test.r"() ({\n' + declared("f") + '}) : () -> ()\n"test.a"() <{sym_name = "f"}> : () -> ()\n' + CALL, ["unresolved #4 @f"]),
-        ('"func.func"() <{function_type = () -> (), sym_name = @f}> ({}) : () -> ()\n"builtin.module"() <{sym_name = 1 : i8}> ({\n^bb0:\n}) : () -> ()\n', ["unresolved #1 @f"]),
+        ('"test.r"() ({\n' + declared("f") + '}) : () -> ()\n"test.a"() <{sym_name = "f"}> : () -> ()\n' + CALL,
+         ["unresolved #4 @f"]),
+        ('"func.func"() <{function_type = () -> (), sym_name = @f}> ({}) : () -> ()\n"builtin.module"() <{sym_name = '
+         '1 : i8}> ({\n^bb0:\n}) : () -> ()\n', ["unresolved #1 @f"]),
         # A call of what is no function of its type.
         (module("f", declared("f")) + CALL + '"func.call"() <{callee = @f::@f}> : () -> ()\n',
          ["def #0 @f #1", "def #1 @f #2", "use #3 @f #1", "use #4 @f::@f #2", "mismatch #3 #1"]),
-        (declared("f", "(i32) -> i64") + '%0 = "test.d"() : () -> i32\n%1 = "func.call"(%0) <{callee = @f}> : (i32) -> i64\n%2 = "func.call"(%0) <{callee = @f}> : (i32) -> i32\n'
+        (declared("f", "(i32) -> i64")
+         + '%0 = "test.d"() : () -> i32\n%1 = "func.call"(%0) <{callee = @f}> : (i32) -> i64\n%2 = "func.call"(%0) '
+           '<{callee = @f}> : (i32) -> i32\n'
          + '%3 = "test.call"(%0) {callee = @f} : (i32) -> i8\n%4 = "func.call"(%0) <{callee = "f"}> : (i32) -> i8\n',
          ["def #0 @f #1", "use #3 @f #1", "use #4 @f #1", "use #5 @f #1", "mismatch #4 #1"]),
         # Each reference once, by its first place: properties, then attributes, by key, depth first.
-        (declared("f") + declared("g") + '"func.call"() <{callee = @f, res_attrs = [@g, @h]}> {a = @f, b = {z = @g, y = @"i j"}, c = @g::@h} : () -> ()\n',
-         ["def #0 @f #1", "def #0 @g #2", "use #3 @f #1", "use #3 @g #2", "unresolved #3 @h", 'unresolved #3 @"i j"', "unresolved #3 @g::@h"]),
-        ('"builtin.module"() <{sym_name = "m"}> ({\n' + module("n", CALL) + '}) {k = @n, l = @m} : () -> ()\n', ["def #0 @n #1", "use #0 @n #1", "unresolved #0 @m", "unresolved #2 @f"]),
-        ('"builtin.module"() <{sym_name = "m"}> ({\n"builtin.module"() <{sym_name = "n"}> ({\n^bb0:\n}) {k = @n} : () -> ()\n}) : () -> ()\n', ["def #0 @n #1", "use #1 @n #1"]),
+        (declared("f") + declared("g")
+         + '"func.call"() <{callee = @f, res_attrs = [@g, @h]}> {a = @f, b = {z = @g, y = @"i j"}, c = @g::@h} : () '
+           '-> ()\n',
+         ["def #0 @f #1", "def #0 @g #2", "use #3 @f #1", "use #3 @g #2", "unresolved #3 @h", 'unresolved #3 @"i j"',
+          "unresolved #3 @g::@h"]),
+        ('"builtin.module"() <{sym_name = "m"}> ({\n' + module("n", CALL) + '}) {k = @n, l = @m} : () -> ()\n',
+         ["def #0 @n #1", "use #0 @n #1", "unresolved #0 @m", "unresolved #2 @f"]),
+        ('"builtin.module"() <{sym_name = "m"}> ({\n"builtin.module"() <{sym_name = "n"}> ({\n^bb0:\n}) {k = @n} : () '
+         '-> ()\n}) : () -> ()\n', ["def #0 @n #1", "use #1 @n #1"]),
     ],
     "unreached": [
         ("", []),
         # Who calls one another, and is called by nobody else; a function that only itself calls.
-        (function("m", "() -> ()", "", CALL.replace("@f", "@a") + RETURN) + function("a", "() -> ()", "", RETURN, PRIVATE)
-         + "".join(function(one, "() -> ()", "", CALL.replace("@f", other) + RETURN, PRIVATE) for one, other in (("b", "@c"), ("c", "@b"))), ["#6 @b", "#9 @c"]),
+        (function("m", "() -> ()", "", CALL.replace("@f", "@a") + RETURN)
+         + function("a", "() -> ()", "", RETURN, PRIVATE)
+         + "".join(function(one, "() -> ()", "", CALL.replace("@f", other) + RETURN, PRIVATE) for one,
+                   other in (("b", "@c"), ("c", "@b"))), ["#6 @b", "#9 @c"]),
         (function("f", "() -> ()", "", CALL + RETURN, PRIVATE), ["#1 @f"]),
         (function("f", "() -> ()", "", RETURN, PRIVATE).replace('}) : ', '}) {k = @f} : '), ["#1 @f"]),
         # References from properties and attributes, inside arrays and dictionaries.
         (declared("f") + CALL, []),
-        (declared("f") + declared("g") + declared("h") + '"test.a"() <{p = [{a = @f}]}> {k = {b = [@g]}} : () -> ()\n', ["#3 @h"]),
+        (declared("f") + declared("g") + declared("h") + '"test.a"() <{p = [{a = @f}]}> {k = {b = [@g]}} : () -> ()\n',
+         ["#3 @h"]),
         (declared("f") + function("g", "() -> ()", "", CALL + RETURN, PRIVATE), ["#1 @f", "#2 @g"]),
         # Only the string "private" among the properties makes a definition private.
-        (declared("f").replace('"private"', '"nested"') + declared("g").replace(', sym_visibility = "private"', "") + '"func.func"() <{sym_name = "h", sym_visibility = @private}> ({}) : () -> ()\n', []),
+        (declared("f").replace('"private"', '"nested"') + declared("g").replace(', sym_visibility = "private"', "")
+         + '"func.func"() <{sym_name = "h", sym_visibility = @private}> ({}) : () -> ()\n', []),
         # Each front of a reference counts, also where a further part isn't there.
         (module("m", declared("f")).replace('"m"', '"m"' + PRIVATE) + '"test.a"() {k = @m::@f} : () -> ()\n', []),
-        (module("m", declared("f")).replace('"m"', '"m"' + PRIVATE) + '"test.a"() {k = @m::@g} : () -> ()\n', ["#2 @f"]),
+        (module("m", declared("f")).replace('"m"', '"m"' + PRIVATE) + '"test.a"() {k = @m::@g} : () -> ()\n',
+         ["#2 @f"]),
         (module("m", declared("f")).replace('"m"', '"m"' + PRIVATE) + CALL, ["#1 @m", "#2 @f"]),
         # What stands in a private module counts where that is reached.
-        (module("m", declared("f") + CALL).replace('"m"', '"m"' + PRIVATE) + '"test.a"() : () -> ()\n', ["#1 @m", "#2 @f"]),
+        (module("m", declared("f") + CALL).replace('"m"', '"m"' + PRIVATE) + '"test.a"() : () -> ()\n',
+         ["#1 @m", "#2 @f"]),
         (module("m", declared("f") + CALL).replace('"m"', '"m"' + PRIVATE) + '"test.a"() {k = @m} : () -> ()\n', []),
-        (module("m", function("n", "() -> ()", "", CALL + RETURN, PRIVATE) + declared("f")) + '"test.a"() {k = @m::@f} : () -> ()\n', ["#2 @n"]),
+        (module("m", function("n", "() -> ()", "", CALL + RETURN, PRIVATE) + declared("f"))
+         + '"test.a"() {k = @m::@f} : () -> ()\n', ["#2 @n"]),
         # Of several definitions of a name the first counts; a reference looks in the nearest table alone.
         (declared("f") + declared("f") + CALL, ["#2 @f"]),
         (declared("f") + module("m", CALL), ["#1 @f"]),
@@ -105,55 +128,89 @@ BY_HAND = {
     ],
     "effects": [
         ("", ["#0 unknown"]),
-        (TRUE + f'"scf.if"(%true) ({{\n%m = "memref.alloc"() : () -> memref<i32>\n"memref.dealloc"(%m) : (memref<i32>) -> ()\n{YIELD}}}, {{\n'
+        (TRUE + '"scf.if"(%true) ({\n%m = "memref.alloc"() : () -> memref<i32>\n'
+         f'"memref.dealloc"(%m) : (memref<i32>) -> ()\n{YIELD}}}, {{\n'
          f'"scf.if"(%true) ({{\n"test.a"() : () -> ()\n{YIELD}}}, {{}}) : (i1) -> ()\n{YIELD}}}) : (i1) -> ()\n',
-         ["#0 unknown", "#1 unknown", "#2 unknown allocate free", "#3 allocate", "#4 free", "#6 unknown", "#7 unknown"]),
-        ('%m = "memref.alloc"() : () -> memref<i32>\n%0 = "memref.load"(%m) : (memref<i32>) -> i32\n"memref.store"(%0, %m) : (i32, memref<i32>) -> ()\n"func.call"() : () -> ()\n',
+         ["#0 unknown", "#1 unknown", "#2 unknown allocate free", "#3 allocate", "#4 free", "#6 unknown",
+          "#7 unknown"]),
+        ('%m = "memref.alloc"() : () -> memref<i32>\n%0 = "memref.load"(%m) : (memref<i32>) -> '
+         'i32\n"memref.store"(%0, %m) : (i32, memref<i32>) -> ()\n"func.call"() : () -> ()\n',
          ["#0 unknown", "#1 allocate", "#2 read", "#3 write", "#4 unknown"]),
-        (function("f", "() -> ()", "", '"func.return"() : () -> ()\n') + '%0 = "builtin.unrealized_conversion_cast"() : () -> i1\n"scf.if"(%0) ({}, {}) : (i1) -> ()\n',
+        (function("f", "() -> ()", "", '"func.return"() : () -> ()\n')
+         + '%0 = "builtin.unrealized_conversion_cast"() : () -> i1\n"scf.if"(%0) ({}, {}) : (i1) -> ()\n',
          ["#0 unknown", "#1 unknown"]),
         # What an operation does isn't asked of its rules.
-        ('"memref.store"() ({\n"test.a"() : () -> ()\n}) : () -> ()\n"arith.addi"() ({\n"memref.load"() : () -> ()\n}) : () -> ()\n', ["#0 unknown", "#1 write", "#2 unknown", "#4 read"]),
+        ('"memref.store"() ({\n"test.a"() : () -> ()\n}) : () -> ()\n"arith.addi"() ({\n"memref.load"() : () -> '
+         '()\n}) : () -> ()\n', ["#0 unknown", "#1 write", "#2 unknown", "#4 read"]),
     ],
     "dead": [
-        ('%m = "memref.alloc"() : () -> memref<i32>\n%n = "memref.alloc"() : () -> memref<i32>\n%0 = "memref.load"(%n) : (memref<i32>) -> i32\n', ["#1", "#3"]),
-        (known("1 : i32") + f'%i = "builtin.unrealized_conversion_cast"() : () -> i1\n"scf.if"(%i) ({{\n"scf.if"(%i) ({{\n"memref.store"() : () -> ()\n{YIELD}}}, {{}}) : (i1) -> ()\n{YIELD}}},'
+        ('%m = "memref.alloc"() : () -> memref<i32>\n%n = "memref.alloc"() : () -> memref<i32>\n%0 = '
+         '"memref.load"(%n) : (memref<i32>) -> i32\n', ["#1", "#3"]),
+        (known("1 : i32") + '%i = "builtin.unrealized_conversion_cast"() : () -> i1\n"scf.if"(%i) '
+         f'({{\n"scf.if"(%i) ({{\n"memref.store"() : () -> ()\n{YIELD}}}, {{}}) : (i1) -> ()\n{YIELD}}},'
          f' {{\n"scf.if"(%i) ({{\n{YIELD}}}, {{}}) : (i1) -> ()\n{YIELD}}}) : (i1) -> ()\n', ["#1", "#8"]),
-        (function("f", "() -> ()", "", '"func.return"() : () -> ()\n') + '"builtin.module"() ({\n^bb0:\n}) : () -> ()\n"scf.yield"() : () -> ()\n', []),
-        ('"arith.addi"() : () -> ()\n%0:2 = "scf.if"() : () -> (i32, i32)\n"test.u"(%0#1) : (i32) -> ()\n%1 = "test.d"() : () -> i32\n"func.call"() : () -> ()\n', ["#1"]),
+        (function("f", "() -> ()", "", '"func.return"() : () -> ()\n')
+         + '"builtin.module"() ({\n^bb0:\n}) : () -> ()\n"scf.yield"() : () -> ()\n', []),
+        ('"arith.addi"() : () -> ()\n%0:2 = "scf.if"() : () -> (i32, i32)\n"test.u"(%0#1) : (i32) -> ()\n%1 = '
+         '"test.d"() : () -> i32\n"func.call"() : () -> ()\n', ["#1"]),
     ],
     "constants": [
-        (known("7 : i8", "-3 : i8") + '%a = "arith.divsi"(%0, %1) : (i8, i8) -> i8\n%b = "arith.remsi"(%0, %1) : (i8, i8) -> i8\n%c = "arith.divui"(%0, %1) : (i8, i8) -> i8\n'
-         '%d = "arith.remui"(%0, %1) : (i8, i8) -> i8\n', ["%v1.0 7 : i8", "%v2.0 -3 : i8", "%v3.0 -2 : i8", "%v4.0 1 : i8", "%v5.0 0 : i8", "%v6.0 7 : i8"]),
-        (known("-128 : i8", "-1 : i8", "0 : i8") + '%a = "arith.divsi"(%0, %1) : (i8, i8) -> i8\n%b = "arith.remsi"(%0, %1) : (i8, i8) -> i8\n%c = "arith.divui"(%0, %2) : (i8, i8) -> i8\n'
-         '%d = "arith.shli"(%0, %1) : (i8, i8) -> i8\n%e = "arith.muli"(%0, %1) : (i8, i8) -> i8\n', ["%v1.0 -128 : i8", "%v2.0 -1 : i8", "%v3.0 0 : i8", "%v8.0 -128 : i8"]),
+        (known("7 : i8", "-3 : i8")
+         + '%a = "arith.divsi"(%0, %1) : (i8, i8) -> i8\n%b = "arith.remsi"(%0, %1) : (i8, i8) -> i8\n%c = '
+           '"arith.divui"(%0, %1) : (i8, i8) -> i8\n'
+         '%d = "arith.remui"(%0, %1) : (i8, i8) -> i8\n',
+         ["%v1.0 7 : i8", "%v2.0 -3 : i8", "%v3.0 -2 : i8", "%v4.0 1 : i8", "%v5.0 0 : i8", "%v6.0 7 : i8"]),
+        (known("-128 : i8", "-1 : i8", "0 : i8")
+         + '%a = "arith.divsi"(%0, %1) : (i8, i8) -> i8\n%b = "arith.remsi"(%0, %1) : (i8, i8) -> i8\n%c = '
+           '"arith.divui"(%0, %2) : (i8, i8) -> i8\n'
+         '%d = "arith.shli"(%0, %1) : (i8, i8) -> i8\n%e = "arith.muli"(%0, %1) : (i8, i8) -> i8\n',
+         ["%v1.0 -128 : i8", "%v2.0 -1 : i8", "%v3.0 0 : i8", "%v8.0 -128 : i8"]),
         ('%x = "test.d"() : () -> i32\n%y = "test.d"() : () -> i64\n' + known("0 : i32", "-1 : i32", "0 : i64") +
-         '%a = "arith.muli"(%0, %x) : (i32, i32) -> i32\n%b = "arith.andi"(%y, %0) : (i64, i32) -> i32\n%c = "arith.ori"(%x, %1) : (i32, i32) -> i32\n%d = "arith.muli"(%x, %2) : (i32, i64) -> i32\n'
-         '%e = "arith.andi"(%x, %1) : (i32, i32) -> i32\n', ["%v3.0 0 : i32", "%v4.0 -1 : i32", "%v5.0 0 : i64", "%v6.0 0 : i32", "%v7.0 0 : i32", "%v8.0 -1 : i32"]),
+         '%a = "arith.muli"(%0, %x) : (i32, i32) -> i32\n%b = "arith.andi"(%y, %0) : (i64, i32) -> i32\n%c = '
+         '"arith.ori"(%x, %1) : (i32, i32) -> i32\n%d = "arith.muli"(%x, %2) : (i32, i64) -> i32\n'
+         '%e = "arith.andi"(%x, %1) : (i32, i32) -> i32\n',
+         ["%v3.0 0 : i32", "%v4.0 -1 : i32", "%v5.0 0 : i64", "%v6.0 0 : i32", "%v7.0 0 : i32", "%v8.0 -1 : i32"]),
         ('%x = "test.d"() : () -> i32\n' + known("true", "5 : i32", "false", "6 : i64") +
-         '%a = "arith.select"(%0, %1, %x) : (i1, i32, i32) -> i32\n%b = "arith.select"(%2, %1, %x) : (i1, i32, i32) -> i32\n%c = "arith.select"(%0, %3, %1) : (i1, i64, i32) -> i32\n'
-         '%d = "arith.select"(%2, %x, %3) : (i1, i32, i64) -> i64\n', ["%v2.0 true", "%v3.0 5 : i32", "%v4.0 false", "%v5.0 6 : i64", "%v6.0 5 : i32", "%v9.0 6 : i64"]),
-        (known("-1 : i8", "200 : i8") + '%a = "arith.extsi"(%0) : (i8) -> i16\n%b = "arith.extui"(%0) : (i8) -> i16\n%c = "arith.extsi"(%1) : (i8) -> i4\n%d = "arith.trunci"(%1) : (i8) -> i4\n'
-         '%e = "arith.trunci"(%1) : (i8) -> i8\n%f = "arith.index_cast"(%0) : (i8) -> index\n%g = "arith.index_castui"(%0) : (i8) -> index\n%h = "arith.index_cast"(%0) : (i8) -> i16\n',
-         ["%v1.0 -1 : i8", "%v2.0 -56 : i8", "%v3.0 -1 : i16", "%v4.0 255 : i16", "%v5.0 -8 : i4", "%v6.0 -8 : i4", "%v8.0 -1 : index", "%v9.0 255 : index", "%v10.0 -1 : i16"]),
+         '%a = "arith.select"(%0, %1, %x) : (i1, i32, i32) -> i32\n%b = "arith.select"(%2, %1, %x) : (i1, i32, i32) '
+         '-> i32\n%c = "arith.select"(%0, %3, %1) : (i1, i64, i32) -> i32\n'
+         '%d = "arith.select"(%2, %x, %3) : (i1, i32, i64) -> i64\n',
+         ["%v2.0 true", "%v3.0 5 : i32", "%v4.0 false", "%v5.0 6 : i64", "%v6.0 5 : i32", "%v9.0 6 : i64"]),
+        (known("-1 : i8", "200 : i8")
+         + '%a = "arith.extsi"(%0) : (i8) -> i16\n%b = "arith.extui"(%0) : (i8) -> i16\n%c = "arith.extsi"(%1) : (i8) '
+           '-> i4\n%d = "arith.trunci"(%1) : (i8) -> i4\n'
+         '%e = "arith.trunci"(%1) : (i8) -> i8\n%f = "arith.index_cast"(%0) : (i8) -> index\n%g = '
+         '"arith.index_castui"(%0) : (i8) -> index\n%h = "arith.index_cast"(%0) : (i8) -> i16\n',
+         ["%v1.0 -1 : i8", "%v2.0 -56 : i8", "%v3.0 -1 : i16", "%v4.0 255 : i16", "%v5.0 -8 : i4", "%v6.0 -8 : i4",
+          "%v8.0 -1 : index", "%v9.0 255 : index", "%v10.0 -1 : i16"]),
         # A property outside the row, or of a wrong kind, a count that isn't the row's, another type.
-        ('%a = "arith.constant"() <{value = 1 : i8, x}> : () -> i8\n%b = "arith.constant"() <{value = 1 : i8}> : () -> i16\n%c:2 = "arith.constant"() <{value = 1 : i8}> : () -> (i8, i8)\n'
-         '%d = "arith.constant"() <{value = 1 : ui8}> : () -> ui8\n%e = "arith.constant"() <{value = 1 : i8}> ({}) {x} : () -> i8\n'
-         '%f = "arith.addi"(%e, %e) <{overflowFlags = 1 : i8}> : (i8, i8) -> i8\n%g = "arith.addi"(%e) : (i8) -> i8\n%h = "arith.addi"(%e, %e) <{overflowFlags = #arith.overflow<nsw>}> : (i8, i8) -> i8\n'
+        ('%a = "arith.constant"() <{value = 1 : i8, x}> : () -> i8\n%b = "arith.constant"() <{value = 1 : i8}> : () '
+         '-> i16\n%c:2 = "arith.constant"() <{value = 1 : i8}> : () -> (i8, i8)\n'
+         '%d = "arith.constant"() <{value = 1 : ui8}> : () -> ui8\n%e = "arith.constant"() <{value = 1 : i8}> ({}) '
+         '{x} : () -> i8\n'
+         '%f = "arith.addi"(%e, %e) <{overflowFlags = 1 : i8}> : (i8, i8) -> i8\n%g = "arith.addi"(%e) : (i8) -> '
+         'i8\n%h = "arith.addi"(%e, %e) <{overflowFlags = #arith.overflow<nsw>}> : (i8, i8) -> i8\n'
          '%i = "arith.addi"(%e, %e) : (i8, i8) -> i16\n', ["%v5.0 1 : i8", "%v8.0 2 : i8"]),
-        (known("3 : index", "4 : index") + '%a = "arith.cmpi"(%0, %1) <{predicate = 2 : i64}> : (index, index) -> i1\n%b = "arith.cmpi"(%0, %1) : (index, index) -> i1\n'
-         '%c = "arith.cmpi"(%0, %1) <{predicate = 10 : i64}> : (index, index) -> i1\n"scf.if"(%a) ({\n%d = "arith.subi"(%0, %1) : (index, index) -> index\n"scf.yield"() : () -> ()\n}, {}) : (i1) -> ()\n',
+        (known("3 : index", "4 : index")
+         + '%a = "arith.cmpi"(%0, %1) <{predicate = 2 : i64}> : (index, index) -> i1\n%b = "arith.cmpi"(%0, %1) : '
+           '(index, index) -> i1\n'
+         '%c = "arith.cmpi"(%0, %1) <{predicate = 10 : i64}> : (index, index) -> i1\n"scf.if"(%a) ({\n%d = '
+         '"arith.subi"(%0, %1) : (index, index) -> index\n"scf.yield"() : () -> ()\n}, {}) : (i1) -> ()\n',
          ["%v1.0 3 : index", "%v2.0 4 : index", "%v3.0 true", "%v7.0 -1 : index"]),
     ],
 }
 for number, word in enumerate("eq ne slt sle sgt sge ult ule ugt uge".split()):
-    rows = {"eq": "false false true", "ne": "true true false", "slt": "true false false", "sle": "true false true", "sgt": "false true false",
-            "sge": "false true true", "ult": "false true false", "ule": "false true true", "ugt": "true false false", "uge": "true false true"}[word].split()
+    rows = {"eq": "false false true", "ne": "true true false", "slt": "true false false", "sle": "true false true",
+            "sgt": "false true false",
+            "sge": "false true true", "ult": "false true false", "ule": "false true true", "ugt": "true false false",
+            "uge": "true false true"}[word].split()
     pairs = (("%0", "%1"), ("%1", "%0"), ("%0", "%0"))
-    compared = "".join(f'%c{k} = "arith.cmpi"({a}, {b}) <{{predicate = {number} : i64}}> : (i8, i8) -> i1\n' for k, (a, b) in enumerate(pairs))
-    BY_HAND["constants"].append((known("-1 : i8", "1 : i8") + compared, ["%v1.0 -1 : i8", "%v2.0 1 : i8"] + [f"%v{k + 3}.0 {row}" for k, row in enumerate(rows)]))
+    compared = "".join(f'%c{k} = "arith.cmpi"({a}, {b}) <{{predicate = {number} : i64}}> : (i8, i8) -> i1\n' for k,
+                       (a, b) in enumerate(pairs))
+    BY_HAND["constants"].append((known("-1 : i8", "1 : i8") + compared, ["%v1.0 -1 : i8", "%v2.0 1 : i8"]
+                                 + [f"%v{k + 3}.0 {row}" for k, row in enumerate(rows)]))
 
-# A module, and edits after each of which all rows are reported: each changes rows of an operation that isn't the edited one.
+# A module, and edits after each of which all rows are reported: each changes rows of an operation that isn't the edited
+# one.
 NEAR = """%t = "test.d"() : () -> i1
 %a = "test.d"() : () -> i32
 %r = "scf.if"(%t) ({
@@ -177,25 +234,37 @@ NEAR = """%t = "test.d"() : () -> i1
 """
 EDITS = [
     # The last operation of a block goes, comes, and is shifted away and back.
-    ["begin", "erase #5", "insert end #3 0 \"scf.yield\"(%v2.0) : (i32) -> ()", "move #4 end #3 0", "rollback", "move #5 start #3 0", "move #4 before #5", "move #5 start #7 1",
+    ["begin", "erase #5", "insert end #3 0 \"scf.yield\"(%v2.0) : (i32) -> ()", "move #4 end #3 0", "rollback",
+     "move #5 start #3 0", "move #4 before #5", "move #5 start #7 1",
      "move #5 end #3 0", "move #6 end #3 0", "move #6 end #3 1"],
-    ["erase #6", "insert end #3 1 \"test.c\"() : () -> ()", "insert end #3 1 \"scf.yield\"(%v2.0) : (i32) -> ()", "erase #14", "move #5 end #3 1"],
-    ["begin", "erase #3", "rollback", "begin", "move #5 after #6", "move #6 end #0 0", "rollback", "begin", "erase #12", "insert end #9 0 \"test.c\"() : () -> ()", "rollback"],
+    ["erase #6", "insert end #3 1 \"test.c\"() : () -> ()", "insert end #3 1 \"scf.yield\"(%v2.0) : (i32) -> ()",
+     "erase #14", "move #5 end #3 1"],
+    ["begin", "erase #3", "rollback", "begin", "move #5 after #6", "move #6 end #0 0", "rollback", "begin", "erase #12",
+     "insert end #9 0 \"test.c\"() : () -> ()", "rollback"],
     # Properties of the operation around, of a callee, of a constant.
-    ["set-attr #9 function_type (i32) -> i64", "set-attr #9 function_type (i64) -> i32", "drop-attr #9 function_type", "set-attr #9 function_type () -> ()",
-     "set-attr #9 function_type (i32) -> i32", "set-attr #9 sym_name 3 : i8", "set-attr #9 sym_name \"g\"", "set-attr #13 callee @g", "drop-attr #9 sym_name"],
-    ["set-attr #10 value 6 : i32", "set-attr #10 value 6 : i64", "drop-attr #10 value", "set-attr #10 value \"x\"", "set-attr #10 value -1 : i32", "set-attr #11 extra unit", "drop-attr #11 extra",
+    ["set-attr #9 function_type (i32) -> i64", "set-attr #9 function_type (i64) -> i32", "drop-attr #9 function_type",
+     "set-attr #9 function_type () -> ()",
+     "set-attr #9 function_type (i32) -> i32", "set-attr #9 sym_name 3 : i8", "set-attr #9 sym_name \"g\"",
+     "set-attr #13 callee @g", "drop-attr #9 sym_name"],
+    ["set-attr #10 value 6 : i32", "set-attr #10 value 6 : i64", "drop-attr #10 value", "set-attr #10 value \"x\"",
+     "set-attr #10 value -1 : i32", "set-attr #11 extra unit", "drop-attr #11 extra",
      "set-attr #11 overflowFlags 1 : i32", "set-attr #11 overflowFlags #arith.overflow<nsw>"],
     # Operands.
-    ["set-operand #5 0 %v1.0", "set-operand #3 0 %v2.0", "set-operand #5 0 %v2.0", "set-operand #11 0 %v10.0", "set-operand #12 0 %v10.0", "set-operand #11 1 %a9.0.0", "set-operand #12 0 %a9.0.0"],
+    ["set-operand #5 0 %v1.0", "set-operand #3 0 %v2.0", "set-operand #5 0 %v2.0", "set-operand #11 0 %v10.0",
+     "set-operand #12 0 %v10.0", "set-operand #11 1 %a9.0.0", "set-operand #12 0 %a9.0.0"],
     ["replace %v11.0 %v10.0", "erase #11", "replace %v10.0 %a9.0.0", "erase #10", "begin", "erase #9", "rollback"],
     # Functions and modules under other operations.
-    ["move #9 start #7 1", "move #9 start #3 0", "move #9 end #3 0", "move #9 end #0 0", "move #13 start #0 0", "insert end #0 0 \"builtin.module\"() <{sym_name = \"m\"}> ({ ^bb0: }) : () -> ()",
-     "insert end #14 0 \"func.func\"() <{function_type = () -> (), sym_name = \"f\", sym_visibility = \"private\"}> ({}) : () -> ()", "set-attr #13 callee @m::@f", "set-attr #8 k [@m::@f, @f]",
+    ["move #9 start #7 1", "move #9 start #3 0", "move #9 end #3 0", "move #9 end #0 0", "move #13 start #0 0",
+     "insert end #0 0 \"builtin.module\"() <{sym_name = \"m\"}> ({ ^bb0: }) : () -> ()",
+     "insert end #14 0 \"func.func\"() <{function_type = () -> (), sym_name = \"f\", sym_visibility = \"private\"}> "
+     "({}) : () -> ()", "set-attr #13 callee @m::@f", "set-attr #8 k [@m::@f, @f]",
      "erase #15", "erase #14", "set-attr #13 callee @f"],
     # Memory inside.
-    ["insert before #4 %m = \"memref.alloc\"() : () -> memref<i32>", "insert before #4 \"memref.store\"(%v2.0, %v14.0) : (i32, memref<i32>) -> ()", "move #4 end #0 0", "erase #15", "erase #14",
-     "set-operand #12 0 %a9.0.0", "erase #11", "begin", "begin", "erase #10", "insert before #12 \"arith.constant\"() <{value = 5 : i32}> : () -> i32", "rollback", "commit", "rollback"],
+    ["insert before #4 %m = \"memref.alloc\"() : () -> memref<i32>",
+     "insert before #4 \"memref.store\"(%v2.0, %v14.0) : (i32, memref<i32>) -> ()", "move #4 end #0 0", "erase #15",
+     "erase #14",
+     "set-operand #12 0 %a9.0.0", "erase #11", "begin", "begin", "erase #10",
+     "insert before #12 \"arith.constant\"() <{value = 5 : i32}> : () -> i32", "rollback", "commit", "rollback"],
 ]
 
 
@@ -232,7 +301,8 @@ def by_edits(cases):
 
 def by_scripts(cases, maker):
     for number in range(SCRIPTS):
-        text = text_of(chance.module(maker, maker.randrange(5, 14), maker.choice([0, 0.1, 0.3]), (KINDS + ("any",))[number % 6])).encode()
+        text = text_of(chance.module(maker, maker.randrange(5, 14), maker.choice([0, 0.1, 0.3]),
+                                     (KINDS + ("any",))[number % 6])).encode()
         lines, brief = chance.commands(maker, text, COMMANDS, chance.Scripter.edit_or_mark), number % 10 != 0
         cases.run(script_of(text, lines, asked(script.BOXES) if brief else ""), brief)
 

@@ -1,5 +1,5 @@
-"""Runs with conversions; mlir_work_cases.py makes cases of them. What is written is by the rules (bench/reference/conversion.py),
-and of most runs how each command is answered is said here as well."""
+"""Runs with conversions; mlir_work_cases.py makes cases of them. What is written is by the rules
+(bench/reference/conversion.py), and of most runs how each command is answered is said here as well."""
 import itertools
 import random
 
@@ -18,7 +18,8 @@ def function(inputs, outputs, body):
     """A function of arguments %a0, %a1 and so on."""
     types = ", ".join(inputs)
     arguments = ", ".join(f"%a{place}: {ty}" for place, ty in enumerate(inputs))
-    return f'"func.func"() <{{function_type = ({types}) -> ({", ".join(outputs)}), sym_name = "f"}}> ({{\n^bb0({arguments}):\n{body}}}) : () -> ()\n'
+    return (f'"func.func"() <{{function_type = ({types}) -> ({", ".join(outputs)}), sym_name = "f"}}> '
+            f'({{\n^bb0({arguments}):\n{body}}}) : () -> ()\n')
 
 
 def returned(value, ty):
@@ -73,25 +74,43 @@ def clauses(cases):
     """Each clause on both sides of its form and of what it may say."""
     lists = []
     for word in ("legal", "illegal", "dynamic"):
-        lists += [(f"{word} t.a", NONE), (f"{word} t.a,t.b,t", NONE), (f"{word} t.a,t.a", WRONG), (f"{word} t.a,t.b,t.a", WRONG), (f"{word} {CAST}", WRONG), (f"{word} t.a,{CAST},t.b", WRONG),
-                  (f"{word} {CAST}s", NONE), (f"{word} t.a,", BAD), (f"{word} ,t.a", BAD), (f"{word} t.a,,t.b", BAD), (word, BAD), (f"{word} t.a t.b", BAD), (f"{word} t.a {word} t.b", BAD),
-                  (f"{word} t.a,t.a,", BAD), (f'{word} "t.a",#1,//,%v1.0', NONE), (f"{word} \xe9,\xe8", NONE), (f"{word} \xe9,\xe9", WRONG), (f"{word} {word}", NONE)]
+        lists += [(f"{word} t.a", NONE), (f"{word} t.a,t.b,t", NONE), (f"{word} t.a,t.a", WRONG),
+                  (f"{word} t.a,t.b,t.a", WRONG), (f"{word} {CAST}", WRONG), (f"{word} t.a,{CAST},t.b", WRONG),
+                  (f"{word} {CAST}s", NONE), (f"{word} t.a,", BAD), (f"{word} ,t.a", BAD), (f"{word} t.a,,t.b", BAD),
+                  (word, BAD), (f"{word} t.a t.b", BAD), (f"{word} t.a {word} t.b", BAD),
+                  (f"{word} t.a,t.a,", BAD), (f'{word} "t.a",#1,//,%v1.0', NONE), (f"{word} \xe9,\xe8", NONE),
+                  (f"{word} \xe9,\xe9", WRONG), (f"{word} {word}", NONE)]
     for one, two in itertools.permutations(("legal", "illegal", "dynamic"), 2):
         lists += [(f"{one} t.a {two} t.b", NONE), (f"{one} t.b,t.a {two} t.c,t.a", WRONG)]
-    lists += [("dynamic t.c illegal t.b legal t.a", NONE), ("dynamic t.a illegal t.b legal t.a", WRONG), ("legal t.a illegal t.b dynamic t.c,t.b", WRONG)]
+    lists += [("dynamic t.c illegal t.b legal t.a", NONE), ("dynamic t.a illegal t.b legal t.a", WRONG),
+              ("legal t.a illegal t.b dynamic t.c,t.b", WRONG)]
     rules = [(f"rules {rule}", NONE if rule == 2 or 25 <= rule <= 30 else WRONG) for rule in range(34)]
-    rules += [("rules 2,2", NONE), ("rules 30,29,28,27,26,25,2", NONE), ("rules 2,25,1", WRONG), ("rules 24,2", WRONG), ("rules 0030", NONE), ("rules 258", WRONG), ("rules 281", WRONG), ("rules 4294967295", WRONG),
-              ("rules 4294967298", BAD), ("rules 4294967296", BAD), ("rules 2,", BAD), ("rules ,2", BAD), ("rules 2,,25", BAD), ("rules 2,x", BAD), ("rules x", BAD), ("rules -2", BAD), ("rules +2", BAD), ("rules", BAD), ("rules 2 rules 2", BAD)]
+    rules += [("rules 2,2", NONE), ("rules 30,29,28,27,26,25,2", NONE), ("rules 2,25,1", WRONG), ("rules 24,2", WRONG),
+              ("rules 0030", NONE), ("rules 258", WRONG), ("rules 281", WRONG), ("rules 4294967295", WRONG),
+              ("rules 4294967298", BAD), ("rules 4294967296", BAD), ("rules 2,", BAD), ("rules ,2", BAD),
+              ("rules 2,,25", BAD), ("rules 2,x", BAD), ("rules x", BAD), ("rules -2", BAD), ("rules +2", BAD),
+              ("rules", BAD), ("rules 2 rules 2", BAD)]
     depths = [(f"depth {depth}", NONE if 1 <= depth <= 16 else WRONG) for depth in range(20)]
-    depths += [("depth 016", NONE), ("depth 00", WRONG), ("depth 257", WRONG), ("depth 4294967295", WRONG), ("depth 4294967296", BAD), ("depth 4294967297", BAD), ("depth 1,2", BAD), ("depth", BAD), ("depth 1 depth 1", BAD), ("depth x", BAD)]
-    others = [("", NONE), ("depth 16 rules 2 dynamic t.a", NONE), ("depth 17 rules 1", WRONG), ("legal t.a rules 1 depth 0", WRONG), ("rule 2", BAD), ("Legal t.a", BAD), ("limit 1", BAD), ("legal t.a depth 1 x", BAD), ("//", BAD)]
+    depths += [("depth 016", NONE), ("depth 00", WRONG), ("depth 257", WRONG), ("depth 4294967295", WRONG),
+               ("depth 4294967296", BAD), ("depth 4294967297", BAD), ("depth 1,2", BAD), ("depth", BAD),
+               ("depth 1 depth 1", BAD), ("depth x", BAD)]
+    others = [("", NONE), ("depth 16 rules 2 dynamic t.a", NONE), ("depth 17 rules 1", WRONG),
+              ("legal t.a rules 1 depth 0", WRONG), ("rule 2", BAD), ("Legal t.a", BAD), ("limit 1", BAD),
+              ("legal t.a depth 1 x", BAD), ("//", BAD)]
     module = '"t.b"() : () -> ()\n'
-    mended = [(clause, answer.replace(NONE, "refused 51 NotLegalised #1") if illegal_in(clause) else answer) for clause, answer in lists + rules + depths + others]
+    mended = [(clause, answer.replace(NONE, "refused 51 NotLegalised #1") if illegal_in(clause) else answer) for clause,
+              answer in lists + rules + depths + others]
     for part in range(0, len(mended), 24):
-        cases.due(module + DIVIDER + "".join(f"convert partial {clause}\n" for clause, _ in mended[part:part + 24]) + "print\n", [answer for _, answer in mended[part:part + 24]], both=False)
-    cases.answers("", [("convert", BAD), ("convert full", "refused 51 NotLegalised #0"), ("convert partial", NONE), ("convert Partial", BAD), ("convert partial full", BAD), ("convert legal t.a", BAD),
-                       ("convert full legal builtin.module", NONE), ("convert\tfull\t legal  builtin.module\r", NONE), ("convert partially", BAD), ("converts partial", BAD), ("convert full dynamic builtin.module", NONE),
-                       ("convert full illegal builtin.module", "refused 51 NotLegalised #0"), ("convert partial illegal builtin.module rules 2,25,26,27,28,29,30", "refused 51 NotLegalised #0")])
+        cases.due(module + DIVIDER + "".join(f"convert partial {clause}\n" for clause, _ in mended[part:part + 24])
+                  + "print\n", [answer for _, answer in mended[part:part + 24]], both=False)
+    cases.answers("", [("convert", BAD), ("convert full", "refused 51 NotLegalised #0"), ("convert partial", NONE),
+                       ("convert Partial", BAD), ("convert partial full", BAD), ("convert legal t.a", BAD),
+                       ("convert full legal builtin.module", NONE), ("convert\tfull\t legal  builtin.module\r", NONE),
+                       ("convert partially", BAD), ("converts partial", BAD),
+                       ("convert full dynamic builtin.module", NONE),
+                       ("convert full illegal builtin.module", "refused 51 NotLegalised #0"),
+                       ("convert partial illegal builtin.module rules 2,25,26,27,28,29,30",
+                        "refused 51 NotLegalised #0")])
 
 
 def illegal_in(clause):
@@ -103,59 +122,96 @@ def illegal_in(clause):
 def partial_and_full(cases):
     """Which operations are legal, and what each mode asks for in the end."""
     both = "illegal arith.remsi rules 27"
-    cases.answers(REM, [("convert partial illegal arith.remsi", "refused 51 NotLegalised #2"), ("convert partial illegal arith.remsi rules 25,26,28", "refused 51 NotLegalised #2"),
-                        ("convert partial legal arith.remsi", NONE), ("convert partial", NONE), ("convert full " + both, "refused 51 NotLegalised #0"), ("convert full legal builtin.module " + both, "refused 51 NotLegalised #1"),
-                        (f"convert full legal builtin.module,func.func {both}", "refused 51 NotLegalised #2"), (f"convert full legal {AROUND} {both}", "refused 51 NotLegalised #2"),
-                        (f"convert full legal {AROUND},arith.divsi,arith.subi {both}", "refused 51 NotLegalised #2"), (f"convert full legal {AROUND},arith.divsi,arith.muli,arith.subi {both}", "converted 1"),
-                        (f"convert full legal {AROUND},arith.divsi,arith.muli,arith.subi", "refused 51 NotLegalised #2"), ("convert partial illegal arith.divsi,arith.muli", NONE)])
-    cases.due(REM + DIVIDER + f"convert partial {both}\nconvert full legal {AROUND},arith.divsi,arith.muli,arith.subi\nconvert partial illegal arith.divsi,arith.muli\nconvert partial illegal arith.subi rules 26\nprint\n",
+    cases.answers(REM, [("convert partial illegal arith.remsi", "refused 51 NotLegalised #2"),
+                        ("convert partial illegal arith.remsi rules 25,26,28", "refused 51 NotLegalised #2"),
+                        ("convert partial legal arith.remsi", NONE), ("convert partial", NONE),
+                        ("convert full " + both, "refused 51 NotLegalised #0"),
+                        ("convert full legal builtin.module " + both, "refused 51 NotLegalised #1"),
+                        (f"convert full legal builtin.module,func.func {both}", "refused 51 NotLegalised #2"),
+                        (f"convert full legal {AROUND} {both}", "refused 51 NotLegalised #2"),
+                        (f"convert full legal {AROUND},arith.divsi,arith.subi {both}", "refused 51 NotLegalised #2"),
+                        (f"convert full legal {AROUND},arith.divsi,arith.muli,arith.subi {both}", "converted 1"),
+                        (f"convert full legal {AROUND},arith.divsi,arith.muli,arith.subi",
+                         "refused 51 NotLegalised #2"), ("convert partial illegal arith.divsi,arith.muli", NONE)])
+    cases.due(REM + DIVIDER
+              + f"convert partial {both}\nconvert full legal {AROUND},arith.divsi,arith.muli,arith.subi\nconvert "
+                f"partial illegal arith.divsi,arith.muli\nconvert partial illegal arith.subi rules 26\nprint\n",
               ["converted 1", NONE, "refused 51 NotLegalised #4", "converted 1"])
     # What is legal at its turn and isn't any more at the end: full mode looks again, partial mode doesn't.
     dynamic = "dynamic func.func,func.return,builtin.module,test.d,test.u"
-    cases.answers('%0 = "test.d"() : () -> index\n"test.u"(%0) : (index) -> ()\n', [("convert partial " + dynamic, "refused 51 NotLegalised #1"), ("convert partial dynamic test.u", "refused 51 NotLegalised #2"),
-                                                                                    ("convert partial legal test.d,test.u", NONE), ("convert full legal builtin.module,test.d dynamic test.u", "refused 51 NotLegalised #2"),
-                                                                                    ("convert full legal builtin.module dynamic test.u,test.d", "refused 51 NotLegalised #1"), ("convert full legal builtin.module,test.u,test.d", NONE)])
+    cases.answers('%0 = "test.d"() : () -> index\n"test.u"(%0) : (index) -> ()\n',
+                  [("convert partial " + dynamic, "refused 51 NotLegalised #1"),
+                   ("convert partial dynamic test.u", "refused 51 NotLegalised #2"),
+                   ("convert partial legal test.d,test.u", NONE),
+                   ("convert full legal builtin.module,test.d dynamic test.u", "refused 51 NotLegalised #2"),
+                   ("convert full legal builtin.module dynamic test.u,test.d", "refused 51 NotLegalised #1"),
+                   ("convert full legal builtin.module,test.u,test.d", NONE)])
     # A refused conversion gives no number away.
-    cases.due(REM + DIVIDER + 'begin\nconvert partial illegal arith.remsi,arith.divsi rules 27\ninsert end #0 0 "t.z"() : () -> ()\nrollback\nconvert partial illegal arith.remsi rules 27\n'
-              'insert end #0 0 "t.z"() : () -> ()\nreport uses\nrollback\nprint\n', ["refused 51 NotLegalised #2", "converted 1"])
-    cases.due(REM + DIVIDER + 'begin\nconvert partial illegal arith.remsi rules 27\nreport uses\nrollback\nreport uses\nprint\nbegin\nconvert partial illegal arith.remsi rules 27\ncommit\nreport uses\nprint\n', ["converted 1"] * 2)
+    cases.due(REM + DIVIDER
+              + 'begin\nconvert partial illegal arith.remsi,arith.divsi rules 27\ninsert end #0 0 "t.z"() : () -> '
+                '()\nrollback\nconvert partial illegal arith.remsi rules 27\n'
+              'insert end #0 0 "t.z"() : () -> ()\nreport uses\nrollback\nprint\n',
+              ["refused 51 NotLegalised #2", "converted 1"])
+    cases.due(REM + DIVIDER
+              + 'begin\nconvert partial illegal arith.remsi rules 27\nreport uses\nrollback\nreport '
+                'uses\nprint\nbegin\nconvert partial illegal arith.remsi rules 27\ncommit\nreport uses\nprint\n',
+                ["converted 1"] * 2)
 
 
 def depths(cases):
     """Chains of rules, each depth on both sides."""
     names = "arith.remsi,arith.subi,arith.addi"
-    for depth, answers in ((1, ["refused 52 ChainTooDeep #2"] * 3), (2, ["refused 52 ChainTooDeep #2", "converted 2", "refused 52 ChainTooDeep #2"]), (3, ["refused 51 NotLegalised #2", "converted 2", "refused 51 NotLegalised #2"]),
+    for depth, answers in ((1, ["refused 52 ChainTooDeep #2"] * 3),
+                           (2, ["refused 52 ChainTooDeep #2", "converted 2", "refused 52 ChainTooDeep #2"]),
+                           (3, ["refused 51 NotLegalised #2", "converted 2", "refused 51 NotLegalised #2"]),
                            (4, ["refused 51 NotLegalised #2", "converted 2", "refused 51 NotLegalised #2"])):
-        cases.answers(REM, list(zip((f"convert partial illegal {names} rules 27,26 depth {depth}", f"convert partial illegal arith.remsi,arith.subi rules 27,26 depth {depth}", f"convert partial illegal {names} rules 26,27 depth {depth}"), answers)))
-    # An index, a remainder of i64, a difference, a sum: three rules after one another, each of those that are made at the next level.
+        cases.answers(REM, list(zip((f"convert partial illegal {names} rules 27,26 depth {depth}",
+                                     f"convert partial illegal arith.remsi,arith.subi rules 27,26 depth {depth}",
+                                     f"convert partial illegal {names} rules 26,27 depth {depth}"), answers)))
+    # An index, a remainder of i64, a difference, a sum: three rules after one another, each of those that are made at
+    # the next level.
     wide = of_two("remsi", "index")
     for rules in ("28,27,26", "26,27,28", "27,28,26", "27,26,28,2", "2,28,27,26"):
         for depth in (1, 2, 3, 4, 16):
-            cases.due(wide + DIVIDER + f"convert partial illegal arith.remsi,arith.subi rules {rules} depth {depth}\nprint\n", both=depth == 3)
-            cases.due(wide + DIVIDER + f"convert partial illegal arith.subi dynamic arith.remsi rules {rules} depth {depth}\nprint\n", both=False)
-            cases.due(wide + DIVIDER + f"convert full legal {AROUND},arith.muli,arith.divsi,arith.xori,arith.addi,arith.constant illegal arith.remsi,arith.subi rules {rules} depth {depth}\nprint\n", both=False)
+            cases.due(wide + DIVIDER
+                      + f"convert partial illegal arith.remsi,arith.subi rules {rules} depth {depth}\nprint\n",
+                      both=depth == 3)
+            cases.due(wide + DIVIDER
+                      + f"convert partial illegal arith.subi dynamic arith.remsi rules {rules} depth {depth}\nprint\n",
+                      both=False)
+            cases.due(wide + DIVIDER
+                      + f"convert full legal {AROUND},arith.muli,arith.divsi,arith.xori,arith.addi,arith.constant "
+                        f"illegal arith.remsi,arith.subi rules {rules} depth {depth}\nprint\n", both=False)
     # Of known numbers: the operations that a rule made fold, some of them behind another rule.
-    known = function([], ["i64"], constant("a", 7, "i64") + constant("b", 3, "i64") + on_two("remsi", "%a", "%b", "i64") + returned("%x", "i64"))
+    known = function([], ["i64"], constant("a", 7, "i64") + constant("b", 3, "i64") + on_two("remsi", "%a", "%b", "i64")
+                     + returned("%x", "i64"))
     illegal = "illegal arith.remsi,arith.divsi,arith.muli,arith.subi,arith.xori,arith.addi"
     for rules, depth in itertools.product(("27,26,2", "27,2,26", "2,27", "26,27", "27,2", "27,27,2,2"), (1, 2, 3, 4)):
-        cases.due(known + DIVIDER + f"convert partial {illegal} rules {rules} depth {depth}\nprint\n", both=rules == "27,26,2")
+        cases.due(known + DIVIDER + f"convert partial {illegal} rules {rules} depth {depth}\nprint\n", both=rules
+                  == "27,26,2")
 
 
 def each_rule(cases):
-    """Rules 25 to 30 at each operation of arith, of i32, i1 and index, alone and with the rule that hands an index on."""
+    """Rules 25 to 30 at each operation of arith, of i32, i1 and index, alone and with the rule that hands an index
+    on."""
     for name, ty in itertools.product(INDEXED, ("i32", "i1", "index")):
         if name == "arith.constant":
             module = function([], [ty], constant("x", 1 if ty != "i1" else -1, ty) + returned("%x", ty))
         elif name == "arith.select":
-            module = function(["i1", ty, ty], [ty], f'%x = "arith.select"(%a0, %a1, %a2) : (i1, {ty}, {ty}) -> {ty}\n' + returned("%x", ty))
+            module = function(["i1", ty, ty], [ty], f'%x = "arith.select"(%a0, %a1, %a2) : (i1, {ty}, {ty}) -> {ty}\n'
+                              + returned("%x", ty))
         else:
             module = of_two(name, ty)
-        for rules in ("28", "2,25,26,27,28,29,30") if ty == "i1" else ("25", "26", "27", "28", "2", "2,25,26,27,28,29,30", "30,29,28,27,26,25,2"):
-            lines = [f"convert {mode} {word} {name} rules {rules}" for mode, word in (("partial", "illegal"), ("partial", "dynamic"))]
+        for rules in ("28", "2,25,26,27,28,29,30") if ty == "i1" else (
+            "25", "26", "27", "28", "2", "2,25,26,27,28,29,30", "30,29,28,27,26,25,2"):
+            lines = [f"convert {mode} {word} {name} rules {rules}" for mode,
+                     word in (("partial", "illegal"), ("partial", "dynamic"))]
             if "," in rules:
                 others = ",".join(it for it in INDEXED if it != name)
-                lines += [f"convert full legal {AROUND},arith.index_cast,{others} {word} {name} rules {rules}" for word in ("dynamic", "illegal")]
-            cases.due(module + DIVIDER + "begin\n" + "".join(f"{line}\nprint\nrollback\nbegin\n" for line in lines), both=False)
+                lines += [f"convert full legal {AROUND},arith.index_cast,{others} {word} {name} rules {rules}"
+                          for word in ("dynamic", "illegal")]
+            cases.due(module + DIVIDER + "begin\n" + "".join(f"{line}\nprint\nrollback\nbegin\n" for line in lines),
+                      both=False)
 
 
 LOOP = """%r:2 = "scf.for"(%a0, %a1, %a2, %a0, %a3) ({
@@ -177,7 +233,8 @@ LOOP = """%r:2 = "scf.for"(%a0, %a1, %a2, %a0, %a3) ({
   "scf.yield"(%t#0, %t#1) : (index, i32) -> ()
 }) : (index, index, index, index, i32) -> (index, i32)
 """
-NESTED = function(["index", "index", "index", "i32", "memref<4xi32>"], ["index", "i32"], LOOP + '"func.return"(%r#0, %r#1) : (index, i32) -> ()\n')
+NESTED = function(["index", "index", "index", "i32", "memref<4xi32>"], ["index", "i32"], LOOP
+                  + '"func.return"(%r#0, %r#1) : (index, i32) -> ()\n')
 BRANCHES = function(["i1", "index"], ["index"], """%r:3 = "scf.if"(%a0) ({
   %p:2 = "scf.if"(%a0) ({
     "scf.yield"(%a1, %a1) : (index, index) -> ()
@@ -204,32 +261,56 @@ USERS = ",".join(INDEXED)
 
 def nested(cases):
     """Loops and choices of index, inside one another, with arguments and results of index."""
-    targets = ["dynamic scf.for rules 29", "dynamic scf.if rules 30", "dynamic scf.for,scf.if rules 29,30", "dynamic scf.for,scf.if rules 30,29", f"dynamic {USERS} rules 28", f"dynamic {USERS},scf.for,scf.if rules 28,29,30",
-               f"dynamic {USERS},scf.for,scf.if,scf.yield rules 28,29,30", f"dynamic {USERS},scf.for,scf.if,memref.load rules 28,29,30", "illegal scf.for rules 29", "illegal scf.if rules 30", "illegal scf.for,scf.if rules 29,30 depth 1",
-               "dynamic scf.for illegal scf.if rules 29,30", "dynamic scf.for,func.func rules 29", "dynamic scf.for,scf.if rules 28", f"dynamic {USERS},scf.for,scf.if rules 2,30,29,28,2", f"dynamic {USERS},scf.for,scf.if rules 30,29,28,27,26,25"]
-    full = [f"legal {AROUND},arith.index_cast,memref.load,scf.yield,test.u,test.d dynamic {USERS},scf.for,scf.if rules 28,29,30", f"legal {AROUND},arith.index_cast,memref.load,test.u,test.d dynamic scf.yield,{USERS},scf.for,scf.if rules 28,29,30",
-            f"legal {AROUND},memref.load,scf.yield,test.u,test.d dynamic {USERS},scf.for,scf.if rules 28,29,30", f"legal {AROUND},arith.index_cast,scf.yield dynamic {USERS},scf.for,scf.if rules 28,29,30"]
-    for module, depth in itertools.product((NESTED, BRANCHES, SMALL), ("", " depth 1", " depth 2", " depth 3", " depth 4")):
+    targets = ["dynamic scf.for rules 29", "dynamic scf.if rules 30", "dynamic scf.for,scf.if rules 29,30",
+               "dynamic scf.for,scf.if rules 30,29", f"dynamic {USERS} rules 28",
+               f"dynamic {USERS},scf.for,scf.if rules 28,29,30",
+               f"dynamic {USERS},scf.for,scf.if,scf.yield rules 28,29,30",
+               f"dynamic {USERS},scf.for,scf.if,memref.load rules 28,29,30", "illegal scf.for rules 29",
+               "illegal scf.if rules 30", "illegal scf.for,scf.if rules 29,30 depth 1",
+               "dynamic scf.for illegal scf.if rules 29,30", "dynamic scf.for,func.func rules 29",
+               "dynamic scf.for,scf.if rules 28", f"dynamic {USERS},scf.for,scf.if rules 2,30,29,28,2",
+               f"dynamic {USERS},scf.for,scf.if rules 30,29,28,27,26,25"]
+    full = [f"legal {AROUND},arith.index_cast,memref.load,scf.yield,test.u,test.d dynamic {USERS},scf.for,scf.if "
+            f"rules 28,29,30", f"legal {AROUND},arith.index_cast,memref.load,test.u,test.d dynamic "
+                               f"scf.yield,{USERS},scf.for,scf.if rules 28,29,30",
+            f"legal {AROUND},memref.load,scf.yield,test.u,test.d dynamic {USERS},scf.for,scf.if rules 28,29,30",
+            f"legal {AROUND},arith.index_cast,scf.yield dynamic {USERS},scf.for,scf.if rules 28,29,30"]
+    for module, depth in itertools.product((NESTED, BRANCHES, SMALL),
+                                           ("", " depth 1", " depth 2", " depth 3", " depth 4")):
         for mode, clauses in [("partial", it) for it in targets] + [("full", it) for it in full]:
             if "depth" not in clauses:
-                cases.due(module + DIVIDER + f"convert {mode} {clauses}{depth}\nprint\nreport diagnostics\n" + 'insert end #0 0 "t.z"() : () -> ()\n', both=not depth and mode == "full")
+                cases.due(module + DIVIDER + f"convert {mode} {clauses}{depth}\nprint\nreport diagnostics\n"
+                          + 'insert end #0 0 "t.z"() : () -> ()\n', both=not depth and mode == "full")
     for module in (NESTED, BRANCHES):
-        cases.due(module + DIVIDER + f"begin\nconvert partial dynamic {USERS},scf.for,scf.if rules 28,29,30\ncanon\nprint\nrollback\nconvert partial dynamic scf.for rules 29\nconvert partial dynamic scf.if rules 30\n"
+        cases.due(module + DIVIDER
+                  + f"begin\nconvert partial dynamic {USERS},scf.for,scf.if rules "
+                    f"28,29,30\ncanon\nprint\nrollback\nconvert partial dynamic scf.for rules 29\nconvert partial "
+                    f"dynamic scf.if rules 30\n"
                   f"convert partial dynamic {USERS} rules 28\nconvert partial dynamic {USERS},scf.for,scf.if\nprint\n")
 
 
 def unclean(cases):
     """Rules don't apply at operations that are wrong or have further properties."""
-    bodies = {"more": on_two("remsi").replace(") :", ") <{p = 1 : i32}> :"), "attribute": on_two("remsi").replace(") :", ") {k = 1 : index} :"), "results": '%x, %y = "arith.remsi"(%a0, %a1) : (i32, i32) -> (i32, i32)\n',
-              "operands": '%x = "arith.remsi"(%a0) : (i32) -> i32\n', "types": '%x = "arith.remsi"(%a0, %b) : (i32, i64) -> i32\n', "region": '%x = "arith.remsi"(%a0, %a1) ({}) : (i32, i32) -> i32\n'}
+    bodies = {"more": on_two("remsi").replace(") :", ") <{p = 1 : i32}> :"),
+              "attribute": on_two("remsi").replace(") :", ") {k = 1 : index} :"),
+              "results": '%x, %y = "arith.remsi"(%a0, %a1) : (i32, i32) -> (i32, i32)\n',
+              "operands": '%x = "arith.remsi"(%a0) : (i32) -> i32\n',
+              "types": '%x = "arith.remsi"(%a0, %b) : (i32, i64) -> i32\n',
+              "region": '%x = "arith.remsi"(%a0, %a1) ({}) : (i32, i32) -> i32\n'}
     for name, body in bodies.items():
         module = function(["i32", "i32"], ["i32"], constant("b", 1, "i64") + body + returned("%x", "i32"))
-        cases.answers(module, [("convert partial illegal arith.remsi rules 27,26,2", "converted 1" if name == "attribute" else "refused 51 NotLegalised #3")])
-    for line in ("set-attr #2 k unit", "set-attr #2 overflowFlags #arith.overflow<nsw>", "set-operand #3 0 %a1.0.0", "drop-attr #1 function_type"):
-        cases.due(of_two("subi") + DIVIDER + f"{line}\nconvert partial illegal arith.subi rules 26\nprint\nreport diagnostics\n")
+        cases.answers(module,
+                      [("convert partial illegal arith.remsi rules 27,26,2", "converted 1" if name == "attribute"
+                        else "refused 51 NotLegalised #3")])
+    for line in ("set-attr #2 k unit", "set-attr #2 overflowFlags #arith.overflow<nsw>", "set-operand #3 0 %a1.0.0",
+                 "drop-attr #1 function_type"):
+        cases.due(of_two("subi") + DIVIDER
+                  + f"{line}\nconvert partial illegal arith.subi rules 26\nprint\nreport diagnostics\n")
     flagged = of_two("subi").replace("%a1) :", "%a1) <{overflowFlags = #arith.overflow<nsw, nuw>}> {k = 1 : i8} :")
     cases.answers(flagged, [("convert partial illegal arith.subi rules 26", "converted 1")])
-    cases.answers(flagged.replace("i32", "index"), [("convert partial dynamic arith.subi rules 28", "converted 1"), ("convert partial illegal arith.subi rules 28,26", "converted 2")])
+    cases.answers(flagged.replace("i32", "index"),
+                  [("convert partial dynamic arith.subi rules 28", "converted 1"),
+                   ("convert partial illegal arith.subi rules 28,26", "converted 2")])
 
 
 def cast(value, start, end, name="c", more=""):
@@ -246,27 +327,59 @@ def casts(cases):
     """Casts are reconciled, or can't be."""
     given = lambda ty, name="d": f'%{name} = "test.d"() : () -> {ty}\n'
     left = "refused 53 Unreconciled "
-    for text, answer in ((given("i64") + cast("%d", ["i64"], ["index"]) + user(), NONE), (given("index") + cast("%d", ["index"], ["i64"]) + user(ty="i64"), NONE), (given("i32") + cast("%d", ["i32"], ["index"]) + user(), left + "#2"),
-                         (given("i32") + cast("%d", ["i32"], ["i64"]) + user(ty="i64"), left + "#2"), (given("i32") + cast("%d", ["i32"], ["i32"]) + user(ty="i32"), NONE), (given("index") + cast("%d", ["index"], ["index"]) + user(), NONE),
-                         (given("i32") + cast("%d", ["i32"], ["i64"]), NONE), (cast("", [], ["index"]), NONE), (cast("", [], ["index"]) + user(), left + "#1"), (cast("", [], []), NONE), (given("i64") + cast("%d", ["i64"], []), NONE),
-                         (given("i64") + cast("%d, %d", ["i64", "i64"], ["index"]) + user(), left + "#2"), (given("i64") + cast("%d", ["i64"], ["index", "index"]) + user("%c#1"), left + "#2"),
-                         (given("i64") + cast("%d", ["i64"], ["index"], more=" <{p = 1 : i32}> {k}") + user(), NONE), (given("i64") + cast("%d", ["i64"], ["index"], more=' ({ "test.a"() : () -> () })') + user(), NONE),
-                         (given("i64") + cast("%d", ["i64"], ["index"], more=' ({ %e = "test.d"() : () -> i32\n' + cast("%e", ["i32"], ["index"], "f") + user("%f") + " })") + user(), NONE),
-                         (given("i32") + cast("%d", ["i32"], ["index"]) + cast("%c", ["index"], ["i32"], "e") + user("%e", "i32"), NONE), (given("i32") + cast("%d", ["i32"], ["index"]) + cast("%c", ["index"], ["i32"], "e") + user("%e", "i32") + user(), left + "#2"),
-                         (given("i32") + cast("%d", ["i32"], ["index"]) + cast("%c", ["index"], ["i64"], "e") + user("%e", "i64"), left + "#2"), (given("index") + cast("%d", ["index"], ["i64"]) + cast("%c", ["i64"], ["index"], "e") + user("%e"), NONE),
-                         (given("i64") + cast("%d", ["i64"], ["i32"]) + cast("%c", ["i32"], ["index"], "e") + user("%e"), left + "#2"),
-                         (given("i8") + cast("%d", ["i8"], ["i16"]) + cast("%c", ["i16"], ["i8"], "e") + cast("%e", ["i8"], ["i16"], "g") + user("%g", "i16"), left + "#4"),
-                         (given("i8") + cast("%d", ["i8"], ["i16"], more=" <{p}>") + cast("%c", ["i16"], ["i8"], "e") + user("%e", "i8"), left + "#2"),
-                         (given("i8") + cast("%d", ["i8"], ["i16"]) + cast("%c", ["i16"], ["i8"], "e", " {k}") + user("%e", "i8"), NONE),
-                         (given("i128") + cast("%d", ["i128"], ["index"]) + cast("%c", ["index"], ["i128"], "e") + user("%e", "i128"), NONE), (given("i64") + given("i8", "e") + cast("%e", ["i8"], ["index"], "f") + cast("%d", ["i64"], ["index"]) + user() + user("%f"), left + "#3")):
-        cases.answers(text, [("convert partial", answer), ("convert partial rules 28", answer)], 'print\nreport dead\nreport uses\ninsert end #0 0 "t.z"() : () -> ()\n')
-        cases.answers(text, [("convert full legal builtin.module,test.d,test.u,test.a", answer if "index_cast" in answer or answer != NONE else full_answer(text))])
-    cases.answers(f'"{CAST}"() ({{ {given("i64")} {cast("%d", ["i64"], ["index"])} {user()} }}) : () -> ()\n', [("convert partial", NONE)])
+    for text, answer in ((given("i64") + cast("%d", ["i64"], ["index"]) + user(), NONE),
+                         (given("index") + cast("%d", ["index"], ["i64"]) + user(ty="i64"), NONE),
+                         (given("i32") + cast("%d", ["i32"], ["index"]) + user(), left + "#2"),
+                         (given("i32") + cast("%d", ["i32"], ["i64"]) + user(ty="i64"), left + "#2"),
+                         (given("i32") + cast("%d", ["i32"], ["i32"]) + user(ty="i32"), NONE),
+                         (given("index") + cast("%d", ["index"], ["index"]) + user(), NONE),
+                         (given("i32") + cast("%d", ["i32"], ["i64"]), NONE), (cast("", [], ["index"]), NONE),
+                         (cast("", [], ["index"]) + user(), left + "#1"), (cast("", [], []), NONE),
+                         (given("i64") + cast("%d", ["i64"], []), NONE),
+                         (given("i64") + cast("%d, %d", ["i64", "i64"], ["index"]) + user(), left + "#2"),
+                         (given("i64") + cast("%d", ["i64"], ["index", "index"]) + user("%c#1"), left + "#2"),
+                         (given("i64") + cast("%d", ["i64"], ["index"], more=" <{p = 1 : i32}> {k}") + user(), NONE),
+                         (given("i64") + cast("%d", ["i64"], ["index"], more=' ({ "test.a"() : () -> () })') + user(),
+                          NONE),
+                         (given("i64") + cast("%d", ["i64"], ["index"], more=' ({ %e = "test.d"() : () -> i32\n'
+                                              + cast("%e", ["i32"], ["index"], "f") + user("%f") + " })") + user(),
+                                              NONE),
+                         (given("i32") + cast("%d", ["i32"], ["index"]) + cast("%c", ["index"], ["i32"], "e")
+                          + user("%e", "i32"), NONE),
+                          (given("i32") + cast("%d", ["i32"], ["index"]) + cast("%c", ["index"], ["i32"], "e")
+                           + user("%e", "i32") + user(), left + "#2"),
+                         (given("i32") + cast("%d", ["i32"], ["index"]) + cast("%c", ["index"], ["i64"], "e")
+                          + user("%e", "i64"), left + "#2"),
+                          (given("index") + cast("%d", ["index"], ["i64"]) + cast("%c", ["i64"], ["index"], "e")
+                           + user("%e"), NONE),
+                         (given("i64") + cast("%d", ["i64"], ["i32"]) + cast("%c", ["i32"], ["index"], "e")
+                          + user("%e"), left + "#2"),
+                         (given("i8") + cast("%d", ["i8"], ["i16"]) + cast("%c", ["i16"], ["i8"], "e")
+                          + cast("%e", ["i8"], ["i16"], "g") + user("%g", "i16"), left + "#4"),
+                         (given("i8") + cast("%d", ["i8"], ["i16"], more=" <{p}>") + cast("%c", ["i16"], ["i8"], "e")
+                          + user("%e", "i8"), left + "#2"),
+                         (given("i8") + cast("%d", ["i8"], ["i16"]) + cast("%c", ["i16"], ["i8"], "e", " {k}")
+                          + user("%e", "i8"), NONE),
+                         (given("i128") + cast("%d", ["i128"], ["index"]) + cast("%c", ["index"], ["i128"], "e")
+                          + user("%e", "i128"), NONE),
+                          (given("i64") + given("i8", "e") + cast("%e", ["i8"], ["index"], "f")
+                           + cast("%d", ["i64"], ["index"]) + user() + user("%f"), left + "#3")):
+        cases.answers(text, [("convert partial", answer), ("convert partial rules 28", answer)],
+                      'print\nreport dead\nreport uses\ninsert end #0 0 "t.z"() : () -> ()\n')
+        cases.answers(text, [("convert full legal builtin.module,test.d,test.u,test.a", answer if "index_cast" in answer
+                              or answer != NONE else full_answer(text))])
+    cases.answers(f'"{CAST}"() ({{ {given("i64")} {cast("%d", ["i64"], ["index"])} {user()} }}) : () -> ()\n',
+                  [("convert partial", NONE)])
     # A loop and what is around it: casts that its rules made collapse with those of others.
-    pair = function(["i64", "i64", "i64"], [], cast("%a0", ["i64"], ["index"], "l") + cast("%a1", ["i64"], ["index"], "u") + cast("%a2", ["i64"], ["index"], "s")
-                    + '"scf.for"(%l, %u, %s) ({\n^bb0(%i: index):\n' + cast("%i", ["index"], ["i64"], "j") + user("%j", "i64") + '"scf.yield"() : () -> ()\n}) : (index, index, index) -> ()\n"func.return"() : () -> ()\n')
+    pair = function(["i64", "i64", "i64"], [], cast("%a0", ["i64"], ["index"], "l")
+                    + cast("%a1", ["i64"], ["index"], "u") + cast("%a2", ["i64"], ["index"], "s")
+                    + '"scf.for"(%l, %u, %s) ({\n^bb0(%i: index):\n' + cast("%i", ["index"], ["i64"], "j")
+                    + user("%j", "i64") + '"scf.yield"() : () -> ()\n}) : (index, index, index) -> '
+                                          '()\n"func.return"() : () -> ()\n')
     cases.answers(pair, [("convert partial", NONE), ("convert partial dynamic scf.for rules 29", "converted 1")])
-    cases.due(pair + DIVIDER + f"convert partial dynamic scf.for rules 29\nconvert full legal {AROUND},test.u,scf.yield dynamic scf.for\nprint\nreport uses\n", ["converted 1", NONE])
+    cases.due(pair + DIVIDER
+              + f"convert partial dynamic scf.for rules 29\nconvert full legal {AROUND},test.u,scf.yield dynamic "
+                f"scf.for\nprint\nreport uses\n", ["converted 1", NONE])
 
 
 def full_answer(text):
@@ -285,13 +398,18 @@ def by_chance(cases):
     for _ in range(160):
         lines = []
         for _ in range(maker.randrange(1, 4)):
-            names = maker.sample(INDEXED + ["scf.for", "scf.if", "scf.yield", "arith.index_cast"], maker.randrange(1, 9))
+            names = maker.sample(INDEXED + ["scf.for", "scf.if", "scf.yield", "arith.index_cast"],
+                                 maker.randrange(1, 9))
             cuts = sorted(maker.randrange(len(names) + 1) for _ in range(2))
             lists = {"legal": names[:cuts[0]], "illegal": names[cuts[0]:cuts[1]], "dynamic": names[cuts[1]:]}
             clauses = [f"{word} {','.join(them)}" for word, them in lists.items() if them]
-            clauses += ["rules " + ",".join(map(str, maker.sample([2, 25, 26, 27, 28, 29, 30], maker.randrange(1, 8)))), f"depth {maker.choice([1, 2, 3, 4, 16])}"]
+            clauses += ["rules " + ",".join(map(str, maker.sample([2, 25, 26, 27, 28, 29, 30], maker.randrange(1, 8)))),
+                        f"depth {maker.choice([1, 2, 3, 4, 16])}"]
             maker.shuffle(clauses)
-            lines += maker.choice([["begin"], [], []]) + [f"convert {maker.choice(['partial', 'partial', 'full'])} {' '.join(clauses)}"] + maker.choice([["rollback"], ["report constants"], []])
+            lines += maker.choice([["begin"], [],
+                                   []]) + [f"convert {maker.choice(['partial', 'partial', 'full'])} "
+                                           f"{' '.join(clauses)}"] + maker.choice(
+                                               [["rollback"], ["report constants"], []])
         cases.due(maker.choice(modules) + DIVIDER + "\n".join(lines) + "\nreport dead\nprint\n", both=False)
 
 

@@ -266,9 +266,11 @@ for op in CASTS:
 for kind in KINDS:
     for a in more_ends(width(kind)):
         ask("arith.constant", [kind], [], {"value": f"{kind}:{a}"})
-for ty, kind in (("i8", "i16"), ("si8", "i8"), ("ui8", "i8"), ("i8", "si8"), ("si8", "si8"), ("i64", "index"), ("index", "i64")):
+for ty, kind in (("i8", "i16"), ("si8", "i8"), ("ui8", "i8"), ("i8", "si8"), ("si8", "si8"), ("i64", "index"),
+                 ("index", "i64")):
     ask("arith.constant", [kind], [], {"value": f"{ty}:5"})
-for props in ({}, {"value": "unit"}, {"value": "flags"}, {"value": "i8:5", "overflowFlags": "flags"}, {"predicate": "i64:1"}):
+for props in ({}, {"value": "unit"}, {"value": "flags"}, {"value": "i8:5", "overflowFlags": "flags"},
+              {"predicate": "i64:1"}):
     ask("arith.constant", ["i8"], [], props)
 
 # Numbers of operands and results, types of results, and properties outside the row.
@@ -282,7 +284,8 @@ for name in EVERY:
     operands = {"arith.constant": 0, "arith.select": 3}.get(name, 1 if name[6:] in CASTS else 2)
     for key in ("overflowFlags", "value", "predicate", "alignment", "test"):
         for attr in ("flags", "unit", "i8:5", "i64:5", "i64:10"):
-            ask(name, ["i1" if name == "arith.cmpi" else "i8"], [("i1", 1), *[("i16", 0)] * 2] if operands == 3 else [FIVE] * operands, {**row, key: attr})
+            ask(name, ["i1" if name == "arith.cmpi" else "i8"], [("i1", 1), *[("i16", 0)] * 2] if operands == 3
+                else [FIVE] * operands, {**row, key: attr})
 
 # Operations that have no fold.
 OTHERS = """builtin.module builtin.unrealized_conversion_cast func.func func.call func.return scf.for scf.if scf.while

@@ -1,11 +1,11 @@
 #!/usr/bin/env python3
 """Writes the golden files of tests/texts: texts, and what the program says of each; and stdin and stdout of
-crates/ir_text_cases, of texts that no run of the program can ask for, one a line, and what is said of each. Run it at the
-top of the repository.
+crates/ir_text_cases, of texts that no run of the program can ask for, one a line, and what is said of each. Run it at
+the top of the repository.
 
 What is said is taken from the rules in Python (bench/reference/rules.py and printing.py), which share nothing with the
-crates, and from answers written by hand here and in ir_text_tables.py; where there are both they must be one. A text that
-is accepted also stands there as it is printed, and must then be printed so again.
+crates, and from answers written by hand here and in ir_text_tables.py; where there are both they must be one. A text
+that is accepted also stands there as it is printed, and must then be printed so again.
 """
 
 import itertools
@@ -123,7 +123,8 @@ def cut(text):
 
 def same(one, other, want):
     answer = f"Some({str(printing.attribute(one) == printing.attribute(other)).lower()})"
-    if (answer != f"Some({str(want).lower()})" or not (printing.attribute(one)[0] and printing.attribute(other)[0])) and rules.MOST_WIDTH == 128:
+    if (answer != f"Some({str(want).lower()})"
+        or not (printing.attribute(one)[0] and printing.attribute(other)[0])) and rules.MOST_WIDTH == 128:
         raise SystemExit(f"{one!r} == {other!r}: {answer}")
     add(f"same {escaped(one)} == {escaped(other)}", answer)
 
@@ -170,8 +171,10 @@ def type_everywhere(text):
 
 SUFFIX = rb"(\d+|[A-Za-z$._-][A-Za-z0-9$._-]*)"
 INSIDE = rb'((?:[^"\\\n\x0b\x0c\r]|\\(?:[\\"nt]|[0-9A-Fa-f]{2}))*)'
-FORMS = [("float", rb"(\d+\.\d*(?:[eE][+-]?\d+)?)"), ("integer", rb"(\d+|0x[0-9A-Fa-f]+)"), ("integer", rb"(0x[0-9A-Fa-f]+)"), ("string", rb'"' + INSIDE + rb'"'),
-         ("bare", rb"([A-Za-z_][A-Za-z0-9_$.]*)"), ("value", rb"%" + SUFFIX), ("label", rb"\^" + SUFFIX), ("hash", rb"#" + SUFFIX),
+FORMS = [("float", rb"(\d+\.\d*(?:[eE][+-]?\d+)?)"), ("integer", rb"(\d+|0x[0-9A-Fa-f]+)"),
+         ("integer", rb"(0x[0-9A-Fa-f]+)"), ("string", rb'"' + INSIDE + rb'"'),
+         ("bare", rb"([A-Za-z_][A-Za-z0-9_$.]*)"), ("value", rb"%" + SUFFIX), ("label", rb"\^" + SUFFIX),
+         ("hash", rb"#" + SUFFIX),
          ("bang", rb"!" + SUFFIX), ("symbol", rb"@" + SUFFIX), ("quoted", rb'@"' + INSIDE + rb'"')]
 MARKS = [b"(", b")", b"{", b"}", b"[", b"]", b"<", b">", b",", b"=", b":", b"::", b"->", b"-", b"?", b"*"]
 
@@ -212,9 +215,12 @@ def fronts():
             if front_of(text) is not None:
                 raise SystemExit(f"{text!r} begins with a token")
             add(f"token {escaped(text)}", wanted((number, at)))
-    wholes = [b"12", b"007", b"0x1F", b"0x", b"1.5e3", b"1.", b"1.e3", b"1.5E-07", b"1.5e", b"a.b$c", b"_0", b"i32", b"%0", b"%a1-b.$_c", b"%-", b"%.0", b"^bb0",
-              b"#arith.overflow", b"#0", b"!t.x", b"@f", b"@0", b'@"a b"', b'@""', b'""', b'"a\\"b"', b'"\\0a\\n"'] + MARKS
-    backs = [b"", b" ", b"0", b"9", b"a", b"e", b"x", b"_", b".", b"$", b"-", b":", b">", b"\"", b"e+3", b".5", b"\n//", b"/", b"\xff", b"@g"]
+    wholes = [b"12", b"007", b"0x1F", b"0x", b"1.5e3", b"1.", b"1.e3", b"1.5E-07", b"1.5e", b"a.b$c", b"_0", b"i32",
+              b"%0", b"%a1-b.$_c", b"%-", b"%.0", b"^bb0",
+              b"#arith.overflow", b"#0", b"!t.x", b"@f", b"@0", b'@"a b"', b'@""', b'""', b'"a\\"b"',
+              b'"\\0a\\n"'] + MARKS
+    backs = [b"", b" ", b"0", b"9", b"a", b"e", b"x", b"_", b".", b"$", b"-", b":", b">", b"\"", b"e+3", b".5", b"\n//",
+             b"/", b"\xff", b"@g"]
     for whole, back in itertools.product(wholes, backs):
         if front_of(whole + back) is not None:
             front(whole + back)
@@ -224,8 +230,10 @@ def fronts():
 # Tokens.
 
 def tokens():
-    printed = {b"0x1F": "31 : i64", b"007": "7 : i64", b"12": "12 : i64", b"0x": (2, 1), b"0xg": (2, 1), b"00x1": (2, 2),
-               b"0X1": (2, 1), b"0xfg": (2, 3), b"0x1.5": (1, 3), b"-1": "-1 : i64", b"- 1": "-1 : i64", b"007:": (2, 4)}
+    printed = {b"0x1F": "31 : i64", b"007": "7 : i64", b"12": "12 : i64", b"0x": (2, 1), b"0xg": (2, 1),
+               b"00x1": (2, 2),
+               b"0X1": (2, 1), b"0xfg": (2, 3), b"0x1.5": (1, 3), b"-1": "-1 : i64", b"- 1": "-1 : i64",
+               b"007:": (2, 4)}
     for text, want in printed.items():
         attr(text, want)
     for text in (b"1.5e3", b"1.", b"1.e3", b"1.5e", b"1.5e+", b"1.5E-07x", b"1.5e+3e4", b"1..2"):
@@ -239,28 +247,38 @@ def tokens():
     attr(b"[i32, i8]", "[i32, i8]")
     for name in (b"0", b"1", b"a1-b.$_c", b"-", b".0", b"$", b"a", b"_", b"A9", b"00", b"-0", b"a-"):
         module(b"%" + name + b' = "t"() : () -> i1 "u"(%' + name + b"#0) : (i1) -> ()")
-        module(b'"t"() ({^' + name + b":})" + TAIL, '"builtin.module"() ({\n  "t"() ({\n  ^bb0:\n  }) : () -> ()\n}) : () -> ()\n')
+        module(b'"t"() ({^' + name + b":})" + TAIL,
+               '"builtin.module"() ({\n  "t"() ({\n  ^bb0:\n  }) : () -> ()\n}) : () -> ()\n')
         attr(b"@" + name)
         attr(b"@a::@" + name)
-    for text, want in ((b'%1a = "t"() : () -> i1', (2, 2)), (b'%0# = "t"() : () -> i1', (1, 2)), (b'"t"() ({^bb0(x', (2, 13)),
+    for text, want in ((b'%1a = "t"() : () -> i1', (2, 2)), (b'%0# = "t"() : () -> i1', (1, 2)),
+                       (b'"t"() ({^bb0(x', (2, 13)),
                        (b'%a = "t"() : () -> i1 "u"(%a#0:) : (i1) -> ()', (2, 30)), (b'"u"(%a', (3, 4))):
         module(text, want)
-    for text, want in ((b"@f::@g", "@f::@g"), (b"@0a", (2, 2)), (b'@"a b"c', (2, 6)), (b'@""', '@""'), (b"!t.x>", (13, 0)),
+    for text, want in ((b"@f::@g", "@f::@g"), (b"@0a", (2, 2)), (b'@"a b"c', (2, 6)), (b'@""', '@""'),
+                       (b"!t.x>", (13, 0)),
                        (b"#arith.overflow <none>", "#arith.overflow<none>"), (b"#arith.overflow.x<none>", (13, 0)),
                        (b"#arith.overflo<none>", (13, 0)), (b"#arith.overflow-<none>", (13, 0))):
         attr(text, want)
-    for text, want in ((b'"""', (1, 2)), (b'"a\\"b" c', (2, 7)), (b'"\\\\"x', (2, 4)), (b'"\\0a\\FF\\n\\t"', '"\\0A\\FF\\0A\\09"'),
+    for text, want in ((b'"""', (1, 2)), (b'"a\\"b" c', (2, 7)), (b'"\\\\"x', (2, 4)),
+                       (b'"\\0a\\FF\\n\\t"', '"\\0A\\FF\\0A\\09"'),
                        (b'"\t\x08\xC3\xA4"', '"\\09\\08\\C3\\A4"'), (b' \t\r\n "x"', '"x"'), (b'// a\n"b" c', (2, 9)),
-                       (b'// a\rb\n"c"', '"c"'), (b"////\n//\n7", "7 : i64"), (b'// "\xFF', (14, 4)), (b" // the end", (2, 11))):
+                       (b'// a\rb\n"c"', '"c"'), (b"////\n//\n7", "7 : i64"), (b'// "\xFF', (14, 4)),
+                       (b" // the end", (2, 11))):
         attr(text, want)
 
 
 def marks():
-    for text, want in ((b"(", (2, 1)), (b"()x", (2, 2)), (b"{}", "{}"), (b"{}}", (2, 2)), (b"}", (2, 0)), (b"[", (2, 1)), (b"]", (2, 0)),
-                       (b"{a == 1}", (2, 4)), (b"{a = = 1}", (2, 5)), (b"@a:::@b", (2, 4)), (b"@a: :@b", (2, 2)), (b"@a::@b", "@a::@b"),
-                       (b"1 :: i8", (2, 2)), (b"1 : : i8", (2, 4)), (b"() --> ()", (2, 3)), (b"() - > ()", (2, 3)), (b"() -> ()", "() -> ()"),
-                       (b"()->()", "() -> ()"), (b"() ->> ()", (2, 5)), (b"?x", (2, 0)), (b"*", (2, 0)), (b">>", (2, 0)), (b",", (2, 0)),
-                       (b"- >", (2, 2)), (b"->", (2, 0)), (b"--1", (2, 1)), (b"=", (2, 0)), (b":", (2, 0)), (b"::", (2, 0)), (b"<", (2, 0))):
+    for text, want in ((b"(", (2, 1)), (b"()x", (2, 2)), (b"{}", "{}"), (b"{}}", (2, 2)), (b"}", (2, 0)),
+                       (b"[", (2, 1)), (b"]", (2, 0)),
+                       (b"{a == 1}", (2, 4)), (b"{a = = 1}", (2, 5)), (b"@a:::@b", (2, 4)), (b"@a: :@b", (2, 2)),
+                       (b"@a::@b", "@a::@b"),
+                       (b"1 :: i8", (2, 2)), (b"1 : : i8", (2, 4)), (b"() --> ()", (2, 3)), (b"() - > ()", (2, 3)),
+                       (b"() -> ()", "() -> ()"),
+                       (b"()->()", "() -> ()"), (b"() ->> ()", (2, 5)), (b"?x", (2, 0)), (b"*", (2, 0)),
+                       (b">>", (2, 0)), (b",", (2, 0)),
+                       (b"- >", (2, 2)), (b"->", (2, 0)), (b"--1", (2, 1)), (b"=", (2, 0)), (b":", (2, 0)),
+                       (b"::", (2, 0)), (b"<", (2, 0))):
         attr(text, want)
     module(b'"t"() < {a} > : () -> ()')
     module(b'"t"()<{}>{}:()->()')
@@ -282,7 +300,8 @@ def strings():
         attr(b'"a\\' + escape + b'"', (1, 2))
     for letter in b"\n\v\f\r":
         attr(b'["a' + bytes([letter]) + b'"]', (1, 1))
-    for name in (b"value", b"_a.b$c", b"", b"0a", b".a", b"a-b", b'a"\x7F\n', b"$a", b"a b", b"\xC3\xA4", b"i32", b"true", b"A", b"a\\b"):
+    for name in (b"value", b"_a.b$c", b"", b"0a", b".a", b"a-b", b'a"\x7F\n', b"$a", b"a b", b"\xC3\xA4", b"i32",
+                 b"true", b"A", b"a\\b"):
         key, raw = printing.key_text(name), printing.string_text(name).encode()
         attr(b"{" + raw + b"}", "{" + key + "}")
         attr(b"{" + raw + b" = 1}", "{" + key + " = 1 : i64}")
@@ -296,19 +315,31 @@ def strings():
 # Types.
 
 def types():
-    for text in (b"index", b"memref<i32>", b"memref<4xi32>", b"memref<?x4 x i8>", b"memref<0x10xindex>", b"memref<007xsi8>",
-                 b"memref<0000000000000000000000000000000000000000000000000000000005xi1>", b"memref<9223372036854775807xi32>",
-                 b" memref // a\n < // 3x\n 4 // b\n x\t? x\n// c\n ui64 >", b"() -> ()", b"(i32) -> i32", b"(i32) -> (i1, i2)",
-                 b"() -> (() -> ())", b"() -> () -> ()", b"(() -> ()) -> (() -> i1)", b"(i1,) -> ()", b"(,i1) -> ()", b"() -> (i1,)",
-                 b"(index, memref<?xindex>) -> (memref<1x2x3xui7>, () -> ())", b"()", b"() ->", b"() -> 1", b"() -> [", b"(i1 i2) -> ()",
+    for text in (b"index", b"memref<i32>", b"memref<4xi32>", b"memref<?x4 x i8>", b"memref<0x10xindex>",
+                 b"memref<007xsi8>",
+                 b"memref<0000000000000000000000000000000000000000000000000000000005xi1>",
+                 b"memref<9223372036854775807xi32>",
+                 b" memref // a\n < // 3x\n 4 // b\n x\t? x\n// c\n ui64 >", b"() -> ()", b"(i32) -> i32",
+                 b"(i32) -> (i1, i2)",
+                 b"() -> (() -> ())", b"() -> () -> ()", b"(() -> ()) -> (() -> i1)", b"(i1,) -> ()", b"(,i1) -> ()",
+                 b"() -> (i1,)",
+                 b"(index, memref<?xindex>) -> (memref<1x2x3xui7>, () -> ())", b"()", b"() ->", b"() -> 1", b"() -> [",
+                 b"(i1 i2) -> ()",
                  b"memref<?x?x?x?xi1>", b"memref<9223372036854775808xi32>", b"memref<2x18446744073709551616xi1>",
-                 b"memref<?x9223372036854775808xi1>", b"f32", b"none", b"vector<4xi32>", b"tensor<4xi32>", b"memref<*xi32>",
-                 b"memref<4xf32>", b"memref<4x4>", b"memref<4xi32, 1>", b"memref<xi32>", b"memref<4 4xi32>", b"memref<4xx>", b"memref<-4xi1>",
-                 b"!a.b", b"#a.b", b"1.5", b"i", b"si", b"ui", b"i8x", b"i8.", b"i8_", b"i8$", b"I8", b"u8", b"s8", b"int", b"indexx", b"index.",
-                 b"true", b"unit", b"array", b'"i32"', b"@i32", b"%i32", b"^i32", b"7", b"-", b"*", b"?", b"", b"$", b"i 8", b"()->i1",
-                 b"memref<?xi8>", b"memref<4xui8>", b"memref<2x3xi8>", b"memref<3x2xi8>", b"complex<i1>", b"memref<4xmemref<i1>>",
-                 b"memref<4x?>", b"memref<?", b"memref<4x", b"memref<4xi8", b"memref", b"memref<(i1) -> i1>", b"memref<\xC3\xA4>",
-                 b"memref<0x0xi1>", b"memref<1x//\ni1>", b"memref<1//\nxi1>", b"memref<//\n1xi1>", b"memref<1x1.xi1>", b"memref<\"a\">"):
+                 b"memref<?x9223372036854775808xi1>", b"f32", b"none", b"vector<4xi32>", b"tensor<4xi32>",
+                 b"memref<*xi32>",
+                 b"memref<4xf32>", b"memref<4x4>", b"memref<4xi32, 1>", b"memref<xi32>", b"memref<4 4xi32>",
+                 b"memref<4xx>", b"memref<-4xi1>",
+                 b"!a.b", b"#a.b", b"1.5", b"i", b"si", b"ui", b"i8x", b"i8.", b"i8_", b"i8$", b"I8", b"u8", b"s8",
+                 b"int", b"indexx", b"index.",
+                 b"true", b"unit", b"array", b'"i32"', b"@i32", b"%i32", b"^i32", b"7", b"-", b"*", b"?", b"", b"$",
+                 b"i 8", b"()->i1",
+                 b"memref<?xi8>", b"memref<4xui8>", b"memref<2x3xi8>", b"memref<3x2xi8>", b"complex<i1>",
+                 b"memref<4xmemref<i1>>",
+                 b"memref<4x?>", b"memref<?", b"memref<4x", b"memref<4xi8", b"memref", b"memref<(i1) -> i1>",
+                 b"memref<\xC3\xA4>",
+                 b"memref<0x0xi1>", b"memref<1x//\ni1>", b"memref<1//\nxi1>", b"memref<//\n1xi1>", b"memref<1x1.xi1>",
+                 b"memref<\"a\">"):
         type_everywhere(text)
     attr(b"memref<?x4 x i8>", "memref<?x4xi8>")
     attr(b"memref<0x10xindex>", "memref<0x10xindex>")
@@ -319,15 +350,18 @@ def types():
     attr(b"() -> (() -> i1)", "() -> (() -> i1)")
     attr(b"() -> (i1)", "() -> i1")
     same(b"memref<007xsi8>", b"memref<7xsi8>", True)
-    for one, other in ((b"memref<4xi8>", b"memref<4xui8>"), (b"memref<?xi8>", b"memref<4xi8>"), (b"memref<2x3xi8>", b"memref<3x2xi8>"),
-                       (b"() -> i1", b"() -> (() -> i1)"), (b"(i1) -> ()", b"() -> i1"), (b"i8", b"si8"), (b"index", b"i64")):
+    for one, other in ((b"memref<4xi8>", b"memref<4xui8>"), (b"memref<?xi8>", b"memref<4xi8>"),
+                       (b"memref<2x3xi8>", b"memref<3x2xi8>"),
+                       (b"() -> i1", b"() -> (() -> i1)"), (b"(i1) -> ()", b"() -> i1"), (b"i8", b"si8"),
+                       (b"index", b"i64")):
         same(one, other, False)
     same(b"() -> (i1)", b"() -> i1", True)
 
 
 def widths():
     for sign in (b"i", b"si", b"ui"):
-        for width in (0, 1, 2, 7, 8, 9, 10, 16, 31, 32, 33, 63, 64, 65, 66, 99, 100, 127, 128, 129, 130, 255, 256, 999, 1000, 65536, 65537,
+        for width in (0, 1, 2, 7, 8, 9, 10, 16, 31, 32, 33, 63, 64, 65, 66, 99, 100, 127, 128, 129, 130, 255, 256, 999,
+                      1000, 65536, 65537,
                       2**32 - 1, 2**32, 2**32 + 1, 2**32 + 8, 2**64 - 1, 2**64, 2**64 + 8, 2**128 + 8, 10**40):
             type_everywhere(sign + b"%d" % width)
         for digits in (b"00", b"01", b"08", b"064", b"0128", b"0x8", b"008", b"0" * 40 + b"8"):
@@ -347,13 +381,17 @@ def literals():
         half = 2**(width - 1)
         for sign in ("i", "si", "ui"):
             ends = {-half - 1, -half, -1, 0, 1, half - 1, half, 2 * half - 1, 2 * half, 2 * half + 1, -2 * half}
-            for value in sorted(ends | {2**63 - 1, 2**63, 2**64, -2**63, -2**63 - 1, 2**127, -2**127, 2**128 - 1, 1 - 2**128}):
+            for value in sorted(ends
+                                | {2**63 - 1, 2**63, 2**64, -2**63, -2**63 - 1, 2**127, -2**127, 2**128 - 1, 1
+                                   - 2**128}):
                 literal(f"{sign}{width}", value, range_of(sign, width, value))
     for value in (-2**63 - 1, -2**63, -1, 0, 1, 2**63 - 1, 2**63, 2**64 - 1, 2**64, 2**127, -2**127, 2**128 - 1):
         literal("index", value, str(value) if -2**63 <= value < 2**63 else None)
         literal("", value, range_of("i", 64, value))
-    for digits in (b"340282366920938463463374607431768211456", b"0x100000000000000000000000000000000", b"9" * 60, b"0x" + b"f" * 40):
-        for ty in (b"", b" : i8", b" : i128", b" : ui128", b" : si128", b" : index", b" : i129", b" : f32", b" : () -> ()", b" $", b" x"):
+    for digits in (b"340282366920938463463374607431768211456", b"0x100000000000000000000000000000000", b"9" * 60, b"0x"
+                   + b"f" * 40):
+        for ty in (b"", b" : i8", b" : i128", b" : ui128", b" : si128", b" : index", b" : i129", b" : f32",
+                   b" : () -> ()", b" $", b" x"):
             attr(digits + ty, (7, 0))
             attr(b"-" + digits + ty, (7, 0))
             attr(b"[ - " + digits + ty + b"]", (7, 2))
@@ -364,19 +402,26 @@ def literals():
     attr(b"0xff : i8", "-1 : i8")
     attr(b"0" * 60 + b"1 : i8", "1 : i8")
     attr(b"0x0010", "16 : i64")
-    for text, at in ((b"1 : memref<i8>", 4), (b"1 : () -> ()", 4), (b"-1 : (i8) -> i8", 5), (b"[1 : memref<?xindex>]", 5)):
+    for text, at in ((b"1 : memref<i8>", 4), (b"1 : () -> ()", 4), (b"-1 : (i8) -> i8", 5),
+                     (b"[1 : memref<?xindex>]", 5)):
         attr(text, (5, at))
-    for text, at in ((b"256 : i8", 0), (b"  256 : i8", 2), (b" -129 : i8", 1), (b"- 129 : i8", 0), (b"18446744073709551616", 0),
+    for text, at in ((b"256 : i8", 0), (b"  256 : i8", 2), (b" -129 : i8", 1), (b"- 129 : i8", 0),
+                     (b"18446744073709551616", 0),
                      (b"99999999999999999999 $", 0), (b"99999999999999999999 x", 0), (b"[1, 2 : i1]", 4)):
         attr(text, (7, at))
-    for text, want in ((b"1 : i129", (6, 4)), (b"256 : i0", (6, 6)), (b"256 : f32", (13, 6)), (b"1 : true", (13, 4)), (b"1 : 2", (2, 4)),
-                       (b"1 : [", (2, 4)), (b"1 :", (2, 3)), (b"1 : -1", (2, 4)), (b"true : i1", (2, 5)), (b"-", (2, 1)), (b"- i8", (2, 2)),
+    for text, want in ((b"1 : i129", (6, 4)), (b"256 : i0", (6, 6)), (b"256 : f32", (13, 6)), (b"1 : true", (13, 4)),
+                       (b"1 : 2", (2, 4)),
+                       (b"1 : [", (2, 4)), (b"1 :", (2, 3)), (b"1 : -1", (2, 4)), (b"true : i1", (2, 5)),
+                       (b"-", (2, 1)), (b"- i8", (2, 2)),
                        (b"-\"a\"", (2, 1)), (b"1 : $", (1, 4)), (b"- $", (1, 2)), (b"256 : i8 $", (7, 0))):
         attr(text, want)
-    for one, other, want in ((b"-1 : i8", b"255 : i8", True), (b"true", b"1 : i1", True), (b"true", b"-1 : i1", True), (b"0x10", b"16 : i64", True),
-                             (b"1 : i8", b"1 : si8", False), (b"1 : i64", b"1 : index", False), (b"-128 : i8", b"128 : i8", True),
+    for one, other, want in ((b"-1 : i8", b"255 : i8", True), (b"true", b"1 : i1", True), (b"true", b"-1 : i1", True),
+                             (b"0x10", b"16 : i64", True),
+                             (b"1 : i8", b"1 : si8", False), (b"1 : i64", b"1 : index", False),
+                             (b"-128 : i8", b"128 : i8", True),
                              (b"false", b"-0 : i1", True), (b"true", b"1 : ui1", False), (b"1", b"true", False),
-                             (b"1 : i8", b"1", False), (b" // a\n\t1 : // b\n i8 // c", b"1 : i8", True), (b"0xFf", b"255", True)):
+                             (b"1 : i8", b"1", False), (b" // a\n\t1 : // b\n i8 // c", b"1 : i8", True),
+                             (b"0xFf", b"255", True)):
         same(one, other, want)
     if rules.MOST_WIDTH == 128:
         same(b"-1 : i128", b"340282366920938463463374607431768211455 : i128", True)
@@ -413,25 +458,40 @@ def literal(ty, value, printed):
 
 
 def attributes():
-    for text in (b"true", b"false", b"unit", b"1", b"-1 : i8", b"0x10 : index", b'"a\\n"', b"i32", b"index", b"() -> ()", b"memref<?x4xi32>",
-                 b"[1, [unit]]", b"{a, b = 1}", b"@a", b'@a::@"b c"', b"array<i8>", b"array<i1: true, 0>", b"#arith.overflow<nsw, nuw>",
-                 b"[]", b"[ unit ]", b'[1 : i8, "a", i32, [true], {a}, @b, array<i8>, #arith.overflow<nsw>]', b"[[], [[]], {}]",
-                 b"{}", b"{a = {a}, b = {a}}", b'{a = {b = {c}}, "x y" = [unit], d}', b"@a::@b :: @c", b'@"a b"::@""', b"{true, false = unit, i32}",
-                 b"array<i1>", b"array<i1: true, false, 0, 1, -1>", b"array < i8 : -128, 255 >", b"array<i16: -32768, 65535>",
-                 b"array<i32: -2147483648, 4294967295, 0x10>", b"array<i64: -9223372036854775808, 18446744073709551615>",
-                 b"#arith.overflow<none>", b"#arith.overflow<nsw>", b"#arith.overflow<nuw>", b"#arith.overflow<nuw, nsw>",
-                 b"#arith.overflow<nsw, nsw>", b"#arith.overflow<>", b"#arith.overflow<none, nsw>", b"#arith.overflow<nsw, none>",
-                 b"#arith.overflow<fast>", b"#arith.overflow<nsw nuw>", b"#arith.overflow<nsw,>", b"#arith.overflow", b"#arith.overflow<nsw",
-                 b"#arith.fastmath<none>", b"[1, 2", b"[1 2]", b"[1,, 2]", b"{a b}", b"{a = 1 b}", b"{1}", b"{a = 1,}", b"dense<1> : i8",
-                 b"opaque<1>", b"affine_map<(d0) -> (d0)>", b"dense_resource<a>", b"loc(unknown)", b"strided<[1]>", b"array<i8", b"array<i8:",
-                 b"array<i8:1", b"array<i8:1,2>", b"array<i8: 1 2>", b"array<memref<i8>>", b"array<[i8]>", b"array<\"i8\">", b"array<-1>",
-                 b"array<1.5>", b"array<1>", b"array<true>", b"array<i1: yes>", b"array<i1: 2>", b"array<i1: -2>", b"array<i8: - 1>",
-                 b"array<i8: --1>", b"array<i8 :>", b"array<i1: true : i1>", b"array<i64: true>", b"array<i8: $>", b"array<$>", b"%a", b"^a",
+    for text in (b"true", b"false", b"unit", b"1", b"-1 : i8", b"0x10 : index", b'"a\\n"', b"i32", b"index",
+                 b"() -> ()", b"memref<?x4xi32>",
+                 b"[1, [unit]]", b"{a, b = 1}", b"@a", b'@a::@"b c"', b"array<i8>", b"array<i1: true, 0>",
+                 b"#arith.overflow<nsw, nuw>",
+                 b"[]", b"[ unit ]", b'[1 : i8, "a", i32, [true], {a}, @b, array<i8>, #arith.overflow<nsw>]',
+                 b"[[], [[]], {}]",
+                 b"{}", b"{a = {a}, b = {a}}", b'{a = {b = {c}}, "x y" = [unit], d}', b"@a::@b :: @c", b'@"a b"::@""',
+                 b"{true, false = unit, i32}",
+                 b"array<i1>", b"array<i1: true, false, 0, 1, -1>", b"array < i8 : -128, 255 >",
+                 b"array<i16: -32768, 65535>",
+                 b"array<i32: -2147483648, 4294967295, 0x10>",
+                 b"array<i64: -9223372036854775808, 18446744073709551615>",
+                 b"#arith.overflow<none>", b"#arith.overflow<nsw>", b"#arith.overflow<nuw>",
+                 b"#arith.overflow<nuw, nsw>",
+                 b"#arith.overflow<nsw, nsw>", b"#arith.overflow<>", b"#arith.overflow<none, nsw>",
+                 b"#arith.overflow<nsw, none>",
+                 b"#arith.overflow<fast>", b"#arith.overflow<nsw nuw>", b"#arith.overflow<nsw,>", b"#arith.overflow",
+                 b"#arith.overflow<nsw",
+                 b"#arith.fastmath<none>", b"[1, 2", b"[1 2]", b"[1,, 2]", b"{a b}", b"{a = 1 b}", b"{1}", b"{a = 1,}",
+                 b"dense<1> : i8",
+                 b"opaque<1>", b"affine_map<(d0) -> (d0)>", b"dense_resource<a>", b"loc(unknown)", b"strided<[1]>",
+                 b"array<i8", b"array<i8:",
+                 b"array<i8:1", b"array<i8:1,2>", b"array<i8: 1 2>", b"array<memref<i8>>", b"array<[i8]>",
+                 b"array<\"i8\">", b"array<-1>",
+                 b"array<1.5>", b"array<1>", b"array<true>", b"array<i1: yes>", b"array<i1: 2>", b"array<i1: -2>",
+                 b"array<i8: - 1>",
+                 b"array<i8: --1>", b"array<i8 :>", b"array<i1: true : i1>", b"array<i64: true>", b"array<i8: $>",
+                 b"array<$>", b"%a", b"^a",
                  b"\xC3\xA4", b"@a::b", b"@a::", b"@a::1", b"@a::@", b"[$]", b"{$}", b"{a = $}", b"{\"\\q\"}"):
         attr_everywhere(text)
     for width in (1, 8, 16, 32, 64):
         half = 2**(width - 1)
-        for value in (-half - 1, -half, -1, 0, 1, half - 1, half, 2 * half - 1, 2 * half, 2**64, 2**127, 2**128 - 1, 2**128, -2**128):
+        for value in (-half - 1, -half, -1, 0, 1, half - 1, half, 2 * half - 1, 2 * half, 2**64, 2**127, 2**128 - 1,
+                      2**128, -2**128):
             printed = range_of("i", width, value)
             want = (7, len(f"array<i{width}: 0, "))
             if printed is not None:
@@ -440,18 +500,26 @@ def attributes():
             attr(b"array<i%d: 0, %d, %d>" % (width, value, value), want)
     for width in (2, 7, 9, 31, 63, 65, 127, 128):
         attr(b"array<i%d>" % width, (13, 6) if width <= rules.MOST_WIDTH else None)
-    for one, other, want in ((b"[1, 2]", b"[ 1 : i64,2 : i64 ]", True), (b"[1, 2]", b"[2, 1]", False), (b"[1]", b"[1, 1]", False),
-                             (b"{b = 1, a}", b"{a = unit, b = 1}", True), (b'{"a" = 1}', b"{a = 1}", True), (b'{"\\61"}', b"{a}", True),
-                             (b"{a = 1}", b"{b = 1}", False), (b"{a = 1}", b"{a = 2}", False), (b'@"a"::@b', b'@a::@"b"', True),
-                             (b"@a::@b", b"@b::@a", False), (b"@a", b'"a"', False), (b"array<i8: -1>", b"array<i8: 255>", True),
+    for one, other, want in ((b"[1, 2]", b"[ 1 : i64,2 : i64 ]", True), (b"[1, 2]", b"[2, 1]", False),
+                             (b"[1]", b"[1, 1]", False),
+                             (b"{b = 1, a}", b"{a = unit, b = 1}", True), (b'{"a" = 1}', b"{a = 1}", True),
+                             (b'{"\\61"}', b"{a}", True),
+                             (b"{a = 1}", b"{b = 1}", False), (b"{a = 1}", b"{a = 2}", False),
+                             (b'@"a"::@b', b'@a::@"b"', True),
+                             (b"@a::@b", b"@b::@a", False), (b"@a", b'"a"', False),
+                             (b"array<i8: -1>", b"array<i8: 255>", True),
                              (b"array<i1: true>", b"array<i1: -1>", True), (b"array<i1: false>", b"array<i1: 0>", True),
                              (b"array<i8: 1>", b"array<i16: 1>", False), (b"array<i8: 1>", b"[1 : i8]", False),
-                             (b"#arith.overflow<nsw, nuw>", b"#arith.overflow<nuw,nsw>", True), (b"#arith.overflow<nsw>", b"#arith.overflow<nuw>", False),
-                             (b"#arith.overflow<nsw, nsw>", b"#arith.overflow<nsw>", True), (b"[]", b"{}", False), (b"unit", b"{}", False),
+                             (b"#arith.overflow<nsw, nuw>", b"#arith.overflow<nuw,nsw>", True),
+                             (b"#arith.overflow<nsw>", b"#arith.overflow<nuw>", False),
+                             (b"#arith.overflow<nsw, nsw>", b"#arith.overflow<nsw>", True), (b"[]", b"{}", False),
+                             (b"unit", b"{}", False),
                              (b'"i32"', b"i32", False), (b"{c, b, a}", b"{a, b, c}", True)):
         same(one, other, want)
-    for text, want in ((b" // a\n\t1 : // b\n i8 // c", "1 : i8"), (b"1\n\n", "1 : i64"), (b'"a\\n", x', (2, 5)), (b"unit}", (2, 4)),
-                       (b"@a : x", (2, 3)), (b"#arith.overflow<nuw, nsw>", "#arith.overflow<nsw, nuw>"), (b"unit", "unit")):
+    for text, want in ((b" // a\n\t1 : // b\n i8 // c", "1 : i8"), (b"1\n\n", "1 : i64"), (b'"a\\n", x', (2, 5)),
+                       (b"unit}", (2, 4)),
+                       (b"@a : x", (2, 3)), (b"#arith.overflow<nuw, nsw>", "#arith.overflow<nsw, nuw>"),
+                       (b"unit", "unit")):
         attr(text, want)
     keys = (b"b", b"a", b'"a b"', b"B", b"_", b'""', b"ab", b'"a\\00"')
     for order in itertools.permutations(keys[:4]):
@@ -460,8 +528,10 @@ def attributes():
 
 
 def depths():
-    inside = (b"", b"1", b"-1", b'"a"', b"i8", b"() -> ()", b"@a", b'@"a"', b"{}", b"[]", b"array<i8>", b"array<i8: 1>", b"#arith.overflow<nsw>",
-              b"unit", b"true", b" unit", b"{b}", b"{b = 1}", b"(i32) -> i32", b"() -> i1", b"memref<4xi32>", b"(memref<4xi32>) -> ()",
+    inside = (b"", b"1", b"-1", b'"a"', b"i8", b"() -> ()", b"@a", b'@"a"', b"{}", b"[]", b"array<i8>", b"array<i8: 1>",
+              b"#arith.overflow<nsw>",
+              b"unit", b"true", b" unit", b"{b}", b"{b = 1}", b"(i32) -> i32", b"() -> i1", b"memref<4xi32>",
+              b"(memref<4xi32>) -> ()",
               b"1 : i8, i8, @a::@b, array<i8: 1>", b")", b"]", b"$", b"index", b"1 : i8", b"{b = {}}")
     for count in (29, 30, 31, 32, 33):
         for part in inside:
@@ -479,7 +549,8 @@ def depths():
         tried(module, [b'"t"() {a = ', (count, b"("), b","])
         tried(attr, [(count, b"[("), b"i1", (count, b") -> ()]")])
         tried(attr, [(count // 2, b"[{a = "), b"1", (count // 2, b"}]")])
-    hand = (([(33, b"["), (33, b"]")], (10, 32)), ([(32, b"["), b" unit", (32, b"]")], (10, 33)), ([(32, b"["), b")", (32, b"]")], (2, 32)),
+    hand = (([(33, b"["), (33, b"]")], (10, 32)), ([(32, b"["), b" unit", (32, b"]")], (10, 33)),
+            ([(32, b"["), b")", (32, b"]")], (2, 32)),
             ([(31, b"["), b"{b}", (31, b"]")], (10, 32)), ([(31, b"["), b"{b = 1}", (31, b"]")], (10, 36)),
             ([(31, b"["), b"(i32) -> i32", (31, b"]")], (10, 32)), ([(32, b"["), (32, b"]")], "[" * 32 + "]" * 32))
     for text, want in hand:
@@ -496,12 +567,15 @@ def depths():
 # Operations and modules.
 
 def modules():
-    for text, want in ((FUNCTION, FUNCTION_PRINTED), (FUNCTION.replace(b"(%a, %c)", b"(%c, %c)"), TWICE_PRINTED), (THREE, THREE_PRINTED),
-                       (PACKS, PACKS_PRINTED), (b"", EMPTY), (b" \t\r\n// only a comment", EMPTY), (b'"builtin.module"() ({^a:}) : () -> ()', EMPTY),
+    for text, want in ((FUNCTION, FUNCTION_PRINTED), (FUNCTION.replace(b"(%a, %c)", b"(%c, %c)"), TWICE_PRINTED),
+                       (THREE, THREE_PRINTED),
+                       (PACKS, PACKS_PRINTED), (b"", EMPTY), (b" \t\r\n// only a comment", EMPTY),
+                       (b'"builtin.module"() ({^a:}) : () -> ()', EMPTY),
                        (b'"builtin.module"() ({}) : () -> ()', '"builtin.module"() ({}) : () -> ()\n'),
                        (b'"builtin.module"() ({^a:}) : () -> () "test.a"() : () -> ()', TWO),
                        (b'"builtin.module"() ({"test.a"() : () -> ()}) {b, sym_name = "m"} : () -> ()', NAMED),
-                       (b'%0 = "arith.constant"() <{value = 1 : i32}> : () -> i32\n"builtin.module"() ({ %0 = "test.d"() : () -> i32 "test.u"(%0) : (i32) -> () }) : () -> ()', HIDDEN)):
+                       (b'%0 = "arith.constant"() <{value = 1 : i32}> : () -> i32\n"builtin.module"() ({ %0 = '
+                        b'"test.d"() : () -> i32 "test.u"(%0) : (i32) -> () }) : () -> ()', HIDDEN)):
         module(text, want)
     for printed in (FUNCTION_PRINTED, TWICE_PRINTED, THREE_PRINTED, PACKS_PRINTED, EMPTY, TWO, NAMED, HIDDEN):
         module(printed.encode(), printed)
@@ -510,46 +584,76 @@ def modules():
     op(SIX, "#9 " + SIX_PRINTED)
     op(b'"test.a"() {f = 7, e = false, d = 255 : ui8, c = -1 : i1, b = 0 : i8, a = -1 : i8} : () -> ()',
        '#9 "test.a"() {a = -1 : i8, b = 0 : i8, c = true, d = 255 : ui8, e = false, f = 7 : i64} : () -> ()\n')
-    module(b'%0 = "arith.constant"() <{value = 1 : i32}> : () -> i32\n"builtin.module"() ({ "test.u"(%0) : (i32) -> () }) : () -> ()', (3, 87))
+    module(b'%0 = "arith.constant"() <{value = 1 : i32}> : () -> i32\n"builtin.module"() ({ "test.u"(%0) : (i32) -> '
+           b'() }) : () -> ()', (3, 87))
     module(b'"test.a"() {a = 256 : i8} : () -> ()', (7, 16))
     module(b'"test.a"() {a = 1 : i65} : () -> ()', (6, 20) if rules.MOST_WIDTH == 64 else None)
     module(b'"test.a"() {a = 1 : i129} : () -> ()', (6, 20))
-    for text in (b'"builtin.module"() : () -> ()', b'"builtin.module"() ({}, {}) : () -> ()', b'%a = "builtin.module"() ({}) : () -> i1',
-                 b'"builtin.module"() ({}) : () -> i1', b'"builtin.module"() ({^a(%a: i1):}) : () -> ()', b'"builtin.module"() ({}) : () -> () // end',
-                 b'%a = "t"() : () -> i1 "builtin.module"(%a) ({}) : (i1) -> ()', b'"builtin.module"() ({}) : () -> () "builtin.module"() ({}) : () -> ()',
-                 b'"Builtin.module"() ({}) : () -> ()', b'"t"() ({"t"() ({"t"() ({}) : () -> ()}, {}) : () -> ()}) : () -> ()',
-                 b'"t"() ({^a(%a: i1, %b: i2): "u"(%b, %a) ({^b(%c: i3):}, {^c(%c: i4): "v"(%c, %a) : (i4, i1) -> ()}) : (i2, i1) -> ()}) : () -> ()',
+    for text in (b'"builtin.module"() : () -> ()', b'"builtin.module"() ({}, {}) : () -> ()',
+                 b'%a = "builtin.module"() ({}) : () -> i1',
+                 b'"builtin.module"() ({}) : () -> i1', b'"builtin.module"() ({^a(%a: i1):}) : () -> ()',
+                 b'"builtin.module"() ({}) : () -> () // end',
+                 b'%a = "t"() : () -> i1 "builtin.module"(%a) ({}) : (i1) -> ()',
+                 b'"builtin.module"() ({}) : () -> () "builtin.module"() ({}) : () -> ()',
+                 b'"Builtin.module"() ({}) : () -> ()',
+                 b'"t"() ({"t"() ({"t"() ({}) : () -> ()}, {}) : () -> ()}) : () -> ()',
+                 b'"t"() ({^a(%a: i1, %b: i2): "u"(%b, %a) ({^b(%c: i3):}, {^c(%c: i4): "v"(%c, %a) : (i4, i1) -> '
+                 b'()}) : (i2, i1) -> ()}) : () -> ()',
                  b'%a = "t"() ({%a = "u"() : () -> i2 "v"(%a) : (i2) -> ()}) : () -> i1 "w"(%a) : (i1) -> ()',
-                 b'%a:3 = "t"() ({%b:2, %c = "u"() : () -> (i1, i2, i3) "v"(%b#1, %c) : (i2, i3) -> ()}) : () -> (i4, i5, i6) "w"(%a#2, %a) : (i6, i4) -> ()',
-                 b'"t"() : () -> i1 %a = "t"() : () -> i2 "t"() : () -> (i3, i4) %b = "u"(%a) : (i2) -> i5 "v"(%b, %a) : (i5, i2) -> ()',
-                 b'"t"() ({^a():}, {^a(): "u"() : () -> ()}, {"v"() : () -> ()}) : () -> ()', b'"t"() <{}> ({}) {} : () -> ()',
-                 b'"a\\22\\5Cb"() : () -> ()', b'"\\00"() : () -> ()', b'"t" ( ) : ( ) -> ( )', b'//\n"t"//\n(//\n)//\n://\n(//\n)//\n->//\n(//\n)//'):
+                 b'%a:3 = "t"() ({%b:2, %c = "u"() : () -> (i1, i2, i3) "v"(%b#1, %c) : (i2, i3) -> ()}) : () -> (i4, '
+                 b'i5, i6) "w"(%a#2, %a) : (i6, i4) -> ()',
+                 b'"t"() : () -> i1 %a = "t"() : () -> i2 "t"() : () -> (i3, i4) %b = "u"(%a) : (i2) -> i5 "v"(%b, '
+                 b'%a) : (i5, i2) -> ()',
+                 b'"t"() ({^a():}, {^a(): "u"() : () -> ()}, {"v"() : () -> ()}) : () -> ()',
+                 b'"t"() <{}> ({}) {} : () -> ()',
+                 b'"a\\22\\5Cb"() : () -> ()', b'"\\00"() : () -> ()', b'"t" ( ) : ( ) -> ( )',
+                 b'//\n"t"//\n(//\n)//\n://\n(//\n)//\n->//\n(//\n)//'):
         module(text)
-    for text, want in ((b'"t"() : () -> () ^a:', (2, 17)), (b'"t"() ({}) : () -> () ^a:', (2, 22)), (b'"{"() : () -> () ^a:', (2, 17)),
-                       (b'"}"() ({^a: ^b:}) : () -> ()', (8, 12)), (b'"t"() {a = {b}} : () -> () ^a:', (2, 27)), (b'"t"() <{a}> ({^a:}) : () -> () // {\n^a:', (2, 36)),
-                       (b'"t"() ({%a = ^b', (2, 13)), (b'"t"() ({^a: %b = ^c', (2, 17)), (b'"t"() ({"u"() ({}) : () -> () ^b:}) : () -> ()', (8, 30)),
-                       (b'"t"() ({^a: %b = #c', (2, 17)), (b'"t"() ({^a: #c', (13, 12)), (b'"t"() ({^a: !c', (13, 12)), (b'"t"() ({^a: %b = x', (13, 17)),
-                       (b'"t"() ({x}) : () -> ()', (13, 8)), (b'"t"() ({} {}) : () -> ()', (2, 10)), (b'"t"() ({},) : () -> ()', (2, 10)), (b'"t"() (', (2, 7)),
-                       (b'"t"() ()', (2, 7)), (b'"t"() ({^a)', (2, 10)), (b'"t"() ({^a(%a: i1 %b: i1):})', (2, 18)), (b'"t"() ({^a(%a: i1,):})', (2, 18)),
-                       (b'"t"() ({^a(%a: i1) "u"', (2, 19)), (b'"t"() ({^a(%a#0: i1):})', (2, 13)), (b'"t"() ({^a(^b):})', (2, 11)), (b'"t"() -> ()', (2, 6)),
-                       (b'"t"() : () -> () loc("x")', (13, 17)), (b'"t"() ({^a(%a: i1 loc("x")):})', (13, 18)), (b'%a = "t"() : () -> () loc("x")', (5, 11)),
-                       (b'"t"() : () -> () {a}', (2, 17)), (b'"t"() {a} <{b}> : () -> ()', (2, 10)), (b'"t"() ({}) <{b}> : () -> ()', (2, 11)),
-                       (b'"t"() {a} ({}) : () -> ()', (2, 10)), (b'"t"() <{a}> [^a] : () -> ()', (2, 12)), (b'"t"() ({}) [^a] : () -> ()', (2, 11)),
-                       (b'%a:340282366920938463463374607431768211456 = "t"', (11, 3)), (b'%a:0x100000000000000000000000000000001 = "t"', (11, 3)),
-                       (b'%a:-1 = "t"', (2, 3)), (b'%a:1.5 = "t"', (2, 3)), (b'%a#0 = "t"', (2, 2)), (b'%a : 2 = "t"() : () -> (i1, i1)', None),
-                       (b'%a, %b', (2, 6)), (b'%a', (2, 2)), (b'%a =', (2, 4)), (b'%a = %b', (2, 5)), (b'%a = $', (1, 5)), (b'"t"(%a#0)', (3, 4)),
-                       (b'"t"(,)', (2, 4)), (b'"t"("a")', (2, 4)), (b'"t"(@a)', (2, 4)), (b'\xEF\xBB\xBF"t"() : () -> ()', (1, 0)), (b'"\\C3\\00"() : () -> ()', None),
-                       (b'"t"() {true, unit = unit, loc = 1, array = i1, none} : () -> ()', None), (b'"t"() {1 = 1} : () -> ()', (2, 7)),
-                       (b'"t"() {%a} : () -> ()', (2, 7)), (b'"t"() {a.b.c = @true::@unit} : () -> ()', None), (b'"t"() {# a}', (1, 7)),
-                       (b'"t"() {a = memref<000009223372036854775808xi1>}', (7, 18)), (b'"t"() : () -> memref<00009223372036854775807xi1>', None)):
+    for text, want in ((b'"t"() : () -> () ^a:', (2, 17)), (b'"t"() ({}) : () -> () ^a:', (2, 22)),
+                       (b'"{"() : () -> () ^a:', (2, 17)),
+                       (b'"}"() ({^a: ^b:}) : () -> ()', (8, 12)), (b'"t"() {a = {b}} : () -> () ^a:', (2, 27)),
+                       (b'"t"() <{a}> ({^a:}) : () -> () // {\n^a:', (2, 36)),
+                       (b'"t"() ({%a = ^b', (2, 13)), (b'"t"() ({^a: %b = ^c', (2, 17)),
+                       (b'"t"() ({"u"() ({}) : () -> () ^b:}) : () -> ()', (8, 30)),
+                       (b'"t"() ({^a: %b = #c', (2, 17)), (b'"t"() ({^a: #c', (13, 12)), (b'"t"() ({^a: !c', (13, 12)),
+                       (b'"t"() ({^a: %b = x', (13, 17)),
+                       (b'"t"() ({x}) : () -> ()', (13, 8)), (b'"t"() ({} {}) : () -> ()', (2, 10)),
+                       (b'"t"() ({},) : () -> ()', (2, 10)), (b'"t"() (', (2, 7)),
+                       (b'"t"() ()', (2, 7)), (b'"t"() ({^a)', (2, 10)), (b'"t"() ({^a(%a: i1 %b: i1):})', (2, 18)),
+                       (b'"t"() ({^a(%a: i1,):})', (2, 18)),
+                       (b'"t"() ({^a(%a: i1) "u"', (2, 19)), (b'"t"() ({^a(%a#0: i1):})', (2, 13)),
+                       (b'"t"() ({^a(^b):})', (2, 11)), (b'"t"() -> ()', (2, 6)),
+                       (b'"t"() : () -> () loc("x")', (13, 17)), (b'"t"() ({^a(%a: i1 loc("x")):})', (13, 18)),
+                       (b'%a = "t"() : () -> () loc("x")', (5, 11)),
+                       (b'"t"() : () -> () {a}', (2, 17)), (b'"t"() {a} <{b}> : () -> ()', (2, 10)),
+                       (b'"t"() ({}) <{b}> : () -> ()', (2, 11)),
+                       (b'"t"() {a} ({}) : () -> ()', (2, 10)), (b'"t"() <{a}> [^a] : () -> ()', (2, 12)),
+                       (b'"t"() ({}) [^a] : () -> ()', (2, 11)),
+                       (b'%a:340282366920938463463374607431768211456 = "t"', (11, 3)),
+                       (b'%a:0x100000000000000000000000000000001 = "t"', (11, 3)),
+                       (b'%a:-1 = "t"', (2, 3)), (b'%a:1.5 = "t"', (2, 3)), (b'%a#0 = "t"', (2, 2)),
+                       (b'%a : 2 = "t"() : () -> (i1, i1)', None),
+                       (b'%a, %b', (2, 6)), (b'%a', (2, 2)), (b'%a =', (2, 4)), (b'%a = %b', (2, 5)),
+                       (b'%a = $', (1, 5)), (b'"t"(%a#0)', (3, 4)),
+                       (b'"t"(,)', (2, 4)), (b'"t"("a")', (2, 4)), (b'"t"(@a)', (2, 4)),
+                       (b'\xEF\xBB\xBF"t"() : () -> ()', (1, 0)), (b'"\\C3\\00"() : () -> ()', None),
+                       (b'"t"() {true, unit = unit, loc = 1, array = i1, none} : () -> ()', None),
+                       (b'"t"() {1 = 1} : () -> ()', (2, 7)),
+                       (b'"t"() {%a} : () -> ()', (2, 7)), (b'"t"() {a.b.c = @true::@unit} : () -> ()', None),
+                       (b'"t"() {# a}', (1, 7)),
+                       (b'"t"() {a = memref<000009223372036854775808xi1>}', (7, 18)),
+                       (b'"t"() : () -> memref<00009223372036854775807xi1>', None)):
         module(text, want)
-    for bad in (b"\xC0\x80", b"\xC1\xBF", b"\xE0\x80\x80", b"\xED\xA0\x80", b"\xF0\x80\x80\x80", b"\xF4\x90\x80\x80", b"\xF5\x80\x80\x80", b"\x80", b"\xBF",
-                b"\xC3", b"\xC3(", b"\xE2\x82", b"\xE2\x82(", b"\xF0\x9F\x98", b"\xF0\x9F\x98x", b"\xFE", b"\xFF", b"\xED\xBF\xBF"):
+    for bad in (b"\xC0\x80", b"\xC1\xBF", b"\xE0\x80\x80", b"\xED\xA0\x80", b"\xF0\x80\x80\x80", b"\xF4\x90\x80\x80",
+                b"\xF5\x80\x80\x80", b"\x80", b"\xBF",
+                b"\xC3", b"\xC3(", b"\xE2\x82", b"\xE2\x82(", b"\xF0\x9F\x98", b"\xF0\x9F\x98x", b"\xFE", b"\xFF",
+                b"\xED\xBF\xBF"):
         module(b"// ab" + bad, (14, 5))
         module(b"$ \xC3\xA4" + bad + b" ", (14, 4))
         attr(b'"a' + bad + b'"', (14, 2))
         op(b'"t' + bad + b'"() : () -> ()', (14, 2))
-    for good in (b"\xC2\x80", b"\xDF\xBF", b"\xE0\xA0\x80", b"\xED\x9F\xBF", b"\xEE\x80\x80", b"\xF0\x90\x80\x80", b"\xF4\x8F\xBF\xBF", b"\xEF\xBF\xBF"):
+    for good in (b"\xC2\x80", b"\xDF\xBF", b"\xE0\xA0\x80", b"\xED\x9F\xBF", b"\xEE\x80\x80", b"\xF0\x90\x80\x80",
+                 b"\xF4\x8F\xBF\xBF", b"\xEF\xBF\xBF"):
         module(b"// " + good, EMPTY)
         attr(b'"' + good + b'"', printing.string_text(good))
         module(b'"' + good + b'"() : () -> ()')
@@ -559,7 +663,8 @@ def modules():
 def names():
     for text in (b'"t"() ({^a(%a: i1):}, {^a(%a: i1):}) : () -> () %a = "t"() : () -> i1',
                  b'%a = "t"() ({%b = "u"() : () -> i1}, {%b = "u"() : () -> i1}) : () -> i1',
-                 b'%a = "t"() : () -> i1 "func.func"() ({%a = "t"() : () -> i1}) : () -> ()', b'%0:1 = "t"() : () -> i1'):
+                 b'%a = "t"() : () -> i1 "func.func"() ({%a = "t"() : () -> i1}) : () -> ()',
+                 b'%0:1 = "t"() : () -> i1'):
         module(text)
         agree(text, str(printing.module(text)[0]), "True")
     bound = b'%a = "t"() : () -> i1 '
@@ -568,20 +673,29 @@ def names():
     a, b = (b"a", b"i1"), (b"b", b"i2")
     binds_b = b'%b = "t"() : () -> i2 '
     for text in (bound + inner(b"v", uses(a) + binds_b + uses(a, b)) + uses(a), bound + inner(b"v", binds_b) + uses(b),
-                 bound + inner(b"v", bound), bound + inner(b"func.func", uses(a)), bound + inner(b"builtin.module", bound + uses(a)),
-                 bound + inner(b"v", binds_b + inner(b"func.func", uses(b))), bound + inner(b"func.func", bound + inner(b"v", uses(a))),
+                 bound + inner(b"v", bound), bound + inner(b"func.func", uses(a)), bound
+                 + inner(b"builtin.module", bound + uses(a)),
+                 bound + inner(b"v", binds_b + inner(b"func.func", uses(b))), bound
+                 + inner(b"func.func", bound + inner(b"v", uses(a))),
                  bound + inner(b"v", binds_b + inner(b"func.func", bound + inner(b"v", uses(a) + bound))),
-                 bound + inner(b"v", binds_b + inner(b"func.func", bound + inner(b"v", uses(a))) + uses(a, b)) + uses(a) + binds_b + uses(b),
-                 bound + inner(b"func.func", inner(b"v", bound) + bound), bound + inner(b"v", inner(b"v", inner(b"v", uses(a)))),
-                 inner(b"func.func", bound) + bound + inner(b"builtin.module", bound) + uses(a), inner(b"v", bound) + inner(b"v", bound) + bound,
-                 bound + b'"func.func"() ({^a(%a: i2): "u"(%a) : (i2) -> ()}) : () -> ()', bound + b'"v"() ({^a(%a: i2):}) : () -> ()',
-                 bound + b'"func.func"() ({}, {"u"(%a) : (i1) -> ()}) : () -> ()', b'"v"() ({^a(%a: i1):}, {"u"(%a) : (i1) -> ()}) : () -> ()',
-                 bound + b'"func.func"(%a) ({}) : (i1) -> ()', bound + b'%b = "func.func"(%a) ({%a = "t"() : () -> i3}) : (i1) -> i2 ' + uses(a, b)):
+                 bound + inner(b"v", binds_b + inner(b"func.func", bound + inner(b"v", uses(a))) + uses(a, b)) + uses(a)
+                 + binds_b + uses(b),
+                 bound + inner(b"func.func", inner(b"v", bound) + bound), bound
+                 + inner(b"v", inner(b"v", inner(b"v", uses(a)))),
+                 inner(b"func.func", bound) + bound + inner(b"builtin.module", bound) + uses(a), inner(b"v", bound)
+                 + inner(b"v", bound) + bound,
+                 bound + b'"func.func"() ({^a(%a: i2): "u"(%a) : (i2) -> ()}) : () -> ()', bound
+                 + b'"v"() ({^a(%a: i2):}) : () -> ()',
+                 bound + b'"func.func"() ({}, {"u"(%a) : (i1) -> ()}) : () -> ()',
+                 b'"v"() ({^a(%a: i1):}, {"u"(%a) : (i1) -> ()}) : () -> ()',
+                 bound + b'"func.func"(%a) ({}) : (i1) -> ()', bound
+                 + b'%b = "func.func"(%a) ({%a = "t"() : () -> i3}) : (i1) -> i2 ' + uses(a, b)):
         module(text)
-    listed = b"builtin.module builtin.unrealized_conversion_cast func.func func.call func.return arith.constant arith.addi arith.subi arith.muli " \
-        b"arith.shli arith.divsi arith.divui arith.remsi arith.remui arith.andi arith.ori arith.xori arith.shrsi arith.shrui arith.maxsi arith.maxui " \
-        b"arith.minsi arith.minui arith.cmpi arith.select arith.extsi arith.extui arith.trunci arith.index_cast arith.index_castui scf.for scf.if " \
-        b"scf.while scf.yield scf.condition memref.alloc memref.dealloc memref.load memref.store test.x func builtin.modul".split()
+    listed = b"""builtin.module builtin.unrealized_conversion_cast func.func func.call func.return arith.constant
+    arith.addi arith.subi arith.muli arith.shli arith.divsi arith.divui arith.remsi arith.remui arith.andi arith.ori
+    arith.xori arith.shrsi arith.shrui arith.maxsi arith.maxui arith.minsi arith.minui arith.cmpi arith.select
+    arith.extsi arith.extui arith.trunci arith.index_cast arith.index_castui scf.for scf.if scf.while scf.yield
+    scf.condition memref.alloc memref.dealloc memref.load memref.store test.x func builtin.modul""".split()
     keys = sorted({key for row in rules.ROWS.values() for key in row.split()})
     for name in listed:
         module(bound + inner(name, uses(a)))
@@ -591,46 +705,61 @@ def names():
         for key in rules.ROWS.get(name, b"").split():
             module(b'"' + name + b'"() {x, ' + key + b" = 1}" + TAIL)
             module(b'"' + name + b'"() <{' + key + b"}> {" + key + b"}" + TAIL)
-    for number, text, at in ((12, b'"func.func"() {sym_name = "f", sym_name = "f"}' + TAIL, 31), (12, b'"t"() <{a}> {b, a}' + TAIL, 16),
-                             (12, b'"func.func"() <{sym_name}> {a, sym_name}' + TAIL, 31), (12, b'"t"() {"\\61", a}' + TAIL, 14)):
+    for number, text, at in ((12, b'"func.func"() {sym_name = "f", sym_name = "f"}' + TAIL, 31),
+                             (12, b'"t"() <{a}> {b, a}' + TAIL, 16),
+                             (12, b'"func.func"() <{sym_name}> {a, sym_name}' + TAIL, 31),
+                             (12, b'"t"() {"\\61", a}' + TAIL, 14)):
         module(text, (number, at))
 
 
 def free_names():
     other = rules.Outer(40, ("i", 32), ("i", 7))
     op(b'"func.func"(%v007.2) ({\n  "u"(%a12.0.1#0) : (i32) -> ()\n}) : (i32) -> ()',
-       '#40 %v7.2 #41 %a12.0.1 "func.func"(%) ({\n  "u"(%) : (index) -> ()\n}) : (index) -> ()\n', rules.Outer(40, ("i", 32), ("i", 32)))
+       '#40 %v7.2 #41 %a12.0.1 "func.func"(%) ({\n  "u"(%) : (index) -> ()\n}) : (index) -> ()\n',
+       rules.Outer(40, ("i", 32), ("i", 32)))
     op(b'"t"(%v1.0, %a1.2.3) : (i32, i7) -> ()', '#40 %v1.0 %a1.2.3 "t"(%, %) : (index, index) -> ()\n', other)
     op(b'"t"(%v1.0, %a1.2.3) : (i7, i32) -> ()', (5, 20), other)
     op(b'"builtin.module"(%v3.0) ({\n  "u"(%v3.0) : (i32) -> ()\n}) : (i32) -> ()')
     op(b'"t"(%v4294967295.4294967295) ({\n  "u"(%a4294967295.4294967295.4294967295) : (i32) -> ()\n}) : (i32) -> ()')
     op(b'"t"(%v0.0) ({\n^a(%v3.0: i32):\n  "u"(%v3.0) : (i32) -> ()\n}) : (i32) -> ()',
-       '#5 %v0.0 #6 %a5.0.0 "t"(%) ({\n^bb0(%arg0: i32):\n  "u"(%arg0) : (i32) -> ()\n}) : (index) -> ()\n', rules.Outer(5, ("i", 32), ("i", 32)))
-    for name in (b"v1", b"v1.", b"v.0", b"v1.0.0", b"a1.0", b"a1.0.0.0", b"w1.0", b"vx.0", b"v4294967296.0", b"v0.4294967296", b"v0.0-", b"v-0.0",
-                 b"v99999999999999999999999999999999999999999.0", b"V1.0", b"v1_0", b"v0x1.0", b"a1.0.", b"a1..0", b"a.0.0", b"a4294967296.0.0",
-                 b"a0.4294967296.0", b"a0.0.4294967296", b"v", b"a", b"1.0", b"v1.0a", b"vv1.0", b"v1.$", b"v18446744073709551617.0", b"v1.18446744073709551616"):
+       '#5 %v0.0 #6 %a5.0.0 "t"(%) ({\n^bb0(%arg0: i32):\n  "u"(%arg0) : (i32) -> ()\n}) : (index) -> ()\n',
+       rules.Outer(5, ("i", 32), ("i", 32)))
+    for name in (b"v1", b"v1.", b"v.0", b"v1.0.0", b"a1.0", b"a1.0.0.0", b"w1.0", b"vx.0", b"v4294967296.0",
+                 b"v0.4294967296", b"v0.0-", b"v-0.0",
+                 b"v99999999999999999999999999999999999999999.0", b"V1.0", b"v1_0", b"v0x1.0", b"a1.0.", b"a1..0",
+                 b"a.0.0", b"a4294967296.0.0",
+                 b"a0.4294967296.0", b"a0.0.4294967296", b"v", b"a", b"1.0", b"v1.0a", b"vv1.0", b"v1.$",
+                 b"v18446744073709551617.0", b"v1.18446744073709551616"):
         tried(op, b'"t"(%' + name + b") : (i32) -> ()")
         module(b'"t"(%' + name + b") : (i32) -> ()")
-    for name in (b"v0.0", b"v00.00", b"v10.7", b"a0.0.0", b"a1.02.003", b"v4294967295.0", b"v0000000000000004294967295.0", b"a0.0.4294967295"):
+    for name in (b"v0.0", b"v00.00", b"v10.7", b"a0.0.0", b"a1.02.003", b"v4294967295.0",
+                 b"v0000000000000004294967295.0", b"a0.0.4294967295"):
         for member in (b"", b"#0", b" #00", b"#1", b"#x", b"#4294967296", b"#0 #0"):
             tried(op, b'"t"(%' + name + member + b") : (i32) -> ()")
         op(b'"t"(%' + name + b") : (i64) -> ()")
         module(b"%" + name + b' = "t"() : () -> i1 "u"(%' + name + b") : (i1) -> ()")
         op(b"%" + name + b' = "t"(%' + name + b") : (i32) -> i32")
-        op(b'"t"() ({%' + name + b' = "t"() : () -> i7 "u"(%' + name + b") : (i7) -> ()}, {\"u\"(%" + name + b") : (i32) -> ()}) : () -> ()")
-        op(b'"t"() ({"u"(%' + name + b") : (i32) -> ()" + b'}, {%' + name + b' = "t"() : () -> i7 "u"(%' + name + b") : (i7) -> ()}) : () -> ()")
+        op(b'"t"() ({%' + name + b' = "t"() : () -> i7 "u"(%' + name + b") : (i7) -> ()}, {\"u\"(%" + name
+           + b") : (i32) -> ()}) : () -> ()")
+        op(b'"t"() ({"u"(%' + name + b") : (i32) -> ()" + b'}, {%' + name + b' = "t"() : () -> i7 "u"(%' + name
+           + b") : (i7) -> ()}) : () -> ()")
     for results, arguments in ((None, None), (("i", 32), None), (None, ("i", 32))):
-        for text in (b'"t"(%v1.0) : (i32) -> ()', b'"t"(%a1.0.0) : (i32) -> ()', b'"func.func"() ({"u"(%v1.0) : (i32) -> ()}) : () -> ()'):
+        for text in (b'"t"(%v1.0) : (i32) -> ()', b'"t"(%a1.0.0) : (i32) -> ()',
+                     b'"func.func"() ({"u"(%v1.0) : (i32) -> ()}) : () -> ()'):
             op(text, outer=rules.Outer(3, results, arguments))
     op(b'"t"(%v1.0) : (i32) -> ()', (3, 4), rules.Outer(3, None, None))
     op(b'"t"(%v0.0#1) : (i32) -> ()', (3, 9))
 
 
 def single():
-    for text, want in ((b'"t"() : () -> () "u"() : () -> ()', (2, 17)), (b'"t"() : () -> () loc("x")', (13, 17)), (b"", (2, 0)),
-                       (b'^a: "t"() : () -> ()', (2, 0)), (b'"t"(%v0.0) : (i64) -> ()', (5, 11)), (b'"t"() : () -> () x', (2, 17)),
-                       (b'"t"() : () -> () $', (1, 17)), (b'"t"() : () -> () ^a:', (2, 17)), (b'"t"() : () -> () }', (2, 17)),
-                       (b'"t"() : () -> () #a', (2, 17)), (b" // a", (2, 5)), (b"\xFF", (14, 0)), (b"x", (13, 0)), (b'"t"() : () -> () // end', None)):
+    for text, want in ((b'"t"() : () -> () "u"() : () -> ()', (2, 17)), (b'"t"() : () -> () loc("x")', (13, 17)),
+                       (b"", (2, 0)),
+                       (b'^a: "t"() : () -> ()', (2, 0)), (b'"t"(%v0.0) : (i64) -> ()', (5, 11)),
+                       (b'"t"() : () -> () x', (2, 17)),
+                       (b'"t"() : () -> () $', (1, 17)), (b'"t"() : () -> () ^a:', (2, 17)),
+                       (b'"t"() : () -> () }', (2, 17)),
+                       (b'"t"() : () -> () #a', (2, 17)), (b" // a", (2, 5)), (b"\xFF", (14, 0)), (b"x", (13, 0)),
+                       (b'"t"() : () -> () // end', None)):
         op(text, want)
     pair, wrong = b'"t"() ({ "u"() : () -> () }) : () -> ()', b'"t"() ({ "u"() : () -> () }) : () -> (i129)'
     for next in (0, 1, 7, 4293918718, 4293918719, 4293918720, 4294967292, 4294967293, 4294967294, 4294967295):
@@ -644,7 +773,8 @@ def single():
         op(row[0], row[1:], rules.Outer(7, None, None))
         module(row[0], row[1:])
     assert [row[1] for row in tables.GOLDEN] == list(range(1, 15))
-    for text in (FUNCTION, LOOP, PACKS.split(b"\n")[0], b'%a, %b:2 = "t"() : () -> (i1, i2, i3)', b'"builtin.module"() ({^a:}) : () -> ()'):
+    for text in (FUNCTION, LOOP, PACKS.split(b"\n")[0], b'%a, %b:2 = "t"() : () -> (i1, i2, i3)',
+                 b'"builtin.module"() ({^a:}) : () -> ()'):
         op(text)
 
 
@@ -686,12 +816,14 @@ def limits():
     module([user, (255, b"%a,"), b"%a) : (", (254, b"i1,"), b"i1) -> ()"], (5, 795))
     module([(256, b"%a,"), b"%a = "], (11, 768))
     module([(256, b"%a,"), b"= "], (2, 768))
-    for text, want in ((b"%b:1 = ", (11, 771)), (b"%b:0 = ", (7, 771)), (b"%b:x", (2, 771)), (b"%b:", (2, 771)), (b"%b, %c", (11, 768)),
+    for text, want in ((b"%b:1 = ", (11, 771)), (b"%b:0 = ", (7, 771)), (b"%b:x", (2, 771)), (b"%b:", (2, 771)),
+                       (b"%b, %c", (11, 768)),
                        (b"%b:300", (11, 771)), (b"%b $", (11, 768)), (b"%b:$", (1, 771))):
         module([(256, b"%a,"), text], want)
     for count in (254, 255, 256, 257):
         module([b'"t"() : () -> (', (count, b"i1,"), b"i1)"], (11, 783) if count > 255 else None)
-        module([b'"t"() : () -> (', (count, b"i1,"), b"i1)"] + [b' "u"() : () -> ()'], (11, 783) if count > 255 else None)
+        module([b'"t"() : () -> (', (count, b"i1,"), b"i1)"] + [b' "u"() : () -> ()'], (11, 783) if count > 255
+               else None)
         module([b'"t"() {a = () -> (', (count, b"i1,"), b"i1)}" + TAIL])
         module([b'"t"() : (', (count, b"i1,"), b"i1) -> ()"], (5, 6))
     module([b'"t"() : () -> (', (256, b"i1,"), b")"], (2, 783))
@@ -703,7 +835,8 @@ def limits():
     module(pack + [b"256) : (i1) -> ()"], (3, 799))
     arguments = lambda count, back: counted(b'"t"() ({^b(', b"%", b": i1,", count) + [back]
     module(arguments(254, b"%255: i1):})" + TAIL))
-    for back, want in ((b"%256: i1):}) : () -> ()", (11, 2315)), (b"%0 x", (11, 2315)), (b"%000", (11, 2315)), (b"):}) : () -> ()", (2, 2315))):
+    for back, want in ((b"%256: i1):}) : () -> ()", (11, 2315)), (b"%0 x", (11, 2315)), (b"%000", (11, 2315)),
+                       (b"):}) : () -> ()", (2, 2315))):
         tried(module, arguments(255, back), want)
     entries = lambda front, count, back: counted(front, b"k", b",", count) + [back]
     module(entries(b'"t"() {', 254, b"k255}" + TAIL))
@@ -722,7 +855,8 @@ def limits():
     module(entries(b'"func.func"() <{', 254, b'sym_name}> {sym_name}' + TAIL), (12, 1303))
     module(entries(b'"func.func"() <{', 254, b'}> {sym_name, res_attrs}' + TAIL), (2, 1291))
     module(entries(b'"func.func"() <{', 253, b'k}> {sym_name, res_attrs}' + TAIL), (11, 1301))
-    module(entries(b'"func.func"() <{', 254, b'k255}> {' + b"".join(b"j%03d," % n for n in range(255)) + b"j255}" + TAIL))
+    module(entries(b'"func.func"() <{', 254, b'k255}> {' + b"".join(b"j%03d," % n for n in range(255)) + b"j255}"
+                   + TAIL))
     module(entries(b'"t"() {a = {', 254, b"k255}}" + TAIL))
     module(entries(b'"t"() {a = {', 255, b"k256}}" + TAIL), (11, 1292))
     units = [b"{" + b"".join(b"%c%c," % (97 + n // 26, 97 + n % 26) for n in range(256))]
@@ -732,7 +866,8 @@ def limits():
     module([b'"t"() (', (15, b"{},"), b"{})" + TAIL])
     module([b'"t"() (', (16, b"{},"), b"{})" + TAIL], (11, 55))
     module([b'"t"() (', (16, b"{},"), b")" + TAIL], (2, 55))
-    for text in (b"[" + b", ".join([b"1"] * 300) + b"]", b"(" + b", ".join([b"i1"] * 300) + b") -> ()", b"array<i8: " + b", ".join([b"1"] * 300) + b">",
+    for text in (b"[" + b", ".join([b"1"] * 300) + b"]", b"(" + b", ".join([b"i1"] * 300) + b") -> ()", b"array<i8: "
+                 + b", ".join([b"1"] * 300) + b">",
                  b"::".join([b"@a"] * 300), b"memref<" + b"1x" * 300 + b"i1>"):
         attr(text)
     part[0] = "large_texts"
@@ -761,14 +896,16 @@ def many_operations():
     each = len('  "t"() : () -> ()\n')
     all_there, full = f"{printed + (most - 1) * each} bytes", most * len(one)
     large(M, [(most - 1, one)], all_there)
-    for text, want in ((b"", (11, full)), (b" // end", (11, full + 7)), (b")", (2, full)), (b'%a = "t"', (11, full + 5))):
+    for text, want in ((b"", (11, full)), (b" // end", (11, full + 7)), (b")", (2, full)),
+                       (b'%a = "t"', (11, full + 5))):
         large(M, [(most, one), text], want)
     inside = len(front) + (most - 1) * len(one)
     large(M, [front, (most - 1, one), back], all_there)
     large(M, [front, (most - 1, one), back, b'%a = "t"'], (11, inside + len(back) + 5))
     large(M, [front, (most - 1, one), b'%a = "t"'], (11, inside + 5))
     large(M, [front, (most - 2, one), back, one], (11, inside + len(back)))
-    large(M, [front, (most - 3, one), back, one], f"{printed + len('  ') + printed + len('  ') + (most - 3) * (each + 2) + each} bytes")
+    large(M, [front, (most - 3, one), back, one],
+          f"{printed + len('  ') + printed + len('  ') + (most - 3) * (each + 2) + each} bytes")
     last = 4294967295 - most
     large(f"{last}/-/-", [front, (most - 1, one), back], f"#{last} #{last + 1} {all_there}")
     large(f"{last + 1}/-/-", [front, (most - 1, one), back], (32, inside + len(back)))
@@ -778,9 +915,12 @@ def many_operations():
 # Texts that are cut, and made by chance.
 
 def cut_texts():
-    for text in (FUNCTION, FUNCTION_PRINTED.encode(), TWICE_PRINTED.encode(), THREE, PACKS, LOOP, ATTRIBUTES, SIX, HIDDEN.encode(), NAMED.encode(),
-                 b'// a\n"t\\0A"() <{"a\\"" = -0x1F : si9, b = @c::@"d"}> {f = memref<?x04x//\nui7>, g = array<i1: true, 0>} : () -> ()',
-                 b'"t"() ({^a(%a: (i1, index) -> (memref<i1>, () -> ())): }, {}) {x = #arith.overflow<nuw, nsw>, y = [{}, {z = 1.5}]} : () -> ()'):
+    for text in (FUNCTION, FUNCTION_PRINTED.encode(), TWICE_PRINTED.encode(), THREE, PACKS, LOOP, ATTRIBUTES, SIX,
+                 HIDDEN.encode(), NAMED.encode(),
+                 b'// a\n"t\\0A"() <{"a\\"" = -0x1F : si9, b = @c::@"d"}> {f = memref<?x04x//\nui7>, g = array<i1: '
+                 b'true, 0>} : () -> ()',
+                 b'"t"() ({^a(%a: (i1, index) -> (memref<i1>, () -> ())): }, {}) {x = #arith.overflow<nuw, nsw>, y = '
+                 b'[{}, {z = 1.5}]} : () -> ()'):
         cut(text)
 
 
@@ -807,7 +947,8 @@ def write(rows):
         (CRATE / file).write_text("".join(row[column] + "\n" for row in rows))
 
 
-SECTIONS = [by_hand, fronts, tokens, marks, strings, types, widths, literals, attributes, depths, modules, names, free_names, single, limits, cut_texts]
+SECTIONS = [by_hand, fronts, tokens, marks, strings, types, widths, literals, attributes, depths, modules, names,
+            free_names, single, limits, cut_texts]
 
 
 def main():

@@ -1,5 +1,6 @@
-"""Golden files of the texts of ir_text_cases.py: what the program says of each, as a module, behind `set-attr` or behind
-`insert`. A text that no command can hold, or that is said otherwise there, stays a line of crates/ir_text_cases."""
+"""Golden files of the texts of ir_text_cases.py: what the program says of each, as a module, behind `set-attr` or
+behind `insert`. A text that no command can hold, or that is said otherwise there, stays a line of
+crates/ir_text_cases."""
 import collections
 import re
 
@@ -82,8 +83,9 @@ class Golden:
             self.cases.case(["--brief"], pieces, (0, b""))
         else:
             behind = b"" if text.endswith(b"\n") or not text else b"\n"
-            pieces = [*pieces[:-1], (1, pieces[-1][1] + behind + DIVIDER + b"print\n")] if len(pieces) == 1 and pieces[0][0] == 1 else \
-                [*pieces, (1, behind + DIVIDER + b"print\n")]
+            asked = behind + DIVIDER + b"print\n"
+            is_one = len(pieces) == 1 and pieces[0][0] == 1
+            pieces = [(1, text + asked)] if is_one else [*pieces, (1, asked)]
             self.cases.case(["--brief"], pieces, (0, b"1 ok\n" + answer.encode()))
 
     def cuts(self, part, text):
@@ -96,10 +98,11 @@ class Golden:
             except rules.Refused as fault:
                 said.append((3, f"{number} 3 module refused {printing.refusal(fault)}\n".encode()))
         self.cases.begin(f"texts/{part}")
-        self.cases.case(["--brief"], text, (max(status for status, _ in said), b"".join(line for _, line in said)), True)
+        answer = max(status for status, _ in said), b"".join(line for _, line in said)
+        self.cases.case(["--brief"], text, answer, True)
 
     def attribute(self, part, text):
-        """An attribute: behind `set-attr`, and in a module where a line can't have it as it stands. Whether it is there."""
+        """An attribute behind `set-attr`, and in a module where no line can have it so. Whether it is there."""
         if len(text) >= MOST_HELD:
             return False
         held = is_held(text)
@@ -165,7 +168,7 @@ def one_of(golden_files, made):
 
 
 def printed_large(made):
-    """What is printed for a module of very many operations `"t"() : () -> ()`, some of which stand in a module inside."""
+    """What is printed for a module of very many operations `"t"() : () -> ()`, some of them in a module inside."""
     pieces = pieces_of(made.text)
     many = max(times for times, _ in pieces)
     front, one, back = '"builtin.module"() ({\n', '"t"() : () -> ()\n', "}) : () -> ()\n"

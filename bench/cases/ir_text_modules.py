@@ -18,7 +18,8 @@ FUNCTION_PRINTED = '''"builtin.module"() ({
 '''
 TWICE_PRINTED = FUNCTION_PRINTED.replace("(%arg0, %0)", "(%0, %0)")
 EMPTY = '"builtin.module"() ({\n^bb0:\n}) : () -> ()\n'
-TWO = '"builtin.module"() ({\n  "builtin.module"() ({\n  ^bb0:\n  }) : () -> ()\n  "test.a"() : () -> ()\n}) : () -> ()\n'
+TWO = ('"builtin.module"() ({\n  "builtin.module"() ({\n  ^bb0:\n  }) : () -> ()\n  "test.a"() : () -> ()\n}) : () -> '
+       '()\n')
 NAMED = '"builtin.module"() <{sym_name = "m"}> ({\n  "test.a"() : () -> ()\n}) {b} : () -> ()\n'
 HIDDEN = '''"builtin.module"() ({
   %0 = "arith.constant"() <{value = 1 : i32}> : () -> i32
@@ -60,16 +61,19 @@ LOOP = b'''"func.func"() <{sym_name = "g", function_type = (memref<4xi32>, i1) -
   %s:2 = "scf.for"(%z, %n, %z, %p, %z) ({
   ^bb(%i: index, %q: i1, %k: index):
     %x = "memref.load"(%m, %i) <{nontemporal = false}> : (memref<4xi32>, index) -> i32
-    "scf.if"(%q) ({ "memref.store"(%x, %m, %k) : (i32, memref<4xi32>, index) -> () "scf.yield"() : () -> () }, {}) : (i1) -> ()
+    "scf.if"(%q) ({ "memref.store"(%x, %m, %k) : (i32, memref<4xi32>, index) -> () "scf.yield"() : () -> () \
+}, {}) : (i1) -> ()
     "scf.yield"(%q, %i) : (i1, index) -> ()
   }) : (index, index, index, i1, index) -> (i1, index)
   "test.use"(%s#1, %s) {a.b = [unit, @g::@"x y"], "c d"} : (index, i1) -> ()
   "func.return"() : () -> ()
 }) : () -> ()
 '''
-ATTRIBUTES = b'''"test.a"() ({}, {}) {x = [[unit, 7 : si8, #arith.overflow<nsw, nuw>, "a\\"\\\\\\n", @a::@"odd name", {"odd name" = 7 : si8, a}], \
+ATTRIBUTES = b'''"test.a"() ({}, {}) {x = [[unit, 7 : si8, #arith.overflow<nsw, nuw>, "a\\"\\\\\\n", @a::@"odd name", \
+{"odd name" = 7 : si8, a}], \
 [memref<4x?xi32>, () -> ((i32, i32) -> i1), array<i32>, array<i1: -1, 0>]]} : () -> ()'''
-ATTRIBUTES_PRINTED = '"test.a"() ({}, {}) {x = [[unit, 7 : si8, #arith.overflow<nsw, nuw>, "a\\22\\\\\\0A", @a::@"odd name", {a, "odd name" = 7 : si8}], ' \
+ATTRIBUTES_PRINTED = '"test.a"() ({}, {}) {x = [[unit, 7 : si8, #arith.overflow<nsw, nuw>, "a\\22\\\\\\0A", ' \
+    '@a::@"odd name", {a, "odd name" = 7 : si8}], ' \
     '[memref<4x?xi32>, () -> ((i32, i32) -> i1), array<i32>, array<i1: true, false>]]} : () -> ()\n'
 SIX = b'"test.a"() {a = 255 : i8, b = -0 : i8, c = true, d = 0xFF : ui8, e = -1 : i1, f = 7} : () -> ()'
 SIX_PRINTED = '"test.a"() {a = -1 : i8, b = 0 : i8, c = true, d = 255 : ui8, e = true, f = 7 : i64} : () -> ()\n'

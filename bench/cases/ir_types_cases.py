@@ -17,16 +17,20 @@ def truth(answer):
     return "true" if answer else "false"
 
 
-WIDTH, VALUE, DEEP, MANY, TWIN, INDEX = "6 BadWidth", "7 BadValue", "10 TooDeep", "11 TooMany", "12 DuplicateKey", "25 NoSuchIndex"
+WIDTH, VALUE, DEEP, MANY, TWIN, INDEX = ("6 BadWidth", "7 BadValue", "10 TooDeep", "11 TooMany", "12 DuplicateKey",
+                                         "25 NoSuchIndex")
 
-WORDS = """builtin.module builtin.unrealized_conversion_cast func.func func.call func.return arith.constant arith.addi arith.subi arith.muli arith.shli
-arith.divsi arith.divui arith.remsi arith.remui arith.andi arith.ori arith.xori arith.shrsi arith.shrui arith.maxsi arith.maxui arith.minsi arith.minui
-arith.cmpi arith.select arith.extsi arith.extui arith.trunci arith.index_cast arith.index_castui scf.for scf.if scf.while scf.yield scf.condition memref.alloc
-memref.dealloc memref.load memref.store sym_name sym_visibility function_type arg_attrs res_attrs callee value overflowFlags predicate operandSegmentSizes
-alignment nontemporal public private nested""".split()
-ROWS = {"builtin.module": "sym_name sym_visibility", "func.func": "function_type sym_name sym_visibility arg_attrs res_attrs",
+WORDS ="""builtin.module builtin.unrealized_conversion_cast func.func func.call func.return arith.constant arith.addi
+arith.subi arith.muli arith.shli arith.divsi arith.divui arith.remsi arith.remui arith.andi arith.ori arith.xori
+arith.shrsi arith.shrui arith.maxsi arith.maxui arith.minsi arith.minui arith.cmpi arith.select arith.extsi arith.extui
+arith.trunci arith.index_cast arith.index_castui scf.for scf.if scf.while scf.yield scf.condition memref.alloc
+memref.dealloc memref.load memref.store sym_name sym_visibility function_type arg_attrs res_attrs callee value
+overflowFlags predicate operandSegmentSizes alignment nontemporal public private nested""".split()
+ROWS = {"builtin.module": "sym_name sym_visibility",
+        "func.func": "function_type sym_name sym_visibility arg_attrs res_attrs",
         "func.call": "callee arg_attrs res_attrs", "arith.constant": "value", "arith.cmpi": "predicate",
-        "memref.alloc": "operandSegmentSizes alignment", "memref.load": "nontemporal alignment", "memref.store": "nontemporal alignment"}
+        "memref.alloc": "operandSegmentSizes alignment", "memref.load": "nontemporal alignment",
+        "memref.store": "nontemporal alignment"}
 ROWS |= {"arith." + op: "overflowFlags" for op in "addi subi muli shli trunci".split()}
 
 
@@ -118,7 +122,8 @@ class Context:
         return 1
 
     def type_fault(self, node):
-        if node[0] == "func" and any(t >= len(self.types) for t in node[1] + node[2]) or node[0] == "memref" and node[1] >= len(self.types):
+        if node[0] == "func" and any(t >= len(self.types) for t in node[1]
+                                     + node[2]) or node[0] == "memref" and node[1] >= len(self.types):
             return INDEX
         if node[0] in ("i", "si", "ui") and not 1 <= node[1] <= 128:
             return WIDTH
@@ -127,9 +132,12 @@ class Context:
         return DEEP if self.type_depth(node) > 32 else None
 
     def attr_fault(self, node):
-        if node[0] in ("int", "ty", "dense") and node[1] >= len(self.types) or node[0] == "str" and node[1] >= len(self.names):
+        if node[0] in ("int", "ty",
+                       "dense") and node[1] >= len(self.types) or node[0] == "str" and node[1] >= len(self.names):
             return INDEX
-        if node[0] == "sym" and any(n >= len(self.names) for n in node[1]) or node[0] == "array" and any(a >= len(self.attrs) for a in node[1]):
+        if node[0] == "sym" and any(n >= len(self.names)
+                                    for n in node[1]) or node[0] == "array" and any(
+                                        a >= len(self.attrs) for a in node[1]):
             return INDEX
         if node[0] == "dict" and any(k >= len(self.names) or a >= len(self.attrs) for k, a in node[1]):
             return INDEX
@@ -179,7 +187,8 @@ class Context:
             case(f"has {number}", " ".join(truth(number < count) for count in counts))
 
     def fits(self, ty, number, word=None):
-        case(f"fits {ty} {number if word is None else word}", literal_answer(self.types[ty], number) if ty < len(self.types) else "none")
+        case(f"fits {ty} {number if word is None else word}", literal_answer(self.types[ty], number) if ty
+             < len(self.types) else "none")
 
     def reading(self, ty, bits):
         case(f"reading {ty} {bits}", read(self.types[ty], bits) if ty < len(self.types) else "none")
@@ -192,7 +201,8 @@ def ends(width):
 
 
 def ranges():
-    scalars = [(sign, width) for width in (1, 2, 7, 8, 9, 31, 32, 33, 63, 64, 65, 127, 128) for sign in ("i", "si", "ui")] + [("index",)]
+    scalars = [(sign, width) for width in (1, 2, 7, 8, 9, 31, 32, 33, 63, 64, 65, 127, 128)
+               for sign in ("i", "si", "ui")] + [("index",)]
     for node in scalars:
         context = Context()
         context.type(*node)
@@ -246,7 +256,8 @@ def other_types():
 
 
 def widths():
-    for sign, width in itertools.product(("i", "si", "ui"), (0, 1, 2, 63, 64, 65, 127, 128, 129, 130, 255, 256, 257, 2 ** 31, 4294967295)):
+    for sign, width in itertools.product(("i", "si", "ui"),
+                                         (0, 1, 2, 63, 64, 65, 127, 128, 129, 130, 255, 256, 257, 2 ** 31, 4294967295)):
         context = Context()
         context.type("i", 8)
         context.type(sign, width)
@@ -261,13 +272,15 @@ def widths():
 
 
 def known_bits():
-    for kind in ["0", "129", "4294967295", "index"] + [str(width) for width in (1, 2, 7, 8, 9, 31, 32, 33, 63, 64, 65, 127, 128)]:
+    for kind in ["0", "129", "4294967295", "index"] + [str(width)
+                                                       for width in (1, 2, 7, 8, 9, 31, 32, 33, 63, 64, 65, 127, 128)]:
         width = 64 if kind == "index" else int(kind)
         node = ("i", width)
         fine = 1 <= width <= 128
         for number in ends(width if fine else 8) + [2 ** 128 - 1, 12345678901234567890]:
             if number >= 0:
-                case(f"known {kind} {number}", f"{number} {read(node, number)}" if fine and is_bits(node, number) else "none")
+                case(f"known {kind} {number}", f"{number} {read(node, number)}" if fine and is_bits(node, number)
+                     else "none")
         for number in ends(width if fine else 8) + [-2 ** 127, 2 ** 127 - 1, -257, -129, -128, 255, 256]:
             if -2 ** 127 <= number < 2 ** 127:
                 bits = number % 2 ** width if fine else 0
@@ -311,13 +324,19 @@ def numbering():
         context.name(word)
     context.ask_all()
     context = Context()
-    types = [("i", 8), ("si", 8), ("ui", 8), ("i", 9), ("index",), ("func", (), ()), ("func", (0,), ()), ("func", (), (0,)), ("func", (0, 1), ()),
-             ("func", (1, 0), ()), ("func", (0,), (1,)), ("func", (0, 0), ()), ("memref", 0, ()), ("memref", 0, (None,)), ("memref", 0, (0,)), ("memref", 0, (4,)),
+    types = [("i", 8), ("si", 8), ("ui", 8), ("i", 9), ("index",), ("func", (), ()), ("func", (0,), ()),
+             ("func", (), (0,)), ("func", (0, 1), ()),
+             ("func", (1, 0), ()), ("func", (0,), (1,)), ("func", (0, 0), ()), ("memref", 0, ()),
+             ("memref", 0, (None,)), ("memref", 0, (0,)), ("memref", 0, (4,)),
              ("memref", 1, (4,)), ("memref", 0, (4, None)), ("memref", 0, (None, 4)), ("i", 128), ("ui", 128)]
-    attrs = [("unit",), ("int", 0, 1), ("int", 0, 255), ("int", 1, 1), ("int", 4, 1), ("str", 0), ("str", 1), ("ty", 0), ("ty", 1), ("array", ()), ("array", (0,)),
-             ("array", (0, 0)), ("array", (0, 1)), ("array", (1, 0)), ("dict", ()), ("dict", ((0, 0),)), ("dict", ((1, 0),)), ("dict", ((0, 1),)),
-             ("dict", ((0, 0), (1, 0))), ("dict", ((0, 0), (1, 1))), ("sym", ()), ("sym", (0,)), ("sym", (0, 1)), ("sym", (1, 0)), ("dense", 0, ()), ("dense", 0, (1,)),
-             ("dense", 1, (1,)), ("dense", 0, (1, 1)), ("overflow", 0, 0), ("overflow", 1, 0), ("overflow", 0, 1), ("overflow", 1, 1), ("int", 19, 2 ** 128 - 1),
+    attrs = [("unit",), ("int", 0, 1), ("int", 0, 255), ("int", 1, 1), ("int", 4, 1), ("str", 0), ("str", 1), ("ty", 0),
+             ("ty", 1), ("array", ()), ("array", (0,)),
+             ("array", (0, 0)), ("array", (0, 1)), ("array", (1, 0)), ("dict", ()), ("dict", ((0, 0),)),
+             ("dict", ((1, 0),)), ("dict", ((0, 1),)),
+             ("dict", ((0, 0), (1, 0))), ("dict", ((0, 0), (1, 1))), ("sym", ()), ("sym", (0,)), ("sym", (0, 1)),
+             ("sym", (1, 0)), ("dense", 0, ()), ("dense", 0, (1,)),
+             ("dense", 1, (1,)), ("dense", 0, (1, 1)), ("overflow", 0, 0), ("overflow", 1, 0), ("overflow", 0, 1),
+             ("overflow", 1, 1), ("int", 19, 2 ** 128 - 1),
              ("int", 20, 2 ** 128 - 1)]
     for _ in range(2):
         for node in types:
@@ -354,7 +373,8 @@ def parts_that_are_not_there():
 
 def first_types():
     context = Context()
-    for node in (("si", 8), ("index",), ("memref", 0, (4, None)), ("memref", 1, ()), ("memref", 2, ()), ("func", (), ())):
+    for node in (("si", 8), ("index",), ("memref", 0, (4, None)), ("memref", 1, ()), ("memref", 2, ()),
+                 ("func", (), ())):
         context.type(*node)
     return context
 
@@ -378,7 +398,8 @@ def depths():
     for kind, holders in itertools.product(range(11), range(3)):
         context = first_types()
         deep, _ = wrapped(context, 0)
-        leaf = [("unit",), ("int", 0, 0), ("str", 0), ("ty", 0), ("array", ()), ("dict", ()), ("sym", ()), ("dense", 0, ()), ("overflow", 1, 0), ("ty", 4), ("ty", deep)][kind]
+        leaf = [("unit",), ("int", 0, 0), ("str", 0), ("ty", 0), ("array", ()), ("dict", ()), ("sym", ()),
+                ("dense", 0, ()), ("overflow", 1, 0), ("ty", 4), ("ty", deep)][kind]
         context.attr(*leaf)
         last = 0
         for round in range(100):
@@ -391,8 +412,10 @@ def depths():
 
 
 def dictionaries():
-    rows = [(b"a", b"b", b"c"), (b"a", b"aa", b"ab"), (b"", b"\x00", b"\x00\x00"), (b"Z", b"a", b"a\xff"), (b"~", b"\x80", b"\xff"),
-            (b"\x7f\xff", b"\xc3\xa4", b"\xc3\xa4a"), (b"callee", b"sym_name", b"value"), (b"value", b"valuf", b"walue"), (b"", b"0", b"\xff")]
+    rows = [(b"a", b"b", b"c"), (b"a", b"aa", b"ab"), (b"", b"\x00", b"\x00\x00"), (b"Z", b"a", b"a\xff"),
+            (b"~", b"\x80", b"\xff"),
+            (b"\x7f\xff", b"\xc3\xa4", b"\xc3\xa4a"), (b"callee", b"sym_name", b"value"),
+            (b"value", b"valuf", b"walue"), (b"", b"0", b"\xff")]
     for keys in rows:
         assert list(keys) == sorted(keys)
         context = Context()
@@ -409,8 +432,10 @@ def dictionaries():
             context.attr("dict", twin)
         assert context.attrs[3] == ("dict", tuple(reversed(entries)))
         context.ask_all()
-    rows = [(1, 0, False, None), (1, 1, False, None), (31, 2, False, None), (1, 256, False, None), (1, 2, True, TWIN), (1, 3, True, TWIN), (1, 256, True, TWIN),
-            (1, 257, False, MANY), (1, 257, True, MANY), (32, 1, False, DEEP), (32, 2, True, DEEP), (32, 257, True, DEEP), (31, 257, True, MANY), (31, 255, True, TWIN)]
+    rows = [(1, 0, False, None), (1, 1, False, None), (31, 2, False, None), (1, 256, False, None), (1, 2, True, TWIN),
+            (1, 3, True, TWIN), (1, 256, True, TWIN),
+            (1, 257, False, MANY), (1, 257, True, MANY), (32, 1, False, DEEP), (32, 2, True, DEEP),
+            (32, 257, True, DEEP), (31, 257, True, MANY), (31, 255, True, TWIN)]
     for depth, count, has_twin, wanted in rows:
         context = Context()
         context.attr("unit")
@@ -448,7 +473,8 @@ def a_type(dice, context):
         return ("index",)
     if kind == 3:
         return "func", some(3), some(3)
-    return "memref", dice.choice(known), tuple(dice.choice((None, 0, 4, 2 ** 63)) if dice.randrange(4) else 4 for _ in range(dice.randrange(3)))
+    return "memref", dice.choice(known), tuple(dice.choice((None, 0, 4, 2 ** 63)) if dice.randrange(4) else 4
+                                               for _ in range(dice.randrange(3)))
 
 
 def an_attr(dice, context):
@@ -468,7 +494,8 @@ def an_attr(dice, context):
     if kind == 6:
         return "sym", tuple(dice.choice(names) for _ in range(dice.randrange(3)))
     if kind == 7:
-        return "dense", ty, tuple(dice.choice((-1, 0, 1, -128, 255, -2 ** 63, 2 ** 63 - 1)) for _ in range(dice.randrange(3)))
+        return "dense", ty, tuple(dice.choice((-1, 0, 1, -128, 255, -2 ** 63, 2 ** 63 - 1))
+                                  for _ in range(dice.randrange(3)))
     return ("overflow", dice.randrange(2), dice.randrange(2)) if kind == 8 else ("unit",)
 
 

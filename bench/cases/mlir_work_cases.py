@@ -1,11 +1,11 @@
 #!/usr/bin/env python3
-"""Writes stdin and stdout of crates/mlir_work_cases: each case is a line, and its answer worked out here from the rules of
-scripts, inputs and replies by regular expressions and Python's own cuts. And it writes the golden files of tests/ that are
-of whole runs with all listeners, of the same rules. Run it at the top of the repository.
+"""Writes stdin and stdout of crates/mlir_work_cases: each case is a line, and its answer worked out here from the rules
+of scripts, inputs and replies by regular expressions and Python's own cuts. And it writes the golden files of tests/
+that are of whole runs with all listeners, of the same rules. Run it at the top of the repository.
 
-The whole runs are written out here or in bench/cases/worked_rows.txt, and compared with what the rules of bench/reference give
-for them, or are of analyses_cases.py, verifier_cases.py, conversion_cases.py and heard_cases.py, many by chance from the
-seeds there, and have what the rules give."""
+The whole runs are written out here or in bench/cases/worked_rows.txt, and compared with what the rules of
+bench/reference give for them, or are of analyses_cases.py, verifier_cases.py, conversion_cases.py and heard_cases.py,
+many by chance from the seeds there, and have what the rules give."""
 import itertools
 import pathlib
 import re
@@ -107,7 +107,8 @@ def entry_says(name, rest):
 
 
 def insert_says(rest):
-    found = re.fullmatch(rb"(before|after)[ \t]+([^ \t]+)[ \t]+(.+)|(start|end)[ \t]+([^ \t]+)[ \t]+([^ \t]+)[ \t]+(.+)", rest, re.S)
+    found = re.fullmatch(rb"(before|after)[ \t]+([^ \t]+)[ \t]+(.+)|(start|end)[ \t]+([^ \t]+)[ \t]+([^ \t]+)[ "
+                         rb"\t]+(.+)", rest, re.S)
     if not found:
         return "bad"
     beside, op, text, inside, around, region, other = found.groups()
@@ -181,62 +182,99 @@ def line(text, want=None):
 
 
 NOTHING = ["", " ", "\t\r", "//", "// x", "  //x\r", "//report uses"]
-REPORTS = {"report uses": 1, "report symbols": 2, "report diagnostics": 3, "report effects": 4, "report dead": 5, "report constants": 6,
-           "report unreached": 7, "report kind0": 0, "report kind8": 8, "report kind9": 9, "report kind255": 255, " \treport \t kind10\t\r": 10}
+REPORTS = {"report uses": 1, "report symbols": 2, "report diagnostics": 3, "report effects": 4, "report dead": 5,
+           "report constants": 6,
+           "report unreached": 7, "report kind0": 0, "report kind8": 8, "report kind9": 9, "report kind255": 255,
+           " \treport \t kind10\t\r": 10}
 PRINTS = ["print", "  print", "print\t", "print \r"]
-SETS = {"set-operand #3 0 %v2.0": "3 0 2.0", "set-operand\t#3\t\t0 %v2.1\r": "3 0 2.1", "set-operand #003 01 %v02.0010": "3 1 2.10",
+SETS = {"set-operand #3 0 %v2.0": "3 0 2.0", "set-operand\t#3\t\t0 %v2.1\r": "3 0 2.1",
+        "set-operand #003 01 %v02.0010": "3 1 2.10",
         "set-operand #4294967295 4294967295 %v4294967295.4294967295": "4294967295 4294967295 4294967295.4294967295",
         "set-operand #3 0 %a1.0.0": "3 0 1.0.0", "set-operand #3 1 %a1.2.3": "3 1 1.2.3",
         "set-operand #0 00 %a001.000.4294967295": "0 0 1.0.4294967295"}
-MOVES = {"move #3 before #2": "3 before 2", "move\t#3  after\t#002\r": "3 after 2", "move #3 start #1 0": "3 start 1 0", "move #3 end #1 00": "3 end 1 0",
+MOVES = {"move #3 before #2": "3 before 2", "move\t#3  after\t#002\r": "3 after 2", "move #3 start #1 0": "3 start 1 0",
+         "move #3 end #1 00": "3 end 1 0",
          "move #4294967295 end #4294967295 4294967295": "4294967295 end 4294967295 4294967295"}
-KINDS_ALONE = {"detach uses": "detach 1", "resync uses": "resync 1", "detach kind9": "detach 9", "\tresync  kind255 \r": "resync 255", "detach constants": "detach 6", "resync unreached": "resync 7"}
-ALONE = {"begin": "begin", "\tcommit \r": "commit", "rollback\t": "rollback", "sweep": "sweep", " sweep\t\r": "sweep", "erase #1": "erase 1", " erase\t#0004294967295": "erase 4294967295",
-         "replace %v1.0 %a2.0.1": "replace 1.0 2.0.1", "replace\t%a1.2.3  %v01.00\r": "replace 1.2.3 1.0", "replace %v1.0 %v1.0": "replace 1.0 1.0"}
-INSERTS = {"insert end #0 0 x": "insert end 0 0 [x]", "insert before #3 \"test.a\"() : () -> ()": 'insert before 3 ["test.a"() : () -> ()]',
-           "insert\tafter\t#03\t\t%a  =  \r": "insert after 3 [%a  =]", "insert start #1 00 // x": "insert start 1 0 [// x]", "insert end #1 2 0": "insert end 1 2 [0]",
+KINDS_ALONE = {"detach uses": "detach 1", "resync uses": "resync 1", "detach kind9": "detach 9",
+               "\tresync  kind255 \r": "resync 255", "detach constants": "detach 6", "resync unreached": "resync 7"}
+ALONE = {"begin": "begin", "\tcommit \r": "commit", "rollback\t": "rollback", "sweep": "sweep", " sweep\t\r": "sweep",
+         "erase #1": "erase 1", " erase\t#0004294967295": "erase 4294967295",
+         "replace %v1.0 %a2.0.1": "replace 1.0 2.0.1", "replace\t%a1.2.3  %v01.00\r": "replace 1.2.3 1.0",
+         "replace %v1.0 %v1.0": "replace 1.0 1.0"}
+INSERTS = {"insert end #0 0 x": "insert end 0 0 [x]",
+           "insert before #3 \"test.a\"() : () -> ()": 'insert before 3 ["test.a"() : () -> ()]',
+           "insert\tafter\t#03\t\t%a  =  \r": "insert after 3 [%a  =]",
+           "insert start #1 00 // x": "insert start 1 0 [// x]", "insert end #1 2 0": "insert end 1 2 [0]",
            "insert before #3 #4": "insert before 3 [#4]", "insert before #1 a\rb": "insert before 1 [a\\rb]"}
-ENTRIES = {"set-attr #3 k 1 : i32": "set-attr 3 [k][1 : i32]", "set-attr\t#03\t k.a$_9\t\t unit ": "set-attr 3 [k.a$_9][unit]", "drop-attr #3 k": "drop-attr 3 [k]",
-           'set-attr #3 "a b" 1': "set-attr 3 [a b][1]", 'drop-attr #3 ""': "drop-attr 3 []", 'drop-attr #3 "\\n\\t\\\\\\"\\4aZ"': 'drop-attr 3 [\\n\\t\\"JZ]',
-           'set-attr #0 "" unit': "set-attr 0 [][unit]", "set-attr #3 _ // x": "set-attr 3 [_][// x]", "set-attr #3 k =": "set-attr 3 [k][=]",
+ENTRIES = {"set-attr #3 k 1 : i32": "set-attr 3 [k][1 : i32]",
+           "set-attr\t#03\t k.a$_9\t\t unit ": "set-attr 3 [k.a$_9][unit]", "drop-attr #3 k": "drop-attr 3 [k]",
+           'set-attr #3 "a b" 1': "set-attr 3 [a b][1]", 'drop-attr #3 ""': "drop-attr 3 []",
+           'drop-attr #3 "\\n\\t\\\\\\"\\4aZ"': 'drop-attr 3 [\\n\\t\\"JZ]',
+           'set-attr #0 "" unit': "set-attr 0 [][unit]", "set-attr #3 _ // x": "set-attr 3 [_][// x]",
+           "set-attr #3 k =": "set-attr 3 [k][=]",
            'set-attr #3 "k"\t"v"': 'set-attr 3 [k]["v"]', "set-attr #3 k a\rb": "set-attr 3 [k][a\\rb]"}
-CHANGES = {"canon": "canon", "\tcanon \r": "canon", "canon limit 1": "canon 1", "canon\tlimit  0010\r": "canon 10", "canon limit 0": "canon 0", "canon limit 1000001": "canon 1000001",
-           "canon limit 4294967295": "canon 4294967295", "convert partial": "convert partial depth none", " convert\tfull\r": "convert full depth none",
-           "convert partial illegal arith.maxsi,arith.select rules 25": "convert partial illegal [arith.maxsi,arith.select] rules [25] depth none",
-           "convert full legal builtin.module,func.func,func.return illegal arith.maxsi rules 25": "convert full legal [builtin.module,func.func,func.return] illegal [arith.maxsi] rules [25] depth none",
-           "convert partial dynamic arith.constant,scf.for rules 28,29": "convert partial dynamic [arith.constant,scf.for] rules [28,29] depth none",
-           "convert partial illegal arith.remsi,arith.subi rules 27,26 depth 1": "convert partial illegal [arith.remsi,arith.subi] rules [27,26] depth 1",
-           "convert full depth 016\t rules 2,0030,2  dynamic c illegal b legal a": "convert full legal [a] illegal [b] dynamic [c] rules [2,0030,2] depth 16",
-           "convert partial legal legal illegal depth": "convert partial legal [legal] illegal [depth] depth none", "convert full legal a.b,a.b": "convert full legal [a.b,a.b] depth none",
-           "convert partial rules 1": "convert partial rules [1] depth none", "convert partial depth 17": "convert partial depth 17", "convert partial depth 0": "convert partial depth 0",
-           "convert partial rules 4294967295,0 depth 4294967295": "convert partial rules [4294967295,0] depth 4294967295", "convert full legal \"a\",#1,//": 'convert full legal ["a",#1,//] depth none',
+CHANGES = {"canon": "canon", "\tcanon \r": "canon", "canon limit 1": "canon 1", "canon\tlimit  0010\r": "canon 10",
+           "canon limit 0": "canon 0", "canon limit 1000001": "canon 1000001",
+           "canon limit 4294967295": "canon 4294967295", "convert partial": "convert partial depth none",
+           " convert\tfull\r": "convert full depth none",
+           "convert partial illegal arith.maxsi,arith.select rules 25":
+               "convert partial illegal [arith.maxsi,arith.select] rules [25] depth none",
+           "convert full legal builtin.module,func.func,func.return illegal arith.maxsi rules 25":
+               "convert full legal [builtin.module,func.func,func.return] illegal [arith.maxsi] rules [25] depth none",
+           "convert partial dynamic arith.constant,scf.for rules 28,29":
+               "convert partial dynamic [arith.constant,scf.for] rules [28,29] depth none",
+           "convert partial illegal arith.remsi,arith.subi rules 27,26 depth 1":
+               "convert partial illegal [arith.remsi,arith.subi] rules [27,26] depth 1",
+           "convert full depth 016\t rules 2,0030,2  dynamic c illegal b legal a":
+               "convert full legal [a] illegal [b] dynamic [c] rules [2,0030,2] depth 16",
+           "convert partial legal legal illegal depth": "convert partial legal [legal] illegal [depth] depth none",
+           "convert full legal a.b,a.b": "convert full legal [a.b,a.b] depth none",
+           "convert partial rules 1": "convert partial rules [1] depth none",
+           "convert partial depth 17": "convert partial depth 17", "convert partial depth 0": "convert partial depth 0",
+           "convert partial rules 4294967295,0 depth 4294967295":
+               "convert partial rules [4294967295,0] depth 4294967295",
+           "convert full legal \"a\",#1,//": 'convert full legal ["a",#1,//] depth none',
            "convert full legal a\rb,\xe9": "convert full legal [a\\rb,\\xc3\\xa9] depth none"}
-BAD = """move|move #3|move #3 before|move 3 before #2|move #3 before 2|move #3 before #2 x|move #3 start #1|move #3 start #1 0 0|move #3 end #1 x|move #3 under #1
-move #3 Before #2|move #3 before# 2|move #3 start#1 0|move #4294967296 before #2|move #3 before #4294967296|move #3 end #1 4294967296|moves #3 before #2
-set-attr|set-attr #3|set-attr #3 k|set-attr #3 k \t|set-attr 3 k 1|set-attr #3 9k 1|set-attr #3 k-a 1|set-attr #3 "k 1|set-attr #3 "k"1|set-attr #3 "k"" 1
-set-attr #3 "\\q" 1|set-attr #3 "\\4" 1|set-attr #3 "k"\r 1|set-attr #3 \r"k" 1|set-attr #3 k\r 1|set-attr #3 \xe9 1|set-attr # k 1|set_attr #3 k 1
-set-attr #3 "a\rb" 1|set-attr #3 "a\x0bb" 1|set-attr #3 @k 1|set-attr #3 = 1|set-attr #3 // 1
-drop-attr|drop-attr #3|drop-attr #3 k x|drop-attr #3 "k" x|drop-attr #3 "k|drop-attr 3 k|drop-attr #3 9|drop-attr #3 k k|drop-attr #3 //
-detach|detach uses uses|detach Uses|detach kind1|detachuses|resync|resync uses x|resync use|resync kind256
-canon x|canon 1|canon limit|canon limit x|canon limit -1|canon limit +1|canon limit 1 x|canon limit 1 limit 1|canon limit limit|canon limits 1|canon Limit 1|canon limit 4294967296|canon limit 1,2|canon limit #1|canon //
-canonlimit 1|canonicalize|Canon|cano|canon\xa0|convert|convert x|convert Partial|convert partial x|convert partial,full|convert partial full|convert legal a|convert legal a partial|convert partially|converts partial|Convert full
-convert partial legal|convert partial legal ,|convert partial legal a,|convert partial legal ,a|convert partial legal a,,b|convert partial legal a, b|convert partial legal a b|convert partial legal a legal b
-convert partial legal a legal a|convert partial legal a illegal|convert partial illegal|convert partial illegal b,,|convert partial illegal a illegal b|convert partial dynamic|convert partial dynamic ,,|convert partial dynamic a dynamic b
-convert partial rules|convert partial rules x|convert partial rules ,|convert partial rules 1,|convert partial rules ,1|convert partial rules 1,,2|convert partial rules 1 2|convert partial rules 1,x|convert partial rules -1|convert partial rules +1
-convert partial rules 4294967296|convert partial rules 1,4294967296|convert partial rules 2 rules 2|convert partial rules #2|convert partial depth|convert partial depth x|convert partial depth 1,2|convert partial depth 1 depth 1
-convert partial depth 4294967296|convert partial depth -1|convert partial depth 1 x|convert partial Legal a|convert partial legals a|convert partial rule 2|convert partial limit 1|convert partial depth 1 legal
-erase|erase 1|erase #|erase #1 x|erase #1 #2|erase #4294967296|Erase #1|erase#1|replace|replace %v1.0|replace %v1.0 %v1|replace %v1.0 %v2.0 x|replace 1.0 %v2.0|replace %v1.0 #2
-replace %v4294967296.0 %v1.0|insert|insert end|insert end #0|insert end #0 0|insert end #0 0 \t|insert end #0 x y|insert end 0 0 x|insert before #1|insert before #1 \t|insert before 1 x|insert under #1 x
-insert end #0 4294967296 x|insert "test.a"() : () -> ()|begin x|begin //|Begin|commit 1|commits|rollback #1|rollback  x|roll back|undo
-report|report nonsense|report Uses|report use|report uses uses|report uses \r x|reportuses|Report uses|report kind|report kind1
-report kind6|report kind07|report kind00|report kind256|report kind4294967305|report kind-1|report kind9x|report 1|report kind7|report Unreached|sweep x|sweep //|Sweep|sweeps|swee|sweep #1
-print x|print //|Print|prin|prints|/print|print\x0b|\x0cprint|jump|set-operand|set-operand #3|set-operand #3 0|set-operand #3 0 %v2.0 x
-set-operand 3 0 %v2.0|set-operand # 0 %v2.0|set-operand ##3 0 %v2.0|set-operand # 3 0 %v2.0|set-operand #3 x %v2.0|set-operand #3 -1 %v2.0
-set-operand #3 +1 %v2.0|set-operand #0x3 0 %v2.0|set-operand #3 0 #2|set_operand #3 0 %v2.0|set-operand #3 0 v2.0|set-operand #3 0 %
-set-operand #3 0 %v|set-operand #3 0 %v2|set-operand #3 0 %v2.|set-operand #3 0 %v.0|set-operand #3 0 %v2.0.0|set-operand #3 0 %v2..0
-set-operand #3 0 %V2.0|set-operand #3 0 %v 2.0|set-operand #3 0 %a1.0|set-operand #3 0 %a1.0.|set-operand #3 0 %a1..0|set-operand #3 0 %a.0.0
-set-operand #3 0 %a1.0.0.0|set-operand #3 0 %b1.0.0|set-operand #4294967296 0 %v2.0|set-operand #3 4294967296 %v2.0
-set-operand #3 0 %v4294967296.0|set-operand #3 0 %v2.4294967296|set-operand #3 0 %a1.4294967296.0|set-operand #42949672950 0 %v2.0
+BAD = """move|move #3|move #3 before|move 3 before #2|move #3 before 2|move #3 before #2 x|move #3 start #1
+move #3 start #1 0 0|move #3 end #1 x|move #3 under #1|move #3 Before #2|move #3 before# 2|move #3 start#1 0
+move #4294967296 before #2|move #3 before #4294967296|move #3 end #1 4294967296|moves #3 before #2|set-attr
+set-attr #3|set-attr #3 k|set-attr #3 k \t|set-attr 3 k 1|set-attr #3 9k 1|set-attr #3 k-a 1|set-attr #3 "k 1
+set-attr #3 "k"1|set-attr #3 "k"" 1|set-attr #3 "\\q" 1|set-attr #3 "\\4" 1|set-attr #3 "k"\r 1|set-attr #3 \r"k" 1
+set-attr #3 k\r 1|set-attr #3 \xe9 1|set-attr # k 1|set_attr #3 k 1|set-attr #3 "a\rb" 1|set-attr #3 "a\x0bb" 1
+set-attr #3 @k 1|set-attr #3 = 1|set-attr #3 // 1|drop-attr|drop-attr #3|drop-attr #3 k x|drop-attr #3 "k" x
+drop-attr #3 "k|drop-attr 3 k|drop-attr #3 9|drop-attr #3 k k|drop-attr #3 //|detach|detach uses uses|detach Uses
+detach kind1|detachuses|resync|resync uses x|resync use|resync kind256|canon x|canon 1|canon limit|canon limit x
+canon limit -1|canon limit +1|canon limit 1 x|canon limit 1 limit 1|canon limit limit|canon limits 1|canon Limit 1
+canon limit 4294967296|canon limit 1,2|canon limit #1|canon //|canonlimit 1|canonicalize|Canon|cano|canon\xa0|convert
+convert x|convert Partial|convert partial x|convert partial,full|convert partial full|convert legal a
+convert legal a partial|convert partially|converts partial|Convert full|convert partial legal|convert partial legal ,
+convert partial legal a,|convert partial legal ,a|convert partial legal a,,b|convert partial legal a, b
+convert partial legal a b|convert partial legal a legal b|convert partial legal a legal a
+convert partial legal a illegal|convert partial illegal|convert partial illegal b,,
+convert partial illegal a illegal b|convert partial dynamic|convert partial dynamic ,,
+convert partial dynamic a dynamic b|convert partial rules|convert partial rules x|convert partial rules ,
+convert partial rules 1,|convert partial rules ,1|convert partial rules 1,,2|convert partial rules 1 2
+convert partial rules 1,x|convert partial rules -1|convert partial rules +1|convert partial rules 4294967296
+convert partial rules 1,4294967296|convert partial rules 2 rules 2|convert partial rules #2|convert partial depth
+convert partial depth x|convert partial depth 1,2|convert partial depth 1 depth 1|convert partial depth 4294967296
+convert partial depth -1|convert partial depth 1 x|convert partial Legal a|convert partial legals a
+convert partial rule 2|convert partial limit 1|convert partial depth 1 legal|erase|erase 1|erase #|erase #1 x
+erase #1 #2|erase #4294967296|Erase #1|erase#1|replace|replace %v1.0|replace %v1.0 %v1|replace %v1.0 %v2.0 x
+replace 1.0 %v2.0|replace %v1.0 #2|replace %v4294967296.0 %v1.0|insert|insert end|insert end #0|insert end #0 0
+insert end #0 0 \t|insert end #0 x y|insert end 0 0 x|insert before #1|insert before #1 \t|insert before 1 x
+insert under #1 x|insert end #0 4294967296 x|insert "test.a"() : () -> ()|begin x|begin //|Begin|commit 1|commits
+rollback #1|rollback  x|roll back|undo|report|report nonsense|report Uses|report use|report uses uses|report uses \r x
+reportuses|Report uses|report kind|report kind1|report kind6|report kind07|report kind00|report kind256
+report kind4294967305|report kind-1|report kind9x|report 1|report kind7|report Unreached|sweep x|sweep //|Sweep|sweeps
+swee|sweep #1|print x|print //|Print|prin|prints|/print|print\x0b|\x0cprint|jump|set-operand|set-operand #3
+set-operand #3 0|set-operand #3 0 %v2.0 x|set-operand 3 0 %v2.0|set-operand # 0 %v2.0|set-operand ##3 0 %v2.0
+set-operand # 3 0 %v2.0|set-operand #3 x %v2.0|set-operand #3 -1 %v2.0|set-operand #3 +1 %v2.0
+set-operand #0x3 0 %v2.0|set-operand #3 0 #2|set_operand #3 0 %v2.0|set-operand #3 0 v2.0|set-operand #3 0 %
+set-operand #3 0 %v|set-operand #3 0 %v2|set-operand #3 0 %v2.|set-operand #3 0 %v.0|set-operand #3 0 %v2.0.0
+set-operand #3 0 %v2..0|set-operand #3 0 %V2.0|set-operand #3 0 %v 2.0|set-operand #3 0 %a1.0|set-operand #3 0 %a1.0.
+set-operand #3 0 %a1..0|set-operand #3 0 %a.0.0|set-operand #3 0 %a1.0.0.0|set-operand #3 0 %b1.0.0
+set-operand #4294967296 0 %v2.0|set-operand #3 4294967296 %v2.0|set-operand #3 0 %v4294967296.0
+set-operand #3 0 %v2.4294967296|set-operand #3 0 %a1.4294967296.0|set-operand #42949672950 0 %v2.0
 set-operand #99999999999999999999999 0 %v2.0""".replace("\n", "|").split("|")
 
 
@@ -256,14 +294,18 @@ def lines():
             line(text, want)
     for text in BAD:
         line(text, "bad")
-    for text, want in ((b"// \xff", "bad"), (b"\xc3", "bad"), (b"print\xff", "bad"), (b"// \xc3\xa9", "nothing"), (b"print \xc3\xa9", "bad"),
-                       (b"// \xed\xa0\x80", "bad"), (b"// \xf4\x90\x80\x80", "bad"), (b"// \xf4\x8f\xbf\xbf", "nothing"), (b"// \xc0\x80", "bad")):
+    for text, want in ((b"// \xff", "bad"), (b"\xc3", "bad"), (b"print\xff", "bad"), (b"// \xc3\xa9", "nothing"),
+                       (b"print \xc3\xa9", "bad"),
+                       (b"// \xed\xa0\x80", "bad"), (b"// \xf4\x90\x80\x80", "bad"),
+                       (b"// \xf4\x8f\xbf\xbf", "nothing"), (b"// \xc0\x80", "bad")):
         line(text, want)
     for number in range(260):
         line(f"report kind{number}")
     # Near misses: a byte that is left out, put in, or another.
-    for text in ("report uses", "report kind10", "print", "// x", "set-operand #3 10 %v2.0", "set-operand #3 0 %a1.0.2", "move #3 after #2", "move #3 end #1 0", "set-attr #3 k.a 1",
-                 "set-attr #3 \"a\\n\" 1", "drop-attr #3 k", "detach uses", "resync kind10", "canon limit 10", "convert full depth 2 legal a,b rules 2,25"):
+    for text in ("report uses", "report kind10", "print", "// x", "set-operand #3 10 %v2.0", "set-operand #3 0 %a1.0.2",
+                 "move #3 after #2", "move #3 end #1 0", "set-attr #3 k.a 1",
+                 "set-attr #3 \"a\\n\" 1", "drop-attr #3 k", "detach uses", "resync kind10", "canon limit 10",
+                 "convert full depth 2 legal a,b rules 2,25"):
         text = text.encode()
         for place in range(len(text) + 1):
             line(text[:place] + text[place + 1:])
@@ -273,14 +315,16 @@ def lines():
 
 
 def words():
-    for text in [b"", b" ", b"\t", b"a", b"a ", b" a", b"a b", b"a\tb", b"a \t b c", b"a\rb c", b"ab  ", b"\r", b"a\n b"]:
+    for text in [b"", b" ", b"\t", b"a", b"a ", b" a", b"a b", b"a\tb", b"a \t b c", b"a\rb c", b"ab  ", b"\r",
+                 b"a\n b"]:
         word, blanks, rest = re.fullmatch(rb"([^ \t]*)([ \t]*)(.*)", text, re.S).groups()
         case("word " + given(text), told(word) + told(rest))
     for parts in itertools.product((b"", b" ", b"\t\r", b"\n", b"x", b"\xc3"), repeat=3):
         text = b"".join(parts)
         case("trim " + given(text), told(text.strip(b" \t\r")))
     numbers = [0, 1, 9, 10, 255, 256, 4294967294, 4294967295, 4294967296, 4294967305, 42949672950, 2 ** 64, 10 ** 40]
-    texts = [b"%s%d%s" % (front, number, back) for number in numbers for front in (b"", b"0", b"000", b"-", b"+", b" ") for back in (b"", b" ", b"x", b"_0")]
+    texts = [b"%s%d%s" % (front, number, back) for number in numbers for front in (b"", b"0", b"000", b"-", b"+", b" ")
+             for back in (b"", b" ", b"x", b"_0")]
     for text in texts + [b"", b"x", b"0x1", b"\xd9\xa3"]:
         answer = number_of(text)
         case("number " + given(text), "none" if answer is None else str(answer))
@@ -289,10 +333,14 @@ def words():
         case("op " + given(text), str(answer[0]) if answer else "none")
     parts = [b"", b"0", b"07", b"4294967295", b"4294967296", b"x"]
     for start, (one, two) in itertools.product((b"%v", b"%a", b"%", b"v", b"%V"), itertools.product(parts, repeat=2)):
-        for text in (start + one + b"." + two, start + one + b"." + two + b".3", start + one + b".3." + two, start + one + two):
+        for text in (start + one + b"." + two, start + one + b"." + two + b".3", start + one + b".3." + two, start + one
+                     + two):
             answer = value_of(text)
             case("value " + given(text), dotted(answer) if answer else "none")
-    kinds = [kind_word(number) for number in range(256)] + [b"kind%d" % number for number in range(300)] + [b"", b"kind", b"Uses", b"use", b"usess", b"kind-1", b"kind007", b"1", b"kind 9"]
+    kinds = [kind_word(number) for number in range(256)] + [b"kind%d" % number
+                                                            for number in range(300)] + [
+                                                                b"", b"kind", b"Uses", b"use", b"usess", b"kind-1",
+                                                                b"kind007", b"1", b"kind 9"]
     for text in kinds:
         answer = kind_of(text)
         case("kind " + given(text), "none" if answer is None else str(answer))
@@ -305,10 +353,14 @@ def split(text):
 
 
 def cuts():
-    rows = [("ab\n// -----\nprint\n", "ab\n", "print\n"), ("// -----\nprint", "", "print"), ("ab\n// -----", "ab\n", ""), ("ab\n// -----\n", "ab\n", ""),
+    rows = [("ab\n// -----\nprint\n", "ab\n", "print\n"), ("// -----\nprint", "", "print"),
+            ("ab\n// -----", "ab\n", ""), ("ab\n// -----\n", "ab\n", ""),
             ("a\n// -----\nb\n// -----\nc", "a\n", "b\n// -----\nc"), ("// -----\n// -----\n", "", "// -----\n")]
-    rows += [(text, text, "") for text in ("", "ab", "ab\nprint\n", "ab\n// ------\nprint\n", "ab\n// ----\nprint\n", "ab\n// -----\r\nprint\n", "ab\n // -----\nprint\n",
-                                           "ab\n// ----- \nprint\n", "ab\n//-----\nprint\n", "ab// -----\nprint\n", "ab\r// -----\nprint\n")]
+    rows += [(text, text, "")
+             for text in ("", "ab", "ab\nprint\n", "ab\n// ------\nprint\n", "ab\n// ----\nprint\n",
+                          "ab\n// -----\r\nprint\n", "ab\n // -----\nprint\n",
+                                           "ab\n// ----- \nprint\n", "ab\n//-----\nprint\n", "ab// -----\nprint\n",
+                                           "ab\r// -----\nprint\n")]
     for text, module, script in rows:
         assert split(text.encode()) == (module.encode(), script.encode()), text
     texts = [text.encode() for text, _, _ in rows]
@@ -326,34 +378,44 @@ def cuts():
         case(f"long {count}", "true" if count > 16777216 else "false")
 
 
-REFUSALS = """1 BadToken|2 Unexpected|3 UnknownValue|4 Redefined|5 TypeMismatch|6 BadWidth|7 BadValue|8 MultipleBlocks|9 Successors|10 TooDeep|11 TooMany
-12 DuplicateKey|13 LeftOut|14 NotUtf8|20 NoSuchOp|21 NoSuchValue|22 HasUses|23 NotVisible|24 TypeDiffers|25 NoSuchIndex|26 NoSuchKey|27 IntoItself|28 OtherTable
-29 IsRoot|30 NotEmpty|31 Full|32 IdsExhausted|33 TooDeepHere|34 TooManyMarks|35 NoMark|36 Memory|40 Stale|41 NoSuchKind|42 KindTaken|50 BadLimit|51 NotLegalised
-52 ChainTooDeep|53 Unreconciled|54 BadTarget|60 BadCommand""".replace("\n", "|").split("|")
+REFUSALS = """1 BadToken|2 Unexpected|3 UnknownValue|4 Redefined|5 TypeMismatch|6 BadWidth|7 BadValue|8 MultipleBlocks
+9 Successors|10 TooDeep|11 TooMany|12 DuplicateKey|13 LeftOut|14 NotUtf8|20 NoSuchOp|21 NoSuchValue|22 HasUses
+23 NotVisible|24 TypeDiffers|25 NoSuchIndex|26 NoSuchKey|27 IntoItself|28 OtherTable|29 IsRoot|30 NotEmpty|31 Full
+32 IdsExhausted|33 TooDeepHere|34 TooManyMarks|35 NoMark|36 Memory|40 Stale|41 NoSuchKind|42 KindTaken|50 BadLimit
+51 NotLegalised|52 ChainTooDeep|53 Unreconciled|54 BadTarget|60 BadCommand""".replace("\n", "|").split("|")
 
 
 def replies():
     """Each call that writes, with what it writes."""
     out = []
     for n in (0, 1, 9, 10, 12, 99, 100, 4294967295, 4294967296, 2 ** 64 - 1):
-        out += [(f"ok {n}", f"{n} ok\n"), (f"number {n}", f"{n}"), (f"refused {n} HasUses", f"{n} refused 22 HasUses\n")]
+        out += [(f"ok {n}", f"{n} ok\n"), (f"number {n}", f"{n}"),
+                (f"refused {n} HasUses", f"{n} refused 22 HasUses\n")]
         out += [(f"came {n} {word} {n}", f"{n} {word} {n}\n") for word in ("swept", "converged", "limit", "converted")]
-        out += [(f"refused-on {n} NotLegalised {op}", f"{n} refused 51 NotLegalised #{op}\n") for op in (0, 2, 4294967295)]
+        out += [(f"refused-on {n} NotLegalised {op}", f"{n} refused 51 NotLegalised #{op}\n")
+                for op in (0, 2, 4294967295)]
     for refusal in REFUSALS:
         word = refusal.split()[1]
-        out += [(f"refused 1 {word}", f"1 refused {refusal}\n"), (f"module {word}", f"module refused {refusal}\n"), (f"module {word} 16", f"module refused {refusal} at 16\n"), (f"refused-at 9 {word} 17", f"9 refused {refusal} at 17\n"),
-                (f"attach 9 {word}", f"attach kind9 refused {refusal}\n"), (f"attach 1 {word}", f"attach uses refused {refusal}\n")]
+        out += [(f"refused 1 {word}", f"1 refused {refusal}\n"), (f"module {word}", f"module refused {refusal}\n"),
+                (f"module {word} 16", f"module refused {refusal} at 16\n"),
+                (f"refused-at 9 {word} 17", f"9 refused {refusal} at 17\n"),
+                (f"attach 9 {word}", f"attach kind9 refused {refusal}\n"),
+                (f"attach 1 {word}", f"attach uses refused {refusal}\n")]
     for offset in (0, 9, 10, 33554431, 33554432):
         out.append((f"module TooMany {offset}", f"module refused 11 TooMany at {offset}\n"))
         out.append((f"refused-at 4294967296 TooMany {offset}", f"4294967296 refused 11 TooMany at {offset}\n"))
     for number in range(256):
         word = kind_word(number).decode()
-        out += [(f"rows {number}", f"-- {word}\n"), (f"stale {number}", f"-- {word} stale\n"), (f"memory {number}", f"-- {word} memory\n")]
+        out += [(f"rows {number}", f"-- {word}\n"), (f"stale {number}", f"-- {word} stale\n"),
+                (f"memory {number}", f"-- {word} memory\n")]
         out.append((f"attach {number} KindTaken", f"attach {word} refused 42 KindTaken\n"))
     out.append(("module-memory", "-- module memory\n"))
     for op, place in itertools.product((0, 3, 10, 4294967295), repeat=2):
-        out += [(f"op {op}", f"#{op}"), (f"value {op}.{place}", f"%v{op}.{place}"), (f"value {op}.{place}.7", f"%a{op}.{place}.7"), (f"value {op}.2.{place}", f"%a{op}.2.{place}")]
-    out += [("refused 7 NotVisible", "7 refused 23 NotVisible\n"), ("refused-at 1 LeftOut 10", "1 refused 13 LeftOut at 10\n"), ("value 2.0", "%v2.0"), ("value 1.2.3", "%a1.2.3"), ("value 2.7", "%v2.7"), ("value 1.0.3", "%a1.0.3")]
+        out += [(f"op {op}", f"#{op}"), (f"value {op}.{place}", f"%v{op}.{place}"),
+                (f"value {op}.{place}.7", f"%a{op}.{place}.7"), (f"value {op}.2.{place}", f"%a{op}.2.{place}")]
+    out += [("refused 7 NotVisible", "7 refused 23 NotVisible\n"),
+            ("refused-at 1 LeftOut 10", "1 refused 13 LeftOut at 10\n"), ("value 2.0", "%v2.0"),
+            ("value 1.2.3", "%a1.2.3"), ("value 2.7", "%v2.7"), ("value 1.0.3", "%a1.0.3")]
     return out + [("ab cd", "abcd"), ("", "")]
 
 
@@ -363,7 +425,9 @@ def writes():
     for call, text in replies():
         case("write " + call, told(text.encode()))
     samples = dict(replies())
-    for call in ("ab cd", "ok 12", "refused 7 NotVisible", "refused-at 1 LeftOut 10", "refused-on 9 NotLegalised 2", "came 10 swept 10", "module BadValue 16", "module Memory", "attach 1 Memory", "attach 200 KindTaken", "rows 3", "stale 9",
+    for call in ("ab cd", "ok 12", "refused 7 NotVisible", "refused-at 1 LeftOut 10", "refused-on 9 NotLegalised 2",
+                 "came 10 swept 10", "module BadValue 16", "module Memory", "attach 1 Memory", "attach 200 KindTaken",
+                 "rows 3", "stale 9",
                  "memory 1", "module-memory", "number 4294967295", "op 10", "value 2.0", "value 1.0.3", ""):
         text = samples[call].encode()
         for fault in ("fails", "interrupted", "nothing"):
@@ -430,8 +494,8 @@ def detached(text, boxes):
 
 
 def run(how, text, status, out, boxes=BOXES):
-    """A run with some listeners: a golden case with all of them, and where its answer speaks of one that isn't there also
-    one that drops them; with failing ends it is a line of the table."""
+    """A run with some listeners: a golden case with all of them, and where its answer speaks of one that isn't there
+    also one that drops them; with failing ends it is a line of the table."""
     if how not in ("brief", "full"):
         case(f"run {','.join(boxes)} {how} {given(text)}", f"{status} {told(out)}")
         return
@@ -444,8 +508,10 @@ def run(how, text, status, out, boxes=BOXES):
 def runs():
     """Whole runs: the status and all bytes of the output."""
     over = TEXT + DIVIDER
-    commands = b"set-operand #3 2 %v2.0\nset-operand #3 0 %v9.0\nset-operand #3 0 %v3.0\njump\nreport symbols\nreport uses\nprint\n"
-    replies = b"1 refused 25 NoSuchIndex\n2 refused 21 NoSuchValue\n3 refused 23 NotVisible\n4 refused 60 BadCommand\n5 refused 41 NoSuchKind\n6 ok\n"
+    commands = (b"set-operand #3 2 %v2.0\nset-operand #3 0 %v9.0\nset-operand #3 0 %v3.0\njump\nreport "
+                b"symbols\nreport uses\nprint\n")
+    replies = (b"1 refused 25 NoSuchIndex\n2 refused 21 NoSuchValue\n3 refused 23 NotVisible\n4 refused 60 "
+               b"BadCommand\n5 refused 41 NoSuchKind\n6 ok\n")
     run("brief", over + commands, 1, replies + USES + b"7 ok\n" + PRINTED)
     wrong = b"\"test.a\"() {a = 256 : i8} : () -> ()\n"
     for how in ("brief", "full"):
@@ -465,16 +531,23 @@ def runs():
     bad = b"print \xff\nreport \xc3\x28uses\nreport uses\n"
     run("brief", over + bad, 1, b"1 refused 60 BadCommand\n2 refused 60 BadCommand\n3 ok\n" + USES)
     # The module and the listing follow each command but `report` and `print`, also a refused one.
-    listed, edited = PRINTED + b"-- uses\n" + USES + b"-- diagnostics\n", EDITED + b"-- uses\n" + EDITED_USES + b"-- diagnostics\n"
+    listed, edited = (PRINTED + b"-- uses\n" + USES + b"-- diagnostics\n", EDITED + b"-- uses\n" + EDITED_USES
+                      + b"-- diagnostics\n")
     commands = b"jump\nreport uses\nset-operand #3 0 %v2.0\nset-operand #0 0 %v2.0\nprint\n"
     run("full", over + commands, 1,
-        b"1 refused 60 BadCommand\n" + listed + b"2 ok\n" + USES + b"3 ok\n" + edited + b"4 refused 25 NoSuchIndex\n" + edited + b"5 ok\n" + EDITED)
+        b"1 refused 60 BadCommand\n" + listed + b"2 ok\n" + USES + b"3 ok\n" + edited + b"4 refused 25 NoSuchIndex\n"
+        + edited + b"5 ok\n" + EDITED)
     # What is wrong with a module follows its edits.
     wrong = b"""\"func.func\"() <{function_type = (i32, i64) -> i32, sym_name = \"g\"}> ({
 ^bb0(%a: i32, %b: i64):
   \"func.return\"(%a) : (i32) -> ()
 }) : () -> ()
-""" + DIVIDER + b"report diagnostics\nset-operand #2 0 %a1.0.1\nreport diagnostics\nset-operand #2 0 %a1.0.0\nreport diagnostics\n"
+""" + DIVIDER + b"""report diagnostics
+set-operand #2 0 %a1.0.1
+report diagnostics
+set-operand #2 0 %a1.0.0
+report diagnostics
+"""
     run("brief", wrong, 0, b"1 ok\n2 ok\n3 ok\n#2 V15\n4 ok\n5 ok\n")
     returned = b"""\"builtin.module\"() ({
   \"func.func\"() <{function_type = (i32, i64) -> i32, sym_name = \"g\"}> ({
@@ -485,8 +558,10 @@ def runs():
 """
     other, same = returned.replace(b"VALUE", b"%arg1) : (i64"), returned.replace(b"VALUE", b"%arg0) : (i32")
     listed = b"-- uses\n%%a1.0.%d #2 0\n-- diagnostics\n"
-    run("full", wrong, 0, b"1 ok\n2 ok\n" + other + listed % 1 + b"#2 V15\n3 ok\n#2 V15\n4 ok\n" + same + listed % 0 + b"5 ok\n")
-    for count, want in ((0, b"1 refused 41 NoSuchKind\n"), (1, b"1 ok\n"), (2, b"attach uses refused 42 KindTaken\n1 ok\n")):
+    run("full", wrong, 0, b"1 ok\n2 ok\n" + other + listed % 1 + b"#2 V15\n3 ok\n#2 V15\n4 ok\n" + same + listed % 0
+        + b"5 ok\n")
+    for count, want in ((0, b"1 refused 41 NoSuchKind\n"), (1, b"1 ok\n"),
+                        (2, b"attach uses refused 42 KindTaken\n1 ok\n")):
         asked = DIVIDER + b"report uses\n"
         case(f"bare {count} {given(asked)}", f"{int(count != 1)} {told(want)}")
         case(f"run {','.join(['uses'] * count) or 'none'} brief {given(asked)}", f"{int(count != 1)} {told(want)}")
@@ -508,8 +583,9 @@ def runs():
 
 
 def failing_ends():
-    """The beginning of the stored run of crates/mlir_work, with all listeners: of a reader that gives a byte a read each read fails in turn, then nothing is
-    written; of a writer that takes a byte a write each write, then a front is written."""
+    """The beginning of the stored run of crates/mlir_work, with all listeners: of a reader that gives a byte a read
+    each read fails in turn, then nothing is written; of a writer that takes a byte a write each write, then a front is
+    written."""
     text = TEXT + DIVIDER + b"report uses\nset-operand #3 0 %v2.0\nreport uses\nprint\n"
     out = b"1 ok\n" + USES + b"2 ok\n3 ok\n" + EDITED_USES + b"4 ok\n" + EDITED
     run("brief", text, 0, out, script.BOXES)
@@ -523,7 +599,8 @@ def failing_ends():
 
 
 def byte_limits():
-    """Both sides of the limits of bytes, of a module's text, of a script's, and of an input: copies of a piece, and the rest."""
+    """Both sides of the limits of bytes, of a module's text, of a script's, and of an input: copies of a piece, and the
+    rest."""
     def sized(piece, size, rest, status, out):
         count, left = divmod(size - len(rest), len(piece))
         assert left == 0, (piece, size, rest)
@@ -569,14 +646,20 @@ def moves():
     listed = b"report uses\nprint\n"
     for words in ("#2 after #2", "#2 before #3", "#3 after #2", "#3 before #4", "#2 start #1 0"):
         due(TEXT + DIVIDER + b"move %s\n" % words.encode() + listed)
-    for words, number in {"#9 end #1 0": 20, "#2 before #9": 20, "#2 after #9": 20, "#2 start #9 0": 20, "#9 before #8": 20, "#2 before #0": 29, "#2 after #0": 29,
-                          "#0 end #1 0": 29, "#0 before #0": 29, "#2 end #1 1": 25, "#2 start #2 0": 25, "#9 end #1 7": 25, "#1 end #1 0": 27, "#1 before #3": 27, "#2 before #2": 27,
-                          "#4 start #1 0": 23, "#3 start #1 0": 23, "#2 end #1 0": 23, "#3 before #2": 23, "#2 end #0 0": 23, "#3 after #1": 23}.items():
+    for words, number in {"#9 end #1 0": 20, "#2 before #9": 20, "#2 after #9": 20, "#2 start #9 0": 20,
+                          "#9 before #8": 20, "#2 before #0": 29, "#2 after #0": 29,
+                          "#0 end #1 0": 29, "#0 before #0": 29, "#2 end #1 1": 25, "#2 start #2 0": 25,
+                          "#9 end #1 7": 25, "#1 end #1 0": 27, "#1 before #3": 27, "#2 before #2": 27,
+                          "#4 start #1 0": 23, "#3 start #1 0": 23, "#2 end #1 0": 23, "#3 before #2": 23,
+                          "#2 end #0 0": 23, "#3 after #1": 23}.items():
         due(TEXT + DIVIDER + b"move %s\n" % words.encode() + listed, [number])
     over = BLOCKS + DIVIDER
-    due(over + b"move #5 end #2 2\nmove #4 end #2 2\nmove #4 start #2 0\nmove #2 before #1\nmove #1 start #2 2\nmove #5 before #2\nmove #5 start #2 2\n" + listed, [23])
-    due(over + b"move #5 start #2 1\nmove #5 start #2 3\nmove #5 end #2 0\nmove #5 after #3\nmove #5 after #5\nmove #5 start #0 0\n" + listed, [25, 23])
-    tables = b"\"builtin.module\"() ({^a:}) : () -> ()\n\"b\"() : () -> ()\n\"builtin.module\"() ({}) : () -> ()\n" + DIVIDER
+    due(over + b"move #5 end #2 2\nmove #4 end #2 2\nmove #4 start #2 0\nmove #2 before #1\nmove #1 start #2 2\nmove "
+               b"#5 before #2\nmove #5 start #2 2\n" + listed, [23])
+    due(over + b"move #5 start #2 1\nmove #5 start #2 3\nmove #5 end #2 0\nmove #5 after #3\nmove #5 after #5\nmove "
+               b"#5 start #0 0\n" + listed, [25, 23])
+    tables = (b"\"builtin.module\"() ({^a:}) : () -> ()\n\"b\"() : () -> ()\n\"builtin.module\"() ({}) : () -> ()\n"
+              + DIVIDER)
     due(tables + b"move #2 end #1 0\nmove #3 end #1 0\nmove #1 after #3\nmove #2 end #3 0\nprint\n", [28, 25])
     deep = nested(128) + b"\n" + nested(1) + b"\n" + DIVIDER
     due(deep + b"move #129 end #127 0\nmove #129 end #128 0\nmove #129 end #0 0\n", [33])
@@ -586,53 +669,75 @@ def entries():
     """Entries are set and taken out."""
     over = TEXT + DIVIDER
     shown = b"print\nreport diagnostics\n"
-    for words in ('#3 k 1 : i32', '#3 overflowFlags #arith.overflow<nsw>', '#3 "a b" "x"', '#3 "" unit', '#3 "\\4aZ" [1, @a::@b]', "#1 function_type (i32) -> i64",
-                  "#1 sym_name true", "#2 value 7 : i32", "#2 value 7 : i64", "#2 extra {a = unit, b = 2 : i8}", "#0 k array<i32: 1>", "#3 k 1 : i32 // x"):
+    for words in ('#3 k 1 : i32', '#3 overflowFlags #arith.overflow<nsw>', '#3 "a b" "x"', '#3 "" unit',
+                  '#3 "\\4aZ" [1, @a::@b]', "#1 function_type (i32) -> i64",
+                  "#1 sym_name true", "#2 value 7 : i32", "#2 value 7 : i64", "#2 extra {a = unit, b = 2 : i8}",
+                  "#0 k array<i32: 1>", "#3 k 1 : i32 // x"):
         due(over + b"set-attr %s\n" % words.encode() + shown)
-    for words in ("#3 k 256 : i8", "#3 k $", "#9 k $", "#3 k 1 : i32 x", "#3 k f32", "#3 k {a, a}", "#3 k (i32", "#3 k 1 : i129", "#3 k " + "[" * 33 + "]" * 33, "#3 k \"x\ty", "#3 k // x"):
+    for words in ("#3 k 256 : i8", "#3 k $", "#9 k $", "#3 k 1 : i32 x", "#3 k f32", "#3 k {a, a}", "#3 k (i32",
+                  "#3 k 1 : i129", "#3 k " + "[" * 33 + "]" * 33, "#3 k \"x\ty", "#3 k // x"):
         status, out = script.run(over + b"set-attr %s\n" % words.encode(), True, BOXES, script.ALL)
         assert re.fullmatch(rb"1 refused ([1-9]|1[0-4]) [A-Za-z0-9]+ at [0-9]+\n", out), (words, out)
         due(over + b"set-attr %s\n" % words.encode() + shown, [int(out.split()[2])])
-    due(over + b"set-attr #9 k 1 : i32\ndrop-attr #9 k\ndrop-attr #3 nope\ndrop-attr #3 \"over flow\"\n" + shown, [20, 26])
-    due(over + b"drop-attr #3 overflowFlags\ndrop-attr #3 overflowFlags\nset-attr #3 overflowFlags #arith.overflow<none>\n" + shown, [26])
-    due(over + b"set-attr #1 function_type (i32) -> i64\nreport diagnostics\nset-attr #1 function_type (i32) -> i32\n" + shown)
+    due(over + b"set-attr #9 k 1 : i32\ndrop-attr #9 k\ndrop-attr #3 nope\ndrop-attr #3 \"over flow\"\n" + shown,
+        [20, 26])
+    due(over + b"drop-attr #3 overflowFlags\ndrop-attr #3 overflowFlags\nset-attr #3 overflowFlags "
+               b"#arith.overflow<none>\n" + shown, [26])
+    due(over + b"set-attr #1 function_type (i32) -> i64\nreport diagnostics\nset-attr #1 function_type (i32) -> i32\n"
+        + shown)
     # A key belongs where it stands, or among the properties where it is inherent.
-    due(BLOCKS + DIVIDER + b"set-attr #5 p 2 : i32\nset-attr #5 q 2 : i32\nset-attr #5 r 2 : i32\ndrop-attr #5 p\nset-attr #5 p 3 : i32\ndrop-attr #5 q\ndrop-attr #5 \"r\"\n" + shown)
-    due(over + b"drop-attr #2 value\nset-attr #2 value 3 : i32\nset-attr #2 values 3 : i32\ndrop-attr #2 values\n" + shown)
+    due(BLOCKS + DIVIDER
+        + b"set-attr #5 p 2 : i32\nset-attr #5 q 2 : i32\nset-attr #5 r 2 : i32\ndrop-attr #5 p\nset-attr #5 p 3 : "
+          b"i32\ndrop-attr #5 q\ndrop-attr #5 \"r\"\n" + shown)
+    due(over + b"drop-attr #2 value\nset-attr #2 value 3 : i32\nset-attr #2 values 3 : i32\ndrop-attr #2 values\n"
+        + shown)
     many = b"\"t.a\"() {" + b", ".join(b"k%d" % n for n in range(256)) + b"} : () -> ()\n"
-    due(many + DIVIDER + b"set-attr #1 k unit\nset-attr #1 k7 1 : i8\ndrop-attr #1 k9\nset-attr #1 k unit\nset-attr #1 l unit\n", [31])
+    due(many + DIVIDER + b"set-attr #1 k unit\nset-attr #1 k7 1 : i8\ndrop-attr #1 k9\nset-attr #1 k unit\nset-attr "
+                         b"#1 l unit\n", [31])
 
 
 def wholes():
-    """Operations are inserted and erased with what is inside them, and values replaced; marks are made, and gone back to."""
+    """Operations are inserted and erased with what is inside them, and values replaced; marks are made, and gone back
+    to."""
     over = BLOCKS + DIVIDER
     shown = b"report uses\nreport diagnostics\nprint\n"
     new = b'"t.n"(%v1.0) ({^c(%y: i8): %z = "t.o"(%y) : (i8) -> i8 "t.p"(%z) : (i8) -> ()}, {}) : (i1) -> ()'
     for place in (b"end #0 0", b"before #5", b"after #1", b"start #2 0", b"end #2 2"):
         due(over + b"insert %s %s\nerase #6\ninsert %s %s\n" % (place, new, place, new) + shown)
-    for place, number in ((b"start #0 0", 23), (b"before #1", 23), (b"before #9", 20), (b"after #0", 29), (b"end #2 1", 25), (b"end #1 0", 25)):
+    for place, number in ((b"start #0 0", 23), (b"before #1", 23), (b"before #9", 20), (b"after #0", 29),
+                          (b"end #2 1", 25), (b"end #1 0", 25)):
         due(over + b"insert %s %s\n" % (place, new) + shown, [number])
-    for words, numbers in ((b"erase #1", [22]), (b"erase #2", []), (b"erase #3", [22]), (b"erase #5\nerase #1", []), (b"erase #0", [29]), (b"erase #6", [20]), (b"erase #2\nerase #3", [20]),
-                           (b"replace %v1.0 %a2.0.0", [23]), (b"replace %a2.0.0 %v1.0", []), (b"replace %v3.0 %v1.0\nerase #3", []), (b"replace %v1.0 %v1.0", []),
-                           (b"replace %v9.0 %v8.0", [21]), (b"replace %v1.0 %v8.0", [21]), (b"replace %v1.0 %v3.0", [23])):
+    for words, numbers in ((b"erase #1", [22]), (b"erase #2", []), (b"erase #3", [22]), (b"erase #5\nerase #1", []),
+                           (b"erase #0", [29]), (b"erase #6", [20]), (b"erase #2\nerase #3", [20]),
+                           (b"replace %v1.0 %a2.0.0", [23]), (b"replace %a2.0.0 %v1.0", []),
+                           (b"replace %v3.0 %v1.0\nerase #3", []), (b"replace %v1.0 %v1.0", []),
+                           (b"replace %v9.0 %v8.0", [21]), (b"replace %v1.0 %v8.0", [21]),
+                           (b"replace %v1.0 %v3.0", [23])):
         due(over + words + b"\n" + shown, numbers)
-    twice = b'%a = "t.a"() : () -> i1\n%b = "t.b"() : () -> i1\n"t.c"(%a, %b, %a) : (i1, i1, i1) -> ()\n%d = "t.d"(%a) : (i1) -> i8\n' + DIVIDER
+    twice = (b'%a = "t.a"() : () -> i1\n%b = "t.b"() : () -> i1\n"t.c"(%a, %b, %a) : (i1, i1, i1) -> ()\n%d = '
+             b'"t.d"(%a) : (i1) -> i8\n' + DIVIDER)
     due(twice + b"replace %v1.0 %v2.0\nreplace %v2.0 %v1.0\nreplace %v1.0 %v4.0\n" + shown, [24])
     due(twice + b"begin\nreplace %v1.0 %v2.0\nerase #1\nbegin\nerase #4\nrollback\nrollback\nrollback\n" + shown, [35])
-    due(twice + b"begin\nerase #4\ninsert end #0 0 %x = \"t.e\"() : () -> i1\ncommit\ncommit\ninsert end #0 0 \"t.f\"(%v5.0) : (i1) -> ()\n" + shown, [35])
+    due(twice + b"begin\nerase #4\ninsert end #0 0 %x = \"t.e\"() : () -> i1\ncommit\ncommit\ninsert end #0 0 "
+                b"\"t.f\"(%v5.0) : (i1) -> ()\n" + shown, [35])
     due(twice + b"begin\n" * 17 + b"set-attr #3 k 1 : i8\n" + b"rollback\n" * 17 + shown, [34, 35])
-    due(twice + b"begin\nmove #2 before #1\nset-operand #3 0 %v2.0\ndrop-attr #3 k\nset-attr #3 k unit\ndrop-attr #3 k\nrollback\n" + shown, [26])
-    due(twice + b"begin\ninsert end #0 0 \"t.e\"() : () -> ()\nrollback\ninsert end #0 0 \"t.e\"() : () -> ()\n" + shown)
+    due(twice + b"begin\nmove #2 before #1\nset-operand #3 0 %v2.0\ndrop-attr #3 k\nset-attr #3 k unit\ndrop-attr #3 "
+                b"k\nrollback\n" + shown, [26])
+    due(twice + b"begin\ninsert end #0 0 \"t.e\"() : () -> ()\nrollback\ninsert end #0 0 \"t.e\"() : () -> ()\n"
+        + shown)
     deep = nested(128) + b"\n" + DIVIDER
-    due(deep + b"insert end #127 0 \"t.a\"() : () -> ()\ninsert end #127 0 \"t.a\"() ({^a:}) : () -> ()\ninsert end #128 0 \"t.a\"() : () -> ()\n"
+    due(deep + b"insert end #127 0 \"t.a\"() : () -> ()\ninsert end #127 0 \"t.a\"() ({^a:}) : () -> ()\ninsert end "
+               b"#128 0 \"t.a\"() : () -> ()\n"
         b"insert end #127 0 \"t.a\"() ({^a: \"t.b\"() : () -> ()}) : () -> ()\n", [33])
 
 
 def panels():
     """Analyses are dropped and begun again."""
     over = TEXT + DIVIDER
-    due(over + b"detach uses\nreport uses\nresync uses\ndetach uses\nset-operand #3 0 %v2.0\nresync diagnostics\nreport diagnostics\n", [41])
-    due(over + b"resync uses\nset-operand #3 0 %v2.0\nresync uses\nreport uses\ndetach diagnostics\nreport diagnostics\nprint\n", [41])
+    due(over + b"detach uses\nreport uses\nresync uses\ndetach uses\nset-operand #3 0 %v2.0\nresync "
+               b"diagnostics\nreport diagnostics\n", [41])
+    due(over + b"resync uses\nset-operand #3 0 %v2.0\nresync uses\nreport uses\ndetach diagnostics\nreport "
+               b"diagnostics\nprint\n", [41])
     due(over + b"detach kind9\nresync effects\ndetach uses\ndetach diagnostics\nmove #2 start #1 0\nprint\n", [41])
 
 
@@ -645,16 +750,23 @@ def sweeps():
     caller = b'"func.func"() ' + private + b" ({\n" + call + b'"func.return"() : () -> ()\n}) : () -> ()\n'
     boxes = script.BOXES
     due(DIVIDER + b"sweep\nsweep\n" + shown, [41], boxes[:1])
-    for text in (one % b"f", one % b"f" + call % b"f", caller % (b"f", b"g") + caller % (b"g", b"f") + one % b"h" + call % b"h", one % b"f" + one % b"f" + call % b"f"):
+    for text in (one % b"f", one % b"f" + call % b"f", caller % (b"f", b"g") + caller % (b"g", b"f") + one % b"h" + call
+                 % b"h", one % b"f" + one % b"f" + call % b"f"):
         due(text + DIVIDER + b"sweep\n" + shown + b"sweep\n", (), boxes)
-        due(text + DIVIDER + b"begin\nsweep\nset-attr #0 k unit\nrollback\n" + shown + b"sweep\nbegin\ncommit\n" + shown, (), boxes)
+        due(text + DIVIDER + b"begin\nsweep\nset-attr #0 k unit\nrollback\n" + shown + b"sweep\nbegin\ncommit\n"
+            + shown, (), boxes)
     # What is inside goes first, and is counted too.
-    due(b'"builtin.module"() <{sym_name = "m", sym_visibility = "private"}> ({\n' + one % b"f" + caller % (b"g", b"f") + b'}) : () -> ()\n"test.b"() : () -> ()\n' + DIVIDER + b"begin\nsweep\n" + shown + b"rollback\n" + shown, (), boxes)
+    due(b'"builtin.module"() <{sym_name = "m", sym_visibility = "private"}> ({\n' + one % b"f" + caller % (b"g", b"f")
+        + b'}) : () -> ()\n"test.b"() : () -> ()\n' + DIVIDER + b"begin\nsweep\n" + shown + b"rollback\n" + shown, (),
+        boxes)
     # One whose result is used: nothing goes, also not what came before it.
     used = b'%0 = "func.func"() ' + private % b"p" + b' ({}) : () -> i32\n"test.u"(%0) : (i32) -> ()\n'
-    due(one % b"f" + used + one % b"g" + DIVIDER + b"sweep\nbegin\nsweep\n" + shown + b"rollback\nerase #3\nsweep\n" + shown, [22], boxes)
+    due(one % b"f" + used + one % b"g" + DIVIDER + b"sweep\nbegin\nsweep\n" + shown + b"rollback\nerase #3\nsweep\n"
+        + shown, [22], boxes)
     # A use inside another one that goes doesn't matter, since the last goes first.
-    due(used.replace(b"test.u", b"func.func").replace(b"(%0)", b'(%0) <{sym_name = "q", sym_visibility = "private"}> ({})') + DIVIDER + b"sweep\n" + shown, (), boxes)
+    due(used.replace(b"test.u", b"func.func").replace(b"(%0)",
+                                                      b'(%0) <{sym_name = "q", sym_visibility = "private"}> ({})')
+                                                      + DIVIDER + b"sweep\n" + shown, (), boxes)
 
 
 def whole_cut(text):
@@ -669,7 +781,8 @@ def whole_cut(text):
 def sums(count):
     """A module in which so many rewrites can be made: sums of two constants, each used."""
     one = b'%0 = "arith.constant"() <{value = 1 : i32}> : () -> i32\n'
-    return one + b"".join(b'%%%d = "arith.addi"(%%0, %%0) : (i32, i32) -> i32\n"t.u"(%%%d) : (i32) -> ()\n' % (n, n) for n in range(1, count + 1))
+    used = b'%%%d = "arith.addi"(%%0, %%0) : (i32, i32) -> i32\n"t.u"(%%%d) : (i32) -> ()\n'
+    return one + b"".join(used % (number, number) for number in range(1, count + 1))
 
 
 def command_lines():
@@ -682,21 +795,24 @@ def command_lines():
         brief = "--brief" in words
         status, out = script.run(text, brief, script.BOXES, script.ALL, limit)
         # One rewrite folds a sum, and the last erases the constant.
-        assert out.startswith(b"1 limit %d\n" % limit if count >= limit else b"1 converged %d\n" % (count + 1)), out[:80]
+        said = b"1 limit %d\n" % limit if count >= limit else b"1 converged %d\n" % (count + 1)
+        assert out.startswith(said), out[:80]
         GOLDEN.case(words.split(), text, (status, out))
 
     def wrong(words, why):
         GOLDEN.case(words, b"", (2, b"error: " + why))
 
-    for words, limit in (("--limit 5", 5), ("--limit=5", 5), ("--limit 0010", 10), ("--limit 1", 1), ("--limit 1000000", 1000000), ("--limit +5", 5)):
+    for words, limit in (("--limit 5", 5), ("--limit=5", 5), ("--limit 0010", 10), ("--limit 1", 1),
+                         ("--limit 1000000", 1000000), ("--limit +5", 5)):
         limited(words, limit, 11)
         limited(words + " --brief", limit, 11)
     # (by hand, since the rules search a module from its root for each rewrite)
     for count, reply in ((999, b"1 converged 1000\n"), (1000, b"1 limit 1000\n")):
         GOLDEN.case(["--brief"], sums(count) + DIVIDER + b"canon\n", (0, reply))
     limited("", script.LIMIT, 2)
-    for word, why in (("0", "0 is not in 1..=1000000"), ("1000001", "1000001 is not in 1..=1000000"), ("4294967297", "4294967297 is not in 1..=1000000"), ("-1", "-1 is not in 1..=1000000"),
-                      ("x", "invalid digit found in string"), ("1.5", "invalid digit found in string"), ("1_0", "invalid digit found in string"), ("", "cannot parse integer from empty string"),
+    for word, why in (*((number, f"{number} is not in 1..=1000000") for number in ("0", "1000001", "4294967297", "-1")),
+                      *((word, "invalid digit found in string") for word in ("x", "1.5", "1_0")),
+                      ("", "cannot parse integer from empty string"),
                       ("99999999999999999999", "number too large to fit in target type")):
         wrong([f"--limit={word}"], f"invalid value '{word}' for '--limit <N>': {why}\n".encode() + more)
     for words in ("--limit", "--limit --brief", "--brief --limit"):
@@ -721,7 +837,8 @@ def over_limits():
     """The texts of commands that pass a limit: of regions, of results, of entries."""
     regions = b", ".join([b"{}"] * 17)
     entries = b", ".join(b"k%d" % number for number in range(257))
-    for line in (b'insert end #0 0 "a"() (' + regions + b") : () -> ()", b'insert end #0 0 %a:257 = "a"() : () -> ()', b"set-attr #0 x {" + entries + b"}"):
+    for line in (b'insert end #0 0 "a"() (' + regions + b") : () -> ()", b'insert end #0 0 %a:257 = "a"() : () -> ()',
+                 b"set-attr #0 x {" + entries + b"}"):
         text = DIVIDER + line + b"\nprint\n"
         status, out = script.run(text, True, BOXES, script.ALL)
         assert out.startswith(b"1 refused 11 TooMany at "), out
@@ -740,7 +857,8 @@ def worked():
     """Each row of bench/cases/worked_rows.txt, with all listeners."""
     for row in worked_rows.rows():
         limit = re.search("--limit ([0-9]+)", row.options)
-        status, out = script.run(row.input, "--brief" in row.options, script.BOXES, script.ALL, int(limit[1]) if limit else script.LIMIT)
+        status, out = script.run(row.input, "--brief" in row.options, script.BOXES, script.ALL, int(limit[1]) if limit
+                                 else script.LIMIT)
         assert (status, worked_rows.is_output(row, out)) == (row.status, True), row.input
         words = row.options.replace("full", "").split()
         GOLDEN.case(words, row.input, (status, out))
@@ -750,7 +868,8 @@ def beginnings():
     """The first text, cut behind each byte: a module, or none."""
     for count in range(len(TEXT)):
         status, out = script.run(TEXT[:count], True, script.BOXES, script.ALL)
-        assert (status, out) == (0, b"") or status == 3 and re.fullmatch(rb"module refused [0-9]+ [A-Z][A-Za-z0-9]+ at [0-9]+\n", out), count
+        said = re.fullmatch(rb"module refused [0-9]+ [A-Z][A-Za-z0-9]+ at [0-9]+\n", out)
+        assert (status, out) == (0, b"") or status == 3 and said, count
     whole_cut(TEXT)
 
 

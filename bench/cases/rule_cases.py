@@ -1,10 +1,12 @@
 #!/usr/bin/env python3
-"""Writes stdin and stdout of crates/patterns_cases: a rule, an operation and a module a line, with the module that comes of it or
-that the rule doesn't apply. It prints how many there are of each rule. Run it at the top of the repository.
+"""Writes stdin and stdout of crates/patterns_cases: a rule, an operation and a module a line, with the module that
+comes of it or that the rule doesn't apply. It prints how many there are of each rule. Run it at the top of the
+repository.
 
-Each rule has templates of modules at which it applies, in which `T` is a type and `$NAME` a number. Each is tried at every type
-that it is for; with each of its constants a little off, or none at all; with operands in the other order; with a property more,
-with one that is wrong, and without one, at each operation. The answers come from the rules in Python."""
+Each rule has templates of modules at which it applies, in which `T` is a type and `$NAME` a number. Each is tried at
+every type that it is for; with each of its constants a little off, or none at all; with operands in the other order;
+with a property more, with one that is wrong, and without one, at each operation. The answers come from the rules in
+Python."""
 import collections
 import itertools
 import pathlib
@@ -103,7 +105,8 @@ INDEX_LOOP = """%l:3 = "test.d"() : () -> (index, index, index)
 
 
 def loop(lower, upper, step, ty):
-    return giver("a") + constant("l", lower, ty) + constant("u", upper, ty) + constant("s", step, ty) + LOOP.replace("U", ty) + used()
+    bounds = constant("l", lower, ty) + constant("u", upper, ty) + constant("s", step, ty)
+    return giver("a") + bounds + LOOP.replace("U", ty) + used()
 
 
 def ones(word, number):
@@ -118,12 +121,15 @@ def templates():
     """Each rule with modules at which it may apply, at the operation whose result is %x (or the last but one)."""
     yield 1, giver("a") + on_two("addi", "a", "a")
     yield 1, giver("a") + on_two("addi", "a", "a") + used()
-    yield 1, giver("c", ty="i1") + BRANCH.replace("test.d", "arith.constant").replace('  "test.s"(%y) : (T) -> ()\n', "")
+    yield 1, giver("c", ty="i1") + BRANCH.replace("test.d",
+                                                  "arith.constant").replace('  "test.s"(%y) : (T) -> ()\n', "")
     yield 1, giver("m", ty="memref<T>") + '%x = "memref.load"(%m) : (memref<T>) -> T\n'
     yield 1, '%x = "memref.alloc"() : () -> memref<T>\n'
     for word in [*SWAPPING, "subi", "divsi", "remui", "shli", "shrsi", "cmpi"]:
         props, result = (" <{predicate = 3 : i64}>", "i1") if word == "cmpi" else ("", "T")
-        yield 2, constant("a", "$1") + constant("b", "$1") + on_two(word, "a", "b", result=result, props=props) + used(result)
+        yield 2, constant("a", "$1") + constant("b",
+                                                "$1") + on_two(word, "a", "b", result=result, props=props) + used(
+                                                    result)
     for word, number in (("muli", 0), ("andi", 0), ("ori", -1)):
         yield 2, ones(word, number)
     yield 2, constant("c", 1, "i1") + constant("a", "$5") + giver("b") + choice("c", "a", "b") + used()
@@ -154,25 +160,31 @@ def templates():
     yield 12, giver("a", "b") + compared("a", "b", 0) + used("i1")
     yield 15, giver("c", ty="i1") + giver("a", "b") + choice("c", "a", "a") + used()
     yield 15, giver("c", ty="i1") + giver("a", "b") + choice("c", "a", "b") + used()
-    yield 15, giver("c", ty="i1") + giver("a", ty="memref<4xi8>") + choice("c", "a", "a", "memref<4xi8>") + used("memref<4xi8>")
+    yield 15, giver("c", ty="i1") + giver("a",
+                                          ty="memref<4xi8>") + choice("c", "a", "a", "memref<4xi8>") + used(
+                                              "memref<4xi8>")
     yield 15, constant("c", 1, "i1") + constant("a", "$5") + choice("c", "a", "a") + used()
     for number in (0, 1):
         yield 16, constant("c", number, "i1") + giver("a", "b") + choice("c", "a", "b") + used()
     yield 16, giver("c", ty="i1") + giver("a", "b") + choice("c", "a", "b") + used()
     for left, right, ty in itertools.product((0, 1), (0, 1), ("i1", "i8")):
-        yield 17, giver("c", ty="i1") + constant("t", left, ty) + constant("f", right, ty) + choice("c", "t", "f", ty) + used(ty)
+        yield 17, giver("c", ty="i1") + constant("t", left,
+                                                 ty) + constant("f", right, ty) + choice("c", "t", "f", ty) + used(ty)
     turned = giver("c", ty="i1") + constant("t", "$1", "i1") + '%n = "arith.xori"(%c, %t) : (i1, i1) -> i1\n'
     yield 18, turned + giver("a", "b") + choice("n", "a", "b") + used()
     yield 18, turned.replace("xori", "andi") + giver("a", "b") + choice("n", "a", "b") + used()
     for outer, inner in itertools.product(("arith.extsi", "arith.extui"), repeat=2):
-        for start, middle, end in (("i1", "i8", "i64"), ("i8", "i65", "i128"), ("i8", "i16", "i16"), ("i64", "i65", "i66")):
+        for start, middle, end in (("i1", "i8", "i64"), ("i8", "i65", "i128"), ("i8", "i16", "i16"),
+                                   ("i64", "i65", "i66")):
             yield 19, cast_pairs(outer, inner, start, middle, end)
-    for inner, types in itertools.product(("trunci", "extsi", "extui"), (("i8", "i64"), ("i1", "i128"), ("i64", "i65"))):
+    for inner, types in itertools.product(("trunci", "extsi", "extui"),
+                                          (("i8", "i64"), ("i1", "i128"), ("i64", "i65"))):
         start, middle = types if inner != "trunci" else types[::-1]
         yield 20, cast_pairs("arith.trunci", f"arith.{inner}", start, middle, types[0])
         yield 20, cast_pairs("arith.trunci", f"arith.{inner}", start, middle, "i1")
     for word in ("arith.index_cast", "arith.index_castui", "builtin.unrealized_conversion_cast"):
-        for start, middle in (("i1", "index"), ("i64", "index"), ("i65", "index"), ("i128", "index"), ("index", "i64"), ("index", "i8"), ("index", "i128")):
+        for start, middle in (("i1", "index"), ("i64", "index"), ("i65", "index"), ("i128", "index"), ("index", "i64"),
+                              ("index", "i8"), ("index", "i128")):
             yield 21, cast_pairs(word, word, start, middle, start)
         yield 21, cast_pairs(word, "builtin.unrealized_conversion_cast", "i64", "index", "i64")
     yield 21, giver("a") + on_one("builtin.unrealized_conversion_cast", "a", "T", "T") + used()
@@ -180,10 +192,12 @@ def templates():
         yield 22, constant("c", number, "i1") + BRANCH + used()
         yield 22, constant("c", number, "i1") + LONE
     yield 22, giver("c", ty="i1") + BRANCH + used()
-    for lower, upper, step in ((4, 5, 1), (5, 5, 1), (6, 5, 0), (0, 2, 2), (0, 3, 2), (-1, 0, 1), (0, 1, 0), (0, 1, -1), (0, -1, 1)):
+    for lower, upper, step in ((4, 5, 1), (5, 5, 1), (6, 5, 0), (0, 2, 2), (0, 3, 2), (-1, 0, 1), (0, 1, 0), (0, 1, -1),
+                               (0, -1, 1)):
         for ty in ("index", "i8", "i65"):
             yield 23, loop(lower, upper, step, ty)
-    for ty, (least, most) in (("i8", (-128, 127)), ("i128", (-2 ** 127, 2 ** 127 - 1)), ("index", (-2 ** 63, 2 ** 63 - 1))):
+    for ty, (least, most) in (("i8", (-128, 127)), ("i128", (-2 ** 127, 2 ** 127 - 1)),
+                              ("index", (-2 ** 63, 2 ** 63 - 1))):
         yield 23, loop(least, most, most, ty)
         yield 23, loop(most - 1, most, most, ty)
     for condition in ("false", "true"):
@@ -200,7 +214,9 @@ def templates():
     yield 28, giver("c", ty="i1") + giver("a", "b") + choice("c", "a", "b") + used()
     yield 28, '%x = "arith.constant"() <{value = $5 : T}> {k, m = 3 : index} : () -> T\n' + used()
     yield 29, giver("a") + INDEX_LOOP + used()
-    yield 29, giver("a") + constant("l", 0, "i8") + constant("u", 1, "i8") + constant("s", 1, "i8") + LOOP.replace("U", "i8") + used()
+    yield 29, giver("a") + constant("l", 0,
+                                    "i8") + constant("u", 1,
+                                                     "i8") + constant("s", 1, "i8") + LOOP.replace("U", "i8") + used()
     yield 30, giver("c", ty="i1") + BRANCH + used()
     for other in ("i8", "index"):
         yield 30, giver("c", ty="i1") + TWO_RESULTS.replace("U", other)
@@ -258,7 +274,8 @@ def some(items, most):
 
 
 def cases(most=60):
-    """Lines: a rule, an operation, a module's text, and the module after the rule, or none, and how many operations it made."""
+    """Lines: a rule, an operation, a module's text, and the module after the rule, or none, and how many operations it
+    made."""
     by_rule = {}
     for rule, template in templates():
         for text in map(numbered, typed(template)):
@@ -275,7 +292,8 @@ def cases(most=60):
                 continue
             op = target(module)
             found = rewrites.apply(module, rule, op.id)
-            kept[found is not None].append((rule, op.id, text, found and text_of(found), found and found.next - module.next))
+            kept[found is not None].append((rule, op.id, text, found and text_of(found), found and found.next
+                                            - module.next))
         yield from some(kept[True], most)
         yield from some(kept[False], most)
 
@@ -301,7 +319,8 @@ def with_ids(lines):
 
 def main():
     table, count = Table(), collections.Counter()
-    for rule, op, least, text, answer, after in itertools.chain(with_ids(line for line in cases() if line[0] in WRITTEN), edges()):
+    for rule, op, least, text, answer, after in itertools.chain(
+        with_ids(line for line in cases() if line[0] in WRITTEN), edges()):
         count[rule, after is not None] += 1
         shown = told((text_of(read(text.encode())) if after is None else after).encode())
         table.case(f"{rule} {op} {least} {given(text.encode())}", f"{answer} {shown}")

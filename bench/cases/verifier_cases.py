@@ -1,9 +1,9 @@
-"""Whole runs with the listeners of uses and diagnostics, and what they write by the rules (bench/reference); analyses_cases.py
-makes cases of them.
+"""Whole runs with the listeners of uses and diagnostics, and what they write by the rules (bench/reference);
+analyses_cases.py makes cases of them.
 
-The first cases are those of reference/examples.py, whose rows are written by hand: for each rule a module that breaks it and one
-that doesn't, what silences what, unlisted operations, edges. Then each listed operation with one change of each kind
-(reference/variations.py), scripts that set operands, and modules by chance, from the seed below."""
+The first cases are those of reference/examples.py, whose rows are written by hand: for each rule a module that breaks
+it and one that doesn't, what silences what, unlisted operations, edges. Then each listed operation with one change of
+each kind (reference/variations.py), scripts that set operands, and modules by chance, from the seed below."""
 import random
 
 from reference import chance, examples, script, variations
@@ -32,18 +32,27 @@ TYPED = """%a = "test.d"() : () -> i32
 """
 # A module, and edits after each of which the rows are reported.
 SCRIPTS = [
-    (TYPED + '%0 = "arith.addi"(%a, %a) : (i32, i32) -> i32\n"test.u"(%0) : (i32) -> ()\n', ["#6 0 %v2.0", "#6 1 %v2.0", "#6 0 %v1.0", "#7 0 %v2.0", "#6 1 %v1.0", "#6 2 %v1.0", "#6 0 %v6.0"]),
-    (TYPED + '%0 = "memref.load"(%m, %i) : (memref<?xi32>, index) -> i32\n"memref.store"(%a, %m, %i) : (i32, memref<?xi32>, index) -> ()\n',
-     ["#6 0 %v1.0", "#6 1 %v1.0", "#6 0 %v5.0", "#6 1 %v4.0", "#7 0 %v2.0", "#7 1 %v3.0", "#7 2 %v1.0", "#7 1 %v5.0", "#7 0 %v6.0"]),
-    (TYPED + '%0 = "scf.if"(%c) ({\n"scf.yield"(%a) : (i32) -> ()\n}, {\n"scf.yield"(%a) : (i32) -> ()\n}) : (i1) -> i32\n',
+    (TYPED + '%0 = "arith.addi"(%a, %a) : (i32, i32) -> i32\n"test.u"(%0) : (i32) -> ()\n',
+     ["#6 0 %v2.0", "#6 1 %v2.0", "#6 0 %v1.0", "#7 0 %v2.0", "#6 1 %v1.0", "#6 2 %v1.0", "#6 0 %v6.0"]),
+    (TYPED + '%0 = "memref.load"(%m, %i) : (memref<?xi32>, index) -> i32\n"memref.store"(%a, %m, %i) : (i32, '
+             'memref<?xi32>, index) -> ()\n',
+     ["#6 0 %v1.0", "#6 1 %v1.0", "#6 0 %v5.0", "#6 1 %v4.0", "#7 0 %v2.0", "#7 1 %v3.0", "#7 2 %v1.0", "#7 1 %v5.0",
+      "#7 0 %v6.0"]),
+    (TYPED + '%0 = "scf.if"(%c) ({\n"scf.yield"(%a) : (i32) -> ()\n}, {\n"scf.yield"(%a) : (i32) -> ()\n}) : (i1) -> '
+             'i32\n',
      ["#7 0 %v2.0", "#8 0 %v3.0", "#6 0 %v1.0", "#7 0 %v1.0", "#8 0 %v1.0", "#6 0 %v3.0"]),
-    (TYPED + '%0 = "scf.for"(%i, %i, %i, %a) ({\n^bb0(%k: index, %x: i32):\n%y = "arith.addi"(%x, %a) : (i32, i32) -> i32\n"scf.yield"(%y) : (i32) -> ()\n})'
-     ' : (index, index, index, i32) -> i32\n', ["#8 0 %a6.0.0", "#6 0 %v1.0", "#6 3 %v2.0", "#8 0 %a6.0.1", "#6 1 %v1.0", "#6 2 %v1.0", "#6 0 %v4.0"]),
-    (TYPED + '%0 = "scf.while"(%a) ({\n^bb0(%x: i32):\n"scf.condition"(%c, %b) : (i1, i64) -> ()\n}, {\n^bb0(%y: i64):\n"scf.yield"(%a) : (i32) -> ()\n}) : (i32) -> i64\n',
+    (TYPED + '%0 = "scf.for"(%i, %i, %i, %a) ({\n^bb0(%k: index, %x: i32):\n%y = "arith.addi"(%x, %a) : (i32, i32) -> '
+             'i32\n"scf.yield"(%y) : (i32) -> ()\n})'
+     ' : (index, index, index, i32) -> i32\n',
+     ["#8 0 %a6.0.0", "#6 0 %v1.0", "#6 3 %v2.0", "#8 0 %a6.0.1", "#6 1 %v1.0", "#6 2 %v1.0", "#6 0 %v4.0"]),
+    (TYPED + '%0 = "scf.while"(%a) ({\n^bb0(%x: i32):\n"scf.condition"(%c, %b) : (i1, i64) -> ()\n}, {\n^bb0(%y: '
+             'i64):\n"scf.yield"(%a) : (i32) -> ()\n}) : (i32) -> i64\n',
      ["#7 1 %a6.0.0", "#7 0 %v1.0", "#8 0 %a6.1.0", "#7 1 %v2.0", "#7 0 %v3.0", "#8 0 %v1.0", "#6 0 %v2.0"]),
-    ('"func.func"() <{function_type = (i32, i64) -> i32, sym_name = "f"}> ({\n^bb0(%a: i32, %b: i64):\n"func.return"(%a) : (i32) -> ()\n}) : () -> ()\n',
+    ('"func.func"() <{function_type = (i32, i64) -> i32, sym_name = "f"}> ({\n^bb0(%a: i32, %b: '
+     'i64):\n"func.return"(%a) : (i32) -> ()\n}) : () -> ()\n',
      ["#2 0 %a1.0.1", "#2 0 %a1.0.0", "#2 1 %a1.0.0", "#2 0 %v2.0"]),
-    (TYPED + '%0 = "arith.extsi"(%a) : (i32) -> i64\n%1 = "arith.index_cast"(%i) : (index) -> i32\n%2 = "memref.alloc"(%i) : (index) -> memref<?xi32>\n',
+    (TYPED + '%0 = "arith.extsi"(%a) : (i32) -> i64\n%1 = "arith.index_cast"(%i) : (index) -> i32\n%2 = '
+             '"memref.alloc"(%i) : (index) -> memref<?xi32>\n',
      ["#6 0 %v2.0", "#6 0 %v4.0", "#7 0 %v1.0", "#8 0 %v7.0", "#6 0 %v3.0", "#7 0 %v5.0"]),
 ]
 

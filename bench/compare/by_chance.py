@@ -1,17 +1,17 @@
 #!/usr/bin/env python3
-"""Compares a program with the rules (bench/reference) over cases by chance, the status and every byte of each: texts that
-are cut and changed, modules of files that are, short scripts, and long ones with listings, over all commands, up to
-sixteen marks and all seven listeners. Each case comes from the seed and its own number alone, so that one is had again
-by `--first`.
+"""Compares a program with the rules (bench/reference) over cases by chance, the status and every byte of each: texts
+that are cut and changed, modules of files that are, short scripts, and long ones with listings, over all commands, up
+to sixteen marks and all seven listeners. Each case comes from the seed and its own number alone, so that one is had
+again by `--first`.
 
 usage: bench/compare/by_chance.py PROGRAM [CASES [SEED]] [--first N] [--processes N] [--only KIND,..]
                                   [--without COMMAND,..] [--table] [--files FILE..]
 
 CASES is 20000, SEED 1 and the processes are one where they aren't given. The kinds are text, file, script, long and
-conversions; the last, scripts of conversions that fit their module, is there with `--only` alone. Without files the cases
-of files are texts too. A program that hasn't a command is compared without it. With `--table` the program is the one
-built from crates/mlir_work_cases, which runs many cases in one process; else each case is one. The seed is printed, what a
-case costs, how conversions were replied to, and each difference, whole; the status is 1 where there is one."""
+conversions; the last, scripts of conversions that fit their module, is there with `--only` alone. Without files the
+cases of files are texts too. A program that hasn't a command is compared without it. With `--table` the program is the
+one built from crates/mlir_work_cases, which runs many cases in one process; else each case is one. The seed is printed,
+what a case costs, how conversions were replied to, and each difference, whole; the status is 1 where there is one."""
 import argparse
 import collections
 import concurrent.futures
@@ -37,10 +37,11 @@ MIX = {"text": 45, "file": 25, "script": 26, "long": 4}
 ALL_KINDS = (*MIX, "conversions")
 BATCH, MOST_SHOWN = 500, 3
 # Words that are put in the place of others, or between them.
-WORDS = """i32 i64 index i1 i129 si8 ui128 memref<?x4xi32> () ({ }) ({}) ({^bb0: }) ^bb1: ^bb0(%a: <{ }> { } ( ) [ ] = : :2 , -> - // /// # % @f @f::@g %0 %1
-%arg0 %0#0 %0#1 %v1.0 %a1.0.0 "test.a" "func.func" "scf.if" "arith.addi" "func.return" "builtin.module" true false unit 0 1 -1 255 0xFF 128
-340282366920938463463374607431768211456 1.5 "" "\\0a" "\\ " array<i32: 1> dense<1> #arith.overflow<nsw> sym_name value callee loc("x") f32 vector<4xi8>
-!t.x affine_map<(d0)->(d0)> ! ^ \x00 \xff \xc3\xa9 \x0b""".encode("latin-1").split()
+WORDS = """i32 i64 index i1 i129 si8 ui128 memref<?x4xi32> () ({ }) ({}) ({^bb0: }) ^bb1: ^bb0(%a: <{ }> { } ( ) [ ] = :
+:2 , -> - // /// # % @f @f::@g %0 %1 %arg0 %0#0 %0#1 %v1.0 %a1.0.0 "test.a" "func.func" "scf.if" "arith.addi"
+"func.return" "builtin.module" true false unit 0 1 -1 255 0xFF 128 340282366920938463463374607431768211456 1.5 "" "\\0a"
+"\\ " array<i32: 1> dense<1> #arith.overflow<nsw> sym_name value callee loc("x") f32 vector<4xi8> !t.x
+affine_map<(d0)->(d0)> ! ^ \x00 \xff \xc3\xa9 \x0b""".encode("latin-1").split()
 TOKEN = re.compile(rb'"(?:[^"\\\n]|\\.)*"|[%@#!^]?[A-Za-z0-9_$.]+|\s+|->|[^\sA-Za-z0-9]', re.S)
 CONVERTED = re.compile(r"(?m)^[0-9]+ (converted|refused 5[1-4] \w+)")
 Case = collections.namedtuple("Case", "kind text brief limit answer commands")
@@ -144,7 +145,8 @@ class Runs:
 
     def case(self, kind, text, limit):
         answer = self.status, "".join(self.out).encode()
-        return Case(kind, text + DIVIDER + "\n".join(self.lines).encode("latin-1"), self.brief, limit, answer, self.count)
+        return Case(kind, text + DIVIDER + "\n".join(self.lines).encode("latin-1"), self.brief, limit, answer,
+                    self.count)
 
 
 def a_text(maker, known, text, kind):
@@ -228,7 +230,8 @@ def line_of_table(case):
 
 def of_table(program, cases):
     """The lines that a table's program answers, in one process."""
-    ran = subprocess.run([program], input="".join(map(line_of_table, cases)).encode(), stdout=subprocess.PIPE, check=True)
+    ran = subprocess.run([program], input="".join(map(line_of_table, cases)).encode(), stdout=subprocess.PIPE,
+                         check=True)
     return ran.stdout.decode().split("\n")
 
 
@@ -246,13 +249,14 @@ def is_told(case, line):
 
 def show(number, case, found):
     wanted = case.answer[1].decode() if case.answer[1] is not None else "a refusal of the module"
-    print(f"case {number} ({case.kind}{', --brief' * case.brief}, --limit {case.limit}):\n{case.text.decode('latin-1')}\n"
+    print(f"case {number} ({case.kind}{', --brief' * case.brief}, --limit "
+          f"{case.limit}):\n{case.text.decode('latin-1')}\n"
           f"--- the program: {found}\n--- the rules: {case.answer[0]}\n{wanted}", flush=True)
 
 
 def part(words, files, numbers):
-    """Compares the cases of some numbers: how many of each kind, how many commands, how conversions were replied to, what
-    differs, and the seconds of this process."""
+    """Compares the cases of some numbers: how many of each kind, how many commands, how conversions were replied to,
+    what differs, and the seconds of this process."""
     began, counts, wrong = time.process_time(), collections.Counter(), []
     known = script.ALL - set(words.without.split(","))
     cases = [(number, case_of(number, words.seed, known, files, words.only)) for number in numbers]
@@ -275,7 +279,8 @@ def total(counts):
 
 def told_counts(counts):
     kinds = ", ".join(f"{counts[kind]:,} {kind}" for kind in ALL_KINDS if counts[kind])
-    replies = ", ".join(f"{times:,} {reply}" for reply, times in sorted(counts.items()) if CONVERTED.match(f"1 {reply}"))
+    replies = ", ".join(f"{times:,} {reply}" for reply, times in sorted(counts.items())
+                        if CONVERTED.match(f"1 {reply}"))
     return (f"{total(counts):,} cases ({kinds}) with {counts['commands']:,} commands, {counts['refused']:,} modules "
             f"refused; of conversions {replies or 'none'}")
 
@@ -300,7 +305,8 @@ def main():
     words = options()
     files = [text for text in (pathlib.Path(name).read_bytes() for name in sorted(words.files)) if len(text) < 8192]
     end = words.first + words.cases
-    print(f"seed {words.seed}, cases {words.first:,} to {end - 1:,}, {len(files)} files, process {os.getpid()}", flush=True)
+    print(f"seed {words.seed}, cases {words.first:,} to {end - 1:,}, {len(files)} files, process {os.getpid()}",
+          flush=True)
     counts, wrong, spent, began = collections.Counter(), 0, 0, time.time()
     with concurrent.futures.ProcessPoolExecutor(words.processes) as pool:
         parts = [range(at, min(at + BATCH, end)) for at in range(words.first, end, BATCH)]
@@ -312,7 +318,8 @@ def main():
             if place % 10 == 0:
                 print(f"{total(counts):,} cases, {wrong} differences, {time.time() - began:.0f} s", flush=True)
     here, each = os.times(), 1e3 / max(total(counts), 1)
-    print(f"{told_counts(counts)}: {wrong or 'no'} difference{'s' * (wrong > 1)}; {spent * each:.1f} ms a case by the rules, "
+    print(f"{told_counts(counts)}: {wrong or 'no'} difference{'s' * (wrong > 1)}; {spent * each:.1f} ms a case by the "
+          f"rules, "
           f"{(here.children_user + here.children_system - spent) * each:.1f} by the program and its start")
     return 1 if wrong else 0
 

@@ -1,7 +1,7 @@
 #!/usr/bin/env python3
-"""Canonicalizes modules by the program and by the rules (bench/reference), which search from the root: replies, modules and the
-reports of all listeners have to be the same, and a second `canon` behind it has to answer `converged 0`. Modules are the files that
-are named, and so many by chance.
+"""Canonicalizes modules by the program and by the rules (bench/reference), which search from the root: replies, modules
+and the reports of all listeners have to be the same, and a second `canon` behind it has to answer `converged 0`.
+Modules are the files that are named, and so many by chance.
 
 usage: bench/compare/canon_twice.py PROGRAM COUNT SEED [FILE..]"""
 import pathlib
@@ -22,7 +22,8 @@ def modules(count, seed, files):
     maker = random.Random(seed)
     for number in range(count):
         taste = maker.choice(sorted(chance.TASTES))
-        yield f"module {number}", text_of(chance.module(maker, maker.randrange(2, 40), maker.choice([0, 0.1, 0.3]), taste)).encode()
+        yield f"module {number}", text_of(chance.module(maker, maker.randrange(2, 40), maker.choice([0, 0.1, 0.3]),
+                                                        taste)).encode()
 
 
 def main(argv):
@@ -37,7 +38,8 @@ def main(argv):
             continue
         ran = subprocess.run([program, "--brief"], input=run, capture_output=True)
         if (ran.returncode, ran.stdout) != wanted:
-            print(f"{name}:\n{text.decode()}\nthe program: {ran.returncode}\n{ran.stdout.decode()}\nthe rules: {wanted[0]}\n{wanted[1].decode()}")
+            print(f"{name}:\n{text.decode()}\nthe program: {ran.returncode}\n{ran.stdout.decode()}\nthe rules: "
+                  f"{wanted[0]}\n{wanted[1].decode()}")
             return 1
         if ran.returncode == 0:
             whole += 1

@@ -4,9 +4,9 @@ module before.
 
 usage: bench/compare/mlir_accepts.py PROGRAM [COUNT [SEED]]
 
-COUNT random functions (300 where it isn't given) with branches and loops, as bench/compare/rule_values.py makes them, are each
-canonicalized and converted in every way that it knows. Prints how many modules were read; ends with status 1 where one is
-refused, which is printed with what mlir-opt said."""
+COUNT random functions (300 where it isn't given) with branches and loops, as bench/compare/rule_values.py makes them,
+are each canonicalized and converted in every way that it knows. Prints how many modules were read; ends with status 1
+where one is refused, which is printed with what mlir-opt said."""
 import pathlib
 import random
 import shutil

@@ -1,6 +1,6 @@
 #!/usr/bin/env python3
-"""Compares the verifier's rules with MLIR's verifier: prints each module of the table of bench/cases/verifier_cases.py, written by hand
-or one change away from a right one, that one of the two finds fault with and the other doesn't.
+"""Compares the verifier's rules with MLIR's verifier: prints each module of the table of bench/cases/verifier_cases.py,
+written by hand or one change away from a right one, that one of the two finds fault with and the other doesn't.
 
 usage: bench/compare/mlir_verifier.py MLIR_OPT"""
 import pathlib
@@ -27,7 +27,8 @@ if len(sys.argv) != 2:
 seen, differ = 0, {True: 0, False: 0}
 for text in texts():
     rows = verifier.diagnostics(module.read(text))
-    it = subprocess.run([sys.argv[1], "--allow-unregistered-dialect", "--mlir-print-op-generic"], input=text, capture_output=True)
+    it = subprocess.run([sys.argv[1], "--allow-unregistered-dialect", "--mlir-print-op-generic"], input=text,
+                        capture_output=True)
     seen += 1
     if bool(rows) != bool(it.returncode):
         differ[bool(rows)] += 1

@@ -1,6 +1,6 @@
 #!/usr/bin/env python3
-"""The inputs of docs/REFUSALS.md and docs/VERIFIER.md. Run at the top of the repository it asks mlir-opt what it says of each,
-and fails where that isn't what stands there:
+"""The inputs of docs/REFUSALS.md and docs/VERIFIER.md. Run at the top of the repository it asks mlir-opt what it says
+of each, and fails where that isn't what stands there:
 
     bench/compare/refusals.py [MLIR_OPT]     (mlir-opt-22; where it isn't installed, it says so)
 
@@ -47,7 +47,8 @@ def said_by(tool, text):
         file.flush()
         ran = subprocess.run([tool, "--allow-unregistered-dialect", file.name], capture_output=True)
         found = re.search(re.escape(file.name) + r":(\d+:\d+): error: (.*)", ran.stderr.decode(errors="replace"))
-    return f"{found.group(1)}: {found.group(2)}" if found else "*reads it*" if ran.returncode == 0 else f"status {ran.returncode}"
+    return (f"{found.group(1)}: {found.group(2)}" if found else "*reads it*" if ran.returncode == 0
+            else f"status {ran.returncode}")
 
 
 def main():

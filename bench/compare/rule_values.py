@@ -4,10 +4,11 @@
 
 usage: bench/compare/rule_values.py [PROGRAM [COUNT [SEED]]]
 
-First each rule of the rules in Python: 2 to 21 and 25 to 28 on small functions, of every width of 1 to 4, every constant and
-every value of the arguments. Then COUNT random functions (2000 where it isn't given) with branches and loops, at each operation
-each rule of 1 to 30 that applies. With a PROGRAM the random functions are also canonicalized and converted by it, and what it
-prints is run. It prints how often each rule was tried, and ends with status 1 at the first difference, which is printed whole."""
+First each rule of the rules in Python: 2 to 21 and 25 to 28 on small functions, of every width of 1 to 4, every
+constant and every value of the arguments. Then COUNT random functions (2000 where it isn't given) with branches and
+loops, at each operation each rule of 1 to 30 that applies. With a PROGRAM the random functions are also canonicalized
+and converted by it, and what it prints is run. It prints how often each rule was tried, and ends with status 1 at the
+first difference, which is printed whole."""
 import collections
 import itertools
 import pathlib
@@ -20,11 +21,14 @@ sys.path.append(str(pathlib.Path(__file__).resolve().parents[1]))  # bench/, whe
 
 from reference import evaluator, rewrites  # noqa: E402
 from reference.module import I1, I64, INDEX, Block, Module, Op, number_from, read, text_of, walk  # noqa: E402
-from reference.operations import BINARY, FOR, FUNC, IF, INDEX_CASTS, MODULE, RETURN, WHILE, YIELD, CONDITION  # noqa: E402
+from reference.operations import (  # noqa: E402
+    BINARY, FOR, FUNC, IF, INDEX_CASTS, MODULE, RETURN, WHILE, YIELD, CONDITION)
 
 ON_VALUES = [*range(2, 22), *range(25, 29)]
-INDEX_USERS = "constant addi subi muli shli divsi divui remsi remui andi ori xori shrsi shrui maxsi maxui minsi minui cmpi select".split()
-CONVERSIONS = ["convert partial illegal arith.maxsi,arith.maxui,arith.minsi,arith.minui rules 25", "convert partial illegal arith.subi rules 26",
+INDEX_USERS = """constant addi subi muli shli divsi divui remsi remui andi ori xori shrsi shrui maxsi maxui minsi minui
+cmpi select""".split()
+CONVERSIONS = ["convert partial illegal arith.maxsi,arith.maxui,arith.minsi,arith.minui rules 25",
+               "convert partial illegal arith.subi rules 26",
                "convert partial illegal arith.remsi,arith.remui rules 27,26",
                f"convert partial dynamic {','.join('arith.' + it for it in INDEX_USERS)},scf.for,scf.if rules 28,29,30"]
 
@@ -60,7 +64,8 @@ class Function:
 
     def module(self, handed, types):
         self.put(self.ops, RETURN, handed, [])
-        self.op.props = {b"function_type": ("ty", ("func", tuple(self.inputs), tuple(types))), b"sym_name": ("str", b"f")}
+        self.op.props = {b"function_type": ("ty", ("func", tuple(self.inputs), tuple(types))),
+                         b"sym_name": ("str", b"f")}
         root = Op(MODULE, regions=[Block(ops=[self.op])])
         count = number_from(root, 0)
         for op in walk(root):
@@ -92,7 +97,8 @@ def pairs():
         ty = ("i", width)
         for left, right in itertools.product(["a", "b", *range(2 ** width)], repeat=2):
             made = Function([ty, ty])
-            operands = [made.arguments()["ab".index(it)] if it in ("a", "b") else made.constant(made.ops, ty, it) for it in (left, right)]
+            operands = [made.arguments()["ab".index(it)] if it in ("a", "b") else made.constant(made.ops, ty, it)
+                        for it in (left, right)]
             yield made.module(made.put(made.ops, name, operands, [result or ty], props), [result or ty])
 
 
@@ -112,10 +118,12 @@ def choices():
         for condition, left, right in itertools.product(["c", "turned", 0, 1], items, items):
             made = Function([I1, ty, ty])
             given = made.arguments()
-            first = given[0] if condition == "c" else made.constant(made.ops, I1, condition if condition != "turned" else 1)
+            first = given[0] if condition == "c" else made.constant(
+                made.ops, I1, condition if condition != "turned" else 1)
             if condition == "turned":
                 first = made.put(made.ops, b"arith.xori", [given[0], first], [I1])[0]
-            operands = [given[1 + "ab".index(it)] if it in ("a", "b") else made.constant(made.ops, ty, it) for it in (left, right)]
+            operands = [given[1 + "ab".index(it)] if it in ("a", "b") else made.constant(made.ops, ty, it)
+                        for it in (left, right)]
             yield made.module(made.put(made.ops, b"arith.select", [first, *operands], [ty]), [ty])
 
 
@@ -137,7 +145,8 @@ def casts():
 def inputs(ty):
     """The values that are tried of a type: all of up to four bits."""
     width = evaluator.bits(ty)
-    return range(2 ** width) if width <= 4 else [bits_of(ty, it) for it in (0, 1, 2, 7, -1, -2, 2 ** (width - 1), 12345678901234567890)]
+    return range(2 ** width) if width <= 4 else [bits_of(ty, it)
+                                                 for it in (0, 1, 2, 7, -1, -2, 2 ** (width - 1), 12345678901234567890)]
 
 
 def fail(rule, module, found, arguments, old, new):
@@ -204,7 +213,8 @@ class Maker:
         for _ in range(self.chance.randrange(1, 7)):
             if self.left > 0:
                 self.left -= 1
-                getattr(self, self.chance.choice(["binary", "binary", "binary", "compare", "choice", "cast", "branch", "branch", "loop", "repeat", "opaque"]))(ops, seen)
+                getattr(self, self.chance.choice(["binary", "binary", "binary", "compare", "choice", "cast", "branch",
+                                                  "branch", "loop", "repeat", "opaque"]))(ops, seen)
 
     def binary(self, ops, seen):
         ty = self.type()
@@ -269,7 +279,8 @@ def by_program(program, module, script):
 
 
 def renamed(module):
-    """Operations without a meaning are told by their ids, which a printed module doesn't keep: they get names instead."""
+    """Operations without a meaning are told by their ids, which a printed module doesn't keep: they get names
+    instead."""
     for op in walk(module.root):
         if op.name == b"test.a":
             op.attrs[b"id"] = ("int", I64, op.id)

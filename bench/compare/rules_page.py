@@ -1,8 +1,8 @@
 #!/usr/bin/env python3
-"""Checks the examples of docs/CANONICALIZE.md by the rules in Python: at the operation that is named the rule makes of the
-first block the second. With a MLIR_OPT it also has its `-canonicalize` go on from both blocks, which has to come to the same
-module, but where the page says that it leaves the first. It prints how many there are, and ends with status 1 where one is
-wrong.
+"""Checks the examples of docs/CANONICALIZE.md by the rules in Python: at the operation that is named the rule makes of
+the first block the second. With a MLIR_OPT it also has its `-canonicalize` go on from both blocks, which has to come to
+the same module, but where the page says that it leaves the first. It prints how many there are, and ends with status 1
+where one is wrong.
 
 usage: bench/compare/rules_page.py [MLIR_OPT]"""
 import pathlib

@@ -8,7 +8,8 @@ MOST_COMMANDS, MOST_OPS = 24, 18
 ODD = [
     "jump", "erase", "erase 3", "erase #3 x", "erase #4294967296", "move #1", "move #2 before", "insert end #0 0",
     "insert end #0", "set-operand #1 0", "set-attr #1 k", 'set-attr #1 "a"b 1', 'set-attr #1 "" 1', "set-attr #1 k f32",
-    'set-attr #1 k [1, "a", {b, c = @f}]', 'drop-attr #1 "k"', "drop-attr #1 k l", "replace %v1.0", "replace %v1.0 %a1.0",
+    'set-attr #1 k [1, "a", {b, c = @f}]', 'drop-attr #1 "k"', "drop-attr #1 k l", "replace %v1.0",
+    "replace %v1.0 %a1.0",
     "begin x", "commit 1", "rollback #1", 'insert before #1 %0 = "test.a"() : () -> ()', "// a comment", "",
     " \terase\t#2  \r", 'insert end #0 0 "test.a"(%v99.0) : (i32) -> ()',
     'insert end #0 0 "test.a"() : () -> () "test.b"() : () -> ()', 'insert end #0 0 "test.a"()', "report uses",
@@ -17,10 +18,10 @@ ODD = [
 
 RULES = [2, 25, 26, 27, 28, 29, 30]
 CAST = "builtin.unrealized_conversion_cast"
-NAMES = """arith.maxsi arith.minui arith.subi arith.remsi arith.remui arith.addi arith.constant arith.cmpi scf.for scf.if
+NAMES ="""arith.maxsi arith.minui arith.subi arith.remsi arith.remui arith.addi arith.constant arith.cmpi scf.for scf.if
 func.func func.return builtin.module scf.yield test.a arith.index_cast memref.load""".split()
-INDEXED = ",".join(f"arith.{word}" for word in """constant addi subi muli cmpi select divsi divui remsi andi ori xori shli
-shrsi shrui maxsi minui""".split())
+INDEXED = ",".join(f"arith.{word}" for word in"""constant addi subi muli cmpi select divsi divui remsi andi ori xori
+shli shrsi shrui maxsi minui""".split())
 TARGETS = ["illegal arith.remsi,arith.remui rules 27",
            "illegal arith.maxsi,arith.maxui,arith.minsi,arith.minui rules 25", "illegal arith.subi rules 26",
            "illegal arith.remsi,arith.remui,arith.subi rules 2,27,26", f"dynamic {INDEXED} rules 28",

@@ -1,5 +1,5 @@
-// Stands before the C library, counts what is allocated, and tells at the end: how often, and how many bytes were in use at
-// most.
+// Stands before the C library, counts what is allocated, and tells at the end: how often, and how many bytes were in
+// use at most.
 #include <malloc.h>
 #include <stdio.h>
 #include <stdlib.h>

@@ -1,5 +1,5 @@
-// Stands before the C library: reads of the standard input and writes to the standard output, of one byte each where a number of
-// bytes is given, of which one, or each, has a fault. At the end it is told how many reads there were.
+// Stands before the C library: reads of the standard input and writes to the standard output, of one byte each where a
+// number of bytes is given, of which one, or each, has a fault. At the end it is told how many reads there were.
 #define _GNU_SOURCE
 #include <errno.h>
 #include <stdio.h>
@@ -42,8 +42,12 @@ ssize_t write(int file, const void *bytes, size_t size) {
     }
     return syscall(SYS_write, file, bytes, size);
 }
-ssize_t readv(int file, const struct iovec *parts, int count) { return count ? read(file, parts->iov_base, parts->iov_len) : 0; }
-ssize_t writev(int file, const struct iovec *parts, int count) { return count ? write(file, parts->iov_base, parts->iov_len) : 0; }
+ssize_t readv(int file, const struct iovec *parts, int count) {
+    return count ? read(file, parts->iov_base, parts->iov_len) : 0;
+}
+ssize_t writev(int file, const struct iovec *parts, int count) {
+    return count ? write(file, parts->iov_base, parts->iov_len) : 0;
+}
 __attribute__((destructor)) static void tell(void) {
     if (teller >= 0) dprintf(teller, "%lu", reads);
 }

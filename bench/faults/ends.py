@@ -1,14 +1,15 @@
 #!/usr/bin/env python3
-"""Runs a built program with a standard input and a standard output that fail, by a library that stands before the C library
-(bench/faults/ends.c). It needs a C compiler.
+"""Runs a built program with a standard input and a standard output that fail, by a library that stands before the C
+library (bench/faults/ends.c). It needs a C compiler.
 
-- The input gives one byte a read, and each read fails in turn: nothing is written, and the status is 4. Each is interrupted in
-  turn: as without.
-- Every read is interrupted: the program gives up behind 40,000,000 of them, nothing is written, and the status is 4. (The table of
-  crates/mlir_work_cases has this of the reading alone; a whole run has no word there, since its answer is the same line for 40,000,000
-  steps of a second program.)
-- The output takes one byte a write. Each write fails in turn: a front is written, which may be all of it, since what is buffered is
-  tried again at the end, and the status is 4. Each from one on fails: what came before is written, and the status is 4.
+- The input gives one byte a read, and each read fails in turn: nothing is written, and the status is 4. Each is
+  interrupted in turn: as without.
+- Every read is interrupted: the program gives up behind 40,000,000 of them, nothing is written, and the status is 4.
+  (The table of crates/mlir_work_cases has this of the reading alone; a whole run has no word there, since its answer is
+  the same line for 40,000,000 steps of a second program.)
+- The output takes one byte a write. Each write fails in turn: a front is written, which may be all of it, since what is
+  buffered is tried again at the end, and the status is 4. Each from one on fails: what came before is written, and the
+  status is 4.
 
 usage: bench/faults/ends.py PROGRAM"""
 import errno
@@ -42,14 +43,17 @@ class Ends:
     def __init__(self, program, folder):
         self.program, self.library, self.bad = program, f"{folder}/ends.so", 0
         source = pathlib.Path(__file__).with_name("ends.c")
-        subprocess.run([os.environ.get("CC", "cc"), "-shared", "-fPIC", "-O2", "-o", self.library, str(source)], check=True)
+        subprocess.run([os.environ.get("CC", "cc"), "-shared", "-fPIC", "-O2", "-o", self.library, str(source)],
+                       check=True)
         self.wanted = script.run(TEXT, True)
 
     def run(self, **words):
         """The status, what was written, and how many reads there were."""
         told, teller = os.pipe()
-        env = {"LD_PRELOAD": self.library, "ENDS_TELL": str(teller), **{f"ENDS_{word.upper()}": str(it) for word, it in words.items()}}
-        ran = subprocess.run([self.program, "--brief"], input=TEXT, stdout=subprocess.PIPE, env=env, pass_fds=[teller], timeout=600)
+        env = {"LD_PRELOAD": self.library, "ENDS_TELL": str(teller),
+               **{f"ENDS_{word.upper()}": str(it) for word, it in words.items()}}
+        ran = subprocess.run([self.program, "--brief"], input=TEXT, stdout=subprocess.PIPE, env=env, pass_fds=[teller],
+                             timeout=600)
         os.close(teller)
         reads = int(os.read(told, 99) or b"-1")
         os.close(told)
@@ -79,7 +83,8 @@ def main(argv):
         if busy != MOST_READS:
             ends.bad += 1
             print(f"{busy} reads, and not {MOST_READS}")
-    print(f"{reads} reads failed, {reads} interrupted, {len(ends.wanted[1])} writes failed, once and from one on, {busy:,} reads interrupted in one run: {ends.bad} not as due")
+    print(f"{reads} reads failed, {reads} interrupted, {len(ends.wanted[1])} writes failed, once and from one on, "
+          f"{busy:,} reads interrupted in one run: {ends.bad} not as due")
     return 1 if ends.bad else 0
 
 

@@ -1,7 +1,7 @@
 #!/usr/bin/env python3
-"""Runs a program over a script of every edit, mark and rollback with each of its allocations refused in turn, with and without
-listings. Each run has to end, and its status and all its bytes have to be among those that one refused allocation
-explains by the rules (bench/reference/refused.py). It needs a C compiler.
+"""Runs a program over a script of every edit, mark and rollback with each of its allocations refused in turn, with and
+without listings. Each run has to end, and its status and all its bytes have to be among those that one refused
+allocation explains by the rules (bench/reference/refused.py). It needs a C compiler.
 
 usage: bench/faults/fail_edits.py PROGRAM [KINDS]
 
@@ -27,7 +27,8 @@ MODULE = b"""\"func.func\"() <{function_type = (i32) -> i32, sym_name = \"f\"}> 
 """
 COMMANDS = """set-operand #3 0 %v2.0
 move #2 start #1 0
-insert before #4 %0:2 = "test.a"(%v2.0) ({ ^bb0(%x: i8): "test.b"(%x) : (i8) -> () }, {}) {k = [@f, "name"]} : (i32) -> (i32, index)
+insert before #4 %0:2 = "test.a"(%v2.0) ({ ^bb0(%x: i8): "test.b"(%x) : (i8) -> () }, {}) \
+{k = [@f, "name"]} : (i32) -> (i32, index)
 begin
 replace %v3.0 %v5.0
 set-attr #3 note {deep = [1 : i7, memref<?xi7>]}

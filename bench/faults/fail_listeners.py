@@ -1,16 +1,18 @@
 #!/usr/bin/env python3
-"""Refuses each allocation of each call of a listener in turn: beginning, being told of each of the five events by an edit and by
-the rollback of the inverse edit, and reporting, each in modules and trees of several sizes, so that each table grows. Each
-script has one kind in use, the others are detached. What is written then has to be what the rules say (bench/reference) where
-the command was refused, where the listener went stale, or where neither was; stale only by an event of which following may
-need memory (docs/LISTENERS.md). Behind the call the script reports twice, makes an edit, reports, rolls back and reports where a
-mark is open, begins the listener again, reports, and prints. It needs a C compiler.
+"""Refuses each allocation of each call of a listener in turn: beginning, being told of each of the five events by an
+edit and by the rollback of the inverse edit, and reporting, each in modules and trees of several sizes, so that each
+table grows. Each script has one kind in use, the others are detached. What is written then has to be what the rules say
+(bench/reference) where the command was refused, where the listener went stale, or where neither was; stale only by an
+event of which following may need memory (docs/LISTENERS.md). Behind the call the script reports twice, makes an edit,
+reports, rolls back and reports where a mark is open, begins the listener again, reports, and prints. It needs a C
+compiler.
 
 usage: bench/faults/fail_listeners.py PROGRAM [KINDS [SIZES]]
 
-KINDS and SIZES are lists with commas. The table says of each kind and call how many allocations were refused, and what came of it:
-the listener was stale, or followed; the command was refused; the listener, or another one, wasn't attached; or there was no
-module. The status is 1 where something isn't explained, or where nothing was refused of what needs memory."""
+KINDS and SIZES are lists with commas. The table says of each kind and call how many allocations were refused, and what
+came of it: the listener was stale, or followed; the command was refused; the listener, or another one, wasn't attached;
+or there was no module. The status is 1 where something isn't explained, or where nothing was refused of what needs
+memory."""
 import collections
 import concurrent.futures
 import pathlib
@@ -30,7 +32,8 @@ ATTACHED = [0, 3, 16]
 AT_ONCE = 4
 EVENTS = ["Put", "Take", "SetOperand", "SetEntry", "Shift"]
 # The events that a listener may need memory to follow.
-NEEDS = {"uses": {"Put", "SetOperand"}, "symbols": {"Put", "SetOperand", "SetEntry", "Shift"}, "diagnostics": set(EVENTS), "effects": {"Put"}, "dead": {"Put"},
+NEEDS = {"uses": {"Put", "SetOperand"}, "symbols": {"Put", "SetOperand", "SetEntry", "Shift"},
+         "diagnostics": set(EVENTS), "effects": {"Put"}, "dead": {"Put"},
          "constants": {"Put", "SetOperand", "SetEntry"}, "unreached": {"Put", "SetOperand", "SetEntry", "Shift"}}
 OUTCOMES = ["stale", "whole", "refused", "not attached", "other not attached", "no module"]
 INVERSE = {"Put": "Take", "Take": "Put"}
@@ -50,18 +53,25 @@ BASE = """%x = "test.d"() : () -> i32
 %r = "func.call"(%x) <{callee = @f}> : (i32) -> i32
 """
 HOLDS = 12
-CONTAINERS = dict.fromkeys(("symbols", "unreached"), '"builtin.module"() <{{sym_name = "m"}}> ({{ ^bb0: {} }}) : () -> ()')
+CONTAINERS = dict.fromkeys(("symbols", "unreached"),
+                           '"builtin.module"() <{{sym_name = "m"}}> ({{ ^bb0: {} }}) : () -> ()')
 CONTAINER = '"test.r"() ({{ ^bb0: {} }}) : () -> ()'
 # What is said of each operation in the container has its own row in the listener's table.
-FILLERS = {"uses": '"test.u"({s}, {c}) : (i32, i32) -> ()', "symbols": '"func.func"() <{{function_type = (i32) -> i32, sym_name = "h"}}> ({{}}) {{k = [@f, @g]}} : () -> ()',
-           "diagnostics": '"arith.addi"({s}) : (i32) -> ()', "effects": '"memref.alloc"() : () -> memref<i32>', "dead": '"arith.addi"({s}, {c}) : (i32, i32) -> i32',
+FILLERS = {"uses": '"test.u"({s}, {c}) : (i32, i32) -> ()',
+           "symbols": '"func.func"() <{{function_type = (i32) -> i32, sym_name = "h"}}> ({{}}) {{k = [@f, @g]}} : () '
+                      '-> ()',
+           "diagnostics": '"arith.addi"({s}) : (i32) -> ()', "effects": '"memref.alloc"() : () -> memref<i32>',
+           "dead": '"arith.addi"({s}, {c}) : (i32, i32) -> i32',
            "constants": '"arith.addi"({s}, {c}) : (i32, i32) -> i32',
-           "unreached": '"func.func"() <{{function_type = (i32) -> i32, sym_name = "h", sym_visibility = "private"}}> ({{}}) {{k = [@f, @g]}} : () -> ()'}
+           "unreached": '"func.func"() <{{function_type = (i32) -> i32, sym_name = "h", sym_visibility = "private"}}> '
+                        '({{}}) {{k = [@f, @g]}} : () -> ()'}
 # Edits that are one event, or several of one kind, and an edit that is its inverse.
-OPERANDS = {**dict.fromkeys(("symbols", "unreached"), ("set-operand #11 0 %v2.0", "set-operand #11 0 %v1.0")), "diagnostics": ("set-operand #4 1 %v2.0", "set-operand #4 1 %v3.0")}
+OPERANDS = {**dict.fromkeys(("symbols", "unreached"), ("set-operand #11 0 %v2.0", "set-operand #11 0 %v1.0")),
+            "diagnostics": ("set-operand #4 1 %v2.0", "set-operand #4 1 %v3.0")}
 OPERAND = "set-operand #4 1 %v1.0", "set-operand #4 1 %v3.0"
 REPLACES = "replace %v3.0 %v1.0", "replace %v1.0 %v3.0"
-ENTRIES = {**dict.fromkeys(("symbols", "unreached"), ("set-attr #11 callee @g::@h", "drop-attr #11 callee")), "diagnostics": ("set-attr #3 value 7 : i64", "drop-attr #3 value")}
+ENTRIES = {**dict.fromkeys(("symbols", "unreached"), ("set-attr #11 callee @g::@h", "drop-attr #11 callee")),
+           "diagnostics": ("set-attr #3 value 7 : i64", "drop-attr #3 value")}
 ENTRY = "set-attr #3 value 7 : i32", "drop-attr #3 value"
 SHIFTS = "move #8 end #7 0", "move #8 start #7 0"
 ELSEWHERE = "insert end #0 0 \"test.u\"(%v3.0) : (i32) -> ()"
@@ -131,7 +141,8 @@ def answers(kind, event, module, before, command):
         if text is None:
             continue
         assert word == "refused" or " refused " not in text, text
-        rest = [run.step(len(before) + 2 + place, line, None, True) for place, line in enumerate(behind(kind, before, command))]
+        rest = [run.step(len(before) + 2 + place, line, None, True) for place,
+                line in enumerate(behind(kind, before, command))]
         out = front + text + "".join(rest)
         found.setdefault((refused.status_of(out), out.encode()), word)
     return found
@@ -222,7 +233,8 @@ def table(counts, kinds):
         for event, how in rows(kind):
             here = counts[kind, event, how]
             call = f"{event}, by {how}" if how != "report" else how
-            print(f"| {kind} | {call} | {sum(here.values())} | " + " | ".join(str(here[word] or "") for word in OUTCOMES) + " |")
+            print(f"| {kind} | {call} | {sum(here.values())} | "
+                  + " | ".join(str(here[word] or "") for word in OUTCOMES) + " |")
             want = needed(kind, event, how)
             missing += want is not None and not here[want]
     print(f"{sum(sum(it.values()) for it in counts.values())} allocations refused", flush=True)

@@ -1,21 +1,23 @@
 #!/usr/bin/env python3
-"""Refuses growths of runs of a program, and looks whether what is written then is an output by the rules (bench/reference/outputs.py):
-a command that isn't accepted leaves the module, each listener's rows are those of the module, or it is stale, or memory was
-wanting, and what takes no memory is never refused for want of it. It needs a C compiler.
+"""Refuses growths of runs of a program, and looks whether what is written then is an output by the rules
+(bench/reference/outputs.py): a command that isn't accepted leaves the module, each listener's rows are those of the
+module, or it is stale, or memory was wanting, and what takes no memory is never refused for want of it. It needs a C
+compiler.
 
-usage: bench/faults/fail_script.py PROGRAM [--without COMMAND,..] [--parts script,alone,conversion] [--every N] [--sizes N,..]
-                            [--processes N]
+usage: bench/faults/fail_script.py PROGRAM [--without COMMAND,..] [--parts script,alone,conversion] [--every N]
+                                   [--sizes N,..] [--processes N]
 
-- script: one of every command over a function, marks inside a mark that stays open, with and without listings. The Nth growth is
-  refused, for N from 1 until a run meets none; the Nth and the two behind it; and each from the Nth on, until the script has
-  rolled back all that was open. Then there is memory again: the module has to be the first one, with its ids and its next id, and
-  each listener its rows, once it was begun again.
-- alone: each growth of one command, and each from it on, with all seven listeners and with none. Behind it the same command has
-  to do what it does where nothing was refused before.
+- script: one of every command over a function, marks inside a mark that stays open, with and without listings. The Nth
+  growth is refused, for N from 1 until a run meets none; the Nth and the two behind it; and each from the Nth on, until
+  the script has rolled back all that was open. Then there is memory again: the module has to be the first one, with its
+  ids and its next id, and each listener its rows, once it was begun again.
+- alone: each growth of one command, and each from it on, with all seven listeners and with none. Behind it the same
+  command has to do what it does where nothing was refused before.
 - conversion: each growth of a conversion that is refused, beside each listener alone, in modules of several sizes.
 
-With `--every N` only each Nth growth of the script is taken; the sizes are of the modules of a conversion. The table says how many growths were refused, and what came of it. The
-status is 1 where something isn't explained, or where a listener never turned stale in a refused conversion."""
+With `--every N` only each Nth growth of the script is taken; the sizes are of the modules of a conversion. The table
+says how many growths were refused, and what came of it. The status is 1 where something isn't explained, or where a
+listener never turned stale in a refused conversion."""
 import argparse
 import collections
 import concurrent.futures
@@ -56,14 +58,19 @@ CONVERTED = """"func.func"() <{function_type = (i32, i32) -> i32, sym_name = "r"
 # The first mark stays open; those inside it are dropped, or gone back to.
 OPENED = [
     "begin", "set-operand #3 0 %v2.0", "move #2 start #1 0", "begin",
-    'insert before #4 %0:2 = "test.a"(%v2.0) ({ ^bb0(%x: i8): "test.b"(%x) : (i8) -> () }, {}) {k = [@f, "name"]} : (i32) -> (i32, index)',
+    'insert before #4 %0:2 = "test.a"(%v2.0) ({ ^bb0(%x: i8): "test.b"(%x) : (i8) -> () }, {}) {k = [@f, "name"]} : '
+    '(i32) -> (i32, index)',
     "replace %v3.0 %v5.0", "set-attr #3 note {deep = [1 : i7, memref<?xi7>]}", "begin", "drop-attr #3 note", "erase #3",
     f"insert end #0 0 {PRIVATE}", "sweep", "commit", "canon limit 1", "rollback",
-    f"insert before #4 {REMAINDER}", "set-operand #4 0 %v5.0", TOO_DEEP, "begin", "convert partial illegal arith.remsi rules 27", "rollback",
-    "convert partial illegal func.return rules 25", f"insert end #0 0 {PRIVATE}", "sweep", "erase #9", "jump", "set-attr #3 k 1 : i129", "insert before #3 %0 =",
-    'set-attr #1 function_type (i32) -> i64', "report diagnostics", "canon", "resync constants", "resync symbols", "print", *ASKED, "detach dead", "report dead", "begin", "erase #1", "commit"]
+    f"insert before #4 {REMAINDER}", "set-operand #4 0 %v5.0", TOO_DEEP, "begin",
+    "convert partial illegal arith.remsi rules 27", "rollback",
+    "convert partial illegal func.return rules 25", f"insert end #0 0 {PRIVATE}", "sweep", "erase #9", "jump",
+    "set-attr #3 k 1 : i129", "insert before #3 %0 =",
+    'set-attr #1 function_type (i32) -> i64', "report diagnostics", "canon", "resync constants", "resync symbols",
+    "print", *ASKED, "detach dead", "report dead", "begin", "erase #1", "commit"]
 CLOSED = ["rollback", "rollback", "rollback"]
-# What is written by the last rollback, and how many lines have replies that fill what is written at once, without listings and with.
+# What is written by the last rollback, and how many lines have replies that fill what is written at once, without
+# listings and with.
 UNTIL, FILLING = "NoMark", {True: ["x"] * 400, False: ["x"] * 240}
 BEGUN = [f"resync {kind}" for kind in script.BOXES]
 AFTER = ["print", *BEGUN, *ASKED, 'insert end #0 0 "test.z"() : () -> ()']
@@ -99,10 +106,12 @@ class Look:
                 raise outputs.NoOutput(f"one growth was refused, and there are {dict(faults)}")
         except outputs.NoOutput as why:
             self.bad += 1
-            print(f"{row}, growth {number} and {many - 1} more: {why}\nstatus {answer[0]}\n{answer[1].decode()[-3000:]}", flush=True)
+            print(f"{row}, growth {number} and {many - 1} more: {why}\nstatus "
+                  f"{answer[0]}\n{answer[1].decode()[-3000:]}", flush=True)
             faults = {"not explained": 1}
         if was_refused:
-            self.counts[row][", ".join(sorted(faults)) if many == 1 else "several" if sum(faults.values()) > 1 else "one"] += 1
+            self.counts[row][", ".join(sorted(faults)) if many == 1 else "several" if sum(faults.values()) > 1
+                             else "one"] += 1
             self.counts[row]["all"] += 1
         return was_refused, faults
 
@@ -114,14 +123,17 @@ class Look:
         lines = opened + CLOSED + filling + AFTER
         calm = len(opened + CLOSED + filling) + 1 if many == ALL else None
         for number in range(1, 1000000, every):
-            if not self.run(("script", "brief" if brief else "with listings", name), MODULE, lines, number, brief, many, UNTIL if many == ALL else None, calm)[0]:
+            if not self.run(("script", "brief" if brief else "with listings", name), MODULE, lines, number, brief, many,
+                            UNTIL if many == ALL else None, calm)[0]:
                 return
 
     # One command.
 
     def alone(self, module, before, command, kept):
         detached = [f"detach {kind}" for kind in script.BOXES if kind not in kept]
-        front, behind = detached + before, [*(f"report {kind}" for kind in kept), command, "print", *(f"resync {kind}" for kind in kept), *(f"report {kind}" for kind in kept), command, "print"]
+        front, behind = detached + before, [*(f"report {kind}" for kind in kept), command, "print",
+                                            *(f"resync {kind}" for kind in kept), *(f"report {kind}" for kind in kept),
+                                            command, "print"]
         # Comments of as many bytes stand for what isn't run yet.
         hidden = ["//" + "-" * (len(line) - 2) for line in [command] + behind]
         first = self.program.count(written(module, front + hidden))[0] + 1
@@ -145,11 +157,16 @@ class Look:
 
 # Each command that takes memory, or tells listeners, with the lines before it.
 COMMANDS = [
-    ([], "set-operand #3 0 %v2.0"), ([], "move #2 start #1 0"), ([], "replace %v3.0 %v2.0"), ([], "erase #1"), ([], "drop-attr #3 overflowFlags"),
-    ([], "set-attr #3 note {deep = [1 : i7, memref<?xi7>]}"), ([], f"insert end #0 0 {PRIVATE}"), ([], OPENED[4]), ([], "begin"), (["begin"] * 3, "begin"),
-    ([], "report uses"), ([], "print"), ([], "resync uses"), ([f"insert end #0 0 {PRIVATE}"], "sweep"), ([], "sweep"), ([], "canon"), ([], "canon limit 1"),
-    (["set-operand #3 0 %v2.0"], "canon"), (["begin", "set-operand #3 0 %v2.0", "erase #4", "insert end #1 0 \"test.z\"(%v3.0) : (i32) -> ()"], "rollback"),
-    ([f"insert before #4 {REMAINDER}"], TOO_DEEP), ([f"insert before #4 {REMAINDER}"], "convert partial illegal arith.remsi rules 27"), ([], "convert partial")]
+    ([], "set-operand #3 0 %v2.0"), ([], "move #2 start #1 0"), ([], "replace %v3.0 %v2.0"), ([], "erase #1"),
+    ([], "drop-attr #3 overflowFlags"),
+    ([], "set-attr #3 note {deep = [1 : i7, memref<?xi7>]}"), ([], f"insert end #0 0 {PRIVATE}"), ([], OPENED[4]),
+    ([], "begin"), (["begin"] * 3, "begin"),
+    ([], "report uses"), ([], "print"), ([], "resync uses"), ([f"insert end #0 0 {PRIVATE}"], "sweep"), ([], "sweep"),
+    ([], "canon"), ([], "canon limit 1"),
+    (["set-operand #3 0 %v2.0"], "canon"),
+    (["begin", "set-operand #3 0 %v2.0", "erase #4", "insert end #1 0 \"test.z\"(%v3.0) : (i32) -> ()"], "rollback"),
+    ([f"insert before #4 {REMAINDER}"], TOO_DEEP),
+    ([f"insert before #4 {REMAINDER}"], "convert partial illegal arith.remsi rules 27"), ([], "convert partial")]
 MARKED = {"set-operand", "move", "replace", "erase", "drop-attr", "set-attr", "insert", "sweep", "canon", "convert"}
 SIZES = [0, 1, 2, 3, 4, 7, 8, 11, 14, 15, 16]
 
@@ -195,7 +212,8 @@ def table(counts):
 
 
 def main():
-    reader = argparse.ArgumentParser(description=__doc__, usage=argparse.SUPPRESS, formatter_class=argparse.RawDescriptionHelpFormatter)
+    reader = argparse.ArgumentParser(description=__doc__, usage=argparse.SUPPRESS,
+                                     formatter_class=argparse.RawDescriptionHelpFormatter)
     reader.add_argument("program")
     reader.add_argument("--without", default="")
     reader.add_argument("--parts", default="script,alone,conversion")

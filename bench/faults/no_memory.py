@@ -1,13 +1,14 @@
 #!/usr/bin/env python3
 """Counts what the calls of a module under edits allocate, by crates/ir_store_cases in runs that differ in nothing else.
 
-A line whose call has another word, of as many letters, is read and answered in the same way, but no module is asked. What
-lines cost is how much more often a run with them allocates than a run with such words. The program looks at some calls
-first, for which it reads the whole module: what that costs is told by the same call where the look refuses it, and what
-the words of a refusal cost by a call that is refused at once. The rest is the call's own, and has to be nothing.
+A line whose call has another word, of as many letters, is read and answered in the same way, but no module is asked.
+What lines cost is how much more often a run with them allocates than a run with such words. The program looks at some
+calls first, for which it reads the whole module: what that costs is told by the same call where the look refuses it,
+and what the words of a refusal cost by a call that is refused at once. The rest is the call's own, and has to be
+nothing.
 
-Then rounds of `put`, `take` and `release` are run, and more of them: the most bytes in use may differ by the table of ids
-alone, since ids aren't used again: at most 16 bytes a round.
+Then rounds of `put`, `take` and `release` are run, and more of them: the most bytes in use may differ by the table of
+ids alone, since ids aren't used again: at most 16 bytes a round.
 
 usage: bench/faults/no_memory.py PROGRAM        (the program built from crates/ir_store_cases; it needs a C compiler)"""
 import os
@@ -17,7 +18,8 @@ import sys
 import tempfile
 
 COUNT = pathlib.Path(__file__).with_name("count.c")
-MODULE = "load 10 : op:0 name:0 block op:1 res:0 end op:2 res:0 end op:3 use:1.0 end op:4 use:1.0 end op:5 name:1 attr:54=0 end end"
+MODULE = ("load 10 : op:0 name:0 block op:1 res:0 end op:2 res:0 end op:3 use:1.0 end op:4 use:1.0 end op:5 name:1 "
+          "attr:54=0 end end")
 ROUNDS = 500
 
 
@@ -25,7 +27,8 @@ def run(program, library, lines):
     """The answers, how often it allocated, and the most bytes in use."""
     told, teller = os.pipe()
     env = {"LD_PRELOAD": library, "COUNT_TELL": str(teller)}
-    done = subprocess.run([program], input="".join(line + "\n" for line in lines).encode(), stdout=subprocess.PIPE, env=env,
+    done = subprocess.run([program], input="".join(line + "\n" for line in lines).encode(), stdout=subprocess.PIPE,
+                          env=env,
                           pass_fds=[teller], timeout=600, check=True)
     os.close(teller)
     count, most = os.read(told, 80).split()

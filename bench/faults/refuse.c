@@ -1,6 +1,6 @@
-// Stands before the C library: the allocation of a number is refused, and a byte tells so; or as many from it on, where a
-// number of them is given, until a text was written to the standard output, where one is given. For number 0 none is refused,
-// and it is told at the end how many there were.
+// Stands before the C library: the allocation of a number is refused, and a byte tells so; or as many from it on, where
+// a number of them is given, until a text was written to the standard output, where one is given. For number 0 none is
+// refused, and it is told at the end how many there were.
 #define _GNU_SOURCE
 #include <stdio.h>
 #include <stdlib.h>

@@ -13,25 +13,27 @@ class Program:
 
     def __init__(self, path, folder):
         self.path, self.library = path, f"{folder}/refuse.so"
-        subprocess.run([os.environ.get("CC", "cc"), "-shared", "-fPIC", "-O1", "-o", self.library, str(SOURCE)], check=True)
+        subprocess.run([os.environ.get("CC", "cc"), "-shared", "-fPIC", "-O1", "-o", self.library, str(SOURCE)],
+                       check=True)
 
     def told(self, text, number, words, more):
-        """What the library tells, and the status and what was written. (The input is a file: of a pipe the program may read less at
-        once, and then its growths are other ones.)"""
+        """What the library tells, and the status and what was written. (The input is a file: of a pipe the program may
+        read less at once, and then its growths are other ones.)"""
         told, teller = os.pipe()
         env = {"LD_PRELOAD": self.library, "REFUSED_ALLOCATION": str(number), "REFUSED_TELL": str(teller), **more}
         with tempfile.TemporaryFile() as given:
             given.write(text)
             given.seek(0)
-            ended = subprocess.run([self.path, *words], stdin=given, capture_output=True, env=env, pass_fds=[teller], timeout=600)
+            ended = subprocess.run([self.path, *words], stdin=given, capture_output=True, env=env, pass_fds=[teller],
+                                   timeout=600)
         os.close(teller)
         said = os.read(told, 99)
         os.close(told)
         return said, (ended.returncode, ended.stdout)
 
     def run(self, text, number, brief=True, many=1, until=None):
-        """Whether the allocation of a number was there to be refused, and the status and what was written; with it as many from
-        it on, until a text was written."""
+        """Whether the allocation of a number was there to be refused, and the status and what was written; with it as
+        many from it on, until a text was written."""
         more = {"REFUSED_MANY": str(many), **({"REFUSED_UNTIL": until} if until else {})}
         said, answer = self.told(text, number, ["--brief"] * brief, more)
         return said == b"!", answer

@@ -13,7 +13,8 @@ def options(words):
     while words:
         if words[0] == "--brief" and not brief:
             brief, words = True, words[1:]
-        elif words[0] == "--limit" and limit is None and re.fullmatch("[+]?[0-9]+", "".join(words[1:2])) and 1 <= int(words[1]) <= MOST_LIMIT:
+        elif words[0] == "--limit" and limit is None and re.fullmatch("[+]?[0-9]+", "".join(words[1:2])) and 1 <= int(
+            words[1]) <= MOST_LIMIT:
             limit, words = int(words[1]), words[2:]
         else:
             return None

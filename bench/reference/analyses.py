@@ -188,7 +188,8 @@ def known_values(module):
 
 def constants(module):
     found = known_values(module)
-    return [f"{value_text(value)} {printing.attr_text(attribute_of(found[value]))}" for value in sorted(found, key=order_of)]
+    return [f"{value_text(value)} {printing.attr_text(attribute_of(found[value]))}"
+            for value in sorted(found, key=order_of)]
 
 
 ANALYSES = {"uses": uses, "symbols": symbols, "diagnostics": diagnostics, "effects": effects, "dead": dead,

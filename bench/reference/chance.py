@@ -1,10 +1,13 @@
-"""Modules and scripts by chance. Most operations of a module are right; some are changed a little, so that they break a rule."""
+"""Modules and scripts by chance. Most operations of a module are right; some are changed a little, so that they break a
+rule."""
 from .module import I1, I8, I32, I64, INDEX, Block, Module, Op, printing, rules, text_of, value_text, walk
-from .operations import (BINARY, CALL, CONDITION, EXTENSIONS, FLAGGED, FOR, FUNC, IF, INDEX_CASTS, ISOLATED, MODULE, RETURN,
+from .operations import (BINARY, CALL, CONDITION, EXTENSIONS, FLAGGED, FOR, FUNC, IF, INDEX_CASTS, ISOLATED, MODULE,
+                         RETURN,
                          ROWS, WHILE, YIELD, is_T)
 
 KINDS_OF_T = [I1, I8, I32, I32, I32, I64, INDEX, INDEX, ("i", 7), ("i", 128)]
-ODD_TYPES = [("ui", 8), ("si", 32), ("memref", (), I32), ("memref", (None,), I32), ("memref", (4, None), INDEX), ("func", (), ())]
+ODD_TYPES = [("ui", 8), ("si", 32), ("memref", (), I32), ("memref", (None,), I32), ("memref", (4, None), INDEX),
+             ("func", (), ())]
 SYMBOLS = [b"f", b"g", b"h", b"m"]
 UNLISTED = [b"test.a", b"test.b", b"arith.addf", b"func.constant", b"scf.execute_region"]
 
@@ -12,11 +15,16 @@ UNLISTED = [b"test.a", b"test.b", b"arith.addf", b"func.constant", b"scf.execute
 TASTES = {
     "any": ("function*4 declaration nested constant binary unlisted call access",
             "constant*2 binary*3 compare select cast loop branch while_loop alloc access call unlisted*2 unrealized"),
-    "symbols": ("function*3 declaration*3 nested*4 call*2 unlisted*2", "call*5 unlisted*3 nested constant function declaration"),
-    "effects": ("function*2 loop*2 branch*2 while_loop alloc access unlisted", "loop*2 branch*3 while_loop*2 alloc*2 access*5 constant unlisted call binary"),
-    "dead": ("function*2 loop*2 branch*2 while_loop alloc access binary", "loop branch*2 while_loop alloc*2 access*2 constant*3 binary*4 select unrealized unlisted"),
-    "unreached": ("function*4 declaration*2 nested*4 call*2 referring*3", "call*4 referring*3 nested*2 function declaration unlisted"),
-    "constants": ("function*2 constant*3 binary*6 compare*2 select*2 cast*3 branch", "constant*3 binary*9 compare*3 select*3 cast*5 branch loop unlisted"),
+    "symbols": ("function*3 declaration*3 nested*4 call*2 unlisted*2",
+                "call*5 unlisted*3 nested constant function declaration"),
+    "effects": ("function*2 loop*2 branch*2 while_loop alloc access unlisted",
+                "loop*2 branch*3 while_loop*2 alloc*2 access*5 constant unlisted call binary"),
+    "dead": ("function*2 loop*2 branch*2 while_loop alloc access binary",
+             "loop branch*2 while_loop alloc*2 access*2 constant*3 binary*4 select unrealized unlisted"),
+    "unreached": ("function*4 declaration*2 nested*4 call*2 referring*3",
+                  "call*4 referring*3 nested*2 function declaration unlisted"),
+    "constants": ("function*2 constant*3 binary*6 compare*2 select*2 cast*3 branch",
+                  "constant*3 binary*9 compare*3 select*3 cast*5 branch loop unlisted"),
 }
 
 
@@ -57,9 +65,12 @@ class Maker:
         return ("i", self.chance.choice([1, 7, 8, 16, 32, 64, 128]))
 
     def any_attr(self):
-        return self.chance.choice([("unit",), ("str", b"x"), integer(self.chance, I64), integer(self.chance, I8), ("ty", I32), ("sym", (b"f",)),
-                                   ("sym", (b"m", b"f")), ("array", (("sym", (b"g",)), integer(self.chance, I32))), ("overflow", True, False),
-                                   ("dense", I32, (1, 0)), ("dict", ((b"a", ("sym", (b"h",))), (b"b", ("unit",)))), ("ty", ("func", (I32,), ()))])
+        return self.chance.choice([("unit",), ("str", b"x"), integer(self.chance, I64), integer(self.chance, I8),
+                                   ("ty", I32), ("sym", (b"f",)),
+                                   ("sym", (b"m", b"f")), ("array", (("sym", (b"g",)), integer(self.chance, I32))),
+                                   ("overflow", True, False),
+                                   ("dense", I32, (1, 0)), ("dict", ((b"a", ("sym", (b"h",))), (b"b", ("unit",)))),
+                                   ("ty", ("func", (I32,), ()))])
 
     def module(self):
         root = self.numbered(Op(MODULE, regions=[Block()]))
@@ -142,7 +153,8 @@ class Maker:
     def changed(self, name, types, results, props, regions):
         """The parts of an operation with one change."""
         types, results, props, regions = list(types), list(results), dict(props), list(regions)
-        kinds = ["operand", "operand", "more operands", "result", "more results", "extra", "wrong", "wrong", "region", "regions", "args", "args"]
+        kinds = ["operand", "operand", "more operands", "result", "more results", "extra", "wrong", "wrong", "region",
+                 "regions", "args", "args"]
         kind = self.chance.choice(kinds)
         if kind == "operand" and types:
             types[self.chance.randrange(len(types))] = self.any_type()
@@ -166,7 +178,8 @@ class Maker:
             regions = regions[:-1] if regions and self.is_so(0.5) else regions + [None]
         elif kind == "args" and regions:
             place = self.chance.randrange(len(regions))
-            regions[place] = (regions[place] or []) + [self.any_type()] if self.is_so(0.5) else (regions[place] or [])[:-1]
+            regions[place] = (regions[place]
+                              or []) + [self.any_type()] if self.is_so(0.5) else (regions[place] or [])[:-1]
         return types, results, props, regions
 
     # Operations.
@@ -188,7 +201,8 @@ class Maker:
 
     def compare(self, block, seen):
         ty = self.any_T()
-        self.put(block, seen, b"arith.cmpi", [ty, ty], [I1], {b"predicate": ("int", I64, self.chance.randrange(11 if self.is_so(self.wrong) else 10))})
+        self.put(block, seen, b"arith.cmpi", [ty, ty], [I1],
+                 {b"predicate": ("int", I64, self.chance.randrange(11 if self.is_so(self.wrong) else 10))})
 
     def select(self, block, seen):
         ty = self.any_T() if self.is_so(0.8) else self.any_type()
@@ -200,7 +214,8 @@ class Maker:
         if name in INDEX_CASTS:
             one, two = self.chance.choice([(INDEX, two), (one, INDEX)])
         elif not self.is_so(self.wrong):
-            one, two = sorted([("i", 8), self.chance.choice([I1, I32, I64])], key=lambda ty: ty[1], reverse=name == b"arith.trunci")
+            one, two = sorted([("i", 8), self.chance.choice([I1, I32, I64])], key=lambda ty: ty[1], reverse=name
+                              == b"arith.trunci")
         self.put(block, seen, name, [one], [two])
 
     def loop(self, block, seen):
@@ -252,12 +267,14 @@ class Maker:
     def unlisted(self, block, seen):
         types = [self.chance.choice(seen)[1] for _ in range(self.chance.randrange(3)) if seen]
         results = [self.any_type() for _ in range(self.chance.randrange(3))]
-        regions = [self.chance.choice([None, [], [self.any_type()]]) for _ in range(self.chance.choice([0, 0, 0, 1, 2]))]
+        regions = [self.chance.choice([None, [], [self.any_type()]])
+                   for _ in range(self.chance.choice([0, 0, 0, 1, 2]))]
         self.put(block, seen, self.chance.choice(UNLISTED), types, results, {}, regions)
 
     def function_props(self):
         inputs, outputs = ([self.any_T() for _ in range(self.chance.randrange(3))] for _ in range(2))
-        props = {b"function_type": ("ty", ("func", tuple(inputs), tuple(outputs))), b"sym_name": ("str", self.chance.choice(SYMBOLS))}
+        props = {b"function_type": ("ty", ("func", tuple(inputs), tuple(outputs))),
+                 b"sym_name": ("str", self.chance.choice(SYMBOLS))}
         if self.is_so(0.3):
             props[b"sym_visibility"] = ("str", self.chance.choice([b"private", b"nested", b"public"]))
         self.hide(props)
@@ -289,8 +306,10 @@ class Maker:
 
     def referring(self, block, seen):
         """An operation that refers to symbols from its properties and attributes."""
-        here = [self.symbol(), ("array", (self.symbol(), self.symbol())), ("dict", ((b"a", self.symbol()), (b"b", ("array", (self.symbol(),)))))]
-        op = self.put(block, seen, self.chance.choice(UNLISTED), [], [], {b"p": self.chance.choice(here)} if self.is_so(0.5) else {}, [[]] if self.is_so(0.2) else [])
+        here = [self.symbol(), ("array", (self.symbol(), self.symbol())),
+                ("dict", ((b"a", self.symbol()), (b"b", ("array", (self.symbol(),)))))]
+        op = self.put(block, seen, self.chance.choice(UNLISTED), [], [], {b"p": self.chance.choice(here)}
+                      if self.is_so(0.5) else {}, [[]] if self.is_so(0.2) else [])
         op.attrs.update({b"k": self.chance.choice(here)} if self.is_so(0.6) else {})
 
 
@@ -382,7 +401,8 @@ class Scripter:
             return ("int", I64, self.chance.randrange(10))
         if key == b"function_type":
             block = op.regions[0] if op.regions else None
-            return ("ty", ("func", tuple(block.args if block else ()), tuple(self.chance.choice(KINDS_OF_T) for _ in range(self.chance.randrange(2)))))
+            return ("ty", ("func", tuple(block.args if block else ()),
+                           tuple(self.chance.choice(KINDS_OF_T) for _ in range(self.chance.randrange(2)))))
         return maker.any_attr()
 
     def keyed(self):
@@ -406,15 +426,22 @@ class Scripter:
         ty = self.run.module.type_of(value) or I32
         used, shown = value_text(value), printing.type_text(ty)
         T = self.chance.choice(KINDS_OF_T)
-        constant = f'"arith.constant"() <{{value = {printing.attr_text(integer(self.chance, T))}}}> : () -> {printing.type_text(T)}'
+        constant = (f'"arith.constant"() <{{value = {printing.attr_text(integer(self.chance, T))}}}> : () -> '
+                    f'{printing.type_text(T)}')
         return self.chance.choice([
-            constant, f'%0 = {constant}', f'"test.u"({used}) : ({shown}) -> ()', f'%r = "arith.addi"({used}, {used}) : ({shown}, {shown}) -> {shown}',
-            f'%r:2 = "test.r"({used}) ({{}}, {{ ^bb0(%x: {shown}): "test.u"(%x, {used}) : ({shown}, {shown}) -> () }}) : ({shown}) -> (i32, {shown})',
+            constant, f'%0 = {constant}', f'"test.u"({used}) : ({shown}) -> ()',
+            f'%r = "arith.addi"({used}, {used}) : ({shown}, {shown}) -> {shown}',
+            f'%r:2 = "test.r"({used}) ({{}}, '
+            f'{{ ^bb0(%x: {shown}): "test.u"(%x, {used}) : ({shown}, {shown}) -> () }}) : ({shown}) -> (i32, {shown})',
             f'"arith.muli"({used}, {used}) : ({shown}, {shown}) -> {shown}',
-            f'"func.func"() <{{function_type = () -> (), sym_name = "{self.chance.choice("fgh")}"}}> ({{ "func.return"() : () -> () }}) : () -> ()',
-            f'"func.call"({used}) <{{callee = @{self.chance.choice("fgh")}}}> : ({shown}) -> ()', '"memref.alloc"() : () -> memref<i32>',
-            f'"builtin.module"() <{{sym_name = "{self.chance.choice("fm")}"}}> ({{ ^bb0: }}) : () -> ()', '"test.a"() {k = @f, l = @m::@f} : () -> ()',
-            f'"scf.if"({used}) ({{ %i = {constant} "scf.yield"() : () -> () }}, {{}}) : ({shown}) -> ()', f'"test.bad"({used}) : (i9) -> ()',
+            f'"func.func"() <{{function_type = () -> (), sym_name = "{self.chance.choice("fgh")}"}}> '
+            f'({{ "func.return"() : () -> () }}) : () -> ()',
+            f'"func.call"({used}) <{{callee = @{self.chance.choice("fgh")}}}> : ({shown}) -> ()',
+            '"memref.alloc"() : () -> memref<i32>',
+            f'"builtin.module"() <{{sym_name = "{self.chance.choice("fm")}"}}> ({{ ^bb0: }}) : () -> ()',
+            '"test.a"() {k = @f, l = @m::@f} : () -> ()',
+            f'"scf.if"({used}) ({{ %i = {constant} "scf.yield"() : () -> () }}, {{}}) : ({shown}) -> ()',
+            f'"test.bad"({used}) : (i9) -> ()',
             f'"builtin.module"() ({{ "test.u"({used}) : ({shown}) -> () }}) : () -> ()'])
 
     def insert(self):
@@ -424,11 +451,13 @@ class Scripter:
         return "sweep"
 
     def edit(self):
-        return self.chance.choice([self.set_operand] * 4 + [self.erase] * 3 + [self.move] * 3 + [self.replace] * 2 + [self.set_attr] * 3
+        return self.chance.choice([self.set_operand] * 4 + [self.erase] * 3 + [self.move] * 3 + [self.replace] * 2
+                                  + [self.set_attr] * 3
                                   + [self.drop_attr, self.insert, self.insert, self.insert, self.sweep])()
 
     def mark(self):
-        words = ["begin", "begin", "commit", "rollback", "rollback"] if self.run.marks else ["begin"] * 6 + ["commit", "rollback"]
+        words = ["begin", "begin", "commit", "rollback",
+                 "rollback"] if self.run.marks else ["begin"] * 6 + ["commit", "rollback"]
         return self.chance.choice(words)
 
     def edit_or_mark(self):
@@ -436,8 +465,8 @@ class Scripter:
 
 
 def commands(chance, text, count, make):
-    """A script over a module, of commands that a call of `Scripter` makes; marks that are open are closed in the end, most of
-    the time."""
+    """A script over a module, of commands that a call of `Scripter` makes; marks that are open are closed in the end,
+    most of the time."""
     from . import script
     run, lines = script.Run(script.read(text)), []
     scripter = Scripter(chance, run)

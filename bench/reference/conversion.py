@@ -16,16 +16,19 @@ class Refused(Exception):
 
 class Target:
     def __init__(self, is_full, legal=(), illegal=(), dynamic=(), rules=(), depth=MOST_DEPTH):
-        self.is_full, self.legal, self.illegal, self.dynamic, self.rules, self.depth = is_full, legal, illegal, dynamic, rules, depth
+        self.is_full, self.legal, self.illegal, self.dynamic, self.rules, self.depth = (
+            is_full, legal, illegal, dynamic, rules, depth)
         names = [*legal, *illegal, *dynamic]
-        if len(set(names)) < len(names) or CAST in names or any(rule not in RULES for rule in rules) or not 1 <= depth <= MOST_DEPTH:
+        if (len(set(names)) < len(names) or CAST in names or any(rule not in RULES for rule in rules)
+                or not 1 <= depth <= MOST_DEPTH):
             raise Refused(54)
 
     def is_legal(self, module, op):
         if op.name == CAST or op.name in self.legal:
             return True
         if op.name in self.dynamic:
-            types = [module.type_of(value) for value in op.operands] + op.results + [ty for block in op.blocks() for ty in block.args]
+            types = [module.type_of(value)
+                     for value in op.operands] + op.results + [ty for block in op.blocks() for ty in block.args]
             return INDEX not in types
         return not self.is_full and op.name not in self.illegal
 

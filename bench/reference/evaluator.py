@@ -1,4 +1,5 @@
-"""Runs functions of arith and scf on numbers: what they hand back, and what operations without a meaning saw on the way.
+"""Runs functions of arith and scf on numbers: what they hand back, and what operations without a meaning saw on the
+way.
 
 It shares nothing with the folds and the rules: arithmetic is written out here once more, from the documents of the
 dialects. A value is a number below 2^w, or None where the documents leave it undefined (a quotient by 0, a shift by too
@@ -62,12 +63,14 @@ def binary(word, width, a, b):
         return shifted(width, a, b, word)
     if word in ("maxsi", "minsi"):
         return (max if word == "maxsi" else min)(a, b, key=lambda it: by_sign(it, width))
-    return {"addi": a + b, "subi": a - b, "muli": a * b, "andi": a & b, "ori": a | b, "xori": a ^ b, "maxui": max(a, b), "minui": min(a, b)}[word]
+    return {"addi": a + b, "subi": a - b, "muli": a * b, "andi": a & b, "ori": a | b, "xori": a ^ b, "maxui": max(a, b),
+            "minui": min(a, b)}[word]
 
 
 def compared(predicate, width, a, b):
     x, y = by_sign(a, width), by_sign(b, width)
-    return int({0: a == b, 1: a != b, 2: x < y, 3: x <= y, 4: x > y, 5: x >= y, 6: a < b, 7: a <= b, 8: a > b, 9: a >= b}[predicate])
+    return int({0: a == b, 1: a != b, 2: x < y, 3: x <= y, 4: x > y, 5: x >= y, 6: a < b, 7: a <= b, 8: a > b, 9: a
+                >= b}[predicate])
 
 
 class Machine:
@@ -174,8 +177,8 @@ class Machine:
 
 
 def outcome(module, symbol, arguments, fuel=FUEL):
-    """What a function hands back and what was seen on the way; none where the documents don't say, or where it takes too
-    long."""
+    """What a function hands back and what was seen on the way; none where the documents don't say, or where it takes
+    too long."""
     machine = Machine(module, fuel)
     function = next(op for op in walk(module.root) if op.props.get(b"sym_name") == ("str", symbol))
     try:

@@ -1,8 +1,9 @@
 """The events that each command of a script tells, and runs with listeners that go by them.
 
-A listener is told by a word: a kind, as `uses`; `uses:2`, which turns stale where it has to look more often than twice at an event;
-`additions`, which counts them; `stale:3`, which turns stale at the third event that it hears; `hears:EVENTS`, which is to hear these, `+`
-between them, turns stale at any other, and can't begin again. An event is written in words that `_` joins."""
+A listener is told by a word: a kind, as `uses`; `uses:2`, which turns stale where it has to look more often than twice
+at an event; `additions`, which counts them; `stale:3`, which turns stale at the third event that it hears;
+`hears:EVENTS`, which is to hear these, `+` between them, turns stale at any other, and can't begin again. An event is
+written in words that `_` joins."""
 from . import edits
 from .analyses import unreached_ops
 from .module import Module, read_op, value_text, walk
@@ -54,7 +55,8 @@ def last_in(module, number):
 
 
 def bare_events(word, module, number, fresh):
-    """The puts of an operation and those inside it, in pre-order: each is then the last of its block, but for the first."""
+    """The puts of an operation and those inside it, in pre-order: each is then the last of its block, but for the
+    first."""
     ops = list(walk(module.ops()[number]))
     places = [standing(module, number)] + [last_in(module, op.id) for op in ops[1:]]
     return [(word, f"#{op.id}", place_text(place), fresh) for op, place in zip(ops, places)]
@@ -160,7 +162,8 @@ class Heard(Run):
 
     def replace(self, text):
         old, new = map(value_of, text.split())
-        uses = [(op.id, place) for op in walk(self.module.root) for place, value in enumerate(op.operands) if value == old]
+        uses = [(op.id, place) for op in walk(self.module.root) for place, value in enumerate(op.operands) if value
+                == old]
         if old != new and len(uses) > 1:
             raise Unsaid
         super().replace(text)
@@ -180,7 +183,8 @@ class Heard(Run):
         except edits.Refused as fault:
             if fault.number == 23:
                 words, rest = cut_place(text)
-                told = puts_before_unseen(before, edits.resolved(before, words), read_op(rest.encode("latin-1"), before))
+                told = puts_before_unseen(before, edits.resolved(before, words),
+                                          read_op(rest.encode("latin-1"), before))
                 self.tell(told, False)
                 self.tell_back(told)
             raise

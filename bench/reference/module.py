@@ -26,7 +26,8 @@ class Op:
     def copy(self):
         """A copy; types and attributes can't be changed, so they are shared."""
         made = Op(self.name, self.operands, self.results, self.props, self.attrs)
-        made.id, made.regions = self.id, [block and Block(block.args, [op.copy() for op in block.ops]) for block in self.regions]
+        made.id, made.regions = self.id, [block and Block(block.args, [op.copy() for op in block.ops])
+                                          for block in self.regions]
         return made
 
     def blocks(self):
@@ -45,7 +46,8 @@ def walk(op):
 
 
 class Where:
-    """Where an operation stands: the operation around it, the number of the region, and how many stand in front of it."""
+    """Where an operation stands: the operation around it, the number of the region, and how many stand in front of
+    it."""
 
     def __init__(self, parent, region, index):
         self.parent, self.region, self.index = parent, region, index

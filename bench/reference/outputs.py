@@ -1,7 +1,8 @@
-"""Whether what a run wrote is an output where memory was refused, wherever and however often: line by line, as it stands there.
+"""Whether what a run wrote is an output where memory was refused, wherever and however often: line by line, as it
+stands there.
 
-A command that isn't accepted leaves the module. A listener is stale only behind an event, or behind a `resync` that was refused;
-else its rows are those of the module. What takes no memory is never refused for want of it."""
+A command that isn't accepted leaves the module. A listener is stale only behind an event, or behind a `resync` that was
+refused; else its rows are those of the module. What takes no memory is never refused for want of it."""
 import collections
 
 from .analyses import ANALYSES
@@ -52,7 +53,8 @@ class Rules:
 
 
 class Follower:
-    """Follows what a run wrote. `faults` has what was refused, and how often; what is stale is found where it is told."""
+    """Follows what a run wrote. `faults` has what was refused, and how often; what is stale is found where it is
+    told."""
 
     def __init__(self, rules, out, brief, boxes):
         self.rules, self.rest, self.brief = rules, out, brief
@@ -97,7 +99,8 @@ class Follower:
         return not is_free and not any(f" refused {number} " in reply for number in (41, 60))
 
     def reply(self, count, line):
-        """Passes the reply to a line; says whether a listing follows, and whether the listeners were told of something."""
+        """Passes the reply to a line; says whether a listing follows, and whether the listeners were told of
+        something."""
         word, kind = (line.split()[0], line.split()[-1]) if line else ("", "")
         due, is_listed, behind = self.rules.answer(self.state, line)
         accepts = not due.startswith(" refused ")
@@ -159,7 +162,8 @@ class Follower:
 
 
 def followed(rules, lines, brief, boxes, status, out, calm=None):
-    """What was refused, and how often, where a status and what was written are an output of some lines; raises `NoOutput`."""
+    """What was refused, and how often, where a status and what was written are an output of some lines; raises
+    `NoOutput`."""
     if (status, out) in ((2, b""), (3, b"module refused 36 Memory\n")):
         return collections.Counter({"no memory in main" if status == 2 else "module": 1})
     it = Follower(rules, out.decode(), brief, boxes)

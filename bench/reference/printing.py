@@ -61,7 +61,8 @@ def attr_text(attr):
 
 
 def entries_text(entries):
-    return "{" + ", ".join(key_text(key) + ("" if it == ("unit",) else " = " + attr_text(it)) for key, it in sorted(entries)) + "}"
+    return "{" + ", ".join(key_text(key) + ("" if it == ("unit",) else " = " + attr_text(it)) for key,
+                           it in sorted(entries)) + "}"
 
 
 class Printer:

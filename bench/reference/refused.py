@@ -11,8 +11,8 @@ REFUSED = " refused 36 Memory\n"
 
 
 class Once(Run):
-    """A run in which one allocation is refused at a command: the command itself, a listener that is told, or a part of the
-    listing. `fault` is a word and perhaps a kind."""
+    """A run in which one allocation is refused at a command: the command itself, a listener that is told, or a part of
+    the listing. `fault` is a word and perhaps a kind."""
 
     def __init__(self, module, boxes, commands):
         super().__init__(module, boxes, commands)
@@ -83,7 +83,8 @@ class Once(Run):
 
 
 def runs(here, lines, brief, faults):
-    """Each output from a state on, with one of some faults somewhere or, where there are none, without; with its fault."""
+    """Each output from a state on, with one of some faults somewhere or, where there are none, without; with its
+    fault."""
     fresh, out, found, first = here, [], {}, here.state()
     for place, line in enumerate(lines):
         out.append(fresh.step(place + 1, line, None, brief))
@@ -118,7 +119,8 @@ def explained(text, brief, boxes=BOXES, commands=ALL):
     def add(outputs, front, words):
         for out, fault in outputs.items():
             whole = front + out
-            found.setdefault((status_of(whole), whole.encode()), words or " at ".join(filter(None, (fault[0], fault[1].split(" ")[0]))))
+            found.setdefault((status_of(whole), whole.encode()), words
+                             or " at ".join(filter(None, (fault[0], fault[1].split(" ")[0]))))
 
     def made(kinds):
         return Once(read(module), kinds, commands)

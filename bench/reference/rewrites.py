@@ -94,8 +94,8 @@ class Site:
         where.ops().pop(where.index)
 
     def open(self, ops, values):
-        """Shifts the operations of a block but its last in front of x, and makes x's results these values, read once the
-        operations stand there."""
+        """Shifts the operations of a block but its last in front of x, and makes x's results these values, read once
+        the operations stand there."""
         last = ops.pop()
         where = self.module.places()[self.x.id]
         where.ops()[where.index:where.index] = ops
@@ -411,8 +411,10 @@ def thirty(site):
     site.results_are([cast_out(site, ("v", branch.id, place), ty) for place, ty in enumerate(x.results)])
 
 
-RULES = [one, two, three, four, five, six, seven, eight, nine, ten, eleven, twelve, thirteen, fourteen, fifteen, sixteen, seventeen, eighteen,
-         nineteen, twenty, twenty_one, twenty_two, twenty_three, twenty_four, twenty_five, twenty_six, twenty_seven, twenty_eight, twenty_nine, thirty]
+RULES = [one, two, three, four, five, six, seven, eight, nine, ten, eleven, twelve, thirteen, fourteen, fifteen,
+         sixteen, seventeen, eighteen,
+         nineteen, twenty, twenty_one, twenty_two, twenty_three, twenty_four, twenty_five, twenty_six, twenty_seven,
+         twenty_eight, twenty_nine, thirty]
 
 
 def is_clean(module, number):

@@ -18,11 +18,14 @@ MOST_ITEMS = 256
 MOST_REGIONS = 16
 MOST_MAGNITUDE = 2**128 - 1
 
-WORDS = {1: "BadToken", 2: "Unexpected", 3: "UnknownValue", 4: "Redefined", 5: "TypeMismatch", 6: "BadWidth", 7: "BadValue",
-         8: "MultipleBlocks", 9: "Successors", 10: "TooDeep", 11: "TooMany", 12: "DuplicateKey", 13: "LeftOut", 14: "NotUtf8",
+WORDS = {1: "BadToken", 2: "Unexpected", 3: "UnknownValue", 4: "Redefined", 5: "TypeMismatch", 6: "BadWidth",
+         7: "BadValue",
+         8: "MultipleBlocks", 9: "Successors", 10: "TooDeep", 11: "TooMany", 12: "DuplicateKey", 13: "LeftOut",
+         14: "NotUtf8",
          32: "IdsExhausted"}
 
-ROWS = {b"builtin.module": b"sym_name sym_visibility", b"func.func": b"function_type sym_name sym_visibility arg_attrs res_attrs",
+ROWS = {b"builtin.module": b"sym_name sym_visibility",
+        b"func.func": b"function_type sym_name sym_visibility arg_attrs res_attrs",
         b"func.call": b"callee arg_attrs res_attrs", b"arith.constant": b"value", b"arith.cmpi": b"predicate",
         b"memref.alloc": b"operandSegmentSizes alignment", b"memref.load": b"nontemporal alignment",
         b"memref.store": b"nontemporal alignment"}
@@ -508,7 +511,8 @@ class Reader:
         def output(at):
             it = self.look(at)
             if count[0] == MOST_ITEMS:
-                good = it.is_mark(b"(") or it.kind == "bare" and (it.text in (b"index", b"memref") or INTEGER.match(it.text) and self.is_good(it))
+                good = it.is_mark(b"(") or it.kind == "bare" and (
+                    it.text in (b"index", b"memref") or INTEGER.match(it.text) and self.is_good(it))
                 if good:
                     raise Refused(11, it.start)
                 if it.kind in ("bare", "bang", "hash", "float"):

@@ -5,9 +5,12 @@ from . import conversion, edits, rewrites
 from .analyses import ANALYSES, KINDS, unreached_ops
 from .module import printing, read, read_attr, read_op, rules, text_of
 
-WORDS = {20: "NoSuchOp", 21: "NoSuchValue", 22: "HasUses", 23: "NotVisible", 24: "TypeDiffers", 25: "NoSuchIndex", 26: "NoSuchKey",
-         27: "IntoItself", 28: "OtherTable", 29: "IsRoot", 30: "NotEmpty", 31: "Full", 32: "IdsExhausted", 33: "TooDeepHere",
-         34: "TooManyMarks", 35: "NoMark", 36: "Memory", 40: "Stale", 41: "NoSuchKind", 50: "BadLimit", 51: "NotLegalised", 52: "ChainTooDeep", 53: "Unreconciled",
+WORDS = {20: "NoSuchOp", 21: "NoSuchValue", 22: "HasUses", 23: "NotVisible", 24: "TypeDiffers", 25: "NoSuchIndex",
+         26: "NoSuchKey",
+         27: "IntoItself", 28: "OtherTable", 29: "IsRoot", 30: "NotEmpty", 31: "Full", 32: "IdsExhausted",
+         33: "TooDeepHere",
+         34: "TooManyMarks", 35: "NoMark", 36: "Memory", 40: "Stale", 41: "NoSuchKind", 50: "BadLimit",
+         51: "NotLegalised", 52: "ChainTooDeep", 53: "Unreconciled",
          54: "BadTarget", 60: "BadCommand"}
 BOXES = tuple(KINDS.values())
 KIND_WORDS = {KINDS.get(kind, f"kind{kind}") for kind in range(256)}

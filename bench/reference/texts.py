@@ -4,13 +4,18 @@ import re
 
 TOKEN = re.compile(rb'"(?:[^"\\\n]|\\.)*"|[%@^#!]?[A-Za-z0-9_$.]+|->|::|.', re.S)
 
-NAMES = [b"t", b"func.func", b"builtin.module", b"arith.addi", b"arith.constant", b"scf.for", b"func.call", b"memref.load", b"a b", b"x"]
-KEYS = [b"a", b"b", b"value", b"sym_name", b"overflowFlags", b"callee", b'"c d"', b'"a"', b"alignment", b"_x.y$z", b"true", b"i8"]
-TYPES = [b"i1", b"i8", b"i32", b"i64", b"index", b"si8", b"ui8", b"ui64", b"si1", b"i7", b"memref<i8>", b"memref<?x4xindex>", b"() -> ()",
+NAMES = [b"t", b"func.func", b"builtin.module", b"arith.addi", b"arith.constant", b"scf.for", b"func.call",
+         b"memref.load", b"a b", b"x"]
+KEYS = [b"a", b"b", b"value", b"sym_name", b"overflowFlags", b"callee", b'"c d"', b'"a"', b"alignment", b"_x.y$z",
+        b"true", b"i8"]
+TYPES = [b"i1", b"i8", b"i32", b"i64", b"index", b"si8", b"ui8", b"ui64", b"si1", b"i7", b"memref<i8>",
+         b"memref<?x4xindex>", b"() -> ()",
          b"(i8) -> i1", b"(i1, index) -> (i8, () -> ())", b"memref<0x07x?xui3>", b"i128", b"si65", b"ui127"]
 BLANKS = [b" ", b"", b"\n", b"  ", b"\t", b"// c\n", b" //\n"]
-PIECES = [b"(", b")", b"{", b"}", b"[", b"]", b"<", b">", b",", b"=", b":", b"::", b"->", b"-", b"?", b"*", b"%a", b"%b#1", b"^a", b"#b", b"!c", b"@d",
-          b"1", b"0x1F", b"1.5", b"a", b"i8", b"i0", b"f32", b"true", b"unit", b"array", b"loc", b'"s"', b'"\\q"', b'"', b"$", b"\n", b"%v1.0", b"memref",
+PIECES = [b"(", b")", b"{", b"}", b"[", b"]", b"<", b">", b",", b"=", b":", b"::", b"->", b"-", b"?", b"*", b"%a",
+          b"%b#1", b"^a", b"#b", b"!c", b"@d",
+          b"1", b"0x1F", b"1.5", b"a", b"i8", b"i0", b"f32", b"true", b"unit", b"array", b"loc", b'"s"', b'"\\q"', b'"',
+          b"$", b"\n", b"%v1.0", b"memref",
           b"\xC3\xA4", b"\xFF", b"//", b"99999999999999999999", b"#1", b"#0", b":2", b"none", b"nsw", b"256", b"-129"]
 
 
@@ -31,12 +36,14 @@ def entries(chance, depth, apart=()):
 
 
 def number(chance):
-    value = chance.choice([0, 1, 2, 7, 127, 128, 255, 256, 2**31, 2**32 - 1, 2**63 - 1, 2**63, 2**64 - 1, 2**64, 2**127, 2**128 - 1, chance.randrange(200)])
+    value = chance.choice([0, 1, 2, 7, 127, 128, 255, 256, 2**31, 2**32 - 1, 2**63 - 1, 2**63, 2**64 - 1, 2**64, 2**127,
+                           2**128 - 1, chance.randrange(200)])
     return chance.choice([b"", b"", b"-"]) + (b"%d" % value if chance.random() < 0.8 else b"0x%x" % value)
 
 
 def string(chance):
-    return b'"' + b"".join(chance.choice([b"a", b"b", b" ", b"\\n", b"\\00", b"\\ff", b"\\\\", b'\\"', b"\t", b"\xC3\xA4", b"~", b"`"])
+    return b'"' + b"".join(chance.choice([b"a", b"b", b" ", b"\\n", b"\\00", b"\\ff", b"\\\\", b'\\"', b"\t",
+                                          b"\xC3\xA4", b"~", b"`"])
                            for _ in range(chance.randrange(4))) + b'"'
 
 
@@ -45,7 +52,9 @@ def attr(chance, depth):
     kind = chance.randrange(14 if depth else 10)
     if kind < 3:
         value = chance.choice([0, 1, 2, 7, 100])
-        return b"%d" % value if kind == 0 else b"%s : %s" % (number(chance), chance.choice([b"i64", b"i8", b"index", b"ui8", b"si8", b"i32", b"ui64", b"i128", b"si128"]))
+        return b"%d" % value if kind == 0 else b"%s : %s" % (
+            number(chance), chance.choice([b"i64", b"i8", b"index", b"ui8", b"si8", b"i32", b"ui64", b"i128",
+                                           b"si128"]))
     if kind == 3:
         return string(chance)
     if kind == 4:
@@ -53,12 +62,14 @@ def attr(chance, depth):
     if kind == 5:
         return chance.choice([b"true", b"false", b"unit"])
     if kind == 6:
-        return b"::".join(b"@" + chance.choice([b"f", b"g.h", b"0", b'"k l"', b'"m"']) for _ in range(chance.randrange(1, 4)))
+        return b"::".join(b"@" + chance.choice([b"f", b"g.h", b"0", b'"k l"', b'"m"'])
+                          for _ in range(chance.randrange(1, 4)))
     if kind == 7:
         return b"#arith.overflow<" + chance.choice([b"none", b"nsw", b"nuw", b"nsw, nuw", b"nuw,nsw"]) + b">"
     if kind < 10:
         items = listing(chance, 3, lambda: b"%d" % chance.choice([0, 1, -1]))
-        return b"array<" + chance.choice([b"i1", b"i8", b"i16", b"i32", b"i64"]) + (b": " + items if items else b"") + b">"
+        return b"array<" + chance.choice([b"i1", b"i8", b"i16", b"i32",
+                                          b"i64"]) + (b": " + items if items else b"") + b">"
     if kind < 12:
         return b"[" + listing(chance, 3, inner) + b"]"
     return entries(chance, depth - 1)[1]
@@ -97,7 +108,8 @@ class Maker:
             text += blank(chance) + entries(chance, 2, keys)[1]
         outs = [ty for _, _, types in results for ty in types]
         plain = len(outs) == 1 and not outs[0].startswith(b"(") and chance.random() < 0.7
-        text += b" : (" + b", ".join(ty for _, ty in operands) + b") -> " + (outs[0] if plain else b"(" + b", ".join(outs) + b")")
+        text += b" : (" + b", ".join(ty for _,
+                                     ty in operands) + b") -> " + (outs[0] if plain else b"(" + b", ".join(outs) + b")")
         for name, count, types in results:
             for k, ty in enumerate(types):
                 seen.append((name + (b"#%d" % k if count and count > 1 and (k or chance.random() < 0.5) else b""), ty))
@@ -120,9 +132,11 @@ class Maker:
             return b"{}"
         if chance.random() < 0.5:
             args = [(self.fresh(), chance.choice(TYPES)) for _ in range(chance.randrange(3))]
-            text += b"^bb" + (b"(" + b", ".join(name + b": " + ty for name, ty in args) + b")" if args else b"") + b":" + blank(chance)
+            text += b"^bb" + (b"(" + b", ".join(name + b": " + ty for name, ty in args) + b")" if args
+                              else b"") + b":" + blank(chance)
             seen += args
-        return text + blank(chance).join(self.op(seen, depth - 1) for _ in range(chance.randrange(3))) + blank(chance) + b"}"
+        return text + blank(chance).join(self.op(seen, depth - 1)
+                                         for _ in range(chance.randrange(3))) + blank(chance) + b"}"
 
 
 def source(chance):

@@ -1,23 +1,30 @@
-"""For each listed operation a module in which it is right, and all modules that differ from it by one change of a kind."""
+"""For each listed operation a module in which it is right, and all modules that differ from it by one change of a
+kind."""
 from .module import I1, I32, I64, INDEX, Block, Module, Op, number_from, read, rules, text_of, walk
 from .operations import BINARY, EXTENSIONS, INDEX_CASTS, ROWS
 
 TYPES = [I1, I32, I64, INDEX, ("ui", 32), ("memref", (), I32), ("memref", (None, 4), INDEX)]
 ALL = '%d:7 = "test.d"() : () -> (i1, i32, i64, index, ui32, memref<i32>, memref<?x4xindex>)\n'
-ATTRS = [("int", I32, 1), ("int", I64, 9), ("int", I64, 10), ("int", ("ui", 32), 1), ("str", b"private"), ("str", b"x"), ("ty", ("func", (), ())), ("ty", I32),
-         ("sym", (b"f",)), ("sym", (b"f", b"g")), ("dense", I32, (0, 0)), ("dense", I64, (0, 0)), ("overflow", True, False), ("unit",)]
-TERMINATORS = [(b"func.return", []), (b"scf.yield", []), (b"scf.yield", [I32]), (b"scf.condition", [I1]), (b"scf.condition", [I1, I32]), (b"test.a", []),
+ATTRS = [("int", I32, 1), ("int", I64, 9), ("int", I64, 10), ("int", ("ui", 32), 1), ("str", b"private"), ("str", b"x"),
+         ("ty", ("func", (), ())), ("ty", I32),
+         ("sym", (b"f",)), ("sym", (b"f", b"g")), ("dense", I32, (0, 0)), ("dense", I64, (0, 0)),
+         ("overflow", True, False), ("unit",)]
+TERMINATORS = [(b"func.return", []), (b"scf.yield", []), (b"scf.yield", [I32]), (b"scf.condition", [I1]),
+               (b"scf.condition", [I1, I32]), (b"test.a", []),
                (b"func.return", [I64]), (b"scf.condition", [])]
 
 
 def function(body, ty="() -> ()", args="", last='"func.return"() : () -> ()\n'):
-    return f'"func.func"() <{{function_type = {ty}, sym_name = "f"}}> ({{\n^bb0{args}:\n{ALL}{body}{last}}}) : () -> ()\n'
+    return (f'"func.func"() <{{function_type = {ty}, sym_name = "f"}}> ({{\n^bb0{args}:\n{ALL}{body}{last}}}) : () -> '
+            f'()\n')
 
 
 YIELD = '"scf.yield"(%d#1) : (i32) -> ()\n'
-FOR = f'%r = "scf.for"(%d#3, %d#3, %d#3, %d#1) ({{\n^bb0(%k: index, %x: i32):\n{YIELD}}}) : (index, index, index, i32) -> i32\n'
+FOR = (f'%r = "scf.for"(%d#3, %d#3, %d#3, %d#1) ({{\n^bb0(%k: index, %x: i32):\n{YIELD}}}) : (index, index, index, '
+       f'i32) -> i32\n')
 IF = f'%r = "scf.if"(%d#0) ({{\n{YIELD}}}, {{\n{YIELD}}}) : (i1) -> i32\n'
-WHILE = (f'%r = "scf.while"(%d#2) ({{\n^bb0(%x: i64):\n"scf.condition"(%d#0, %d#1) : (i1, i32) -> ()\n}}, {{\n^bb0(%y: i32):\n"scf.yield"(%d#2) : (i64) -> ()\n}})'
+WHILE = (f'%r = "scf.while"(%d#2) ({{\n^bb0(%x: i64):\n"scf.condition"(%d#0, %d#1) : (i1, i32) -> ()\n}}, '
+         f'{{\n^bb0(%y: i32):\n"scf.yield"(%d#2) : (i64) -> ()\n}})'
          ' : (i64) -> i32\n')
 RIGHT = {
     "builtin.module": ALL + '"builtin.module"() <{sym_name = "m"}> ({\n"test.a"() : () -> ()\n}) : () -> ()\n',
@@ -31,7 +38,8 @@ RIGHT = {
     "arith.trunci": ALL + '%r = "arith.trunci"(%d#2) <{overflowFlags = #arith.overflow<nsw>}> : (i64) -> i32\n',
     "scf.for": ALL + FOR, "scf.if": ALL + IF, "scf.while": ALL + WHILE,
     "scf.yield": function(FOR), "scf.condition": ALL + WHILE,
-    "memref.alloc": ALL + '%r = "memref.alloc"(%d#3) <{operandSegmentSizes = array<i32: 1, 0>}> : (index) -> memref<?x4xi32>\n',
+    "memref.alloc": ALL + '%r = "memref.alloc"(%d#3) <{operandSegmentSizes = array<i32: 1, 0>}> : (index) -> '
+                          'memref<?x4xi32>\n',
     "memref.dealloc": ALL + '"memref.dealloc"(%d#6) : (memref<?x4xindex>) -> ()\n',
     "memref.load": ALL + '%r = "memref.load"(%d#6, %d#3, %d#3) : (memref<?x4xindex>, index, index) -> index\n',
     "memref.store": ALL + '"memref.store"(%d#1, %d#5) : (i32, memref<i32>) -> ()\n',
@@ -44,12 +52,18 @@ for name in sorted(EXTENSIONS):
     RIGHT[name.decode()] = ALL + f'%r = "{name.decode()}"(%d#1) : (i32) -> i64\n'
 for name in sorted(INDEX_CASTS):
     RIGHT[name.decode()] = ALL + f'%r = "{name.decode()}"(%d#1) : (i32) -> index\n'
-PARENTS = [ALL + "X", function("X"), ALL + '"test.r"() ({\nX}) : () -> ()\n', ALL + f'"scf.if"(%d#0) ({{\nX"scf.yield"() : () -> ()\n}}, {{}}) : (i1) -> ()\n',
-           ALL + '"test.r"() ({\nX"test.a"() : () -> ()\n}) : () -> ()\n', '"builtin.module"() ({\n' + ALL + "X}) : () -> ()\n",
-           ALL + '"scf.while"() ({\nX}, {\nX}) : () -> ()\n', ALL + '"scf.if"(%d#0) ({\nX}, {\nX}) : (i1) -> ()\n', function("X", last="")]
-SINGLE = ['"func.return"() : () -> ()\n', '"scf.yield"() : () -> ()\n', '"scf.condition"(%d#0) : (i1) -> ()\n', '"scf.yield"(%d#1) : (i32) -> ()\n',
-          '"func.func"() <{function_type = () -> (), sym_name = "g", sym_visibility = "private"}> ({}) : () -> ()\n', '"arith.addf"() : () -> ()\n',
-          '"arith.constant"() <{value = true}> : () -> i1\n', '"func.func"() <{sym_name = "g"}> ({}) : () -> ()\n', '"builtin.module"() ({\n^bb0:\n}) : () -> ()\n']
+PARENTS = [ALL + "X", function("X"), ALL + '"test.r"() ({\nX}) : () -> ()\n', ALL
+           + f'"scf.if"(%d#0) ({{\nX"scf.yield"() : () -> ()\n}}, {{}}) : (i1) -> ()\n',
+           ALL + '"test.r"() ({\nX"test.a"() : () -> ()\n}) : () -> ()\n', '"builtin.module"() ({\n' + ALL
+           + "X}) : () -> ()\n",
+           ALL + '"scf.while"() ({\nX}, {\nX}) : () -> ()\n', ALL + '"scf.if"(%d#0) ({\nX}, {\nX}) : (i1) -> ()\n',
+           function("X", last="")]
+SINGLE = ['"func.return"() : () -> ()\n', '"scf.yield"() : () -> ()\n', '"scf.condition"(%d#0) : (i1) -> ()\n',
+          '"scf.yield"(%d#1) : (i32) -> ()\n',
+          '"func.func"() <{function_type = () -> (), sym_name = "g", sym_visibility = "private"}> ({}) : () -> ()\n',
+          '"arith.addf"() : () -> ()\n',
+          '"arith.constant"() <{value = true}> : () -> i1\n', '"func.func"() <{sym_name = "g"}> ({}) : () -> ()\n',
+          '"builtin.module"() ({\n^bb0:\n}) : () -> ()\n']
 
 
 class Varied:

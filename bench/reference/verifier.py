@@ -164,7 +164,8 @@ def breaks_width(here):
 
 
 def wanted_of_terminator(here):
-    """The types that the parent wants of a terminator's operands, and the rule that says so; none where no rule does."""
+    """The types that the parent wants of a terminator's operands, and the rule that says so; none where no rule
+    does."""
     op, parent = here.op, here.parent
     if parent is None or not here.where.is_last() or parent.name not in here.row.parents or basic(here.at(parent)):
         return None
@@ -211,7 +212,8 @@ def others(here):
         found.add(20)
     if op.name == IF and op.results and op.regions[1] is None:
         found.add(21)
-    if op.name == FUNC and op.regions[0] is None and op.props.get(b"sym_visibility", ("str", b"public"))[1] == b"public":
+    visibility = op.props.get(b"sym_visibility", ("str", b"public"))
+    if op.name == FUNC and op.regions[0] is None and visibility[1] == b"public":
         found.add(22)
     if breaks_segments(op):
         found.add(24)

@@ -1,8 +1,8 @@
 #!/usr/bin/env python3
-"""Times a `set-operand` of a script that makes a chain of 1,000 known values known anew, through a built program, listings off:
-the first operand of the first sum is set, and each value is known by the one before it. Microseconds of processor time for a
-command and for a link of the chain, with no listener, with that of constants alone and with all seven, as bench/times/commands.py
-takes them.
+"""Times a `set-operand` of a script that makes a chain of 1,000 known values known anew, through a built program,
+listings off: the first operand of the first sum is set, and each value is known by the one before it. Microseconds of
+processor time for a command and for a link of the chain, with no listener, with that of constants alone and with all
+seven, as bench/times/commands.py takes them.
 
 usage: bench/times/chain.py PROGRAM [ROUNDS [COMMANDS]]"""
 import sys

@@ -106,7 +106,8 @@ def text_of(kind, hostile, count):
             else:
                 lines.append(f'"t.op"() {{a = "{name}"}} : () -> ()')
     elif kind == "types":
-        pairs = colliding_dims(count) if hostile else [(2**62 + i + 1, draw.randrange(2**62, 2**63)) for i in range(count)]
+        pairs = colliding_dims(count) if hostile else [(2**62 + i + 1, draw.randrange(2**62, 2**63))
+                                                       for i in range(count)]
         for a, b in pairs:
             lines.append(f'"t.op"() {{a = memref<{a}x{b}xi32>}} : () -> ()')
     else:
@@ -141,10 +142,12 @@ def main():
     crate = os.path.join(os.path.dirname(os.path.abspath(__file__)), "..", "..", "crates", "mlir_work")
     program = os.path.join(crate, "out", "mlir_work")
     if not os.access(program, os.X_OK):
-        subprocess.run(["rt", "run", "--", "--brief"], cwd=crate, stdin=subprocess.DEVNULL, stdout=subprocess.DEVNULL, check=True)
+        subprocess.run(["rt", "run", "--", "--brief"], cwd=crate, stdin=subprocess.DEVNULL, stdout=subprocess.DEVNULL,
+                       check=True)
     for kind in ("values", "names", "types", "attributes"):
         times = [least(program, text_of(kind, hostile, count), runs) for hostile in (True, False)]
-        print(f"{count} {kind}: hostile {times[0] * 1000:.0f} ms, harmless {times[1] * 1000:.1f} ms, {times[0] / times[1]:.0f} times", flush=True)
+        print(f"{count} {kind}: hostile {times[0] * 1000:.0f} ms, harmless {times[1] * 1000:.1f} ms, "
+              f"{times[0] / times[1]:.0f} times", flush=True)
 
 
 if __name__ == "__main__":

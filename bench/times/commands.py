@@ -1,18 +1,21 @@
 #!/usr/bin/env python3
-"""Times the commands of a script through a built program, listings off: microseconds of processor time for one command, what
-reading and replying to it takes included, at modules of 1,000 to 1,000,000 operations, with no listener, two (uses and
-diagnostics) and all seven, and how often the last size's time is the first's.
+"""Times the commands of a script through a built program, listings off: microseconds of processor time for one command,
+what reading and replying to it takes included, at modules of 1,000 to 1,000,000 operations, with no listener, two (uses
+and diagnostics) and all seven, and how often the last size's time is the first's.
 
-Replies are written part by part. The program's processor time is taken before each part (bench/times/marks.c stands before the C
-library), and a figure is the time between the first part behind the module's own lines and the last full one, for each
-reply between them: so reading the module, which takes seconds at a million operations, isn't in it. The least of some rounds
-of scripts of 10,000 commands. The program has pages of two megabytes, as ./run gives them, unless GLIBC_TUNABLES says
-otherwise. Beside it one run of mlir-opt, which is what an edit by a pass costs a user who runs the tool for it.
+Replies are written part by part. The program's processor time is taken before each part (bench/times/marks.c stands
+before the C library), and a figure is the time between the first part behind the module's own lines and the last full
+one, for each reply between them: so reading the module, which takes seconds at a million operations, isn't in it. The
+least of some rounds of scripts of 10,000 commands. The program has pages of two megabytes, as ./run gives them, unless
+GLIBC_TUNABLES says otherwise. Beside it one run of mlir-opt, which is what an edit by a pass costs a user who runs the
+tool for it.
 
-usage: bench/times/commands.py [--shape block|functions] [--undone | --alone] PROGRAM [MLIR_OPT [SIZES [ROUNDS [COMMANDS]]]]
+usage: bench/times/commands.py [--shape block|functions] [--undone | --alone] PROGRAM
+                               [MLIR_OPT [SIZES [ROUNDS [COMMANDS]]]]
 
-The module is one block, or functions of 20 operations. With --undone each edit is rolled back by itself, and a figure is that of
-one of three commands. With --alone there is one listener at a time, and only the edits of an operand, a place and an operation."""
+The module is one block, or functions of 20 operations. With --undone each edit is rolled back by itself, and a figure
+is that of one of three commands. With --alone there is one listener at a time, and only the edits of an operand, a
+place and an operation."""
 import argparse
 import sys
 
@@ -50,7 +53,8 @@ def tool_cost(tool, text):
 
 def asked():
     """What the command line asks for."""
-    reader = argparse.ArgumentParser(description=__doc__, usage=argparse.SUPPRESS, formatter_class=argparse.RawDescriptionHelpFormatter)
+    reader = argparse.ArgumentParser(description=__doc__, usage=argparse.SUPPRESS,
+                                     formatter_class=argparse.RawDescriptionHelpFormatter)
     reader.add_argument("--shape", choices=SHAPES, default="block")
     what = reader.add_mutually_exclusive_group()
     what.add_argument("--undone", action="store_true")

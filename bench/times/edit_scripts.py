@@ -1,5 +1,6 @@
-"""Modules that are edited, and scripts over them. A module of a million operations must fit in 16 MiB: so an operation has 16
-bytes here, one operand at most, and no result. Used by bench/times/commands.py, bench/times/chain.py and bench/times/held.py."""
+"""Modules that are edited, and scripts over them. A module of a million operations must fit in 16 MiB: so an operation
+has 16 bytes here, one operand at most, and no result. Used by bench/times/commands.py, bench/times/chain.py and
+bench/times/held.py."""
 import string
 import typing
 
@@ -10,8 +11,9 @@ DIGITS = string.digits + string.ascii_letters
 
 
 class Target(typing.NamedTuple):
-    """What a command is about: an operation that uses the first of two values that it sees, another one beside it, before
-    which it may stand, and a value that nothing uses but what a script gives it, with the one that takes its place then."""
+    """What a command is about: an operation that uses the first of two values that it sees, another one beside it,
+    before which it may stand, and a value that nothing uses but what a script gives it, with the one that takes its
+    place then."""
     op: int
     values: tuple
     beside: int
@@ -36,8 +38,8 @@ class Block:
 
 
 class Functions:
-    """Functions of 20 operations each, as many as there may be in all: two of which nothing is known, eight in turn with others
-    that use the first of them, and the end."""
+    """Functions of 20 operations each, as many as there may be in all: two of which nothing is known, eight in turn
+    with others that use the first of them, and the end."""
     USERS = 8
 
     def __init__(self, count):
@@ -62,8 +64,9 @@ class Functions:
 
 
 class Sums:
-    """One block as programs have it, of operations with two operands and a result: one of which nothing is known, two constants,
-    and sums of a constant and an earlier value; each fourth value has four users. A million don't fit in 16 MiB."""
+    """One block as programs have it, of operations with two operands and a result: one of which nothing is known, two
+    constants, and sums of a constant and an earlier value; each fourth value has four users. A million don't fit in 16
+    MiB."""
     def __init__(self, count):
         self.count = count
 
@@ -158,10 +161,12 @@ def scripts(shape, edits):
     half = targets[:edits // 2]
     yield "set-operand", [set_operand(it, k // 7 % 2) for k, it in enumerate(targets)]
     yield "set-attr", [f"set-attr #{it.op} k {k % 100}:i8" for k, it in enumerate(targets)]
-    yield "set-attr, drop-attr", [line for it in half for line in (f"set-attr #{it.op} k 1:i8", f"drop-attr #{it.op} k")]
+    yield "set-attr, drop-attr", [line for it in half
+                                  for line in (f"set-attr #{it.op} k 1:i8", f"drop-attr #{it.op} k")]
     yield "move", [moved(it) for it in targets]
     yield "set-operand, replace of that use", replaced(shape, half)
-    yield "insert, erase", [line for k, it in enumerate(half) for line in (inserted(it), f"erase #{shape.count + 1 + k}")]
+    yield "insert, erase", [line for k, it in enumerate(half)
+                            for line in (inserted(it), f"erase #{shape.count + 1 + k}")]
     yield "begin, commit", ["begin", "commit"] * (edits // 2)
     for many in (1, 100):
         yield f"begin, {many} edits, rollback", rolled_back(targets, many)

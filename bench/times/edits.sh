@@ -1,14 +1,15 @@
 #!/bin/bash
 # Edits of modules of 1,000 to 1,000,000 operations through the program: microseconds of processor time for each kind of
-# command, in one block and in functions of 20 operations, without listeners, with two and with all seven, beside a run of
-# mlir-opt where MLIR_OPT names one; then edits that are rolled back one by one, and each listener alone
-# (`bench/times/commands.py`). Then a chain of 1,000 known values whose first operand is set (`bench/times/chain.py`), and the bytes
-# that tree, store and each listener take for an operation (`bench/times/held.py`). Builds the program where it isn't. Run at
-# the top of the repository:
+# command, in one block and in functions of 20 operations, without listeners, with two and with all seven, beside a run
+# of mlir-opt where MLIR_OPT names one; then edits that are rolled back one by one, and each listener alone
+# (`bench/times/commands.py`). Then a chain of 1,000 known values whose first operand is set (`bench/times/chain.py`),
+# and the bytes that tree, store and each listener take for an operation (`bench/times/held.py`). Builds the program
+# where it isn't. Run at the top of the repository:
 #
 #     bench/times/edits.sh [ROUNDS [SIZES]]
 #
-# SIZES are numbers of operations, the least first, with commas. Where nothing runs beside it, all of it takes about an hour.
+# SIZES are numbers of operations, the least first, with commas. Where nothing runs beside it, all of it takes about an
+# hour.
 set -eu
 rounds=${1:-5}
 sizes=${2:-1000,10000,100000,1000000}

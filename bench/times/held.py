@@ -1,14 +1,15 @@
 #!/usr/bin/env python3
-"""Tells how many bytes of memory a built program holds for an operation: its tree once it is read, the store without listeners,
-and each listener, in modules of one block and of functions of 20 operations, those that bench/times/commands.py edits and some as
-programs have them, of operations with two operands and a result. Behind that, how many are resident at most while a module is
-read, and while the store is made and all seven listeners begin (which the system knows to about half a megabyte).
+"""Tells how many bytes of memory a built program holds for an operation: its tree once it is read, the store without
+listeners, and each listener, in modules of one block and of functions of 20 operations, those that
+bench/times/commands.py edits and some as programs have them, of operations with two operands and a result. Behind that,
+how many are resident at most while a module is read, and while the store is made and all seven listeners begin (which
+the system knows to about half a megabyte).
 
-What is held is told by the C library (bench/times/marks.c stands before it): the bytes that are allocated, room that is kept among
-them, and not what was given up and is still resident. A script that only prints makes neither a store nor a listener, and what
-is in use once the text is given up is the tree. Any other script begins all seven before its first command: they are detached one
-by one, and each gives up what it holds. Each figure is held against the same run over an empty module. The program asks for no
-large pages here.
+What is held is told by the C library (bench/times/marks.c stands before it): the bytes that are allocated, room that is
+kept among them, and not what was given up and is still resident. A script that only prints makes neither a store nor a
+listener, and what is in use once the text is given up is the tree. Any other script begins all seven before its first
+command: they are detached one by one, and each gives up what it holds. Each figure is held against the same run over an
+empty module. The program asks for no large pages here.
 
 usage: bench/times/held.py PROGRAM [SIZES]"""
 import sys
@@ -29,7 +30,8 @@ class Meter:
         self.more = {**MEMORY, "LD_PRELOAD": library}
 
     def run(self, text, lines):
-        """For each part that a run over a module wrote: the lines before it, and the bytes in use then and resident at most."""
+        """For each part that a run over a module wrote: the lines before it, and the bytes in use then and resident at
+        most."""
         script = text.encode() + marks.DIVIDER + "".join(line + "\n" for line in lines).encode()
         _, wrote, told = marks.run(self.words, script, self.more)
         if b" refused " in wrote:

@@ -1,17 +1,18 @@
 #!/usr/bin/env python3
-"""Times each command of a script on modules of hostile shapes, of a size and of ten times as much, through a built program with all
-seven listeners attached, and says what grows more than twelve times.
+"""Times each command of a script on modules of hostile shapes, of a size and of ten times as much, through a built
+program with all seven listeners attached, and says what grows more than twelve times.
 
-Replies are written part by part, and the program's processor time is taken before each part (bench/times/marks.c stands before the C
-library). Lines that are no command stand between the commands, so that a part ends there; what is cheap is repeated. The least of
-some rounds. What rewrites has a run of its own, which is given up after some seconds.
+Replies are written part by part, and the program's processor time is taken before each part (bench/times/marks.c stands
+before the C library). Lines that are no command stand between the commands, so that a part ends there; what is cheap is
+repeated. The least of some rounds. What rewrites has a run of its own, which is given up after some seconds.
 
-usage: bench/times/hostile.py PROGRAM [--instructions] [--shapes SHAPE,..] [--rounds N] [--seconds N] [--less N] [--only COMMAND]
-                        [--without COMMAND,..]
+usage: bench/times/hostile.py PROGRAM [--instructions] [--shapes SHAPE,..] [--rounds N] [--seconds N] [--less N]
+                              [--only COMMAND] [--without COMMAND,..]
 
-With `--instructions` these are counted in place of the time, by callgrind, fifty times as slowly, and what else the machine
-does makes no difference. With `--less N` each shape has an Nth of its size. Of the figures the first is the smaller size's; those below a millisecond in a larger
-module aren't judged. The status is 1 where something grows more than twelve times."""
+With `--instructions` these are counted in place of the time, by callgrind, fifty times as slowly, and what else the
+machine does makes no difference. With `--less N` each shape has an Nth of its size. Of the figures the first is the
+smaller size's; those below a millisecond in a larger module aren't judged. The status is 1 where something grows more
+than twelve times."""
 import argparse
 import collections
 import os
@@ -56,7 +57,8 @@ def block(n):
 def deep(n):
     """Operations in 126 others and in #4, side by side."""
     towers = max(1, n // 127)
-    return Shape(container(('"t"()({' * 126 + '"t"():()->()' + "}):()->()" * 126) * towers), 127 * towers + 1, "rules 2")
+    return Shape(container(('"t"()({' * 126 + '"t"():()->()' + "}):()->()" * 126) * towers), 127 * towers + 1,
+                 "rules 2")
 
 
 def names(n):
@@ -67,14 +69,16 @@ def names(n):
 
 def symbols(n):
     """n private functions in one table, and n calls, one of each."""
-    functions = (f'"func.func"()<{{function_type=()->(),sym_name="s{k}",sym_visibility="private"}}>({{}}):()->()' for k in range(n))
+    functions = (f'"func.func"()<{{function_type=()->(),sym_name="s{k}",sym_visibility="private"}}>({{}}):()->()'
+                 for k in range(n))
     calls = (f'"func.call"()<{{callee=@s{k}}}>:()->()' for k in range(n))
     return Shape(f'"builtin.module"() ({{^b:\n{listed(functions)}{listed(calls)}}}) : () -> ()\n', 2 * n + 1, "rules 2")
 
 
 def references(n):
     """n private functions in one table, and twenty operations that refer to each of them."""
-    functions = (f'"func.func"()<{{function_type=()->(),sym_name="s{k}",sym_visibility="private"}}>({{}}):()->()' for k in range(n))
+    functions = (f'"func.func"()<{{function_type=()->(),sym_name="s{k}",sym_visibility="private"}}>({{}}):()->()'
+                 for k in range(n))
     all_of_them = ",".join(f"@s{k}" for k in range(n))
     users = (f'"t"(){{k{u} = [{all_of_them}]}}:()->()' for u in range(20))
     return Shape(f'"builtin.module"() ({{^b:\n{listed(functions)}{listed(users)}}}) : () -> ()\n', n + 21, "rules 2")
@@ -89,7 +93,8 @@ def same_name(n):
 
 def calls(n):
     """n private functions, each of which calls the next."""
-    one = '"func.func"()<{{function_type=()->(),sym_name="s{}",sym_visibility="private"}}>({{"func.call"()<{{callee=@s{}}}>:()->()"func.return"():()->()}}):()->()'
+    one = ('"func.func"()<{{function_type=()->(),sym_name="s{}",sym_visibility="private"}}>'
+           '({{"func.call"()<{{callee=@s{}}}>:()->()"func.return"():()->()}}):()->()')
     functions = (one.format(k, k + 1) for k in range(n))
     return Shape(f'"builtin.module"() ({{^b:\n{listed(functions)}}}) : () -> ()\n', 3 * n + 1, "rules 2")
 
@@ -108,18 +113,23 @@ def known(n):
 
 def casts(n):
     """A chain of n casts, of index and back."""
-    one = (f'%x{k}="builtin.unrealized_conversion_cast"(%x{k - 1}):({"i64" if k % 2 else "index"})->{"index" if k % 2 else "i64"}' for k in range(1, n))
-    return Shape(container('%x0="t"():()->i64\n' + listed(one) + f'"t"(%x{n - 1}):({"index" if n % 2 == 0 else "i64"})->()\n'), n + 2, "rules 2")
+    types = ("index", "i64"), ("i64", "index")
+    one = (f'%x{k}="builtin.unrealized_conversion_cast"(%x{k - 1}):({types[k % 2][0]})->{types[k % 2][1]}'
+           for k in range(1, n))
+    return Shape(container('%x0="t"():()->i64\n' + listed(one)
+                           + f'"t"(%x{n - 1}):({"index" if n % 2 == 0 else "i64"})->()\n'), n + 2, "rules 2")
 
 
 def ifs(n):
     """Choices by a constant, a hundred and twenty inside each other, side by side."""
     towers = max(1, n // 120)
     tower = '"scf.if"(%c) ({' * 120 + '"t"():()->()' + '"scf.yield"():()->()},{}):(i1)->()\n' * 120
-    return Shape(container('%c="arith.constant"()<{value=true}>:()->i1\n' + tower * towers), 241 * towers + 2, "dynamic scf.if rules 30")
+    return Shape(container('%c="arith.constant"()<{value=true}>:()->i1\n' + tower * towers), 241 * towers + 2,
+                 "dynamic scf.if rules 30")
 
 
-SIZES = {string: 16700000, block: 1048571, deep: 1000000, names: 300000, symbols: 10000, references: 10000, same_name: 10000, calls: 10000,
+SIZES = {string: 16700000, block: 1048571, deep: 1000000, names: 300000, symbols: 10000, references: 10000,
+         same_name: 10000, calls: 10000,
          users: 100000, known: 100000, casts: 100000, ifs: 30000}
 
 
@@ -136,7 +146,8 @@ def commands(shape):
     yield "set-attr", 1000, ["set-attr #3 k 2 : i8", "set-attr #3 k 1 : i8"] * 500
     yield "set-attr, drop-attr", 500, ["set-attr #3 m unit", "drop-attr #3 m"] * 500
     yield "move", 1000, ["move #3 end #0 0", "move #3 after #2"] * 500
-    yield "insert, erase", 500, [line for k in pairs for line in ('insert end #0 0 "t"(%v1.0) : (i32) -> ()', f"erase #{count + k}")]
+    yield "insert, erase", 500, [line for k in pairs
+                                 for line in ('insert end #0 0 "t"(%v1.0) : (i32) -> ()', f"erase #{count + k}")]
     yield "replace", 2, ["replace %v1.0 %v2.0", "replace %v2.0 %v1.0"]
     yield "begin, set-operand, rollback", 300, ["begin", "set-operand #3 0 %v2.0", "rollback"] * 300
     yield "begin, set-attr, commit", 300, ["begin", "set-attr #3 k 2 : i8", "commit"] * 300
@@ -148,7 +159,8 @@ def commands(shape):
     if 2 * count < MOST_OPS and len(shape.body) < MOST_BYTES // 2:
         text = shape.body.strip().replace("\n", " ").replace("%p", "%v1.0")
         yield "insert all, erase all", 1, [f"insert end #0 0 {text}", f"erase #{count + 500}"]
-    yield "sweep 0" if "sym_visibility" not in shape.body else "begin, sweep, rollback", 1, ["begin", "sweep", "rollback"]
+    yield "sweep 0" if "sym_visibility" not in shape.body else "begin, sweep, rollback", 1, [
+        "begin", "sweep", "rollback"]
     yield "erase all", 1, ["erase #4"]
 
 
@@ -179,7 +191,8 @@ def parts_of(replies, told, spans):
 
 
 def cost_of(program, text, them, words, library):
-    """What reading and each command cost, in nanoseconds or instructions, and its refusals; none where the run was given up."""
+    """What reading and each command cost, in nanoseconds or instructions, and its refusals; none where the run was
+    given up."""
     lines, spans = spread(them)
     given = text.encode() + marks.DIVIDER + listed(lines).encode()
     try:
@@ -190,20 +203,22 @@ def cost_of(program, text, them, words, library):
             sys.exit(f"{program}: {wrote[:3]}")
         places = list(parts_of(replies, told, spans))
         if words.instructions:
-            told = counted(program, given, library, told, {0, *(place for pair in places for place in pair)}, 60 * words.seconds)
+            told = counted(program, given, library, told, {0, *(place for pair in places for place in pair)}, 60
+                           * words.seconds)
     except subprocess.TimeoutExpired:
         return None
     costs = [told[ended][1] - told[begun][1] for begun, ended in places]
     found = [("read", told[0][1], "")]
     for (word, times, _), (first, last), cost in zip(them, spans[1:], costs[1:]):
         refusals = {wrote[replies[k]].split(b" ", 1)[1].decode() for k in range(first - 1, last)}
-        found.append((word, max(cost - costs[0], 0) / times, ", ".join(sorted(it for it in refusals if not it.startswith("ok")))))
+        found.append((word, max(cost - costs[0], 0) / times,
+                      ", ".join(sorted(it for it in refusals if not it.startswith("ok")))))
     return found
 
 
 def counted(program, text, library, told, places, seconds):
-    """What was told, with the instructions up to each of these parts in place of the time. Before each of them callgrind writes what
-    it counted since the last one into a file of its own, and one more at the end."""
+    """What was told, with the instructions up to each of these parts in place of the time. Before each of them
+    callgrind writes what it counted since the last one into a file of its own, and one more at the end."""
     with tempfile.TemporaryDirectory() as folder:
         words = ["valgrind", "--tool=callgrind", f"--callgrind-out-file={folder}/out", program]
         dumps = ",".join(str(place) for place in sorted(places))
@@ -218,17 +233,20 @@ def counted(program, text, library, told, places, seconds):
 
 
 def run(program, text, library, seconds, more=None):
-    """The lines that a run wrote, and of each part that it wrote how many lines it had come to by then, and its processor time."""
+    """The lines that a run wrote, and of each part that it wrote how many lines it had come to by then, and its
+    processor time."""
     with tempfile.TemporaryFile() as given, tempfile.TemporaryFile() as taken, tempfile.TemporaryFile() as told:
         given.write(text)
         given.seek(0)
         env = {**marks.PAGES, **os.environ, "LD_PRELOAD": library, "MARKS_TELL": str(told.fileno()), **(more or {})}
         words = [program] if isinstance(program, str) else program
-        subprocess.run([*words, "--brief"], stdin=given, stdout=taken, stderr=subprocess.DEVNULL, env=env, pass_fds=[told.fileno()], timeout=seconds)
+        subprocess.run([*words, "--brief"], stdin=given, stdout=taken, stderr=subprocess.DEVNULL, env=env,
+                       pass_fds=[told.fileno()], timeout=seconds)
         taken.seek(0)
         told.seek(0)
         wrote, parts = taken.read().splitlines(), [tuple(int(it) for it in line.split()) for line in told] or [(0, 0)]
-    # What is told in front of a part is how many lines were written before it; by then it had come to the end of that part.
+    # What is told in front of a part is how many lines were written before it; by then it had come to the end of that
+    # part.
     counts = [count for count, _ in parts[1:]] + [len(wrote)]
     return wrote, list(zip(counts, (at for _, at in parts)))
 
@@ -263,7 +281,8 @@ def look(words, make, library):
     results, gone = [], [word for word in words.without.split(",") if word]
     for shape in (small, large):
         them = [it for it in commands(shape) if not words.only or it[0] == words.only]
-        groups = ([them] if them else []) + [[it] for it in rewrites(shape) if it[0] not in gone and (not words.only or it[0] == words.only)]
+        groups = ([them] if them else []) + [[it] for it in rewrites(shape) if it[0] not in gone
+                                             and (not words.only or it[0] == words.only)]
         results.append(least(shape, groups, library, words))
     wrong = 0
     for word, (cost, said) in results[1].items():
@@ -273,12 +292,14 @@ def look(words, make, library):
         too_much = cost is None or is_judged and growth > MOST
         wrong += too_much
         told = f"{growth:.1f}" + (" **more**" if too_much else "") if growth is not None else "-"
-        print(f"| {make.__name__} {size:,} | {word} | {said} | {shown(before, words.instructions)} | {shown(cost, words.instructions)} | {told} |", flush=True)
+        print(f"| {make.__name__} {size:,} | {word} | {said} | {shown(before, words.instructions)} | "
+              f"{shown(cost, words.instructions)} | {told} |", flush=True)
     return wrong
 
 
 def main():
-    reader = argparse.ArgumentParser(description=__doc__, usage=argparse.SUPPRESS, formatter_class=argparse.RawDescriptionHelpFormatter)
+    reader = argparse.ArgumentParser(description=__doc__, usage=argparse.SUPPRESS,
+                                     formatter_class=argparse.RawDescriptionHelpFormatter)
     reader.add_argument("program")
     reader.add_argument("--instructions", action="store_true")
     reader.add_argument("--shapes", default=",".join(it.__name__ for it in SIZES))

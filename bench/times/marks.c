@@ -1,9 +1,9 @@
-// Stands before the C library. Before each part of what a program writes to its standard output, tells how many lines it
-// had written by then and what processor time it had used, in nanoseconds. Where MARKS_MEMORY is set it tells in place of
-// the time how many bytes of memory were in use, and how many had been resident at most; and tells that at the end, too.
-// Of a long part the last byte is left for another one then: it is written once the program has given the text up.
-// Where MARKS_DUMPS has numbers of parts, from 0 (as `,0,12,`), it tells nothing, but has callgrind dump what it counted
-// before each of these.
+// Stands before the C library. Before each part of what a program writes to its standard output, tells how many lines
+// it had written by then and what processor time it had used, in nanoseconds. Where MARKS_MEMORY is set it tells in
+// place of the time how many bytes of memory were in use, and how many had been resident at most; and tells that at the
+// end, too. Of a long part the last byte is left for another one then: it is written once the program has given the
+// text up. Where MARKS_DUMPS has numbers of parts, from 0 (as `,0,12,`), it tells nothing, but has callgrind dump what
+// it counted before each of these.
 #define _GNU_SOURCE
 #include <fcntl.h>
 #include <malloc.h>

@@ -1,5 +1,5 @@
-"""Runs of a built program with marks: what it had used before it wrote each part of its output (marks.c stands before the
-C library). Used by commands.py, chain.py, held.py and hostile.py."""
+"""Runs of a built program with marks: what it had used before it wrote each part of its output (marks.c stands before
+the C library). Used by commands.py, chain.py, held.py and hostile.py."""
 import contextlib
 import os
 import pathlib
@@ -42,8 +42,8 @@ def run(words, text, more):
 
 
 def edited(text, kept, lines):
-    """The input of a run over the text of a module, and how many commands come before the lines of its script: those that
-    detach all listeners but some."""
+    """The input of a run over the text of a module, and how many commands come before the lines of its script: those
+    that detach all listeners but some."""
     gone = [f"detach {kind}" for kind in BOXES if kind not in kept]
     return text + DIVIDER + ("\n".join(gone + lines) + "\n").encode(), len(gone)
 

@@ -1,8 +1,8 @@
 #!/usr/bin/env python3
 """Counts what canonicalizing, converting or sweeping modules costs: instructions of the built program for the command,
 beyond the same run without it, by shape of the module (shapes.py) and number of operations, and how much more it is for
-ten times the operations. callgrind counts, so that the figures don't depend on what else the machine does; with `--time`
-the program's processor time is taken in its place, the least of five runs.
+ten times the operations. callgrind counts, so that the figures don't depend on what else the machine does; with
+`--time` the program's processor time is taken in its place, the least of five runs.
 
 usage: bench/times/rewrites.py canon|convert|sweep [--time] [--listeners] PROGRAM [SIZES [SHAPES]]
        bench/times/rewrites.py sweep --beside MLIR_OPT PROGRAM [SIZES [SHAPES]]

@@ -1,5 +1,5 @@
-"""Modules by shape and number of operations, for what is timed: those that `canon` rewrites, those that a conversion does,
-each with its command, and those that are swept. Used by rewrites.py and session_times.py."""
+"""Modules by shape and number of operations, for what is timed: those that `canon` rewrites, those that a conversion
+does, each with its command, and those that are swept. Used by rewrites.py and session_times.py."""
 OPEN = ('"func.func"() <{function_type = (i32, i32) -> i32, sym_name = "f"}> ({\n'
         '^bb0(%a: i32, %b: i32):\n')
 CLOSE = '}) : () -> ()\n'
@@ -82,7 +82,8 @@ def converted(ins, outs, args, lines, last):
     """A function of these types of arguments and results, with these lines and what it returns."""
     types = ", ".join(ins), ", ".join(outs)
     return (f'"func.func"() <{{function_type = ({types[0]}) -> ({types[1]}), sym_name = "f"}}> ({{\n'
-            f'^bb0({", ".join(args)}):\n' + "".join(lines) + f'"func.return"({last[0]}) : ({last[1]}) -> ()\n}}) : () -> ()\n')
+            f'^bb0({", ".join(args)}):\n' + "".join(lines)
+            + f'"func.return"({last[0]}) : ({last[1]}) -> ()\n}}) : () -> ()\n')
 
 
 def cast(name, values, ins, out):
@@ -146,7 +147,8 @@ EMPTY = '"builtin.module"() ({\n^b:\n}) : () -> ()\n'
 def function(name, calls, is_private):
     """A function of six operations, which calls another or none."""
     visibility = ', sym_visibility = "private"' if is_private else ""
-    last = f'"func.call"(%y) <{{callee = @{calls}}}> : (i32) -> i32' if calls else '"arith.xori"(%y, %x) : (i32, i32) -> i32'
+    last = (f'"func.call"(%y) <{{callee = @{calls}}}> : (i32) -> i32' if calls
+            else '"arith.xori"(%y, %x) : (i32, i32) -> i32')
     return (f'"func.func"() <{{function_type = (i32) -> i32, sym_name = "{name}"{visibility}}}> ({{\n^bb0(%a: i32):\n'
             '  %x = "arith.muli"(%a, %a) : (i32, i32) -> i32\n  %y = "arith.addi"(%x, %a) : (i32, i32) -> i32\n'
             f'  %z = {last}\n  "t.u"(%z) : (i32) -> ()\n  "func.return"(%z) : (i32) -> ()\n}}) : () -> ()\n')

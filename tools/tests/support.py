@@ -1,5 +1,5 @@
-"""What the tests stand on: the tools, over the program where it is built, and else over bench/reference, which is called
-here for speed, in place of a process for each run."""
+"""What the tests stand on: the tools, over the program where it is built, and else over bench/reference, which is
+called here for speed, in place of a process for each run."""
 import os
 import pathlib
 import sys

@@ -92,8 +92,10 @@ class Answered(unittest.TestCase):
             "converted 1",
             '-    #2    %v2.0 = "arith.remsi"(%v1.0, %v1.0) : (i32, i32) -> i32',
             '+    #4    %v4.0 = "arith.divsi"(%v1.0, %v1.0) : (i32, i32) -> i32',
-            '+    #5    %v5.0 = "arith.muli"(%v4.0, %v1.0) <{overflowFlags = #arith.overflow<none>}> : (i32, i32) -> i32',
-            '+    #6    %v6.0 = "arith.subi"(%v1.0, %v5.0) <{overflowFlags = #arith.overflow<none>}> : (i32, i32) -> i32',
+            '+    #5    %v5.0 = "arith.muli"(%v4.0, %v1.0) <{overflowFlags = #arith.overflow<none>}> : (i32, i32) -> '
+            'i32',
+            '+    #6    %v6.0 = "arith.subi"(%v1.0, %v5.0) <{overflowFlags = #arith.overflow<none>}> : (i32, i32) -> '
+            'i32',
             '-    #3    "test.use"(%v2.0) : (i32) -> ()',
             '+    #3    "test.use"(%v6.0) : (i32) -> ()'])
         self.assertEqual(here.answer("undo"), ["undone: convert partial illegal arith.remsi rules 27"])

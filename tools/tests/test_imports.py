@@ -15,7 +15,8 @@ FILES = {
     "low/proofs/Laws.antt": "use Rattle.low.specs.Trees.{tree}\n",
     "middle/specs/Lib.antt": "pub use Rattle.low.specs as trees\n",
     "middle/proofs/Lib.antt": "pub mod Steps\npub use Rattle.low.proofs as of_trees\n",
-    "middle/proofs/Steps.antt": "use Rattle.middle.specs.trees.Trees.{tree}\nuse Rattle.middle.proofs.of_trees.Laws.{law}\n",
+    "middle/proofs/Steps.antt": "use Rattle.middle.specs.trees.Trees.{tree}\nuse "
+                                "Rattle.middle.proofs.of_trees.Laws.{law}\n",
     "high/specs/Lib.antt": "pub mod Lawful\n",
     "high/specs/Lawful.antt": "use Rattle.middle.proofs.Steps.{step}\n",
     "high/src/lib.rt": "ghost use Rattle.high.specs.Lawful.{is_lawful};\n\npub use middle as events;\n",

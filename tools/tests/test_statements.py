@@ -14,13 +14,15 @@ import check_statements
 
 FILES = {
     "low/proofs/One.antt": "use Rattle.std.specs.Prelude.{Bool, true}\n"
-                           "both : (a b : Bool) → (a && b) ≡ true → (a ≡ true) × (b ≡ true)\nboth true b e = (refl, e)\n"
+                           "both : (a b : Bool) → (a && b) ≡ true → (a ≡ true) × (b ≡ true)\nboth true b e = (refl, "
+                           "e)\n"
                            "alone : (a : Bool) → a ≡ a\nalone a = refl\n",
     "high/proofs/Two.antt": "use Rattle.low.specs.Trees.{tree as a_tree}\n"
                             "module _ (x y : Bool) where\n  -- the same, over two lines\n"
                             "  pub parts : (x && y) ≡ true\n      → (x ≡ true) × (y ≡ true)\n  parts e = both x y e\n"
                             "module _ (n : ℕ) (small : n < 5) where\n  less : n < 6\n",
-    "high/proofs/Three.antt": "use Rattle.low.specs.Trees.{tree}\nmodule _ (n : ℕ) (large : n < 9) where\n  less : n < 6\n",
+    "high/proofs/Three.antt": "use Rattle.low.specs.Trees.{tree}\nmodule _ (n : ℕ) (large : n < 9) where\n  less : n "
+                              "< 6\n",
     "low/specs/Is.antt": "is_one : ℕ → Bool\nis_one (suc n) = eqb n 0\nis_one zero = false\n",
     "high/specs/Is.antt": "abbrev pub single : ℕ → Bool\nsingle (suc k) = eqb k 0\nsingle zero = false\n",
 }
@@ -62,7 +64,8 @@ class StatementsTest(unittest.TestCase):
         self.assertIn("both  low/proofs/One.antt:2", said)
         self.assertNotIn("less  ", said)
         self.assertIn("single  high/specs/Is.antt:1", said)
-        self.assertIn("1 stand more than once, 1 too many; the library has 1 of them, which are proved 2 times; 1 def", said)
+        self.assertIn("1 stand more than once, 1 too many; the library has 1 of them, which are proved 2 times; 1 def",
+                      said)
 
     def test_limits(self):
         self.assertEqual(self.checked("--most", "0", "--brief")[0], 1)
