@@ -771,11 +771,8 @@ def sweeps():
 
 def whole_cut(text):
     """A golden case of all beginnings of a module's text."""
-    lines = []
-    for count in range(len(text)):
-        status, out = script.run(text[:count], True, script.BOXES, script.ALL)
-        lines.append((status, b"%d %d %s\n" % (count, status, out.rstrip(b"\n"))))
-    GOLDEN.case(["--brief"], text, (max(status for status, _ in lines), b"".join(line for _, line in lines)), True)
+    answers = [script.run(text[:count], True, script.BOXES, script.ALL) for count in range(len(text))]
+    GOLDEN.case(["--brief"], text, golden.cut_text(answers), True)
 
 
 def sums(count):
